@@ -1,0 +1,9 @@
+pub mod Tokens
+pub mod Trees
+pub mod Lexemes
+pub mod Grammar
+pub mod Pass
+pub mod Reads
+pub mod Documents
+pub mod Lists
+pub mod Occurs

@@ -1,0 +1,13 @@
+//! Tokens, MATCH queries and what they find in documents.
+#![tactic(auto)]
+
+pub mod laws;
+pub mod lists;
+pub mod query;
+pub mod text;
+pub mod walk;
+
+pub use lists::{DocList, ListFault, Lists, Place};
+pub use query::{Chain, Link, Phrase, Query, QueryFault, QueryTerm};
+pub use text::{Token, tokens};
+pub use walk::{Hit, Offset};

@@ -1,0 +1,81 @@
+// The lists that a walk asks for.
+ghost use Rattle.std.specs.Prelude.{◌≡◌, ℕ, ◌+◌, ◌-◌, ◌^◌, ◌||◌, Bool, List, map, min, bytes_eq, nat_eq, IfOk, OnErr};
+ghost use Rattle.std.specs.List.{starts_with};
+ghost use Rattle.ft_query.specs.Documents.{Document, AreDocuments, lists_with, plain_list, place_count};
+ghost use Rattle.ft_query.specs.Lists.{is_failed};
+
+use std::alloc::Global;
+use thiserror::Error;
+
+/// Where a token stands: its column, its number in the cell, and its place and size in bytes.
+#[derive(Clone, Copy, Debug, PartialEq, Eq)]
+pub struct Place {
+    pub column: usize,
+    pub pos: usize,
+    pub start: usize,
+    pub size: usize,
+}
+
+/// The places of some terms in one document.
+#[derive(Debug, Drop)]
+pub struct DocList {
+    pub docid: i64,
+    pub places: Vec<Place>,
+}
+
+/// Why there is no list.
+#[derive(Clone, Copy, Debug, PartialEq, Eq, Error)]
+pub enum ListFault {
+    #[error("the lists can't be read")]
+    Failed,
+    #[error("out of memory")]
+    Memory,
+}
+
+/// The lists of places of an index. Where they are clean as a call ends, its answer is exact.
+pub trait Lists {
+    /// The documents that the lists mean, while they are clean.
+    ghost documents: { Self → List Document };
+
+    /// The lists can be relied on.
+    ghost is_clean: { Self → Type 0 };
+
+    /// A call has answered `Failed`.
+    ghost has_failed: { Self → Bool };
+
+    /// How many places the answers gave.
+    ghost given_so_far: { Self → ℕ };
+
+    /// The places of one term.
+    fn word(&mut self, alloc: Global, term: &str) -> Result<Vec<DocList>, ListFault>
+        ensures answer { IfOk result (λ lists. is_clean self.new →
+            map plain_list lists.items ≡ lists_with (λ t. bytes_eq t term.now) (documents self.new)) }
+        ensures clean { is_clean self.new → is_clean self.old × (documents self.new ≡ documents self.old) }
+        ensures ordered { is_clean self.new → AreDocuments (documents self.new) }
+        ensures failed { has_failed self.new ≡ (has_failed self.old || is_failed result) }
+        ensures given { IfOk result (λ lists. given_so_far self.new
+            ≡ min (given_so_far self.old + place_count (map plain_list lists.items)) (2 ^ 64 - 1)) }
+        ensures none_given { OnErr result (given_so_far self.new ≡ given_so_far self.old) };
+
+    /// The places of the terms that begin so.
+    fn prefix(&mut self, alloc: Global, begin: &str) -> Result<Vec<DocList>, ListFault>
+        ensures answer { IfOk result (λ lists. is_clean self.new →
+            map plain_list lists.items ≡ lists_with (λ t. starts_with nat_eq t begin.now) (documents self.new)) }
+        ensures clean { is_clean self.new → is_clean self.old × (documents self.new ≡ documents self.old) }
+        ensures ordered { is_clean self.new → AreDocuments (documents self.new) }
+        ensures failed { has_failed self.new ≡ (has_failed self.old || is_failed result) }
+        ensures given { IfOk result (λ lists. given_so_far self.new
+            ≡ min (given_so_far self.old + place_count (map plain_list lists.items)) (2 ^ 64 - 1)) }
+        ensures none_given { OnErr result (given_so_far self.new ≡ given_so_far self.old) };
+
+    /// A call has answered `Failed`.
+    fn failed(&self) -> bool
+        ensures { result ≡ has_failed self.now };
+
+    /// How many places the answers gave, up to 2^64 - 1.
+    fn given(&self) -> u64
+        ensures { result ≡ given_so_far self.now };
+}
+
+#[cfg(test)]
+mod tests;

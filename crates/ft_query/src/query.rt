@@ -1,0 +1,94 @@
+// MATCH queries.
+ghost use Rattle.std.specs.Prelude.{◌<◌, vec_len};
+
+use thiserror::Error;
+
+/// A term of a phrase, in small letters. With `prefix` it matches every term that begins so, with `first` only the
+/// first token of a column.
+#[derive(Debug, Drop)]
+pub struct QueryTerm {
+    pub text: String,
+    pub prefix: bool,
+    pub first: bool,
+}
+
+/// Terms that stand one after the other, in the filter's column if there is one.
+#[derive(Debug, Drop)]
+pub struct Phrase {
+    pub filter: Option<usize>,
+    pub terms: Vec<QueryTerm>,
+}
+
+/// The next phrase of a chain, with at most `most` tokens between it and the one before.
+#[derive(Debug, Drop)]
+pub struct Link {
+    pub most: usize,
+    pub to: Phrase,
+}
+
+/// Two or more phrases, each near the next.
+#[derive(Debug, Drop)]
+pub struct Chain {
+    pub first: Phrase,
+    pub links: Vec<Link>,
+    ghost linked: { 0 < vec_len links },
+}
+
+/// A query. `Not` wants the left and not the right.
+#[derive(Debug, Drop)]
+pub enum Query {
+    Phrase(Phrase),
+    Near(Chain),
+    And(Box<Query>, Box<Query>),
+    Or(Box<Query>, Box<Query>),
+    Not(Box<Query>, Box<Query>),
+}
+
+/// Why a text is no query.
+#[derive(Clone, Copy, Debug, PartialEq, Eq, Error)]
+pub enum QueryFault {
+    #[error("malformed MATCH expression")]
+    Malformed,
+    #[error("MATCH expression too large")]
+    TooLarge,
+    #[error("out of memory")]
+    Memory,
+}
+
+#[cfg(test)]
+mod tests {
+    use super::{Chain, Link, Phrase, QueryTerm};
+    use std::alloc::{AllocError, Global};
+    use std::test::Fail;
+
+    fn word(alloc: Global, text: &str) -> Result<Phrase, AllocError> {
+        let mut terms: Vec<QueryTerm> = Vec::new(alloc);
+        terms.push(QueryTerm {
+            text: text.to_string(alloc)?,
+            prefix: false,
+            first: false,
+        })?;
+        Ok(Phrase {
+            filter: None,
+            terms,
+        })
+    }
+
+    #[test]
+    fn a_chain_of_three(rt: HostRuntime) -> Result<(), Fail> {
+        let first = word(rt.alloc(), "a")?;
+        let mut links: Vec<Link> = Vec::new(rt.alloc());
+        links.push(Link {
+            most: 10,
+            to: word(rt.alloc(), "b")?,
+        })?;
+        links.push(Link {
+            most: 3,
+            to: word(rt.alloc(), "c")?,
+        })?;
+        let chain = Chain { first, links };
+        assert_eq!(rt; chain.links.len(), 2);
+        assert_eq!(rt; chain.links[1].most, 3);
+        Ok(())
+    }
+}
