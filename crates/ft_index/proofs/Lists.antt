@@ -1,0 +1,11 @@
+-- Tests of mapped lists.
+use Rattle.std.proofs.Common.{◌≡◌, Bool, ◌&&◌, ◌||◌, List, [], ◌∷◌, map, refl, ap}
+use Rattle.std.specs.List.{list_any, list_all}
+
+pub any_of_map : {X Y : Type 0} (p : Y → Bool) (h : X → Y) (xs : List X) → list_any p (map h xs) ≡ list_any (λ x. p (h x)) xs
+any_of_map p h [] = refl
+any_of_map p h (x ∷ xs) = ap (λ b. p (h x) || b) (any_of_map p h xs)
+
+pub all_of_map : {X Y : Type 0} (p : Y → Bool) (h : X → Y) (xs : List X) → list_all p (map h xs) ≡ list_all (λ x. p (h x)) xs
+all_of_map p h [] = refl
+all_of_map p h (x ∷ xs) = ap (λ b. p (h x) && b) (all_of_map p h xs)

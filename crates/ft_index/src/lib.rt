@@ -1,0 +1,8 @@
+//! Full-text tables and their commands.
+#![tactic(auto)]
+
+pub mod fault;
+pub mod laws;
+mod names;
+
+pub use fault::Fault;
