@@ -4,3 +4,6 @@ pub mod RowLemmas
 pub mod ContentLemmas
 pub mod Lists
 pub mod NameLemmas
+pub mod PlainLemmas
+pub mod InsertLemmas
+pub mod CommandLemmas

@@ -5,3 +5,5 @@ pub mod Answer
 pub mod Deserved
 pub mod Step
 pub mod Laws
+pub mod Word
+pub mod Plain

@@ -1,4 +1,8 @@
 // Why a full-text command is refused.
+ghost use Rattle.std.specs.Prelude.{◌≡◌};
+ghost use Rattle.ft_index.specs.declared.fault.Fault.TheVariants.{Memory};
+
+use std::alloc::{AllocError, AllocFailed};
 use thiserror::Error;
 
 /// Why a command was refused, in the order of the tests.
@@ -52,4 +56,20 @@ pub enum Fault {
     Store,
     #[error("out of memory")]
     Memory,
+}
+
+impl From<AllocError> for Fault {
+    ghost from_gives = { λ _ fault. fault ≡ Memory };
+
+    fn from(_error: AllocError) -> Fault {
+        Fault::Memory
+    }
+}
+
+impl<T: Drop> From<AllocFailed<T>> for Fault {
+    ghost from_gives = { λ _ fault. fault ≡ Memory };
+
+    fn from(_error: AllocFailed<T>) -> Fault {
+        Fault::Memory
+    }
 }

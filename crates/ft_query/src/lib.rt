@@ -9,5 +9,5 @@ pub mod walk;
 
 pub use lists::{DocList, ListFault, Lists, Place};
 pub use query::{Chain, Link, Phrase, Query, QueryFault, QueryTerm};
-pub use text::{Token, tokens};
+pub use text::{Token, is_eligible, tokens};
 pub use walk::{Hit, Offset};
