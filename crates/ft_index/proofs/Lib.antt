@@ -7,3 +7,7 @@ pub mod NameLemmas
 pub mod PlainLemmas
 pub mod InsertLemmas
 pub mod CommandLemmas
+pub mod SearchLemmas
+pub mod WordLemmas
+pub mod AcceptLemmas
+pub mod SelectLemmas

@@ -8,7 +8,7 @@ use Rattle.ft_index.specs.declared.fault.Fault.{Fault}
 use Rattle.ft_index.specs.declared.fault.Fault.TheVariants as faults
 use Rattle.ft_index.specs.declared.plain.table.PlainTable.{PlainTable}
 use Rattle.ft_index.specs.Content.{Cell, Int, Text, Column, Documents, Content}
-use Rattle.ft_index.specs.Command.{Matching, Named, Listed, Command, Create, Insert, Select, Reply, Done, Rows}
+use Rattle.ft_index.specs.Command.{Matching, Named, Items, Listed, Command, Create, Insert, Select, Grid, Reply, Done, Rows}
 use Rattle.ft_index.specs.Deserved.{Sound, Table, Contents}
 use Rattle.ft_index.specs.Step.{step}
 
@@ -53,15 +53,21 @@ abbrev pub insert_command : List ℕ → List (Vec (String Global) Global) → C
 insert_command table rows = Insert table None (map text_cells rows)
 
 -- SELECT docid FROM table WHERE name MATCH text
+abbrev pub docid_item : Items
+docid_item = Listed (Named (codes "docid") ∷ [])
+
 abbrev pub docids_command : List ℕ → List ℕ → List ℕ → Command
-docids_command table name text = Select table (Listed (Named (codes "docid") ∷ [])) (Matching name text) None 0
+docids_command table name text = Select table docid_item (Matching name text) None 0
 
 abbrev pub done : {X : Type 0} → Result X Fault → Result Reply Fault
 done (Ok x) = Ok Done
 done (Err fault) = Err fault
 
+abbrev pub docid_grid : Vec ℤ Global → Grid
+docid_grid docids = record { names = codes "docid" ∷ []; rows = map (λ n. Int n ∷ []) docids.items }
+
 abbrev pub docid_rows : Result (Vec ℤ Global) Fault → Result Reply Fault
-docid_rows (Ok docids) = Ok (Rows (record { names = codes "docid" ∷ []; rows = map (λ n. Int n ∷ []) docids.items }))
+docid_rows (Ok docids) = Ok (Rows (docid_grid docids))
 docid_rows (Err fault) = Err fault
 
 -- ---- documents that have a term

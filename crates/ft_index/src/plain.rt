@@ -48,11 +48,11 @@ impl PlainTables {
     }
 
     /// Makes a table of these columns with a module, as CREATE VIRTUAL TABLE does. Without columns it has one, `content`.
-    pub fn create(&mut self, table: String, module: &str, columns: Vec<String>) -> Result<(), Fault>
-        ensures { Answers self.old (create_command (string_bytes table) module.now (texts_of columns.items)) (done result) self.new }
+    pub fn create(&mut self, table: String, module_name: &str, columns: Vec<String>) -> Result<(), Fault>
+        ensures { Answers self.old (create_command (string_bytes table) module_name.now (texts_of columns.items)) (done result) self.new }
     {
         let columns = made_columns(self.alloc, columns)?;
-        if let Some(fault) = create_fault(self.tables.as_slice(), table.as_str(), module, columns.as_slice()) {
+        if let Some(fault) = create_fault(self.tables.as_slice(), table.as_str(), module_name, columns.as_slice()) {
             return Err(fault);
         }
         let documents = Vec::new(self.alloc);
@@ -82,7 +82,7 @@ impl PlainTables {
         let Some(place) = place_of(self.tables.as_slice(), table) else {
             return Err(Fault::NoSuchTable);
         };
-        Err(Fault::Memory)
+        self.tables[place].docids(self.alloc, name, word)
     }
 }
 
@@ -124,9 +124,9 @@ fn is_taken(tables: &[PlainTable], name: &str) -> bool
     tables.iter().any(|table| same_name(table.name.as_str(), name))
 }
 
-fn create_fault(tables: &[PlainTable], table: &str, module: &str, columns: &[String]) -> Option<Fault>
+fn create_fault(tables: &[PlainTable], table: &str, module_name: &str, columns: &[String]) -> Option<Fault>
     ensures { result ≡ deserved.first_of (
-        (not (content.same_name module.now (codes "fts4")), faults.Module)
+        (not (content.same_name module_name.now (codes "fts4")), faults.Module)
         ∷ (not (content.is_name table.now && list_all (λ n. content.is_name (string_bytes n)) columns.now), faults.Name)
         ∷ (content.names_clash table.now (map string_bytes columns.now), faults.DuplicateColumn)
         ∷ (nat_lt 100 (length columns.now), faults.TooManyColumns)
@@ -134,7 +134,7 @@ fn create_fault(tables: &[PlainTable], table: &str, module: &str, columns: &[Str
         ∷ (nat_le 1000 (length tables.now), faults.TooManyTables)
         ∷ []) }
 {
-    if !same_name(module, "fts4") {
+    if !same_name(module_name, "fts4") {
         return Some(Fault::Module);
     }
     if !(is_name(table) && are_names(columns)) {

@@ -1,5 +1,7 @@
 // MATCH texts of one word.
-ghost use Rattle.std.specs.Prelude.{◌≡◌, ◌↔◌, IfSome, IsSome, IsTrue, string_bytes};
+ghost use Rattle.std.specs.Prelude.{◌≡◌, ◌↔◌, IfSome, IsSome, IsTrue, string_bytes, bytes_eq};
+ghost use Rattle.std.specs.List.{list_any, list_all};
+ghost use Rattle.ft_query.specs.Tokens.{is_eligible};
 ghost use Rattle.ft_index.specs.Word as word;
 
 use ft_query::is_eligible;
@@ -29,9 +31,17 @@ impl SearchWord {
 fn is_search_word(text: &str) -> bool
     ensures { result ≡ word.is_search_word text.now }
 {
-    !text.is_empty() && text.as_bytes().iter().all(|byte| is_eligible(*byte)) && !is_operator(text)
+    !text.is_empty() && has_eligible_bytes(text) && !is_operator(text)
 }
 
-fn is_operator(text: &str) -> bool {
+fn has_eligible_bytes(text: &str) -> bool
+    ensures { result ≡ list_all is_eligible text.now }
+{
+    text.as_bytes().iter().all(|byte| is_eligible(*byte))
+}
+
+fn is_operator(text: &str) -> bool
+    ensures { result ≡ list_any (bytes_eq text.now) word.operators }
+{
     text == "AND" || text == "OR" || text == "NOT" || text == "NEAR"
 }

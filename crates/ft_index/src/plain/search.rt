@@ -1,5 +1,5 @@
 // Documents in memory that have a term.
-ghost use Rattle.std.specs.Prelude.{◌≡◌, ◌^◌, ◌<◌, length, string_bytes, bytes_eq, IfOk};
+ghost use Rattle.std.specs.Prelude.{◌≡◌, ◌^◌, ◌<◌, ◌&&◌, length, string_bytes, bytes_eq, IfOk};
 ghost use Rattle.std.specs.List.{list_any};
 ghost use Rattle.ft_query.specs.Occurs as occurs;
 ghost use Rattle.ft_index.specs.Plain as plain;
@@ -30,11 +30,28 @@ fn has_term(alloc: Global, texts: &[String], within: Option<usize>, term: &str) 
     ensures { IfOk result (λ has. has ≡ plain.has_term within term.now 0 texts.now) }
 {
     for (column, text) in texts.iter().enumerate() {
-        if is_within(within, column) && has_token(alloc, text.as_str(), term)? {
+        if has_term_at(alloc, column, text.as_str(), within, term)? {
             return Ok(true);
         }
     }
     Ok(false)
+}
+
+// Whether a column is searched, and its text has the term.
+fn has_term_at(
+    alloc: Global,
+    column: usize,
+    text: &str,
+    within: Option<usize>,
+    term: &str,
+) -> Result<bool, AllocError>
+    ensures { IfOk result (λ has. has ≡ (occurs.is_within within column && plain.has_token term.now text.now)) }
+{
+    if is_within(within, column) {
+        has_token(alloc, text, term)
+    } else {
+        Ok(false)
+    }
 }
 
 fn is_within(within: Option<usize>, column: usize) -> bool

@@ -3,7 +3,7 @@ ghost use Rattle.std.specs.Prelude.{◌≡◌, ◌^◌, ◌<◌, false, All, map
 ghost use Rattle.ft_index.specs.Content.{names_clash};
 
 use crate::fault::Fault;
-use crate::names::same_name;
+use crate::names::{has_name, same_name};
 use crate::plain::search::docids_with;
 use crate::word::SearchWord;
 use std::alloc::Global;
@@ -20,13 +20,16 @@ pub(crate) struct PlainTable {
 }
 
 impl PlainTable {
-    ghost use Rattle.std.specs.Prelude.{◌≢◌, ◌∷◌, [], IfErr, OnErr, OnOk};
+    ghost use Rattle.std.specs.Prelude.{◌≢◌, ◌||◌, IfErr, IfOk, OnErr, OnOk};
+    ghost use Rattle.std.specs.List.{list_any};
+    ghost use Rattle.ft_index.specs.Content as content;
     ghost use Rattle.ft_index.specs.declared.fault.Fault.TheVariants.{Memory};
     ghost use Rattle.ft_index.specs.Content.{names_of};
-    ghost use Rattle.ft_index.specs.Command.{Matching, Named, Listed};
+    ghost use Rattle.ft_index.specs.Command.{Matching};
+    ghost use Rattle.ft_index.specs.Answer.{answer};
     ghost use Rattle.ft_index.specs.Deserved.{insert_fault, select_fault};
     ghost use Rattle.ft_index.specs.Step.{inserted};
-    ghost use Rattle.ft_index.specs.Plain.{content_of, table_of, text_cells};
+    ghost use Rattle.ft_index.specs.Plain.{content_of, table_of, text_cells, docid_item, docid_grid};
 
     // Adds a document for each row: all of them or none.
     pub(crate) fn insert(&mut self, rows: Vec<Vec<String>>) -> Result<(), Fault>
@@ -46,6 +49,41 @@ impl PlainTable {
         self.documents.append(&mut rows)?;
         Ok(())
     }
+
+    // The docids of the documents that have a word. The name is the table's, for all columns, or a column's.
+    pub(crate) fn docids(&self, alloc: Global, name: &str, word: &SearchWord) -> Result<Vec<i64>, Fault>
+        ensures fault { IfErr result (λ fault. fault ≢ Memory → select_fault (string_bytes self.now.name) (content_of self.now) docid_item (Matching name.now (string_bytes word.now.text)) ≡ Some fault) }
+        ensures fine { OnOk result (select_fault (string_bytes self.now.name) (content_of self.now) docid_item (Matching name.now (string_bytes word.now.text)) ≡ None) }
+        ensures answer { IfOk result (λ docids. docid_grid docids ≡ answer (string_bytes self.now.name) (content_of self.now) docid_item (Matching name.now (string_bytes word.now.text)) None 0) }
+    {
+        if !self.is_searched_by(name) {
+            return Err(Fault::NoSuchColumn);
+        }
+        if word.text.len() > 10_000 {
+            return Err(Fault::TooLarge);
+        }
+        let term = word.text.to_ascii_lowercase(alloc)?;
+        let within = column_place(self.columns.as_slice(), name);
+        let docids = docids_with(alloc, self.documents.as_slice(), within, term.as_str())?;
+        Ok(docids)
+    }
+
+    // Whether a MATCH may have this name: that of the table, or of a column.
+    fn is_searched_by(&self, name: &str) -> bool
+        ensures { result ≡ (content.same_name (string_bytes self.now.name) name.now || list_any (λ c. content.same_name name.now (string_bytes c)) self.now.columns.items) }
+    {
+        same_name(self.name.as_str(), name) || has_name(self.columns.as_slice(), name)
+    }
+}
+
+ghost use Rattle.std.specs.Prelude.{position};
+ghost use Rattle.ft_index.specs.Content as content;
+
+// The place of the column of this name, if there is one.
+fn column_place(columns: &[String], name: &str) -> Option<usize>
+    ensures { result ≡ position (λ c. content.same_name name.now (string_bytes c)) columns.now }
+{
+    columns.iter().position(|column| same_name(name, column.as_str()))
 }
 
 ghost use Rattle.std.specs.Prelude.{◌∷◌, [], ◌==◌, nat_lt, not};
