@@ -1,0 +1,8 @@
+mod Rows
+mod Prints
+pub mod DotLines
+pub mod Restart
+pub mod Blocks
+pub mod Rising
+pub mod Lexing
+pub mod WordLoop

@@ -1,0 +1,58 @@
+-- What a splitter is seen as, and what its calls do.
+use Rattle.std.specs.Prelude.{ℕ, ◌≡◌, ⊤, List, [], ◌∷◌, ◌++◌, Option, Some, None, Result, Ok, Err, option_map, string_bytes}
+use Rattle.shell_text.specs.Words.{text_of}
+use Rattle.shell_text.specs.Units.{Member, Sql, Dot, Fault, Reading, Role, Refused, after, last_member, member_of, role_of, tail_in, units_in}
+use Rattle.shell_text.specs.declared.units.SplitFault.{SplitFault}
+use Rattle.shell_text.specs.declared.units.SplitFault.TheVariants as fault
+use Rattle.shell_text.specs.declared.units.Unit.{Unit as SeenUnit}
+use Rattle.shell_text.specs.declared.units.UnitKind.{UnitKind}
+use Rattle.shell_text.specs.declared.units.UnitKind.TheVariants as kind
+
+-- of the block it keeps what follows the last statement alone; `waiting` are the units that `next` hands out
+pub record Splitting : Type 0 where
+  pub reading : Reading
+  pub waiting : List Member
+
+-- a reading without the statements that its block ended
+abbrev pub without_ended : Reading → Reading
+without_ended r = record r { first = (tail_in r).0; block = option_map (λ _. text_of (tail_in r).1) r.block }
+
+abbrev pub member_as : UnitKind → ℕ → List ℕ → Member
+member_as kind.Sql line text = Sql line text
+member_as kind.Dot line text = Dot line text
+
+abbrev pub member_of_unit : SeenUnit → Member
+member_of_unit u = member_as u.kind u.line (string_bytes u.text)
+
+abbrev pub IsAccepted : Role → Type 0
+IsAccepted (Refused why) = ⊥
+IsAccepted _ = ⊤
+
+-- what `line` does: it takes the line, or refuses it for a fault of the line, or has no memory and changes nothing
+abbrev pub TakesLine : List ℕ → Splitting → Splitting → Result Unit SplitFault → Type 0
+TakesLine line old new (Ok _) = IsAccepted (role_of old.reading line) × (new.reading ≡ without_ended (after old.reading line))
+    × (new.waiting ≡ old.waiting ++ member_of (role_of old.reading line) old.reading line ++ units_in (after old.reading line))
+TakesLine line old new (Err fault.Memory) = new ≡ old
+TakesLine line old new (Err why) = (role_of old.reading line ≡ Refused why) × (new ≡ record old { reading = after old.reading line })
+
+-- what `next` does
+abbrev pub HandsOut : Splitting → Splitting → Option SeenUnit → Type 0
+HandsOut old new None = (old.waiting ≡ []) × (new ≡ old)
+HandsOut old new (Some u) = old ≡ record new { waiting = member_of_unit u ∷ new.waiting }
+
+-- nothing is pending
+abbrev pub emptied : Splitting → Splitting
+emptied s = record s { reading = record s.reading { block = None } }
+
+-- what `finish` does, where no unit waits
+abbrev pub Finishes : Splitting → Splitting → Result (Option SeenUnit) SplitFault → Type 0
+Finishes old new (Ok None) = (last_member (tail_in old.reading) ≡ []) × (new ≡ emptied old)
+Finishes old new (Ok (Some u)) = (last_member (tail_in old.reading) ≡ member_of_unit u ∷ []) × (new ≡ emptied old)
+Finishes old new (Err fault.Memory) = new ≡ old
+Finishes old new (Err (fault.Incomplete line)) = (last_member (tail_in old.reading) ≡ Fault line (fault.Incomplete line) ∷ []) × (new ≡ emptied old)
+Finishes old new (Err _) = ⊥
+
+-- the members that lines give, where each statement is handed out as its line comes
+abbrev pub given_by : Reading → List (List ℕ) → List Member
+given_by r [] = last_member (tail_in r)
+given_by r (line ∷ lines) = member_of (role_of r line) r line ++ units_in (after r line) ++ given_by (without_ended (after r line)) lines
