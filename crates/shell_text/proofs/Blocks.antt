@@ -126,15 +126,12 @@ goes_on r = goes_block r.line r.first r.block
 -- ---- lines
 
 -- what a line is, by what is pending
-abbrev pub pending_by : ℕ × List Piece → List ℕ
-pending_by tail = if list_all is_gap tail.1 then [] else text_of tail.1
-
 abbrev pub role_by : List ℕ → ℕ × List Piece → Role
 role_by line tail =
-    if nat_lt most_bytes ((if length (pending_by tail) == 0 then 0 else length (pending_by tail) + 1) + length line) then Refused fault.TooLong
+    if nat_lt most_bytes ((if list_all is_gap tail.1 then 0 else length (if list_all is_gap tail.1 then [] else text_of tail.1) + 1) + length line) then Refused fault.TooLong
     else if not (is_utf8 line) then Refused fault.NotUtf8
     else if list_any (λ b. b == 0) line then Refused fault.HasNul
-    else if (length (pending_by tail) == 0) && next_is (λ b. b == 0x2E) (first_byte line) then Command
+    else if list_all is_gap tail.1 && next_is (λ b. b == 0x2E) (first_byte line) then Command
     else Joins
 
 same_role : (r : Reading) (line : List ℕ) → role_of (without_ended r) line ≡ role_of r line

@@ -10,14 +10,10 @@ use Rattle.shell_text.specs.declared.words.Place.TheVariants.{Between, InWord, I
 use Rattle.shell_text.specs.declared.words.Ended.{Ended}
 use Rattle.shell_text.specs.declared.words.Turn.{Turn}
 use Rattle.shell_text.specs.declared.words.Turn.TheVariants.{Goes, Ends}
+use Rattle.shell_text.specs.Lexed.{IsFront, Reads, onto}
 use Rattle.shell_text.proofs.Restart.{IsInside, goes_inside}
 
 -- ---- what is read of a piece
-
--- the bytes that were read of a piece go onto the first of the pieces that follow
-abbrev pub onto : List ℕ → List Piece → List Piece
-onto [] ps = ps
-onto (b ∷ front) ps = onto_piece b (onto front ps)
 
 pub onto-more : (front : List ℕ) (b : ℕ) (ps : List Piece) → onto (front ++ b ∷ []) ps ≡ onto front (onto_piece b ps)
 onto-more [] b ps = refl
@@ -35,18 +31,6 @@ onto-none b [] = refl
 onto-none b (c ∷ front) = ap (onto_piece b) (onto-none c front)
 
 -- ---- pieces of a text that is read up to a place
-
--- between pieces nothing is read of the next one; inside one, something is
-abbrev pub IsFront : Place → List ℕ → Type 0
-IsFront Between front = front ≡ []
-IsFront _ front = 0 < length front
-
--- `done` are the pieces that ended in what was read, and `front` was read of the next; this holds whatever lines follow
-pub record Reads (before rest : List ℕ) (place : Place) (front : List ℕ) (done : List Piece) : Type 0 where
-  pub pieces : (more : List ℕ) → ends_line (first_byte more) ≡ true → pieces_of (before ++ (rest ++ more)) ≡ done ++ onto front (pieces_from place (rest ++ more))
-  pub text : before ≡ text_of done ++ front
-  pub whole : list_any is_open done ≡ false
-  pub begins : IsFront place front
 
 -- the end of a line tells a byte as much as the end of the text
 same_turn : (at : Place) (b : ℕ) → turn at b (Some 0x0A) ≡ turn at b None
@@ -75,7 +59,7 @@ turn_before : (at : Place) (b : ℕ) (rest more : List ℕ) → ends_line (first
 turn_before at b [] more h = turn_at_end at b more h
 turn_before at b (c ∷ rest) more h = refl
 
-pieces_by : (at : Place) (b : ℕ) (rest : List ℕ) (t : Turn) → turn at b (first_byte rest) ≡ t → pieces_from at (b ∷ rest) ≡ with_byte t b (pieces_from (place_after t) rest)
+pub pieces_by : (at : Place) (b : ℕ) (rest : List ℕ) (t : Turn) → turn at b (first_byte rest) ≡ t → pieces_from at (b ∷ rest) ≡ with_byte t b (pieces_from (place_after t) rest)
 unfolding pieces_from
 pieces_by at b rest t e = ap (λ u. with_byte u b (pieces_from (place_after u) rest)) e
 
@@ -132,15 +116,15 @@ text_of-append (p ∷ ps) qs = ap (λ t. p.text ++ t) (text_of-append ps qs) ∙
 pub text_of-more : (done : List Piece) (p : Piece) → text_of (done ++ p ∷ []) ≡ text_of done ++ p.text
 text_of-more done p = text_of-append done (p ∷ []) ∙ ap (λ t. text_of done ++ t) (append-nil p.text)
 
-any-or : (a b : Bool) → a || b ≡ false → (a ≡ false) × (b ≡ false)
+pub any-or : (a b : Bool) → a || b ≡ false → (a ≡ false) × (b ≡ false)
 any-or true b h = cc
 any-or false b h = (refl, h)
 
-any-more : (done : List Piece) (p : Piece) → is_open p ≡ false → list_any is_open done ≡ false → list_any is_open (done ++ p ∷ []) ≡ false
-any-more [] p h k = ap (λ o. o || false) h
-any-more (q ∷ done) p h k =
-    let parts = any-or (is_open q) (list_any is_open done) k in
-    ap (λ o. o || list_any is_open (done ++ p ∷ [])) parts.0 ∙ any-more done p h parts.1
+pub any-more : (test : Piece → Bool) (done : List Piece) (p : Piece) → test p ≡ false → list_any test done ≡ false → list_any test (done ++ p ∷ []) ≡ false
+any-more test [] p h k = ap (λ o. o || false) h
+any-more test (q ∷ done) p h k =
+    let parts = any-or (test q) (list_any test done) k in
+    ap (λ o. o || list_any test (done ++ p ∷ [])) parts.0 ∙ any-more test done p h parts.1
 
 -- a byte ends a piece
 pub reads_ends : {before rest front : List ℕ} {b : ℕ} {place : Place} {done : List Piece} (what : Ended)
@@ -153,7 +137,7 @@ reads_ends {before} {rest} {front} {b} {place} {done} what r e =
           ∙ ap (λ ps. done ++ ps) (onto-closed front b what (pieces_from Between (rest ++ more)))
           ∙ sym (append_assoc done (p ∷ []) (pieces_from Between (rest ++ more)));
       text = ap (λ bs. bs ++ b ∷ []) r.text ∙ append_assoc (text_of done) front (b ∷ []) ∙ sym (text_of-more done p) ∙ sym (append-nil (text_of (done ++ p ∷ [])));
-      whole = any-more done p refl r.whole;
+      whole = any-more is_open done p refl r.whole;
       begins = refl;
     }
 

@@ -6,3 +6,7 @@ pub mod Blocks
 pub mod Rising
 pub mod Lexing
 pub mod WordLoop
+pub mod Scanning
+pub mod Boundaries
+pub mod Keeping
+pub mod ReadOn

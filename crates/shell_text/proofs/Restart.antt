@@ -159,10 +159,10 @@ ends_by_symbol : (p : Piece) → is_symbol_kind p.kind ≡ false → ends_statem
 ends_by_symbol p h = ap (λ symbol. symbol && next_is (λ b. b == 0x3B) (first_byte p.text)) h
 
 -- the parts of pieces that begin with one that ends no statement
-kept_part : (p : Piece) (ps : List Piece) → ends_statement p ≡ false → parts_of (p ∷ ps) ≡ onto_first p (parts_of ps)
+pub kept_part : (p : Piece) (ps : List Piece) → ends_statement p ≡ false → parts_of (p ∷ ps) ≡ onto_first p (parts_of ps)
 kept_part p ps h = ap (λ ends. if ends then (p ∷ []) ∷ parts_of ps else onto_first p (parts_of ps)) h
 
-ended_part : (p : Piece) (ps : List Piece) → ends_statement p ≡ true → parts_of (p ∷ ps) ≡ (p ∷ []) ∷ parts_of ps
+pub ended_part : (p : Piece) (ps : List Piece) → ends_statement p ≡ true → parts_of (p ∷ ps) ≡ (p ∷ []) ∷ parts_of ps
 ended_part p ps h = ap (λ ends. if ends then (p ∷ []) ∷ parts_of ps else onto_first p (parts_of ps)) h
 
 onto_part-first : (b : ℕ) (p : Piece) (parts : List (List Piece)) → onto_first (record p { text = b ∷ p.text }) parts ≡ onto_part b (onto_first p parts)
@@ -191,7 +191,7 @@ both true y h = (refl, h)
 both false y h = cc
 
 -- inside something no symbol ends
-no_symbol : (at : Place) (b : ℕ) (next : Option ℕ) (kind : Ended) → IsInside at → turn at b next ≡ Ends kind → is_symbol_kind (Closed kind) ≡ true → ⊥
+pub no_symbol : (at : Place) (b : ℕ) (next : Option ℕ) (kind : Ended) → IsInside at → turn at b next ≡ Ends kind → is_symbol_kind (Closed kind) ≡ true → ⊥
 no_symbol at b next kind h e symbol = let no : is_symbol_kind (Closed kind) ≡ false = barred kind (subst Bars e (bars at b next h)) in cc
 
 begun-semicolon : (next : Option ℕ) → begun 0x3B next ≡ Ends (Word kinds.Symbol)

@@ -12,7 +12,8 @@ use Rattle.shell_text.specs.declared.words.Ended.{Ended}
 use Rattle.shell_text.specs.declared.words.Ended.TheVariants.{Word, Gap}
 use Rattle.shell_text.specs.declared.words.Turn.{Turn}
 use Rattle.shell_text.specs.declared.words.Turn.TheVariants.{Goes, Ends}
-use Rattle.shell_text.proofs.Lexing.{IsFront, Reads, closed, onto, onto-none, reads_none, text_of-more, reads_goes, reads_ends}
+use Rattle.shell_text.specs.Lexed.{IsFront, Reads, onto}
+use Rattle.shell_text.proofs.Lexing.{closed, onto-none, reads_none, text_of-more, reads_goes, reads_ends}
 
 pub first_byte-drop : (text : List ℕ) (i : ℕ) → first_byte (drop i text) ≡ slice_get text i
 first_byte-drop [] zero = refl
@@ -43,12 +44,14 @@ pub record IsByte (text : List ℕ) (i b : ℕ) : Type 0 where
   pub within : i < length text
   pub rest : drop i text ≡ b ∷ drop (i + 1) text
   pub front : take (i + 1) text ≡ take i text ++ b ∷ []
+  pub byte : get_or text i 0 ≡ b
 
-pub is_byte : (text : List ℕ) (i b : ℕ) → i < length text → get_or text i b ≡ b → IsByte text i b
+pub is_byte : (text : List ℕ) (i b : ℕ) → i < length text → get_or text i 0 ≡ b → IsByte text i b
 is_byte text i b within e = record {
   within = within;
-  rest = drop_more text i b within ∙ ap (λ x. x ∷ drop (i + 1) text) e;
-  front = take_more text i b within ∙ ap (λ x. take i text ++ x ∷ []) e;
+  rest = drop_more text i 0 within ∙ ap (λ x. x ∷ drop (i + 1) text) e;
+  front = take_more text i 0 within ∙ ap (λ x. take i text ++ x ∷ []) e;
+  byte = e;
 }
 
 turned : (text : List ℕ) (i b : ℕ) (place : Place) (t : Turn) → turn place b (slice_get text (i + 1)) ≡ t → turn place b (first_byte (drop (i + 1) text)) ≡ t
@@ -148,7 +151,7 @@ words_all past w = w.words_are ∙ ap (words_at 0) (sym (between_pieces (to_end 
 pub words_closed : {text : List ℕ} {i start : ℕ} {words : List SqlWord} → length text ≤ i → WordsTo text i start Between words → is_unclosed text ≡ false
 words_closed past w = let r = to_end past w.reads in ap (list_any is_open) (between_pieces r) ∙ r.whole
 
-any_last : (done : List Piece) (p : Piece) → is_open p ≡ true → list_any is_open (done ++ p ∷ []) ≡ true
+pub any_last : (done : List Piece) (p : Piece) → is_open p ≡ true → list_any is_open (done ++ p ∷ []) ≡ true
 any_last [] p h = ap (λ o. o || false) h
 any_last (q ∷ done) p h = ap (λ o. is_open q || o) (any_last done p h) ∙ or_true (is_open q)
   where
@@ -156,7 +159,7 @@ any_last (q ∷ done) p h = ap (λ o. is_open q || o) (any_last done p h) ∙ or
     or_true true = refl
     or_true false = refl
 
-has_first : (place : Place) (front : List ℕ) → place ≢ Between → IsFront place front → (b : ℕ) × (more : List ℕ) × (front ≡ b ∷ more)
+pub has_first : (place : Place) (front : List ℕ) → place ≢ Between → IsFront place front → (b : ℕ) × (more : List ℕ) × (front ≡ b ∷ more)
 has_first Between front h k = absurd (h refl)
 has_first InWord (b ∷ more) h k = (b, more, refl)
 has_first place [] h k = absurd (none place h k)

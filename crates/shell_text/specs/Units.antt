@@ -95,12 +95,12 @@ units_in r = ended_units r.first (parts_in r)
 abbrev pub tail_in : Reading → ℕ × List Piece
 tail_in r = tail_of r.first (parts_in r)
 
--- what follows the last statement; it is empty where that is only white space and closed comments
-abbrev pub pending_in : Reading → List ℕ
-pending_in r = if list_all is_gap (tail_in r).1 then [] else text_of (tail_in r).1
-
+-- whether what follows the last statement is only white space and closed comments; it counts as nothing then
 abbrev pub is_idle : Reading → Bool
-is_idle r = length (pending_in r) == 0
+is_idle r = list_all is_gap (tail_in r).1
+
+abbrev pub pending_in : Reading → List ℕ
+pending_in r = if is_idle r then [] else text_of (tail_in r).1
 
 -- ---- a line
 

@@ -1,4 +1,4 @@
-use Rattle.std.proofs.Common.{◌≡◌, ◌∙◌, sym, ap, subst, get_or, false, true, ◌+◌, ◌-◌, ◌++◌, ◌∷◌, [], rules}
+use Rattle.std.proofs.Common.{◌≡◌, ◌∙◌, refl, sym, ap, subst, get_or, false, true, ◌+◌, ◌-◌, ◌++◌, ◌∷◌, []}
 use Rattle.std.specs.Prelude.{slice_get}
 use Rattle.shell_text.specs.Words.{is_unclosed, turn, words_of}
 use Rattle.shell_text.specs.declared.words.Turn.TheVariants.{Ends}
@@ -11,7 +11,7 @@ loop-i-preserved c =
     let text = c.as_bytes-bytes.result.now in
     let i = c.loop-i.i in
     let b = get_or text i 0 in
-    let at : IsByte text i b = is_byte text i b c.loop-i-test.true (search rules) in
+    let at : IsByte text i b = is_byte text i b c.loop-i-test.true refl in
     let turned : turn c.loop-i.place b (slice_get text (i + 1)) ≡ c.turn_of.result = ap (turn c.loop-i.place b) (sym c.byte_at.ensures) ∙ sym c.turn_of.ensures in
     elim c.match-turn_of.branch [
       | in-Goes w ↦ rw (w.words-is, w.place-is, w.start-is) (words_goes w.in-Goes.to at (turned ∙ w.in-Goes.is) c.loop-i.invariant)
