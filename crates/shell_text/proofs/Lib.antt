@@ -10,3 +10,4 @@ pub mod Scanning
 pub mod Boundaries
 pub mod Keeping
 pub mod ReadOn
+pub mod Splitters

@@ -1,7 +1,9 @@
 -- What a splitter is seen as, and what its calls do.
 use Rattle.std.specs.Prelude.{ℕ, ◌≡◌, ⊤, List, [], ◌∷◌, ◌++◌, Option, Some, None, Result, Ok, Err, option_map, string_bytes}
-use Rattle.shell_text.specs.Words.{text_of}
-use Rattle.shell_text.specs.Units.{Member, Sql, Dot, Fault, Reading, Role, Refused, after, last_member, member_of, role_of, tail_in, units_in}
+use Rattle.shell_text.specs.Words.{pieces_of, text_of}
+use Rattle.shell_text.specs.Lexed.{Keeps}
+use Rattle.shell_text.specs.declared.units.Pending.{Pending}
+use Rattle.shell_text.specs.Units.{Member, at_line, ended_units, parts_of, tail_of, Sql, Dot, Fault, Reading, Role, Refused, after, last_member, member_of, role_of, tail_in, units_in}
 use Rattle.shell_text.specs.declared.units.SplitFault.{SplitFault}
 use Rattle.shell_text.specs.declared.units.SplitFault.TheVariants as fault
 use Rattle.shell_text.specs.declared.units.Unit.{Unit as SeenUnit}
@@ -42,7 +44,7 @@ HandsOut old new (Some u) = old ≡ record new { waiting = member_of_unit u ∷ 
 
 -- nothing is pending
 abbrev pub emptied : Splitting → Splitting
-emptied s = record s { reading = record s.reading { block = None } }
+emptied s = record s { reading = at_line s.reading.line }
 
 -- what `finish` does, where no unit waits
 abbrev pub Finishes : Splitting → Splitting → Result (Option SeenUnit) SplitFault → Type 0
@@ -56,3 +58,24 @@ Finishes old new (Err _) = ⊥
 abbrev pub given_by : Reading → List (List ℕ) → List Member
 given_by r [] = last_member (tail_in r)
 given_by r (line ∷ lines) = member_of (role_of r line) r line ++ units_in (after r line) ++ given_by (without_ended (after r line)) lines
+
+-- the block that is kept, where one is begun
+abbrev pub block_as : Option Pending → List ℕ → Option (List ℕ)
+block_as None text = None
+block_as (Some p) text = Some text
+
+-- the line on which a block begins that is kept, or begins with the next line
+abbrev pub first_as : Option Pending → ℕ → ℕ
+first_as None line = line
+first_as (Some p) line = p.first
+
+-- what is kept is that of the text; without a block there is no text
+abbrev pub IsKept : Option Pending → List ℕ → Type 0
+IsKept None text = text ≡ []
+IsKept (Some p) text = Keeps text [] p
+
+-- a text that begins on line n was read: its statements are told behind `told`, and `text` is what follows the last of them
+pub record TakesText (n : ℕ) (whole : List ℕ) (told now : List Member) (text : List ℕ) (p : Pending) : Type 0 where
+  pub units : now ≡ told ++ ended_units n (parts_of (pieces_of whole))
+  pub tail : tail_of n (parts_of (pieces_of whole)) ≡ (p.first, pieces_of text)
+  pub keeps : Keeps text [] p

@@ -136,8 +136,12 @@ with_line r line = record {
   block = Some (joined r.block line);
 }
 
+-- no block is begun, and a line comes next
+abbrev pub at_line : ℕ → Reading
+at_line n = record { line = n; first = n; block = None }
+
 abbrev pub without_block : Reading → Reading
-without_block r = record { line = numbered (r.line + 1); first = numbered (r.line + 1); block = None }
+without_block r = at_line (numbered (r.line + 1))
 
 abbrev pub after_role : Role → Reading → List ℕ → Reading
 after_role (Refused why) r line = without_block r
