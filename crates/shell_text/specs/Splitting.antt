@@ -1,9 +1,11 @@
 -- What a splitter is seen as, and what its calls do.
-use Rattle.std.specs.Prelude.{ℕ, ◌≡◌, ⊤, List, [], ◌∷◌, ◌++◌, Option, Some, None, Result, Ok, Err, option_map, string_bytes}
+use Rattle.std.specs.Prelude.{ℕ, ◌≡◌, ◌==◌, Bool, true, false, ⊤, List, [], ◌∷◌, ◌++◌, Option, Some, None, Result, Ok, Err, option_map, string_bytes}
+use Rattle.std.specs.List.{list_any}
+use Rattle.std.specs.Str.{is_utf8}
 use Rattle.shell_text.specs.Words.{pieces_of, text_of}
 use Rattle.shell_text.specs.Lexed.{Keeps}
 use Rattle.shell_text.specs.declared.units.Pending.{Pending}
-use Rattle.shell_text.specs.Units.{Member, at_line, ended_units, parts_of, tail_of, Sql, Dot, Fault, Reading, Role, Refused, after, last_member, member_of, role_of, tail_in, units_in}
+use Rattle.shell_text.specs.Units.{Member, at_line, ended_units, parts_of, tail_of, Sql, Dot, Fault, Reading, Role, Refused, Command, Joins, after, last_member, member_of, role_of, tail_in, units_in}
 use Rattle.shell_text.specs.declared.units.SplitFault.{SplitFault}
 use Rattle.shell_text.specs.declared.units.SplitFault.TheVariants as fault
 use Rattle.shell_text.specs.declared.units.Unit.{Unit as SeenUnit}
@@ -29,6 +31,16 @@ member_of_unit u = member_as u.kind u.line (string_bytes u.text)
 abbrev pub IsAccepted : Role → Type 0
 IsAccepted (Refused why) = ⊥
 IsAccepted _ = ⊤
+
+-- why a line's bytes are no text
+abbrev pub IsBadText : List ℕ → SplitFault → Type 0
+IsBadText line fault.NotUtf8 = is_utf8 line ≡ false
+IsBadText line fault.HasNul = (is_utf8 line ≡ true) × (list_any (λ b. b == 0) line ≡ true)
+IsBadText line _ = ⊥
+
+abbrev pub role_as : Bool → Role
+role_as true = Command
+role_as false = Joins
 
 -- what `line` does: it takes the line, or refuses it for a fault of the line, or has no memory and changes nothing
 abbrev pub TakesLine : List ℕ → Splitting → Splitting → Result Unit SplitFault → Type 0

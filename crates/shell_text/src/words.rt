@@ -93,7 +93,7 @@ fn goes_on_word(b: u8) -> bool
     begins_word(b) || b.is_ascii_digit() || b == b'$'
 }
 
-fn is_next(next: Option<u8>, mark: u8) -> bool
+pub(crate) fn is_next(next: Option<u8>, mark: u8) -> bool
     ensures { result ≡ next_is (λ c. c == mark) next }
 {
     match next {
