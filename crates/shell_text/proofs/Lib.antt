@@ -1,0 +1,13 @@
+mod Rows
+mod Prints
+pub mod DotLines
+pub mod Restart
+pub mod Blocks
+pub mod Rising
+pub mod Lexing
+pub mod WordLoop
+pub mod Scanning
+pub mod Boundaries
+pub mod Keeping
+pub mod ReadOn
+pub mod Splitters
