@@ -11,3 +11,4 @@ pub mod Boundaries
 pub mod Keeping
 pub mod ReadOn
 pub mod Splitters
+pub mod WordBounds

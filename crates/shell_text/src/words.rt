@@ -1,6 +1,7 @@
 //! Words of SQL.
 
-ghost use Rattle.std.specs.Prelude.{◌≡◌, ◌==◌, List, ℕ, false, true, slice_get, IfOk, OnOk, IsErrOf};
+ghost use Rattle.std.specs.Prelude.{◌≡◌, ◌==◌, ◌+◌, List, ℕ, false, true, slice_get, All, IsCharBoundary, IfOk, OnOk, IsErrOf};
+ghost use Rattle.std.specs.Str.{IsUtf8};
 ghost use Rattle.shell_text.specs.declared.words.LexFault.TheVariants.{Memory};
 ghost use Rattle.shell_text.specs.Words.{IsRising, begins_word, begun, ends_line, goes_on_word, in_comment, in_marks, in_number, in_word, is_space, is_unclosed, next_is, turn, words_of};
 
@@ -251,4 +252,9 @@ pub fn sql_words(alloc: Global, text: &str) -> Result<Vec<SqlWord>, LexFault>
 /// Words of a text have at least one byte each, and rise.
 pub fn words_rise()
     ensures { (text : List ℕ) → IsRising 0 (words_of text) }
+{}
+
+/// Words of a text begin and end where it may be cut.
+pub fn words_on_characters()
+    ensures { (text : List ℕ) → IsUtf8 text → All (λ w. IsCharBoundary text w.start × IsCharBoundary text (w.start + w.size)) (words_of text) }
 {}
