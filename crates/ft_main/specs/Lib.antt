@@ -1,0 +1,4 @@
+pub mod Statements
+pub mod Pieces
+pub mod Session
+pub mod Runs

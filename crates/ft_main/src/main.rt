@@ -1,0 +1,7 @@
+//! The program `ft4sh`.
+#![tactic(auto)]
+
+mod pieces;
+mod statement;
+
+fn main() {}
