@@ -1,4 +1,5 @@
 pub mod Statements
 pub mod Pieces
 pub mod Session
+pub mod Answers
 pub mod Runs

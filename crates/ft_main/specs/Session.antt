@@ -65,7 +65,7 @@ fault_text faults.Memory = codes "out of memory"
 
 -- the fault line of a text, for the line of this number
 abbrev pub fault_line : ℕ → List ℕ → List ℕ
-fault_line n text = codes "Error: near line " ++ decimal n ++ codes ": " ++ text ++ 10 ∷ []
+fault_line n text = codes "Error: near line " ++ (decimal n ++ (codes ": " ++ (text ++ 10 ∷ [])))
 
 abbrev pub told_fault : ℕ → List ℕ → Told
 told_fault n text = record { out = []; err = fault_line n text; faults = 1 }
