@@ -78,23 +78,23 @@ module _ (within : Option ℕ) (t : PlainTerm) where
     hit_of_start ps p h =
         let parts = and_parts (is_within within p.place.column) (takes ps t p.place.column p.place.pos) h in
         any_weaker (taker p.place.column p.place.pos) is_hit ps (λ q taken.
-            let pairs = and_parts (q.place.column == p.place.column && q.place.pos == p.place.pos) (fits t q.term q.place.pos) taken in
-            let same : q.place.column ≡ p.place.column = eqb-true _ _ (and_parts (q.place.column == p.place.column) (q.place.pos == p.place.pos) pairs.0).0 in
-            and_from (is_within within q.place.column) (bytes_eq q.term t.text) (ap (is_within within) same ∙ parts.0) (sym (fits_is q.term q.place.pos) ∙ pairs.1)) parts.1
+        let pairs = and_parts (q.place.column == p.place.column && q.place.pos == p.place.pos) (fits t q.term q.place.pos) taken in
+        let same : q.place.column ≡ p.place.column = eqb-true _ _ (and_parts (q.place.column == p.place.column) (q.place.pos == p.place.pos) pairs.0).0 in
+        and_from (is_within within q.place.column) (bytes_eq q.term t.text) (ap (is_within within) same ∙ parts.0) (sym (fits_is q.term q.place.pos) ∙ pairs.1)) parts.1
 
     takes_itself : (before : List Posting) (p : Posting) (later : List Posting) → bytes_eq p.term t.text ≡ true → takes (before ++ p ∷ later) t p.place.column p.place.pos ≡ true
     takes_itself [] p later h =
         ap (λ b. b || takes later t p.place.column p.place.pos) (and_from (p.place.column == p.place.column && p.place.pos == p.place.pos) (fits t p.term p.place.pos)
-            (and_from (p.place.column == p.place.column) (p.place.pos == p.place.pos) (eq-eqb p.place.column p.place.column refl) (eq-eqb p.place.pos p.place.pos refl)) (fits_is p.term p.place.pos ∙ h))
+        (and_from (p.place.column == p.place.column) (p.place.pos == p.place.pos) (eq-eqb p.place.column p.place.column refl) (eq-eqb p.place.pos p.place.pos refl)) (fits_is p.term p.place.pos ∙ h))
     takes_itself (b ∷ before) p later h = or_right (taker p.place.column p.place.pos b) (takes (before ++ p ∷ later) t p.place.column p.place.pos) (takes_itself before p later h)
 
     starts_of_hits : (before ps : List Posting) → list_any is_hit ps ≡ true → list_any (starts_here (before ++ ps)) ps ≡ true
     starts_of_hits before [] h = h
     starts_of_hits before (p ∷ ps) h = either_way (is_hit p)
         (λ e. let parts = and_parts (is_within within p.place.column) (bytes_eq p.term t.text) e in
-            ap (λ b. b || list_any (starts_here (before ++ p ∷ ps)) ps) (and_from (is_within within p.place.column) (takes (before ++ p ∷ ps) t p.place.column p.place.pos) parts.0 (takes_itself before p ps parts.1)))
+        ap (λ b. b || list_any (starts_here (before ++ p ∷ ps)) ps) (and_from (is_within within p.place.column) (takes (before ++ p ∷ ps) t p.place.column p.place.pos) parts.0 (takes_itself before p ps parts.1)))
         (λ e. or_right (starts_here (before ++ p ∷ ps) p) (list_any (starts_here (before ++ p ∷ ps)) ps)
-            (subst (λ all. list_any (starts_here all) ps ≡ true) (append_assoc before (p ∷ []) ps) (starts_of_hits (before ++ p ∷ []) ps (rest_true (is_hit p) (list_any is_hit ps) e h))))
+        (subst (λ all. list_any (starts_here all) ps ≡ true) (append_assoc before (p ∷ []) ps) (starts_of_hits (before ++ p ∷ []) ps (rest_true (is_hit p) (list_any is_hit ps) e h))))
 
     one_occurs : (ps : List Posting) (column pos : ℕ) → occurs ps (record { filter = within; terms = t ∷ [] }) column pos ≡ (is_within within column && takes ps t column pos)
     one_occurs ps column pos = shrink (is_within within column) (takes ps t column pos)

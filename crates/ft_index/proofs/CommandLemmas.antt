@@ -38,13 +38,13 @@ last_tests (Some t) few = refl
 pub create_fault_is : (ts : List PlainTable) (table module_name : List ℕ) (columns : List (String Global)) → create_fault (contents_from 1 ts) table module_name [] (texts_of columns) false ≡ create_tests ts table module_name columns
 create_fault_is ts table module_name columns =
     let rest : first_of ((is_some (table_named (contents_from 1 ts) table) && true, faults.TableExists) ∷ (is_none (table_named (contents_from 1 ts) table) && nat_le 1000 (length (contents_from 1 ts)), faults.TooManyTables) ∷ (is_none (table_named (contents_from 1 ts) table) && false, faults.NoSuchColumn) ∷ [])
-        ≡ first_of ((list_any (is_named table) ts, faults.TableExists) ∷ (nat_le 1000 (length ts), faults.TooManyTables) ∷ []) =
+    ≡ first_of ((list_any (is_named table) ts, faults.TableExists) ∷ (nat_le 1000 (length ts), faults.TooManyTables) ∷ []) =
     last_tests (table_named (contents_from 1 ts) table) (nat_le 1000 (length (contents_from 1 ts)))
     ∙ (λ i. first_of ((named-any table 1 ts i, faults.TableExists) ∷ (nat_le 1000 (length-contents 1 ts i), faults.TooManyTables) ∷ [])) in
     λ i. cond (not (same_name module_name (codes "fts4"))) (Some faults.Module)
-        (cond (not (is_name table && all_of_map is_name string_bytes columns i)) (Some faults.Name)
-        (cond (names_clash table (texts_of columns)) (Some faults.DuplicateColumn)
-        (cond (nat_lt 100 (length-texts columns i)) (Some faults.TooManyColumns) (rest i))))
+    (cond (not (is_name table && all_of_map is_name string_bytes columns i)) (Some faults.Name)
+    (cond (names_clash table (texts_of columns)) (Some faults.DuplicateColumn)
+    (cond (nat_lt 100 (length-texts columns i)) (Some faults.TooManyColumns) (rest i))))
 
 -- a Create that is refused
 pub create_refused : (ts : List PlainTable) (table module_name : List ℕ) (given : List (List ℕ)) (columns : List (String Global)) (fault : Fault) → texts_of columns ≡ made_columns given →
@@ -87,10 +87,10 @@ create_done ts module_name given t made empty h =
     ap (λ (f : Option Fault). step_by f contents (create_command name module_name given))
     (ap (λ ns. create_fault contents name module_name [] ns false) (sym made) ∙ create_fault_is ts name module_name t.columns.items ∙ h)
     ∙ ap (λ (c : Contents). (Ok Done, c)) (
-        ap (λ b. cond b contents (put int_cmp (pos (free_id_from 1 contents)) (new_table name [] (made_columns given)) contents)) (named-any name 1 ts ∙ not_taken ts name module_name t.columns.items h)
-        ∙ (λ i. put int_cmp (pos (free_id-next 1 ts i)) (new i) contents)
-        ∙ table-behind 1 (1 + length ts) ts (table_of t) (omega arith)
-        ∙ sym (contents-append 1 ts t))
+    ap (λ b. cond b contents (put int_cmp (pos (free_id_from 1 contents)) (new_table name [] (made_columns given)) contents)) (named-any name 1 ts ∙ not_taken ts name module_name t.columns.items h)
+    ∙ (λ i. put int_cmp (pos (free_id-next 1 ts i)) (new i) contents)
+    ∙ table-behind 1 (1 + length ts) ts (table_of t) (omega arith)
+    ∙ sym (contents-append 1 ts t))
 
 -- ---- Insert
 
@@ -119,7 +119,7 @@ insert_done ts table rows i t new at is apart none name columns documents =
     ap (λ (f : Option Fault). step_by f (contents_from 1 ts) (insert_command table rows))
     (ap (λ (o : Option (ℤ × Table)). on_found o (λ name held. on_held held (λ content. insert_fault content (names_of content.columns) (map text_cells rows)))) (named-at table 1 i ts t at is apart) ∙ none)
     ∙ ap (λ (c : Contents). (Ok Done, c)) (on_table-at table (with_documents (λ content. inserted content None (map text_cells rows))) 1 i ts t new at is apart
-        (λ j. record { name = string_bytes (name j); held = Sound (record { columns = map plain_column (columns j).items; documents = documents j }) }))
+    (λ j. record { name = string_bytes (name j); held = Sound (record { columns = map plain_column (columns j).items; documents = documents j }) }))
 
 -- the answer to an Insert into the table at a place, by what the table answers
 pub insert_answers : (ts : List PlainTable) (old : Contents) (table : List ℕ) (rows : List (Vec (String Global) Global)) (i : ℕ) (t new : PlainTable) (r : Result (Unit {0}) Fault) →
@@ -132,6 +132,6 @@ pub insert_answers : (ts : List PlainTable) (old : Contents) (table : List ℕ) 
 insert_answers ts old table rows i t new (Ok x) view at is apart fault fine documents name columns err =
     subst (λ (c : Contents). step c (insert_command table rows) ≡ (Ok Done, contents_from 1 (slice_set ts i new))) view (insert_done ts table rows i t new at is apart fine name columns documents)
 insert_answers ts old table rows i t new (Err f) view at is apart fault fine documents name columns err = (
-    (λ real. subst (λ (c : Contents). step c (insert_command table rows) ≡ (Err f, c)) view (insert_refused ts table rows i t f at is apart (fault real))),
-    contents-set 1 i ts t new at err ∙ view
-  )
+  (λ real. subst (λ (c : Contents). step c (insert_command table rows) ≡ (Err f, c)) view (insert_refused ts table rows i t f at is apart (fault real))),
+  contents-set 1 i ts t new at err ∙ view,
+)

@@ -42,6 +42,7 @@ known_from before (n ∷ names) =
     or_right : (a b : Bool) → b ≡ true → (a || b) ≡ true
     or_right true b h = refl
     or_right false b h = h
+
     regroup : (xs : List (List ℕ)) (y : List ℕ) (ys : List (List ℕ)) → (xs ++ y ∷ []) ++ ys ≡ xs ++ y ∷ ys
     regroup [] y ys = refl
     regroup (x ∷ xs) y ys = ap (λ zs. x ∷ zs) (regroup xs y ys)
@@ -126,10 +127,10 @@ insert_fault_is t rows clash =
     ap (λ n. list_any (λ (row : List Cell). not (length row == n)) cells) width ∙ counts_alike (vec_len t.columns) rows in
     ap (λ (f : Option Fault). or_else f (fault_of (insert_rows (content_of t).columns (map (zip names) cells) (content_of t).documents)))
     (ap (λ b. tests_of (not b)
-        (list_any (λ (row : List Cell). not (length row == length names)) cells)
-        (list_any (λ (row : List Cell). list_any (λ (v : List ℕ × Cell). is_docid v.0 && is_text v.1) (zip names row)) cells)
-        (list_any (λ (row : List Cell). nat_lt 1 (length (docids_in (zip names row)))) cells)
-        (list_any (list_any is_too_long) cells) (list_any (list_any has_nul) cells)) known
+    (list_any (λ (row : List Cell). not (length row == length names)) cells)
+    (list_any (λ (row : List Cell). list_any (λ (v : List ℕ × Cell). is_docid v.0 && is_text v.1) (zip names row)) cells)
+    (list_any (λ (row : List Cell). nat_lt 1 (length (docids_in (zip names row)))) cells)
+    (list_any (list_any is_too_long) cells) (list_any (list_any has_nul) cells)) known
     ∙ (λ i. tests_of false (count i) (kind i) (twice i) (long_alike rows i) (nul_alike rows i)))
   where
     tests_of : (a count kind twice long nul : Bool) → Option Fault
@@ -142,7 +143,7 @@ passed_over n cell values [] h = refl
 passed_over n cell values (c ∷ columns) h =
     let parts = neither (same_name n c.name) (list_any (same_name n) (names_of columns)) h in
     λ i. unwrap_or (option_map (λ (v : List ℕ × Cell). v.1) (cond (parts.0 i) (Some (n, cell)) (find (λ (v : List ℕ × Cell). same_name v.0 c.name) values))) Null
-        ∷ passed_over n cell values columns parts.1 i
+    ∷ passed_over n cell values columns parts.1 i
 
 own_cells : (columns : List Column) (cells : List Cell) → repeats_name (names_of columns) ≡ false → length cells ≡ length columns → new_cells (zip (names_of columns) cells) columns ≡ cells
 own_cells [] [] h e = refl
@@ -151,7 +152,7 @@ own_cells (c ∷ columns) [] h e = absurd (omega (arith, e))
 own_cells (c ∷ columns) (cell ∷ cells) h e =
     let parts = neither (list_any (same_name c.name) (names_of columns)) (repeats_name (names_of columns)) h in
     (λ i. unwrap_or (option_map (λ (v : List ℕ × Cell). v.1) (cond (same_itself c.name i) (Some (c.name, cell)) (find (λ (v : List ℕ × Cell). same_name v.0 c.name) (zip (names_of columns) cells)))) Null
-        ∷ passed_over c.name cell (zip (names_of columns) cells) columns parts.0 i)
+    ∷ passed_over c.name cell (zip (names_of columns) cells) columns parts.0 i)
     ∙ ap (λ rest. cell ∷ rest) (own_cells columns cells parts.1 (ap pred e))
 
 -- ---- docids

@@ -43,7 +43,7 @@ is_searched_by t name = same_name (string_bytes t.name) name || list_any (λ c. 
 select_tests : (t : PlainTable) (name text : List ℕ) → select_fault (string_bytes t.name) (content_of t) docid_item (Matching name text) ≡ cond (not (is_searched_by t name)) (Some faults.NoSuchColumn) (reading_fault (reading (content_of t) name text))
 select_tests t name text =
     ap (λ b. or_else (first_of ((not (same_name (string_bytes t.name) name || b), faults.NoSuchColumn) ∷ [])) (reading_fault (reading (content_of t) name text)))
-        (ap (list_any (same_name name)) (names_of_plain t.columns.items) ∙ any_of_map (same_name name) string_bytes t.columns.items)
+    (ap (list_any (same_name name)) (names_of_plain t.columns.items) ∙ any_of_map (same_name name) string_bytes t.columns.items)
     ∙ one_test (not (is_searched_by t name)) (reading_fault (reading (content_of t) name text))
   where
     one_test : (b : Bool) (later : Option Fault) → or_else (cond b (Some faults.NoSuchColumn) None) later ≡ cond b (Some faults.NoSuchColumn) later
@@ -82,7 +82,7 @@ chosen_docids t within text k (d ∷ ds) wide =
     let here : length d.items ≡ length t.columns.items = sym d.ok.0 ∙ All-head (λ (x : Vec (String Global) Global). vec_len x ≡ vec_len t.columns) d ds wide ∙ t.columns.ok.0 in
     let later = chosen_docids t within text (k + 1) ds (All-tail (λ (x : Vec (String Global) Global). vec_len x ≡ vec_len t.columns) d ds wide) in
     ap (λ b. map docid_cells (cond b ((pos k, text_cells d) ∷ filter (accepts_read (content_of t) (Some (word_tree within text))) (documents_from (k + 1) ds)) (filter (accepts_read (content_of t) (Some (word_tree within text))) (documents_from (k + 1) ds))))
-        (accepts_texts within (term_of text) t.columns.items d.items refl refl here)
+    (accepts_texts within (term_of text) t.columns.items d.items refl refl here)
     ∙ split (has_term within (str_to_ascii_lowercase text) 0 d.items) (filter (accepts_read (content_of t) (Some (word_tree within text))) (documents_from (k + 1) ds)) (docids_with within (str_to_ascii_lowercase text) (k + 1) ds) later
   where
     split : (b : Bool) (rest : Documents) (docids : List ℤ) → map docid_cells rest ≡ map (λ (n : ℤ). Int n ∷ []) docids →
@@ -137,6 +137,6 @@ pub docids_answer : (ts : List PlainTable) (old : Contents) (table name text : L
 docids_answer ts old table name text i t (Ok docids) view at is apart fault fine found =
     subst (λ (c : Contents). step c (docids_command table name text) ≡ (Ok (Rows (docid_grid docids)), c)) view (docids_found ts table name text i t docids at is apart fine found)
 docids_answer ts old table name text i t (Err f) view at is apart fault fine found = (
-    (λ real. subst (λ (c : Contents). step c (docids_command table name text) ≡ (Err f, c)) view (docids_refused ts table name text i t f at is apart (fault real))),
-    refl
-  )
+  (λ real. subst (λ (c : Contents). step c (docids_command table name text) ≡ (Err f, c)) view (docids_refused ts table name text i t f at is apart (fault real))),
+  refl,
+)

@@ -113,7 +113,7 @@ one_lexeme columns b bs h free =
     let no_bare_near = neither (bytes_eq text (codes "NEAR")) _ no_not.1 in
     let chunk : lexemes_of_chunk columns text ≡ map word (terms_of text) =
     (λ i. cond (no_and.0 i) (and_word ∷ []) (cond (no_or.0 i) (or_word ∷ []) (cond (no_not.0 i) (not_word ∷ []) (cond (no_bare_near.0 i) (near_word 10 ∷ [])
-        (cond (no_near text h i && is_number (drop 5 text)) (near_word (number_of (drop 5 text)) ∷ []) (words_after (no_filter columns text h i) text)))))) in
+    (cond (no_near text h i && is_number (drop 5 text)) (near_word (number_of (drop 5 text)) ∷ []) (words_after (no_filter columns text h i) text)))))) in
     ap (flat_map (lexemes_of_part columns)) (one_part b bs h) ∙ append-nil (lexemes_of_chunk columns text) ∙ chunk ∙ ap (map word) (one_term b bs h)
 
 -- ---- the query
@@ -123,8 +123,8 @@ no_fault : (columns : List (List ℕ)) (b : ℕ) (bs : List ℕ) → list_all is
 no_fault columns b bs h free =
     let lexemes = one_lexeme columns b bs h free in
     λ i. cond (nat_lt 10000 (length (b ∷ bs))) (Some TooLarge)
-        (cond (list_any is_unclosed (one_part b bs h i) || none_of 0 (b ∷ bs) refl h i) (Some Malformed)
-        (cond (nat_lt 64 (sum_by term_count (lexemes i)) || list_any is_far (lexemes i) || nests_deep (0, 0) (lexemes i)) (Some TooLarge) None))
+    (cond (list_any is_unclosed (one_part b bs h i) || none_of 0 (b ∷ bs) refl h i) (Some Malformed)
+    (cond (nat_lt 64 (sum_by term_count (lexemes i)) || list_any is_far (lexemes i) || nests_deep (0, 0) (lexemes i)) (Some TooLarge) None))
 
 abbrev pub word_tree : Option ℕ → List ℕ → Tree
 word_tree within text = phrase (record { filter = within; terms = term_of text ∷ [] })

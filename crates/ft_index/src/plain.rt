@@ -48,11 +48,21 @@ impl PlainTables {
     }
 
     /// Makes a table of these columns with a module, as CREATE VIRTUAL TABLE does. Without columns it has one, `content`.
-    pub fn create(&mut self, table: String, module_name: &str, columns: Vec<String>) -> Result<(), Fault>
+    pub fn create(
+        &mut self,
+        table: String,
+        module_name: &str,
+        columns: Vec<String>,
+    ) -> Result<(), Fault>
         ensures { Answers self.old (create_command (string_bytes table) module_name.now (texts_of columns.items)) (done result) self.new }
     {
         let columns = made_columns(self.alloc, columns)?;
-        if let Some(fault) = create_fault(self.tables.as_slice(), table.as_str(), module_name, columns.as_slice()) {
+        if let Some(fault) = create_fault(
+            self.tables.as_slice(),
+            table.as_str(),
+            module_name,
+            columns.as_slice(),
+        ) {
             return Err(fault);
         }
         let documents = Vec::new(self.alloc);
@@ -121,10 +131,17 @@ fn place_of(tables: &[PlainTable], name: &str) -> Option<usize>
 fn is_taken(tables: &[PlainTable], name: &str) -> bool
     ensures { result ≡ list_any (λ t. content.same_name (string_bytes t.name) name.now) tables.now }
 {
-    tables.iter().any(|table| same_name(table.name.as_str(), name))
+    tables
+        .iter()
+        .any(|table| same_name(table.name.as_str(), name))
 }
 
-fn create_fault(tables: &[PlainTable], table: &str, module_name: &str, columns: &[String]) -> Option<Fault>
+fn create_fault(
+    tables: &[PlainTable],
+    table: &str,
+    module_name: &str,
+    columns: &[String],
+) -> Option<Fault>
     ensures { result ≡ deserved.first_of (
         (not (content.same_name module_name.now (codes "fts4")), faults.Module)
         ∷ (not (content.is_name table.now && list_all (λ n. content.is_name (string_bytes n)) columns.now), faults.Name)

@@ -90,14 +90,18 @@ dropped_byte r b rest h other long = at_line r.line h long
   where
     lines_with : lines_of (b ∷ rest) ≡ onto_first b (lines_of rest)
     lines_with = ap (λ t. cond t ([] ∷ lines_of rest) (onto_first b (lines_of rest))) other
+
     first_with : (ls : List (List ℕ)) → first_line (onto_first b ls) ≡ b ∷ first_line ls
     first_with [] = refl
     first_with (l ∷ ls) = refl
+
     later_with : (ls : List (List ℕ)) → later_lines (onto_first b ls) ≡ later_lines ls
     later_with [] = refl
     later_with (l ∷ ls) = refl
+
     told_long : (c : ℕ) (cs x : List ℕ) (ls : List (List ℕ)) → 1000000 < length (c ∷ cs) → told_from r.contents r.number (((c ∷ cs) ++ x) ∷ ls) ≡ followed (told_fault r.number (codes "statement too long")) (told_from r.contents (next_number r.number) ls)
     told_long c cs x ls h = ap (λ (t : Told × Contents). followed t.0 (told_from t.1 (next_number r.number) ls)) (too_long r.contents r.number ((c ∷ cs) ++ x) (omega (arith, h, length-append (c ∷ cs) x)))
+
     at_line : (line : List ℕ) → IsPlain line → 1000000 < length line → told_from r.contents r.number (lines_of (line ++ b ∷ rest)) ≡ told_from r.contents r.number (lines_of (line ++ rest))
     at_line [] h long = absurd (omega (arith, long))
     at_line (c ∷ cs) h long =
@@ -237,9 +241,8 @@ run_ends (Some input) None i j out out' out'' err err' err'' total faults so_far
 run_ends (Some input) (Some left) i j out out' out'' err err' err'' total faults so_far at_end ends is fits =
     let whole : input ≡ so_far.bytes ++ [] = so_far.consumed ∙ ap (λ x. so_far.bytes ++ x) at_end in
     let told : told_of input ≡ followed so_far.tells.told (told_after i []) = ap told_of whole ∙ so_far.tells.rest [] in
-    let sum : faults ≡ min (so_far.tells.told.faults + (told_after i []).faults) (2 ^ 64 - 1) = omega (arith, is, fits, so_far.tells.faults, ends.faults) in
-    (
+    let sum : faults ≡ min (so_far.tells.told.faults + (told_after i []).faults) (2 ^ 64 - 1) = omega (arith, is, fits, so_far.tells.faults, ends.faults) in (
       subst (λ (t : Told). Appends out out'' t.out) (sym told) (appends_then out out' out'' so_far.tells.told.out (told_after i []).out so_far.tells.out ends.out),
       subst (λ (t : Told). Appends err err'' t.err) (sym told) (appends_then err err' err'' so_far.tells.told.err (told_after i []).err so_far.tells.err ends.err),
-      sum ∙ ap (λ (t : Told). min t.faults (2 ^ 64 - 1)) (sym told)
+      sum ∙ ap (λ (t : Told). min t.faults (2 ^ 64 - 1)) (sym told),
     )

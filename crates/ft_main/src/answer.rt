@@ -30,7 +30,12 @@ pub(crate) enum Answer {
 
 // What the line of this number gives.
 #[tactic(auto, unfolding(crate::specs::Session::turn))]
-pub(crate) fn turn(alloc: Global, tables: &mut PlainTables, number: u64, line: &[u8]) -> Result<Answer, AllocError>
+pub(crate) fn turn(
+    alloc: Global,
+    tables: &mut PlainTables,
+    number: u64,
+    line: &[u8],
+) -> Result<Answer, AllocError>
     ensures { IfOk result (λ answer. session.turn tables.old number line.now ≡ (told_by answer, tables.new)) }
 {
     match text_of_line(line) {
@@ -82,7 +87,12 @@ fn without_return(text: &str) -> &str
     }
 }
 
-fn turn_of_text(alloc: Global, tables: &mut PlainTables, number: u64, text: &str) -> Result<Answer, AllocError>
+fn turn_of_text(
+    alloc: Global,
+    tables: &mut PlainTables,
+    number: u64,
+    text: &str,
+) -> Result<Answer, AllocError>
     ensures { IfOk result (λ answer. session.turn_of_text tables.old number text.now ≡ (told_by answer, tables.new)) }
 {
     match sql_words(alloc, text) {
@@ -131,7 +141,12 @@ fn fault_line(alloc: Global, number: u64, text: &str) -> Result<String, AllocErr
     format!(in alloc; "Error: near line {number}: {text}\n")
 }
 
-fn run_statement(alloc: Global, tables: &mut PlainTables, number: u64, statement: Statement) -> Result<Answer, AllocError>
+fn run_statement(
+    alloc: Global,
+    tables: &mut PlainTables,
+    number: u64,
+    statement: Statement,
+) -> Result<Answer, AllocError>
     ensures { IfOk result (λ answer. session.told_answer number (step tables.old (command_of (form_of statement))) ≡ (told_by answer, tables.new)) }
 {
     match statement {
@@ -168,7 +183,11 @@ fn answer_done(alloc: Global, number: u64, outcome: Result<(), Fault>) -> Result
 }
 
 // The answer to a SELECT of docids.
-fn answer_docids(alloc: Global, number: u64, outcome: Result<Vec<i64>, Fault>) -> Result<Answer, AllocError>
+fn answer_docids(
+    alloc: Global,
+    number: u64,
+    outcome: Result<Vec<i64>, Fault>,
+) -> Result<Answer, AllocError>
     ensures told { IfOk result (λ answer. told_by answer ≡ told_result number (docid_rows outcome)) }
     ensures memory { OnOk result (outcome ≢ Err Memory) }
 {
@@ -220,7 +239,9 @@ fn fault_text(alloc: Global, fault: Fault) -> Result<String, AllocError>
         Fault::DocidTwice => "docid given twice".to_string(alloc),
         Fault::TooLong => "string or blob too big".to_string(alloc),
         Fault::HasNul => "NUL character in value".to_string(alloc),
-        Fault::Context => "unable to use function offsets in the requested context".to_string(alloc),
+        Fault::Context => "unable to use function offsets in the requested context".to_string(
+            alloc,
+        ),
         Fault::Malformed => "malformed MATCH expression".to_string(alloc),
         Fault::TooLarge => "MATCH expression too large".to_string(alloc),
         Fault::DocidTaken(docid) => format!(in alloc; "docid already exists: {docid}"),

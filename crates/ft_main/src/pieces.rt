@@ -15,7 +15,11 @@ pub(crate) struct Piece<'a> {
 }
 
 // The words of a text, each with its own.
-pub(crate) fn pieces_of<'a>(alloc: Global, text: &'a str, words: &[SqlWord]) -> Result<Vec<Piece<'a>>, AllocError>
+pub(crate) fn pieces_of<'a>(
+    alloc: Global,
+    text: &'a str,
+    words: &[SqlWord],
+) -> Result<Vec<Piece<'a>>, AllocError>
     requires { words.now ≡ words_of text.now }
     ensures { IfOk result (λ pieces. plain pieces.items ≡ forms.spelled text.now) }
 {
@@ -131,7 +135,11 @@ fn unmarked(alloc: Global, characters: &[char]) -> Result<String, AllocError>
 }
 
 // The name or the literal at a place, if one stands there.
-pub(crate) fn name_at(alloc: Global, pieces: &[Piece<'_>], place: usize) -> Result<Option<String>, AllocError>
+pub(crate) fn name_at(
+    alloc: Global,
+    pieces: &[Piece<'_>],
+    place: usize,
+) -> Result<Option<String>, AllocError>
     ensures { IfOk result (λ name. option_map string_bytes name ≡ forms.name_at (plain pieces.now) place) }
 {
     match piece_at(pieces, place) {
@@ -140,7 +148,11 @@ pub(crate) fn name_at(alloc: Global, pieces: &[Piece<'_>], place: usize) -> Resu
     }
 }
 
-pub(crate) fn literal_at(alloc: Global, pieces: &[Piece<'_>], place: usize) -> Result<Option<String>, AllocError>
+pub(crate) fn literal_at(
+    alloc: Global,
+    pieces: &[Piece<'_>],
+    place: usize,
+) -> Result<Option<String>, AllocError>
     ensures { IfOk result (λ text. option_map string_bytes text ≡ forms.literal_at (plain pieces.now) place) }
 {
     match piece_at(pieces, place) {

@@ -119,7 +119,12 @@ impl Session {
     }
 
     // Takes a piece of the input, and writes what the lines that end in it give.
-    pub(crate) fn take<O: Write, E: Write>(&mut self, bytes: &[u8], out: &mut O, err: &mut E) -> Result<(), Stop>
+    pub(crate) fn take<O: Write, E: Write>(
+        &mut self,
+        bytes: &[u8],
+        out: &mut O,
+        err: &mut E,
+    ) -> Result<(), Stop>
         ensures { OnOk result (Tells
             (record { reading = self.old; out = O.contents out.old; err = E.contents err.old })
             (record { reading = self.new; out = O.contents out.new; err = E.contents err.new }) bytes.now) }
@@ -130,7 +135,12 @@ impl Session {
         Ok(())
     }
 
-    fn take_byte<O: Write, E: Write>(&mut self, byte: u8, out: &mut O, err: &mut E) -> Result<(), Stop>
+    fn take_byte<O: Write, E: Write>(
+        &mut self,
+        byte: u8,
+        out: &mut O,
+        err: &mut E,
+    ) -> Result<(), Stop>
         ensures { OnOk result (Tells
             (record { reading = self.old; out = O.contents out.old; err = E.contents err.old })
             (record { reading = self.new; out = O.contents out.new; err = E.contents err.new }) (byte ∷ [])) }
@@ -161,7 +171,12 @@ impl Session {
         ensures faults { IfOk result (λ answer. self.new.faults ≡ min (self.old.faults + (told_by answer).faults) (2 ^ 64 - 1)) }
         ensures plain { list_any (λ b. b == 10) self.old.line ≡ false }
     {
-        let answer = turn(self.alloc, &mut self.tables, self.number, self.line.as_slice())?;
+        let answer = turn(
+            self.alloc,
+            &mut self.tables,
+            self.number,
+            self.line.as_slice(),
+        )?;
         self.line.clear();
         self.number = self.number.saturating_add(1);
         if let Answer::Fault(_) = &answer {
@@ -171,7 +186,11 @@ impl Session {
     }
 
     // The input ends: what follows the last line feed is a line if it isn't empty.
-    pub(crate) fn finish<O: Write, E: Write>(&mut self, out: &mut O, err: &mut E) -> Result<(), Stop>
+    pub(crate) fn finish<O: Write, E: Write>(
+        &mut self,
+        out: &mut O,
+        err: &mut E,
+    ) -> Result<(), Stop>
         ensures { OnOk result (Ends
             (record { reading = self.old; out = O.contents out.old; err = E.contents err.old })
             (record { reading = self.new; out = O.contents out.new; err = E.contents err.new })) }

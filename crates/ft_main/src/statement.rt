@@ -3,7 +3,9 @@ ghost use Rattle.std.specs.Prelude.{◌≡◌, ◌+◌, map, drop, string_bytes,
 ghost use Rattle.ft_main.specs.Statements as forms;
 ghost use Rattle.ft_main.specs.Pieces.{spelled_as, plain, form_of, follows_at, item_of};
 
-use crate::pieces::{Piece, is_symbol, key_at, literal_at, literal_of, name_at, name_of, symbol_at};
+use crate::pieces::{
+    Piece, is_symbol, key_at, literal_at, literal_of, name_at, name_of, symbol_at,
+};
 use ft_index::SearchWord;
 use std::alloc::{AllocError, Global};
 
@@ -27,7 +29,10 @@ pub(crate) enum Statement {
 }
 
 // The statement that words spell, if they spell one.
-pub(crate) fn statement_in(alloc: Global, pieces: &[Piece<'_>]) -> Result<Option<Statement>, AllocError>
+pub(crate) fn statement_in(
+    alloc: Global,
+    pieces: &[Piece<'_>],
+) -> Result<Option<Statement>, AllocError>
     ensures { IfOk result (λ statement. option_map form_of statement ≡ forms.form_in (plain pieces.now)) }
 {
     if let Some(statement) = create_in(alloc, pieces)? {
@@ -181,7 +186,12 @@ fn item_of(alloc: Global, piece: &Piece<'_>, kind: ItemKind) -> Result<Option<St
 }
 
 // The items from a place on, up to the end of the statement.
-fn items_from(alloc: Global, pieces: &[Piece<'_>], from: usize, kind: ItemKind) -> Result<Option<Vec<String>>, AllocError>
+fn items_from(
+    alloc: Global,
+    pieces: &[Piece<'_>],
+    from: usize,
+    kind: ItemKind,
+) -> Result<Option<Vec<String>>, AllocError>
     ensures { IfOk result (λ items. option_map (λ v. map string_bytes v.items) items ≡ forms.items_in (item_of kind) (drop from (plain pieces.now))) }
 {
     let mut items = Vec::new(alloc);

@@ -26,7 +26,12 @@ pub(crate) fn docids_with(
     Ok(docids)
 }
 
-fn has_term(alloc: Global, texts: &[String], within: Option<usize>, term: &str) -> Result<bool, AllocError>
+fn has_term(
+    alloc: Global,
+    texts: &[String],
+    within: Option<usize>,
+    term: &str,
+) -> Result<bool, AllocError>
     ensures { IfOk result (λ has. has ≡ plain.has_term within term.now 0 texts.now) }
 {
     for (column, text) in texts.iter().enumerate() {

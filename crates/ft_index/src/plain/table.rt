@@ -51,7 +51,12 @@ impl PlainTable {
     }
 
     // The docids of the documents that have a word. The name is the table's, for all columns, or a column's.
-    pub(crate) fn docids(&self, alloc: Global, name: &str, word: &SearchWord) -> Result<Vec<i64>, Fault>
+    pub(crate) fn docids(
+        &self,
+        alloc: Global,
+        name: &str,
+        word: &SearchWord,
+    ) -> Result<Vec<i64>, Fault>
         ensures fault { IfErr result (λ fault. fault ≢ Memory → select_fault (string_bytes self.now.name) (content_of self.now) docid_item (Matching name.now (string_bytes word.now.text)) ≡ Some fault) }
         ensures fine { OnOk result (select_fault (string_bytes self.now.name) (content_of self.now) docid_item (Matching name.now (string_bytes word.now.text)) ≡ None) }
         ensures answer { IfOk result (λ docids. docid_grid docids ≡ answer (string_bytes self.now.name) (content_of self.now) docid_item (Matching name.now (string_bytes word.now.text)) None 0) }
@@ -83,7 +88,9 @@ ghost use Rattle.ft_index.specs.Content as content;
 fn column_place(columns: &[String], name: &str) -> Option<usize>
     ensures { result ≡ position (λ c. content.same_name name.now (string_bytes c)) columns.now }
 {
-    columns.iter().position(|column| same_name(name, column.as_str()))
+    columns
+        .iter()
+        .position(|column| same_name(name, column.as_str()))
 }
 
 ghost use Rattle.std.specs.Prelude.{◌∷◌, [], ◌==◌, nat_lt, not};

@@ -19,7 +19,7 @@ loop-place-preserved c =
     let grown = ap (map string_bytes) c.in_ok-push.ensures.items ∙ map-append string_bytes c.loop-place.items.items (c.in-Some.item ∷ []) in
     items_comma (map string_bytes c.loop-place.items.items) _ (string_bytes c.in-Some.item) _ _ grown
     (items_more (item_of c.args.kind) c.args.pieces.now c.loop-place.place _ (string_bytes c.in-Some.item) (map string_bytes c.loop-place.items.items) Comma _
-        (omega (arith, c.loop-place-test.true, c.saturating_sub.ensures)) some (sym c.in-Comma.is ∙ c.follows_at.ensures) c.loop-place.invariant)
+    (omega (arith, c.loop-place-test.true, c.saturating_sub.ensures)) some (sym c.in-Comma.is ∙ c.follows_at.ensures) c.loop-place.invariant)
 
 pub returns-in-End : goal.returns-in-End
 returns-in-End c =
@@ -27,17 +27,17 @@ returns-in-End c =
     let grown = ap (map string_bytes) c.in_ok-push.ensures.items ∙ map-append string_bytes c.loop-place.items.items (c.in-Some.item ∷ []) in
     items_end (map string_bytes c.loop-place.items.items) _ (string_bytes c.in-Some.item) (items_in (item_of c.args.kind) (drop (c.loop-place.place + 2) (plain c.args.pieces.now))) _ grown
     (items_more (item_of c.args.kind) c.args.pieces.now c.loop-place.place _ (string_bytes c.in-Some.item) (map string_bytes c.loop-place.items.items) End _
-        (omega (arith, c.loop-place-test.true, c.saturating_sub.ensures)) some (sym c.in-End.is ∙ c.follows_at.ensures) c.loop-place.invariant)
+    (omega (arith, c.loop-place-test.true, c.saturating_sub.ensures)) some (sym c.in-End.is ∙ c.follows_at.ensures) c.loop-place.invariant)
 
 pub returns-in-Other : goal.returns-in-Other
 returns-in-Other c =
     let some = sym c.in_ok-item.ensures ∙ ap (option_map string_bytes) c.in-Some.is in
     items_other (map string_bytes c.loop-place.items.items) (string_bytes c.in-Some.item) (items_in (item_of c.args.kind) (drop (c.loop-place.place + 2) (plain c.args.pieces.now))) _
     (items_more (item_of c.args.kind) c.args.pieces.now c.loop-place.place _ (string_bytes c.in-Some.item) (map string_bytes c.loop-place.items.items) Other _
-        (omega (arith, c.loop-place-test.true, c.saturating_sub.ensures)) some (sym c.in-Other.is ∙ c.follows_at.ensures) c.loop-place.invariant)
+    (omega (arith, c.loop-place-test.true, c.saturating_sub.ensures)) some (sym c.in-Other.is ∙ c.follows_at.ensures) c.loop-place.invariant)
 
 pub returns : goal.returns
 returns c =
     ap (option_map (λ xs. map string_bytes c.loop-place.items.items ++ xs))
-        (sym (items_short (item_of c.args.kind) (plain c.args.pieces.now) c.loop-place.place (omega (arith, length-map c.args.pieces.now spelled_as, c.loop-place-test.false, c.saturating_sub.ensures))))
+    (sym (items_short (item_of c.args.kind) (plain c.args.pieces.now) c.loop-place.place (omega (arith, length-map c.args.pieces.now spelled_as, c.loop-place-test.false, c.saturating_sub.ensures))))
     ∙ c.loop-place.invariant

@@ -9,5 +9,5 @@ pub returns-else-len-le-MOST_BYTES-clause-rest : goal.returns-else-len-le-MOST_B
 returns-else-len-le-MOST_BYTES-clause-rest c = λ rest.
     subst (λ (r : Reading). told_after r (c.args.byte ∷ rest) ≡ told_after r rest) c.self.view_is
     (dropped_byte (record { contents = c.self.inside.tables; number = c.self.inside.number; line = c.self.inside.line.items; faults = c.self.inside.faults }) c.args.byte rest c.self.invariant
-        (false_from_ne_true _ (λ t. c.requires (eqb-true c.args.byte 10 t)))
-        (omega (arith, c.if-len-le-MOST_BYTES.false, c.len.ensures, c.self.inside.line.ok.0)))
+    (false_from_ne_true _ (λ t. c.requires (eqb-true c.args.byte 10 t)))
+    (omega (arith, c.if-len-le-MOST_BYTES.false, c.len.ensures, c.self.inside.line.ok.0)))

@@ -21,13 +21,13 @@ pub returns-clause-fine : goal.returns-clause-fine
 returns-clause-fine c =
     select_fine c.args.self.now c.args.name.now (string_bytes c.args.word.now.text) (sym c.is_searched_by.ensures ∙ c.if-not-is_searched_by.false) c.args.word.now.is_word
     (false_from_ne_true (nat_lt 10000 (length (string_bytes c.args.word.now.text)))
-        (λ t. let long : 10000 < length (string_bytes c.args.word.now.text) = ltb-true 10000 _ t in absurd (omega (arith, long, c.if-len-gt10000.false, c.len.ensures, c.args.word.now.text.bytes.ok.0))))
+    (λ t. let long : 10000 < length (string_bytes c.args.word.now.text) = ltb-true 10000 _ t in absurd (omega (arith, long, c.if-len-gt10000.false, c.len.ensures, c.args.word.now.text.bytes.ok.0))))
 
 pub returns-clause-answer : goal.returns-clause-answer
 returns-clause-answer c =
     word_answer c.args.self.now c.args.name.now (string_bytes c.args.word.now.text) c.column_place-within.result (string_bytes c.in_ok-term.term) c.in_ok-docids.docids c.args.word.now.is_word
     (false_from_ne_true (nat_lt 10000 (length (string_bytes c.args.word.now.text)))
-        (λ t. let long : 10000 < length (string_bytes c.args.word.now.text) = ltb-true 10000 _ t in absurd (omega (arith, long, c.if-len-gt10000.false, c.len.ensures, c.args.word.now.text.bytes.ok.0))))
+    (λ t. let long : 10000 < length (string_bytes c.args.word.now.text) = ltb-true 10000 _ t in absurd (omega (arith, long, c.if-len-gt10000.false, c.len.ensures, c.args.word.now.text.bytes.ok.0))))
     c.args.self.now.widths
     (c.column_place-within.ensures ∙ ap (position (λ x. same_name c.args.name.now (string_bytes x))) c.as_slice.ensures.value ∙ sym (column_place_is c.args.self.now c.args.name.now))
     (c.in_ok-term.ensures.ok ∙ ap str_to_ascii_lowercase c.deref.ensures)
