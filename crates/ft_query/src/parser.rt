@@ -74,3 +74,6 @@ pub fn parse(
         Some(lexemes) => read(alloc, default, lexemes),
     }
 }
+
+#[cfg(test)]
+mod tests;
