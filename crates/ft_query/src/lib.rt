@@ -16,4 +16,4 @@ pub use lists::{DocList, ListFault, Lists, Place};
 pub use parser::parse;
 pub use query::{Chain, Link, Phrase, Query, QueryFault, QueryTerm};
 pub use text::{Token, tokens};
-pub use walk::{Hit, Offset};
+pub use walk::{Hit, Offset, offsets_text};
