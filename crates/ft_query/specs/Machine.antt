@@ -6,11 +6,10 @@ use Rattle.ft_query.specs.declared.query.QueryFault.TheVariants.{TooLarge}
 use Rattle.ft_query.specs.declared.lexeme.Lexeme.TheVariants as code
 use Rattle.ft_query.specs.declared.lexeme.Lexeme.{Lexeme as CodeLexeme}
 use Rattle.ft_query.specs.declared.machine.Waiting.{Waiting as CodeWaiting}
-use Rattle.ft_query.specs.declared.machine.Linked.{Linked}
 use Rattle.ft_query.specs.declared.machine.Last.{Last as CodeLast}
 use Rattle.ft_query.specs.declared.machine.Last.TheVariants as last
 use Rattle.ft_query.specs.declared.machine.State.{State as CodeState}
-use Rattle.ft_query.specs.Trees.{PlainPhrase, PlainLink, Tree, plain_term, plain_phrase, plain_link, tree_of}
+use Rattle.ft_query.specs.Trees.{Tree, plain_term, plain_phrase, plain_link, tree_of}
 use Rattle.ft_query.specs.Lexemes.{Lexeme, open_paren, close_paren, and_word, or_word, not_word, near_word, filter_on, word, quoted, Begun, in_chunk, in_quote, Mark, quote, plain}
 use Rattle.ft_query.specs.Reads.{term_count, is_far, nests_deep, query_unless}
 use Rattle.ft_query.specs.Pass.{Waiting, Last, State, operator, filtered, chained, near_to, near_filtered, whole}
@@ -56,9 +55,6 @@ plain_waiting w = record { or_left = option_map tree_of w.or_left; and_left = op
 
 abbrev pub plain_outer : List CodeWaiting → List Waiting
 plain_outer outer = reverse (map plain_waiting outer)
-
-abbrev pub plain_linked : Linked → PlainPhrase × List PlainLink
-plain_linked l = (plain_phrase l.first, map plain_link l.links.items)
 
 abbrev pub plain_last : CodeLast → Last
 plain_last last.Operator = operator

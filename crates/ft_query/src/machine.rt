@@ -1,8 +1,8 @@
 // One pass over the lexemes, with a stack of what waits for a right side.
 ghost use Rattle.std.specs.Prelude.{◌≡◌, [], ◌∷◌, ◌++◌, map, option_map, IfOk};
 ghost use Rattle.ft_query.specs.Trees.{plain_phrase, plain_link, tree_of, tree_of_chain, both, either, without};
-ghost use Rattle.ft_query.specs.Pass.{join, or_whole, not_state, and_state, or_state, begin, close, after_operand, phrase_of, step, finish, tree_from};
-ghost use Rattle.ft_query.specs.Machine.{plain_lexeme, plain_waiting, plain_outer, plain_linked, plain_last, plain_state};
+ghost use Rattle.ft_query.specs.Pass.{chained, operator, nothing_waits, last_state, join, or_whole, not_state, and_state, or_state, begin, close, after_operand, phrase_of, step, finish, tree_from};
+ghost use Rattle.ft_query.specs.Machine.{plain_lexeme, plain_waiting, plain_outer, plain_last, plain_state};
 
 use crate::lexeme::Lexeme;
 use crate::query::{Chain, Link, Phrase, Query};
@@ -41,6 +41,21 @@ pub struct State {
     pub waiting: Waiting,
     pub outer: Vec<Waiting>,
     pub last: Last,
+}
+
+// Nothing is read yet inside of these parentheses.
+fn begun(outer: Vec<Waiting>) -> State
+    ensures { plain_state result ≡ last_state nothing_waits (plain_outer outer.items) operator }
+{
+    State {
+        waiting: Waiting {
+            or_left: None,
+            and_left: None,
+            not_left: None,
+        },
+        outer,
+        last: Last::Operator,
+    }
 }
 
 fn joined_by_not(alloc: Global, left: Option<Query>, right: Query) -> Result<Query, AllocError>
@@ -152,6 +167,24 @@ fn phrase_of(
     }
 }
 
+// A chain begins with this lexeme, if it is a phrase.
+fn first_phrase(
+    alloc: Global,
+    column: Option<usize>,
+    lexeme: Lexeme,
+) -> Result<Option<Last>, AllocError>
+    ensures { IfOk result (λ last. option_map plain_last last
+        ≡ option_map (λ p. chained p []) (phrase_of column (plain_lexeme lexeme))) }
+{
+    match phrase_of(alloc, column, lexeme)? {
+        None => Ok(None),
+        Some(first) => Ok(Some(Last::Chained(Linked {
+            first,
+            links: Vec::new(alloc),
+        }))),
+    }
+}
+
 // An operand begins with this lexeme, if one can.
 fn begin(
     alloc: Global,
@@ -163,37 +196,19 @@ fn begin(
     ensures { IfOk result (λ next. option_map plain_state next
         ≡ begin default (plain_waiting waiting) (plain_outer outer.items) (plain_lexeme lexeme)) }
 {
-    match lexeme {
+    let last = match lexeme {
         Lexeme::Open => {
             outer.push(waiting)?;
-            let waiting = Waiting {
-                or_left: None,
-                and_left: None,
-                not_left: None,
-            };
-            Ok(Some(State {
-                waiting,
-                outer,
-                last: Last::Operator,
-            }))
+            return Ok(Some(begun(outer)));
         }
-        Lexeme::Filter(column) => Ok(Some(State {
-            waiting,
-            outer,
-            last: Last::Filtered(column),
-        })),
-        other => match phrase_of(alloc, default, other)? {
-            None => Ok(None),
-            Some(first) => Ok(Some(State {
-                waiting,
-                outer,
-                last: Last::Chained(Linked {
-                    first,
-                    links: Vec::new(alloc),
-                }),
-            })),
-        },
-    }
+        Lexeme::Filter(column) => Some(Last::Filtered(column)),
+        other => first_phrase(alloc, default, other)?,
+    };
+    Ok(last.map(|last| State {
+        waiting,
+        outer,
+        last,
+    }))
 }
 
 // The operand in a parenthesis is whole, and so is the parenthesis.
@@ -250,22 +265,22 @@ fn query_of_chain(chain: Linked) -> Query
 }
 
 // NEAR joins one more phrase to the chain, if the lexeme is one.
-fn link(
+fn next_phrase(
     alloc: Global,
     chain: Linked,
     most: usize,
     column: Option<usize>,
     lexeme: Lexeme,
-) -> Result<Option<Linked>, AllocError>
-    ensures { IfOk result (λ next. option_map plain_linked next
-        ≡ option_map (λ q. ((plain_linked chain).0, (plain_linked chain).1 ++ record { most = most; to = q } ∷ [])) (phrase_of column (plain_lexeme lexeme))) }
+) -> Result<Option<Last>, AllocError>
+    ensures { IfOk result (λ last. option_map plain_last last
+        ≡ option_map (λ q. chained (plain_phrase chain.first) (map plain_link chain.links.items ++ record { most = most; to = q } ∷ [])) (phrase_of column (plain_lexeme lexeme))) }
 {
     let Linked { first, mut links } = chain;
     match phrase_of(alloc, column, lexeme)? {
         None => Ok(None),
         Some(to) => {
             links.push(Link { most, to })?;
-            Ok(Some(Linked { first, links }))
+            Ok(Some(Last::Chained(Linked { first, links })))
         }
     }
 }
@@ -287,38 +302,26 @@ fn step(
     } = state;
     let last = match last {
         Last::Operator => return begin(alloc, default, waiting, outer, lexeme),
-        Last::Filtered(column) => match phrase_of(alloc, Some(column), lexeme)? {
-            None => return Ok(None),
-            Some(first) => Last::Chained(Linked {
-                first,
-                links: Vec::new(alloc),
-            }),
-        },
+        Last::Whole(operand) => {
+            return after_operand(alloc, default, waiting, outer, operand, lexeme);
+        }
+        Last::Filtered(column) => first_phrase(alloc, Some(column), lexeme)?,
         Last::Chained(chain) => match lexeme {
-            Lexeme::Near(most) => Last::NearTo(chain, most),
+            Lexeme::Near(most) => Some(Last::NearTo(chain, most)),
             other => {
                 let operand = query_of_chain(chain);
                 return after_operand(alloc, default, waiting, outer, operand, other);
             }
         },
         Last::NearTo(chain, most) => match lexeme {
-            Lexeme::Filter(column) => Last::NearFiltered(chain, most, column),
-            other => match link(alloc, chain, most, default, other)? {
-                None => return Ok(None),
-                Some(chain) => Last::Chained(chain),
-            },
+            Lexeme::Filter(column) => Some(Last::NearFiltered(chain, most, column)),
+            other => next_phrase(alloc, chain, most, default, other)?,
         },
         Last::NearFiltered(chain, most, column) => {
-            match link(alloc, chain, most, Some(column), lexeme)? {
-                None => return Ok(None),
-                Some(chain) => Last::Chained(chain),
-            }
-        }
-        Last::Whole(operand) => {
-            return after_operand(alloc, default, waiting, outer, operand, lexeme);
+            next_phrase(alloc, chain, most, Some(column), lexeme)?
         }
     };
-    Ok(Some(State {
+    Ok(last.map(|last| State {
         waiting,
         outer,
         last,
@@ -354,15 +357,7 @@ pub fn query_from(
 ) -> Result<Option<Query>, AllocError>
     ensures { IfOk result (λ q. option_map tree_of q ≡ tree_from default (map plain_lexeme lexemes.items)) }
 {
-    let mut state = State {
-        waiting: Waiting {
-            or_left: None,
-            and_left: None,
-            not_left: None,
-        },
-        outer: Vec::new(alloc),
-        last: Last::Operator,
-    };
+    let mut state = begun(Vec::new(alloc));
     for lexeme in lexemes {
         match step(alloc, default, state, lexeme)? {
             None => return Ok(None),
