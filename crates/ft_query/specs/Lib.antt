@@ -7,3 +7,4 @@ pub mod Reads
 pub mod Documents
 pub mod Lists
 pub mod Occurs
+pub mod Machine

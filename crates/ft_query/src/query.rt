@@ -1,6 +1,7 @@
 // MATCH queries.
 ghost use Rattle.std.specs.Prelude.{◌<◌, vec_len};
 
+use std::alloc::AllocError;
 use thiserror::Error;
 
 /// A term of a phrase, in small letters. With `prefix` it matches every term that begins so, with `first` only the
@@ -53,6 +54,17 @@ pub enum QueryFault {
     TooLarge,
     #[error("out of memory")]
     Memory,
+}
+
+impl From<AllocError> for QueryFault {
+    ghost use Rattle.std.specs.Prelude.{◌≡◌};
+    ghost use Rattle.ft_query.specs.declared.query.QueryFault.TheVariants.{Memory};
+
+    ghost from_gives = { λ _ fault. fault ≡ Memory };
+
+    fn from(_error: AllocError) -> QueryFault {
+        QueryFault::Memory
+    }
 }
 
 #[cfg(test)]

@@ -1,4 +1,10 @@
 // What a walk over the documents that a query accepts gives.
+ghost use Rattle.std.specs.Prelude.{◌≡◌, ◌∷◌, ◌++◌, map, decimal, string_bytes, IfOk, OnOk};
+ghost use Rattle.std.specs.List.{join_with_byte};
+ghost use Rattle.ft_query.specs.Occurs.{offset_numbers, offsets_text};
+
+use itoa::Buffer;
+use std::alloc::{AllocError, Global};
 
 /// One term of a phrase's occurrence: its column, the term's number in the query, and its place and size in bytes.
 #[derive(Clone, Copy, Debug, PartialEq, Eq)]
@@ -14,4 +20,68 @@ pub struct Offset {
 pub struct Hit {
     pub docid: i64,
     pub offsets: Vec<Offset>,
+}
+
+fn push_number(text: &mut String, number: usize) -> Result<(), AllocError>
+    ensures { OnOk result (string_bytes text.new ≡ string_bytes text.old ++ decimal number) }
+{
+    let mut buffer = Buffer::new();
+    text.push_str(buffer.format(number))
+}
+
+fn push_spaced(text: &mut String, number: usize) -> Result<(), AllocError>
+    ensures { OnOk result (string_bytes text.new ≡ string_bytes text.old ++ 32 ∷ decimal number) }
+{
+    text.push_str(" ")?;
+    push_number(text, number)
+}
+
+fn push_offset(text: &mut String, offset: &Offset) -> Result<(), AllocError>
+    ensures { OnOk result (string_bytes text.new
+        ≡ string_bytes text.old ++ join_with_byte 32 (map decimal (offset_numbers offset.now))) }
+{
+    push_number(text, offset.column)?;
+    push_spaced(text, offset.term)?;
+    push_spaced(text, offset.place)?;
+    push_spaced(text, offset.size)
+}
+
+#[tactic(auto, using(crate::proofs::OffsetTexts::text_split))]
+/// The numbers of the offsets, in decimal and separated by single spaces ("The Offsets Function" of the SQLite document
+/// "SQLite FTS3 and FTS4 Extensions").
+pub fn offsets_text(alloc: Global, offsets: &[Offset]) -> Result<String, AllocError>
+    ensures { IfOk result (λ text. string_bytes text ≡ offsets_text offsets.now) }
+{
+    let mut text = String::new(alloc);
+    let Some((first, rest)) = offsets.split_first() else {
+        return Ok(text);
+    };
+    push_offset(&mut text, first)?;
+    for offset in rest {
+        text.push_str(" ")?;
+        push_offset(&mut text, offset)?;
+    }
+    Ok(text)
+}
+
+#[cfg(test)]
+mod tests {
+    use super::{Offset, offsets_text};
+    use std::test::Fail;
+
+    #[test]
+    fn four_numbers_an_offset(rt: HostRuntime) -> Result<(), Fail> {
+        let first = Offset {
+            column: 1,
+            term: 0,
+            place: 5,
+            size: 7,
+        };
+        let next = Offset { place: 30, ..first };
+        let text = offsets_text(rt.alloc(), &[first, next])?;
+        assert_eq!(rt; text.as_str(), "1 0 5 7 1 0 30 7");
+        let text = offsets_text(rt.alloc(), &[])?;
+        assert_eq!(rt; text.as_str(), "");
+        Ok(())
+    }
 }

@@ -1,0 +1,9 @@
+use Rattle.std.proofs.Common.{◌≡◌, ◌+◌, take}
+use Rattle.std.specs.Prelude.{sum_by}
+use Rattle.ft_query.specs.Reads.{term_count}
+use Rattle.ft_query.specs.Machine.{plain_lexeme}
+use Rattle.ft_query.proofs.limits.has_many_terms.Given as goal
+
+-- what is left of the limit after the terms so far
+abbrev pub invariant-loop-lexeme : goal.invariant-loop-lexeme
+invariant-loop-lexeme l = sum_by (λ x. term_count (plain_lexeme x)) (take l.lexeme-index l.lexemes) + l.left ≡ 64
