@@ -11,3 +11,8 @@ pub mod Boundaries
 pub mod Keeping
 pub mod ReadOn
 pub mod Splitters
+pub mod Quoting
+pub mod Writing
+pub mod Columns
+pub mod Grids
+pub mod Listing
