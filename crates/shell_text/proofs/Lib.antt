@@ -16,3 +16,4 @@ pub mod Writing
 pub mod Columns
 pub mod Grids
 pub mod Listing
+pub mod FieldLemmas
