@@ -277,8 +277,6 @@ struct Failing {
 }
 
 impl Write for Failing {
-    ghost contents = { λ w. Some w.taken.items };
-
     fn write(&mut self, buf: &[u8]) -> io::Result<usize> {
         if self.calls == 0 {
             return Err(io::Error::from(ErrorKind::Other));
