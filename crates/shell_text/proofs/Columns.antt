@@ -1,9 +1,9 @@
 -- Steps of the loops that lay texts out in columns.
-use Rattle.std.proofs.Common.{◌≡◌, refl, sym, ap, ◌∙◌, ℕ, zero, suc, ◌+◌, ◌<◌, ◌≤◌, arith, Bool, true, false, List, [], ◌∷◌, ◌++◌, length, map, drop, max, ◌-◌}
+use Rattle.std.proofs.Common.{◌≡◌, refl, sym, ap, ◌∙◌, ℕ, suc, ◌+◌, ◌<◌, arith, Bool, false, List, [], ◌∷◌, ◌++◌, length, drop, max, ◌-◌}
 use Rattle.std.specs.Prelude.{◌==◌, if◌then◌else◌}
 use Rattle.std.proofs.lemmas.List.{append_assoc, drop-drop}
 use Rattle.std.proofs.lemmas.Bool.Decides.{nat_tests}
-use Rattle.shell_text.specs.Print.{first_width, in_columns, newline, other_widths, padded, spaces, width_of, wider}
+use Rattle.shell_text.specs.Print.{first_width, in_columns, other_widths, padded, spaces, width_of, wider}
 
 other-drop : (i : ℕ) (widths : List ℕ) → other_widths (drop i widths) ≡ drop (i + 1) widths
 other-drop i widths = other_is (drop i widths) ∙ drop-drop 1 i widths

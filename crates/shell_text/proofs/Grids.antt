@@ -1,8 +1,8 @@
 -- The texts of a grid are those of its table.
-use Rattle.std.proofs.Common.{◌≡◌, refl, sym, ap, ◌∙◌, ℕ, ◌+◌, Bool, true, false, List, [], ◌∷◌, ◌++◌, length, map, string_bytes, Vec, String, Global}
+use Rattle.std.proofs.Common.{◌≡◌, refl, sym, ap, ◌∙◌, ℕ, false, List, [], ◌∷◌, length, map, string_bytes, Vec, Global}
 use Rattle.std.specs.Prelude.{◌==◌, if◌then◌else◌}
 use Rattle.std.proofs.lemmas.List.{length-map}
-use Rattle.shell_text.specs.Print.{Look, Value, bytes_of, cell_text, layout, name_in, printed, table_of, value_of}
+use Rattle.shell_text.specs.Print.{Look, cell_text, layout, name_in, printed, table_of, value_of}
 use Rattle.shell_text.specs.declared.print.Cell.{Cell}
 use Rattle.shell_text.specs.declared.print.Grid.{Grid}
 

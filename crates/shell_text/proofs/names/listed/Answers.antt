@@ -1,7 +1,7 @@
 use Rattle.std.proofs.Common.{◌≡◌, sym, ap, ◌∙◌, ◌+◌, ◌-◌, ◌++◌, map, max, ◌/◌, length, replicate, string_bytes, rules}
 use Rattle.std.specs.Int.{div_ceil}
 use Rattle.std.proofs.lemmas.List.{length-map}
-use Rattle.shell_text.specs.Print.{bytes_of, in_columns, listed, names_across, names_down, names_line, names_lines, names_on, widest}
+use Rattle.shell_text.specs.Print.{in_columns, listed, names_across, names_down, names_line, names_lines, names_on, widest}
 use Rattle.shell_text.proofs.Listing.{lines_step}
 use Rattle.shell_text.proofs.names.listed.Goals as goal
 

@@ -1,5 +1,5 @@
 use Rattle.std.proofs.Common.{◌≡◌, map, take, string_bytes}
-use Rattle.shell_text.specs.Print.{cell_text, name_in, value_of}
+use Rattle.shell_text.specs.Print.{cell_text, value_of}
 use Rattle.shell_text.proofs.print.row_texts.Given as goal
 
 abbrev pub invariant-loop-cell : goal.invariant-loop-cell

@@ -1,4 +1,4 @@
-use Rattle.std.proofs.Common.{◌≡◌, refl, sym, ap, ◌∙◌, ◌+◌, ◌++◌, ◌∷◌, [], map, take, Vec, Global, List, ℕ}
+use Rattle.std.proofs.Common.{sym, ap, ◌∙◌, ◌++◌, ◌∷◌, [], map, take, Vec, Global, List, ℕ}
 use Rattle.std.proofs.lemmas.List.{take_more, map-append}
 use Rattle.shell_text.specs.Print.{bytes_of, cell_text, value_of}
 use Rattle.shell_text.specs.declared.print.Cell.{Cell}

@@ -1,5 +1,4 @@
-use Rattle.std.proofs.Common.{◌≡◌, refl, sym, ap, ◌∙◌, ◌+◌, ◌++◌, ◌∷◌, [], map, max, drop, string_bytes, get_or, rules}
-use Rattle.std.specs.Prelude.{chars}
+use Rattle.std.proofs.Common.{◌≡◌, sym, ap, ◌∙◌, ◌+◌, ◌++◌, ◌∷◌, [], map, max, drop, string_bytes}
 use Rattle.std.proofs.lemmas.List.{drop_more}
 use Rattle.shell_text.specs.Print.{first_width, width_of, wider}
 use Rattle.shell_text.proofs.Columns.{wider_step}

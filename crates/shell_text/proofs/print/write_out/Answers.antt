@@ -1,4 +1,4 @@
-use Rattle.std.proofs.Common.{◌≤◌, ◌+◌, ◌-◌, length, arith, take, drop, ap, subst}
+use Rattle.std.proofs.Common.{◌≤◌, ◌+◌, length, arith, take, drop, subst}
 use Rattle.std.specs.Io.KnownBytes.{Appends}
 use Rattle.std.proofs.lemmas.List.{length-drop}
 use Rattle.shell_text.proofs.Writing.{appends_keeps, appends_more, rest_of}

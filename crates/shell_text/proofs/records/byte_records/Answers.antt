@@ -1,5 +1,4 @@
-use Rattle.std.proofs.Common.{Bor, List, ℕ, ◌≡◌, ◌∙◌, sym, refl, rules, inl, inr, true, map, Some, ◌∷◌, [], ap}
-use Rattle.std.specs.Result.{is_ok}
+use Rattle.std.proofs.Common.{Bor, List, ℕ, ◌∙◌, sym, refl, inl, inr, map, Some, ◌∷◌, [], ap}
 use Rattle.std.proofs.lemmas.List.{map-append}
 use Rattle.csv.specs.Reading.{Reached, strip_bom}
 use Rattle.csv.specs.Records.{fields_of}

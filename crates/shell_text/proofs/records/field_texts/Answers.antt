@@ -1,6 +1,6 @@
-use Rattle.std.proofs.Common.{◌≡◌, sym, ap, ◌∙◌, ◌<◌, ◌+◌, ◌++◌, ◌∷◌, [], suc, map, take, subst, length, Some, None, add-one, string_bytes}
+use Rattle.std.proofs.Common.{sym, ap, ◌∙◌, ◌<◌, ◌++◌, ◌∷◌, [], map, take, subst, add-one, string_bytes}
 use Rattle.std.proofs.lemmas.List.{map-append}
-use Rattle.csv.specs.Records.{field_at, fields_of}
+use Rattle.csv.specs.Records.{fields_of}
 use Rattle.shell_text.specs.Print.{bytes_of}
 use Rattle.shell_text.proofs.FieldLemmas.{bad_field, has_field, take_field}
 use Rattle.shell_text.proofs.Splitters.{not_utf8}
