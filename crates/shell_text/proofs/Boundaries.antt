@@ -1,13 +1,13 @@
 -- Pieces of a text begin where it may be cut.
-use Rattle.std.proofs.Common.{◌≡◌, refl, sym, ap, subst, ◌∙◌, ℕ, zero, suc, ◌+◌, ◌<◌, ◌≤◌, arith, Bool, true, false, List, [], ◌∷◌, ◌++◌, length, drop, Option, Some, None, ◌⊎◌, inl, inr, get_or, length-append, add-zero, zero-add, ◌-◌}
-use Rattle.std.specs.Prelude.{if◌then◌else◌, nat_le, ◌==◌, ◌||◌, ◌&&◌, IsCharBoundary}
-use Rattle.std.specs.Char.{is_ascii_alphabetic, is_ascii_digit}
+use Rattle.std.proofs.Common.{◌≡◌, refl, sym, ap, subst, ◌∙◌, ℕ, suc, ◌+◌, ◌<◌, arith, Bool, true, false, List, [], ◌∷◌, ◌++◌, length, drop, Option, Some, None, ◌⊎◌, inl, inr, get_or, length-append, add-zero, zero-add, ◌-◌}
+use Rattle.std.specs.Prelude.{if◌then◌else◌, nat_le, ◌==◌, IsCharBoundary}
+use Rattle.std.specs.Char.{is_ascii_digit}
 use Rattle.std.specs.Str.{IsUtf8}
 use Rattle.std.proofs.lemmas.Bool.{eqb-true}
 use Rattle.std.proofs.lemmas.Bool.Decides.{nat_tests}
 use Rattle.std.proofs.lemmas.List.{drop-drop, get_or-drop, length-drop}
 use Rattle.std.proofs.lemmas.Str.{IsCharBoundary-after_ascii, IsCharBoundary-start, IsCharBoundary-end}
-use Rattle.shell_text.specs.Words.{Piece, begins_word, begun, ends_line, first_byte, goes_on_word, in_comment, in_marks, in_number, in_word, is_space, next_is, onto_piece, pieces_from, pieces_of, place_after, text_of, turn, with_byte}
+use Rattle.shell_text.specs.Words.{Piece, begins_word, begun, ends_line, first_byte, goes_on_word, in_comment, in_marks, in_number, in_word, is_space, next_is, pieces_from, pieces_of, place_after, text_of, turn, with_byte}
 use Rattle.shell_text.specs.Lexed.{onto}
 use Rattle.shell_text.specs.declared.words.SqlKind.{SqlKind}
 use Rattle.shell_text.specs.declared.words.SqlKind.TheVariants as kinds
@@ -18,7 +18,7 @@ use Rattle.shell_text.specs.declared.words.Ended.TheVariants.{Word, Gap}
 use Rattle.shell_text.specs.declared.words.Turn.{Turn}
 use Rattle.shell_text.specs.declared.words.Turn.TheVariants.{Goes, Ends}
 use Rattle.shell_text.proofs.Restart.{text_of-pieces}
-use Rattle.shell_text.proofs.Lexing.{text_of-append, closed, onto-closed, onto-more, onto-none, pieces_by}
+use Rattle.shell_text.proofs.Lexing.{text_of-append, onto-closed, onto-more, onto-none}
 
 abbrev is_wide : ℕ → Bool
 is_wide b = nat_le 128 b

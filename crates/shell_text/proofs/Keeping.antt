@@ -1,11 +1,11 @@
 -- What a splitter keeps, byte by byte and at the end of a line.
-use Rattle.std.proofs.Common.{◌≡◌, ◌≢◌, refl, sym, ap, subst, ◌∙◌, ℕ, zero, suc, ◌+◌, ◌-◌, ◌<◌, ◌≤◌, ◌^◌, arith, Bool, true, false, List, [], ◌∷◌, ◌++◌, length, take, drop, Option, Some, None, length-append, add-zero, zero-add, ◌⊎◌, inl, inr}
-use Rattle.std.specs.Prelude.{if◌then◌else◌, unwrap_or, is_none, is_some, not, ◌==◌, ◌&&◌, IsCharBoundary}
+use Rattle.std.proofs.Common.{◌≡◌, ◌≢◌, refl, sym, ap, subst, ◌∙◌, ℕ, ◌+◌, ◌≤◌, arith, Bool, true, false, List, [], ◌∷◌, ◌++◌, length, drop, Option, Some, None, length-append, zero-add, ◌⊎◌, inl, inr}
+use Rattle.std.specs.Prelude.{if◌then◌else◌, unwrap_or, is_none, is_some, ◌&&◌, IsCharBoundary}
 use Rattle.std.specs.List.{list_any, list_all, prefix_len}
 use Rattle.std.specs.Str.{IsUtf8}
 use Rattle.std.proofs.lemmas.List.{append_assoc, append-nil, take-append-drop}
-use Rattle.shell_text.specs.Words.{Piece, PieceKind, Closed, Open, turn, first_byte, is_gap, is_open, is_word, next_is, pieces_from, pieces_of, text_of}
-use Rattle.shell_text.specs.Units.{Member, Sql, Fault, ended_unit, ended_units, ends_statement, from_first_word, gaps_before, last_member, line_behind, line_of, numbered, parts_of, tail_of, unit_of}
+use Rattle.shell_text.specs.Words.{Piece, PieceKind, Closed, Open, turn, first_byte, is_gap, is_open, is_word, pieces_from, pieces_of, text_of}
+use Rattle.shell_text.specs.Units.{Sql, Fault, ended_unit, ended_units, ends_statement, from_first_word, gaps_before, last_member, line_behind, line_of, numbered, parts_of, tail_of, unit_of}
 use Rattle.shell_text.specs.Lexed.{IsFront, Keeps, Reads, first_word, handed, is_between, is_semicolon, last_of, onto}
 use Rattle.shell_text.specs.declared.units.SplitFault.TheVariants as fault
 use Rattle.shell_text.specs.declared.words.SqlKind.{SqlKind}
@@ -14,14 +14,13 @@ use Rattle.shell_text.specs.declared.words.Place.{Place}
 use Rattle.shell_text.specs.declared.words.Place.TheVariants.{Between, InWord, InNumber, InText, TextMark, InDouble, DoubleMark, InBackquotes, BackquoteMark, InBrackets, LineComment, CommentMark, BlockComment, Star}
 use Rattle.shell_text.specs.declared.words.Ended.{Ended}
 use Rattle.shell_text.specs.declared.words.Ended.TheVariants.{Word, Gap}
-use Rattle.shell_text.specs.declared.words.Turn.{Turn}
 use Rattle.shell_text.specs.declared.words.Turn.TheVariants.{Goes, Ends}
 use Rattle.shell_text.specs.declared.units.Spot.{Spot}
 use Rattle.shell_text.specs.declared.units.Pending.{Pending}
 use Rattle.shell_text.proofs.Restart.{no_symbol, text_of-pieces}
 use Rattle.shell_text.proofs.Boundaries.{cut_at}
-use Rattle.shell_text.proofs.Lexing.{any-more, any-or, closed, onto-closed, onto-none, pieces_by, reads_ends, reads_goes, reads_none, reads_on, text_of-append, text_of-more}
-use Rattle.shell_text.proofs.WordLoop.{all_read, any_last, between_pieces, has_first, inside_piece, read_length}
+use Rattle.shell_text.proofs.Lexing.{any-more, any-or, closed, onto-closed, pieces_by, reads_ends, reads_goes, reads_on, text_of-append, text_of-more}
+use Rattle.shell_text.proofs.WordLoop.{any_last, between_pieces, inside_piece, read_length}
 use Rattle.shell_text.proofs.Scanning.{ended_by, ended_first, first_part, first_word-append, from_first, is_first, line_behind-append, one_part, or_else, tail_first}
 
 -- ---- one byte

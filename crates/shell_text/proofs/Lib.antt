@@ -12,3 +12,9 @@ pub mod Keeping
 pub mod ReadOn
 pub mod Splitters
 pub mod WordBounds
+pub mod Quoting
+pub mod Writing
+pub mod Columns
+pub mod Grids
+pub mod Listing
+pub mod FieldLemmas

@@ -1,5 +1,5 @@
 -- What the loop keeps that reads a text from a byte on.
-use Rattle.std.proofs.Common.{◌≡◌, refl, sym, ap, subst, ◌∙◌, ℕ, ◌+◌, ◌-◌, ◌<◌, ◌≤◌, arith, true, List, [], ◌∷◌, ◌++◌, length, take, drop, Option, Some, None, get_or}
+use Rattle.std.proofs.Common.{◌≡◌, sym, ap, subst, ◌∙◌, ℕ, ◌+◌, ◌-◌, ◌<◌, ◌≤◌, arith, true, List, [], ◌∷◌, ◌++◌, length, take, drop, Option, get_or}
 use Rattle.std.specs.Prelude.{slice_get, IsCharBoundary}
 use Rattle.std.specs.Option.{ForSome}
 use Rattle.std.specs.Str.{IsUtf8}
@@ -13,10 +13,9 @@ use Rattle.shell_text.specs.declared.words.SqlKind.TheVariants as kinds
 use Rattle.shell_text.specs.declared.words.Place.{Place}
 use Rattle.shell_text.specs.declared.words.Turn.{Turn}
 use Rattle.std.proofs.lemmas.Bool.{eqb-true}
-use Rattle.shell_text.specs.declared.units.Spot.{Spot}
 use Rattle.shell_text.specs.declared.units.Pending.{Pending}
 use Rattle.shell_text.proofs.WordLoop.{IsByte, is_byte, first_byte-drop}
-use Rattle.shell_text.proofs.Keeping.{EndsStatement, at_end, byte_line, keeps_semicolon, word_boundary, word_within}
+use Rattle.shell_text.proofs.Keeping.{EndsStatement, at_end, byte_line, word_boundary, word_within}
 
 pub record ReadTo (n : ℕ) (text : List ℕ) (told now : List Member) (cut i : ℕ) (p : Pending) : Type 0 where
   pub units : now ++ ended_units p.first (parts_of (pieces_of (drop cut text))) ≡ told ++ ended_units n (parts_of (pieces_of text))

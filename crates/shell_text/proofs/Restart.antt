@@ -3,7 +3,7 @@ use Rattle.std.proofs.Common.{◌≡◌, refl, sym, ap, subst, ◌∙◌, ℕ, B
 use Rattle.std.specs.Prelude.{◌==◌, ◌&&◌, if◌then◌else◌}
 use Rattle.std.specs.List.{onto_first}
 use Rattle.std.proofs.lemmas.Bool.{eqb-true}
-use Rattle.shell_text.specs.Words.{Piece, PieceKind, Closed, begun, turn, in_word, in_number, in_marks, first_byte, is_symbol_kind, next_is, onto_piece, pieces_from, place_after, text_of, with_byte}
+use Rattle.shell_text.specs.Words.{Piece, Closed, begun, turn, in_word, in_number, in_marks, first_byte, is_symbol_kind, next_is, onto_piece, pieces_from, place_after, text_of, with_byte}
 use Rattle.shell_text.specs.declared.words.Place.{Place}
 use Rattle.shell_text.specs.declared.words.Place.TheVariants.{Between, InWord, InNumber, InText, TextMark, InDouble, DoubleMark, InBackquotes, BackquoteMark, InBrackets, LineComment, CommentMark, BlockComment, Star}
 use Rattle.shell_text.specs.declared.words.Ended.{Ended}

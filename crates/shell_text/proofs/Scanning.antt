@@ -1,23 +1,16 @@
 -- What the loop over a line's bytes keeps that splits a text into statements.
-use Rattle.std.proofs.Common.{◌≡◌, ◌≢◌, refl, sym, ap, subst, ◌∙◌, ℕ, zero, suc, ◌+◌, ◌-◌, ◌<◌, ◌≤◌, ◌^◌, arith, Bool, true, false, List, [], ◌∷◌, ◌++◌, length, take, drop, Option, Some, None, length-append, get_or, add-zero, zero-add}
-use Rattle.std.specs.Prelude.{if◌then◌else◌, nat_lt, min, count_by, cond, ◌==◌, ◌&&◌}
+use Rattle.std.proofs.Common.{◌≡◌, refl, sym, ap, ◌∙◌, ℕ, suc, ◌+◌, ◌<◌, ◌^◌, arith, Bool, true, false, List, [], ◌∷◌, ◌++◌, length, take, drop, Option, Some, None, length-append, add-zero, zero-add}
+use Rattle.std.specs.Prelude.{if◌then◌else◌, nat_lt, count_by, cond, ◌==◌}
 use Rattle.std.proofs.lemmas.Bool.{lt-ltb}
 use Rattle.std.proofs.lemmas.List.Sums.{sum_by-append, sum_by-cons}
-use Rattle.std.specs.List.{list_any, onto_first, prefix_len, take_while}
-use Rattle.std.proofs.lemmas.List.{append_assoc, append-nil, drop-drop, drop_at}
-use Rattle.shell_text.specs.Words.{Piece, PieceKind, Closed, Open, turn, first_byte, is_gap, is_open, is_word, pieces_from, pieces_of, text_of}
-use Rattle.shell_text.specs.Units.{Member, Sql, ended_unit, ended_units, ends_statement, from_first_word, gaps_before, line_behind, line_feeds, line_of, numbered, parts_of, tail_of, unit_of}
-use Rattle.shell_text.specs.Lexed.{IsFront, Keeps, Reads, first_word, handed, onto}
-use Rattle.shell_text.specs.declared.words.SqlKind.TheVariants as kinds
-use Rattle.shell_text.specs.declared.words.Place.{Place}
-use Rattle.shell_text.specs.declared.words.Place.TheVariants.{Between}
-use Rattle.shell_text.specs.declared.words.Ended.{Ended}
+use Rattle.std.specs.List.{list_any, onto_first, prefix_len}
+use Rattle.std.proofs.lemmas.List.{drop-drop, drop_at}
+use Rattle.shell_text.specs.Words.{Piece, PieceKind, Closed, Open, is_gap, is_open, is_word, text_of}
+use Rattle.shell_text.specs.Units.{Sql, ended_unit, ended_units, ends_statement, from_first_word, gaps_before, line_behind, line_feeds, numbered, parts_of, tail_of, unit_of}
+use Rattle.shell_text.specs.Lexed.{first_word, handed}
 use Rattle.shell_text.specs.declared.words.Ended.TheVariants.{Word, Gap}
-use Rattle.shell_text.specs.declared.words.Turn.{Turn}
-use Rattle.shell_text.specs.declared.words.Turn.TheVariants.{Goes, Ends}
 use Rattle.shell_text.specs.declared.units.Spot.{Spot}
-use Rattle.shell_text.specs.declared.units.Pending.{Pending}
-use Rattle.shell_text.proofs.Lexing.{any-or, closed, reads_none}
+use Rattle.shell_text.proofs.Lexing.{any-or}
 use Rattle.shell_text.proofs.Restart.{ended_part, kept_part}
 
 -- ---- lines

@@ -1,9 +1,9 @@
 -- What the loop over a text's bytes keeps that gathers its words.
-use Rattle.std.proofs.Common.{◌≡◌, ◌≢◌, refl, sym, ap, subst, ◌∙◌, ℕ, zero, suc, ◌+◌, ◌-◌, ◌<◌, ◌≤◌, arith, Bool, true, false, List, [], ◌∷◌, ◌++◌, length, take, drop, Option, Some, None, length-append, get_or, add-zero, zero-add}
+use Rattle.std.proofs.Common.{◌≡◌, ◌≢◌, refl, sym, ap, subst, ◌∙◌, ℕ, zero, suc, ◌+◌, ◌-◌, ◌<◌, ◌≤◌, arith, Bool, true, false, List, [], ◌∷◌, ◌++◌, length, take, drop, length-append, get_or, add-zero, zero-add}
 use Rattle.std.specs.Prelude.{slice_get, ◌||◌}
 use Rattle.std.specs.List.{list_any}
 use Rattle.std.proofs.lemmas.List.{append_assoc, append-nil, drop_all, drop_more, take_more, take_all, length-take-le}
-use Rattle.shell_text.specs.Words.{Piece, Closed, Open, turn, first_byte, is_open, is_unclosed, pieces_from, pieces_of, text_of, word_at, words_at, words_of}
+use Rattle.shell_text.specs.Words.{Piece, Open, turn, first_byte, is_open, is_unclosed, pieces_from, pieces_of, text_of, word_at, words_at, words_of}
 use Rattle.shell_text.specs.declared.words.SqlKind.{SqlKind}
 use Rattle.shell_text.specs.declared.words.SqlWord.{SqlWord}
 use Rattle.shell_text.specs.declared.words.Place.{Place}

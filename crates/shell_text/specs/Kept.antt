@@ -1,5 +1,5 @@
 -- What clauses see of a splitter.
-use Rattle.std.specs.Prelude.{List, map, string_bytes}
+use Rattle.std.specs.Prelude.{map, string_bytes}
 use Rattle.shell_text.specs.Splitting.{IsKept, Splitting, block_as, first_as, member_of_unit}
 use Rattle.shell_text.specs.declared.units.Splitter.TheInside.{Inside}
 

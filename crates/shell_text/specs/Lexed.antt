@@ -1,14 +1,13 @@
 -- What a splitter keeps of the text that it has read, so that no byte is read twice.
 use Rattle.std.specs.Prelude.{ℕ, ◌+◌, ◌<◌, ◌≤◌, ◌≡◌, ◌==◌, Bool, true, false, List, [], ◌∷◌, ◌++◌, length, drop, Option, Some, None, unwrap_or, IsCharBoundary, if◌then◌else◌}
 use Rattle.std.specs.List.{list_any}
-use Rattle.shell_text.specs.Words.{Piece, Closed, ends_line, first_byte, is_gap, is_open, onto_piece, pieces_from, pieces_of, text_of}
+use Rattle.shell_text.specs.Words.{Piece, ends_line, first_byte, is_gap, is_open, onto_piece, pieces_from, pieces_of, text_of}
 use Rattle.shell_text.specs.Units.{Member, Sql, Fault, ends_statement, ended_units, line_behind, numbered, parts_of, tail_of}
 use Rattle.shell_text.specs.declared.units.SplitFault.TheVariants as fault
 use Rattle.shell_text.specs.declared.words.SqlKind.{SqlKind}
 use Rattle.shell_text.specs.declared.words.SqlKind.TheVariants as kinds
 use Rattle.shell_text.specs.declared.words.Place.{Place}
 use Rattle.shell_text.specs.declared.words.Place.TheVariants.{Between}
-use Rattle.shell_text.specs.declared.words.Ended.{Ended}
 use Rattle.shell_text.specs.declared.units.Spot.{Spot}
 use Rattle.shell_text.specs.declared.units.Pending.{Pending}
 

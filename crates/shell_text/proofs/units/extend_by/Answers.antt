@@ -1,4 +1,4 @@
-use Rattle.std.proofs.Common.{◌≡◌, sym, ap, ◌∙◌, subst, length, take, drop, arith, string_bytes, ◌++◌, ◌∷◌}
+use Rattle.std.proofs.Common.{◌≡◌, ap, ◌∙◌, subst, length, take, drop, arith, string_bytes, ◌++◌, ◌∷◌}
 use Rattle.std.specs.Prelude.{if◌then◌else◌, is_some, unwrap_or}
 use Rattle.shell_text.specs.Lexed.{Keeps}
 use Rattle.shell_text.proofs.Splitters.{start_keeps}

@@ -1,15 +1,14 @@
-use Rattle.std.proofs.Common.{◌≡◌, refl, sym, ap, subst, ◌∙◌, ◌+◌, ◌-◌, ◌<◌, true, false, get_or, map, length, take, drop, ◌++◌, arith, ◌≤◌}
+use Rattle.std.proofs.Common.{◌≡◌, refl, sym, ap, subst, ◌∙◌, ◌+◌, ◌-◌, ◌<◌, true, get_or, map, length, take, drop, ◌++◌, arith, ◌≤◌}
 use Rattle.std.proofs.lemmas.List.{take_all}
-use Rattle.std.specs.Prelude.{IsCharBoundary, unwrap_or}
+use Rattle.std.specs.Prelude.{IsCharBoundary}
 use Rattle.std.proofs.lemmas.Str.{IsCharBoundary-after_ascii}
 use Rattle.shell_text.specs.Words.{first_byte, turn}
 use Rattle.shell_text.specs.Lexed.{Keeps, Splits, handed, is_semicolon}
 use Rattle.shell_text.specs.Splitting.{member_of_unit}
 use Rattle.shell_text.specs.declared.words.Turn.TheVariants.{Ends}
-use Rattle.shell_text.specs.declared.words.Ended.TheVariants.{Word}
 use Rattle.shell_text.proofs.WordLoop.{IsByte, is_byte}
-use Rattle.shell_text.proofs.Keeping.{behind_piece, keeps_gap, keeps_goes, keeps_semicolon, keeps_word}
-use Rattle.shell_text.proofs.ReadOn.{ReadTo, behind_cut, keeps_at, read_all, read_more, read_none, read_semicolon, semicolon_low, still, turned_at, word_cut}
+use Rattle.shell_text.proofs.Keeping.{keeps_gap, keeps_goes, keeps_semicolon, keeps_word}
+use Rattle.shell_text.proofs.ReadOn.{behind_cut, keeps_at, read_all, read_more, read_none, read_semicolon, semicolon_low, still, turned_at, word_cut}
 use Rattle.shell_text.proofs.units.read_on.Goals as goal
 use Rattle.shell_text.proofs.units.read_on.Goals.{in-Goes, in-Ends-Gap, in-Ends-Word+then-is_semicolon+in_ok-hand_out-in-Ends-Word, in-Ends-Word+else-is_semicolon}
 

@@ -1,4 +1,4 @@
-use Rattle.std.proofs.Common.{◌≡◌, ◌∙◌, refl, sym, ap, subst, get_or, false, true, ◌+◌, ◌-◌, ◌++◌, ◌∷◌, []}
+use Rattle.std.proofs.Common.{◌≡◌, ◌∙◌, refl, sym, ap, subst, get_or, ◌+◌}
 use Rattle.std.specs.Prelude.{slice_get}
 use Rattle.shell_text.specs.Words.{is_unclosed, turn, words_of}
 use Rattle.shell_text.specs.declared.words.Turn.TheVariants.{Ends}

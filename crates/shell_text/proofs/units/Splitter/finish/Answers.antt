@@ -1,10 +1,10 @@
-use Rattle.std.proofs.Common.{◌≡◌, refl, sym, ap, ◌∙◌, subst, None, Some, List, [], ◌∷◌, ◌++◌, drop, string_bytes}
+use Rattle.std.proofs.Common.{◌≡◌, sym, ap, ◌∙◌, subst, None, Some, [], ◌∷◌, drop, string_bytes}
 use Rattle.std.proofs.lemmas.List.{append-nil}
 use Rattle.std.specs.Prelude.{IsCharBoundary}
 use Rattle.std.specs.Str.{IsUtf8}
 use Rattle.std.proofs.lemmas.Str.{IsUtf8-string_bytes}
-use Rattle.shell_text.specs.Units.{Member, Sql, Fault, last_member, tail_in}
-use Rattle.shell_text.specs.Lexed.{Keeps, handed, is_between, last_of}
+use Rattle.shell_text.specs.Units.{Sql, last_member, tail_in}
+use Rattle.shell_text.specs.Lexed.{Keeps}
 use Rattle.shell_text.specs.Splitting.{emptied}
 use Rattle.shell_text.proofs.Keeping.{word_boundary}
 use Rattle.shell_text.proofs.Splitters.{kept_keeps, kept_reading, last_as, last_closed, last_open, none_emptied}

@@ -1,6 +1,6 @@
-use Rattle.std.proofs.Common.{◌≡◌, sym, ap, ◌∙◌, subst, arith, length, string_bytes, false}
+use Rattle.std.proofs.Common.{◌≡◌, sym, ap, ◌∙◌, arith, length, string_bytes, false}
 use Rattle.shell_text.specs.Units.{is_idle, pending_in}
-use Rattle.shell_text.proofs.Splitters.{is_full_by, kept_pending, reading_of}
+use Rattle.shell_text.proofs.Splitters.{is_full_by, kept_pending}
 use Rattle.shell_text.proofs.units.Splitter.is_full.Goals as goal
 
 pub returns-then-not-idle : goal.returns-then-not-idle

@@ -1,4 +1,4 @@
-use Rattle.std.proofs.Common.{◌≡◌, sym, ap, ◌∙◌, subst, string_bytes}
+use Rattle.std.proofs.Common.{sym, ap, ◌∙◌, string_bytes}
 use Rattle.shell_text.specs.Units.{is_idle}
 use Rattle.shell_text.proofs.Splitters.{idle_as, kept_reading}
 use Rattle.shell_text.proofs.units.Splitter.is_idle.Goals as goal

@@ -1,4 +1,4 @@
-use Rattle.std.proofs.Common.{◌≡◌, sym, ap, ◌∙◌, subst, map, string_bytes, Some, ◌++◌}
+use Rattle.std.proofs.Common.{ap, ◌∙◌, map, string_bytes, Some, ◌++◌}
 use Rattle.shell_text.specs.Units.{units_in, with_line}
 use Rattle.shell_text.specs.Splitting.{member_of_unit, without_ended}
 use Rattle.shell_text.proofs.Splitters.{joined_view, reading_of, splitting}

@@ -1,7 +1,7 @@
-use Rattle.std.proofs.Common.{◌≡◌, sym, ap, ◌∙◌}
+use Rattle.std.proofs.Common.{ap, ◌∙◌}
 use Rattle.std.specs.Str.Lines.{strip_carriage_return}
 use Rattle.shell_text.specs.Splitting.{role_as}
-use Rattle.shell_text.proofs.Splitters.{command_taken, joins_taken, refused_taken}
+use Rattle.shell_text.proofs.Splitters.{command_taken}
 use Rattle.shell_text.proofs.units.Splitter.line.Goals as goal
 
 pub returns-in_ok-add_command-in-Ok-true-default : goal.returns-in_ok-add_command-in-Ok-true-default

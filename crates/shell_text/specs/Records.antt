@@ -1,0 +1,16 @@
+-- Records of CSV, as the `csv` crate reads them (RFC 4180, with any ASCII delimiter).
+use Rattle.std.specs.Prelude.{ℕ, ◌≡◌, ◌⊎◌, false, List}
+use Rattle.std.specs.List.{list_all}
+use Rattle.std.specs.Str.{is_utf8}
+use Rattle.csv.specs.Reading.{AreRecords, default_config, strip_bom}
+use Rattle.csv.specs.declared.parser.Config.{Config}
+use Rattle.csv.specs.declared.parser.State.TheVariants as st
+
+-- how records are read: between quotation marks as the crate does, with this delimiter
+abbrev pub csv_reader : ℕ → Config
+csv_reader delimiter = record default_config { delimiter = delimiter }
+
+-- bytes that are not UTF-8, or of which a field is not that is read in them
+abbrev pub IsNoText : Config → List ℕ → Type 0
+IsNoText cfg bytes = (is_utf8 bytes ≡ false)
+    ⊎ ((rows : List (List (List ℕ))) × AreRecords cfg st.StartRecord (strip_bom bytes) rows × (list_all (λ row. list_all is_utf8 row) rows ≡ false))

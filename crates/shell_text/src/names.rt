@@ -1,0 +1,87 @@
+//! Names in columns.
+
+ghost use Rattle.std.specs.Prelude.{◌≡◌, ◌+◌, ◌-◌, ◌*◌, ◌/◌, ◌<◌, ◌≤◌, ◌++◌, ◌∷◌, [], map, max, length, drop, replicate, string_bytes, OnOk, OnErr, IfOk, IsErrOf};
+ghost use Rattle.std.specs.Io.KnownBytes.{Appends};
+ghost use Rattle.shell_text.specs.Print.{AppendsFront, bytes_of, listed, names_across, names_down, names_line, names_on, widest};
+
+use crate::print::{PrintFault, push_columns, write_out};
+use std::alloc::{AllocError, Global};
+use std::io::Write;
+use unicode_width::UnicodeWidthStr;
+
+// The columns of a terminal.
+const LINE_WIDTH: usize = 80;
+
+fn widest(names: &[String]) -> usize
+    ensures { result ≡ widest (map string_bytes names.now) }
+{
+    let mut most = 0;
+    for name in names {
+        most = name.as_str().width().max(most);
+    }
+    most
+}
+
+// How many names stand on a line.
+fn across(width: usize) -> usize
+    ensures across { result ≡ max 1 (80 / (width + 2)) }
+    ensures few { (0 < result) × (result ≤ 80) }
+{
+    if width < LINE_WIDTH {
+        (LINE_WIDTH / (width + 2)).max(1)
+    } else {
+        1
+    }
+}
+
+// The names on a line: those at a place, and at each place that lies a number of places behind.
+fn names_on(
+    alloc: Global,
+    names: &[String],
+    across: usize,
+    down: usize,
+    first: usize,
+) -> Result<Vec<String>, AllocError>
+    ensures { IfOk result (λ line. bytes_of line ≡ names_on across down first (map string_bytes names.now)) }
+{
+    let mut line = Vec::new(alloc);
+    let mut at = first;
+    for _ in 0..across {
+        if at >= names.len() {
+            return Ok(line);
+        }
+        line.push(String::from_str(alloc, names[at].as_str())?)?;
+        if down >= names.len() - at {
+            return Ok(line);
+        }
+        at += down;
+    }
+    Ok(line)
+}
+
+fn listed(alloc: Global, names: &[String]) -> Result<Vec<u8>, AllocError>
+    ensures { IfOk result (λ text. text.items ≡ listed (map string_bytes names.now)) }
+{
+    let width = widest(names);
+    let across = across(width);
+    let down = names.len().div_ceil(across);
+    let widths = vec![in alloc; width; across]?;
+    let mut text = Vec::new(alloc);
+    for j in 0..down {
+        let line = names_on(alloc, names, across, down, j)?;
+        push_columns(&mut text, widths.as_slice(), line.as_slice())?;
+    }
+    Ok(text)
+}
+
+/// Writes names in columns of one width, line by line, so that they run downwards: as many columns
+/// as 80 have room for, with two spaces between. The text is made whole before the first byte goes
+/// out: after `Memory` nothing was written, after `Write` a front of it.
+pub fn write_names<W: Write>(alloc: Global, names: &[String], out: &mut W) -> Result<(), PrintFault>
+    ensures ok { OnOk result (Appends (W.contents out.old) (W.contents out.new) (listed (map string_bytes names.now))) }
+    ensures write { IsErrOf result PrintFault.Write → AppendsFront (W.contents out.old) (W.contents out.new) (listed (map string_bytes names.now)) }
+    ensures memory { IsErrOf result PrintFault.Memory → W.contents out.new ≡ W.contents out.old }
+{
+    let text = listed(alloc, names)?;
+    write_out(out, text.as_slice())
+}
