@@ -1,0 +1,3 @@
+pub mod PackedLemmas
+pub mod PackedRows
+pub mod ReadLemmas
