@@ -1,3 +1,16 @@
+pub mod ApartLemmas
+pub mod CallLemmas
+pub mod ChangeLemmas
+pub mod KeyedLemmas
+pub mod OrderLemmas
 pub mod PackedLemmas
 pub mod PackedRows
 pub mod ReadLemmas
+pub mod SelectLemmas
+pub mod SortedLemmas
+pub mod StepLemmas
+pub mod StoredLemmas
+pub mod TextLemmas
+pub mod Texts
+pub mod TypedLemmas
+pub mod WriteLemmas

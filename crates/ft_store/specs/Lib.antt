@@ -1,2 +1,7 @@
+pub mod Calls
+pub mod Changes
 pub mod Packed
+pub mod Rows
+pub mod Store
+pub mod Tables
 pub mod Unpacking

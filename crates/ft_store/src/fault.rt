@@ -1,6 +1,7 @@
 ghost use Rattle.std.specs.Prelude.{◌≡◌};
 ghost use Rattle.ft_store.specs.declared.fault.StoreFault.TheVariants as fault;
 
+use sqlite::{Error as SqlError, ErrorCode};
 use std::alloc::{AllocError, AllocFailed};
 use thiserror::Error;
 
@@ -36,5 +37,14 @@ impl<T: Drop> From<AllocFailed<T>> for StoreFault {
 
     fn from(_: AllocFailed<T>) -> StoreFault {
         StoreFault::Memory
+    }
+}
+
+impl From<SqlError> for StoreFault {
+    fn from(error: SqlError) -> StoreFault {
+        match error {
+            SqlError::SqliteFailure(ErrorCode::OutOfMemory) => StoreFault::Memory,
+            _ => StoreFault::Refused,
+        }
     }
 }

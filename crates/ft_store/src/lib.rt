@@ -6,7 +6,8 @@ mod packed;
 #[cfg(test)]
 mod packed_tests;
 mod rows;
+mod statements;
 
 pub use fault::StoreFault;
 pub use packed::packed_lists;
-pub use rows::Spot;
+pub use rows::{CellRow, EntryRow, RowChange, SizeRow, Spot, TabRow, Value};
