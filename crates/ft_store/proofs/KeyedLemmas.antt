@@ -25,7 +25,7 @@ equal_from Equal h = refl
 equal_from Greater h = absurd (true≢false (sym h))
 
 module _ {K : Type 0} (R : K → K → Ordering) (total : IsTotalOrder R) (tie : (x y : K) → R x y ≡ Equal → x ≡ y) where
-  respects : (p : K → Bool) (q x : K) → R q x ≡ Equal → p x ≡ p q
+  pub respects : (p : K → Bool) (q x : K) → R q x ≡ Equal → p x ≡ p q
   respects p q x h = ap p (sym (tie q x h))
 
   pub itself : (k : K) → eq_by_cmp R k k ≡ true

@@ -2,9 +2,11 @@ pub mod ApartLemmas
 pub mod CallLemmas
 pub mod ChangeLemmas
 pub mod KeyedLemmas
+pub mod MakeLemmas
 pub mod OrderLemmas
 pub mod PackedLemmas
 pub mod PackedRows
+pub mod PutLemmas
 pub mod ReadLemmas
 pub mod SelectLemmas
 pub mod SortedLemmas

@@ -280,7 +280,7 @@ add_skip_plain = (refl, refl)
 -- ---- reads
 
 abbrev pub names_query : Query
-names_query = query_by 1 [] (0 ∷ 2 ∷ []) (rising (0 ∷ []) ++ (col 1 2, ascending NoCase) ∷ []) no_limit
+names_query = table_query 1 [] (0 ∷ 2 ∷ []) (0 ∷ 2 ∷ [])
 
 pub names_is : command_of (understood store_schema names_text) ≡ Select (record { lets = []; body = names_query }) (codes "id" ∷ codes "name" ∷ [])
 unfolding understood everything

@@ -66,7 +66,7 @@ add_skip_text = codes "INSERT INTO skip (tab, col) VALUES (?1, ?2)"
 -- ---- reads
 
 abbrev pub names_text : List ℕ
-names_text = codes "SELECT id, name FROM tab ORDER BY id, name"
+names_text = codes "SELECT id, name FROM tab ORDER BY id, name COLLATE BINARY"
 
 abbrev pub columns_text : List ℕ
 columns_text = codes "SELECT col, name FROM col WHERE tab = ?1 ORDER BY tab, col, name"

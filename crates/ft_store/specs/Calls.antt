@@ -7,6 +7,7 @@ use Rattle.sqlite.specs.Order.{Row, column}
 use Rattle.sqlite.specs.Tree.{Trees}
 use Rattle.sqlite_trees.specs.View.{IsShaped}
 use Rattle.sqlite_trees.specs.declared.store.Shape.TheVariants as shape
+use Rattle.sqlite_catalog.specs.Listing.{IsSound}
 use Rattle.sqlite.specs.Schema.{Schema}
 use Rattle.sqlite.specs.Table.{Table}
 use Rattle.sqlite.specs.Effect.{Database, IsDatabase}
@@ -62,3 +63,27 @@ KeepsLast g old new = HasCleanDisk (state g new) → KeepsCommit (state g old) (
 
 abbrev pub LeavesNothing : {S : Type 0} → Ghosts S → Held S → Held S → Type 0
 LeavesNothing g old new = Survives (state g old) (state g new) (λ _. ⊥)
+
+-- the same of several statements, in a transaction of an open connection
+abbrev pub StepsIfOpen : {S : Type 0} → Ghosts S → Held S → Held S → Result (Unit {0}) StoreFault → (StoreValue → StoreValue) → Type 0
+StepsIfOpen g old new result f =
+    HasCleanDisk (state g new) → IsTrue (state g old).in_transaction → IsTrue (state g old).is_open → IsStore (state g old).now
+    → OnOk result (Steps (state g old) (state g new) (f (value_of (state g old).now.trees)))
+
+-- so far in a transaction that began at `old`
+pub record Goes (old now : State) (value : StoreValue) : Type 0 where
+  pub going : IsTrue old.is_open → IsTrue now.is_open × IsStore now.now × (value_of now.now.trees ≡ value)
+  pub was_open : IsTrue now.is_open → IsTrue old.is_open
+  pub committed : now.committed ≡ old.committed
+  pub inside : IsTrue now.in_transaction
+
+-- trees that are a store with this value, as an adoption finds them
+pub record IsStored (db : Trees) (value : StoreValue) : Type 0 where
+  pub sound : IsSound store_schema db
+  pub shaped : AreShaped store_schema.tables db
+  pub marked : IsMarked db
+  pub is : value_of db ≡ value
+
+-- what is kept true of the connection of a store between calls
+abbrev pub IsStoreIfOpen : State → Type 0
+IsStoreIfOpen s = HasCleanDisk s → IsTrue s.is_open → IsStore s.now

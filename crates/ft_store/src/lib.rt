@@ -2,11 +2,13 @@
 #![tactic(auto)]
 
 mod fault;
+mod make;
 mod packed;
 #[cfg(test)]
 mod packed_tests;
 mod rows;
 mod statements;
+mod write;
 
 pub use fault::StoreFault;
 pub use packed::packed_lists;
