@@ -1,3 +1,4 @@
+pub mod AnswerLemmas
 pub mod ApartLemmas
 pub mod CallLemmas
 pub mod ChangeLemmas

@@ -37,11 +37,11 @@ back_eq Less = refl
 back_eq Equal = refl
 back_eq Greater = refl
 
-turned : (v w : Value) (m n : ℤ) → v ≡ Int m → w ≡ Int n → is_true (binary (Compare Eq Binary) v w) ≡ int_eq n m
+pub turned : (v w : Value) (m n : ℤ) → v ≡ Int m → w ≡ Int n → is_true (binary (Compare Eq Binary) v w) ≡ int_eq n m
 turned v w m n p q =
     ap₂ (λ a b. is_true (binary (Compare Eq Binary) a b)) p q ∙ at_ints false Eq m n ∙ ap is_eq (int_cmp_total.antisymm m n) ∙ back_eq (int_cmp n m)
 
-turned_text : (v w : Value) (s t : List ℕ) → v ≡ Text s → w ≡ Text t → is_true (binary (Compare Eq Binary) v w) ≡ is_eq (name_cmp t s)
+pub turned_text : (v w : Value) (s t : List ℕ) → v ≡ Text s → w ≡ Text t → is_true (binary (Compare Eq Binary) v w) ≡ is_eq (name_cmp t s)
 turned_text v w s t p q =
     ap₂ (λ a b. is_true (binary (Compare Eq Binary) a b)) p q ∙ at_texts false Eq s t ∙ ap is_eq (nat_list_cmp_total.antisymm s t) ∙ back_eq (name_cmp t s)
 

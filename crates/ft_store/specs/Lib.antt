@@ -1,5 +1,6 @@
 pub mod Calls
 pub mod Changes
+pub mod Found
 pub mod Made
 pub mod Packed
 pub mod Rows
