@@ -246,3 +246,8 @@ pub with_places : (db : Trees) (p : ListKey → Bool) (stored : List (ListKey ×
 with_places db p stored is =
     ap (map (at_value list_key_cmp spots_of)) is ∙ sym (filter-map (λ (e : ListKey × List Spot). p e.0) (at_value list_key_cmp spots_of) (keyed list_key_cmp (map stored_entry (db 7))))
     ∙ ap (where_key list_key_cmp p) (sym (lists_are db))
+
+-- every row passes
+pub all_kept : {K X : Type 0} (R : K → K → Ordering) (es : List (K × X)) → where_key R (λ _. true) es ≡ es
+all_kept R [] = refl
+all_kept R (e ∷ es) = ap (λ l. e ∷ l) (all_kept R es)
