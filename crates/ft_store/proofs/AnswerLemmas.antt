@@ -32,7 +32,7 @@ use Rattle.ft_store.specs.Store.{Cell, CellKey, ListKey, ColumnKey, cell_key_cmp
 use Rattle.ft_store.specs.Store as store
 use Rattle.ft_store.specs.Rows.{cell_in, keyed, table_entry, column_entry, skip_entry, cell_entry, list_entry, size_entry, note_entry, value_of}
 use Rattle.ft_store.specs.Changes.{num_of, txt_of}
-use Rattle.ft_store.specs.Found.{found_table, found_column, found_skip, found_cell, found_size, found_note, found_list}
+use Rattle.ft_store.specs.Found.{found_table, found_column, found_skip, found_cell, found_size, found_note, found_list, found_places}
 use Rattle.ft_store.specs.Calls.{IsStore}
 use Rattle.ft_store.proofs.Texts.{names_text, columns_text, skips_text, cells_text, document_text, term_text, prefix_text, lists_text, sizes_text, noted_text}
 use Rattle.ft_store.proofs.TextLemmas.{query_by, table_query, rising, no_limit, list_shown, list_order, names_query, names_is, names_plain, names_unlisted, columns_query, columns_is, columns_plain, columns_unlisted, skips_query, skips_is, skips_plain, skips_unlisted, cells_query, cells_is, cells_plain, cells_unlisted, document_query, document_is, document_plain, document_unlisted, term_query, term_is, term_plain, term_unlisted, prefix_query, prefix_is, prefix_plain, prefix_unlisted, lists_query, lists_is, lists_plain, lists_unlisted, sizes_query, sizes_is, sizes_plain, sizes_unlisted, noted_query, noted_is, noted_plain, noted_unlisted}
@@ -251,3 +251,8 @@ with_places db p stored is =
 pub all_kept : {K X : Type 0} (R : K → K → Ordering) (es : List (K × X)) → where_key R (λ _. true) es ≡ es
 all_kept R [] = refl
 all_kept R (e ∷ es) = ap (λ l. e ∷ l) (all_kept R es)
+
+-- the lists that a query finds, with their places
+pub placed : (db : Trees) (tab : ℤ) (p : ListKey → Bool) (rows : List Row) → map (found_list tab) rows ≡ where_key list_key_cmp p (keyed list_key_cmp (map stored_entry (db 7)))
+    → map (found_places tab) rows ≡ where_key list_key_cmp p (value_of db).lists
+placed db tab p rows is = sym (map-map (at_value list_key_cmp spots_of) (found_list tab) rows) ∙ with_places db p (map (found_list tab) rows) is

@@ -2,6 +2,7 @@ pub mod AnswerLemmas
 pub mod ApartLemmas
 pub mod CallLemmas
 pub mod ChangeLemmas
+pub mod EntryLemmas
 pub mod KeyedLemmas
 pub mod MakeLemmas
 pub mod OrderLemmas

@@ -1,13 +1,13 @@
 -- How the functions that pack and unpack go through numbers and places.
-use Rattle.std.proofs.Common.{◌≡◌, ℕ, zero, suc, ◌+◌, ◌-◌, ◌*◌, ◌/◌, ◌%◌, ◌^◌, ◌<◌, ◌≤◌, Bool, true, false, ◌&&◌, ◌==◌, List, [], ◌∷◌, ◌++◌, length, drop, map, get_or, Some, None, Option, sym, ap, subst, ◌∙◌, arith, nat_lt, append_assoc, drop-cons, refl}
-use Rattle.std.specs.Prelude.{slice_index, if◌then◌else◌}
+use Rattle.std.proofs.Common.{◌≡◌, ℕ, zero, suc, ◌+◌, ◌-◌, ◌*◌, ◌/◌, ◌%◌, ◌^◌, ◌<◌, ◌≤◌, Bool, true, false, ◌&&◌, ◌==◌, List, [], ◌∷◌, ◌++◌, length, drop, map, get_or, Some, None, Option, sym, ap, subst, ◌∙◌, arith, nat_lt, append_assoc, drop-cons, refl, ◌≢◌, true≢false}
+use Rattle.std.specs.Prelude.{slice_index, unwrap_or, option_map, if◌then◌else◌}
 use Rattle.std.proofs.Math.Seq.{drop-length}
 use Rattle.std.specs.Option.{option_and_then}
 use Rattle.std.proofs.lemmas.List.{map-append, drop-drop}
 use Rattle.std.proofs.lemmas.Option.{option_and_then_some, cond_some}
 use Rattle.std.proofs.lemmas.Bool.{eqb-true, eqb-false}
 use Rattle.std.proofs.lemmas.Bool.Decides.{nat_tests}
-use Rattle.ft_store.specs.Packed.{Spot, leb128_within, leb128, going_on, numbers_in, is_spot, origin, numbers_after, spots_after, rise_after, are_spots, unpacked, plain_spot, stored_spot}
+use Rattle.ft_store.specs.Packed.{Spot, leb128_within, leb128, going_on, numbers_in, is_spot, origin, numbers_after, spots_after, rise_after, are_spots, unpacked, plain_spot, stored_spot, spots_in}
 use Rattle.ft_store.specs.declared.rows.Spot.{Spot as StoredSpot}
 use Rattle.ft_store.specs.Unpacking.{next_numbers, spot_from, passes, checked}
 use Rattle.ft_store.proofs.PackedLemmas.{reach, more_fuel, last_byte, AllFit, writes_spots, fits_all, same_some}
@@ -226,3 +226,18 @@ some_numbers (b ∷ bytes) (n ∷ ns) h is = refl
 
 pub unpacked-is_checked : (bytes ns : List ℕ) → (length bytes == 0) ≡ false → numbers_in bytes ≡ Some ns → unpacked bytes ≡ checked true origin ns
 unpacked-is_checked bytes ns some is = unpacked-checked bytes ns is ∙ some_numbers bytes ns some is
+
+-- no list of places is empty
+no_spots : (bytes : List ℕ) → unpacked bytes ≢ Some []
+unfolding unpacked
+no_spots bytes h =
+    option_and_then_some (λ (xs : List Spot). if are_spots xs then Some xs else None) (option_and_then (spots_after origin) (numbers_in bytes)) [] h
+    (λ xs read kept. let test = cond_some (are_spots xs) xs [] kept in true≢false (sym (subst (λ ys. are_spots ys ≡ true) test.1 test.0)))
+
+pub some_places : (bytes : List ℕ) (spots : List StoredSpot) → spots_in bytes ≡ Some spots → spots ≢ []
+some_places bytes spots h none = go (unpacked bytes) refl (h ∙ ap Some none)
+  where
+    go : (o : Option (List Spot)) → unpacked bytes ≡ o → option_map (map stored_spot) o ≡ Some [] → ⊥
+    go None e k = cc
+    go (Some []) e k = no_spots bytes e
+    go (Some (s ∷ ss)) e k = let same = ap (λ (o : Option (List StoredSpot)). unwrap_or o []) k in absurd cc

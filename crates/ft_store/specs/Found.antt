@@ -1,5 +1,7 @@
 -- The rows that the queries of a store give, as rows under their keys.
-use Rattle.std.specs.Prelude.{ℕ, ℤ, List}
+use Rattle.std.specs.Prelude.{ℕ, ℤ, List, [], unwrap_or}
+use Rattle.ft_store.specs.declared.rows.Spot.{Spot}
+use Rattle.ft_store.specs.Packed.{spots_in}
 use Rattle.sqlite.specs.Order.{Row, column}
 use Rattle.sqlite_value.specs.Order.{bytes}
 use Rattle.sqlite_value.specs.Keys.{without_case}
@@ -28,3 +30,7 @@ found_note row = (without_case (bytes (column row 0)), bytes (column row 0))
 -- a list as its bytes
 abbrev pub found_list : ℤ → Row → ListKey × List ℕ
 found_list tab row = ((tab, bytes (column row 0), id_in (column row 1)), bytes (column row 2))
+
+-- a list as its places, none where it is damaged
+abbrev pub found_places : ℤ → Row → ListKey × List Spot
+found_places tab row = ((found_list tab row).0, unwrap_or (spots_in (found_list tab row).1) [])

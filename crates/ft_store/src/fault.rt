@@ -1,4 +1,4 @@
-ghost use Rattle.std.specs.Prelude.{◌≡◌};
+ghost use Rattle.std.specs.Prelude.{◌≡◌, ◌⊎◌};
 ghost use Rattle.ft_store.specs.declared.fault.StoreFault.TheVariants as fault;
 
 use sqlite::{Error as SqlError, ErrorCode};
@@ -41,6 +41,8 @@ impl<T: Drop> From<AllocFailed<T>> for StoreFault {
 }
 
 impl From<SqlError> for StoreFault {
+    ghost from_gives = { λ _ e. (e ≡ fault.Memory) ⊎ (e ≡ fault.Refused) };
+
     fn from(error: SqlError) -> StoreFault {
         match error {
             SqlError::SqliteFailure(ErrorCode::OutOfMemory) => StoreFault::Memory,

@@ -2,6 +2,7 @@
 #![tactic(auto)]
 
 mod fault;
+mod lists;
 mod make;
 mod packed;
 #[cfg(test)]

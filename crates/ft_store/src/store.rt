@@ -1,16 +1,16 @@
-ghost use Rattle.std.specs.Prelude.{◌≡◌, ◌&&◌, map, vec_len, All, IsTrue, IfOk, OnOk, OnErr};
-ghost use Rattle.std.specs.Ordering.{int_eq};
+ghost use Rattle.std.specs.Prelude.{◌≡◌, ◌&&◌, Err, map, vec_len, All, IsTrue, IfOk, OnOk, OnErr};
+ghost use Rattle.std.specs.Ordering.{int_eq, is_eq};
 ghost use Rattle.std.specs.FinMap.Entries.{where_key};
 ghost use Rattle.sqlite.specs.State.{HasCleanDisk, Survives};
-ghost use Rattle.ft_store.specs.Store.{cell_key_cmp, nothing_held, all_applied};
+ghost use Rattle.ft_store.specs.Store.{cell_key_cmp, list_key_cmp, name_cmp, nothing_held, all_applied};
 ghost use Rattle.ft_store.specs.Changes.{shown_change, CanApply};
-ghost use Rattle.ft_store.specs.Shown.{shown_cell, shown_size, shown_note};
+ghost use Rattle.ft_store.specs.Shown.{shown_cell, shown_size, shown_note, shown_entry, entries_of, AreWhole, SomeDamaged};
 ghost use Rattle.ft_store.specs.Calls.{IsStored, Keeps};
 
 use crate::fault::StoreFault;
 use crate::make::make;
-use crate::rows::{CellRow, RowChange, SizeRow};
-use crate::{read, write};
+use crate::rows::{CellRow, EntryRow, RowChange, SizeRow};
+use crate::{lists, read, write};
 use ram_disk::{Ram, open_ram};
 use sqlite::{Alter, Connection, FileStore};
 use std::alloc::Global;
@@ -84,6 +84,34 @@ impl<S: Alter> Store<S> {
         ensures uncounted { OnErr result (self.new.rows_read ≡ self.old.rows_read) }
     {
         let found = read::document(&mut self.conn, self.alloc, tab, docid)?;
+        self.rows_read = self.rows_read.saturating_add(found.len() as u64);
+        Ok(found)
+    }
+
+    /// The entries of one term, by rising docid, then column and position. Damaged where one of its lists is.
+    pub fn term(&mut self, tab: i64, term: &str) -> Result<Vec<EntryRow>, StoreFault>
+        ensures rows { HasCleanDisk (shows S.Store self.new) → IfOk result (λ found. let asked = where_key list_key_cmp (λ k. int_eq tab k.0 && is_eq (name_cmp term.now k.1)) (value_in S.Store self.old).lists in (map shown_entry found.items ≡ entries_of asked) × AreWhole asked) }
+        ensures damaged { HasCleanDisk (shows S.Store self.new) → result ≡ Err StoreFault.Damaged → SomeDamaged (where_key list_key_cmp (λ k. int_eq tab k.0 && is_eq (name_cmp term.now k.1)) (value_in S.Store self.old).lists) }
+        ensures kept { HasCleanDisk (shows S.Store self.new) → Keeps (shows S.Store self.old) (shows S.Store self.new) }
+        ensures survives { Survives (shows S.Store self.old) (shows S.Store self.new) (λ _. IsTrue (shows S.Store self.old).is_open → ⊥) }
+        ensures counted { IfOk result (λ found. self.new.rows_read ≡ more_rows (vec_len found) self.old) }
+        ensures uncounted { OnErr result (self.new.rows_read ≡ self.old.rows_read) }
+    {
+        let found = lists::term(&mut self.conn, self.alloc, tab, term)?;
+        self.rows_read = self.rows_read.saturating_add(found.len() as u64);
+        Ok(found)
+    }
+
+    /// All entries of a table, by term, then docid, column and position. Damaged where one of its lists is.
+    pub fn entries(&mut self, tab: i64) -> Result<Vec<EntryRow>, StoreFault>
+        ensures rows { HasCleanDisk (shows S.Store self.new) → IfOk result (λ found. let asked = where_key list_key_cmp (λ k. int_eq tab k.0) (value_in S.Store self.old).lists in (map shown_entry found.items ≡ entries_of asked) × AreWhole asked) }
+        ensures damaged { HasCleanDisk (shows S.Store self.new) → result ≡ Err StoreFault.Damaged → SomeDamaged (where_key list_key_cmp (λ k. int_eq tab k.0) (value_in S.Store self.old).lists) }
+        ensures kept { HasCleanDisk (shows S.Store self.new) → Keeps (shows S.Store self.old) (shows S.Store self.new) }
+        ensures survives { Survives (shows S.Store self.old) (shows S.Store self.new) (λ _. IsTrue (shows S.Store self.old).is_open → ⊥) }
+        ensures counted { IfOk result (λ found. self.new.rows_read ≡ more_rows (vec_len found) self.old) }
+        ensures uncounted { OnErr result (self.new.rows_read ≡ self.old.rows_read) }
+    {
+        let found = lists::entries(&mut self.conn, self.alloc, tab)?;
         self.rows_read = self.rows_read.saturating_add(found.len() as u64);
         Ok(found)
     }
