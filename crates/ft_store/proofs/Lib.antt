@@ -1,5 +1,6 @@
 pub mod AnswerLemmas
 pub mod ApartLemmas
+pub mod ApplyLemmas
 pub mod CallLemmas
 pub mod ChangeLemmas
 pub mod EntryLemmas
