@@ -1,0 +1,220 @@
+-- What DELETE and INSERT make of the rows of a table.
+use Rattle.std.proofs.Common.{◌≡◌, ◌≢◌, ◌⊎◌, inl, inr, ℕ, ◌/◌, length, ℤ, Bool, true, false, not, ◌&&◌, ◌||◌, cond, List, [], ◌∷◌, map, filter, slice_get, Option, Some, None, Ok, Err, Result, refl, sym, ap, ◌∙◌, subst, Ordering, Less, Equal, Greater, is_eq, true≢false, IsPermutation, IsTrue}
+use Rattle.std.specs.List.{AllByRecursion, list_any, list_all}
+use Rattle.std.specs.Ordering.{ordering_reverse}
+use Rattle.std.proofs.lemmas.Cmp.{tied_itself}
+use Rattle.std.proofs.lemmas.List.Sorted.{list_any-IsPermutation, IsPermutation-map, IsPermutation-refl, IsPermutation-cons, IsPermutation-trans, IsPermutation-middle}
+use Rattle.sqlite.specs.declared.types.Value.{Value}
+use Rattle.sqlite.specs.declared.types.Value.TheVariants.{Null, Int, Real, Text, Blob}
+use Rattle.sqlite.specs.Order.{Row}
+use Rattle.sqlite_value.specs.Order.{value_cmp}
+use Rattle.sqlite_value.proofs.OrderLemmas.{value_cmp_total}
+use Rattle.sqlite.specs.Tree.{Trees}
+use Rattle.sqlite_trees.specs.Tree.{IsTable, rowid, has_rowid, without_rowid, put_row}
+use Rattle.sqlite_trees.specs.View.{is_int, IsShaped}
+use Rattle.sqlite_trees.specs.declared.store.Shape.TheVariants as shape
+use Rattle.sqlite.specs.Edit.{edit_of, id_in, without_all, is_taken, are_fresh, put_all, next_rowid}
+use Rattle.sqlite.specs.Cast.{cast}
+use Rattle.sqlite_sql.specs.Ops.{unary}
+use Rattle.sqlite.specs.Kind.TheVariants as kind
+use Rattle.sqlite.specs.Kind.TheVariants.{Integer}
+use Rattle.std.specs.Ordering.{match_ordering}
+use Rattle.ft_store.proofs.TypedLemmas.{int_is}
+use Rattle.sqlite_rules.specs.Calls.{ids_of}
+use Rattle.sqlite.specs.Rowids.TheVariants.{Chosen, Given}
+use Rattle.sqlite.specs.Table.{Table}
+use Rattle.sqlite.specs.Term.{Term, holds}
+use Rattle.sqlite.specs.Query.{Output, output, IsAnswer}
+use Rattle.sqlite.specs.Program.{overlay}
+use Rattle.sqlite.specs.Source.TheVariants.{Values}
+use Rattle.sqlite.specs.Command.TheVariants.{Delete, Insert}
+use Rattle.sqlite.specs.Listing.{understood}
+use Rattle.sqlite.specs.Effect.{Database, IsDatabase, value_rows}
+use Rattle.sqlite.specs.Rows.{Written, Task, stamped}
+use Rattle.sqlite.specs.Does.{Tally, Does, AtPlace, OnRows}
+use Rattle.sqlite.specs.State.{State, Executes, mode_of}
+use Rattle.sqlite.proofs.Callers.{IsPlain, command_of, statement_of, runs_as, one_step}
+use Rattle.sqlite_keyed.proofs.ListLemmas.{all_both, all_weaker, filter_all, all_of, map-map}
+use Rattle.ft_store.specs.Tables.{store_schema, a_table}
+use Rattle.sqlite_schema.specs.declared.schema.Column.{Column}
+use Rattle.sqlite_value.specs.declared.keys.Order.{Order}
+use Rattle.ft_store.proofs.TextLemmas.{table_query, no_limit}
+use Rattle.ft_store.proofs.SelectLemmas.{arranged}
+
+-- ---- the rows that a DELETE leaves
+
+abbrev same : Row → Row → Bool
+same x r = has_rowid (id_in (rowid x)) r
+
+same_itself : (r : Row) → IsTrue (is_int (rowid r)) → same r r ≡ true
+same_itself r h = ap is_eq (ap (value_cmp (rowid r)) (sym (int_is _ h)) ∙ tied_itself value_cmp_total (rowid r))
+
+not_same : (x y : Row) → IsTrue (is_int (rowid x)) → value_cmp (rowid x) (rowid y) ≡ Less → same x y ≡ false
+not_same x y h less = ap is_eq (ap (value_cmp (rowid y)) (sym (int_is _ h)) ∙ value_cmp_total.antisymm (rowid y) (rowid x) ∙ ap ordering_reverse less)
+
+not_same_back : (x y : Row) → IsTrue (is_int (rowid y)) → value_cmp (rowid x) (rowid y) ≡ Less → same y x ≡ false
+not_same_back x y h less = ap is_eq (ap (value_cmp (rowid x)) (sym (int_is _ h)) ∙ less)
+
+none_any : {X : Type 0} (p q : X → Bool) (xs : List X) → AllByRecursion (λ x. p x ≡ false) xs → list_any p (filter q xs) ≡ false
+none_any p q [] h = refl
+none_any p q (x ∷ xs) h =
+    elim (q x) as (λ b. list_any p (cond b (x ∷ filter q xs) (filter q xs)) ≡ false) [ true ↦ rw (h.0, none_any p q xs h.1) refl | false ↦ none_any p q xs h.1 ]
+
+abbrev IsInt : Row → Type 0
+IsInt r = IsTrue (is_int (rowid r))
+
+-- a row has the rowid of one that passes exactly where it passes
+found_again : (p : Row → Bool) (rows : List Row) → IsTable rows → AllByRecursion IsInt rows → AllByRecursion (λ r. list_any (λ x. same x r) (filter p rows) ≡ p r) rows
+found_again p [] up ints = tt
+found_again p (y ∷ ys) up ints = (go (p y) refl, later (p y) (found_again p ys up.1 ints.1))
+  where
+    go : (b : Bool) → p y ≡ b → list_any (λ x. same x y) (cond b (y ∷ filter p ys) (filter p ys)) ≡ p y
+    go true e = rw (same_itself y ints.0) (sym e)
+    go false e = none_any (λ x. same x y) p ys (all_both (λ x. value_cmp (rowid y) (rowid x) ≡ Less) IsInt (λ x. same x y ≡ false) (λ x less int. not_same_back y x int less) ys up.0 ints.1) ∙ sym e
+
+    later : (b : Bool) → AllByRecursion (λ r. list_any (λ x. same x r) (filter p ys) ≡ p r) ys → AllByRecursion (λ r. list_any (λ x. same x r) (cond b (y ∷ filter p ys) (filter p ys)) ≡ p r) ys
+    later false h = h
+    later true h =
+        all_both (λ r. value_cmp (rowid y) (rowid r) ≡ Less) (λ r. list_any (λ x. same x r) (filter p ys) ≡ p r) (λ r. list_any (λ x. same x r) (y ∷ filter p ys) ≡ p r) (λ r less e. rw (not_same y r ints.0 less) e) ys up.0 h
+
+filter_twice : {X : Type 0} (p q : X → Bool) (xs : List X) → filter p (filter q xs) ≡ filter (λ x. q x && p x) xs
+filter_twice p q [] = refl
+filter_twice p q (x ∷ xs) =
+    elim (q x) as (λ b. filter p (cond b (x ∷ filter q xs) (filter q xs)) ≡ cond (b && p x) (x ∷ filter (λ y. q y && p y) xs) (filter (λ y. q y && p y) xs)) [
+      | true ↦ ap (λ l. cond (p x) (x ∷ l) l) (filter_twice p q xs)
+      | false ↦ filter_twice p q xs
+    ]
+
+not_or : (a b : Bool) → (not a && not b) ≡ not (a || b)
+not_or true b = refl
+not_or false b = refl
+
+without_each : (ids : List ℤ) (rows : List Row) → without_all rows ids ≡ filter (λ r. not (list_any (λ id. has_rowid id r) ids)) rows
+without_each [] rows = sym (filter_all (λ r. true) rows (all_of _ (λ r. refl) rows))
+without_each (id ∷ ids) rows =
+    without_each ids (without_rowid id rows) ∙ filter_twice _ _ rows ∙ (λ i. filter (λ r. not_or (has_rowid id r) (list_any (λ k. has_rowid k r) ids) i) rows)
+
+any_map : {X Y : Type 0} (p : Y → Bool) (f : X → Y) (xs : List X) → list_any p (map f xs) ≡ list_any (λ x. p (f x)) xs
+any_map p f [] = refl
+any_map p f (x ∷ xs) = ap (λ b. p (f x) || b) (any_map p f xs)
+
+filter_same_on : {X : Type 0} (p q : X → Bool) (xs : List X) → AllByRecursion (λ x. p x ≡ q x) xs → filter p xs ≡ filter q xs
+filter_same_on p q [] all = refl
+filter_same_on p q (x ∷ xs) all = rw (all.0, filter_same_on p q xs all.1) refl
+
+pub without_passing : (p : Row → Bool) (rows : List Row) (ids : List ℤ) → IsShaped shape.Table rows → IsPermutation (map (λ r. id_in (rowid r)) (filter p rows)) ids
+    → without_all rows ids ≡ filter (λ r. not (p r)) rows
+without_passing p rows ids shaped perm =
+    without_each ids rows
+    ∙ filter_same_on _ _ rows (all_weaker _ (λ r. not (list_any (λ id. has_rowid id r) ids) ≡ not (p r))
+    (λ r e. ap not (sym (list_any-IsPermutation (λ id. has_rowid id r) _ _ perm) ∙ any_map (λ id. has_rowid id r) _ (filter p rows) ∙ e)) rows (found_again p rows shaped.0 shaped.1))
+
+-- the rowids of the rows that pass, as a DELETE finds them
+pub ids_found : (db : Trees) (tree : ℕ) (terms : List Term) (params : Row) (rows : List Row) → IsAnswer (table_query tree terms (0 ∷ []) []) db params rows
+    → IsPermutation (map (λ r. id_in (rowid r)) (filter (λ r. list_all (holds (params ∷ r ∷ [])) terms) (db tree))) (ids_of rows)
+ids_found db tree terms params rows answer =
+    let back = λ (o : Output). id_in (rowid o.1) in
+    subst (λ l. IsPermutation l (ids_of rows)) (map-map back (λ r. output (table_query tree terms (0 ∷ []) []) (params ∷ r ∷ [])) _)
+    (subst (IsPermutation (map back _)) (sym (ap ids_of answer.shown ∙ map-map (λ r. id_in (rowid r)) (λ (o : Output). o.1) answer.ordered)) (IsPermutation-map back _ _ (arranged db tree terms (0 ∷ []) [] no_limit params rows answer)))
+
+-- a part that gave a value did not stop on the way
+went : {B E R : Type 0} {b : B} {Stops : E → Type 0} → ((stop : E) × Stops stop × (Ok b ≡ Err stop)) ⊎ R → R
+went (inl stopped) = absurd (let e = stopped.2 in cc)
+went (inr on) = on
+
+same_value : {B E : Type 0} {a b : B} → ◌≡◌ {A = Result B E} (Ok a) (Ok b) → a ≡ b
+same_value e = cc
+
+-- what a write to one table leaves alone
+abbrev pub KeepsOthers : ℕ → Trees → Trees → Type 0
+KeepsOthers tree old new = AllByRecursion (λ t. t.tree ≢ tree → new t.tree ≡ old t.tree) store_schema.tables
+
+pub record Wrote (tree : ℕ) (old new : State) (rows : List Row) : Type 0 where
+  pub schema : new.now.schema ≡ store_schema
+  pub written : new.now.trees tree ≡ rows
+  pub others : KeepsOthers tree old.now.trees new.now.trees
+  pub sound : IsDatabase new.now
+
+pub deletes : (old new : State) (text : List ℕ) (params : Row) (at : ℕ) (table : Table) (terms : List Term) (count : ℕ) → old.now.schema ≡ store_schema
+    → command_of (understood store_schema text) ≡ Delete at (record { lets = []; body = table_query table.tree terms (0 ∷ []) [] }) → IsPlain (understood store_schema text)
+    → slice_get store_schema.tables at ≡ Some table → (overlay old.now.trees [] table.tree ≡ old.now.trees table.tree) → IsShaped shape.Table (old.now.trees table.tree) → Executes text params old new (Ok count)
+    → Wrote table.tree old new (filter (λ r. not (list_all (holds (params ∷ r ∷ [])) terms)) (old.now.trees table.tree))
+deletes old new text params at table terms count has is plain found here shaped h =
+    let db = old.now.trees in
+    let command = Delete at (record { lets = []; body = table_query table.tree terms (0 ∷ []) [] }) in
+    let w = runs_as text params old new store_schema has command is plain count h in
+    let said = statement_of text (understood store_schema text) in
+    let begun = subst (λ s. Does old.step_limit (mode_of old) params (record old.now { schema = s }) said None command (Ok (w.tally, new.now))) has w.changed in
+    let task : Task = record { limit = old.step_limit; keys = (mode_of old).keys; schema = store_schema; table = table; params = params } in
+    let on : OnRows task (mode_of old) None command db (Ok (w.tally, new.now)) =
+    subst (λ o. AtPlace (λ t. OnRows (record task { table = t }) (mode_of old) None command db) o (Ok (w.tally, new.now))) found begun in
+    let done = went on in
+    let now = ap (λ (p : Tally × Database). p.1) (same_value (went (went done.2).2).2) in
+    let asked = went done.1 in
+    let edited_by = went asked.2 in
+    let trees : done.0.trees ≡ edited_by.0 = ap (λ (it : Written). it.trees) (same_value edited_by.2) in
+    let edit = edit_of db table (ids_of asked.0) Given 0 [] in
+    let applies = one_step store_schema _ db edited_by.0 edit refl edited_by.1 in
+    let ids = ids_found (overlay db []) table.tree terms params asked.0 (asked.1.answer Null) in
+    let left = without_passing (λ r. list_all (holds (params ∷ r ∷ [])) terms) (db table.tree) (ids_of asked.0) shaped (subst (λ rows. IsPermutation (map (λ r. id_in (rowid r)) (filter (λ r. list_all (holds (params ∷ r ∷ [])) terms) rows)) (ids_of asked.0)) here ids) in
+    let after : new.now.trees ≡ edited_by.0 = ap (λ (d : Database). d.trees) now ∙ trees in
+    record {
+      schema = ap (λ (d : Database). d.schema) now;
+      written = ap (λ (t : Trees). t table.tree) after ∙ applies.rows ∙ left;
+      others = subst (KeepsOthers table.tree db) (sym after) applies.tables;
+      sound = w.sound;
+    }
+
+-- ---- the row that an INSERT adds
+
+free_from : (b : Bool) → (not b && true) ≡ true → b ≡ false
+free_from true h = sym h
+free_from false h = refl
+
+pub inserts : (old new : State) (text : List ℕ) (params : Row) (at tree : ℕ) (name : List ℕ) (columns : List Column) (key : Option ℕ) (primary : List ℕ) (uniques : List (List ℕ)) (orders : List Order) (checks : List Term)
+    (terms : List Term) (width : ℕ) (row : Row) (count : ℕ) → old.now.schema ≡ store_schema
+    → command_of (understood store_schema text) ≡ Insert at (Values terms width) → IsPlain (understood store_schema text) → slice_get store_schema.tables at ≡ Some (a_table tree name columns key primary uniques orders checks)
+    → (edit_of old.now.trees (a_table tree name columns key primary uniques orders checks) [] Chosen 0 (value_rows (stamped (a_table tree name columns key primary uniques orders checks) params) width (length terms / width) terms)).news ≡ row ∷ [] → Executes text params old new (Ok count)
+    → Wrote tree old new (put_row row (old.now.trees tree)) × (is_taken (old.now.trees tree) row ≡ false)
+inserts old new text params at tree name columns key primary uniques orders checks terms width row count has is plain found makes h =
+    let table = a_table tree name columns key primary uniques orders checks in
+    let db = old.now.trees in
+    let command = Insert at (Values terms width) in
+    let w = runs_as text params old new store_schema has command is plain count h in
+    let said = statement_of text (understood store_schema text) in
+    let begun = subst (λ s. Does old.step_limit (mode_of old) params (record old.now { schema = s }) said None command (Ok (w.tally, new.now))) has w.changed in
+    let task : Task = record { limit = old.step_limit; keys = (mode_of old).keys; schema = store_schema; table = table; params = params } in
+    let on : OnRows task (mode_of old) None command db (Ok (w.tally, new.now)) =
+    subst (λ o. AtPlace (λ t. OnRows (record task { table = t }) (mode_of old) None command db) o (Ok (w.tally, new.now))) found begun in
+    let done = went on in
+    let now = ap (λ (p : Tally × Database). p.1) (same_value (went (went done.2).2).2) in
+    let given = went done.1 in
+    let counter = went given.2 in
+    let edited_by = went counter.2 in
+    let counted = went edited_by.2 in
+    let trees : done.0.trees ≡ edited_by.0 = ap (λ (it : Written). it.trees) (same_value counted.2) ∙ same_value counted.1 in
+    let edit = edit_of db table [] Chosen 0 given.0 in
+    let applies = one_step store_schema _ db edited_by.0 edit refl edited_by.1 in
+    let news : edit.news ≡ row ∷ [] = ap (λ all. (edit_of db table [] Chosen 0 all).news) given.1.1 ∙ makes in
+    let after : new.now.trees ≡ edited_by.0 = ap (λ (d : Database). d.trees) now ∙ trees in
+    let wrote : Wrote table.tree old new (put_row row (db table.tree)) = record {
+      schema = ap (λ (d : Database). d.schema) now;
+      written = ap (λ (t : Trees). t table.tree) after ∙ applies.rows ∙ ap (put_all (db table.tree)) news;
+      others = subst (KeepsOthers table.tree db) (sym after) applies.tables;
+      sound = w.sound;
+    } in
+    (wrote, free_from _ (subst (λ l. are_fresh (db table.tree) l ≡ true) news applies.fresh))
+
+-- ---- what a column makes of the value that is written to it
+
+either : (b : Bool) (x : Value) → cond b x x ≡ x
+either true x = refl
+either false x = refl
+
+pub cast_null : cast Integer Null ≡ Null
+unfolding unary
+cast_null = either _ Null
+
+pub cast_int : (n : ℤ) → cast Integer (Int n) ≡ Int n
+unfolding unary
+cast_int n = either _ (Int n)

@@ -1,0 +1,148 @@
+-- Rows under their keys, as they are filtered, added to and read.
+use Rattle.std.proofs.Common.{◌≡◌, Bool, true, false, not, ◌||◌, cond, List, [], ◌∷◌, map, filter, Option, Some, None, refl, sym, ap, ◌∙◌, subst, Ordering, Less, Equal, Greater, is_eq, is_gt, T, true≢false}
+use Rattle.std.specs.List.{AllByRecursion, list_any}
+use Rattle.std.specs.Ordering.{eq_by_cmp, ordering_then, match_ordering}
+use Rattle.std.specs.Cmp.{IsTotalOrder, tied_itself}
+use Rattle.std.specs.FinMap.Entries.{put, where_key, find, is_sorted, by_order, is_sorted-put, is_sorted-where_key, find-put, find-where_key, same_entries}
+use Rattle.sqlite_keyed.specs.Lists.{sort_by, insert_sorted}
+use Rattle.sqlite_value.specs.declared.value.Value.{Value}
+use Rattle.sqlite_value.specs.Order.{Row, value_cmp}
+use Rattle.sqlite_trees.specs.Tree.{put_row, rowid}
+use Rattle.sqlite_rules.specs.Edit.{is_taken}
+use Rattle.ft_store.specs.Store.{without_key}
+use Rattle.ft_store.specs.Rows.{keyed}
+
+some_first : {X : Type 0} (b : Bool) (x : X) (o : Option X) → cond b (Some x) o ≡ None → (b ≡ false) × (o ≡ None)
+some_first true x o h = absurd cc
+some_first false x o h = (refl, h)
+
+pub none_from : {X : Type 0} (b : Bool) (x : X) (o : Option X) → b ≡ false → o ≡ None → cond b (Some x) o ≡ None
+none_from b x o e h = ap (λ t. cond t (Some x) o) e ∙ h
+
+pub equal_from : (o : Ordering) → is_eq o ≡ true → o ≡ Equal
+equal_from Less h = absurd (true≢false (sym h))
+equal_from Equal h = refl
+equal_from Greater h = absurd (true≢false (sym h))
+
+module _ {K : Type 0} (R : K → K → Ordering) (total : IsTotalOrder R) (tie : (x y : K) → R x y ≡ Equal → x ≡ y) where
+  pub respects : (p : K → Bool) (q x : K) → R q x ≡ Equal → p x ≡ p q
+  respects p q x h = ap p (sym (tie q x h))
+
+  pub itself : (k : K) → eq_by_cmp R k k ≡ true
+  itself k = ap is_eq (tied_itself total k)
+
+  -- two keys that both tie with q tie with each other
+  both_tie : (q k j : K) → eq_by_cmp R k j ≡ false → eq_by_cmp R q j ≡ true → eq_by_cmp R q k ≡ true → ⊥
+  both_tie q k j apart a b =
+      true≢false (sym (itself k) ∙ ap (eq_by_cmp R k) (sym (tie q k (equal_from _ b)) ∙ tie q j (equal_from _ a)) ∙ apart)
+
+-- no two rows have one key
+module _ {K X : Type 0} (R : K → K → Ordering) where
+  abbrev pub AreApart : List (K × X) → Type 0
+  AreApart [] = Unit {0}
+  AreApart (e ∷ es) = (find R e.0 es ≡ None) × AreApart es
+
+module _ {K X : Type 0} (R : K → K → Ordering) (total : IsTotalOrder R) (tie : (x y : K) → R x y ≡ Equal → x ≡ y) where
+  pub is_sorted-keyed : (es : List (K × X)) → T (is_sorted R (keyed R es))
+  is_sorted-keyed [] = tt
+  is_sorted-keyed (e ∷ es) = is_sorted-put R total e.0 e.1 (keyed R es) (is_sorted-keyed es)
+
+  -- a key is looked up among the rows as they stand
+  pub find-keyed : (q : K) (es : List (K × X)) → find R q (keyed R es) ≡ find R q es
+  find-keyed q [] = refl
+  find-keyed q (e ∷ es) = find-put R total q e.0 e.1 (keyed R es) ∙ ap (cond (eq_by_cmp R q e.0) (Some e.1)) (find-keyed q es)
+
+  -- the rows whose keys pass may be taken before or after
+  pub keyed-where : (p : K → Bool) (es : List (K × X)) → keyed R (filter (λ e. p e.0) es) ≡ where_key R p (keyed R es)
+  keyed-where p es =
+      same_entries R total tie _ _ (is_sorted-keyed (filter (λ e. p e.0) es)) (is_sorted-where_key R p (keyed R es) (is_sorted-keyed es))
+      (λ q. find-keyed q (filter (λ e. p e.0) es) ∙ find-where_key R p q (respects R total tie p q) es ∙ ap (λ o. cond (p q) o None) (sym (find-keyed q es)) ∙ sym (find-where_key R p q (respects R total tie p q) (keyed R es)))
+
+  -- a row whose key was taken out is free
+  pub find-without_key : (k : K) (es : List (K × X)) → find R k (without_key R k es) ≡ None
+  find-without_key k es = find-where_key R (λ x. not (eq_by_cmp R k x)) k (respects R total tie _ k) es ∙ ap (λ b. cond (not b) (find R k es) None) (itself R total tie k)
+
+  -- to put a row is to take out the one of its key and then to put it
+  pub put-without_key : (k : K) (v : X) (es : List (K × X)) → T (is_sorted R es) → put R k v (without_key R k es) ≡ put R k v es
+  put-without_key k v es up =
+      same_entries R total tie _ _ (is_sorted-put R total k v _ (is_sorted-where_key R _ es up)) (is_sorted-put R total k v es up)
+      (λ q. find-put R total q k v _ ∙ ap (cond (eq_by_cmp R q k) (Some v)) (find-where_key R (λ x. not (eq_by_cmp R k x)) q (respects R total tie _ q) es) ∙ go q (eq_by_cmp R q k) refl ∙ sym (find-put R total q k v es))
+    where
+      go : (q : K) (b : Bool) → eq_by_cmp R q k ≡ b → cond b (Some v) (cond (not (eq_by_cmp R k q)) (find R q es) None) ≡ cond b (Some v) (find R q es)
+      go q true e = refl
+      go q false e = ap (λ t. cond (not t) (find R q es) None) (turned q e)
+        where
+          turned : (q : K) → eq_by_cmp R q k ≡ false → eq_by_cmp R k q ≡ false
+          turned q e = back (R k q) refl
+            where
+              back : (o : Ordering) → R k q ≡ o → is_eq o ≡ false
+              back Less h = refl
+              back Greater h = refl
+              back Equal h = absurd (true≢false (sym (ap (λ x. eq_by_cmp R x k) (sym (tie k q h)) ∙ itself R total tie k) ∙ e))
+
+  apart_swap : (a b : Bool) (x y : X) (z : Option X) → (a ≡ true → b ≡ true → ⊥) → cond a (Some x) (cond b (Some y) z) ≡ cond b (Some y) (cond a (Some x) z)
+  apart_swap true true x y z h = absurd (h refl refl)
+  apart_swap true false x y z h = refl
+  apart_swap false b x y z h = refl
+
+  module _ (entry : Row → K × X) (new : Row) where
+    -- a new row is found where it is added
+    find-put_row : (rows : List Row) → is_taken rows new ≡ false → find R (entry new).0 (map entry rows) ≡ None → (q : K)
+        → find R q (map entry (put_row new rows)) ≡ cond (eq_by_cmp R q (entry new).0) (Some (entry new).1) (find R q (map entry rows))
+    find-put_row [] free none q = refl
+    find-put_row (r ∷ rows) free none q =
+        let split = some_first (eq_by_cmp R (entry new).0 (entry r).0) (entry r).1 (find R (entry new).0 (map entry rows)) none in
+        go (value_cmp (rowid r) (rowid new)) free split.0 (λ f. find-put_row rows f split.1 q)
+      where
+        go : (o : Ordering) → (is_eq o || is_taken rows new) ≡ false → eq_by_cmp R (entry new).0 (entry r).0 ≡ false
+            → (is_taken rows new ≡ false → find R q (map entry (put_row new rows)) ≡ cond (eq_by_cmp R q (entry new).0) (Some (entry new).1) (find R q (map entry rows)))
+            → find R q (map entry (match_ordering o (r ∷ put_row new rows) (new ∷ rows) (new ∷ r ∷ rows)))
+            ≡ cond (eq_by_cmp R q (entry new).0) (Some (entry new).1) (cond (eq_by_cmp R q (entry r).0) (Some (entry r).1) (find R q (map entry rows)))
+        go Less h apart more =
+            ap (cond (eq_by_cmp R q (entry r).0) (Some (entry r).1)) (more h)
+            ∙ apart_swap (eq_by_cmp R q (entry r).0) (eq_by_cmp R q (entry new).0) (entry r).1 (entry new).1 (find R q (map entry rows)) (both_tie R total tie q (entry new).0 (entry r).0 apart)
+        go Equal h apart more = absurd (true≢false h)
+        go Greater h apart more = refl
+
+    pub keyed-put_row : (rows : List Row) → is_taken rows new ≡ false → find R (entry new).0 (keyed R (map entry rows)) ≡ None
+        → keyed R (map entry (put_row new rows)) ≡ put R (entry new).0 (entry new).1 (keyed R (map entry rows))
+    keyed-put_row rows free none =
+        same_entries R total tie _ _ (is_sorted-keyed (map entry (put_row new rows))) (is_sorted-put R total (entry new).0 (entry new).1 _ (is_sorted-keyed (map entry rows)))
+        (λ q. find-keyed q (map entry (put_row new rows)) ∙ find-put_row rows free (sym (find-keyed (entry new).0 (map entry rows)) ∙ none) q
+        ∙ ap (cond (eq_by_cmp R q (entry new).0) (Some (entry new).1)) (sym (find-keyed q (map entry rows))) ∙ sym (find-put R total q (entry new).0 (entry new).1 (keyed R (map entry rows))))
+
+  module _ (V : X → X → Ordering) where
+    abbrev pub whole_cmp : K × X → K × X → Ordering
+    whole_cmp a b = ordering_then (R a.0 b.0) (V a.1 b.1)
+
+    insert_is_put : (k : K) (v : X) (es : List (K × X)) → find R k es ≡ None → insert_sorted whole_cmp (k, v) es ≡ put R k v es
+    insert_is_put k v [] none = refl
+    insert_is_put k v (e ∷ es) none =
+        let split = some_first (eq_by_cmp R k e.0) e.1 (find R k es) none in
+        go (R k e.0) split.0 (insert_is_put k v es split.1)
+      where
+        go : (o : Ordering) → is_eq o ≡ false → insert_sorted whole_cmp (k, v) es ≡ put R k v es
+            → cond (is_gt (ordering_then o (V v e.1))) (e ∷ insert_sorted whole_cmp (k, v) es) ((k, v) ∷ e ∷ es) ≡ by_order o ((k, v) ∷ e ∷ es) ((e.0, v) ∷ es) (e ∷ put R k v es)
+        go Less h more = refl
+        go Equal h more = absurd (true≢false h)
+        go Greater h more = ap (λ l. e ∷ l) more
+
+    pub sorted-keyed : (es : List (K × X)) → AreApart R es → sort_by whole_cmp es ≡ keyed R es
+    sorted-keyed [] apart = refl
+    sorted-keyed (e ∷ es) apart = ap (insert_sorted whole_cmp e) (sorted-keyed es apart.1) ∙ insert_is_put e.0 e.1 (keyed R es) (find-keyed e.0 es ∙ apart.0)
+
+module _ {K X Y : Type 0} (R : K → K → Ordering) (f : X → Y) where
+  abbrev pub at_value : K × X → K × Y
+  at_value e = (e.0, f e.1)
+
+  put-map : (k : K) (v : X) (es : List (K × X)) → put R k (f v) (map at_value es) ≡ map at_value (put R k v es)
+  put-map k v [] = refl
+  put-map k v (e ∷ es) = elim (R k e.0) as (λ o. by_order o ((k, f v) ∷ map at_value (e ∷ es)) ((e.0, f v) ∷ map at_value es) (at_value e ∷ put R k (f v) (map at_value es)) ≡ map at_value (by_order o ((k, v) ∷ e ∷ es) ((e.0, v) ∷ es) (e ∷ put R k v es))) [
+    | Less ↦ refl
+    | Equal ↦ refl
+    | Greater ↦ ap (λ l. at_value e ∷ l) (put-map k v es)
+  ]
+
+  pub keyed-map : (es : List (K × X)) → keyed R (map at_value es) ≡ map at_value (keyed R es)
+  keyed-map [] = refl
+  keyed-map (e ∷ es) = ap (put R e.0 (f e.1)) (keyed-map es) ∙ put-map e.0 e.1 (keyed R es)

@@ -1,0 +1,195 @@
+-- What each statement of a change makes of the value of a store.
+use Rattle.std.proofs.Common.{◌≡◌, ℕ, ℤ, Bool, true, false, Some, not, ◌&&◌, List, [], ◌∷◌, None, Ok, refl, ap, ap₂, subst, ◌∙◌, Ordering, Less, Equal, Greater, is_eq}
+use Rattle.std.specs.Prelude.{unwrap_or}
+use Rattle.std.specs.Ordering.{int_cmp, int_eq, eq_by_cmp, ordering_then, ordering_reverse}
+use Rattle.std.specs.FinMap.Entries.{put, where_key, find}
+use Rattle.std.proofs.lemmas.Cmp.{int_cmp_total, nat_list_cmp_total}
+use Rattle.sqlite.specs.declared.types.Value.{Value}
+use Rattle.sqlite.specs.declared.types.Value.TheVariants.{Null, Int, Text, Blob}
+use Rattle.sqlite.specs.Order.{Row}
+use Rattle.sqlite_value.specs.Keys.{without_case}
+use Rattle.sqlite_value.proofs.OrderLemmas.{value_cmp-Text}
+use Rattle.sqlite_sql.specs.Ops.{is_true, binary, from_truth}
+use Rattle.sqlite_sql.specs.declared.ops.BinaryOp.TheVariants.{Compare}
+use Rattle.sqlite_sql.specs.declared.ops.CompareOp.TheVariants.{Eq}
+use Rattle.sqlite.specs.Collation.TheVariants.{Binary, NoCase}
+use Rattle.sqlite.specs.Edit.{next_rowid}
+use Rattle.sqlite.specs.Cast.{cast}
+use Rattle.sqlite.specs.Kind.TheVariants as kind
+use Rattle.sqlite.specs.State.{State, Executes, Shows}
+use Rattle.sqlite.specs.Values.{bound_value}
+use Rattle.sqlite_typed.proofs.TestLemmas.{at_ints, at_texts, then_term, last_term}
+use Rattle.ft_store.specs.Packed.{spots_in}
+use Rattle.ft_store.specs.Store.{Cell, cell_key_cmp, list_key_cmp, column_key_cmp, name_cmp}
+use Rattle.ft_store.specs.Store as store
+use Rattle.ft_store.specs.Rows.{cell_in, value_of}
+use Rattle.ft_store.specs.Changes.{num_of, txt_of}
+use Rattle.ft_store.specs.Calls.{IsStore, Steps}
+use Rattle.ft_store.proofs.Texts.{drop_name_text, drop_columns_text, drop_column_text, drop_skips_text, drop_skip_text, drop_contents_text, drop_cells_text, drop_cell_text, drop_lists_text, drop_list_text, drop_sizes_text, drop_size_text, drop_note_text, add_name_text, add_column_text, add_skip_text, add_cell_text, add_list_text, add_size_text, add_note_text}
+use Rattle.ft_store.proofs.TextLemmas.{drop_name_terms, drop_name_is, drop_name_plain, drop_columns_terms, drop_columns_is, drop_columns_plain, drop_column_terms, drop_column_is, drop_column_plain, drop_skips_terms, drop_skips_is, drop_skips_plain, drop_skip_terms, drop_skip_is, drop_skip_plain, drop_contents_terms, drop_contents_is, drop_contents_plain, drop_cells_terms, drop_cells_is, drop_cells_plain, drop_cell_terms, drop_cell_is, drop_cell_plain, drop_lists_terms, drop_lists_is, drop_lists_plain, drop_list_terms, drop_list_is, drop_list_plain, drop_sizes_terms, drop_sizes_is, drop_sizes_plain, drop_size_terms, drop_size_is, drop_size_plain, drop_note_terms, drop_note_is, drop_note_plain, add_name_terms, add_name_is, add_name_plain, add_column_terms, add_column_is, add_column_plain, add_skip_terms, add_skip_is, add_skip_plain, add_cell_terms, add_cell_is, add_cell_plain, add_list_terms, add_list_is, add_list_plain, add_size_terms, add_size_is, add_size_plain, add_note_terms, add_note_is, add_note_plain}
+use Rattle.ft_store.proofs.ChangeLemmas.{inserts, cast_null, cast_int}
+use Rattle.ft_store.proofs.StepLemmas.{tables_deleted, columns_deleted, skipped_deleted, cells_deleted, lists_deleted, sizes_deleted, noted_deleted, tables_added, columns_added, skipped_added, cells_added, lists_added, sizes_added, noted_added}
+
+-- ---- a column that equals a parameter
+
+back_eq : (o : Ordering) → is_eq (ordering_reverse o) ≡ is_eq o
+back_eq Less = refl
+back_eq Equal = refl
+back_eq Greater = refl
+
+pub turned : (v w : Value) (m n : ℤ) → v ≡ Int m → w ≡ Int n → is_true (binary (Compare Eq Binary) v w) ≡ int_eq n m
+turned v w m n p q =
+    ap₂ (λ a b. is_true (binary (Compare Eq Binary) a b)) p q ∙ at_ints false Eq m n ∙ ap is_eq (int_cmp_total.antisymm m n) ∙ back_eq (int_cmp n m)
+
+pub turned_text : (v w : Value) (s t : List ℕ) → v ≡ Text s → w ≡ Text t → is_true (binary (Compare Eq Binary) v w) ≡ is_eq (name_cmp t s)
+turned_text v w s t p q =
+    ap₂ (λ a b. is_true (binary (Compare Eq Binary) a b)) p q ∙ at_texts false Eq s t ∙ ap is_eq (nat_list_cmp_total.antisymm s t) ∙ back_eq (name_cmp t s)
+
+truth_is : (b : Bool) → is_true (from_truth (Some b)) ≡ b
+truth_is true = refl
+truth_is false = refl
+
+turned_case : (v w : Value) (s t : List ℕ) → v ≡ Text s → w ≡ Text t → is_true (binary (Compare Eq NoCase) v w) ≡ is_eq (name_cmp (without_case t) (without_case s))
+unfolding binary
+turned_case v w s t p q =
+    ap₂ (λ a b. is_true (binary (Compare Eq NoCase) a b)) p q
+    ∙ ap (λ o. is_true (from_truth (Some (is_eq o)))) (value_cmp-Text (without_case s) (without_case t)) ∙ truth_is _
+    ∙ ap is_eq (nat_list_cmp_total.antisymm (without_case s) (without_case t)) ∙ back_eq (name_cmp (without_case t) (without_case s))
+
+-- keys that tie column by column
+both_tie : (o u : Ordering) → (is_eq o && is_eq u) ≡ is_eq (ordering_then o u)
+both_tie Less u = refl
+both_tie Equal u = refl
+both_tie Greater u = refl
+
+then_tie : {x y : Bool} (o u : Ordering) → x ≡ is_eq o → y ≡ is_eq u → (x && y) ≡ is_eq (ordering_then o u)
+then_tie o u p q = ap₂ ◌&&◌ p q ∙ both_tie o u
+
+-- ---- what a column makes of the value that is written to it
+
+cast_num : (v : Cell) → cast kind.Integer (num_of v) ≡ num_of v
+cast_num store.Null = cast_null
+cast_num (store.Int n) = cast_int n
+cast_num (store.Text t) = cast_null
+
+cast_txt : (v : Cell) → cast kind.Text (txt_of v) ≡ txt_of v
+cast_txt store.Null = refl
+cast_txt (store.Int n) = refl
+cast_txt (store.Text t) = refl
+
+same_again : (v : Cell) → cell_in (num_of v) (txt_of v) ≡ v
+same_again store.Null = refl
+same_again (store.Int n) = refl
+same_again (store.Text t) = refl
+
+-- a parameter is bound as it is
+pub bound_num : (v : Cell) → bound_value (num_of v) ≡ num_of v
+bound_num store.Null = refl
+bound_num (store.Int n) = refl
+bound_num (store.Text t) = refl
+
+pub bound_txt : (v : Cell) → bound_value (txt_of v) ≡ txt_of v
+bound_txt store.Null = refl
+bound_txt (store.Int n) = refl
+bound_txt (store.Text t) = refl
+
+module _ (old new : State) (kept : IsStore old.now) (shown : Shows old new new.now old.committed true) where
+  pub does_drop_name : (tab : ℤ) (count : ℕ) → Executes drop_name_text (Int tab ∷ []) old new (Ok count)
+      → Steps old new (record (value_of old.now.trees) { tables = where_key int_cmp (λ k. not (int_eq tab k)) (value_of old.now.trees).tables })
+  does_drop_name tab count =
+      tables_deleted old new kept shown drop_name_text _ drop_name_terms (λ k. int_eq tab k) count drop_name_is drop_name_plain (λ r h. last_term (turned _ _ _ _ h.id refl))
+
+  pub does_drop_columns : (tab : ℤ) (count : ℕ) → Executes drop_columns_text (Int tab ∷ []) old new (Ok count)
+      → Steps old new (record (value_of old.now.trees) { columns = where_key column_key_cmp (λ k. not (int_eq tab k.0)) (value_of old.now.trees).columns })
+  does_drop_columns tab count =
+      columns_deleted old new kept shown drop_columns_text _ drop_columns_terms (λ k. int_eq tab k.0) count drop_columns_is drop_columns_plain (λ r h. last_term (turned _ _ _ _ h.tab refl))
+
+  pub does_drop_column : (tab : ℤ) (column : ℤ) (count : ℕ) → Executes drop_column_text (Int tab ∷ Int column ∷ []) old new (Ok count)
+      → Steps old new (record (value_of old.now.trees) { columns = where_key column_key_cmp (λ k. not (eq_by_cmp column_key_cmp (tab, column) k)) (value_of old.now.trees).columns })
+  does_drop_column tab column count =
+      columns_deleted old new kept shown drop_column_text _ drop_column_terms (λ k. eq_by_cmp column_key_cmp (tab, column) k) count drop_column_is drop_column_plain (λ r h. then_tie _ _ (turned _ _ _ _ h.tab refl) (last_term (turned _ _ _ _ h.at refl)))
+
+  pub does_drop_skips : (tab : ℤ) (count : ℕ) → Executes drop_skips_text (Int tab ∷ []) old new (Ok count)
+      → Steps old new (record (value_of old.now.trees) { skipped = where_key column_key_cmp (λ k. not (int_eq tab k.0)) (value_of old.now.trees).skipped })
+  does_drop_skips tab count =
+      skipped_deleted old new kept shown drop_skips_text _ drop_skips_terms (λ k. int_eq tab k.0) count drop_skips_is drop_skips_plain (λ r h. last_term (turned _ _ _ _ h.tab refl))
+
+  pub does_drop_skip : (tab : ℤ) (column : ℤ) (count : ℕ) → Executes drop_skip_text (Int tab ∷ Int column ∷ []) old new (Ok count)
+      → Steps old new (record (value_of old.now.trees) { skipped = where_key column_key_cmp (λ k. not (eq_by_cmp column_key_cmp (tab, column) k)) (value_of old.now.trees).skipped })
+  does_drop_skip tab column count =
+      skipped_deleted old new kept shown drop_skip_text _ drop_skip_terms (λ k. eq_by_cmp column_key_cmp (tab, column) k) count drop_skip_is drop_skip_plain (λ r h. then_tie _ _ (turned _ _ _ _ h.tab refl) (last_term (turned _ _ _ _ h.at refl)))
+
+  pub does_drop_contents : (tab : ℤ) (count : ℕ) → Executes drop_contents_text (Int tab ∷ []) old new (Ok count)
+      → Steps old new (record (value_of old.now.trees) { cells = where_key cell_key_cmp (λ k. not (int_eq tab k.0)) (value_of old.now.trees).cells })
+  does_drop_contents tab count =
+      cells_deleted old new kept shown drop_contents_text _ drop_contents_terms (λ k. int_eq tab k.0) count drop_contents_is drop_contents_plain (λ r h. last_term (turned _ _ _ _ h.tab refl))
+
+  pub does_drop_cells : (tab : ℤ) (docid : ℤ) (count : ℕ) → Executes drop_cells_text (Int tab ∷ Int docid ∷ []) old new (Ok count)
+      → Steps old new (record (value_of old.now.trees) { cells = where_key cell_key_cmp (λ k. not (int_eq tab k.0 && int_eq docid k.1)) (value_of old.now.trees).cells })
+  does_drop_cells tab docid count =
+      cells_deleted old new kept shown drop_cells_text _ drop_cells_terms (λ k. int_eq tab k.0 && int_eq docid k.1) count drop_cells_is drop_cells_plain (λ r h. then_term (turned _ _ _ _ h.tab refl) (last_term (turned _ _ _ _ h.docid refl)))
+
+  pub does_drop_cell : (tab : ℤ) (docid : ℤ) (column : ℤ) (count : ℕ) → Executes drop_cell_text (Int tab ∷ Int docid ∷ Int column ∷ []) old new (Ok count)
+      → Steps old new (record (value_of old.now.trees) { cells = where_key cell_key_cmp (λ k. not (eq_by_cmp cell_key_cmp (tab, docid, column) k)) (value_of old.now.trees).cells })
+  does_drop_cell tab docid column count =
+      cells_deleted old new kept shown drop_cell_text _ drop_cell_terms (λ k. eq_by_cmp cell_key_cmp (tab, docid, column) k) count drop_cell_is drop_cell_plain (λ r h. then_tie _ _ (turned _ _ _ _ h.tab refl) (then_tie _ _ (turned _ _ _ _ h.docid refl) (last_term (turned _ _ _ _ h.at refl))))
+
+  pub does_drop_lists : (tab : ℤ) (count : ℕ) → Executes drop_lists_text (Int tab ∷ []) old new (Ok count)
+      → Steps old new (record (value_of old.now.trees) { lists = where_key list_key_cmp (λ k. not (int_eq tab k.0)) (value_of old.now.trees).lists })
+  does_drop_lists tab count =
+      lists_deleted old new kept shown drop_lists_text _ drop_lists_terms (λ k. int_eq tab k.0) count drop_lists_is drop_lists_plain (λ r h. last_term (turned _ _ _ _ h.tab refl))
+
+  pub does_drop_list : (tab : ℤ) (term : List ℕ) (docid : ℤ) (count : ℕ) → Executes drop_list_text (Int tab ∷ Text term ∷ Int docid ∷ []) old new (Ok count)
+      → Steps old new (record (value_of old.now.trees) { lists = where_key list_key_cmp (λ k. not (eq_by_cmp list_key_cmp (tab, term, docid) k)) (value_of old.now.trees).lists })
+  does_drop_list tab term docid count =
+      lists_deleted old new kept shown drop_list_text _ drop_list_terms (λ k. eq_by_cmp list_key_cmp (tab, term, docid) k) count drop_list_is drop_list_plain (λ r h. then_tie _ _ (turned _ _ _ _ h.tab refl) (then_tie _ _ (turned_text _ _ _ _ h.term refl) (last_term (turned _ _ _ _ h.docid refl))))
+
+  pub does_drop_sizes : (tab : ℤ) (count : ℕ) → Executes drop_sizes_text (Int tab ∷ []) old new (Ok count)
+      → Steps old new (record (value_of old.now.trees) { sizes = where_key cell_key_cmp (λ k. not (int_eq tab k.0)) (value_of old.now.trees).sizes })
+  does_drop_sizes tab count =
+      sizes_deleted old new kept shown drop_sizes_text _ drop_sizes_terms (λ k. int_eq tab k.0) count drop_sizes_is drop_sizes_plain (λ r h. last_term (turned _ _ _ _ h.tab refl))
+
+  pub does_drop_size : (tab : ℤ) (docid : ℤ) (column : ℤ) (count : ℕ) → Executes drop_size_text (Int tab ∷ Int docid ∷ Int column ∷ []) old new (Ok count)
+      → Steps old new (record (value_of old.now.trees) { sizes = where_key cell_key_cmp (λ k. not (eq_by_cmp cell_key_cmp (tab, docid, column) k)) (value_of old.now.trees).sizes })
+  does_drop_size tab docid column count =
+      sizes_deleted old new kept shown drop_size_text _ drop_size_terms (λ k. eq_by_cmp cell_key_cmp (tab, docid, column) k) count drop_size_is drop_size_plain (λ r h. then_tie _ _ (turned _ _ _ _ h.tab refl) (then_tie _ _ (turned _ _ _ _ h.docid refl) (last_term (turned _ _ _ _ h.at refl))))
+
+  pub does_drop_note : (name : List ℕ) (count : ℕ) → Executes drop_note_text (Text name ∷ []) old new (Ok count)
+      → Steps old new (record (value_of old.now.trees) { noted = where_key name_cmp (λ k. not (eq_by_cmp name_cmp (without_case name) k)) (value_of old.now.trees).noted })
+  does_drop_note name count =
+      noted_deleted old new kept shown drop_note_text _ drop_note_terms (λ k. eq_by_cmp name_cmp (without_case name) k) count drop_note_is drop_note_plain (λ r h. last_term (turned_case _ _ _ _ h.name refl))
+
+  pub does_add_name : (tab : ℤ) (name : List ℕ) (count : ℕ) → find int_cmp tab (value_of old.now.trees).tables ≡ None → Executes add_name_text (Int tab ∷ Text name ∷ []) old new (Ok count)
+      → Steps old new (record (value_of old.now.trees) { tables = put int_cmp tab name (value_of old.now.trees).tables })
+  does_add_name tab name count free h =
+      tables_added old new kept shown (Int tab ∷ Null ∷ Text name ∷ []) refl (inserts old new add_name_text (Int tab ∷ Text name ∷ []) 1 1 _ _ _ _ _ _ _ add_name_terms 3 (Int tab ∷ Null ∷ Text name ∷ []) count kept.schema add_name_is add_name_plain refl (rw (cast_int tab, cast_null) refl) h) free
+
+  pub does_add_column : (tab : ℤ) (column : ℤ) (name : List ℕ) (count : ℕ) → find column_key_cmp (tab, column) (value_of old.now.trees).columns ≡ None → Executes add_column_text (Int tab ∷ Int column ∷ Text name ∷ []) old new (Ok count)
+      → Steps old new (record (value_of old.now.trees) { columns = put column_key_cmp (tab, column) name (value_of old.now.trees).columns })
+  does_add_column tab column name count free h =
+      columns_added old new kept shown (Int (next_rowid (old.now.trees 3)) ∷ Int tab ∷ Int column ∷ Text name ∷ []) refl (inserts old new add_column_text (Int tab ∷ Int column ∷ Text name ∷ []) 2 3 _ _ _ _ _ _ _ add_column_terms 4 (Int (next_rowid (old.now.trees 3)) ∷ Int tab ∷ Int column ∷ Text name ∷ []) count kept.schema add_column_is add_column_plain refl (rw (cast_null, cast_int tab, cast_int column) refl) h) free
+
+  pub does_add_skip : (tab : ℤ) (column : ℤ) (count : ℕ) → find column_key_cmp (tab, column) (value_of old.now.trees).skipped ≡ None → Executes add_skip_text (Int tab ∷ Int column ∷ []) old new (Ok count)
+      → Steps old new (record (value_of old.now.trees) { skipped = put column_key_cmp (tab, column) tt (value_of old.now.trees).skipped })
+  does_add_skip tab column count free h =
+      skipped_added old new kept shown (Int (next_rowid (old.now.trees 13)) ∷ Int tab ∷ Int column ∷ []) refl (inserts old new add_skip_text (Int tab ∷ Int column ∷ []) 7 13 _ _ _ _ _ _ _ add_skip_terms 3 (Int (next_rowid (old.now.trees 13)) ∷ Int tab ∷ Int column ∷ []) count kept.schema add_skip_is add_skip_plain refl (rw (cast_null, cast_int tab, cast_int column) refl) h) free
+
+  pub does_add_cell : (tab : ℤ) (docid : ℤ) (column : ℤ) (value : Cell) (count : ℕ) → find cell_key_cmp (tab, docid, column) (value_of old.now.trees).cells ≡ None → Executes add_cell_text (Int tab ∷ Int docid ∷ Int column ∷ num_of value ∷ txt_of value ∷ []) old new (Ok count)
+      → Steps old new (record (value_of old.now.trees) { cells = put cell_key_cmp (tab, docid, column) value (value_of old.now.trees).cells })
+  does_add_cell tab docid column value count free h =
+      subst (λ x. Steps old new (record (value_of old.now.trees) { cells = put cell_key_cmp (tab, docid, column) x (value_of old.now.trees).cells })) (same_again value) (cells_added old new kept shown (Int (next_rowid (old.now.trees 5)) ∷ Int tab ∷ Int docid ∷ Int column ∷ num_of value ∷ txt_of value ∷ []) refl (inserts old new add_cell_text (Int tab ∷ Int docid ∷ Int column ∷ num_of value ∷ txt_of value ∷ []) 3 5 _ _ _ _ _ _ _ add_cell_terms 6 (Int (next_rowid (old.now.trees 5)) ∷ Int tab ∷ Int docid ∷ Int column ∷ num_of value ∷ txt_of value ∷ []) count kept.schema add_cell_is add_cell_plain refl (rw (cast_null, cast_int tab, cast_int docid, cast_int column, cast_num value, cast_txt value) refl) h) free)
+
+  pub does_add_list : (tab : ℤ) (term : List ℕ) (docid : ℤ) (list : List ℕ) (count : ℕ) → find list_key_cmp (tab, term, docid) (value_of old.now.trees).lists ≡ None → Executes add_list_text (Int tab ∷ Text term ∷ Int docid ∷ Blob list ∷ []) old new (Ok count)
+      → Steps old new (record (value_of old.now.trees) { lists = put list_key_cmp (tab, term, docid) (unwrap_or (spots_in list) []) (value_of old.now.trees).lists })
+  does_add_list tab term docid list count free h =
+      lists_added old new kept shown (Int (next_rowid (old.now.trees 7)) ∷ Int tab ∷ Text term ∷ Int docid ∷ Blob list ∷ []) refl (inserts old new add_list_text (Int tab ∷ Text term ∷ Int docid ∷ Blob list ∷ []) 4 7 _ _ _ _ _ _ _ add_list_terms 5 (Int (next_rowid (old.now.trees 7)) ∷ Int tab ∷ Text term ∷ Int docid ∷ Blob list ∷ []) count kept.schema add_list_is add_list_plain refl (rw (cast_null, cast_int tab, cast_int docid) refl) h) free
+
+  pub does_add_size : (tab : ℤ) (docid : ℤ) (column : ℤ) (n : ℤ) (count : ℕ) → find cell_key_cmp (tab, docid, column) (value_of old.now.trees).sizes ≡ None → Executes add_size_text (Int tab ∷ Int docid ∷ Int column ∷ Int n ∷ []) old new (Ok count)
+      → Steps old new (record (value_of old.now.trees) { sizes = put cell_key_cmp (tab, docid, column) n (value_of old.now.trees).sizes })
+  does_add_size tab docid column n count free h =
+      sizes_added old new kept shown (Int (next_rowid (old.now.trees 9)) ∷ Int tab ∷ Int docid ∷ Int column ∷ Int n ∷ []) refl (inserts old new add_size_text (Int tab ∷ Int docid ∷ Int column ∷ Int n ∷ []) 5 9 _ _ _ _ _ _ _ add_size_terms 5 (Int (next_rowid (old.now.trees 9)) ∷ Int tab ∷ Int docid ∷ Int column ∷ Int n ∷ []) count kept.schema add_size_is add_size_plain refl (rw (cast_null, cast_int tab, cast_int docid, cast_int column, cast_int n) refl) h) free
+
+  pub does_add_note : (name : List ℕ) (count : ℕ) → find name_cmp (without_case name) (value_of old.now.trees).noted ≡ None → Executes add_note_text (Text name ∷ []) old new (Ok count)
+      → Steps old new (record (value_of old.now.trees) { noted = put name_cmp (without_case name) name (value_of old.now.trees).noted })
+  does_add_note name count free h =
+      noted_added old new kept shown (Int (next_rowid (old.now.trees 11)) ∷ Text name ∷ []) refl (inserts old new add_note_text (Text name ∷ []) 6 11 _ _ _ _ _ _ _ add_note_terms 2 (Int (next_rowid (old.now.trees 11)) ∷ Text name ∷ []) count kept.schema add_note_is add_note_plain refl (rw cast_null refl) h) free

@@ -1,0 +1,30 @@
+use Rattle.std.proofs.Common.{arith}
+use Rattle.std.proofs.lemmas.Result.{on_ok_weaker}
+use Rattle.sqlite.specs.Held.{state}
+use Rattle.sqlite.specs.State.{HasCleanDisk}
+use Rattle.ft_store.proofs.MakeLemmas.{shows_then, makes_meta, makes_tab, makes_col, makes_cell, makes_posting, makes_sizes, makes_noted, makes_skip, is_store_schema}
+use Rattle.ft_store.proofs.make.create_all.Goals as goal
+
+pub returns-clause-steps : goal.returns-clause-steps
+returns-clause-steps g c clean inside was =
+    let clean_7 : HasCleanDisk (state g.S.Store c.create-7.new.tx.conn.now) = omega (arith, c.create-8.ensures.survives.clean) in
+    let clean_6 : HasCleanDisk (state g.S.Store c.create-6.new.tx.conn.now) = omega (arith, c.create-7.ensures.survives.clean) in
+    let clean_5 : HasCleanDisk (state g.S.Store c.create-5.new.tx.conn.now) = omega (arith, c.create-6.ensures.survives.clean) in
+    let clean_4 : HasCleanDisk (state g.S.Store c.create-4.new.tx.conn.now) = omega (arith, c.create-5.ensures.survives.clean) in
+    let clean_3 : HasCleanDisk (state g.S.Store c.create-3.new.tx.conn.now) = omega (arith, c.create-4.ensures.survives.clean) in
+    let clean_2 : HasCleanDisk (state g.S.Store c.create-2.new.tx.conn.now) = omega (arith, c.create-3.ensures.survives.clean) in
+    let clean_1 : HasCleanDisk (state g.S.Store c.create.new.tx.conn.now) = omega (arith, c.create-2.ensures.survives.clean) in
+    let step_1 = c.in_ok-create.ensures.steps clean_1 inside _ _ makes_meta was in
+    let step_2 = c.in_ok-create-2.ensures.steps clean_2 step_1.1.mode _ _ makes_tab (λ _. step_1.0) in
+    let step_3 = c.in_ok-create-3.ensures.steps clean_3 step_2.1.mode _ _ makes_col (λ _. step_2.0) in
+    let step_4 = c.in_ok-create-4.ensures.steps clean_4 step_3.1.mode _ _ makes_cell (λ _. step_3.0) in
+    let step_5 = c.in_ok-create-5.ensures.steps clean_5 step_4.1.mode _ _ makes_posting (λ _. step_4.0) in
+    let step_6 = c.in_ok-create-6.ensures.steps clean_6 step_5.1.mode _ _ makes_sizes (λ _. step_5.0) in
+    let step_7 = c.in_ok-create-7.ensures.steps clean_7 step_6.1.mode _ _ makes_noted (λ _. step_6.0) in
+    let shown_2 = shows_then _ _ _ step_1.1 step_2.1 in
+    let shown_3 = shows_then _ _ _ shown_2 step_3.1 in
+    let shown_4 = shows_then _ _ _ shown_3 step_4.1 in
+    let shown_5 = shows_then _ _ _ shown_4 step_5.1 in
+    let shown_6 = shows_then _ _ _ shown_5 step_6.1 in
+    let shown_7 = shows_then _ _ _ shown_6 step_7.1 in
+    on_ok_weaker c.create-8.result (λ f. let step_8 = f _ _ makes_skip (λ _. step_7.0) in (is_store_schema _ step_8.0, shows_then _ _ _ shown_7 step_8.1)) (c.create-8.ensures.steps clean step_7.1.mode)

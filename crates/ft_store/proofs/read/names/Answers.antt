@@ -1,0 +1,21 @@
+use Rattle.std.specs.Ordering.{int_cmp}
+use Rattle.std.proofs.Common.{[], ◌∷◌, map, sym, ap, subst, ◌∙◌, arith}
+use Rattle.sqlite.specs.Given.{IsPlain}
+use Rattle.sqlite.specs.Listing.{understood}
+use Rattle.sqlite.specs.Held.{state}
+use Rattle.std.proofs.lemmas.Result.{IfOk-weaker}
+use Rattle.ft_store.specs.Found.{found_table}
+use Rattle.ft_store.proofs.Texts.{names_text}
+use Rattle.ft_store.proofs.TextLemmas.{names_plain}
+use Rattle.ft_store.proofs.AnswerLemmas.{names_shown, all_kept}
+use Rattle.ft_store.proofs.read.names.Goals as goal
+
+pub select-requires-clause-plain : goal.select-requires-clause-plain
+select-requires-clause-plain g c clean is_open = subst (λ s. IsPlain (understood s names_text)) (sym (c.requires.store clean is_open).schema) names_plain
+
+pub returns-clause-rows : goal.returns-clause-rows
+returns-clause-rows g c clean =
+    let old = state g.S.Store c.args.conn.now in
+    let new = state g.S.Store c.select.new.conn in
+    let all = names_shown old new c.in_ok-rows.rows.items (c.requires.store (omega (arith, c.select.ensures.survives.clean))) (c.in_ok-rows.ensures.shown clean) in
+    IfOk-weaker c.name_rows.result _ _ (λ found h. h ∙ ap (map found_table) c.as_slice.ensures.value ∙ all ∙ all_kept int_cmp _) c.name_rows.ensures

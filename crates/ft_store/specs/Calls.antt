@@ -1,0 +1,89 @@
+-- What a call does to a store.
+use Rattle.std.specs.Prelude.{◌≡◌, ℕ, ◌+◌, ◌-◌, ◌^◌, min, ℤ, pos, true, false, Result, List, [], ◌∷◌, map, IsTrue, OnOk}
+use Rattle.std.specs.List.{AllByRecursion}
+use Rattle.std.specs.Coded.{Coded, code_by, coded×, coded_ℕ}
+use Rattle.sqlite.specs.declared.types.Value.TheVariants as value
+use Rattle.sqlite.specs.Order.{Row, column}
+use Rattle.sqlite.specs.Tree.{Trees}
+use Rattle.sqlite_trees.specs.View.{IsShaped}
+use Rattle.sqlite_trees.specs.declared.store.Shape.TheVariants as shape
+use Rattle.sqlite_catalog.specs.Listing.{IsSound}
+use Rattle.sqlite.specs.Schema.{Schema}
+use Rattle.sqlite.specs.Table.{Table}
+use Rattle.sqlite.specs.Effect.{Database, IsDatabase}
+use Rattle.sqlite.specs.State.{State, HasCleanDisk, Shows, Survives, KeepsCommit}
+use Rattle.sqlite.specs.Store.{Ghosts}
+use Rattle.sqlite.specs.Held.{Held, held_code, state}
+use Rattle.ft_store.specs.declared.fault.StoreFault.{StoreFault}
+use Rattle.ft_store.specs.Tables.{store_schema}
+use Rattle.ft_store.specs.Store.{StoreValue}
+use Rattle.ft_store.specs.Rows.{value_of}
+
+-- each table of a schema has its rows in the order of their rowids
+abbrev pub AreShaped : List Table → Trees → Type 0
+AreShaped tables db = AllByRecursion (λ t. IsShaped shape.Table (db t.tree)) tables
+
+-- `meta` has one row, with the version
+abbrev pub IsMarked : Trees → Type 0
+IsMarked db = map (λ (r : Row). column r 2) (db 0) ≡ value.Int (pos 3) ∷ []
+
+-- a database that is a store: the tables of a store and nothing else, with their rules kept
+pub record IsStore (db : Database) : Type 0 where
+  pub schema : db.schema ≡ store_schema
+  pub sound : IsDatabase db
+  pub shaped : AreShaped store_schema.tables db.trees
+  pub marked : IsMarked db.trees
+
+-- what a step inside a transaction makes
+pub record Steps (old new : State) (value : StoreValue) : Type 0 where
+  pub store : IsStore new.now
+  pub is : value_of new.now.trees ≡ value
+  pub shown : Shows old new new.now old.committed true
+
+-- what is seen stays, as long as the connection is open
+abbrev pub Keeps : State → State → Type 0
+Keeps old new = IsTrue new.is_open → (new.now ≡ old.now) × (new.committed ≡ old.committed) × IsTrue old.is_open
+
+-- What one statement of a change does in a transaction: where the disk did what it was told and the call is Ok, the value is
+-- that of `f`.
+abbrev pub StepsOnOk : {S : Type 0} → Ghosts S → Held S → Held S → Result (Unit {0}) StoreFault → (StoreValue → StoreValue) → Type 0
+StepsOnOk g old new result f =
+    HasCleanDisk (state g new) → IsTrue (state g old).in_transaction → (IsTrue (state g old).is_open → IsStore (state g old).now)
+    → OnOk result (Steps (state g old) (state g new) (f (value_of (state g old).now.trees)))
+
+-- the same, where no row has the new one's key
+abbrev pub AddsOnOk : {S : Type 0} → Ghosts S → Held S → Held S → Result (Unit {0}) StoreFault → (StoreValue → Type 0) → (StoreValue → StoreValue) → Type 0
+AddsOnOk g old new result IsFree f =
+    HasCleanDisk (state g new) → IsTrue (state g old).in_transaction → (IsTrue (state g old).is_open → IsStore (state g old).now)
+    → OnOk result (IsFree (value_of (state g old).now.trees) → Steps (state g old) (state g new) (f (value_of (state g old).now.trees)))
+
+-- nothing is committed, and the last commit stays
+abbrev pub KeepsLast : {S : Type 0} → Ghosts S → Held S → Held S → Type 0
+KeepsLast g old new = HasCleanDisk (state g new) → KeepsCommit (state g old) (state g new)
+
+abbrev pub LeavesNothing : {S : Type 0} → Ghosts S → Held S → Held S → Type 0
+LeavesNothing g old new = Survives (state g old) (state g new) (λ _. ⊥)
+
+-- the same of several statements, in a transaction of an open connection
+abbrev pub StepsIfOpen : {S : Type 0} → Ghosts S → Held S → Held S → Result (Unit {0}) StoreFault → (StoreValue → StoreValue) → Type 0
+StepsIfOpen g old new result f =
+    HasCleanDisk (state g new) → IsTrue (state g old).in_transaction → IsTrue (state g old).is_open → IsStore (state g old).now
+    → OnOk result (Steps (state g old) (state g new) (f (value_of (state g old).now.trees)))
+
+-- so far in a transaction that began at `old`
+pub record Goes (old now : State) (value : StoreValue) : Type 0 where
+  pub going : IsTrue old.is_open → IsTrue now.is_open × IsStore now.now × (value_of now.now.trees ≡ value)
+  pub was_open : IsTrue now.is_open → IsTrue old.is_open
+  pub committed : now.committed ≡ old.committed
+  pub inside : IsTrue now.in_transaction
+
+-- trees that are a store with this value, as an adoption finds them
+pub record IsStored (db : Trees) (value : StoreValue) : Type 0 where
+  pub sound : IsSound store_schema db
+  pub shaped : AreShaped store_schema.tables db
+  pub marked : IsMarked db
+  pub is : value_of db ≡ value
+
+-- what is kept true of the connection of a store between calls
+abbrev pub IsStoreIfOpen : State → Type 0
+IsStoreIfOpen s = HasCleanDisk s → IsTrue s.is_open → IsStore s.now

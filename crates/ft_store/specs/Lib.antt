@@ -1,0 +1,11 @@
+pub mod Calls
+pub mod Changes
+pub mod Found
+pub mod Kept
+pub mod Made
+pub mod Packed
+pub mod Rows
+pub mod Shown
+pub mod Store
+pub mod Tables
+pub mod Unpacking

@@ -1,0 +1,42 @@
+-- How the tables of a store are made.
+use Rattle.std.specs.Prelude.{◌≡◌, Result, Ok, Err, ℕ, false, List, []}
+use Rattle.std.specs.List.{AllByRecursion}
+use Rattle.sqlite.specs.Tree.{Trees}
+use Rattle.sqlite.specs.Schema.{Schema}
+use Rattle.sqlite.specs.Table.{Table}
+use Rattle.sqlite.specs.Listing.{understood}
+use Rattle.sqlite.specs.Command.{Command}
+use Rattle.sqlite.specs.Command.TheVariants.{CreateTable, Nothing}
+use Rattle.sqlite.specs.Compile.{table_defined_by}
+use Rattle.sqlite.specs.Change.{created}
+use Rattle.sqlite.specs.Does.{lacks_sequence}
+use Rattle.sqlite.specs.Given.{IsPlain}
+use Rattle.sqlite_resolve.specs.declared.compiled.Compiled.{Compiled}
+use Rattle.sqlite_resolve.specs.declared.error.CompileError.{CompileError}
+use Rattle.sqlite.specs.State.{text_of}
+use Rattle.sqlite.specs.Effect.{Database, IsDatabase}
+
+abbrev pub command_of : Result Compiled CompileError → Command
+command_of (Ok c) = c.command
+command_of (Err e) = Nothing
+
+abbrev pub statement_of : List ℕ → Result Compiled CompileError → List ℕ
+statement_of sql (Ok c) = text_of sql c
+statement_of sql (Err e) = []
+
+-- the tables of the schema have no row
+abbrev pub AreEmpty : Schema → Trees → Type 0
+AreEmpty schema db = AllByRecursion (λ t. db t.tree ≡ []) schema.tables
+
+pub record IsEmptyOf (s : Schema) (db : Database) : Type 0 where
+  pub schema : db.schema ≡ s
+  pub empty : AreEmpty s db.trees
+  pub sound : IsDatabase db
+
+-- under this schema the text makes this table
+pub record Makes (schema : Schema) (text : List ℕ) (table : Table) : Type 0 where
+  pub command : command_of (understood schema text) ≡ CreateTable
+  pub plain : IsPlain (understood schema text)
+  pub whole : statement_of text (understood schema text) ≡ text
+  pub defined : table_defined_by text ≡ Ok table
+  pub uncounted : lacks_sequence (created schema table) ≡ false

@@ -1,0 +1,54 @@
+-- The rows that reads give, as rows under their keys.
+use Rattle.std.specs.Prelude.{◌≢◌, ℕ, ℤ, List, [], map, string_bytes, String}
+use Rattle.std.specs.List.{AllByRecursion, flat_map}
+use Rattle.std.specs.declared.alloc.Global.{Global}
+use Rattle.sqlite_value.specs.Keys.{without_case}
+use Rattle.ft_store.specs.declared.rows.CellRow.{CellRow}
+use Rattle.ft_store.specs.declared.rows.SizeRow.{SizeRow}
+use Rattle.ft_store.specs.declared.rows.EntryRow.{EntryRow}
+use Rattle.ft_store.specs.declared.rows.Spot.{Spot}
+use Rattle.ft_store.specs.declared.lists.ListRow.{ListRow}
+use Rattle.ft_store.specs.Store.{Cell, CellKey, ListKey, ColumnKey}
+use Rattle.ft_store.specs.Changes.{shown_value}
+
+abbrev pub shown_cell : ℤ → CellRow → CellKey × Cell
+shown_cell tab row = ((tab, row.docid, row.column), shown_value row.value)
+
+abbrev pub shown_size : ℤ → SizeRow → CellKey × ℤ
+shown_size tab row = ((tab, row.docid, row.column), row.n)
+
+abbrev pub shown_name : ℤ × String Global → ℤ × List ℕ
+shown_name t = (t.0, string_bytes t.1)
+
+abbrev pub shown_column : ℤ → ℤ × String Global → ColumnKey × List ℕ
+shown_column tab c = ((tab, c.0), string_bytes c.1)
+
+abbrev pub shown_skip : ℤ → ℤ → ColumnKey × Unit {0}
+shown_skip tab column = ((tab, column), tt)
+
+abbrev pub shown_note : String Global → List ℕ × List ℕ
+shown_note name = (without_case (string_bytes name), string_bytes name)
+
+abbrev pub shown_list : ℤ → ListRow → ListKey × List Spot
+shown_list tab l = ((tab, string_bytes l.term, l.docid), l.spots.items)
+
+-- an entry: a term, a docid and a place
+abbrev pub Entry : Type 0
+Entry = List ℕ × ℤ × Spot
+
+abbrev pub shown_entry : EntryRow → Entry
+shown_entry e = (string_bytes e.term, e.docid, e.spot)
+
+-- one entry for each place of a list, in its order
+abbrev pub list_entries : ListKey × List Spot → List Entry
+list_entries l = map (λ s. (l.0.1, l.0.2, s)) l.1
+
+abbrev pub entries_of : List (ListKey × List Spot) → List Entry
+entries_of = flat_map list_entries
+
+-- no list is damaged
+abbrev pub AreWhole : List (ListKey × List Spot) → Type 0
+AreWhole = AllByRecursion (λ l. l.1 ≢ [])
+
+abbrev pub SomeDamaged : List (ListKey × List Spot) → Type 0
+SomeDamaged lists = ¬ AreWhole lists

@@ -1,0 +1,21 @@
+//! Rows of full-text tables in an SQL database of their own.
+#![tactic(auto)]
+
+mod fault;
+mod lists;
+mod make;
+mod packed;
+#[cfg(test)]
+mod packed_tests;
+mod read;
+mod rows;
+mod statements;
+mod store;
+#[cfg(test)]
+mod tests;
+mod write;
+
+pub use fault::StoreFault;
+pub use packed::packed_lists;
+pub use rows::{CellRow, EntryRow, RowChange, SizeRow, Spot, TabRow, Value};
+pub use store::Store;

@@ -1,0 +1,110 @@
+//! Queries on the lists of terms.
+ghost use Rattle.std.specs.Prelude.{◌≡◌, ◌≢◌, false, ◌&&◌, [], ◌++◌, map, Err, IsTrue, IfOk, OnOk};
+ghost use Rattle.std.specs.Ordering.{int_eq, is_eq};
+ghost use Rattle.std.specs.FinMap.Entries.{where_key};
+ghost use Rattle.sqlite.specs.State.{HasCleanDisk, Survives};
+ghost use Rattle.sqlite.specs.Held.{state};
+ghost use Rattle.ft_store.specs.Store.{list_key_cmp, name_cmp};
+ghost use Rattle.ft_store.specs.Rows.{value_of};
+ghost use Rattle.ft_store.specs.Found.{found_places};
+ghost use Rattle.ft_store.specs.Shown.{shown_list, shown_entry, list_entries, entries_of, AreWhole, SomeDamaged};
+ghost use Rattle.ft_store.specs.Calls.{IsStoreIfOpen, Keeps};
+
+use crate::fault::StoreFault;
+use crate::packed::unpack;
+use crate::read::select;
+use crate::rows::{EntryRow, Spot};
+use sqlite::{Alter, Connection, Row, params};
+use std::alloc::{AllocError, Global};
+
+/// Where a term stands in a document.
+#[derive(Drop)]
+pub(crate) struct ListRow {
+    term: String,
+    docid: i64,
+    spots: Vec<Spot>,
+}
+
+/// A list, of its row. Damaged bytes are Damaged.
+fn list_row(alloc: Global, row: &Row) -> Result<ListRow, StoreFault>
+    ensures found { IfOk result (λ l. (tab : _) → (shown_list tab l ≡ found_places tab row.now) × ((found_places tab row.now).1 ≢ [])) }
+    ensures damaged { result ≡ Err StoreFault.Damaged → (tab : _) → (found_places tab row.now).1 ≡ [] }
+{
+    let term: String = row.get(0)?;
+    let docid: i64 = row.get(1)?;
+    let list: Vec<u8> = row.get(2)?;
+    let spots = unpack(alloc, list.as_slice())?;
+    Ok(ListRow { term, docid, spots })
+}
+
+fn push_entries(entries: &mut Vec<EntryRow>, list: &ListRow) -> Result<(), AllocError>
+    ensures { (tab : _) → OnOk result (map shown_entry entries.new.items ≡ map shown_entry entries.old.items ++ list_entries (shown_list tab list.now)) }
+{
+    for spot in &list.spots {
+        let term = list.term.clone()?;
+        entries.push(EntryRow {
+            term,
+            docid: list.docid,
+            spot: *spot,
+        })?;
+    }
+    Ok(())
+}
+
+/// The entries of lists, in their order.
+fn entry_rows(alloc: Global, rows: &[Row]) -> Result<Vec<EntryRow>, StoreFault>
+    ensures found { IfOk result (λ entries. (tab : _) → (map shown_entry entries.items ≡ entries_of (map (found_places tab) rows.now)) × AreWhole (map (found_places tab) rows.now)) }
+    ensures damaged { result ≡ Err StoreFault.Damaged → (tab : _) → SomeDamaged (map (found_places tab) rows.now) }
+{
+    let mut entries = Vec::new(alloc);
+    for row in rows {
+        let list = list_row(alloc, row)?;
+        push_entries(&mut entries, &list)?;
+    }
+    Ok(entries)
+}
+
+/// The entries of one term.
+pub(crate) fn term<S: Alter>(
+    conn: &mut Connection<S>,
+    alloc: Global,
+    tab: i64,
+    term: &str,
+) -> Result<Vec<EntryRow>, StoreFault>
+    requires store { IsStoreIfOpen (state S.Store conn.old) }
+    requires settled { (state S.Store conn.old).in_transaction ≡ false }
+    ensures rows { HasCleanDisk (state S.Store conn.new) → IfOk result (λ found. let asked = where_key list_key_cmp (λ k. int_eq tab k.0 && is_eq (name_cmp term.now k.1)) (value_of (state S.Store conn.old).now.trees).lists in (map shown_entry found.items ≡ entries_of asked) × AreWhole asked) }
+    ensures damaged { HasCleanDisk (state S.Store conn.new) → result ≡ Err StoreFault.Damaged → SomeDamaged (where_key list_key_cmp (λ k. int_eq tab k.0 && is_eq (name_cmp term.now k.1)) (value_of (state S.Store conn.old).now.trees).lists) }
+    ensures kept { HasCleanDisk (state S.Store conn.new) → Keeps (state S.Store conn.old) (state S.Store conn.new) }
+    ensures mode { (state S.Store conn.new).in_transaction ≡ false }
+    ensures survives { Survives (state S.Store conn.old) (state S.Store conn.new) (λ _. IsTrue (state S.Store conn.old).is_open → ⊥) }
+{
+    let rows = select(
+        conn,
+        "SELECT term, docid, list FROM posting WHERE tab = ?1 AND term = ?2 ORDER BY tab, term, docid, list",
+        params![tab, term],
+    )?;
+    entry_rows(alloc, rows.as_slice())
+}
+
+/// All entries of a table.
+pub(crate) fn entries<S: Alter>(
+    conn: &mut Connection<S>,
+    alloc: Global,
+    tab: i64,
+) -> Result<Vec<EntryRow>, StoreFault>
+    requires store { IsStoreIfOpen (state S.Store conn.old) }
+    requires settled { (state S.Store conn.old).in_transaction ≡ false }
+    ensures rows { HasCleanDisk (state S.Store conn.new) → IfOk result (λ found. let asked = where_key list_key_cmp (λ k. int_eq tab k.0) (value_of (state S.Store conn.old).now.trees).lists in (map shown_entry found.items ≡ entries_of asked) × AreWhole asked) }
+    ensures damaged { HasCleanDisk (state S.Store conn.new) → result ≡ Err StoreFault.Damaged → SomeDamaged (where_key list_key_cmp (λ k. int_eq tab k.0) (value_of (state S.Store conn.old).now.trees).lists) }
+    ensures kept { HasCleanDisk (state S.Store conn.new) → Keeps (state S.Store conn.old) (state S.Store conn.new) }
+    ensures mode { (state S.Store conn.new).in_transaction ≡ false }
+    ensures survives { Survives (state S.Store conn.old) (state S.Store conn.new) (λ _. IsTrue (state S.Store conn.old).is_open → ⊥) }
+{
+    let rows = select(
+        conn,
+        "SELECT term, docid, list FROM posting WHERE tab = ?1 ORDER BY tab, term, docid, list",
+        params![tab],
+    )?;
+    entry_rows(alloc, rows.as_slice())
+}

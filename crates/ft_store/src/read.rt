@@ -1,0 +1,309 @@
+//! Queries, each with the rows of the store's value that it gives.
+ghost use Rattle.std.specs.Prelude.{◌≡◌, false, ◌&&◌, Err, map, IsTrue, IfOk};
+ghost use Rattle.std.specs.Ordering.{int_eq};
+ghost use Rattle.std.specs.FinMap.Entries.{where_key};
+ghost use Rattle.sqlite.specs.State.{HasCleanDisk, Survives, Shown};
+ghost use Rattle.sqlite.specs.Given.{IsPlain};
+ghost use Rattle.sqlite.specs.Listing.{understood};
+ghost use Rattle.sqlite.specs.Values.{bound};
+ghost use Rattle.sqlite.specs.Held.{state};
+ghost use Rattle.ft_store.specs.Store.{cell_key_cmp, column_key_cmp};
+ghost use Rattle.ft_store.specs.Rows.{value_of};
+ghost use Rattle.ft_store.specs.Found.{found_table, found_column, found_skip, found_cell, found_size, found_note};
+ghost use Rattle.ft_store.specs.Shown.{shown_cell, shown_size, shown_name, shown_column, shown_skip, shown_note};
+ghost use Rattle.ft_store.specs.Calls.{IsStoreIfOpen, Keeps};
+
+use crate::fault::StoreFault;
+use crate::rows::{CellRow, SizeRow, Value};
+use sqlite::types::ValueRef;
+use sqlite::{Alter, Connection, Row, params};
+use std::alloc::Global;
+
+/// The rows that a query gives. It changes nothing.
+pub(crate) fn select<S: Alter>(
+    conn: &mut Connection<S>,
+    sql: &str,
+    params: &[ValueRef<'_>],
+) -> Result<Vec<Row>, StoreFault>
+    requires plain { HasCleanDisk (state S.Store conn.old) → IsTrue (state S.Store conn.old).is_open → IsPlain (understood (state S.Store conn.old).now.schema sql.now) }
+    requires settled { (state S.Store conn.old).in_transaction ≡ false }
+    ensures shown { HasCleanDisk (state S.Store conn.new) → IfOk result (λ rows. Shown sql.now (bound params.now) (state S.Store conn.old) (state S.Store conn.new) rows.items) }
+    ensures kept { HasCleanDisk (state S.Store conn.new) → Keeps (state S.Store conn.old) (state S.Store conn.new) }
+    ensures mode { (state S.Store conn.new).in_transaction ≡ false }
+    ensures whole { ¬ (result ≡ Err StoreFault.Damaged) }
+    ensures survives { Survives (state S.Store conn.old) (state S.Store conn.new) (λ _. IsTrue (state S.Store conn.old).is_open → ⊥) }
+{
+    let _schema = conn.schema();
+    let _settled = conn.is_autocommit();
+    Ok(conn.query_all(sql, params)?)
+}
+
+/// A cell, of its row.
+fn cell_row(row: &Row) -> Result<CellRow, StoreFault>
+    ensures { IfOk result (λ x. (tab : _) → shown_cell tab x ≡ found_cell tab row.now) }
+{
+    let docid: i64 = row.get(0)?;
+    let column: i64 = row.get(1)?;
+    let number: Option<i64> = row.get(2)?;
+    let text: Option<String> = row.get(3)?;
+    let value = match number {
+        Some(number) => Value::Int(number),
+        None => match text {
+            Some(text) => Value::Text(text),
+            None => Value::Null,
+        },
+    };
+    Ok(CellRow {
+        docid,
+        column,
+        value,
+    })
+}
+
+fn cell_rows(alloc: Global, rows: &[Row]) -> Result<Vec<CellRow>, StoreFault>
+    ensures { IfOk result (λ xs. (tab : _) → map (shown_cell tab) xs.items ≡ map (found_cell tab) rows.now) }
+{
+    let mut found = Vec::new(alloc);
+    for row in rows {
+        found.push(cell_row(row)?)?;
+    }
+    Ok(found)
+}
+
+/// The size of a cell, of its row.
+fn size_row(row: &Row) -> Result<SizeRow, StoreFault>
+    ensures { IfOk result (λ x. (tab : _) → shown_size tab x ≡ found_size tab row.now) }
+{
+    let docid: i64 = row.get(0)?;
+    let column: i64 = row.get(1)?;
+    let n: i64 = row.get(2)?;
+    Ok(SizeRow { docid, column, n })
+}
+
+fn size_rows(alloc: Global, rows: &[Row]) -> Result<Vec<SizeRow>, StoreFault>
+    ensures { IfOk result (λ xs. (tab : _) → map (shown_size tab) xs.items ≡ map (found_size tab) rows.now) }
+{
+    let mut found = Vec::new(alloc);
+    for row in rows {
+        found.push(size_row(row)?)?;
+    }
+    Ok(found)
+}
+
+/// A table's number and name, of its row.
+fn name_row(row: &Row) -> Result<(i64, String), StoreFault>
+    ensures { IfOk result (λ x. shown_name x ≡ found_table row.now) }
+{
+    let id: i64 = row.get(0)?;
+    let name: String = row.get(1)?;
+    Ok((id, name))
+}
+
+fn name_rows(alloc: Global, rows: &[Row]) -> Result<Vec<(i64, String)>, StoreFault>
+    ensures { IfOk result (λ xs. map shown_name xs.items ≡ map found_table rows.now) }
+{
+    let mut found = Vec::new(alloc);
+    for row in rows {
+        found.push(name_row(row)?)?;
+    }
+    Ok(found)
+}
+
+/// A column's number and name, of its row.
+fn column_row(row: &Row) -> Result<(i64, String), StoreFault>
+    ensures { IfOk result (λ x. (tab : _) → shown_column tab x ≡ found_column tab row.now) }
+{
+    let column: i64 = row.get(0)?;
+    let name: String = row.get(1)?;
+    Ok((column, name))
+}
+
+fn column_rows(alloc: Global, rows: &[Row]) -> Result<Vec<(i64, String)>, StoreFault>
+    ensures { IfOk result (λ xs. (tab : _) → map (shown_column tab) xs.items ≡ map (found_column tab) rows.now) }
+{
+    let mut found = Vec::new(alloc);
+    for row in rows {
+        found.push(column_row(row)?)?;
+    }
+    Ok(found)
+}
+
+/// A column's number, of its row.
+fn skip_row(row: &Row) -> Result<i64, StoreFault>
+    ensures { IfOk result (λ x. (tab : _) → shown_skip tab x ≡ found_skip tab row.now) }
+{
+    Ok(row.get(0)?)
+}
+
+fn skip_rows(alloc: Global, rows: &[Row]) -> Result<Vec<i64>, StoreFault>
+    ensures { IfOk result (λ xs. (tab : _) → map (shown_skip tab) xs.items ≡ map (found_skip tab) rows.now) }
+{
+    let mut found = Vec::new(alloc);
+    for row in rows {
+        found.push(skip_row(row)?)?;
+    }
+    Ok(found)
+}
+
+/// A noted name, of its row.
+fn note_row(row: &Row) -> Result<String, StoreFault>
+    ensures { IfOk result (λ x. shown_note x ≡ found_note row.now) }
+{
+    Ok(row.get(0)?)
+}
+
+fn note_rows(alloc: Global, rows: &[Row]) -> Result<Vec<String>, StoreFault>
+    ensures { IfOk result (λ xs. map shown_note xs.items ≡ map found_note rows.now) }
+{
+    let mut found = Vec::new(alloc);
+    for row in rows {
+        found.push(note_row(row)?)?;
+    }
+    Ok(found)
+}
+
+/// The tables' numbers and names.
+pub(crate) fn names<S: Alter>(
+    conn: &mut Connection<S>,
+    alloc: Global,
+) -> Result<Vec<(i64, String)>, StoreFault>
+    requires store { IsStoreIfOpen (state S.Store conn.old) }
+    requires settled { (state S.Store conn.old).in_transaction ≡ false }
+    ensures rows { HasCleanDisk (state S.Store conn.new) → IfOk result (λ found. map shown_name found.items ≡ (value_of (state S.Store conn.old).now.trees).tables) }
+    ensures kept { HasCleanDisk (state S.Store conn.new) → Keeps (state S.Store conn.old) (state S.Store conn.new) }
+    ensures mode { (state S.Store conn.new).in_transaction ≡ false }
+    ensures survives { Survives (state S.Store conn.old) (state S.Store conn.new) (λ _. IsTrue (state S.Store conn.old).is_open → ⊥) }
+{
+    let rows = select(
+        conn,
+        "SELECT id, name FROM tab ORDER BY id, name COLLATE BINARY",
+        &[],
+    )?;
+    name_rows(alloc, rows.as_slice())
+}
+
+/// The columns of a table.
+pub(crate) fn columns<S: Alter>(
+    conn: &mut Connection<S>,
+    alloc: Global,
+    tab: i64,
+) -> Result<Vec<(i64, String)>, StoreFault>
+    requires store { IsStoreIfOpen (state S.Store conn.old) }
+    requires settled { (state S.Store conn.old).in_transaction ≡ false }
+    ensures rows { HasCleanDisk (state S.Store conn.new) → IfOk result (λ found. map (shown_column tab) found.items ≡ where_key column_key_cmp (λ k. int_eq tab k.0) (value_of (state S.Store conn.old).now.trees).columns) }
+    ensures kept { HasCleanDisk (state S.Store conn.new) → Keeps (state S.Store conn.old) (state S.Store conn.new) }
+    ensures mode { (state S.Store conn.new).in_transaction ≡ false }
+    ensures survives { Survives (state S.Store conn.old) (state S.Store conn.new) (λ _. IsTrue (state S.Store conn.old).is_open → ⊥) }
+{
+    let rows = select(
+        conn,
+        "SELECT col, name FROM col WHERE tab = ?1 ORDER BY tab, col, name",
+        params![tab],
+    )?;
+    column_rows(alloc, rows.as_slice())
+}
+
+/// The columns of a table that aren't indexed.
+pub(crate) fn skips<S: Alter>(
+    conn: &mut Connection<S>,
+    alloc: Global,
+    tab: i64,
+) -> Result<Vec<i64>, StoreFault>
+    requires store { IsStoreIfOpen (state S.Store conn.old) }
+    requires settled { (state S.Store conn.old).in_transaction ≡ false }
+    ensures rows { HasCleanDisk (state S.Store conn.new) → IfOk result (λ found. map (shown_skip tab) found.items ≡ where_key column_key_cmp (λ k. int_eq tab k.0) (value_of (state S.Store conn.old).now.trees).skipped) }
+    ensures kept { HasCleanDisk (state S.Store conn.new) → Keeps (state S.Store conn.old) (state S.Store conn.new) }
+    ensures mode { (state S.Store conn.new).in_transaction ≡ false }
+    ensures survives { Survives (state S.Store conn.old) (state S.Store conn.new) (λ _. IsTrue (state S.Store conn.old).is_open → ⊥) }
+{
+    let rows = select(
+        conn,
+        "SELECT col FROM skip WHERE tab = ?1 ORDER BY tab, col",
+        params![tab],
+    )?;
+    skip_rows(alloc, rows.as_slice())
+}
+
+/// All cells of a table.
+pub(crate) fn cells<S: Alter>(
+    conn: &mut Connection<S>,
+    alloc: Global,
+    tab: i64,
+) -> Result<Vec<CellRow>, StoreFault>
+    requires store { IsStoreIfOpen (state S.Store conn.old) }
+    requires settled { (state S.Store conn.old).in_transaction ≡ false }
+    ensures rows { HasCleanDisk (state S.Store conn.new) → IfOk result (λ found. map (shown_cell tab) found.items ≡ where_key cell_key_cmp (λ k. int_eq tab k.0) (value_of (state S.Store conn.old).now.trees).cells) }
+    ensures kept { HasCleanDisk (state S.Store conn.new) → Keeps (state S.Store conn.old) (state S.Store conn.new) }
+    ensures mode { (state S.Store conn.new).in_transaction ≡ false }
+    ensures survives { Survives (state S.Store conn.old) (state S.Store conn.new) (λ _. IsTrue (state S.Store conn.old).is_open → ⊥) }
+{
+    let rows = select(
+        conn,
+        "SELECT docid, col, num, txt FROM cell WHERE tab = ?1 ORDER BY tab, docid, col, num, txt",
+        params![tab],
+    )?;
+    cell_rows(alloc, rows.as_slice())
+}
+
+/// The cells of a document.
+pub(crate) fn document<S: Alter>(
+    conn: &mut Connection<S>,
+    alloc: Global,
+    tab: i64,
+    docid: i64,
+) -> Result<Vec<CellRow>, StoreFault>
+    requires store { IsStoreIfOpen (state S.Store conn.old) }
+    requires settled { (state S.Store conn.old).in_transaction ≡ false }
+    ensures rows { HasCleanDisk (state S.Store conn.new) → IfOk result (λ found. map (shown_cell tab) found.items ≡ where_key cell_key_cmp (λ k. int_eq tab k.0 && int_eq docid k.1) (value_of (state S.Store conn.old).now.trees).cells) }
+    ensures kept { HasCleanDisk (state S.Store conn.new) → Keeps (state S.Store conn.old) (state S.Store conn.new) }
+    ensures mode { (state S.Store conn.new).in_transaction ≡ false }
+    ensures survives { Survives (state S.Store conn.old) (state S.Store conn.new) (λ _. IsTrue (state S.Store conn.old).is_open → ⊥) }
+{
+    let rows = select(
+        conn,
+        "SELECT docid, col, num, txt FROM cell WHERE tab = ?1 AND docid = ?2 ORDER BY tab, docid, col, num, txt",
+        params![tab, docid],
+    )?;
+    cell_rows(alloc, rows.as_slice())
+}
+
+/// The sizes of a table's cells.
+pub(crate) fn sizes<S: Alter>(
+    conn: &mut Connection<S>,
+    alloc: Global,
+    tab: i64,
+) -> Result<Vec<SizeRow>, StoreFault>
+    requires store { IsStoreIfOpen (state S.Store conn.old) }
+    requires settled { (state S.Store conn.old).in_transaction ≡ false }
+    ensures rows { HasCleanDisk (state S.Store conn.new) → IfOk result (λ found. map (shown_size tab) found.items ≡ where_key cell_key_cmp (λ k. int_eq tab k.0) (value_of (state S.Store conn.old).now.trees).sizes) }
+    ensures kept { HasCleanDisk (state S.Store conn.new) → Keeps (state S.Store conn.old) (state S.Store conn.new) }
+    ensures mode { (state S.Store conn.new).in_transaction ≡ false }
+    ensures survives { Survives (state S.Store conn.old) (state S.Store conn.new) (λ _. IsTrue (state S.Store conn.old).is_open → ⊥) }
+{
+    let rows = select(
+        conn,
+        "SELECT docid, col, n FROM sizes WHERE tab = ?1 ORDER BY tab, docid, col, n",
+        params![tab],
+    )?;
+    size_rows(alloc, rows.as_slice())
+}
+
+/// The noted names.
+pub(crate) fn noted<S: Alter>(
+    conn: &mut Connection<S>,
+    alloc: Global,
+) -> Result<Vec<String>, StoreFault>
+    requires store { IsStoreIfOpen (state S.Store conn.old) }
+    requires settled { (state S.Store conn.old).in_transaction ≡ false }
+    ensures rows { HasCleanDisk (state S.Store conn.new) → IfOk result (λ found. map shown_note found.items ≡ (value_of (state S.Store conn.old).now.trees).noted) }
+    ensures kept { HasCleanDisk (state S.Store conn.new) → Keeps (state S.Store conn.old) (state S.Store conn.new) }
+    ensures mode { (state S.Store conn.new).in_transaction ≡ false }
+    ensures survives { Survives (state S.Store conn.old) (state S.Store conn.new) (λ _. IsTrue (state S.Store conn.old).is_open → ⊥) }
+{
+    let rows = select(
+        conn,
+        "SELECT name FROM noted ORDER BY name, name COLLATE BINARY",
+        &[],
+    )?;
+    note_rows(alloc, rows.as_slice())
+}

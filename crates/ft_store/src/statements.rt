@@ -1,0 +1,390 @@
+//! The statements that change rows, each with what it makes of the store's value.
+ghost use Rattle.std.specs.Prelude.{◌≡◌, ℕ, [], not, ◌&&◌, unwrap_or, IsTrue, OnOk, Ok, None};
+ghost use Rattle.std.specs.Ordering.{int_cmp, int_eq, eq_by_cmp};
+ghost use Rattle.std.specs.FinMap.Entries.{put, where_key, find};
+ghost use Rattle.sqlite.specs.State.{HasCleanDisk, Survives, ExecutesInside, KeepsCommit};
+ghost use Rattle.sqlite.specs.Held.{state};
+ghost use Rattle.sqlite.specs.Values.{bound};
+ghost use Rattle.sqlite_value.specs.Value.{owned};
+ghost use Rattle.sqlite_value.specs.Keys.{without_case};
+ghost use Rattle.sqlite.specs.declared.types.Value.TheVariants.{Int};
+ghost use Rattle.ft_store.specs.Packed.{spots_in};
+ghost use Rattle.ft_store.specs.Store.{StoreValue, cell_key_cmp, list_key_cmp, column_key_cmp, name_cmp};
+ghost use Rattle.ft_store.specs.Changes.{shown_value, num_of, txt_of};
+ghost use Rattle.ft_store.specs.Calls.{StepsOnOk, AddsOnOk, KeepsLast, LeavesNothing};
+
+use crate::fault::StoreFault;
+use crate::rows::Value;
+use sqlite::types::{ToSql, ValueRef};
+use sqlite::{Alter, Transaction};
+
+/// One statement that changes rows.
+pub(crate) fn run<S: Alter>(
+    tx: &mut Transaction<'_, S>,
+    sql: &str,
+    params: &[ValueRef<'_>],
+) -> Result<(), StoreFault>
+    ensures same_reference { tx.new.conn.ghost_name ≡ tx.old.conn.ghost_name }
+    ensures ran { HasCleanDisk (state S.Store tx.new.conn.now) → IsTrue (state S.Store tx.old.conn.now).in_transaction
+        → OnOk result ((count : ℕ) × ExecutesInside 0 sql.now (bound params.now) (state S.Store tx.old.conn.now) (state S.Store tx.new.conn.now) (Ok count)) }
+    ensures kept { KeepsLast S.Store tx.old.conn.now tx.new.conn.now }
+    ensures survives { LeavesNothing S.Store tx.old.conn.now tx.new.conn.now }
+{
+    let _count = tx.execute(sql, params)?;
+    Ok(())
+}
+
+/// A number as a parameter beside a text.
+fn beside(number: i64, _text: &str) -> ValueRef<'_>
+    ensures { owned result ≡ Int number }
+{
+    ValueRef::Int(number)
+}
+
+/// A number as a parameter beside those of a cell.
+fn beside_value(number: i64, _value: &Value) -> ValueRef<'_>
+    ensures { owned result ≡ Int number }
+{
+    ValueRef::Int(number)
+}
+
+fn number_of(value: &Value) -> ValueRef<'_>
+    ensures { owned result ≡ num_of (shown_value value.now) }
+{
+    match value {
+        Value::Int(number) => ValueRef::Int(*number),
+        _ => ValueRef::Null,
+    }
+}
+
+fn text_of(value: &Value) -> ValueRef<'_>
+    ensures { owned result ≡ txt_of (shown_value value.now) }
+{
+    match value {
+        Value::Text(text) => ValueRef::Text(text.as_bytes()),
+        _ => ValueRef::Null,
+    }
+}
+
+/// Takes a table's name out.
+pub(crate) fn drop_name<S: Alter>(tx: &mut Transaction<'_, S>, tab: i64) -> Result<(), StoreFault>
+    ensures same_reference { tx.new.conn.ghost_name ≡ tx.old.conn.ghost_name }
+    ensures steps { StepsOnOk S.Store tx.old.conn.now tx.new.conn.now result (λ v. record v { tables = where_key int_cmp (λ k. not (int_eq tab k)) v.tables }) }
+    ensures kept { KeepsLast S.Store tx.old.conn.now tx.new.conn.now }
+    ensures survives { LeavesNothing S.Store tx.old.conn.now tx.new.conn.now }
+{
+    run(tx, "DELETE FROM tab WHERE id = ?1", &[tab.to_sql()])
+}
+
+/// Takes the names of a table's columns out.
+pub(crate) fn drop_columns<S: Alter>(
+    tx: &mut Transaction<'_, S>,
+    tab: i64,
+) -> Result<(), StoreFault>
+    ensures same_reference { tx.new.conn.ghost_name ≡ tx.old.conn.ghost_name }
+    ensures steps { StepsOnOk S.Store tx.old.conn.now tx.new.conn.now result (λ v. record v { columns = where_key column_key_cmp (λ k. not (int_eq tab k.0)) v.columns }) }
+    ensures kept { KeepsLast S.Store tx.old.conn.now tx.new.conn.now }
+    ensures survives { LeavesNothing S.Store tx.old.conn.now tx.new.conn.now }
+{
+    run(tx, "DELETE FROM col WHERE tab = ?1", &[tab.to_sql()])
+}
+
+/// Takes a column's name out.
+pub(crate) fn drop_column<S: Alter>(
+    tx: &mut Transaction<'_, S>,
+    tab: i64,
+    column: i64,
+) -> Result<(), StoreFault>
+    ensures same_reference { tx.new.conn.ghost_name ≡ tx.old.conn.ghost_name }
+    ensures steps { StepsOnOk S.Store tx.old.conn.now tx.new.conn.now result (λ v. record v { columns = where_key column_key_cmp (λ k. not (eq_by_cmp column_key_cmp (tab, column) k)) v.columns }) }
+    ensures kept { KeepsLast S.Store tx.old.conn.now tx.new.conn.now }
+    ensures survives { LeavesNothing S.Store tx.old.conn.now tx.new.conn.now }
+{
+    run(
+        tx,
+        "DELETE FROM col WHERE tab = ?1 AND col = ?2",
+        &[tab.to_sql(), column.to_sql()],
+    )
+}
+
+/// Takes out which columns of a table aren't indexed.
+pub(crate) fn drop_skips<S: Alter>(tx: &mut Transaction<'_, S>, tab: i64) -> Result<(), StoreFault>
+    ensures same_reference { tx.new.conn.ghost_name ≡ tx.old.conn.ghost_name }
+    ensures steps { StepsOnOk S.Store tx.old.conn.now tx.new.conn.now result (λ v. record v { skipped = where_key column_key_cmp (λ k. not (int_eq tab k.0)) v.skipped }) }
+    ensures kept { KeepsLast S.Store tx.old.conn.now tx.new.conn.now }
+    ensures survives { LeavesNothing S.Store tx.old.conn.now tx.new.conn.now }
+{
+    run(tx, "DELETE FROM skip WHERE tab = ?1", &[tab.to_sql()])
+}
+
+/// Takes out that a column isn't indexed.
+pub(crate) fn drop_skip<S: Alter>(
+    tx: &mut Transaction<'_, S>,
+    tab: i64,
+    column: i64,
+) -> Result<(), StoreFault>
+    ensures same_reference { tx.new.conn.ghost_name ≡ tx.old.conn.ghost_name }
+    ensures steps { StepsOnOk S.Store tx.old.conn.now tx.new.conn.now result (λ v. record v { skipped = where_key column_key_cmp (λ k. not (eq_by_cmp column_key_cmp (tab, column) k)) v.skipped }) }
+    ensures kept { KeepsLast S.Store tx.old.conn.now tx.new.conn.now }
+    ensures survives { LeavesNothing S.Store tx.old.conn.now tx.new.conn.now }
+{
+    run(
+        tx,
+        "DELETE FROM skip WHERE tab = ?1 AND col = ?2",
+        &[tab.to_sql(), column.to_sql()],
+    )
+}
+
+/// Takes all cells of a table out.
+pub(crate) fn drop_contents<S: Alter>(
+    tx: &mut Transaction<'_, S>,
+    tab: i64,
+) -> Result<(), StoreFault>
+    ensures same_reference { tx.new.conn.ghost_name ≡ tx.old.conn.ghost_name }
+    ensures steps { StepsOnOk S.Store tx.old.conn.now tx.new.conn.now result (λ v. record v { cells = where_key cell_key_cmp (λ k. not (int_eq tab k.0)) v.cells }) }
+    ensures kept { KeepsLast S.Store tx.old.conn.now tx.new.conn.now }
+    ensures survives { LeavesNothing S.Store tx.old.conn.now tx.new.conn.now }
+{
+    run(tx, "DELETE FROM cell WHERE tab = ?1", &[tab.to_sql()])
+}
+
+/// Takes the cells of a document out.
+pub(crate) fn drop_cells<S: Alter>(
+    tx: &mut Transaction<'_, S>,
+    tab: i64,
+    docid: i64,
+) -> Result<(), StoreFault>
+    ensures same_reference { tx.new.conn.ghost_name ≡ tx.old.conn.ghost_name }
+    ensures steps { StepsOnOk S.Store tx.old.conn.now tx.new.conn.now result (λ v. record v { cells = where_key cell_key_cmp (λ k. not (int_eq tab k.0 && int_eq docid k.1)) v.cells }) }
+    ensures kept { KeepsLast S.Store tx.old.conn.now tx.new.conn.now }
+    ensures survives { LeavesNothing S.Store tx.old.conn.now tx.new.conn.now }
+{
+    run(
+        tx,
+        "DELETE FROM cell WHERE tab = ?1 AND docid = ?2",
+        &[tab.to_sql(), docid.to_sql()],
+    )
+}
+
+/// Takes a cell out.
+pub(crate) fn drop_cell<S: Alter>(
+    tx: &mut Transaction<'_, S>,
+    tab: i64,
+    docid: i64,
+    column: i64,
+) -> Result<(), StoreFault>
+    ensures same_reference { tx.new.conn.ghost_name ≡ tx.old.conn.ghost_name }
+    ensures steps { StepsOnOk S.Store tx.old.conn.now tx.new.conn.now result (λ v. record v { cells = where_key cell_key_cmp (λ k. not (eq_by_cmp cell_key_cmp (tab, docid, column) k)) v.cells }) }
+    ensures kept { KeepsLast S.Store tx.old.conn.now tx.new.conn.now }
+    ensures survives { LeavesNothing S.Store tx.old.conn.now tx.new.conn.now }
+{
+    run(
+        tx,
+        "DELETE FROM cell WHERE tab = ?1 AND docid = ?2 AND col = ?3",
+        &[tab.to_sql(), docid.to_sql(), column.to_sql()],
+    )
+}
+
+/// Takes all lists of a table out.
+pub(crate) fn drop_lists<S: Alter>(tx: &mut Transaction<'_, S>, tab: i64) -> Result<(), StoreFault>
+    ensures same_reference { tx.new.conn.ghost_name ≡ tx.old.conn.ghost_name }
+    ensures steps { StepsOnOk S.Store tx.old.conn.now tx.new.conn.now result (λ v. record v { lists = where_key list_key_cmp (λ k. not (int_eq tab k.0)) v.lists }) }
+    ensures kept { KeepsLast S.Store tx.old.conn.now tx.new.conn.now }
+    ensures survives { LeavesNothing S.Store tx.old.conn.now tx.new.conn.now }
+{
+    run(tx, "DELETE FROM posting WHERE tab = ?1", &[tab.to_sql()])
+}
+
+/// Takes a term's list in a document out.
+pub(crate) fn drop_list<S: Alter>(
+    tx: &mut Transaction<'_, S>,
+    tab: i64,
+    term: &str,
+    docid: i64,
+) -> Result<(), StoreFault>
+    ensures same_reference { tx.new.conn.ghost_name ≡ tx.old.conn.ghost_name }
+    ensures steps { StepsOnOk S.Store tx.old.conn.now tx.new.conn.now result (λ v. record v { lists = where_key list_key_cmp (λ k. not (eq_by_cmp list_key_cmp (tab, term.now, docid) k)) v.lists }) }
+    ensures kept { KeepsLast S.Store tx.old.conn.now tx.new.conn.now }
+    ensures survives { LeavesNothing S.Store tx.old.conn.now tx.new.conn.now }
+{
+    run(
+        tx,
+        "DELETE FROM posting WHERE tab = ?1 AND term = ?2 AND docid = ?3",
+        &[beside(tab, term), term.to_sql(), beside(docid, term)],
+    )
+}
+
+/// Takes all sizes of a table out.
+pub(crate) fn drop_sizes<S: Alter>(tx: &mut Transaction<'_, S>, tab: i64) -> Result<(), StoreFault>
+    ensures same_reference { tx.new.conn.ghost_name ≡ tx.old.conn.ghost_name }
+    ensures steps { StepsOnOk S.Store tx.old.conn.now tx.new.conn.now result (λ v. record v { sizes = where_key cell_key_cmp (λ k. not (int_eq tab k.0)) v.sizes }) }
+    ensures kept { KeepsLast S.Store tx.old.conn.now tx.new.conn.now }
+    ensures survives { LeavesNothing S.Store tx.old.conn.now tx.new.conn.now }
+{
+    run(tx, "DELETE FROM sizes WHERE tab = ?1", &[tab.to_sql()])
+}
+
+/// Takes the size of a cell out.
+pub(crate) fn drop_size<S: Alter>(
+    tx: &mut Transaction<'_, S>,
+    tab: i64,
+    docid: i64,
+    column: i64,
+) -> Result<(), StoreFault>
+    ensures same_reference { tx.new.conn.ghost_name ≡ tx.old.conn.ghost_name }
+    ensures steps { StepsOnOk S.Store tx.old.conn.now tx.new.conn.now result (λ v. record v { sizes = where_key cell_key_cmp (λ k. not (eq_by_cmp cell_key_cmp (tab, docid, column) k)) v.sizes }) }
+    ensures kept { KeepsLast S.Store tx.old.conn.now tx.new.conn.now }
+    ensures survives { LeavesNothing S.Store tx.old.conn.now tx.new.conn.now }
+{
+    run(
+        tx,
+        "DELETE FROM sizes WHERE tab = ?1 AND docid = ?2 AND col = ?3",
+        &[tab.to_sql(), docid.to_sql(), column.to_sql()],
+    )
+}
+
+/// Takes a noted name out.
+pub(crate) fn drop_note<S: Alter>(tx: &mut Transaction<'_, S>, name: &str) -> Result<(), StoreFault>
+    ensures same_reference { tx.new.conn.ghost_name ≡ tx.old.conn.ghost_name }
+    ensures steps { StepsOnOk S.Store tx.old.conn.now tx.new.conn.now result (λ v. record v { noted = where_key name_cmp (λ k. not (eq_by_cmp name_cmp (without_case name.now) k)) v.noted }) }
+    ensures kept { KeepsLast S.Store tx.old.conn.now tx.new.conn.now }
+    ensures survives { LeavesNothing S.Store tx.old.conn.now tx.new.conn.now }
+{
+    run(tx, "DELETE FROM noted WHERE name = ?1", &[name.to_sql()])
+}
+
+/// Adds a table's name.
+pub(crate) fn add_name<S: Alter>(
+    tx: &mut Transaction<'_, S>,
+    tab: i64,
+    name: &str,
+) -> Result<(), StoreFault>
+    ensures same_reference { tx.new.conn.ghost_name ≡ tx.old.conn.ghost_name }
+    ensures steps { AddsOnOk S.Store tx.old.conn.now tx.new.conn.now result (λ v. find int_cmp tab v.tables ≡ None) (λ v. record v { tables = put int_cmp tab name.now v.tables }) }
+    ensures kept { KeepsLast S.Store tx.old.conn.now tx.new.conn.now }
+    ensures survives { LeavesNothing S.Store tx.old.conn.now tx.new.conn.now }
+{
+    run(
+        tx,
+        "INSERT INTO tab (id, name) VALUES (?1, ?2)",
+        &[beside(tab, name), name.to_sql()],
+    )
+}
+
+/// Adds a column's name.
+pub(crate) fn add_column<S: Alter>(
+    tx: &mut Transaction<'_, S>,
+    tab: i64,
+    column: i64,
+    name: &str,
+) -> Result<(), StoreFault>
+    ensures same_reference { tx.new.conn.ghost_name ≡ tx.old.conn.ghost_name }
+    ensures steps { AddsOnOk S.Store tx.old.conn.now tx.new.conn.now result (λ v. find column_key_cmp (tab, column) v.columns ≡ None) (λ v. record v { columns = put column_key_cmp (tab, column) name.now v.columns }) }
+    ensures kept { KeepsLast S.Store tx.old.conn.now tx.new.conn.now }
+    ensures survives { LeavesNothing S.Store tx.old.conn.now tx.new.conn.now }
+{
+    run(
+        tx,
+        "INSERT INTO col (tab, col, name) VALUES (?1, ?2, ?3)",
+        &[beside(tab, name), beside(column, name), name.to_sql()],
+    )
+}
+
+/// Adds that a column isn't indexed.
+pub(crate) fn add_skip<S: Alter>(
+    tx: &mut Transaction<'_, S>,
+    tab: i64,
+    column: i64,
+) -> Result<(), StoreFault>
+    ensures same_reference { tx.new.conn.ghost_name ≡ tx.old.conn.ghost_name }
+    ensures steps { AddsOnOk S.Store tx.old.conn.now tx.new.conn.now result (λ v. find column_key_cmp (tab, column) v.skipped ≡ None) (λ v. record v { skipped = put column_key_cmp (tab, column) tt v.skipped }) }
+    ensures kept { KeepsLast S.Store tx.old.conn.now tx.new.conn.now }
+    ensures survives { LeavesNothing S.Store tx.old.conn.now tx.new.conn.now }
+{
+    run(
+        tx,
+        "INSERT INTO skip (tab, col) VALUES (?1, ?2)",
+        &[tab.to_sql(), column.to_sql()],
+    )
+}
+
+/// Adds a cell.
+pub(crate) fn add_cell<S: Alter>(
+    tx: &mut Transaction<'_, S>,
+    tab: i64,
+    docid: i64,
+    column: i64,
+    value: &Value,
+) -> Result<(), StoreFault>
+    ensures same_reference { tx.new.conn.ghost_name ≡ tx.old.conn.ghost_name }
+    ensures steps { AddsOnOk S.Store tx.old.conn.now tx.new.conn.now result (λ v. find cell_key_cmp (tab, docid, column) v.cells ≡ None) (λ v. record v { cells = put cell_key_cmp (tab, docid, column) (shown_value value.now) v.cells }) }
+    ensures kept { KeepsLast S.Store tx.old.conn.now tx.new.conn.now }
+    ensures survives { LeavesNothing S.Store tx.old.conn.now tx.new.conn.now }
+{
+    run(
+        tx,
+        "INSERT INTO cell (tab, docid, col, num, txt) VALUES (?1, ?2, ?3, ?4, ?5)",
+        &[
+            beside_value(tab, value),
+            beside_value(docid, value),
+            beside_value(column, value),
+            number_of(value),
+            text_of(value),
+        ],
+    )
+}
+
+/// Adds a term's packed list in a document.
+pub(crate) fn add_list<'a, S: Alter>(
+    tx: &mut Transaction<'_, S>,
+    tab: i64,
+    term: &'a str,
+    docid: i64,
+    list: &'a [u8],
+) -> Result<(), StoreFault>
+    ensures same_reference { tx.new.conn.ghost_name ≡ tx.old.conn.ghost_name }
+    ensures steps { AddsOnOk S.Store tx.old.conn.now tx.new.conn.now result (λ v. find list_key_cmp (tab, term.now, docid) v.lists ≡ None) (λ v. record v { lists = put list_key_cmp (tab, term.now, docid) (unwrap_or (spots_in list.now) []) v.lists }) }
+    ensures kept { KeepsLast S.Store tx.old.conn.now tx.new.conn.now }
+    ensures survives { LeavesNothing S.Store tx.old.conn.now tx.new.conn.now }
+{
+    run(
+        tx,
+        "INSERT INTO posting (tab, term, docid, list) VALUES (?1, ?2, ?3, ?4)",
+        &[
+            beside(tab, term),
+            term.to_sql(),
+            beside(docid, term),
+            list.to_sql(),
+        ],
+    )
+}
+
+/// Adds the size of a cell.
+pub(crate) fn add_size<S: Alter>(
+    tx: &mut Transaction<'_, S>,
+    tab: i64,
+    docid: i64,
+    column: i64,
+    n: i64,
+) -> Result<(), StoreFault>
+    ensures same_reference { tx.new.conn.ghost_name ≡ tx.old.conn.ghost_name }
+    ensures steps { AddsOnOk S.Store tx.old.conn.now tx.new.conn.now result (λ v. find cell_key_cmp (tab, docid, column) v.sizes ≡ None) (λ v. record v { sizes = put cell_key_cmp (tab, docid, column) n v.sizes }) }
+    ensures kept { KeepsLast S.Store tx.old.conn.now tx.new.conn.now }
+    ensures survives { LeavesNothing S.Store tx.old.conn.now tx.new.conn.now }
+{
+    run(
+        tx,
+        "INSERT INTO sizes (tab, docid, col, n) VALUES (?1, ?2, ?3, ?4)",
+        &[tab.to_sql(), docid.to_sql(), column.to_sql(), n.to_sql()],
+    )
+}
+
+/// Adds a noted name.
+pub(crate) fn add_note<S: Alter>(tx: &mut Transaction<'_, S>, name: &str) -> Result<(), StoreFault>
+    ensures same_reference { tx.new.conn.ghost_name ≡ tx.old.conn.ghost_name }
+    ensures steps { AddsOnOk S.Store tx.old.conn.now tx.new.conn.now result (λ v. find name_cmp (without_case name.now) v.noted ≡ None) (λ v. record v { noted = put name_cmp (without_case name.now) name.now v.noted }) }
+    ensures kept { KeepsLast S.Store tx.old.conn.now tx.new.conn.now }
+    ensures survives { LeavesNothing S.Store tx.old.conn.now tx.new.conn.now }
+{
+    run(tx, "INSERT INTO noted (name) VALUES (?1)", &[name.to_sql()])
+}

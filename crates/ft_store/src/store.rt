@@ -1,0 +1,173 @@
+ghost use Rattle.std.specs.Prelude.{◌≡◌, ◌&&◌, Err, map, vec_len, All, IsTrue, IfOk, OnOk, OnErr};
+ghost use Rattle.std.specs.Ordering.{int_eq, is_eq};
+ghost use Rattle.std.specs.FinMap.Entries.{where_key};
+ghost use Rattle.sqlite.specs.State.{HasCleanDisk, Survives};
+ghost use Rattle.ft_store.specs.Store.{cell_key_cmp, list_key_cmp, name_cmp, nothing_held, all_applied};
+ghost use Rattle.ft_store.specs.Changes.{shown_change, CanApply};
+ghost use Rattle.ft_store.specs.Shown.{shown_cell, shown_size, shown_note, shown_entry, entries_of, AreWhole, SomeDamaged};
+ghost use Rattle.ft_store.specs.Calls.{IsStored, Keeps};
+
+use crate::fault::StoreFault;
+use crate::make::make;
+use crate::rows::{CellRow, EntryRow, RowChange, SizeRow};
+use crate::{lists, read, write};
+use ram_disk::{Ram, open_ram};
+use sqlite::{Alter, Connection, FileStore};
+use std::alloc::Global;
+use std::marker::Model;
+
+/// Rows of full-text tables, in a database that holds nothing else.
+///
+/// What a call says of rows holds where the database is clean and open as the call ends: so far the disk returned what
+/// was written, and nobody else wrote it. Over memory that is always so.
+#[derive(Drop)]
+pub struct Store<S: Alter> {
+    conn: Connection<S>,
+    alloc: Global,
+    rows_read: u64,
+}
+
+impl<S: Alter> Model for Store<S> {
+    ghost use Rattle.ft_store.specs.Kept.{StoreState, store_code, IsKept};
+
+    ghost Value = { StoreState S };
+
+    ghost coded = { store_code S.code };
+
+    ghost view = { λ s. record { held = s.conn; rows_read = s.rows_read } };
+
+    ghost invariant = { λ s. IsKept S.Store s.conn };
+}
+
+impl Store<FileStore<Ram>> {
+    ghost use Rattle.sqlite.specs.Files.{over_files};
+    ghost use Rattle.ft_store.specs.Kept.{shows, value_in};
+
+    /// An empty store in memory, which is clean at all times. An error is want of memory.
+    pub fn open_memory(alloc: Global) -> Result<Store<FileStore<Ram>>, StoreFault>
+        ensures empty { IfOk result (λ store. value_in over_files store ≡ nothing_held) }
+        ensures clean { IfOk result (λ store. HasCleanDisk (shows over_files store)) }
+        ensures unread { IfOk result (λ store. store.rows_read ≡ 0) }
+    {
+        let mut conn = open_ram(alloc)?;
+        make(&mut conn)?;
+        Ok(Store {
+            conn,
+            alloc,
+            rows_read: 0,
+        })
+    }
+}
+
+impl<S: Alter> Store<S> {
+    ghost use Rattle.ft_store.specs.Kept.{shows, value_in, more_rows};
+
+    /// All cells of a table, by rising docid and then column.
+    pub fn cells(&mut self, tab: i64) -> Result<Vec<CellRow>, StoreFault>
+        ensures rows { HasCleanDisk (shows S.Store self.new) → IfOk result (λ found. map (shown_cell tab) found.items ≡ where_key cell_key_cmp (λ k. int_eq tab k.0) (value_in S.Store self.old).cells) }
+        ensures kept { HasCleanDisk (shows S.Store self.new) → Keeps (shows S.Store self.old) (shows S.Store self.new) }
+        ensures survives { Survives (shows S.Store self.old) (shows S.Store self.new) (λ _. IsTrue (shows S.Store self.old).is_open → ⊥) }
+        ensures counted { IfOk result (λ found. self.new.rows_read ≡ more_rows (vec_len found) self.old) }
+        ensures uncounted { OnErr result (self.new.rows_read ≡ self.old.rows_read) }
+    {
+        let found = read::cells(&mut self.conn, self.alloc, tab)?;
+        self.rows_read = self.rows_read.saturating_add(found.len() as u64);
+        Ok(found)
+    }
+
+    /// The cells of one document, by rising column.
+    pub fn document(&mut self, tab: i64, docid: i64) -> Result<Vec<CellRow>, StoreFault>
+        ensures rows { HasCleanDisk (shows S.Store self.new) → IfOk result (λ found. map (shown_cell tab) found.items ≡ where_key cell_key_cmp (λ k. int_eq tab k.0 && int_eq docid k.1) (value_in S.Store self.old).cells) }
+        ensures kept { HasCleanDisk (shows S.Store self.new) → Keeps (shows S.Store self.old) (shows S.Store self.new) }
+        ensures survives { Survives (shows S.Store self.old) (shows S.Store self.new) (λ _. IsTrue (shows S.Store self.old).is_open → ⊥) }
+        ensures counted { IfOk result (λ found. self.new.rows_read ≡ more_rows (vec_len found) self.old) }
+        ensures uncounted { OnErr result (self.new.rows_read ≡ self.old.rows_read) }
+    {
+        let found = read::document(&mut self.conn, self.alloc, tab, docid)?;
+        self.rows_read = self.rows_read.saturating_add(found.len() as u64);
+        Ok(found)
+    }
+
+    /// The entries of one term, by rising docid, then column and position. Damaged where one of its lists is.
+    pub fn term(&mut self, tab: i64, term: &str) -> Result<Vec<EntryRow>, StoreFault>
+        ensures rows { HasCleanDisk (shows S.Store self.new) → IfOk result (λ found. let asked = where_key list_key_cmp (λ k. int_eq tab k.0 && is_eq (name_cmp term.now k.1)) (value_in S.Store self.old).lists in (map shown_entry found.items ≡ entries_of asked) × AreWhole asked) }
+        ensures damaged { HasCleanDisk (shows S.Store self.new) → result ≡ Err StoreFault.Damaged → SomeDamaged (where_key list_key_cmp (λ k. int_eq tab k.0 && is_eq (name_cmp term.now k.1)) (value_in S.Store self.old).lists) }
+        ensures kept { HasCleanDisk (shows S.Store self.new) → Keeps (shows S.Store self.old) (shows S.Store self.new) }
+        ensures survives { Survives (shows S.Store self.old) (shows S.Store self.new) (λ _. IsTrue (shows S.Store self.old).is_open → ⊥) }
+        ensures counted { IfOk result (λ found. self.new.rows_read ≡ more_rows (vec_len found) self.old) }
+        ensures uncounted { OnErr result (self.new.rows_read ≡ self.old.rows_read) }
+    {
+        let found = lists::term(&mut self.conn, self.alloc, tab, term)?;
+        self.rows_read = self.rows_read.saturating_add(found.len() as u64);
+        Ok(found)
+    }
+
+    /// All entries of a table, by term, then docid, column and position. Damaged where one of its lists is.
+    pub fn entries(&mut self, tab: i64) -> Result<Vec<EntryRow>, StoreFault>
+        ensures rows { HasCleanDisk (shows S.Store self.new) → IfOk result (λ found. let asked = where_key list_key_cmp (λ k. int_eq tab k.0) (value_in S.Store self.old).lists in (map shown_entry found.items ≡ entries_of asked) × AreWhole asked) }
+        ensures damaged { HasCleanDisk (shows S.Store self.new) → result ≡ Err StoreFault.Damaged → SomeDamaged (where_key list_key_cmp (λ k. int_eq tab k.0) (value_in S.Store self.old).lists) }
+        ensures kept { HasCleanDisk (shows S.Store self.new) → Keeps (shows S.Store self.old) (shows S.Store self.new) }
+        ensures survives { Survives (shows S.Store self.old) (shows S.Store self.new) (λ _. IsTrue (shows S.Store self.old).is_open → ⊥) }
+        ensures counted { IfOk result (λ found. self.new.rows_read ≡ more_rows (vec_len found) self.old) }
+        ensures uncounted { OnErr result (self.new.rows_read ≡ self.old.rows_read) }
+    {
+        let found = lists::entries(&mut self.conn, self.alloc, tab)?;
+        self.rows_read = self.rows_read.saturating_add(found.len() as u64);
+        Ok(found)
+    }
+
+    /// The sizes of a table's cells, by rising docid and then column.
+    pub fn sizes(&mut self, tab: i64) -> Result<Vec<SizeRow>, StoreFault>
+        ensures rows { HasCleanDisk (shows S.Store self.new) → IfOk result (λ found. map (shown_size tab) found.items ≡ where_key cell_key_cmp (λ k. int_eq tab k.0) (value_in S.Store self.old).sizes) }
+        ensures kept { HasCleanDisk (shows S.Store self.new) → Keeps (shows S.Store self.old) (shows S.Store self.new) }
+        ensures survives { Survives (shows S.Store self.old) (shows S.Store self.new) (λ _. IsTrue (shows S.Store self.old).is_open → ⊥) }
+        ensures counted { IfOk result (λ found. self.new.rows_read ≡ more_rows (vec_len found) self.old) }
+        ensures uncounted { OnErr result (self.new.rows_read ≡ self.old.rows_read) }
+    {
+        let found = read::sizes(&mut self.conn, self.alloc, tab)?;
+        self.rows_read = self.rows_read.saturating_add(found.len() as u64);
+        Ok(found)
+    }
+
+    /// The noted names, in the order of their small letters.
+    pub fn noted(&mut self) -> Result<Vec<String>, StoreFault>
+        ensures rows { HasCleanDisk (shows S.Store self.new) → IfOk result (λ found. map shown_note found.items ≡ (value_in S.Store self.old).noted) }
+        ensures kept { HasCleanDisk (shows S.Store self.new) → Keeps (shows S.Store self.old) (shows S.Store self.new) }
+        ensures survives { Survives (shows S.Store self.old) (shows S.Store self.new) (λ _. IsTrue (shows S.Store self.old).is_open → ⊥) }
+        ensures counted { IfOk result (λ found. self.new.rows_read ≡ more_rows (vec_len found) self.old) }
+        ensures uncounted { OnErr result (self.new.rows_read ≡ self.old.rows_read) }
+    {
+        let found = read::noted(&mut self.conn, self.alloc)?;
+        self.rows_read = self.rows_read.saturating_add(found.len() as u64);
+        Ok(found)
+    }
+
+    /// Makes all changes, in their order, or none.
+    pub fn change(&mut self, changes: &[RowChange]) -> Result<(), StoreFault>
+        requires { All CanApply changes.now }
+        ensures all { HasCleanDisk (shows S.Store self.new) → OnOk result (value_in S.Store self.new ≡ all_applied (map shown_change changes.now) (value_in S.Store self.old)) }
+        ensures none { HasCleanDisk (shows S.Store self.new) → OnErr result (Keeps (shows S.Store self.old) (shows S.Store self.new)) }
+        ensures unread { self.new.rows_read ≡ self.old.rows_read }
+
+        // A crash leaves what it could leave before, or a store with all changes made.
+        ensures crash { Survives (shows S.Store self.old) (shows S.Store self.new)
+            (λ db. IsTrue (shows S.Store self.old).is_open → IsStored db (all_applied (map shown_change changes.now) (value_in S.Store self.old))) }
+    {
+        write::change(&mut self.conn, self.alloc, changes)
+    }
+
+    /// How many rows the reads gave so far. It stays at its greatest value.
+    pub fn rows_read(&self) -> u64
+        ensures { result ≡ self.now.rows_read }
+    {
+        self.rows_read
+    }
+
+    /// The database as it stands.
+    pub fn into_connection(self) -> Connection<S>
+        ensures { result ≡ self.held }
+    {
+        let Store { conn, .. } = self;
+        conn
+    }
+}

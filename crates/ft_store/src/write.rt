@@ -1,0 +1,269 @@
+//! Row changes, all in one transaction.
+ghost use Rattle.std.specs.Prelude.{◌≡◌, false, ℕ, ℤ, [], pos, map, unwrap_or, string_bytes, All, IsTrue, OnOk, OnErr};
+ghost use Rattle.std.specs.Ordering.{int_cmp};
+ghost use Rattle.std.specs.List.{enumerate_from};
+ghost use Rattle.std.specs.FinMap.Entries.{put, find};
+ghost use Rattle.sqlite.specs.State.{HasCleanDisk, Survives};
+ghost use Rattle.sqlite.specs.Held.{state};
+ghost use Rattle.sqlite_value.specs.Keys.{without_case};
+ghost use Rattle.ft_store.specs.Packed.{CanPack, spots_in};
+ghost use Rattle.ft_store.specs.Store.{StoreValue, cell_key_cmp, list_key_cmp, column_key_cmp, name_cmp, without_index, without_rows, with_columns, with_skipped, AddTable, applied, all_applied};
+ghost use Rattle.ft_store.specs.Rows.{value_of};
+ghost use Rattle.ft_store.specs.Changes.{shown_value, shown_change, CanApply};
+ghost use Rattle.ft_store.specs.Calls.{StepsOnOk, StepsIfOpen, KeepsLast, LeavesNothing, IsStore, IsStored, IsStoreIfOpen, Keeps};
+
+use crate::fault::StoreFault;
+use crate::packed::pack;
+use crate::rows::{RowChange, Spot, Value};
+use crate::statements::{
+    add_cell, add_column, add_list, add_name, add_note, add_size, add_skip, drop_cell, drop_cells,
+    drop_column, drop_columns, drop_contents, drop_list, drop_lists, drop_name, drop_note,
+    drop_size, drop_sizes, drop_skip, drop_skips,
+};
+use sqlite::{Alter, Connection, Transaction};
+use std::alloc::Global;
+
+/// Puts a column's name.
+fn put_column<S: Alter>(
+    tx: &mut Transaction<'_, S>,
+    tab: i64,
+    column: i64,
+    name: &str,
+) -> Result<(), StoreFault>
+    ensures same_reference { tx.new.conn.ghost_name ≡ tx.old.conn.ghost_name }
+    ensures steps { StepsOnOk S.Store tx.old.conn.now tx.new.conn.now result (λ v. record v { columns = put column_key_cmp (tab, column) name.now v.columns }) }
+    ensures kept { KeepsLast S.Store tx.old.conn.now tx.new.conn.now }
+    ensures survives { LeavesNothing S.Store tx.old.conn.now tx.new.conn.now }
+{
+    drop_column(tx, tab, column)?;
+    add_column(tx, tab, column, name)
+}
+
+/// Puts that a column isn't indexed.
+fn put_skip<S: Alter>(tx: &mut Transaction<'_, S>, tab: i64, column: i64) -> Result<(), StoreFault>
+    ensures same_reference { tx.new.conn.ghost_name ≡ tx.old.conn.ghost_name }
+    ensures steps { StepsOnOk S.Store tx.old.conn.now tx.new.conn.now result (λ v. record v { skipped = put column_key_cmp (tab, column) tt v.skipped }) }
+    ensures kept { KeepsLast S.Store tx.old.conn.now tx.new.conn.now }
+    ensures survives { LeavesNothing S.Store tx.old.conn.now tx.new.conn.now }
+{
+    drop_skip(tx, tab, column)?;
+    add_skip(tx, tab, column)
+}
+
+/// Puts a cell.
+fn put_cell<S: Alter>(
+    tx: &mut Transaction<'_, S>,
+    tab: i64,
+    docid: i64,
+    column: i64,
+    value: &Value,
+) -> Result<(), StoreFault>
+    ensures same_reference { tx.new.conn.ghost_name ≡ tx.old.conn.ghost_name }
+    ensures steps { StepsOnOk S.Store tx.old.conn.now tx.new.conn.now result (λ v. record v { cells = put cell_key_cmp (tab, docid, column) (shown_value value.now) v.cells }) }
+    ensures kept { KeepsLast S.Store tx.old.conn.now tx.new.conn.now }
+    ensures survives { LeavesNothing S.Store tx.old.conn.now tx.new.conn.now }
+{
+    drop_cell(tx, tab, docid, column)?;
+    add_cell(tx, tab, docid, column, value)
+}
+
+/// Puts a term's packed list in a document.
+fn put_list<'a, S: Alter>(
+    tx: &mut Transaction<'_, S>,
+    tab: i64,
+    term: &'a str,
+    docid: i64,
+    list: &'a [u8],
+) -> Result<(), StoreFault>
+    ensures same_reference { tx.new.conn.ghost_name ≡ tx.old.conn.ghost_name }
+    ensures steps { StepsOnOk S.Store tx.old.conn.now tx.new.conn.now result (λ v. record v { lists = put list_key_cmp (tab, term.now, docid) (unwrap_or (spots_in list.now) []) v.lists }) }
+    ensures kept { KeepsLast S.Store tx.old.conn.now tx.new.conn.now }
+    ensures survives { LeavesNothing S.Store tx.old.conn.now tx.new.conn.now }
+{
+    drop_list(tx, tab, term, docid)?;
+    add_list(tx, tab, term, docid, list)
+}
+
+/// Puts the size of a cell.
+fn put_size<S: Alter>(
+    tx: &mut Transaction<'_, S>,
+    tab: i64,
+    docid: i64,
+    column: i64,
+    n: i64,
+) -> Result<(), StoreFault>
+    ensures same_reference { tx.new.conn.ghost_name ≡ tx.old.conn.ghost_name }
+    ensures steps { StepsOnOk S.Store tx.old.conn.now tx.new.conn.now result (λ v. record v { sizes = put cell_key_cmp (tab, docid, column) n v.sizes }) }
+    ensures kept { KeepsLast S.Store tx.old.conn.now tx.new.conn.now }
+    ensures survives { LeavesNothing S.Store tx.old.conn.now tx.new.conn.now }
+{
+    drop_size(tx, tab, docid, column)?;
+    add_size(tx, tab, docid, column, n)
+}
+
+/// Puts a noted name.
+fn put_note<S: Alter>(tx: &mut Transaction<'_, S>, name: &str) -> Result<(), StoreFault>
+    ensures same_reference { tx.new.conn.ghost_name ≡ tx.old.conn.ghost_name }
+    ensures steps { StepsOnOk S.Store tx.old.conn.now tx.new.conn.now result (λ v. record v { noted = put name_cmp (without_case name.now) name.now v.noted }) }
+    ensures kept { KeepsLast S.Store tx.old.conn.now tx.new.conn.now }
+    ensures survives { LeavesNothing S.Store tx.old.conn.now tx.new.conn.now }
+{
+    drop_note(tx, name)?;
+    add_note(tx, name)
+}
+
+/// Puts a term's places in a document.
+fn put_entries<S: Alter>(
+    tx: &mut Transaction<'_, S>,
+    alloc: Global,
+    tab: i64,
+    term: &str,
+    docid: i64,
+    spots: &[Spot],
+) -> Result<(), StoreFault>
+    requires { CanPack spots.now }
+    ensures same_reference { tx.new.conn.ghost_name ≡ tx.old.conn.ghost_name }
+    ensures steps { StepsOnOk S.Store tx.old.conn.now tx.new.conn.now result (λ v. record v { lists = put list_key_cmp (tab, term.now, docid) spots.now v.lists }) }
+    ensures kept { KeepsLast S.Store tx.old.conn.now tx.new.conn.now }
+    ensures survives { LeavesNothing S.Store tx.old.conn.now tx.new.conn.now }
+{
+    let list = pack(alloc, spots)?;
+    put_list(tx, tab, term, docid, list.as_slice())
+}
+
+/// Takes all index rows of a table out.
+fn clear_index<S: Alter>(tx: &mut Transaction<'_, S>, tab: i64) -> Result<(), StoreFault>
+    ensures same_reference { tx.new.conn.ghost_name ≡ tx.old.conn.ghost_name }
+    ensures steps { StepsOnOk S.Store tx.old.conn.now tx.new.conn.now result (λ v. without_index tab v) }
+    ensures kept { KeepsLast S.Store tx.old.conn.now tx.new.conn.now }
+    ensures survives { LeavesNothing S.Store tx.old.conn.now tx.new.conn.now }
+{
+    drop_lists(tx, tab)?;
+    drop_sizes(tx, tab)
+}
+
+/// Takes all rows of a table out.
+fn clear_rows<S: Alter>(tx: &mut Transaction<'_, S>, tab: i64) -> Result<(), StoreFault>
+    ensures same_reference { tx.new.conn.ghost_name ≡ tx.old.conn.ghost_name }
+    ensures steps { StepsOnOk S.Store tx.old.conn.now tx.new.conn.now result (λ v. without_rows tab v) }
+    ensures kept { KeepsLast S.Store tx.old.conn.now tx.new.conn.now }
+    ensures survives { LeavesNothing S.Store tx.old.conn.now tx.new.conn.now }
+{
+    clear_index(tx, tab)?;
+    drop_contents(tx, tab)?;
+    drop_skips(tx, tab)?;
+    drop_columns(tx, tab)?;
+    drop_name(tx, tab)
+}
+
+/// Puts the names of a table's columns, which are numbered from 0.
+fn put_columns<S: Alter>(
+    tx: &mut Transaction<'_, S>,
+    tab: i64,
+    columns: &[String],
+) -> Result<(), StoreFault>
+    ensures same_reference { tx.new.conn.ghost_name ≡ tx.old.conn.ghost_name }
+    ensures steps { StepsIfOpen S.Store tx.old.conn.now tx.new.conn.now result (λ v. record v { columns = with_columns tab (enumerate_from 0 (map string_bytes columns.now)) v.columns }) }
+    ensures kept { KeepsLast S.Store tx.old.conn.now tx.new.conn.now }
+    ensures survives { LeavesNothing S.Store tx.old.conn.now tx.new.conn.now }
+{
+    for (at, name) in columns.iter().enumerate() {
+        put_column(tx, tab, at as i64, name.as_str())?;
+    }
+    Ok(())
+}
+
+/// Puts which columns of a table aren't indexed.
+fn put_skips<S: Alter>(
+    tx: &mut Transaction<'_, S>,
+    tab: i64,
+    skipped: &[i64],
+) -> Result<(), StoreFault>
+    ensures same_reference { tx.new.conn.ghost_name ≡ tx.old.conn.ghost_name }
+    ensures steps { StepsIfOpen S.Store tx.old.conn.now tx.new.conn.now result (λ v. record v { skipped = with_skipped tab skipped.now v.skipped }) }
+    ensures kept { KeepsLast S.Store tx.old.conn.now tx.new.conn.now }
+    ensures survives { LeavesNothing S.Store tx.old.conn.now tx.new.conn.now }
+{
+    for column in skipped {
+        put_skip(tx, tab, *column)?;
+    }
+    Ok(())
+}
+
+/// Adds a table in place of all rows of its number.
+fn add_table<S: Alter>(
+    tx: &mut Transaction<'_, S>,
+    tab: i64,
+    name: &str,
+    columns: &[String],
+    skipped: &[i64],
+) -> Result<(), StoreFault>
+    ensures same_reference { tx.new.conn.ghost_name ≡ tx.old.conn.ghost_name }
+    ensures steps { StepsOnOk S.Store tx.old.conn.now tx.new.conn.now result (λ v. applied (AddTable tab name.now (map string_bytes columns.now) skipped.now) v) }
+    ensures kept { KeepsLast S.Store tx.old.conn.now tx.new.conn.now }
+    ensures survives { LeavesNothing S.Store tx.old.conn.now tx.new.conn.now }
+{
+    clear_rows(tx, tab)?;
+    add_name(tx, tab, name)?;
+    put_columns(tx, tab, columns)?;
+    put_skips(tx, tab, skipped)
+}
+
+/// Makes one row change.
+fn apply<S: Alter>(
+    tx: &mut Transaction<'_, S>,
+    alloc: Global,
+    change: &RowChange,
+) -> Result<(), StoreFault>
+    requires { CanApply change.now }
+    ensures same_reference { tx.new.conn.ghost_name ≡ tx.old.conn.ghost_name }
+    ensures steps { StepsOnOk S.Store tx.old.conn.now tx.new.conn.now result (λ v. applied (shown_change change.now) v) }
+    ensures kept { KeepsLast S.Store tx.old.conn.now tx.new.conn.now }
+    ensures survives { LeavesNothing S.Store tx.old.conn.now tx.new.conn.now }
+{
+    match change {
+        RowChange::AddTable(tab, name, columns, skipped) => add_table(
+            tx,
+            *tab,
+            name.as_str(),
+            columns.as_slice(),
+            skipped.as_slice(),
+        ),
+        RowChange::DropTable(tab) => clear_rows(tx, *tab),
+        RowChange::PutCell(tab, docid, column, value) => put_cell(tx, *tab, *docid, *column, value),
+        RowChange::DropCells(tab, docid) => drop_cells(tx, *tab, *docid),
+        RowChange::PutEntries(tab, term, docid, spots) => {
+            put_entries(tx, alloc, *tab, term.as_str(), *docid, spots.as_slice())
+        }
+        RowChange::DropEntries(tab, term, docid) => drop_list(tx, *tab, term.as_str(), *docid),
+        RowChange::PutSize(tab, docid, column, n) => put_size(tx, *tab, *docid, *column, *n),
+        RowChange::DropSize(tab, docid, column) => drop_size(tx, *tab, *docid, *column),
+        RowChange::ClearIndex(tab) => clear_index(tx, *tab),
+        RowChange::Note(name) => put_note(tx, name.as_str()),
+    }
+}
+
+/// Makes all changes, in their order, or none.
+pub(crate) fn change<S: Alter>(
+    conn: &mut Connection<S>,
+    alloc: Global,
+    changes: &[RowChange],
+) -> Result<(), StoreFault>
+    requires settled { (state S.Store conn.old).in_transaction ≡ false }
+    requires store { IsStoreIfOpen (state S.Store conn.old) }
+    requires packable { All CanApply changes.now }
+    ensures all { HasCleanDisk (state S.Store conn.new) → OnOk result (IsStore (state S.Store conn.new).now
+        × (value_of (state S.Store conn.new).now.trees ≡ all_applied (map shown_change changes.now) (value_of (state S.Store conn.old).now.trees))) }
+    ensures none { HasCleanDisk (state S.Store conn.new) → OnErr result (Keeps (state S.Store conn.old) (state S.Store conn.new)) }
+    ensures mode { (state S.Store conn.new).in_transaction ≡ false }
+    ensures crash { Survives (state S.Store conn.old) (state S.Store conn.new)
+        (λ db. IsTrue (state S.Store conn.old).is_open → IsStored db (all_applied (map shown_change changes.now) (value_of (state S.Store conn.old).now.trees))) }
+{
+    let _settled = conn.is_autocommit();
+    let mut tx = conn.transaction();
+    for change in changes {
+        apply(&mut tx, alloc, change)?;
+    }
+    tx.commit()?;
+    Ok(())
+}
