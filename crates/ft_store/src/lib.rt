@@ -5,14 +5,10 @@ mod fault;
 mod lists;
 mod make;
 mod packed;
-#[cfg(test)]
-mod packed_tests;
 mod read;
 mod rows;
 mod statements;
 mod store;
-#[cfg(test)]
-mod tests;
 mod write;
 
 pub use fault::StoreFault;

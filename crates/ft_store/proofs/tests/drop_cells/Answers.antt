@@ -1,6 +1,0 @@
-use Rattle.std.proofs.Common.{rules}
-use Rattle.ft_store.proofs.ApplyLemmas.{one_can_apply}
-use Rattle.ft_store.proofs.tests.drop_cells.Goals as goal
-
-pub change-requires : goal.change-requires
-change-requires c = search (rules, one_can_apply)
