@@ -16,7 +16,7 @@ ghost use Rattle.ft_main.specs.Answers.{told_by, told_result};
 use crate::pieces::pieces_of;
 use crate::statement::{Statement, statement_in};
 use ft_index::{Fault, PlainTables};
-use shell_text::words::{LexFault, SqlWord, sql_words};
+use shell_text::{LexFault, SqlWord, sql_words};
 use std::alloc::{AllocError, Global};
 use std::fmt::Write;
 

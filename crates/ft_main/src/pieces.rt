@@ -4,7 +4,7 @@ ghost use Rattle.shell_text.specs.Words.{words_of};
 ghost use Rattle.ft_main.specs.Statements as forms;
 ghost use Rattle.ft_main.specs.Pieces.{spelled_as, plain};
 
-use shell_text::words::{SqlKind, SqlWord, words_on_characters};
+use shell_text::{SqlKind, SqlWord, words_on_characters};
 use std::alloc::{AllocError, Global};
 
 /// A word and its text, with the marks of a literal.

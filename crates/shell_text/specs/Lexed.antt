@@ -1,4 +1,5 @@
--- What a splitter keeps of the text that it has read, so that no byte is read twice.
+-- What a splitter keeps of the text that it has read, so that no byte is read twice. All of it is our own choice: what an input
+-- means stands in Units, without any of this.
 use Rattle.std.specs.Prelude.{ℕ, ◌+◌, ◌<◌, ◌≤◌, ◌≡◌, ◌==◌, Bool, true, false, List, [], ◌∷◌, ◌++◌, length, drop, Option, Some, None, unwrap_or, IsCharBoundary, if◌then◌else◌}
 use Rattle.std.specs.List.{list_any}
 use Rattle.shell_text.specs.Words.{Piece, ends_line, first_byte, is_gap, is_open, onto_piece, pieces_from, pieces_of, text_of}
@@ -55,6 +56,7 @@ abbrev pub is_semicolon : SqlKind → ℕ → Bool
 is_semicolon kinds.Symbol b = b == 0x3B
 is_semicolon _ b = false
 
+-- whether the next byte begins a piece
 abbrev pub is_between : Place → Bool
 is_between Between = true
 is_between _ = false

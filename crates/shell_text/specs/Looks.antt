@@ -1,4 +1,4 @@
--- What clauses see of settings.
+-- What clauses see of settings ("Command Line Shell For SQLite", section "Changing Output Formats").
 use Rattle.std.specs.Prelude.{ℕ, List, Option, Some, None, string_bytes}
 use Rattle.std.specs.declared.string.String.{String}
 use Rattle.shell_text.specs.Print.{Look, separator_of}
@@ -10,6 +10,7 @@ abbrev pub separator_in : {A : Type 0} → Mode → Option (String A) → List �
 separator_in m None = separator_of m
 separator_in m (Some text) = string_bytes text
 
+-- settings as what they say
 abbrev pub look_of : Inside → Look
 look_of s = record {
   mode = s.mode;

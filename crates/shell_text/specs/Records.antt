@@ -1,4 +1,5 @@
--- Records of CSV, as the `csv` crate reads them (RFC 4180, with any ASCII delimiter).
+-- Records of CSV, as the `csv` crate reads them: RFC 4180, section 2, with any ASCII delimiter. "Command Line Shell For SQLite",
+-- section "Importing files as CSV or other formats", reads such files. That they are UTF-8 is our own choice.
 use Rattle.std.specs.Prelude.{ℕ, ◌≡◌, ◌⊎◌, false, List}
 use Rattle.std.specs.List.{list_all}
 use Rattle.std.specs.Str.{is_utf8}
@@ -6,7 +7,7 @@ use Rattle.csv.specs.Reading.{AreRecords, default_config, strip_bom}
 use Rattle.csv.specs.declared.parser.Config.{Config}
 use Rattle.csv.specs.declared.parser.State.TheVariants as st
 
--- how records are read: between quotation marks as the crate does, with this delimiter
+-- how records are read: between quotation marks as the crate does, with this delimiter (RFC 4180, section 2, rules 4 to 7)
 abbrev pub csv_reader : ℕ → Config
 csv_reader delimiter = record default_config { delimiter = delimiter }
 

@@ -1,4 +1,5 @@
--- What a splitter is seen as, and what its calls do.
+-- What a splitter is seen as, and what its calls do. The units are those of Units ("Command Line Shell For SQLite", section "Line
+-- Structure"); how a splitter is fed, and what it keeps after a fault, is our own choice.
 use Rattle.std.specs.Prelude.{ℕ, ◌≡◌, ◌==◌, Bool, true, false, ⊤, List, [], ◌∷◌, ◌++◌, Option, Some, None, Result, Ok, Err, option_map, string_bytes}
 use Rattle.std.specs.List.{list_any}
 use Rattle.std.specs.Str.{is_utf8}
@@ -21,6 +22,7 @@ pub record Splitting : Type 0 where
 abbrev pub without_ended : Reading → Reading
 without_ended r = record r { first = (tail_in r).0; block = option_map (λ _. text_of (tail_in r).1) r.block }
 
+-- a unit as a member of the input
 abbrev pub member_as : UnitKind → ℕ → List ℕ → Member
 member_as kind.Sql line text = Sql line text
 member_as kind.Dot line text = Dot line text
@@ -28,6 +30,7 @@ member_as kind.Dot line text = Dot line text
 abbrev pub member_of_unit : SeenUnit → Member
 member_of_unit u = member_as u.kind u.line (string_bytes u.text)
 
+-- whether a line of this role is taken
 abbrev pub IsAccepted : Role → Type 0
 IsAccepted (Refused why) = ⊥
 IsAccepted _ = ⊤
@@ -38,6 +41,7 @@ IsBadText line fault.NotUtf8 = is_utf8 line ≡ false
 IsBadText line fault.HasNul = (is_utf8 line ≡ true) × (list_any (λ b. b == 0) line ≡ true)
 IsBadText line _ = ⊥
 
+-- the role of a line that is taken: a dot-command, or a line of the block
 abbrev pub role_as : Bool → Role
 role_as true = Command
 role_as false = Joins

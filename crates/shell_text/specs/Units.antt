@@ -1,4 +1,7 @@
 -- The units of a shell's input. Each block of lines is read whole.
+-- The rules are those of "Command Line Shell For SQLite", section "Line Structure": statements end with a semicolon and may go
+-- over lines, a dot-command is one line that begins with a full stop, does not stand inside a statement and knows no comments.
+-- Own choice: the largest size of a statement, which lines are refused, what is left open at the end, and the numbers of lines.
 use Rattle.std.specs.Prelude.{ℕ, ◌+◌, ◌-◌, ◌^◌, min, nat_lt, Bool, not, ◌==◌, ◌&&◌, List, [], ◌∷◌, ◌++◌, length, drop, count_by, Option, Some, None, is_some, unwrap_or, if◌then◌else◌}
 use Rattle.std.specs.List.{list_any, list_all, onto_first, prefix_len, take_while}
 use Rattle.std.specs.Str.{is_utf8}
@@ -7,17 +10,16 @@ use Rattle.shell_text.specs.Words.{Piece, first_byte, is_gap, is_open, is_symbol
 use Rattle.shell_text.specs.declared.units.SplitFault.{SplitFault}
 use Rattle.shell_text.specs.declared.units.SplitFault.TheVariants as fault
 
--- ---- lines
-
 -- the parts that line feeds end, and what follows the last of them, if anything does; a line keeps its carriage return
 abbrev pub lines_of : List ℕ → List (List ℕ)
 lines_of [] = []
 lines_of (b ∷ rest) = if b == 0x0A then [] ∷ lines_of rest else onto_first b (lines_of rest)
 
+-- how many lines end in a text
 abbrev pub line_feeds : List ℕ → ℕ
 line_feeds text = count_by (λ b. b == 0x0A) text
 
--- a line's number, which stops at the largest
+-- a line's number, which stops at the largest (own choice)
 abbrev pub numbered : ℕ → ℕ
 numbered n = min n (2 ^ 64 - 1)
 
@@ -25,16 +27,13 @@ numbered n = min n (2 ^ 64 - 1)
 abbrev pub line_behind : ℕ → List ℕ → ℕ
 line_behind n text = numbered (n + line_feeds text)
 
--- ---- members
-
 -- what the input is made of: units, and faults in the place of units, each with its line
 pub data Member : Type 0 where
   Sql : (line : ℕ) (text : List ℕ) → Member
   Dot : (line : ℕ) (text : List ℕ) → Member
   Fault : (line : ℕ) (fault : SplitFault) → Member
 
--- ---- a block of lines
-
+-- a semicolon outside literals, quoted names and comments ends a statement (section "Line Structure")
 abbrev pub ends_statement : Piece → Bool
 ends_statement p = is_symbol_kind p.kind && next_is (λ b. b == 0x3B) (first_byte p.text)
 
@@ -43,9 +42,11 @@ abbrev pub parts_of : List Piece → List (List Piece)
 parts_of [] = [] ∷ []
 parts_of (p ∷ ps) = if ends_statement p then (p ∷ []) ∷ parts_of ps else onto_first p (parts_of ps)
 
+-- the white space and comments before the first word
 abbrev pub gaps_before : List Piece → List Piece
 gaps_before ps = take_while is_gap ps
 
+-- the first word and what follows it
 abbrev pub from_first_word : List Piece → List Piece
 from_first_word ps = drop (prefix_len is_gap ps) ps
 
@@ -53,10 +54,11 @@ from_first_word ps = drop (prefix_len is_gap ps) ps
 abbrev pub line_of : ℕ → List Piece → ℕ
 line_of n ps = line_behind n (text_of (gaps_before ps))
 
+-- a statement goes from its first word on, and has the line of that word (own choice)
 abbrev pub unit_of : ℕ → List Piece → Member
 unit_of n ps = Sql (line_of n ps) (text_of (from_first_word ps))
 
--- the unit of a part that ends with a semicolon, if it has another word
+-- the unit of a part that ends with a semicolon, if it has another word: a statement without words is none (own choice)
 abbrev pub ended_unit : ℕ → List Piece → List Member
 ended_unit n ps = if nat_lt 1 (count_by is_word ps) then unit_of n ps ∷ [] else []
 
@@ -72,8 +74,7 @@ tail_of n [] = (n, [])
 tail_of n (last ∷ []) = (n, last)
 tail_of n (part ∷ next ∷ more) = tail_of (line_behind n (text_of part)) (next ∷ more)
 
--- ---- a block that is being read
-
+-- a block that is being read
 pub record Reading : Type 0 where
   -- the number of the line that comes next
   pub line : ℕ
@@ -82,9 +83,11 @@ pub record Reading : Type 0 where
   -- the lines since the last refused line or dot-command, joined by line feeds, if there is one
   pub block : Option (List ℕ)
 
+-- before the first line, which has number 1
 abbrev pub start : Reading
 start = record { line = 1; first = 1; block = None }
 
+-- the parts of the block
 abbrev pub parts_in : Reading → List (List Piece)
 parts_in r = parts_of (pieces_of (unwrap_or r.block []))
 
@@ -92,6 +95,7 @@ parts_in r = parts_of (pieces_of (unwrap_or r.block []))
 abbrev pub units_in : Reading → List Member
 units_in r = ended_units r.first (parts_in r)
 
+-- what follows the last semicolon of the block, and the line on which it begins
 abbrev pub tail_in : Reading → ℕ × List Piece
 tail_in r = tail_of r.first (parts_in r)
 
@@ -99,11 +103,11 @@ tail_in r = tail_of r.first (parts_in r)
 abbrev pub is_idle : Reading → Bool
 is_idle r = list_all is_gap (tail_in r).1
 
+-- the pending text: what follows the last statement, or nothing where that is idle
 abbrev pub pending_in : Reading → List ℕ
 pending_in r = if is_idle r then [] else text_of (tail_in r).1
 
--- ---- a line
-
+-- how many bytes a statement may have, as long as it is pending (own choice)
 abbrev pub most_bytes : ℕ
 most_bytes = 1000000
 
@@ -117,6 +121,8 @@ pub data Role : Type 0 where
 abbrev pub size_with : Reading → List ℕ → ℕ
 size_with r line = (if is_idle r then 0 else length (pending_in r) + 1) + length line
 
+-- the tests of a line in their order: too long, not UTF-8, U+0000 (own choice), a full stop where nothing is pending (section
+-- "Line Structure")
 abbrev pub role_of : Reading → List ℕ → Role
 role_of r line =
     if nat_lt most_bytes (size_with r line) then Refused fault.TooLong
@@ -125,10 +131,12 @@ role_of r line =
     else if is_idle r && next_is (λ b. b == 0x2E) (first_byte line) then Command
     else Joins
 
+-- a block with one more line
 abbrev pub joined : Option (List ℕ) → List ℕ → List ℕ
 joined None line = line
 joined (Some block) line = block ++ 0x0A ∷ line
 
+-- a line joins the block, or begins one
 abbrev pub with_line : Reading → List ℕ → Reading
 with_line r line = record {
   line = numbered (r.line + 1);
@@ -140,19 +148,23 @@ with_line r line = record {
 abbrev pub at_line : ℕ → Reading
 at_line n = record { line = n; first = n; block = None }
 
+-- a line was taken that is in no block
 abbrev pub without_block : Reading → Reading
 without_block r = at_line (numbered (r.line + 1))
 
+-- how reading goes on behind a line of a role; in a block a line has lost the carriage return at its end, if it had one
 abbrev pub after_role : Role → Reading → List ℕ → Reading
 after_role (Refused why) r line = without_block r
 after_role Command r line = without_block r
 after_role Joins r line = with_line r (strip_carriage_return line)
 
+-- what a line is told as, beside the statements: a fault or a dot-command, with the line's number
 abbrev pub member_of : Role → Reading → List ℕ → List Member
 member_of (Refused why) r line = Fault r.line why ∷ []
 member_of Command r line = Dot r.line (strip_carriage_return line) ∷ []
 member_of Joins r line = []
 
+-- how reading goes on behind a line
 abbrev pub after : Reading → List ℕ → Reading
 after r line = after_role (role_of r line) r line
 
@@ -161,12 +173,11 @@ abbrev pub closed_by : Role → Reading → List Member
 closed_by Joins r = []
 closed_by _ r = units_in r
 
+-- what is told as a line is read
 abbrev pub told_by : Reading → List ℕ → List Member
 told_by r line = closed_by (role_of r line) r ++ member_of (role_of r line) r line
 
--- ---- the input
-
--- the text that no semicolon ends: incomplete where something in it is open, and else a unit if it has a word
+-- the text that no semicolon ends: incomplete where something in it is open, and else a unit if it has a word (own choice)
 abbrev pub last_member : ℕ × List Piece → List Member
 last_member tail =
     if list_any is_open tail.1 then Fault (line_of tail.0 tail.1) (fault.Incomplete (line_of tail.0 tail.1)) ∷ []

@@ -1,7 +1,9 @@
 -- The words of SQL. A text falls into pieces: words, and gaps of white space and comments between them.
 -- Words are those of "SQL As Understood By SQLite" so far as the shell needs them: literals in quotation
--- marks, names quoted in any of three ways, words, runs of digits, and single characters. That a number is
--- a run of digits alone, and that a dollar sign may stand in a word, is our own choice.
+-- marks (its page "SQL Language Expressions", section "Literal Values (Constants)"), names quoted in any of
+-- three ways (page "SQLite Keywords"), comments (page "SQL Comment Syntax"), words, runs of digits, and
+-- single characters. That a number is a run of digits alone, and that a dollar sign may stand in a word, is
+-- our own choice. So is how a text is read: in pieces, byte by byte, each by its place and the byte after it.
 use Rattle.std.specs.Prelude.{⊤, ◌<◌, ◌≤◌, is_some, option_map, option_to_list, ℕ, ◌+◌, Bool, true, false, ◌==◌, ◌&&◌, ◌||◌, nat_le, List, [], ◌∷◌, ◌++◌, length, Option, Some, None, if◌then◌else◌}
 use Rattle.std.specs.Char.{is_ascii_alphabetic, is_ascii_digit}
 use Rattle.std.specs.List.{flat_map, list_any}
@@ -16,25 +18,24 @@ use Rattle.shell_text.specs.declared.words.Ended.TheVariants.{Word, Gap}
 use Rattle.shell_text.specs.declared.words.Turn.{Turn}
 use Rattle.shell_text.specs.declared.words.Turn.TheVariants.{Goes, Ends}
 
--- ---- characters: a byte from 128 on is part of a character of 128 or more, which words are made of
-
+-- white space between words: a tab, a line feed, a form feed, a carriage return or a space ("SQL Comment Syntax")
 abbrev pub is_space : ℕ → Bool
 is_space b = (b == 0x09) || (b == 0x0A) || (b == 0x0C) || (b == 0x0D) || (b == 0x20)
 
+-- a letter of ASCII, an underscore, or a byte from 128 on, which is part of a character of 128 or more ("SQLite Keywords")
 abbrev pub begins_word : ℕ → Bool
 begins_word b = is_ascii_alphabetic b || (b == 0x5F) || nat_le 128 b
 
--- these, digits and a dollar sign go on with a word
+-- these, digits and a dollar sign go on with a word (the dollar sign is our own choice)
 abbrev pub goes_on_word : ℕ → Bool
 goes_on_word b = begins_word b || is_ascii_digit b || (b == 0x24)
-
--- ---- pieces
 
 -- a word of a kind, or white space or a comment; or what is begun and not closed
 pub data PieceKind : Type 0 where
   Closed : (by : Ended) → PieceKind
   Open : PieceKind
 
+-- bytes of a text that are one word, or one gap, or what is not closed at its end
 pub record Piece : Type 0 where
   pub kind : PieceKind
   pub text : List ℕ
@@ -43,22 +44,27 @@ pub record Piece : Type 0 where
 abbrev pub next_is : (ℕ → Bool) → Option ℕ → Bool
 next_is p next = option_map_or p next false
 
+-- whether a line ends before the next byte, as at the end of the text: so far goes a comment that two hyphens begin ("SQL Comment Syntax")
 abbrev pub ends_line : Option ℕ → Bool
 ends_line None = true
 ends_line (Some b) = b == 0x0A
 
+-- a word goes on while the next byte does ("SQLite Keywords")
 abbrev pub in_word : Option ℕ → Turn
 in_word next = if next_is goes_on_word next then Goes InWord else Ends (Word kinds.Word)
 
+-- a number goes on while a digit comes next (own choice: neither a point nor an exponent)
 abbrev pub in_number : Option ℕ → Turn
 in_number next = if next_is is_ascii_digit next then Goes InNumber else Ends (Word kinds.Number)
 
 -- a byte of what goes up to a mark, by the place behind a first one of two: inside, the mark is doubled
+-- ("Literal Values (Constants)", "SQLite Keywords")
 abbrev pub in_marks : Place → Place → SqlKind → ℕ → ℕ → Option ℕ → Turn
 in_marks inside doubled kind mark b next =
     if b == mark then (if next_is (λ c. c == mark) next then Goes doubled else Ends (Word kind)) else Goes inside
 
--- a byte at which a piece begins, by the byte after it
+-- a byte at which a piece begins, by the byte after it: white space, a comment of either kind, a literal, a quoted name, a word,
+-- a number, or else a character alone ("SQL Comment Syntax", "Literal Values (Constants)", "SQLite Keywords")
 unfoldable pub begun : ℕ → Option ℕ → Turn
 begun b next =
     if is_space b then Ends Gap
@@ -72,7 +78,7 @@ begun b next =
     else if is_ascii_digit b then in_number next
     else Ends (Word kinds.Symbol)
 
--- a byte of a block comment, behind what opens it
+-- a byte of a block comment, behind what opens it; a slash behind a star closes it ("SQL Comment Syntax")
 abbrev pub in_comment : ℕ → Turn
 in_comment b = if b == 0x2A then Goes Star else Goes BlockComment
 
@@ -93,10 +99,12 @@ turn CommentMark b next = Goes BlockComment
 turn BlockComment b next = in_comment b
 turn Star b next = if b == 0x2F then Ends Gap else in_comment b
 
+-- where the next byte stands
 abbrev pub place_after : Turn → Place
 place_after (Goes to) = to
 place_after (Ends as_what) = Between
 
+-- the byte that comes next, if there is one
 abbrev pub first_byte : List ℕ → Option ℕ
 first_byte [] = None
 first_byte (b ∷ rest) = Some b
@@ -106,6 +114,7 @@ abbrev pub onto_piece : ℕ → List Piece → List Piece
 onto_piece b [] = record { kind = Open; text = b ∷ [] } ∷ []
 onto_piece b (p ∷ ps) = record p { text = b ∷ p.text } ∷ ps
 
+-- a byte with its turn, before the pieces of what follows
 abbrev pub with_byte : Turn → ℕ → List Piece → List Piece
 with_byte (Goes to) b ps = onto_piece b ps
 with_byte (Ends as_what) b ps = record { kind = Closed as_what; text = b ∷ [] } ∷ ps
@@ -115,22 +124,25 @@ unfoldable pub pieces_from : Place → List ℕ → List Piece
 pieces_from at [] = []
 pieces_from at (b ∷ rest) = with_byte (turn at b (first_byte rest)) b (pieces_from (place_after (turn at b (first_byte rest))) rest)
 
+-- the pieces of a text, in order: with their bytes one behind the other they are the text
 abbrev pub pieces_of : List ℕ → List Piece
 pieces_of text = pieces_from Between text
 
--- ---- words
-
+-- what kind of word a piece is, if it is one
 abbrev pub word_kind : PieceKind → Option SqlKind
 word_kind (Closed (Word kind)) = Some kind
 word_kind _ = None
 
+-- whether a piece is a word
 abbrev pub is_word : Piece → Bool
 is_word p = is_some (word_kind p.kind)
 
+-- whether a piece is a single character
 abbrev pub is_symbol_kind : PieceKind → Bool
 is_symbol_kind (Closed (Word kinds.Symbol)) = true
 is_symbol_kind _ = false
 
+-- whether a piece is white space or a closed comment
 abbrev pub is_gap_kind : PieceKind → Bool
 is_gap_kind (Closed Gap) = true
 is_gap_kind _ = false
@@ -138,6 +150,7 @@ is_gap_kind _ = false
 abbrev pub is_gap : Piece → Bool
 is_gap p = is_gap_kind p.kind
 
+-- whether a piece is begun and not closed
 abbrev pub is_open_kind : PieceKind → Bool
 is_open_kind Open = true
 is_open_kind _ = false

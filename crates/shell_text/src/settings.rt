@@ -8,6 +8,9 @@ use std::alloc::{AllocError, Global};
 use std::marker::Model;
 use thiserror::Error;
 
+#[cfg(test)]
+mod tests;
+
 /// How a grid is printed.
 #[derive(Clone, Copy, Debug, PartialEq, Eq)]
 pub enum Mode {
@@ -35,7 +38,7 @@ impl From<AllocError> for SetFault {
 }
 
 impl Mode {
-    /// The mode's own separator.
+    /// The mode's own separator: a comma, or a vertical bar.
     pub fn separator(self) -> &'static str
         ensures { result.now ≡ separator_of self }
     {
@@ -95,7 +98,9 @@ impl Settings {
         }
     }
 
-    /// Sets the mode, and the separator to the mode's own.
+    /// Sets the mode: how rows are printed from now on. At first it is list mode. The separator
+    /// becomes the mode's own, as `.mode` does in "Command Line Shell For SQLite"; that it does so
+    /// in column mode too is our own choice.
     pub fn set_mode(&mut self, mode: Mode)
         ensures { self.new ≡ with_mode mode self.old }
     {
@@ -103,27 +108,35 @@ impl Settings {
         self.separator = None;
     }
 
-    /// Sets that headers are always shown, or never.
+    /// Sets that the line of column names is always printed above rows, or never. While it was
+    /// never set it is printed in column mode alone. It is `.headers` of "Command Line Shell For
+    /// SQLite".
     pub fn set_headers(&mut self, shown: bool)
         ensures { self.new ≡ record self.old { headers = Some shown } }
     {
         self.headers = Some(shown);
     }
 
+    /// Sets whether each unit of the input is printed before it runs, from the next one on. At first
+    /// it is not. It is `.echo` of "Command Line Shell For SQLite".
     pub fn set_echo(&mut self, on: bool)
         ensures { self.new ≡ record self.old { echo = on } }
     {
         self.echo = on;
     }
 
+    /// Sets whether the run ends after the next fault line. At first it does not. It is `.bail` of
+    /// "Command Line Shell For SQLite".
     pub fn set_bail(&mut self, on: bool)
         ensures { self.new ≡ record self.old { bail = on } }
     {
         self.bail = on;
     }
 
-    /// Sets the separator. In csv mode that is one ASCII byte other than NUL, a quotation mark, CR
-    /// and LF, or else it is refused. After a fault all is as it was.
+    /// Sets the text between the cells of a row, of any size in bytes. At first it is the mode's
+    /// own. In csv mode it has to be one byte from U+0001 to U+007F other than a quotation mark, CR
+    /// and LF, or else it is refused: that is our own choice, since RFC 4180 has the comma alone.
+    /// After a fault all is as it was.
     pub fn set_separator(&mut self, separator: &str) -> Result<(), SetFault>
         ensures ok { OnOk result (self.new ≡ record self.old { separator = separator.now }) }
         ensures good { OnOk result (may_separate self.old separator.now ≡ true) }
@@ -140,7 +153,9 @@ impl Settings {
         Ok(())
     }
 
-    /// Sets the text that stands for NULL. After a fault all is as it was.
+    /// Sets the text that is printed for NULL, of any size in bytes. At first it is empty. Quote
+    /// mode prints `NULL` whatever is set. It is `.nullvalue` of "Command Line Shell For SQLite".
+    /// After a fault all is as it was.
     pub fn set_null(&mut self, null: &str) -> Result<(), AllocError>
         ensures ok { OnOk result (self.new ≡ record self.old { null = null.now }) }
         ensures err { OnErr result (self.new ≡ self.old) }
@@ -150,12 +165,16 @@ impl Settings {
         Ok(())
     }
 
+    /// The mode, as `set_mode` set it last; list mode at first.
     pub fn mode(&self) -> Mode
         ensures { result ≡ self.now.mode }
     {
         self.mode
     }
 
+    /// The text between the cells of a row, as it was set since the mode was; else the mode's own:
+    /// a comma in csv and quote mode, a vertical bar in list and column mode, as in "Command Line
+    /// Shell For SQLite" (the vertical bar of column mode is our own choice).
     pub fn separator(&self) -> &str
         ensures { result.now ≡ self.now.separator }
     {
@@ -165,25 +184,29 @@ impl Settings {
         }
     }
 
+    /// The text that is printed for NULL, as `set_null` set it last; empty at first.
     pub fn null(&self) -> &str
         ensures { result.now ≡ self.now.null }
     {
         self.null.as_str()
     }
 
-    /// Whether headers are always shown, or never; nothing while that was never set.
+    /// Whether headers are always shown, or never, as `set_headers` set it last; nothing while that
+    /// was never set.
     pub fn headers(&self) -> Option<bool>
         ensures { result ≡ self.now.headers }
     {
         self.headers
     }
 
+    /// Whether units are printed before they run, as `set_echo` set it last; not at first.
     pub fn echo(&self) -> bool
         ensures { result ≡ self.now.echo }
     {
         self.echo
     }
 
+    /// Whether the run ends after a fault line, as `set_bail` set it last; not at first.
     pub fn bail(&self) -> bool
         ensures { result ≡ self.now.bail }
     {

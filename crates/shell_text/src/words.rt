@@ -8,6 +8,9 @@ ghost use Rattle.shell_text.specs.Words.{IsRising, begins_word, begun, ends_line
 use std::alloc::{AllocFailed, Global};
 use thiserror::Error;
 
+#[cfg(test)]
+mod tests;
+
 /// What kind of word stands in a text.
 #[derive(Clone, Copy, Debug, PartialEq, Eq)]
 pub enum SqlKind {
@@ -45,7 +48,7 @@ impl<T: Drop> From<AllocFailed<T>> for LexFault {
 
 /// What the next byte of a text stands in.
 #[derive(Clone, Copy)]
-pub enum Place {
+pub(crate) enum Place {
     Between,
     InWord,
     InNumber,
@@ -64,14 +67,14 @@ pub enum Place {
 
 /// What ends with a byte.
 #[derive(Clone, Copy)]
-pub enum Ended {
+pub(crate) enum Ended {
     Word(SqlKind),
     Gap,
 }
 
 /// What a byte does: it leads on inside a piece, or is the last byte of one.
 #[derive(Clone, Copy)]
-pub enum Turn {
+pub(crate) enum Turn {
     Goes(Place),
     Ends(Ended),
 }
