@@ -1,5 +1,5 @@
 -- Words begin and end where their text may be cut.
-use Rattle.std.proofs.Common.{◌≡◌, refl, sym, ap, subst, ◌∙◌, ℕ, ◌+◌, List, [], ◌∷◌, ◌++◌, length, length-append, add-zero, append_assoc}
+use Rattle.std.proofs.Common.{◌≡◌, refl, sym, ap, subst, ◌∙◌, ℕ, ◌+◌, List, [], ◌∷◌, ◌++◌, length, length-append, append_assoc}
 use Rattle.std.specs.Prelude.{IsCharBoundary}
 use Rattle.std.specs.Str.{IsUtf8}
 use Rattle.std.specs.List.{All, AllByRecursion}

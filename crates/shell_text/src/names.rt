@@ -79,7 +79,7 @@ fn listed(alloc: Global, names: &[String]) -> Result<Vec<u8>, AllocError>
 
 /// Writes names in columns of one width, line by line, so that they run downwards: as many columns
 /// as 80 have room for, with two spaces between. The text is made whole before the first byte goes
-/// out: after `Memory` nothing was written, after `Write` a front of it.
+/// out: after `Memory` nothing was written, after `Write` a front of it and not the whole.
 pub fn write_names<W: Write>(alloc: Global, names: &[String], out: &mut W) -> Result<(), PrintFault>
     ensures ok { OnOk result (Appends (W.contents out.old) (W.contents out.new) (listed (map string_bytes names.now))) }
     ensures write { IsErrOf result PrintFault.Write → AppendsFront (W.contents out.old) (W.contents out.new) (listed (map string_bytes names.now)) }
