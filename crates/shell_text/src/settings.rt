@@ -38,8 +38,8 @@ impl From<AllocError> for SetFault {
 }
 
 impl Mode {
-    /// The mode's own separator: a comma, or a vertical bar.
-    pub fn separator(self) -> &'static str
+    // The mode's own separator.
+    fn separator(self) -> &'static str
         ensures { result.now ≡ separator_of self }
     {
         match self {
