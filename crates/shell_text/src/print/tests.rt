@@ -5,7 +5,6 @@ use crate::settings::{Mode, Settings};
 use std::alloc::Global;
 use std::io;
 use std::io::{ErrorKind, Write};
-use std::process::Abort;
 use std::test::Fail;
 
 // A writer that takes three bytes a call, and fails behind a number of calls.
@@ -110,53 +109,61 @@ fn printed_by(alloc: Global, settings: &Settings, grid: &Grid) -> Result<String,
     Ok(String::from_utf8(out)?)
 }
 
+const TEXTS: &[&[&str]] = &[&["日本", "it's"], &["p,\"q", "NULL"], &["u\nv", "7"]];
+
+const NUMBERED: &[&[&str]] = &[
+    &["1", "日本", "it's"],
+    &["2", "p,\"q", "NULL"],
+    &["3", "u\nv", "7"],
+];
+
+const COLUMNS: &str = "\
+docid  a     b
+-----  ----  ----
+1      日本  it's
+2      p,\"q  -
+3      u v   7
+";
+
+// Modes, with a separator where it is not the mode's own, and grids with their bytes.
+const GRIDS: [(Mode, &str, &[&str], &[&[&str]], &str); 7] = [
+    (
+        Mode::List,
+        "",
+        &["a", "b"],
+        TEXTS,
+        "日本|it's\np,\"q|-\nu\nv|7\n",
+    ),
+    (
+        Mode::Csv,
+        "",
+        &["a", "b"],
+        TEXTS,
+        "日本,it's\r\n\"p,\"\"q\",-\r\n\"u\nv\",7\r\n",
+    ),
+    (Mode::Csv, ";", &["1", "2"], &[&["1", "2"]], "1;2\r\n"),
+    (Mode::Column, "", &["docid", "a", "b"], NUMBERED, COLUMNS),
+    (
+        Mode::Quote,
+        "",
+        &["docid", "b"],
+        &[&["1", "it's"], &["2", "NULL"], &["3", "7"]],
+        "1,'it''s'\n2,NULL\n3,7\n",
+    ),
+    (
+        Mode::Quote,
+        "",
+        &["a", "b", "c"],
+        &[&["x'abcd'", "NULL", "7"]],
+        "x'abcd',NULL,7\n",
+    ),
+    (Mode::Column, "", &["a", "b"], &[], ""),
+];
+
 #[test]
 fn grids_in_each_mode(rt: HostRuntime) -> Result<(), Fail> {
     let alloc = rt.alloc();
-    let rows: [(Mode, &str, &[&str], &[&[&str]], &str); 7] = [
-        (
-            Mode::List,
-            "",
-            &["a", "b"],
-            &[&["日本", "it's"], &["p,\"q", "NULL"], &["u\nv", "7"]],
-            "日本|it's\np,\"q|-\nu\nv|7\n",
-        ),
-        (
-            Mode::Csv,
-            "",
-            &["a", "b"],
-            &[&["日本", "it's"], &["p,\"q", "NULL"], &["u\nv", "7"]],
-            "日本,it's\r\n\"p,\"\"q\",-\r\n\"u\nv\",7\r\n",
-        ),
-        (Mode::Csv, ";", &["1", "2"], &[&["1", "2"]], "1;2\r\n"),
-        (
-            Mode::Column,
-            "",
-            &["docid", "a", "b"],
-            &[
-                &["1", "日本", "it's"],
-                &["2", "p,\"q", "NULL"],
-                &["3", "u\nv", "7"],
-            ],
-            "docid  a     b\n-----  ----  ----\n1      日本  it's\n2      p,\"q  -\n3      u v   7\n",
-        ),
-        (
-            Mode::Quote,
-            "",
-            &["docid", "b"],
-            &[&["1", "it's"], &["2", "NULL"], &["3", "7"]],
-            "1,'it''s'\n2,NULL\n3,7\n",
-        ),
-        (
-            Mode::Quote,
-            "",
-            &["x'abcd'", "NULL", "7"],
-            &[&["x'abcd'", "NULL", "7"]],
-            "x'abcd',NULL,7\n",
-        ),
-        (Mode::Column, "", &["a", "b"], &[], ""),
-    ];
-    for (mode, separator, names, spelled, want) in rows {
+    for (mode, separator, names, spelled, want) in GRIDS {
         let settings = settings_of(alloc, mode, separator)?;
         let grid = grid_of(alloc, names, spelled)?;
         assert_eq!(rt; printed_by(alloc, &settings, &grid)?.as_str(), want);

@@ -52,34 +52,35 @@ fn told_by(alloc: Global, input: &[u8]) -> Result<String, Fail> {
     Ok(log)
 }
 
+const INPUTS: [(&[u8], &str); 10] = [
+    (b"SELECT 'a\n;b';", "1 Sql SELECT 'a\n;b';|"),
+    (b"/* x\n.tables\n*/", ""),
+    (b";;SELECT 1;SELECT 2;", "1 Sql SELECT 1;|1 Sql SELECT 2;|"),
+    (b"SELECT 1\n.tables\n;", "1 Sql SELECT 1\n.tables\n;|"),
+    (
+        b"SELECT 1\n\xFF\n;SELECT 2;",
+        "2 input is not UTF-8|3 Sql SELECT 2;|",
+    ),
+    (
+        b"-- x;y\r\n.mode csv\r\na\0b",
+        "2 Dot .mode csv|3 NUL character in input|",
+    ),
+    (
+        b"CREATE VIRTUAL TABLE d USING fts4;\nINSERT INTO d VALUES('a;b'); -- x;y\nSELECT docid, content FROM d",
+        "1 Sql CREATE VIRTUAL TABLE d USING fts4;|2 Sql INSERT INTO d VALUES('a;b');|3 Sql SELECT docid, content FROM d|",
+    ),
+    (b"SELECT 'x", "incomplete input from line 1 on|"),
+    (
+        b"SELECT 1;\n\n /* x",
+        "1 Sql SELECT 1;|incomplete input from line 3 on|",
+    ),
+    (b"", ""),
+];
+
 #[test]
 fn units_of_inputs(rt: HostRuntime) -> Result<(), Fail> {
     let alloc = rt.alloc();
-    let rows: [(&[u8], &str); 10] = [
-        (b"SELECT 'a\n;b';", "1 Sql SELECT 'a\n;b';|"),
-        (b"/* x\n.tables\n*/", ""),
-        (b";;SELECT 1;SELECT 2;", "1 Sql SELECT 1;|1 Sql SELECT 2;|"),
-        (b"SELECT 1\n.tables\n;", "1 Sql SELECT 1\n.tables\n;|"),
-        (
-            b"SELECT 1\n\xFF\n;SELECT 2;",
-            "2 input is not UTF-8|3 Sql SELECT 2;|",
-        ),
-        (
-            b"-- x;y\r\n.mode csv\r\na\0b",
-            "2 Dot .mode csv|3 NUL character in input|",
-        ),
-        (
-            b"CREATE VIRTUAL TABLE d USING fts4;\nINSERT INTO d VALUES('a;b'); -- x;y\nSELECT docid, content FROM d",
-            "1 Sql CREATE VIRTUAL TABLE d USING fts4;|2 Sql INSERT INTO d VALUES('a;b');|3 Sql SELECT docid, content FROM d|",
-        ),
-        (b"SELECT 'x", "incomplete input from line 1 on|"),
-        (
-            b"SELECT 1;\n\n /* x",
-            "1 Sql SELECT 1;|incomplete input from line 3 on|",
-        ),
-        (b"", ""),
-    ];
-    for (input, want) in rows {
+    for (input, want) in INPUTS {
         assert_eq!(rt; told_by(alloc, input)?.as_str(), want);
     }
     Ok(())
