@@ -2,6 +2,7 @@ pub mod AnswerLemmas
 pub mod ApartLemmas
 pub mod ApplyLemmas
 pub mod CallLemmas
+pub mod ChainLemmas
 pub mod ChangeLemmas
 pub mod EntryLemmas
 pub mod KeyedLemmas
@@ -15,6 +16,7 @@ pub mod SelectLemmas
 pub mod SortedLemmas
 pub mod StepLemmas
 pub mod StoredLemmas
+pub mod TableLemmas
 pub mod TextLemmas
 pub mod Texts
 pub mod TypedLemmas

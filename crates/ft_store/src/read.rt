@@ -1,5 +1,5 @@
 //! Queries, each with the rows of the store's value that it gives.
-ghost use Rattle.std.specs.Prelude.{◌≡◌, false, ◌&&◌, Err, map, IsTrue, IfOk};
+ghost use Rattle.std.specs.Prelude.{◌≡◌, false, ◌&&◌, Err, map, IsTrue, IfOk, OnOk};
 ghost use Rattle.std.specs.Ordering.{int_eq};
 ghost use Rattle.std.specs.FinMap.Entries.{where_key};
 ghost use Rattle.sqlite.specs.State.{HasCleanDisk, Survives, Shown};
@@ -29,6 +29,7 @@ pub(crate) fn select<S: Alter>(
     requires settled { (state S.Store conn.old).in_transaction ≡ false }
     ensures shown { HasCleanDisk (state S.Store conn.new) → IfOk result (λ rows. Shown sql.now (bound params.now) (state S.Store conn.old) (state S.Store conn.new) rows.items) }
     ensures kept { HasCleanDisk (state S.Store conn.new) → Keeps (state S.Store conn.old) (state S.Store conn.new) }
+    ensures live { HasCleanDisk (state S.Store conn.new) → OnOk result (IsTrue (state S.Store conn.new).is_open) }
     ensures mode { (state S.Store conn.new).in_transaction ≡ false }
     ensures whole { ¬ (result ≡ Err StoreFault.Damaged) }
     ensures survives { Survives (state S.Store conn.old) (state S.Store conn.new) (λ _. IsTrue (state S.Store conn.old).is_open → ⊥) }
@@ -171,6 +172,7 @@ pub(crate) fn names<S: Alter>(
     requires settled { (state S.Store conn.old).in_transaction ≡ false }
     ensures rows { HasCleanDisk (state S.Store conn.new) → IfOk result (λ found. map shown_name found.items ≡ (value_of (state S.Store conn.old).now.trees).tables) }
     ensures kept { HasCleanDisk (state S.Store conn.new) → Keeps (state S.Store conn.old) (state S.Store conn.new) }
+    ensures live { HasCleanDisk (state S.Store conn.new) → OnOk result (IsTrue (state S.Store conn.new).is_open) }
     ensures mode { (state S.Store conn.new).in_transaction ≡ false }
     ensures survives { Survives (state S.Store conn.old) (state S.Store conn.new) (λ _. IsTrue (state S.Store conn.old).is_open → ⊥) }
 {
@@ -192,6 +194,7 @@ pub(crate) fn columns<S: Alter>(
     requires settled { (state S.Store conn.old).in_transaction ≡ false }
     ensures rows { HasCleanDisk (state S.Store conn.new) → IfOk result (λ found. map (shown_column tab) found.items ≡ where_key column_key_cmp (λ k. int_eq tab k.0) (value_of (state S.Store conn.old).now.trees).columns) }
     ensures kept { HasCleanDisk (state S.Store conn.new) → Keeps (state S.Store conn.old) (state S.Store conn.new) }
+    ensures live { HasCleanDisk (state S.Store conn.new) → OnOk result (IsTrue (state S.Store conn.new).is_open) }
     ensures mode { (state S.Store conn.new).in_transaction ≡ false }
     ensures survives { Survives (state S.Store conn.old) (state S.Store conn.new) (λ _. IsTrue (state S.Store conn.old).is_open → ⊥) }
 {
@@ -213,6 +216,7 @@ pub(crate) fn skips<S: Alter>(
     requires settled { (state S.Store conn.old).in_transaction ≡ false }
     ensures rows { HasCleanDisk (state S.Store conn.new) → IfOk result (λ found. map (shown_skip tab) found.items ≡ where_key column_key_cmp (λ k. int_eq tab k.0) (value_of (state S.Store conn.old).now.trees).skipped) }
     ensures kept { HasCleanDisk (state S.Store conn.new) → Keeps (state S.Store conn.old) (state S.Store conn.new) }
+    ensures live { HasCleanDisk (state S.Store conn.new) → OnOk result (IsTrue (state S.Store conn.new).is_open) }
     ensures mode { (state S.Store conn.new).in_transaction ≡ false }
     ensures survives { Survives (state S.Store conn.old) (state S.Store conn.new) (λ _. IsTrue (state S.Store conn.old).is_open → ⊥) }
 {

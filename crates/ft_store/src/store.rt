@@ -4,13 +4,13 @@ ghost use Rattle.std.specs.FinMap.Entries.{where_key};
 ghost use Rattle.sqlite.specs.State.{HasCleanDisk, Survives};
 ghost use Rattle.ft_store.specs.Store.{cell_key_cmp, list_key_cmp, name_cmp, nothing_held, all_applied};
 ghost use Rattle.ft_store.specs.Changes.{shown_change, CanApply};
-ghost use Rattle.ft_store.specs.Shown.{shown_cell, shown_size, shown_note, shown_entry, entries_of, AreWhole, SomeDamaged};
+ghost use Rattle.ft_store.specs.Shown.{shown_cell, shown_size, shown_note, shown_entry, tables_listed, shown_table, entries_of, AreWhole, SomeDamaged};
 ghost use Rattle.ft_store.specs.Calls.{IsStored, Keeps};
 
 use crate::fault::StoreFault;
 use crate::make::make;
-use crate::rows::{CellRow, EntryRow, RowChange, SizeRow};
-use crate::{lists, read, write};
+use crate::rows::{CellRow, EntryRow, RowChange, SizeRow, TabRow};
+use crate::{lists, read, tables, write};
 use ram_disk::{Ram, open_ram};
 use sqlite::{Alter, Connection, FileStore};
 use std::alloc::Global;
@@ -61,6 +61,19 @@ impl Store<FileStore<Ram>> {
 
 impl<S: Alter> Store<S> {
     ghost use Rattle.ft_store.specs.Kept.{shows, value_in, more_rows};
+
+    /// All tables, by rising number, each with its columns and the numbers of those that aren't indexed.
+    pub fn tables(&mut self) -> Result<Vec<TabRow>, StoreFault>
+        ensures rows { HasCleanDisk (shows S.Store self.new) → IfOk result (λ found. map shown_table found.items ≡ tables_listed (value_in S.Store self.old)) }
+        ensures kept { HasCleanDisk (shows S.Store self.new) → Keeps (shows S.Store self.old) (shows S.Store self.new) }
+        ensures survives { Survives (shows S.Store self.old) (shows S.Store self.new) (λ _. IsTrue (shows S.Store self.old).is_open → ⊥) }
+        ensures counted { IfOk result (λ found. self.new.rows_read ≡ more_rows (vec_len found) self.old) }
+        ensures uncounted { OnErr result (self.new.rows_read ≡ self.old.rows_read) }
+    {
+        let found = tables::tables(&mut self.conn, self.alloc)?;
+        self.rows_read = self.rows_read.saturating_add(found.len() as u64);
+        Ok(found)
+    }
 
     /// All cells of a table, by rising docid and then column.
     pub fn cells(&mut self, tab: i64) -> Result<Vec<CellRow>, StoreFault>
