@@ -6,11 +6,13 @@ pub mod ChainLemmas
 pub mod ChangeLemmas
 pub mod EntryLemmas
 pub mod KeyedLemmas
+pub mod LastLemmas
 pub mod MakeLemmas
 pub mod OrderLemmas
 pub mod PackedLemmas
 pub mod PackedRows
 pub mod PutLemmas
+pub mod RangeLemmas
 pub mod ReadLemmas
 pub mod SelectLemmas
 pub mod SortedLemmas

@@ -1,5 +1,5 @@
 -- The rows that reads give, as rows under their keys.
-use Rattle.std.specs.Prelude.{◌≢◌, ℕ, ℤ, List, [], map, string_bytes, String}
+use Rattle.std.specs.Prelude.{◌≢◌, ℕ, ℤ, List, [], map, reverse, slice_get, Option, option_map, string_bytes, String}
 use Rattle.std.specs.List.{AllByRecursion, flat_map}
 use Rattle.std.specs.declared.alloc.Global.{Global}
 use Rattle.std.specs.Ordering.{int_eq}
@@ -11,7 +11,7 @@ use Rattle.ft_store.specs.declared.rows.EntryRow.{EntryRow}
 use Rattle.ft_store.specs.declared.rows.Spot.{Spot}
 use Rattle.ft_store.specs.declared.rows.TabRow.{TabRow}
 use Rattle.ft_store.specs.declared.lists.ListRow.{ListRow}
-use Rattle.ft_store.specs.Store.{Cell, CellKey, ListKey, ColumnKey, column_key_cmp, StoreValue}
+use Rattle.ft_store.specs.Store.{Cell, CellKey, ListKey, ColumnKey, cell_key_cmp, column_key_cmp, StoreValue}
 use Rattle.ft_store.specs.Changes.{shown_value}
 
 abbrev pub shown_cell : ℤ → CellRow → CellKey × Cell
@@ -78,3 +78,7 @@ table_listed store t = record {
 -- all tables, by their rising numbers
 abbrev pub tables_listed : StoreValue → List Listed
 tables_listed store = map (table_listed store) store.tables
+
+-- The greatest docid of a table's cells. Cells stand by rising docid, so it is that of the last one.
+abbrev pub last_docid_of : ℤ → List (CellKey × Cell) → Option ℤ
+last_docid_of tab cells = option_map (λ c. c.0.1) (slice_get (reverse (where_key cell_key_cmp (λ k. int_eq tab k.0) cells)) 0)
