@@ -8,6 +8,7 @@ pub mod EntryLemmas
 pub mod KeyedLemmas
 pub mod LastLemmas
 pub mod MakeLemmas
+pub mod NamedLemmas
 pub mod OrderLemmas
 pub mod PackedLemmas
 pub mod PackedRows

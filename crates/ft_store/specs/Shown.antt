@@ -1,6 +1,7 @@
 -- The rows that reads give, as rows under their keys.
-use Rattle.std.specs.Prelude.{◌≢◌, ℕ, ℤ, List, [], map, reverse, slice_get, Option, option_map, string_bytes, String}
-use Rattle.std.specs.List.{AllByRecursion, flat_map}
+use Rattle.std.specs.Prelude.{◌≡◌, ◌≢◌, ℕ, ℤ, Bool, false, ◌||◌, List, [], ◌∷◌, map, reverse, slice_get, Option, option_map, string_bytes, String}
+use Rattle.std.specs.List.{AllByRecursion, flat_map, list_any}
+use Rattle.std.specs.Str.{str_eq_ignore_ascii_case}
 use Rattle.std.specs.declared.alloc.Global.{Global}
 use Rattle.std.specs.Ordering.{int_eq}
 use Rattle.std.specs.FinMap.Entries.{where_key}
@@ -82,3 +83,12 @@ tables_listed store = map (table_listed store) store.tables
 -- The greatest docid of a table's cells. Cells stand by rising docid, so it is that of the last one.
 abbrev pub last_docid_of : ℤ → List (CellKey × Cell) → Option ℤ
 last_docid_of tab cells = option_map (λ c. c.0.1) (slice_get (reverse (where_key cell_key_cmp (λ k. int_eq tab k.0) cells)) 0)
+
+-- some name comes twice, without ASCII case
+abbrev pub repeats_name : List (List ℕ) → Bool
+repeats_name [] = false
+repeats_name (name ∷ names) = list_any (str_eq_ignore_ascii_case name) names || repeats_name names
+
+-- no two tables have one name
+abbrev pub AreNamedApart : StoreValue → Type 0
+AreNamedApart store = repeats_name (map (λ t. t.1) store.tables) ≡ false

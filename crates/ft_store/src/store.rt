@@ -3,9 +3,9 @@ ghost use Rattle.std.specs.Ordering.{int_eq, is_eq};
 ghost use Rattle.std.specs.List.{starts_with};
 ghost use Rattle.std.specs.FinMap.Entries.{where_key};
 ghost use Rattle.sqlite.specs.State.{HasCleanDisk, Survives};
-ghost use Rattle.ft_store.specs.Store.{cell_key_cmp, list_key_cmp, name_cmp, nothing_held, all_applied};
+ghost use Rattle.ft_store.specs.Store.{cell_key_cmp, list_key_cmp, name_cmp, nothing_held, all_applied, AreInOrder};
 ghost use Rattle.ft_store.specs.Changes.{shown_change, CanApply};
-ghost use Rattle.ft_store.specs.Shown.{shown_cell, shown_size, shown_note, shown_entry, tables_listed, shown_table, last_docid_of, entries_of, AreWhole, SomeDamaged};
+ghost use Rattle.ft_store.specs.Shown.{shown_cell, shown_size, shown_note, shown_entry, tables_listed, shown_table, last_docid_of, entries_of, AreWhole, SomeDamaged, AreNamedApart};
 ghost use Rattle.ft_store.specs.Calls.{IsStored, Keeps};
 
 use crate::fault::StoreFault;
@@ -196,6 +196,14 @@ impl<S: Alter> Store<S> {
             (λ db. IsTrue (shows S.Store self.old).is_open → IsStored db (all_applied (map shown_change changes.now) (value_in S.Store self.old))) }
     {
         write::change(&mut self.conn, self.alloc, changes)
+    }
+
+    /// The law that rows stand in the order of their keys, each key once, and that no two tables have one name.
+    pub fn is_in_order(&self)
+        ensures order { AreInOrder (value_in S.Store self.now) }
+        ensures names { HasCleanDisk (shows S.Store self.now) → IsTrue (shows S.Store self.now).is_open → AreNamedApart (value_in S.Store self.now) }
+    {
+        let _ = &self.conn;
     }
 
     /// How many rows the reads gave so far. It stays at its greatest value.
