@@ -1,7 +1,7 @@
 -- What the queries of a store answer.
-use Rattle.std.proofs.Common.{◌≡◌, ℕ, ℤ, Bool, true, false, not, ◌&&◌, List, [], ◌∷◌, map, filter, refl, sym, ap, ap₂, subst, ◌∙◌, Ordering, Less, Equal, Greater, is_eq, IsTrue, true≢false}
-use Rattle.std.specs.Prelude.{unwrap_or, Option, option_map}
-use Rattle.std.specs.List.{AllByRecursion, list_all}
+use Rattle.std.proofs.Common.{◌≡◌, ◌≢◌, is_lt, is_le, ℕ, ℤ, Bool, true, false, not, ◌&&◌, List, [], ◌∷◌, map, filter, refl, sym, ap, ap₂, subst, ◌∙◌, Ordering, Less, Equal, Greater, is_eq, IsTrue, true≢false}
+use Rattle.std.specs.Prelude.{unwrap_or, Option, option_map, nat_eq}
+use Rattle.std.specs.List.{AllByRecursion, list_all, starts_with}
 use Rattle.std.specs.Ordering.{int_cmp, int_eq, ordering_then}
 use Rattle.std.specs.Cmp.{IsTotalOrder}
 use Rattle.std.specs.FinMap.Entries.{where_key}
@@ -11,7 +11,11 @@ use Rattle.sqlite.specs.declared.types.Value.TheVariants.{Null, Int, Text, Blob}
 use Rattle.sqlite.specs.Order.{Row, column}
 use Rattle.sqlite_value.specs.Order.{value_cmp, bytes}
 use Rattle.sqlite_value.specs.Keys.{without_case, by_key, ascending}
-use Rattle.sqlite.specs.Collation.TheVariants.{NoCase}
+use Rattle.sqlite.specs.Collation.TheVariants.{Binary, NoCase}
+use Rattle.sqlite_sql.specs.Ops.{binary, is_true}
+use Rattle.sqlite_sql.specs.declared.ops.BinaryOp.TheVariants.{Compare}
+use Rattle.sqlite_sql.specs.declared.ops.CompareOp.{CompareOp}
+use Rattle.sqlite_sql.specs.declared.ops.CompareOp.TheVariants.{Ge, Lt}
 use Rattle.sqlite_value.specs.declared.keys.Key.{Key}
 use Rattle.sqlite_value.proofs.OrderLemmas.{value_cmp_total, value_cmp-Int, value_cmp-Text, value_cmp-Blob}
 use Rattle.sqlite.specs.Tree.{Trees}
@@ -23,7 +27,7 @@ use Rattle.sqlite.specs.State.{State, Shown}
 use Rattle.sqlite.specs.Listing.{understood}
 use Rattle.sqlite_catalog.specs.Listing.{IsSound}
 use Rattle.sqlite.proofs.Callers.{reads_as}
-use Rattle.sqlite_typed.proofs.TestLemmas.{same_bytes, then_key, last_key, then_term, last_term}
+use Rattle.sqlite_typed.proofs.TestLemmas.{by_order, at_texts, same_bytes, then_key, last_key, then_term, last_term}
 use Rattle.sqlite_keyed.proofs.ListLemmas.{map-map, filter-map}
 use Rattle.ft_store.specs.declared.rows.Spot.{Spot}
 use Rattle.ft_store.specs.Packed.{spots_in}
@@ -36,6 +40,8 @@ use Rattle.ft_store.specs.Found.{found_table, found_column, found_skip, found_ce
 use Rattle.ft_store.specs.Calls.{IsStore}
 use Rattle.ft_store.proofs.Texts.{names_text, columns_text, skips_text, cells_text, document_text, term_text, prefix_text, lists_text, sizes_text, noted_text}
 use Rattle.ft_store.proofs.TextLemmas.{query_by, table_query, rising, no_limit, list_shown, list_order, names_query, names_is, names_plain, names_unlisted, columns_query, columns_is, columns_plain, columns_unlisted, skips_query, skips_is, skips_plain, skips_unlisted, cells_query, cells_is, cells_plain, cells_unlisted, document_query, document_is, document_plain, document_unlisted, term_query, term_is, term_plain, term_unlisted, prefix_query, prefix_is, prefix_plain, prefix_unlisted, lists_query, lists_is, lists_plain, lists_unlisted, sizes_query, sizes_is, sizes_plain, sizes_unlisted, noted_query, noted_is, noted_plain, noted_unlisted}
+use Rattle.ft_store.specs.Range.{after_last}
+use Rattle.ft_store.proofs.RangeLemmas.{in_range}
 use Rattle.ft_store.proofs.SelectLemmas.{all_selected}
 use Rattle.ft_store.proofs.KeyedLemmas.{AreApart, whole_cmp, sorted-keyed, at_value, keyed-map}
 use Rattle.ft_store.proofs.OrderLemmas.{tied_first, tied_second, tied_ints, tied_names, tied_cell_keys, cell_key_total, tied_list_keys, list_key_total, tied_column_keys, column_key_total, name_total}
@@ -45,7 +51,7 @@ use Rattle.ft_store.proofs.StoredLemmas.{stored_entry}
 use Rattle.ft_store.proofs.WriteLemmas.{turned, turned_text}
 use Rattle.ft_store.proofs.CallLemmas.{shown_open}
 
-cmp_ints : (v w : Value) (m n : ℤ) → v ≡ Int m → w ≡ Int n → value_cmp v w ≡ int_cmp m n
+pub cmp_ints : (v w : Value) (m n : ℤ) → v ≡ Int m → w ≡ Int n → value_cmp v w ≡ int_cmp m n
 cmp_ints v w m n p q = ap₂ value_cmp p q ∙ value_cmp-Int m n
 
 cmp_texts : (v w : Value) (s t : List ℕ) → v ≡ Text s → w ≡ Text t → value_cmp v w ≡ name_cmp s t
@@ -54,13 +60,16 @@ cmp_texts v w s t p q = ap₂ value_cmp p q ∙ value_cmp-Text s t
 cmp_blobs : (v w : Value) (s t : List ℕ) → v ≡ Blob s → w ≡ Blob t → value_cmp v w ≡ name_cmp s t
 cmp_blobs v w s t p q = ap₂ value_cmp p q ∙ value_cmp-Blob s t
 
-same_int : (a b : ℤ) → int_eq a b ≡ true → a ≡ b
+pub same_int : (a b : ℤ) → int_eq a b ≡ true → a ≡ b
 same_int a b h = tied_ints a b (equal_from (int_cmp a b) h)
   where
     equal_from : (o : Ordering) → is_eq o ≡ true → o ≡ Equal
     equal_from Less h = absurd (true≢false (sym h))
     equal_from Equal h = refl
     equal_from Greater h = absurd (true≢false (sym h))
+
+test_texts : (op : CompareOp) (v w : Value) (s t : List ℕ) → v ≡ Text s → w ≡ Text t → is_true (binary (Compare op Binary) v w) ≡ by_order name_cmp op s t
+test_texts op v w s t p q = ap₂ (λ a b. is_true (binary (Compare op Binary) a b)) p q ∙ at_texts false op s t
 
 -- names are compared without case first
 cmp_cases : (v w : Value) (s t : List ℕ) → v ≡ Text s → w ≡ Text t → by_key (ascending NoCase) v w ≡ name_cmp (without_case s) (without_case t)
@@ -76,7 +85,7 @@ regroup_3 Less x y z = refl
 regroup_3 Equal x y z = regroup_2 x y z
 regroup_3 Greater x y z = refl
 
-alone : (x : Ordering) → x ≡ ordering_then x Equal
+pub alone : (x : Ordering) → x ≡ ordering_then x Equal
 alone Less = refl
 alone Equal = refl
 alone Greater = refl
@@ -104,20 +113,20 @@ tied_values (store.Text a) (store.Text b) n t = ap store.Text (same_bytes a b (a
 tied_cells : (v w : Cell) → cell_cmp v w ≡ Equal → v ≡ w
 tied_cells v w h = tied_values v w (tied_first _ _ h) (tied_second _ _ h)
 
-abbrev all_tie : Unit {0} → Unit {0} → Ordering
+abbrev pub all_tie : Unit {0} → Unit {0} → Ordering
 all_tie a b = Equal
 
-all_tie_total : IsTotalOrder all_tie
+pub all_tie_total : IsTotalOrder all_tie
 all_tie_total = on_total (λ (u : Unit {0}). Rattle.std.proofs.Common.pos 0) int_cmp_total
 
 -- ---- a query on one table
 
 module _ {K X : Type 0} (R : K → K → Ordering) (total : IsTotalOrder R) (tie : (x y : K) → R x y ≡ Equal → x ≡ y)
     (V : X → X → Ordering) (v_total : IsTotalOrder V) (v_tie : (x y : X) → V x y ≡ Equal → x ≡ y) (entry : Row → K × X) (P : Row → Type 0) where
-  whole_total : IsTotalOrder (whole_cmp R total tie V)
+  pub whole_total : IsTotalOrder (whole_cmp R total tie V)
   whole_total = then_total (on_total (λ (e : K × X). e.0) total) (on_total (λ (e : K × X). e.1) v_total)
 
-  whole_tie : (a b : K × X) → whole_cmp R total tie V a b ≡ Equal → a ≡ b
+  pub whole_tie : (a b : K × X) → whole_cmp R total tie V a b ≡ Equal → a ≡ b
   whole_tie a b h = let key = tie a.0 b.0 (tied_first _ _ h) in let value = v_tie a.1 b.1 (tied_second _ _ h) in λ i. (key i, value i)
 
   found : (db : Trees) (tree : ℕ) → AllByRecursion P (db tree) → AreApart R (map entry (db tree)) → (terms : List Term) (show : List ℕ) (order : List (Term × Key)) (params : Row) (p : K → Bool) (decode : Row → K × X)
@@ -131,7 +140,7 @@ module _ {K X : Type 0} (R : K → K → Ordering) (total : IsTotalOrder R) (tie
       (λ r h passed. shows r h (sym (tests r h) ∙ passed)) (λ a b h k _ _. orders a b h k) rows answer
       ∙ ap (filter (λ e. p e.0)) (sorted-keyed R total tie V (map entry (db tree)) apart)
 
-sound_of : (s : State) → IsStore s.now → IsSound store_schema s.now.trees
+pub sound_of : (s : State) → IsStore s.now → IsSound store_schema s.now.trees
 sound_of s store = subst (λ c. IsSound c s.now.trees) store.schema store.sound
 
 pub cells_shown : (tab : ℤ) (old new : State) (rows : List Row) → (IsTrue old.is_open → IsStore old.now) → Shown cells_text (Int tab ∷ []) old new rows
@@ -221,6 +230,19 @@ term_stored_shown tab term old new rows if_open h =
     (λ r h passed. ap (λ t. ((t, (stored_entry r).0.1, (stored_entry r).0.2), (stored_entry r).1)) (same_int tab (stored_entry r).0.0 (and_first _ _ passed)))
     (λ a b p q. then_key (cmp_ints _ _ _ _ p.tab q.tab) (then_key (cmp_texts _ _ _ _ p.term q.term) (then_key (cmp_ints _ _ _ _ p.docid q.docid) (last_key (cmp_blobs _ _ _ _ p.list q.list)))) ∙ regroup_3 (int_cmp (stored_entry a).0.0 (stored_entry b).0.0) (name_cmp (stored_entry a).0.1 (stored_entry b).0.1) (int_cmp (stored_entry a).0.2 (stored_entry b).0.2) (name_cmp (stored_entry a).1 (stored_entry b).1))
     rows ((reads_as term_text (Int tab ∷ Text term ∷ []) old new store_schema kept.schema _ term_is term_plain term_unlisted rows h).answer Null)
+
+pub prefix_stored_shown : (tab : ℤ) (from end : List ℕ) (old new : State) (rows : List Row) → from ≢ [] → end ≡ after_last from → (IsTrue old.is_open → IsStore old.now) → Shown prefix_text (Int tab ∷ Text from ∷ Text end ∷ []) old new rows
+    → map (found_list tab) rows ≡ where_key list_key_cmp (λ k. int_eq tab k.0 && starts_with nat_eq k.1 from) (keyed list_key_cmp (map stored_entry (old.now.trees 7)))
+prefix_stored_shown tab from end old new rows some past if_open h =
+    let kept = if_open (shown_open _ _ old new rows h) in
+    let sound = sound_of old kept in
+    let params = Int tab ∷ Text from ∷ Text end ∷ [] in
+    found list_key_cmp list_key_total tied_list_keys name_cmp name_total tied_names stored_entry IsListRow (overlay old.now.trees []) 7 (are_lists old.now.trees sound) (lists_apart old.now.trees sound kept.shaped.1.1.1.1.0) prefix_query.filter list_shown (rising list_order) params (λ k. int_eq tab k.0 && starts_with nat_eq k.1 from) (found_list tab)
+    (λ r h. then_term (turned _ _ _ _ h.tab refl) (then_term (test_texts Ge _ _ _ _ h.term refl) (last_term (test_texts Lt _ _ _ _ h.term refl)))
+    ∙ ap (λ e. int_eq tab (stored_entry r).0.0 && (is_le (name_cmp from (stored_entry r).0.1) && is_lt (name_cmp (stored_entry r).0.1 e))) past ∙ ap (λ t. int_eq tab (stored_entry r).0.0 && t) (in_range from (stored_entry r).0.1 some))
+    (λ r h passed. ap (λ t. ((t, (stored_entry r).0.1, (stored_entry r).0.2), (stored_entry r).1)) (same_int tab (stored_entry r).0.0 (and_first _ _ passed)))
+    (λ a b p q. then_key (cmp_ints _ _ _ _ p.tab q.tab) (then_key (cmp_texts _ _ _ _ p.term q.term) (then_key (cmp_ints _ _ _ _ p.docid q.docid) (last_key (cmp_blobs _ _ _ _ p.list q.list)))) ∙ regroup_3 (int_cmp (stored_entry a).0.0 (stored_entry b).0.0) (name_cmp (stored_entry a).0.1 (stored_entry b).0.1) (int_cmp (stored_entry a).0.2 (stored_entry b).0.2) (name_cmp (stored_entry a).1 (stored_entry b).1))
+    rows ((reads_as prefix_text params old new store_schema kept.schema _ prefix_is prefix_plain prefix_unlisted rows h).answer Null)
 
 pub lists_stored_shown : (tab : ℤ) (old new : State) (rows : List Row) → (IsTrue old.is_open → IsStore old.now) → Shown lists_text (Int tab ∷ []) old new rows
     → map (found_list tab) rows ≡ where_key list_key_cmp (λ k. int_eq tab k.0) (keyed list_key_cmp (map stored_entry (old.now.trees 7)))

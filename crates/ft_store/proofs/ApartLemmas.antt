@@ -8,7 +8,7 @@ use Rattle.std.proofs.lemmas.Cmp.{int_cmp_total, nat_list_cmp_total}
 use Rattle.sqlite.specs.declared.types.Value.{Value}
 use Rattle.sqlite.specs.declared.types.Value.TheVariants.{Null, Int, Real, Text, Blob}
 use Rattle.sqlite.specs.Order.{Row, column}
-use Rattle.sqlite_value.specs.Order.{value_cmp}
+use Rattle.sqlite_value.specs.Order.{value_cmp, bytes}
 use Rattle.sqlite_value.specs.Keys.{first_key, without_case}
 use Rattle.sqlite_value.specs.declared.keys.Order.{Order}
 use Rattle.sqlite_value.proofs.OrderLemmas.{value_cmp-Int, value_cmp-Text}
@@ -127,6 +127,14 @@ notes_agree : (r s : Row) → IsNoteRow r → IsNoteRow s → eq_by_cmp name_cmp
 unfolding first_key
 notes_agree r s p q e = then_true (same_cases _ _ _ _ q.name p.name (sym (tied_names (note_entry r).0 (note_entry s).0 (equal_from _ e)))) refl
 
+-- a table under its name without case
+abbrev pub case_entry : Row → List ℕ × Unit {0}
+case_entry row = (without_case (bytes (column row 2)), tt)
+
+cases_agree : (r s : Row) → IsNameRow r → IsNameRow s → eq_by_cmp name_cmp (case_entry r).0 (case_entry s).0 ≡ true → agree case_order (2 ∷ []) s (2 ∷ []) r ≡ true
+unfolding first_key
+cases_agree r s p q e = then_true (same_cases _ _ _ _ q.name p.name (sym (tied_names (case_entry r).0 (case_entry s).0 (equal_from _ e)))) refl
+
 -- ---- each table
 
 not_first : (b : Bool) → (not b && true) ≡ true → b ≡ false
@@ -144,6 +152,12 @@ names_apart db shaped = go (db 1) shaped.0 shaped.1
     go : (rows : List Row) → IsTable rows → AllByRecursion IsInt rows → AreApart int_cmp (map table_entry rows)
     go [] up ints = tt
     go (r ∷ rows) up ints = (missed r rows ints.0 ints.1 up.0, go rows up.1 ints.1)
+
+-- nor have two tables one name
+pub cases_apart : (db : Trees) → IsSound store_schema db → IsShaped shape.Table (db 1) → AreApart name_cmp (map case_entry (db 1))
+cases_apart db sound shaped =
+    apart name_cmp case_order (2 ∷ []) IsNameRow case_entry cases_agree (db 1) shaped.0 shaped.1 (are_names db sound shaped)
+    (all_weaker _ (λ r. clashes case_order (2 ∷ []) (db 1) r ≡ false) (λ r h. not_first _ h) (db 1) (sound.obeys.rules Unique).1.0)
 
 pub columns_apart : (db : Trees) → IsSound store_schema db → IsShaped shape.Table (db 3) → AreApart column_key_cmp (map column_entry (db 3))
 columns_apart db sound shaped =

@@ -12,7 +12,7 @@ use Rattle.sqlite_rules.specs.Edit.{is_taken}
 use Rattle.ft_store.specs.Store.{without_key}
 use Rattle.ft_store.specs.Rows.{keyed}
 
-some_first : {X : Type 0} (b : Bool) (x : X) (o : Option X) → cond b (Some x) o ≡ None → (b ≡ false) × (o ≡ None)
+pub some_first : {X : Type 0} (b : Bool) (x : X) (o : Option X) → cond b (Some x) o ≡ None → (b ≡ false) × (o ≡ None)
 some_first true x o h = absurd cc
 some_first false x o h = (refl, h)
 

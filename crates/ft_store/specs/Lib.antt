@@ -4,6 +4,7 @@ pub mod Found
 pub mod Kept
 pub mod Made
 pub mod Packed
+pub mod Range
 pub mod Rows
 pub mod Shown
 pub mod Store

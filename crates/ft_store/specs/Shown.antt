@@ -1,14 +1,18 @@
 -- The rows that reads give, as rows under their keys.
-use Rattle.std.specs.Prelude.{◌≢◌, ℕ, ℤ, List, [], map, string_bytes, String}
-use Rattle.std.specs.List.{AllByRecursion, flat_map}
+use Rattle.std.specs.Prelude.{◌≡◌, ◌≢◌, ℕ, ℤ, Bool, false, ◌||◌, List, [], ◌∷◌, map, reverse, slice_get, Option, option_map, string_bytes, String}
+use Rattle.std.specs.List.{AllByRecursion, flat_map, list_any}
+use Rattle.std.specs.Str.{str_eq_ignore_ascii_case}
 use Rattle.std.specs.declared.alloc.Global.{Global}
+use Rattle.std.specs.Ordering.{int_eq}
+use Rattle.std.specs.FinMap.Entries.{where_key}
 use Rattle.sqlite_value.specs.Keys.{without_case}
 use Rattle.ft_store.specs.declared.rows.CellRow.{CellRow}
 use Rattle.ft_store.specs.declared.rows.SizeRow.{SizeRow}
 use Rattle.ft_store.specs.declared.rows.EntryRow.{EntryRow}
 use Rattle.ft_store.specs.declared.rows.Spot.{Spot}
+use Rattle.ft_store.specs.declared.rows.TabRow.{TabRow}
 use Rattle.ft_store.specs.declared.lists.ListRow.{ListRow}
-use Rattle.ft_store.specs.Store.{Cell, CellKey, ListKey, ColumnKey}
+use Rattle.ft_store.specs.Store.{Cell, CellKey, ListKey, ColumnKey, cell_key_cmp, column_key_cmp, StoreValue}
 use Rattle.ft_store.specs.Changes.{shown_value}
 
 abbrev pub shown_cell : ℤ → CellRow → CellKey × Cell
@@ -52,3 +56,39 @@ AreWhole = AllByRecursion (λ l. l.1 ≢ [])
 
 abbrev pub SomeDamaged : List (ListKey × List Spot) → Type 0
 SomeDamaged lists = ¬ AreWhole lists
+
+-- A table as it is listed: its number and its name, its columns by their rising numbers, and the numbers of those that
+-- aren't indexed.
+pub record Listed : Type 0 where
+  pub id : ℤ
+  pub name : List ℕ
+  pub columns : List (ℤ × List ℕ)
+  pub skipped : List ℤ
+
+abbrev pub shown_table : TabRow → Listed
+shown_table t = record { id = t.id; name = string_bytes t.name; columns = map (λ c. (c.0, string_bytes c.1)) t.columns.items; skipped = t.skipped.items }
+
+abbrev pub table_listed : StoreValue → ℤ × List ℕ → Listed
+table_listed store t = record {
+  id = t.0;
+  name = t.1;
+  columns = map (λ c. (c.0.1, c.1)) (where_key column_key_cmp (λ k. int_eq t.0 k.0) store.columns);
+  skipped = map (λ s. s.0.1) (where_key column_key_cmp (λ k. int_eq t.0 k.0) store.skipped);
+}
+
+-- all tables, by their rising numbers
+abbrev pub tables_listed : StoreValue → List Listed
+tables_listed store = map (table_listed store) store.tables
+
+-- The greatest docid of a table's cells. Cells stand by rising docid, so it is that of the last one.
+abbrev pub last_docid_of : ℤ → List (CellKey × Cell) → Option ℤ
+last_docid_of tab cells = option_map (λ c. c.0.1) (slice_get (reverse (where_key cell_key_cmp (λ k. int_eq tab k.0) cells)) 0)
+
+-- some name comes twice, without ASCII case
+abbrev pub repeats_name : List (List ℕ) → Bool
+repeats_name [] = false
+repeats_name (name ∷ names) = list_any (str_eq_ignore_ascii_case name) names || repeats_name names
+
+-- no two tables have one name
+abbrev pub AreNamedApart : StoreValue → Type 0
+AreNamedApart store = repeats_name (map (λ t. t.1) store.tables) ≡ false

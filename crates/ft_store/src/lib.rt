@@ -9,6 +9,7 @@ mod read;
 mod rows;
 mod statements;
 mod store;
+mod tables;
 mod write;
 
 pub use fault::StoreFault;

@@ -1,5 +1,5 @@
 //! Queries, each with the rows of the store's value that it gives.
-ghost use Rattle.std.specs.Prelude.{◌≡◌, false, ◌&&◌, Err, map, IsTrue, IfOk};
+ghost use Rattle.std.specs.Prelude.{◌≡◌, false, ◌&&◌, Err, map, slice_get, option_map, IsTrue, IfOk, OnOk};
 ghost use Rattle.std.specs.Ordering.{int_eq};
 ghost use Rattle.std.specs.FinMap.Entries.{where_key};
 ghost use Rattle.sqlite.specs.State.{HasCleanDisk, Survives, Shown};
@@ -7,10 +7,12 @@ ghost use Rattle.sqlite.specs.Given.{IsPlain};
 ghost use Rattle.sqlite.specs.Listing.{understood};
 ghost use Rattle.sqlite.specs.Values.{bound};
 ghost use Rattle.sqlite.specs.Held.{state};
+ghost use Rattle.sqlite.specs.Order.{column};
+ghost use Rattle.sqlite_rules.specs.Edit.{id_in};
 ghost use Rattle.ft_store.specs.Store.{cell_key_cmp, column_key_cmp};
 ghost use Rattle.ft_store.specs.Rows.{value_of};
 ghost use Rattle.ft_store.specs.Found.{found_table, found_column, found_skip, found_cell, found_size, found_note};
-ghost use Rattle.ft_store.specs.Shown.{shown_cell, shown_size, shown_name, shown_column, shown_skip, shown_note};
+ghost use Rattle.ft_store.specs.Shown.{shown_cell, shown_size, shown_name, shown_column, shown_skip, shown_note, last_docid_of};
 ghost use Rattle.ft_store.specs.Calls.{IsStoreIfOpen, Keeps};
 
 use crate::fault::StoreFault;
@@ -29,6 +31,7 @@ pub(crate) fn select<S: Alter>(
     requires settled { (state S.Store conn.old).in_transaction ≡ false }
     ensures shown { HasCleanDisk (state S.Store conn.new) → IfOk result (λ rows. Shown sql.now (bound params.now) (state S.Store conn.old) (state S.Store conn.new) rows.items) }
     ensures kept { HasCleanDisk (state S.Store conn.new) → Keeps (state S.Store conn.old) (state S.Store conn.new) }
+    ensures live { HasCleanDisk (state S.Store conn.new) → OnOk result (IsTrue (state S.Store conn.new).is_open) }
     ensures mode { (state S.Store conn.new).in_transaction ≡ false }
     ensures whole { ¬ (result ≡ Err StoreFault.Damaged) }
     ensures survives { Survives (state S.Store conn.old) (state S.Store conn.new) (λ _. IsTrue (state S.Store conn.old).is_open → ⊥) }
@@ -171,6 +174,7 @@ pub(crate) fn names<S: Alter>(
     requires settled { (state S.Store conn.old).in_transaction ≡ false }
     ensures rows { HasCleanDisk (state S.Store conn.new) → IfOk result (λ found. map shown_name found.items ≡ (value_of (state S.Store conn.old).now.trees).tables) }
     ensures kept { HasCleanDisk (state S.Store conn.new) → Keeps (state S.Store conn.old) (state S.Store conn.new) }
+    ensures live { HasCleanDisk (state S.Store conn.new) → OnOk result (IsTrue (state S.Store conn.new).is_open) }
     ensures mode { (state S.Store conn.new).in_transaction ≡ false }
     ensures survives { Survives (state S.Store conn.old) (state S.Store conn.new) (λ _. IsTrue (state S.Store conn.old).is_open → ⊥) }
 {
@@ -192,6 +196,7 @@ pub(crate) fn columns<S: Alter>(
     requires settled { (state S.Store conn.old).in_transaction ≡ false }
     ensures rows { HasCleanDisk (state S.Store conn.new) → IfOk result (λ found. map (shown_column tab) found.items ≡ where_key column_key_cmp (λ k. int_eq tab k.0) (value_of (state S.Store conn.old).now.trees).columns) }
     ensures kept { HasCleanDisk (state S.Store conn.new) → Keeps (state S.Store conn.old) (state S.Store conn.new) }
+    ensures live { HasCleanDisk (state S.Store conn.new) → OnOk result (IsTrue (state S.Store conn.new).is_open) }
     ensures mode { (state S.Store conn.new).in_transaction ≡ false }
     ensures survives { Survives (state S.Store conn.old) (state S.Store conn.new) (λ _. IsTrue (state S.Store conn.old).is_open → ⊥) }
 {
@@ -213,6 +218,7 @@ pub(crate) fn skips<S: Alter>(
     requires settled { (state S.Store conn.old).in_transaction ≡ false }
     ensures rows { HasCleanDisk (state S.Store conn.new) → IfOk result (λ found. map (shown_skip tab) found.items ≡ where_key column_key_cmp (λ k. int_eq tab k.0) (value_of (state S.Store conn.old).now.trees).skipped) }
     ensures kept { HasCleanDisk (state S.Store conn.new) → Keeps (state S.Store conn.old) (state S.Store conn.new) }
+    ensures live { HasCleanDisk (state S.Store conn.new) → OnOk result (IsTrue (state S.Store conn.new).is_open) }
     ensures mode { (state S.Store conn.new).in_transaction ≡ false }
     ensures survives { Survives (state S.Store conn.old) (state S.Store conn.new) (λ _. IsTrue (state S.Store conn.old).is_open → ⊥) }
 {
@@ -265,6 +271,36 @@ pub(crate) fn document<S: Alter>(
         params![tab, docid],
     )?;
     cell_rows(alloc, rows.as_slice())
+}
+
+/// The docid of the first row, where there is one.
+fn first_docid(rows: &[Row]) -> Result<Option<i64>, StoreFault>
+    ensures { IfOk result (λ docid. docid ≡ option_map (λ row. id_in (column row 0)) (slice_get rows.now 0)) }
+{
+    match rows.first() {
+        Some(row) => Ok(Some(row.get(0)?)),
+        None => Ok(None),
+    }
+}
+
+/// The greatest docid of a table.
+pub(crate) fn last_docid<S: Alter>(
+    conn: &mut Connection<S>,
+    tab: i64,
+) -> Result<Option<i64>, StoreFault>
+    requires store { IsStoreIfOpen (state S.Store conn.old) }
+    requires settled { (state S.Store conn.old).in_transaction ≡ false }
+    ensures last { HasCleanDisk (state S.Store conn.new) → IfOk result (λ last. last ≡ last_docid_of tab (value_of (state S.Store conn.old).now.trees).cells) }
+    ensures kept { HasCleanDisk (state S.Store conn.new) → Keeps (state S.Store conn.old) (state S.Store conn.new) }
+    ensures mode { (state S.Store conn.new).in_transaction ≡ false }
+    ensures survives { Survives (state S.Store conn.old) (state S.Store conn.new) (λ _. IsTrue (state S.Store conn.old).is_open → ⊥) }
+{
+    let rows = select(
+        conn,
+        "SELECT docid, col FROM cell WHERE tab = ?1 ORDER BY tab DESC, docid DESC, col DESC LIMIT 1",
+        params![tab],
+    )?;
+    first_docid(rows.as_slice())
 }
 
 /// The sizes of a table's cells.

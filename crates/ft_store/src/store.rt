@@ -1,16 +1,17 @@
-ghost use Rattle.std.specs.Prelude.{◌≡◌, ◌&&◌, Err, map, vec_len, All, IsTrue, IfOk, OnOk, OnErr};
+ghost use Rattle.std.specs.Prelude.{◌≡◌, ◌&&◌, Err, map, vec_len, length, option_to_list, nat_eq, All, IsTrue, IfOk, OnOk, OnErr};
 ghost use Rattle.std.specs.Ordering.{int_eq, is_eq};
+ghost use Rattle.std.specs.List.{starts_with};
 ghost use Rattle.std.specs.FinMap.Entries.{where_key};
 ghost use Rattle.sqlite.specs.State.{HasCleanDisk, Survives};
-ghost use Rattle.ft_store.specs.Store.{cell_key_cmp, list_key_cmp, name_cmp, nothing_held, all_applied};
+ghost use Rattle.ft_store.specs.Store.{cell_key_cmp, list_key_cmp, name_cmp, nothing_held, all_applied, AreInOrder};
 ghost use Rattle.ft_store.specs.Changes.{shown_change, CanApply};
-ghost use Rattle.ft_store.specs.Shown.{shown_cell, shown_size, shown_note, shown_entry, entries_of, AreWhole, SomeDamaged};
+ghost use Rattle.ft_store.specs.Shown.{shown_cell, shown_size, shown_note, shown_entry, tables_listed, shown_table, last_docid_of, entries_of, AreWhole, SomeDamaged, AreNamedApart};
 ghost use Rattle.ft_store.specs.Calls.{IsStored, Keeps};
 
 use crate::fault::StoreFault;
 use crate::make::make;
-use crate::rows::{CellRow, EntryRow, RowChange, SizeRow};
-use crate::{lists, read, write};
+use crate::rows::{CellRow, EntryRow, RowChange, SizeRow, TabRow};
+use crate::{lists, read, tables, write};
 use ram_disk::{Ram, open_ram};
 use sqlite::{Alter, Connection, FileStore};
 use std::alloc::Global;
@@ -62,6 +63,19 @@ impl Store<FileStore<Ram>> {
 impl<S: Alter> Store<S> {
     ghost use Rattle.ft_store.specs.Kept.{shows, value_in, more_rows};
 
+    /// All tables, by rising number, each with its columns and the numbers of those that aren't indexed.
+    pub fn tables(&mut self) -> Result<Vec<TabRow>, StoreFault>
+        ensures rows { HasCleanDisk (shows S.Store self.new) → IfOk result (λ found. map shown_table found.items ≡ tables_listed (value_in S.Store self.old)) }
+        ensures kept { HasCleanDisk (shows S.Store self.new) → Keeps (shows S.Store self.old) (shows S.Store self.new) }
+        ensures survives { Survives (shows S.Store self.old) (shows S.Store self.new) (λ _. IsTrue (shows S.Store self.old).is_open → ⊥) }
+        ensures counted { IfOk result (λ found. self.new.rows_read ≡ more_rows (vec_len found) self.old) }
+        ensures uncounted { OnErr result (self.new.rows_read ≡ self.old.rows_read) }
+    {
+        let found = tables::tables(&mut self.conn, self.alloc)?;
+        self.rows_read = self.rows_read.saturating_add(found.len() as u64);
+        Ok(found)
+    }
+
     /// All cells of a table, by rising docid and then column.
     pub fn cells(&mut self, tab: i64) -> Result<Vec<CellRow>, StoreFault>
         ensures rows { HasCleanDisk (shows S.Store self.new) → IfOk result (λ found. map (shown_cell tab) found.items ≡ where_key cell_key_cmp (λ k. int_eq tab k.0) (value_in S.Store self.old).cells) }
@@ -88,6 +102,19 @@ impl<S: Alter> Store<S> {
         Ok(found)
     }
 
+    /// The greatest docid of a table's cells, None where it has none.
+    pub fn last_docid(&mut self, tab: i64) -> Result<Option<i64>, StoreFault>
+        ensures last { HasCleanDisk (shows S.Store self.new) → IfOk result (λ last. last ≡ last_docid_of tab (value_in S.Store self.old).cells) }
+        ensures kept { HasCleanDisk (shows S.Store self.new) → Keeps (shows S.Store self.old) (shows S.Store self.new) }
+        ensures survives { Survives (shows S.Store self.old) (shows S.Store self.new) (λ _. IsTrue (shows S.Store self.old).is_open → ⊥) }
+        ensures counted { IfOk result (λ last. self.new.rows_read ≡ more_rows (length (option_to_list last)) self.old) }
+        ensures uncounted { OnErr result (self.new.rows_read ≡ self.old.rows_read) }
+    {
+        let last = read::last_docid(&mut self.conn, tab)?;
+        self.rows_read = self.rows_read.saturating_add(u64::from(last.is_some()));
+        Ok(last)
+    }
+
     /// The entries of one term, by rising docid, then column and position. Damaged where one of its lists is.
     pub fn term(&mut self, tab: i64, term: &str) -> Result<Vec<EntryRow>, StoreFault>
         ensures rows { HasCleanDisk (shows S.Store self.new) → IfOk result (λ found. let asked = where_key list_key_cmp (λ k. int_eq tab k.0 && is_eq (name_cmp term.now k.1)) (value_in S.Store self.old).lists in (map shown_entry found.items ≡ entries_of asked) × AreWhole asked) }
@@ -98,6 +125,21 @@ impl<S: Alter> Store<S> {
         ensures uncounted { OnErr result (self.new.rows_read ≡ self.old.rows_read) }
     {
         let found = lists::term(&mut self.conn, self.alloc, tab, term)?;
+        self.rows_read = self.rows_read.saturating_add(found.len() as u64);
+        Ok(found)
+    }
+
+    /// The entries of the terms that begin so, by term, then docid, column and position. Damaged where one of their
+    /// lists is.
+    pub fn prefix(&mut self, tab: i64, begin: &str) -> Result<Vec<EntryRow>, StoreFault>
+        ensures rows { HasCleanDisk (shows S.Store self.new) → IfOk result (λ found. let asked = where_key list_key_cmp (λ k. int_eq tab k.0 && starts_with nat_eq k.1 begin.now) (value_in S.Store self.old).lists in (map shown_entry found.items ≡ entries_of asked) × AreWhole asked) }
+        ensures damaged { HasCleanDisk (shows S.Store self.new) → result ≡ Err StoreFault.Damaged → SomeDamaged (where_key list_key_cmp (λ k. int_eq tab k.0 && starts_with nat_eq k.1 begin.now) (value_in S.Store self.old).lists) }
+        ensures kept { HasCleanDisk (shows S.Store self.new) → Keeps (shows S.Store self.old) (shows S.Store self.new) }
+        ensures survives { Survives (shows S.Store self.old) (shows S.Store self.new) (λ _. IsTrue (shows S.Store self.old).is_open → ⊥) }
+        ensures counted { IfOk result (λ found. self.new.rows_read ≡ more_rows (vec_len found) self.old) }
+        ensures uncounted { OnErr result (self.new.rows_read ≡ self.old.rows_read) }
+    {
+        let found = lists::prefix(&mut self.conn, self.alloc, tab, begin)?;
         self.rows_read = self.rows_read.saturating_add(found.len() as u64);
         Ok(found)
     }
@@ -154,6 +196,14 @@ impl<S: Alter> Store<S> {
             (λ db. IsTrue (shows S.Store self.old).is_open → IsStored db (all_applied (map shown_change changes.now) (value_in S.Store self.old))) }
     {
         write::change(&mut self.conn, self.alloc, changes)
+    }
+
+    /// The law that rows stand in the order of their keys, each key once, and that no two tables have one name.
+    pub fn is_in_order(&self)
+        ensures order { AreInOrder (value_in S.Store self.now) }
+        ensures names { HasCleanDisk (shows S.Store self.now) → IsTrue (shows S.Store self.now).is_open → AreNamedApart (value_in S.Store self.now) }
+    {
+        let _ = &self.conn;
     }
 
     /// How many rows the reads gave so far. It stays at its greatest value.

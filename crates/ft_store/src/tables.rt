@@ -1,0 +1,59 @@
+//! The tables of a store, each with its columns.
+ghost use Rattle.std.specs.Prelude.{◌≡◌, false, map, string_bytes, IsTrue, IfOk, OnOk};
+ghost use Rattle.sqlite.specs.State.{HasCleanDisk, Survives};
+ghost use Rattle.sqlite.specs.Held.{state};
+ghost use Rattle.ft_store.specs.Rows.{value_of};
+ghost use Rattle.ft_store.specs.Shown.{shown_table, table_listed, tables_listed};
+ghost use Rattle.ft_store.specs.Calls.{IsStoreIfOpen, Keeps};
+
+use crate::fault::StoreFault;
+use crate::read::{columns, names, skips};
+use crate::rows::TabRow;
+use sqlite::{Alter, Connection};
+use std::alloc::Global;
+
+/// A table that is there, with its columns.
+fn table<S: Alter>(
+    conn: &mut Connection<S>,
+    alloc: Global,
+    id: i64,
+    name: String,
+) -> Result<TabRow, StoreFault>
+    requires store { IsStoreIfOpen (state S.Store conn.old) }
+    requires settled { (state S.Store conn.old).in_transaction ≡ false }
+    ensures rows { HasCleanDisk (state S.Store conn.new) → IfOk result (λ found. shown_table found ≡ table_listed (value_of (state S.Store conn.old).now.trees) (id, string_bytes name)) }
+    ensures kept { HasCleanDisk (state S.Store conn.new) → Keeps (state S.Store conn.old) (state S.Store conn.new) }
+    ensures live { HasCleanDisk (state S.Store conn.new) → OnOk result (IsTrue (state S.Store conn.new).is_open) }
+    ensures mode { (state S.Store conn.new).in_transaction ≡ false }
+    ensures survives { Survives (state S.Store conn.old) (state S.Store conn.new) (λ _. IsTrue (state S.Store conn.old).is_open → ⊥) }
+{
+    let columns = columns(conn, alloc, id)?;
+    let skipped = skips(conn, alloc, id)?;
+    Ok(TabRow {
+        id,
+        name,
+        columns,
+        skipped,
+    })
+}
+
+/// All tables.
+pub(crate) fn tables<S: Alter>(
+    conn: &mut Connection<S>,
+    alloc: Global,
+) -> Result<Vec<TabRow>, StoreFault>
+    requires store { IsStoreIfOpen (state S.Store conn.old) }
+    requires settled { (state S.Store conn.old).in_transaction ≡ false }
+    ensures rows { HasCleanDisk (state S.Store conn.new) → IfOk result (λ found. map shown_table found.items ≡ tables_listed (value_of (state S.Store conn.old).now.trees)) }
+    ensures kept { HasCleanDisk (state S.Store conn.new) → Keeps (state S.Store conn.old) (state S.Store conn.new) }
+    ensures mode { (state S.Store conn.new).in_transaction ≡ false }
+    ensures survives { Survives (state S.Store conn.old) (state S.Store conn.new) (λ _. IsTrue (state S.Store conn.old).is_open → ⊥) }
+{
+    let names = names(conn, alloc)?;
+    let mut found = Vec::new(alloc);
+    for named in &names {
+        let name = named.1.clone()?;
+        found.push(table(conn, alloc, named.0, name)?)?;
+    }
+    Ok(found)
+}
