@@ -1,12 +1,13 @@
 //! Full-text tables and their commands.
 #![tactic(auto)]
 
-pub mod fault;
-pub mod laws;
+mod fault;
+mod laws;
 mod names;
-pub mod plain;
-pub mod word;
+mod plain;
+mod word;
 
 pub use fault::Fault;
+pub use laws::{commands_keep_contents, rows_hold_one_content};
 pub use plain::PlainTables;
 pub use word::SearchWord;
