@@ -3,6 +3,9 @@ ghost use Rattle.std.specs.Prelude.{◌≡◌, ◌∷◌, ◌++◌, map, decimal
 ghost use Rattle.std.specs.List.{join_with_byte};
 ghost use Rattle.ft_query.specs.Occurs.{offset_numbers, offsets_text};
 
+mod cursor;
+mod steps;
+
 use itoa::Buffer;
 use std::alloc::{AllocError, Global};
 
