@@ -12,3 +12,4 @@ pub mod Machine
 pub mod Work
 pub mod Cursors
 pub mod Walk
+pub mod Search

@@ -4,7 +4,13 @@ ghost use Rattle.std.specs.List.{join_with_byte};
 ghost use Rattle.ft_query.specs.Occurs.{offset_numbers, offsets_text};
 
 mod cursor;
+mod load;
+mod matches;
+mod search;
 mod steps;
+mod visit;
+
+pub use matches::Matches;
 
 use itoa::Buffer;
 use std::alloc::{AllocError, Global};

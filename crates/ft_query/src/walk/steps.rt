@@ -1,5 +1,5 @@
 // How much work a walk has done.
-ghost use Rattle.std.specs.Prelude.{◌≡◌, ◌+◌, ◌-◌, ◌^◌, min};
+ghost use Rattle.std.specs.Prelude.{◌≡◌, ◌+◌, ◌-◌, ◌^◌, ◌≤◌, min};
 
 /// The steps so far: the docids and positions that were looked at, and the parts of a query that were visited for a document. The
 /// count stays at its greatest value.
@@ -10,7 +10,8 @@ pub(crate) struct Steps {
 
 impl Steps {
     pub(crate) fn take(&mut self)
-        ensures { self.new.taken ≡ min (self.old.taken + 1) (2 ^ 64 - 1) }
+        ensures taken { self.new.taken ≡ min (self.old.taken + 1) (2 ^ 64 - 1) }
+        ensures rises { self.old.taken ≤ self.new.taken }
     {
         self.taken = self.taken.saturating_add(1);
     }
