@@ -180,7 +180,7 @@ none_left (t ∷ ts) = none_left ts
 
 -- ---- the next document
 
-are_more : (d : Document) (ds : List Document) → AreDocuments (d ∷ ds) → AreDocuments ds
+pub are_more : (d : Document) (ds : List Document) → AreDocuments (d ∷ ds) → AreDocuments ds
 are_more d ds are = record {
   rising = pairs_tail (λ (a b : Document). a.docid <ℤ b.docid) d ds are.rising;
   filled = All-tail (λ (e : Document). e.postings ≢ []) d ds are.filled;
