@@ -17,7 +17,7 @@ lists_kept c = map plain_list (drop c.kept c.lists.items)
 
 -- how many places are left in all
 abbrev pub places_left : List Cursor → ℕ
-places_left cursors = sum_by (λ c. place_count (lists_left c)) cursors
+places_left cursors = sum_by (λ c. place_count (lists_kept c)) cursors
 
 -- the places in this document, if it is the next one
 abbrev pub places_at : ℤ → List PlaceList → List Place

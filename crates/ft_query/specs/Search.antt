@@ -6,12 +6,16 @@ use Rattle.ft_query.specs.declared.walk.search.Considered.{Considered}
 use Rattle.ft_query.specs.declared.walk.search.Considered.TheVariants.{NoDocument, Passed, Found}
 use Rattle.ft_query.specs.Documents.{Document}
 use Rattle.ft_query.specs.Occurs.{PlainHit, plain_hit}
-use Rattle.ft_query.specs.Cursors.{lists_left}
+use Rattle.ft_query.specs.Cursors.{lists_left, lists_kept}
 use Rattle.ft_query.specs.Walk.{Walk, Went}
 
 -- the walk where the search is
 abbrev pub walk_at : Query → List Cursor → ℕ → Walk
 walk_at query cursors steps = record { query = query; lists = map lists_left cursors; steps = steps }
+
+-- the walk where it stands
+abbrev pub stands_at : Query → List Cursor → ℕ → Walk
+stands_at query cursors steps = record { query = query; lists = map lists_kept cursors; steps = steps }
 
 abbrev pub hits_in : Considered → List PlainHit
 hits_in NoDocument = []

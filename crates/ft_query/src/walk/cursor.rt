@@ -37,7 +37,8 @@ impl Cursor {
 
     /// The walk now stands where the search is.
     pub(crate) fn keep(&mut self)
-        ensures { lists_kept self.new ≡ lists_left self.old }
+        ensures kept { lists_kept self.new ≡ lists_left self.old }
+        ensures left { lists_left self.new ≡ lists_left self.old }
     {
         self.kept = self.at;
     }

@@ -4,7 +4,7 @@ ghost use Rattle.ft_query.specs.Documents.{place_count};
 ghost use Rattle.ft_query.specs.Trees.{plain_term, plain_link, tree_of};
 ghost use Rattle.ft_query.specs.Lists.{is_failed};
 ghost use Rattle.ft_query.specs.Work.{terms_in};
-ghost use Rattle.ft_query.specs.Cursors.{lists_left, places_left, listed_for};
+ghost use Rattle.ft_query.specs.Cursors.{lists_kept, places_left, listed_for};
 
 use crate::lists::{ListFault, Lists};
 use crate::query::{Link, Query, QueryTerm};
@@ -17,10 +17,10 @@ fn load_term<L: Lists>(
     term: &QueryTerm,
     lists: &mut L,
 ) -> Result<Cursor, ListFault>
-    ensures list { IfOk result (λ c. L.is_clean lists.new → lists_left c ≡ listed_for (L.documents lists.new) (plain_term term.now)) }
+    ensures list { IfOk result (λ c. L.is_clean lists.new → lists_kept c ≡ listed_for (L.documents lists.new) (plain_term term.now)) }
     ensures clean { L.is_clean lists.new → L.is_clean lists.old × (L.documents lists.new ≡ L.documents lists.old) }
     ensures failed { L.has_failed lists.new ≡ (L.has_failed lists.old || is_failed result) }
-    ensures given { IfOk result (λ c. L.given_so_far lists.new ≡ min (L.given_so_far lists.old + place_count (lists_left c)) (2 ^ 64 - 1)) }
+    ensures given { IfOk result (λ c. L.given_so_far lists.new ≡ min (L.given_so_far lists.old + place_count (lists_kept c)) (2 ^ 64 - 1)) }
 {
     let list = if term.prefix {
         lists.prefix(alloc, term.text.as_str())?
@@ -37,7 +37,7 @@ fn load_terms<L: Lists>(
     lists: &mut L,
     cursors: &mut Vec<Cursor>,
 ) -> Result<(), ListFault>
-    ensures lists { OnOk result (L.is_clean lists.new → map lists_left cursors.new.items ≡ map lists_left cursors.old.items ++ map (listed_for (L.documents lists.new)) (map plain_term terms.now)) }
+    ensures lists { OnOk result (L.is_clean lists.new → map lists_kept cursors.new.items ≡ map lists_kept cursors.old.items ++ map (listed_for (L.documents lists.new)) (map plain_term terms.now)) }
     ensures number { OnOk result (vec_len cursors.new ≡ vec_len cursors.old + length terms.now) }
     ensures clean { L.is_clean lists.new → L.is_clean lists.old × (L.documents lists.new ≡ L.documents lists.old) }
     ensures failed { L.has_failed lists.new ≡ (L.has_failed lists.old || is_failed result) }
@@ -57,7 +57,7 @@ fn load_links<L: Lists>(
     lists: &mut L,
     cursors: &mut Vec<Cursor>,
 ) -> Result<(), ListFault>
-    ensures lists { OnOk result (L.is_clean lists.new → map lists_left cursors.new.items ≡ map lists_left cursors.old.items ++ map (listed_for (L.documents lists.new)) (flat_map (λ link. link.to.terms) (map plain_link links.now))) }
+    ensures lists { OnOk result (L.is_clean lists.new → map lists_kept cursors.new.items ≡ map lists_kept cursors.old.items ++ map (listed_for (L.documents lists.new)) (flat_map (λ link. link.to.terms) (map plain_link links.now))) }
     ensures number { OnOk result (vec_len cursors.new ≡ vec_len cursors.old + length (flat_map (λ link. link.to.terms) (map plain_link links.now))) }
     ensures clean { L.is_clean lists.new → L.is_clean lists.old × (L.documents lists.new ≡ L.documents lists.old) }
     ensures failed { L.has_failed lists.new ≡ (L.has_failed lists.old || is_failed result) }
@@ -76,7 +76,7 @@ pub(crate) fn load<L: Lists>(
     lists: &mut L,
     cursors: &mut Vec<Cursor>,
 ) -> Result<(), ListFault>
-    ensures lists { OnOk result (L.is_clean lists.new → map lists_left cursors.new.items ≡ map lists_left cursors.old.items ++ map (listed_for (L.documents lists.new)) (terms_in (tree_of query.now))) }
+    ensures lists { OnOk result (L.is_clean lists.new → map lists_kept cursors.new.items ≡ map lists_kept cursors.old.items ++ map (listed_for (L.documents lists.new)) (terms_in (tree_of query.now))) }
     ensures number { OnOk result (vec_len cursors.new ≡ vec_len cursors.old + length (terms_in (tree_of query.now))) }
     ensures clean { L.is_clean lists.new → L.is_clean lists.old × (L.documents lists.new ≡ L.documents lists.old) }
     ensures failed { L.has_failed lists.new ≡ (L.has_failed lists.old || is_failed result) }

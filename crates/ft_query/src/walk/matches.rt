@@ -1,21 +1,61 @@
 // The documents that a query accepts, one after the other.
-ghost use Rattle.std.specs.Prelude.{◌≡◌, ◌+◌, ◌-◌, ◌^◌, ◌<◌, ◌≤◌, ◌||◌, ◌++◌, List, min, IfOk, OnOk, OnErr};
-ghost use Rattle.ft_query.specs.Documents.{Document, AreDocuments};
+ghost use Rattle.std.specs.Prelude.{◌≡◌, ◌+◌, ◌-◌, ◌^◌, ◌<◌, ◌||◌, List, length, map, min, IfOk, OnOk, OnErr};
+ghost use Rattle.ft_query.specs.Documents.{Document};
 ghost use Rattle.ft_query.specs.Trees.{tree_of};
-ghost use Rattle.ft_query.specs.Occurs.{hits_of};
 ghost use Rattle.ft_query.specs.Lists.{is_failed};
-ghost use Rattle.ft_query.specs.Work.{entry_count, candidate_count};
+ghost use Rattle.ft_query.specs.Work.{terms_in, entry_count};
+ghost use Rattle.ft_query.specs.Cursors.{lists_left, lists_kept};
 ghost use Rattle.ft_query.specs.Walk.{StandsBefore, Walked};
+ghost use Rattle.ft_query.specs.Search.{stands_at};
 
 use crate::lists::{ListFault, Lists};
 use crate::query::Query;
 use crate::walk::Hit;
 use crate::walk::cursor::Cursor;
 use crate::walk::load::load;
+use crate::walk::search::search;
 use crate::walk::steps::Steps;
-use crate::walk::visit::visit;
 use std::alloc::{AllocError, Global};
 use std::marker::Model;
+
+/// Begins a search where the walk stands.
+fn begin(cursors: &mut [Cursor])
+    ensures left { map lists_left cursors.new ≡ map lists_kept cursors.old }
+    ensures kept { map lists_kept cursors.new ≡ map lists_kept cursors.old }
+{
+    for cursor in cursors.iter_mut() {
+        cursor.begin();
+    }
+}
+
+/// The walk now stands where the search is.
+fn keep(cursors: &mut [Cursor])
+    ensures { map lists_kept cursors.new ≡ map lists_left cursors.old }
+{
+    for cursor in cursors.iter_mut() {
+        cursor.keep();
+    }
+}
+
+/// The next hit. The walk then stands behind it, and after an error where it stood.
+fn advance(
+    alloc: Global,
+    query: &Query,
+    cursors: &mut [Cursor],
+    steps: &mut Steps,
+) -> Result<Option<Hit>, AllocError>
+    requires { length cursors.old ≡ length (terms_in (tree_of query.now)) }
+    ensures walked { IfOk result (λ hit. (documents : List Document) → StandsBefore (stands_at query.now cursors.old steps.old.taken) documents →
+        Walked (stands_at query.now cursors.old steps.old.taken) (stands_at query.now cursors.new steps.new.taken) hit documents) }
+    ensures err { OnErr result ((map lists_kept cursors.new ≡ map lists_kept cursors.old) × (steps.new ≡ steps.old)) }
+{
+    let mut taken = *steps;
+    begin(cursors);
+    let hit = search(alloc, query, cursors, &mut taken)?;
+    keep(cursors);
+    *steps = taken;
+    Ok(hit)
+}
 
 /// The walk over the documents that a query accepts, by rising docid. It goes over the lists of the query's terms once.
 #[derive(Drop)]
@@ -30,7 +70,7 @@ impl<'q> Model for Matches<'q> {
     ghost use Rattle.std.specs.Prelude.{◌≡◌, map, length, vec_len};
     ghost use Rattle.ft_query.specs.Trees.{tree_of};
     ghost use Rattle.ft_query.specs.Work.{terms_in};
-    ghost use Rattle.ft_query.specs.Cursors.{lists_left};
+    ghost use Rattle.ft_query.specs.Cursors.{lists_kept};
     ghost use Rattle.ft_query.specs.Walk.{Walk};
     ghost use Rattle.ft_query.specs.contracts.query.Query as q;
     ghost use Rattle.std.specs.Coded.{codes};
@@ -39,7 +79,7 @@ impl<'q> Model for Matches<'q> {
 
     ghost coded = { Prim.hlevel (codes, q.the_row.coded) };
 
-    ghost view = { λ m. record { query = m.query.now; lists = map lists_left m.cursors.items; steps = m.steps.taken } };
+    ghost view = { λ m. record { query = m.query.now; lists = map lists_kept m.cursors.items; steps = m.steps.taken } };
 
     ghost invariant = { λ m. vec_len m.cursors ≡ length (terms_in (tree_of m.query.now)) };
 }
@@ -67,6 +107,16 @@ impl<'q> Matches<'q> {
             steps: Steps { taken: 0 },
             alloc,
         })
+    }
+
+    /// The next hit, or `None` where there is none left. After an error the walk stands where it stood.
+    pub fn next(&mut self) -> Result<Option<Hit>, AllocError>
+        ensures walked { IfOk result (λ hit. (documents : List Document) → StandsBefore self.old documents → Walked self.old self.new hit documents) }
+        ensures query { self.new.query ≡ self.old.query }
+        ensures err { OnErr result (self.new ≡ self.old) }
+    {
+        let cursors = self.cursors.as_mut_slice();
+        advance(self.alloc, self.query, cursors, &mut self.steps)
     }
 
     /// The steps that the walk has taken: docids and positions that were looked at, and parts of the query that were visited for a

@@ -1,7 +1,7 @@
 use Rattle.std.proofs.Common.{◌≡◌, ℕ, ◌+◌, ◌-◌, ◌^◌, ◌++◌, map, min, length, vec_len}
 use Rattle.std.specs.Prelude.{take, flat_map}
 use Rattle.ft_query.specs.Trees.{plain_link}
-use Rattle.ft_query.specs.Cursors.{lists_left, places_left, listed_for}
+use Rattle.ft_query.specs.Cursors.{lists_kept, places_left, listed_for}
 use Rattle.ft_query.proofs.walk.load.load_links.Given as goal
 
 -- the lists of the links so far
@@ -12,7 +12,7 @@ invariant-loop-link g l =
     let given = g.L.Lists.given_so_far in
     let terms = flat_map (λ link. link.to.terms) (map plain_link (take l.link-index l.links)) in
     record {
-      lists : is_clean l.lists → map lists_left l.cursors.items ≡ map lists_left l.fn.cursors.items ++ map (listed_for (documents l.lists)) terms;
+      lists : is_clean l.lists → map lists_kept l.cursors.items ≡ map lists_kept l.fn.cursors.items ++ map (listed_for (documents l.lists)) terms;
       number : vec_len l.cursors ≡ vec_len l.fn.cursors + length terms;
       clean : is_clean l.lists → is_clean l.fn.lists × (documents l.lists ≡ documents l.fn.lists);
       failed : g.L.Lists.has_failed l.lists ≡ g.L.Lists.has_failed l.fn.lists;
