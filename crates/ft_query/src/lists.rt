@@ -4,7 +4,7 @@ ghost use Rattle.std.specs.List.{starts_with};
 ghost use Rattle.ft_query.specs.Documents.{Document, AreDocuments, lists_with, plain_list, place_count};
 ghost use Rattle.ft_query.specs.Lists.{is_failed};
 
-use std::alloc::{AllocFailed, Global};
+use std::alloc::{AllocError, AllocFailed, Global};
 use thiserror::Error;
 
 /// Where a token stands: its column, its number in the cell, and its place and size in bytes.
@@ -30,6 +30,17 @@ pub enum ListFault {
     Failed,
     #[error("out of memory")]
     Memory,
+}
+
+impl From<AllocError> for ListFault {
+    ghost use Rattle.std.specs.Prelude.{◌≡◌};
+    ghost use Rattle.ft_query.specs.declared.lists.ListFault.TheVariants.{Memory};
+
+    ghost from_gives = { λ _ fault. fault ≡ Memory };
+
+    fn from(_error: AllocError) -> ListFault {
+        ListFault::Memory
+    }
 }
 
 impl<T: Drop> From<AllocFailed<T>> for ListFault {
