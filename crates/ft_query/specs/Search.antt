@@ -22,6 +22,11 @@ hits_in NoDocument = []
 hits_in Passed = []
 hits_in (Found hit) = plain_hit hit ∷ []
 
+abbrev pub IsDocument : Considered → Type 0
+IsDocument NoDocument = ⊥
+IsDocument Passed = Unit {0}
+IsDocument (Found hit) = Unit {0}
+
 -- One document was considered, if there was one.
 pub record Considers (old new : Walk) (considered : Considered) (documents : List Document) : Type 0 where
   pub went : Went old new (hits_in considered) documents

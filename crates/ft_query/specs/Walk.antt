@@ -1,5 +1,5 @@
 -- A walk as its callers see it.
-use Rattle.std.specs.Prelude.{◌≡◌, ℕ, ◌+◌, ◌-◌, ◌*◌, ◌^◌, ◌≤◌, min, List, [], ◌∷◌, ◌++◌, Option, Some, None}
+use Rattle.std.specs.Prelude.{◌≡◌, ℕ, ◌+◌, ◌-◌, ◌*◌, ◌^◌, ◌≤◌, min, length, sum_by, List, [], ◌∷◌, ◌++◌, Option, Some, None}
 use Rattle.ft_query.specs.declared.query.Query.{Query}
 use Rattle.ft_query.specs.declared.walk.Hit.{Hit}
 use Rattle.ft_query.specs.Documents.{Document, AreDocuments, PlaceList}
@@ -12,6 +12,10 @@ pub record Walk : Type 0 where
   pub query : Query
   pub lists : List (List PlaceList)
   pub steps : ℕ
+
+-- how many documents are left in the lists, counted in each
+abbrev pub lists_to_come : Walk → ℕ
+lists_to_come walk = sum_by length walk.lists
 
 -- The walk stands before these documents: they are in order, and what is left of its lists is what they have of the query's terms.
 abbrev pub StandsBefore : Walk → List Document → Type 0

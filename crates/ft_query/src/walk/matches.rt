@@ -1,11 +1,11 @@
 // The documents that a query accepts, one after the other.
-ghost use Rattle.std.specs.Prelude.{◌≡◌, ◌+◌, ◌-◌, ◌^◌, ◌<◌, ◌||◌, List, length, map, min, IfOk, OnOk, OnErr};
+ghost use Rattle.std.specs.Prelude.{◌≡◌, ◌+◌, ◌-◌, ◌^◌, ◌<◌, ◌||◌, List, length, map, min, sum_by, IfOk, IfSome, OnOk, OnErr};
 ghost use Rattle.ft_query.specs.Documents.{Document};
 ghost use Rattle.ft_query.specs.Trees.{tree_of};
 ghost use Rattle.ft_query.specs.Lists.{is_failed};
 ghost use Rattle.ft_query.specs.Work.{terms_in, entry_count};
 ghost use Rattle.ft_query.specs.Cursors.{lists_left, lists_kept};
-ghost use Rattle.ft_query.specs.Walk.{StandsBefore, Walked};
+ghost use Rattle.ft_query.specs.Walk.{lists_to_come, StandsBefore, Walked};
 ghost use Rattle.ft_query.specs.Search.{stands_at};
 
 use crate::lists::{ListFault, Lists};
@@ -47,6 +47,7 @@ fn advance(
     requires { length cursors.old ≡ length (terms_in (tree_of query.now)) }
     ensures walked { IfOk result (λ hit. (documents : List Document) → StandsBefore (stands_at query.now cursors.old steps.old.taken) documents →
         Walked (stands_at query.now cursors.old steps.old.taken) (stands_at query.now cursors.new steps.new.taken) hit documents) }
+    ensures passes { IfOk result (λ hit. IfSome hit (λ _. sum_by length (map lists_kept cursors.new) < sum_by length (map lists_kept cursors.old))) }
     ensures err { OnErr result ((map lists_kept cursors.new ≡ map lists_kept cursors.old) × (steps.new ≡ steps.old)) }
 {
     let mut taken = *steps;
@@ -112,6 +113,7 @@ impl<'q> Matches<'q> {
     /// The next hit, or `None` where there is none left. After an error the walk stands where it stood.
     pub fn next(&mut self) -> Result<Option<Hit>, AllocError>
         ensures walked { IfOk result (λ hit. (documents : List Document) → StandsBefore self.old documents → Walked self.old self.new hit documents) }
+        ensures passes { IfOk result (λ hit. IfSome hit (λ _. lists_to_come self.new < lists_to_come self.old)) }
         ensures query { self.new.query ≡ self.old.query }
         ensures err { OnErr result (self.new ≡ self.old) }
     {

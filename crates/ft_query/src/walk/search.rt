@@ -1,12 +1,11 @@
 // The search for the next document that a query accepts.
-ghost use Rattle.std.specs.Prelude.{◌≡◌, ◌+◌, ◌-◌, ◌^◌, ◌<◌, ◌≤◌, None, Ok, List, map, min, length, sum_by, IfOk};
+ghost use Rattle.std.specs.Prelude.{◌≡◌, ◌+◌, ◌-◌, ◌^◌, ◌<◌, ◌≤◌, None, List, map, min, length, sum_by, IfOk, IfSome};
 ghost use Rattle.ft_query.specs.Documents.{Document};
 ghost use Rattle.ft_query.specs.Trees.{tree_of};
 ghost use Rattle.ft_query.specs.Work.{terms_in};
 ghost use Rattle.ft_query.specs.Cursors.{lists_left, lists_kept, passed, least_from};
 ghost use Rattle.ft_query.specs.Walk.{StandsBefore, Walked};
-ghost use Rattle.ft_query.specs.Search.{walk_at, Considers};
-ghost use Rattle.ft_query.specs.declared.walk.search.Considered.TheVariants as considered;
+ghost use Rattle.ft_query.specs.Search.{walk_at, IsDocument, Considers};
 
 use crate::query::Query;
 use crate::walk::Hit;
@@ -59,7 +58,7 @@ fn consider(
     ensures kept { map lists_kept cursors.new ≡ map lists_kept cursors.old }
     ensures considers { IfOk result (λ c. (documents : List Document) → StandsBefore (walk_at query.now cursors.old steps.old.taken) documents →
         Considers (walk_at query.now cursors.old steps.old.taken) (walk_at query.now cursors.new steps.new.taken) c documents) }
-    ensures passes { result ≡ Ok considered.Passed → sum_by length (map lists_left cursors.new) < sum_by length (map lists_left cursors.old) }
+    ensures passes { IfOk result (λ c. IsDocument c → sum_by length (map lists_left cursors.new) < sum_by length (map lists_left cursors.old)) }
 {
     let Some(docid) = least(cursors, steps) else {
         return Ok(Considered::NoDocument);
@@ -83,6 +82,7 @@ pub(crate) fn search(
     ensures kept { map lists_kept cursors.new ≡ map lists_kept cursors.old }
     ensures walked { IfOk result (λ hit. (documents : List Document) → StandsBefore (walk_at query.now cursors.old steps.old.taken) documents →
         Walked (walk_at query.now cursors.old steps.old.taken) (walk_at query.now cursors.new steps.new.taken) hit documents) }
+    ensures passes { IfOk result (λ hit. IfSome hit (λ _. sum_by length (map lists_left cursors.new) < sum_by length (map lists_left cursors.old))) }
 {
     loop {
         match consider(alloc, query, cursors, steps)? {

@@ -178,7 +178,10 @@ fn found(
         Err(_) => return Err("no query")?,
     };
     let mut matches = open(alloc, &query, documents)?;
-    while let Some(hit) = next(&mut matches)? {
+    for _ in 0..u64::MAX {
+        let Some(hit) = next(&mut matches)? else {
+            break;
+        };
         let offsets = offsets_text(alloc, &hit.offsets)?;
         write!(out, "{}: {offsets};", hit.docid)?;
     }
@@ -353,7 +356,10 @@ fn counted(
     };
     let mut matches = open(alloc, &query, documents)?;
     let mut hits: u64 = 0;
-    while next(&mut matches)?.is_some() {
+    for _ in 0..u64::MAX {
+        if next(&mut matches)?.is_none() {
+            break;
+        }
         hits = hits.saturating_add(1);
         if matches.steps() > most {
             return Err("too many steps")?;

@@ -47,3 +47,10 @@ returns-in-None-clause-passes c = λ _.
     let same : c.in-Some.docid ≡ to_z w64 (of_z w64 c.in-Some.docid) = search rules in
     let one = subst (λ z. least_from None (map lists_left c.args.cursors.now) ≡ Some z) same least in
     subst (λ ls. sum_by length ls < sum_by length (map lists_left c.args.cursors.now)) (sym c.pass.ensures.left) (passes_one _ (map lists_left c.args.cursors.now) one)
+
+pub returns-in-Some-offsets-clause-passes : goal.returns-in-Some-offsets-clause-passes
+returns-in-Some-offsets-clause-passes c = λ _.
+    let least = sym c.least.ensures.docid ∙ c.in-Some.is in
+    let same : c.in-Some.docid ≡ to_z w64 (of_z w64 c.in-Some.docid) = search rules in
+    let one = subst (λ z. least_from None (map lists_left c.args.cursors.now) ≡ Some z) same least in
+    subst (λ ls. sum_by length ls < sum_by length (map lists_left c.args.cursors.now)) (sym c.pass.ensures.left) (passes_one _ (map lists_left c.args.cursors.now) one)

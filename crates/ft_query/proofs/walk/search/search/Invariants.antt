@@ -1,4 +1,4 @@
-use Rattle.std.proofs.Common.{◌≡◌, ℕ, List, [], length, map}
+use Rattle.std.proofs.Common.{◌≡◌, ◌≤◌, ℕ, List, [], length, map}
 use Rattle.std.specs.Prelude.{sum_by}
 use Rattle.ft_query.specs.Documents.{Document}
 use Rattle.ft_query.specs.Cursors.{lists_left, lists_kept}
@@ -11,6 +11,7 @@ abbrev pub invariant-loop-hit : goal.invariant-loop-hit
 invariant-loop-hit l = record {
   kept : map lists_kept l.cursors ≡ map lists_kept l.fn.cursors;
   number : length l.cursors ≡ length l.fn.cursors;
+  fewer : sum_by length (map lists_left l.cursors) ≤ sum_by length (map lists_left l.fn.cursors);
   went : (documents : List Document) → StandsBefore (walk_at l.fn.query l.fn.cursors l.fn.steps.taken) documents → Went (walk_at l.fn.query l.fn.cursors l.fn.steps.taken) (walk_at l.fn.query l.cursors l.steps.taken) [] documents;
 }
 
