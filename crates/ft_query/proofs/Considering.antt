@@ -145,7 +145,7 @@ none_more docid (l ∷ ls) =
     omega arith
 
 -- the least is the docid so far, or one list gets shorter
-pub less_left : (docid : ℤ) (so_far : Option ℤ) (ls : List (List PlaceList)) → least_from so_far ls ≡ Some docid → (so_far ≡ Some docid) ⊎ (sum_by length (map (passed docid) ls) < sum_by length ls)
+less_left : (docid : ℤ) (so_far : Option ℤ) (ls : List (List PlaceList)) → least_from so_far ls ≡ Some docid → (so_far ≡ Some docid) ⊎ (sum_by length (map (passed docid) ls) < sum_by length ls)
 less_left docid so_far [] least = inl least
 less_left docid so_far (l ∷ ls) least = ⊎_elim
     (λ (here : least_of so_far l ≡ Some docid). first l here)
@@ -177,11 +177,15 @@ less_left docid so_far (l ∷ ls) least = ⊎_elim
             less true is = inr (same_docid x xs (sym (ap (λ v. if v then Some x.docid else Some z) is) ∙ here))
             less false is = inl (sym (ap (λ v. if v then Some x.docid else Some z) is) ∙ here)
 
-pub passes_one : (docid : ℤ) (ls : List (List PlaceList)) → least_from None ls ≡ Some docid → sum_by length (map (passed docid) ls) < sum_by length ls
+passes_one : (docid : ℤ) (ls : List (List PlaceList)) → least_from None ls ≡ Some docid → sum_by length (map (passed docid) ls) < sum_by length ls
 passes_one docid ls least = ⊎_elim
     (λ (never : None ≡ Some docid). absurd (not_found docid (sym never)))
     (λ (less : sum_by length (map (passed docid) ls) < sum_by length ls). less)
     (less_left docid None ls least)
+
+pub fewer_left : (docid : ℤ) (cursors passed_by : List Cursor) → least_from None (map lists_left cursors) ≡ Some docid → map lists_left passed_by ≡ map (passed docid) (map lists_left cursors) →
+    sum_by length (map lists_left passed_by) < sum_by length (map lists_left cursors)
+fewer_left docid cursors passed_by least left = subst (λ ls. sum_by length ls < sum_by length (map lists_left cursors)) (sym left) (passes_one docid (map lists_left cursors) least)
 
 -- ---- one walk after the other
 

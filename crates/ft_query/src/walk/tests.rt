@@ -1,6 +1,7 @@
 // Walks over the words of some documents: what they find, in how many steps, and that a call without memory may be made again.
-ghost use Rattle.std.specs.Prelude.{◌≡◌, ◌-◌, ◌^◌, [], map, min};
+ghost use Rattle.std.specs.Prelude.{◌≡◌, ◌+◌, ◌-◌, ◌^◌, ◌||◌, [], map, min, IfOk, OnErr};
 ghost use Rattle.ft_query.specs.Documents.{plain_list, place_count};
+ghost use Rattle.ft_query.specs.Lists.{is_failed};
 
 use super::{Hit, Matches, Offset, offsets_text};
 use crate::lists::{DocList, ListFault, Lists, Place};
@@ -66,7 +67,7 @@ fn lists_of(
     documents: &[Texts<'_>],
     asked: &str,
     begins: bool,
-) -> Result<Vec<DocList>, ListFault> {
+) -> Result<Vec<DocList>, AllocError> {
     let mut lists: Vec<DocList> = Vec::new(alloc);
     for (docid, texts) in documents {
         let mut places: Vec<Place> = Vec::new(alloc);
@@ -84,7 +85,11 @@ fn lists_of(
 }
 
 impl<'a> Words<'a> {
-    fn ask(&mut self, alloc: Global, asked: &str, begins: bool) -> Result<Vec<DocList>, ListFault> {
+    fn ask(&mut self, alloc: Global, asked: &str, begins: bool) -> Result<Vec<DocList>, ListFault>
+        ensures failed { self.new.failed ≡ (self.old.failed || is_failed result) }
+        ensures given { IfOk result (λ lists. self.new.given ≡ min (self.old.given + place_count (map plain_list lists.items)) (2 ^ 64 - 1)) }
+        ensures none_given { OnErr result (self.new.given ≡ self.old.given) }
+    {
         if self.calls_left == 0 {
             self.failed = true;
             return Err(ListFault::Failed);

@@ -6,7 +6,7 @@ use Rattle.ft_query.specs.declared.walk.Offset.{Offset}
 use Rattle.ft_query.specs.declared.walk.search.Considered.{Considered}
 use Rattle.ft_query.specs.declared.walk.search.Considered.TheVariants.{NoDocument, Passed, Found}
 use Rattle.ft_query.specs.Cursors.{lists_left, places_at, passed, least_from}
-use Rattle.ft_query.proofs.Considering.{nothing_left, went_on, passes_one}
+use Rattle.ft_query.proofs.Considering.{nothing_left, went_on, fewer_left}
 use Rattle.ft_query.proofs.walk.search.consider.Goals as goal
 
 found_some : {hit : Hit} → Found hit ≡ NoDocument → ⊥
@@ -46,11 +46,11 @@ returns-in-None-clause-passes c = λ _.
     let least = sym c.least.ensures.docid ∙ c.in-Some.is in
     let same : c.in-Some.docid ≡ to_z w64 (of_z w64 c.in-Some.docid) = search rules in
     let one = subst (λ z. least_from None (map lists_left c.args.cursors.now) ≡ Some z) same least in
-    subst (λ ls. sum_by length ls < sum_by length (map lists_left c.args.cursors.now)) (sym c.pass.ensures.left) (passes_one _ (map lists_left c.args.cursors.now) one)
+    fewer_left _ c.args.cursors.now c.pass.new.cursors one c.pass.ensures.left
 
 pub returns-in-Some-offsets-clause-passes : goal.returns-in-Some-offsets-clause-passes
 returns-in-Some-offsets-clause-passes c = λ _.
     let least = sym c.least.ensures.docid ∙ c.in-Some.is in
     let same : c.in-Some.docid ≡ to_z w64 (of_z w64 c.in-Some.docid) = search rules in
     let one = subst (λ z. least_from None (map lists_left c.args.cursors.now) ≡ Some z) same least in
-    subst (λ ls. sum_by length ls < sum_by length (map lists_left c.args.cursors.now)) (sym c.pass.ensures.left) (passes_one _ (map lists_left c.args.cursors.now) one)
+    fewer_left _ c.args.cursors.now c.pass.new.cursors one c.pass.ensures.left
