@@ -1,5 +1,5 @@
 -- What is left of the lists of a walk.
-use Rattle.std.specs.Prelude.{ℤ, int_lt, Bool, List, [], ◌∷◌, map, if◌then◌else◌, Option, Some, None}
+use Rattle.std.specs.Prelude.{ℤ, int_lt, List, [], ◌∷◌, map, if◌then◌else◌, Option, Some, None}
 use Rattle.std.specs.Ordering.{int_eq}
 use Rattle.ft_query.specs.declared.lists.Place.{Place}
 use Rattle.ft_query.specs.declared.walk.cursor.Cursor.{Cursor}

@@ -1,5 +1,5 @@
 -- A walk as its callers see it.
-use Rattle.std.specs.Prelude.{◌≡◌, ℕ, ◌+◌, ◌-◌, ◌*◌, ◌^◌, ◌≤◌, ◌⊎◌, ℤ, int_lt, List, [], ◌∷◌, filter, option_map, Option, Some, None}
+use Rattle.std.specs.Prelude.{◌≡◌, ℕ, ◌+◌, ◌*◌, int_lt, List, [], ◌∷◌, filter, Option, Some, None}
 use Rattle.ft_query.specs.declared.walk.Hit.{Hit}
 use Rattle.ft_query.specs.Documents.{Document, AreDocuments, PlaceList}
 use Rattle.ft_query.specs.Trees.{Tree}

@@ -4,6 +4,7 @@ ghost use Rattle.std.specs.List.{join_with_byte};
 ghost use Rattle.ft_query.specs.Occurs.{offset_numbers, offsets_text};
 
 mod cursor;
+mod starts;
 mod steps;
 
 use itoa::Buffer;
