@@ -2,6 +2,7 @@
 use Rattle.std.specs.Prelude.{ℕ, ℤ, ◌+◌, ◌==◌, ◌&&◌, ◌||◌, Bool, true, false, not, nat_lt, if◌then◌else◌, List, [], ◌∷◌, ◌++◌, length, take, drop, map, filter, Option}
 use Rattle.std.specs.Ordering.{ordering_then, nat_cmp, match_ordering}
 use Rattle.std.specs.declared.cmp.Ordering.{Ordering}
+use denote.Ref.{Bor}
 use Rattle.ft_query.specs.declared.lists.Place.{Place}
 use Rattle.ft_query.specs.declared.walk.Offset.{Offset}
 use Rattle.ft_query.specs.declared.walk.cursor.Cursor.{Cursor}
@@ -112,6 +113,15 @@ offset_at n at = record { column = at.column; term = n; place = at.start; size =
 abbrev pub numbered : ℕ → List (List Place) → List Offset
 numbered n [] = []
 numbered n (m ∷ ms) = map (offset_at n) m ++ numbered (n + 1) ms
+
+-- how many places there are in all
+abbrev pub total : List (List Place) → ℕ
+total [] = 0
+total (l ∷ ls) = length l + total ls
+
+-- the lists behind these references
+abbrev pub plain_lists : List (Bor (List Place)) → List (List Place)
+plain_lists lists = map (λ l. l.now) lists
 
 -- the places of each term in this document
 abbrev pub places_in : ℤ → List Cursor → List (List Place)

@@ -6,6 +6,7 @@ ghost use Rattle.ft_query.specs.Occurs.{offset_numbers, offsets_text};
 mod cursor;
 mod starts;
 mod steps;
+mod visit;
 
 use itoa::Buffer;
 use std::alloc::{AllocError, Global};
