@@ -1,15 +1,18 @@
 -- How many places the passes keep.
-use Rattle.std.proofs.Common.{◌≡◌, ℕ, ◌+◌, ◌*◌, ◌<◌, ◌≤◌, Bool, true, false, cond, List, [], ◌∷◌, length, get_or, map, take, drop, suc, refl, ap, sym, ◌∙◌, arith}
+use Rattle.std.proofs.Common.{◌≡◌, ℕ, ◌+◌, ◌*◌, ◌<◌, ◌≤◌, Bool, true, false, cond, List, [], ◌∷◌, ◌++◌, length, get_or, map, take, drop, reverse, zero, suc, add-zero, refl, ap, sym, ◌∙◌, arith}
 use Rattle.std.specs.Prelude.{filter, sum_by}
 use Rattle.std.specs.Ordering.{match_ordering}
 use Rattle.std.specs.declared.cmp.Ordering.{Ordering}
 use Rattle.std.specs.declared.cmp.Ordering.TheVariants.{Less, Equal, Greater}
 use denote.Ref.{Bor}
 use Rattle.ft_query.specs.declared.lists.Place.{Place}
-use Rattle.std.proofs.lemmas.List.{drop_more}
+use Rattle.std.proofs.lemmas.List.{drop_more, reverse-append, append_assoc, length-map}
 use Rattle.ft_query.specs.declared.query.QueryTerm.{QueryTerm}
-use Rattle.ft_query.specs.Trees.{plain_term}
-use Rattle.ft_query.specs.Visit.{place_order, seek, among, skip_behind, begin_near, near_those, followed, total, plain_lists}
+use Rattle.ft_query.specs.declared.query.Link.{Link}
+use Rattle.ft_query.specs.declared.walk.Offset.{Offset}
+use Rattle.ft_query.specs.Trees.{PlainPhrase, PlainLink, plain_term, plain_link}
+use Rattle.ft_query.specs.Visit.{place_order, seek, among, skip_behind, begin_near, near_those, followed, head_of, linked, link_marks, marks_from, numbered, offset_at, plain_starts, total, plain_lists}
+use Rattle.ft_query.specs.declared.walk.starts.Starts.{Starts}
 
 -- what is left of a list, with the one that was found
 abbrev left_over : Bool × List Place → ℕ
@@ -76,3 +79,77 @@ follow_more i terms lists starts t l h same is =
 pub followed_few : (first : Bool) (i : ℕ) (starts list : List Place) → length (cond first [] (among i 0 starts list)) ≤ length list
 followed_few true i starts list = omega arith
 followed_few false i starts list = among_few i 0 starts list
+
+-- ---- chains
+
+pub starts_push : (all : List Starts) (s : Starts) → plain_starts (all ++ s ∷ []) ≡ plain_starts all ++ s.places.items ∷ []
+starts_push [] s = refl
+starts_push (x ∷ all) s = ap (λ ls. x.places.items ∷ ls) (starts_push all s)
+
+-- a chain has a first phrase
+linked_first : (p : PlainPhrase) (links : List PlainLink) (lists : List (List Place)) → linked p links lists ≡ head_of (linked p links lists) ∷ drop 1 (linked p links lists)
+linked_first p [] lists = refl
+linked_first p (link ∷ links) lists = refl
+
+pub linked_push : (p : PlainPhrase) (links : List PlainLink) (lists : List (List Place)) (rest : List Starts) (next : Starts) → next.places.items ≡ head_of (linked p links lists) → plain_starts rest ≡ reverse (drop 1 (linked p links lists)) → plain_starts (rest ++ next ∷ []) ≡ reverse (linked p links lists)
+linked_push p links lists rest next first later =
+    starts_push rest next
+    ∙ ap (λ ls. ls ++ next.places.items ∷ []) later
+    ∙ ap (λ l. reverse (drop 1 (linked p links lists)) ++ l ∷ []) first
+    ∙ sym (ap reverse (linked_first p links lists) ∙ reverse-append (head_of (linked p links lists) ∷ []) (drop 1 (linked p links lists)))
+
+numbered-append : (n : ℕ) (ms more : List (List Place)) → numbered n (ms ++ more) ≡ numbered n ms ++ numbered (n + length ms) more
+numbered-append n [] more = ap (λ m. numbered m more) (sym (add-zero n))
+numbered-append n (m ∷ ms) more =
+    let next : n + 1 + length ms ≡ n + length (m ∷ ms) = omega arith in
+    ap (λ os. map (offset_at n) m ++ os) (numbered-append (n + 1) ms more)
+    ∙ ap (λ k. map (offset_at n) m ++ (numbered (n + 1) ms ++ numbered k more)) next
+    ∙ sym (append_assoc (map (offset_at n) m) (numbered (n + 1) ms) (numbered (n + length (m ∷ ms)) more))
+
+marks_length : (i : ℕ) (lists : List (List Place)) (starts : List Place) → length (marks_from i lists starts) ≡ length lists
+marks_length i [] starts = refl
+marks_length i (l ∷ ls) starts = ap (λ n. suc n) (marks_length (i + 1) ls starts)
+
+-- what the lists of a phrase's terms add before the terms behind it
+pub numbered_marks : (old : List Offset) (n : ℕ) (lists : List (Bor (List Place))) (starts : List Place) (more : List (List Place))
+    → old ++ numbered n (marks_from 0 (plain_lists lists) starts) ++ numbered (n + length lists) more ≡ old ++ numbered n (marks_from 0 (plain_lists lists) starts ++ more)
+numbered_marks old n lists starts more =
+    let ms = marks_from 0 (plain_lists lists) starts in
+    let many : length ms ≡ length lists = marks_length 0 (plain_lists lists) starts ∙ length-map lists (λ l. l.now) in
+    append_assoc old (numbered n ms) (numbered (n + length lists) more)
+    ∙ ap (λ k. old ++ (numbered n ms ++ numbered (n + k) more)) (sym many)
+    ∙ sym (ap (λ os. old ++ os) (numbered-append n ms more))
+
+-- ---- the lists of a phrase's terms, and those behind them
+
+map-drop : (n : ℕ) (lists : List (Bor (List Place))) → drop n (plain_lists lists) ≡ plain_lists (drop n lists)
+map-drop zero lists = refl
+map-drop (suc n) [] = refl
+map-drop (suc n) (l ∷ lists) = map-drop n lists
+
+map-take : (n : ℕ) (lists : List (Bor (List Place))) → take n (plain_lists lists) ≡ plain_lists (take n lists)
+map-take zero lists = refl
+map-take (suc n) [] = refl
+map-take (suc n) (l ∷ lists) = ap (λ ls. l.now ∷ ls) (map-take n lists)
+
+pub back_lists : (terms : List QueryTerm) (lists back : List (Bor (List Place))) (n : ℕ) → n ≡ length terms → back ≡ drop n lists → drop (length (map plain_term terms)) (plain_lists lists) ≡ plain_lists back
+back_lists terms lists back n size is =
+    ap (λ k. drop k (plain_lists lists)) (length-map terms plain_term ∙ sym size) ∙ map-drop n lists ∙ ap plain_lists (sym is)
+
+pub front_lists : (terms : List QueryTerm) (lists front : List (Bor (List Place))) (n : ℕ) → n ≡ length terms → front ≡ take n lists → take (length (map plain_term terms)) (plain_lists lists) ≡ plain_lists front
+front_lists terms lists front n size is =
+    ap (λ k. take k (plain_lists lists)) (length-map terms plain_term ∙ sym size) ∙ map-take n lists ∙ ap plain_lists (sym is)
+
+-- the marks of one link, and those of the links behind it
+pub link_marks_one : (k : ℕ) (starts : List Place) (link : Link) (links : List Link) (lists own behind : List (Bor (List Place))) (others : Starts) (all : List Starts) (size : ℕ) (next : List Place)
+    → size ≡ length link.to.terms.items → own ≡ take size lists → behind ≡ drop size lists → next ≡ near_those link.most k starts size others.places.items
+    → marks_from 0 (plain_lists own) next ++ link_marks size next (map plain_link links) (plain_lists behind) (plain_starts all) ≡ link_marks k starts (map plain_link (link ∷ links)) (plain_lists lists) (plain_starts (others ∷ all))
+link_marks_one k starts link links lists own behind others all size next is_size is_own is_behind is_next =
+    let terms = link.to.terms.items in
+    let n = length (map plain_term terms) in
+    let same : size ≡ n = is_size ∙ sym (length-map terms plain_term) in
+    let marked : ℕ → List Place → List (List Place) → List (List Place) → List (List Place) = λ m s front back. marks_from 0 front s ++ link_marks m s (map plain_link links) back (plain_starts all) in
+    ap (λ s. marked size s (plain_lists own) (plain_lists behind)) is_next
+    ∙ ap (λ m. marked m (near_those link.most k starts m others.places.items) (plain_lists own) (plain_lists behind)) same
+    ∙ ap (λ ls. marked n (near_those link.most k starts n others.places.items) ls (plain_lists behind)) (sym (front_lists terms lists own size is_size is_own))
+    ∙ ap (λ ls. marked n (near_those link.most k starts n others.places.items) (take n (plain_lists lists)) ls) (sym (back_lists terms lists behind size is_size is_behind))

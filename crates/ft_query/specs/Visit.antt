@@ -1,11 +1,12 @@
 -- How one document is evaluated: by passes over the lists of places of the query's terms, each from front to back (own choices).
-use Rattle.std.specs.Prelude.{ℕ, ℤ, ◌+◌, ◌==◌, ◌&&◌, ◌||◌, Bool, true, false, not, nat_lt, if◌then◌else◌, List, [], ◌∷◌, ◌++◌, length, take, drop, map, filter, Option}
+use Rattle.std.specs.Prelude.{ℕ, ℤ, ◌+◌, ◌*◌, ◌==◌, ◌&&◌, ◌||◌, Bool, true, false, not, nat_lt, if◌then◌else◌, List, [], ◌∷◌, ◌++◌, length, take, drop, map, filter, Option}
 use Rattle.std.specs.Ordering.{ordering_then, nat_cmp, match_ordering}
 use Rattle.std.specs.declared.cmp.Ordering.{Ordering}
 use denote.Ref.{Bor}
 use Rattle.ft_query.specs.declared.lists.Place.{Place}
 use Rattle.ft_query.specs.declared.walk.Offset.{Offset}
 use Rattle.ft_query.specs.declared.walk.cursor.Cursor.{Cursor}
+use Rattle.ft_query.specs.declared.walk.starts.Starts.{Starts}
 use Rattle.ft_query.specs.Documents.{is_filled}
 use Rattle.ft_query.specs.Trees.{PlainTerm, PlainPhrase, PlainLink, Tree, phrase, chain, both, either, without}
 use Rattle.ft_query.specs.Occurs.{is_within, are_near}
@@ -114,10 +115,9 @@ abbrev pub numbered : ℕ → List (List Place) → List Offset
 numbered n [] = []
 numbered n (m ∷ ms) = map (offset_at n) m ++ numbered (n + 1) ms
 
--- how many places there are in all
-abbrev pub total : List (List Place) → ℕ
-total [] = 0
-total (l ∷ ls) = length l + total ls
+-- the occurrences of each of some phrases
+abbrev pub plain_starts : List Starts → List (List Place)
+plain_starts all = map (λ s. s.places.items) all
 
 -- the lists behind these references
 abbrev pub plain_lists : List (Bor (List Place)) → List (List Place)
@@ -126,3 +126,15 @@ plain_lists lists = map (λ l. l.now) lists
 -- the places of each term in this document
 abbrev pub places_in : ℤ → List Cursor → List (List Place)
 places_in docid cursors = map (λ c. places_at docid (lists_left c)) cursors
+
+-- ---- steps
+
+-- how many places there are in all
+abbrev pub total : List (List Place) → ℕ
+total [] = 0
+total (l ∷ ls) = length l + total ls
+
+-- the most steps for the marks of these links, whose phrases have these occurrences
+abbrev pub link_cost : List PlainLink → List (List Place) → List (List Place) → ℕ
+link_cost [] lists all = 0
+link_cost (link ∷ links) lists all = 4 * length (head_of all) + total (take (length link.to.terms) lists) + length link.to.terms * length (head_of all) + link_cost links (drop (length link.to.terms) lists) (drop 1 all)

@@ -1,10 +1,11 @@
 // The evaluation of a query in one document.
-ghost use Rattle.std.specs.Prelude.{◌≡◌, ◌≤◌, ◌+◌, ◌*◌, ◌++◌, [], if◌then◌else◌, length, map, vec_len, IfOk, OnOk};
-ghost use Rattle.ft_query.specs.Trees.{plain_term, plain_phrase};
-ghost use Rattle.ft_query.specs.Visit.{among, followed, starts_of, marks_from, numbered, plain_lists, places_in, total};
+ghost use Rattle.std.specs.Prelude.{◌≡◌, ◌≤◌, ◌<◌, ◌+◌, ◌*◌, ◌^◌, ◌++◌, [], if◌then◌else◌, length, drop, reverse, map, flat_map, vec_len, IfOk, OnOk};
+ghost use Rattle.ft_query.specs.Trees.{plain_term, plain_phrase, plain_link, tree_of, chain};
+ghost use Rattle.ft_query.specs.Work.{terms_in, width};
+ghost use Rattle.ft_query.specs.Visit.{among, followed, starts_of, marks_from, head_of, linked, link_marks, is_accepted, marks_of, numbered, plain_starts, plain_lists, places_in, total, link_cost};
 
 use crate::lists::Place;
-use crate::query::{Phrase, QueryTerm};
+use crate::query::{Chain, Link, Phrase, Query, QueryTerm};
 use crate::walk::Offset;
 use crate::walk::cursor::Cursor;
 use crate::walk::starts::Starts;
@@ -74,4 +75,95 @@ fn starts_of(
     };
     let first = Starts::begin(alloc, list, phrase.filter, term.first, steps)?;
     follow(alloc, first, terms, lists, steps)
+}
+
+// The offsets so far, and the number of the next term.
+#[derive(Drop)]
+struct Found {
+    offsets: Vec<Offset>,
+    next: usize,
+}
+
+// Adds the offsets of a phrase's terms, which have these lists, in its occurrences.
+fn mark_phrase(
+    found: &mut Found,
+    starts: &Starts,
+    lists: &[&[Place]],
+    steps: &mut Steps,
+) -> Result<(), AllocError>
+    requires { found.old.next + length lists.now < 2 ^ 64 }
+    ensures offsets { OnOk result (found.new.offsets.items ≡ found.old.offsets.items
+        ++ numbered found.old.next (marks_from 0 (plain_lists lists.now) starts.now.places.items)) }
+    ensures next { OnOk result (found.new.next ≡ found.old.next + length lists.now) }
+    ensures at_least { steps.old.taken ≤ steps.new.taken }
+    ensures at_most { steps.new.taken
+        ≤ steps.old.taken + total (plain_lists lists.now) + length lists.now * length starts.now.places.items }
+{
+    for (i, list) in lists.iter().enumerate() {
+        starts.mark(&mut found.offsets, found.next, i, list, steps)?;
+        found.next += 1;
+    }
+    Ok(())
+}
+
+// For each phrase of a chain its occurrences that are near one of the next phrase's here: those of the first phrase, and from the
+// last one back those of the others.
+fn linked(
+    alloc: Global,
+    first: &Phrase,
+    links: &[Link],
+    lists: &[&[Place]],
+    steps: &mut Steps,
+) -> Result<(Starts, Vec<Starts>), AllocError>
+    requires { length lists.now ≡ length (terms_in (chain (plain_phrase first.now) (map plain_link links.now))) }
+    ensures first { IfOk result (λ r. r.0.places.items
+        ≡ head_of (linked (plain_phrase first.now) (map plain_link links.now) (plain_lists lists.now))) }
+    ensures rest { IfOk result (λ r. plain_starts r.1.items
+        ≡ reverse (drop 1 (linked (plain_phrase first.now) (map plain_link links.now) (plain_lists lists.now)))) }
+    ensures at_least { steps.old.taken ≤ steps.new.taken }
+{
+    let Some((link, links)) = links.split_first() else {
+        let starts = starts_of(alloc, first, lists, steps)?;
+        return Ok((starts, Vec::new(alloc)));
+    };
+    let size = first.terms.len();
+    let (own, lists) = lists.split_at(size);
+    let starts = starts_of(alloc, first, own, steps)?;
+    let (next, mut rest) = linked(alloc, &link.to, links, lists, steps)?;
+    let kept = next.near(alloc, link.to.terms.len(), &starts, size, link.most, steps)?;
+    rest.push(next)?;
+    Ok((kept, rest))
+}
+
+// Adds the offsets of these links' phrases, whose occurrences also have to be near one of the k terms before them: for each phrase
+// those that are near one of the next phrase's.
+fn mark_links(
+    alloc: Global,
+    found: &mut Found,
+    k: usize,
+    starts: &Starts,
+    links: &[Link],
+    lists: &[&[Place]],
+    all: &[Starts],
+    steps: &mut Steps,
+) -> Result<(), AllocError>
+    requires lists { length lists.now ≡ length (flat_map (λ l. l.to.terms) (map plain_link links.now)) }
+    requires all { length all.now ≡ length links.now }
+    requires fits { found.old.next + length lists.now < 2 ^ 64 }
+    ensures offsets { OnOk result (found.new.offsets.items ≡ found.old.offsets.items
+        ++ numbered found.old.next (link_marks k starts.now.places.items (map plain_link links.now) (plain_lists lists.now) (plain_starts all.now))) }
+    ensures next { OnOk result (found.new.next ≡ found.old.next + length lists.now) }
+    ensures at_least { steps.old.taken ≤ steps.new.taken }
+{
+    let Some((link, links)) = links.split_first() else {
+        return Ok(());
+    };
+    let Some((others, all)) = all.split_first() else {
+        return Ok(());
+    };
+    let size = link.to.terms.len();
+    let (own, lists) = lists.split_at(size);
+    let next = starts.near(alloc, k, others, size, link.most, steps)?;
+    mark_phrase(found, &next, own, steps)?;
+    mark_links(alloc, found, size, &next, links, lists, all, steps)
 }
