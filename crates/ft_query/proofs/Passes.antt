@@ -6,12 +6,13 @@ use Rattle.std.specs.declared.cmp.Ordering.{Ordering}
 use Rattle.std.specs.declared.cmp.Ordering.TheVariants.{Less, Equal, Greater}
 use denote.Ref.{Bor}
 use Rattle.ft_query.specs.declared.lists.Place.{Place}
-use Rattle.std.proofs.lemmas.List.{drop_more, reverse-append, append_assoc, length-map}
+use Rattle.std.proofs.lemmas.List.{drop_more, reverse-append, reverse-reverse, append_assoc, length-map}
 use Rattle.ft_query.specs.declared.query.QueryTerm.{QueryTerm}
 use Rattle.ft_query.specs.declared.query.Link.{Link}
+use Rattle.ft_query.specs.declared.query.Phrase.{Phrase}
 use Rattle.ft_query.specs.declared.walk.Offset.{Offset}
-use Rattle.ft_query.specs.Trees.{PlainPhrase, PlainLink, plain_term, plain_link}
-use Rattle.ft_query.specs.Visit.{place_order, seek, among, skip_behind, begin_near, near_those, followed, head_of, linked, link_marks, marks_from, numbered, offset_at, plain_starts, total, plain_lists}
+use Rattle.ft_query.specs.Trees.{PlainPhrase, PlainLink, plain_term, plain_phrase, plain_link, chain}
+use Rattle.ft_query.specs.Visit.{place_order, seek, among, skip_behind, begin_near, near_those, followed, head_of, linked, link_marks, marks_from, marks_of, numbered, offset_at, plain_starts, total, plain_lists}
 use Rattle.ft_query.specs.declared.walk.starts.Starts.{Starts}
 
 -- what is left of a list, with the one that was found
@@ -153,3 +154,41 @@ link_marks_one k starts link links lists own behind others all size next is_size
     ∙ ap (λ m. marked m (near_those link.most k starts m others.places.items) (plain_lists own) (plain_lists behind)) same
     ∙ ap (λ ls. marked n (near_those link.most k starts n others.places.items) ls (plain_lists behind)) (sym (front_lists terms lists own size is_size is_own))
     ∙ ap (λ ls. marked n (near_those link.most k starts n others.places.items) (take n (plain_lists lists)) ls) (sym (back_lists terms lists behind size is_size is_behind))
+
+pub linked_length : (p : PlainPhrase) (links : List PlainLink) (lists : List (List Place)) → length (drop 1 (linked p links lists)) ≡ length links
+linked_length p [] lists = refl
+linked_length p (link ∷ links) lists =
+    let behind = drop (length p.terms) lists in
+    ap length (linked_first link.to links behind) ∙ ap (λ n. suc n) (linked_length link.to links behind)
+
+starts-reverse : (all : List Starts) → plain_starts (reverse all) ≡ reverse (plain_starts all)
+starts-reverse [] = refl
+starts-reverse (x ∷ all) =
+    ap plain_starts (reverse-append (x ∷ []) all)
+    ∙ starts_push (reverse all) x
+    ∙ ap (λ ls. ls ++ x.places.items ∷ []) (starts-reverse all)
+    ∙ sym (reverse-append (x.places.items ∷ []) (plain_starts all))
+
+pub starts_forward : (all : List Starts) (lists : List (List Place)) → plain_starts all ≡ reverse lists → plain_starts (reverse all) ≡ lists
+starts_forward all lists is = starts-reverse all ∙ ap reverse is ∙ reverse-reverse lists
+
+pub starts_many : (all : List Starts) (lists : List (List Place)) → plain_starts all ≡ lists → length all ≡ length lists
+starts_many all lists is = sym (length-map all (λ s. s.places.items)) ∙ ap length is
+
+-- the marks of a chain's first phrase, and those of its links
+pub chain_marks : (first : Phrase) (links : List Link) (lists own behind : List (Bor (List Place))) (starts : List Place) (all : List (List Place)) (size : ℕ)
+    → size ≡ length first.terms.items → own ≡ take size lists → behind ≡ drop size lists
+    → starts ≡ head_of (linked (plain_phrase first) (map plain_link links) (plain_lists lists)) → all ≡ drop 1 (linked (plain_phrase first) (map plain_link links) (plain_lists lists))
+    → marks_from 0 (plain_lists own) starts ++ link_marks size starts (map plain_link links) (plain_lists behind) all ≡ marks_of (chain (plain_phrase first) (map plain_link links)) (plain_lists lists)
+chain_marks first links lists own behind starts all size is_size is_own is_behind is_starts is_all =
+    let terms = first.terms.items in
+    let n = length (map plain_term terms) in
+    let same : size ≡ n = is_size ∙ sym (length-map terms plain_term) in
+    let begun = head_of (linked (plain_phrase first) (map plain_link links) (plain_lists lists)) in
+    let later = drop 1 (linked (plain_phrase first) (map plain_link links) (plain_lists lists)) in
+    let marked : ℕ → List Place → List (List Place) → List (List Place) → List (List Place) → List (List Place) = λ m s ss front back. marks_from 0 front s ++ link_marks m s (map plain_link links) back ss in
+    ap (λ s. marked size s all (plain_lists own) (plain_lists behind)) is_starts
+    ∙ ap (λ ss. marked size begun ss (plain_lists own) (plain_lists behind)) is_all
+    ∙ ap (λ m. marked m begun later (plain_lists own) (plain_lists behind)) same
+    ∙ ap (λ ls. marked n begun later ls (plain_lists behind)) (sym (front_lists terms lists own size is_size is_own))
+    ∙ ap (λ ls. marked n begun later (take n (plain_lists lists)) ls) (sym (back_lists terms lists behind size is_size is_behind))

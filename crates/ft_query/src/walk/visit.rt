@@ -1,5 +1,6 @@
 // The evaluation of a query in one document.
 ghost use Rattle.std.specs.Prelude.{◌≡◌, ◌≤◌, ◌<◌, ◌+◌, ◌*◌, ◌^◌, ◌++◌, [], if◌then◌else◌, length, drop, reverse, map, flat_map, vec_len, IfOk, OnOk};
+ghost use Rattle.ft_query.specs.Documents.{is_filled};
 ghost use Rattle.ft_query.specs.Trees.{plain_term, plain_phrase, plain_link, tree_of, chain};
 ghost use Rattle.ft_query.specs.Work.{terms_in, width};
 ghost use Rattle.ft_query.specs.Visit.{among, followed, starts_of, marks_from, head_of, linked, link_marks, is_accepted, marks_of, numbered, plain_starts, plain_lists, places_in, total, link_cost};
@@ -166,4 +167,51 @@ fn mark_links(
     let next = starts.near(alloc, k, others, size, link.most, steps)?;
     mark_phrase(found, &next, own, steps)?;
     mark_links(alloc, found, size, &next, links, lists, all, steps)
+}
+
+// Adds the offsets of a phrase, and says whether it occurs.
+fn visit_phrase(
+    alloc: Global,
+    phrase: &Phrase,
+    lists: &[&[Place]],
+    found: &mut Found,
+    steps: &mut Steps,
+) -> Result<bool, AllocError>
+    requires lists { length lists.now ≡ vec_len phrase.now.terms }
+    requires fits { found.old.next + length lists.now < 2 ^ 64 }
+    ensures accepted { IfOk result (λ b. b ≡ is_filled (starts_of (plain_phrase phrase.now) (plain_lists lists.now))) }
+    ensures offsets { OnOk result (found.new.offsets.items ≡ found.old.offsets.items
+        ++ numbered found.old.next (marks_from 0 (plain_lists lists.now) (starts_of (plain_phrase phrase.now) (plain_lists lists.now)))) }
+    ensures next { OnOk result (found.new.next ≡ found.old.next + length lists.now) }
+    ensures at_least { steps.old.taken ≤ steps.new.taken }
+{
+    let starts = starts_of(alloc, phrase, lists, steps)?;
+    mark_phrase(found, &starts, lists, steps)?;
+    Ok(starts.are_filled())
+}
+
+// Adds the offsets of a chain, and says whether its phrases occur near one another.
+fn visit_chain(
+    alloc: Global,
+    near: &Chain,
+    lists: &[&[Place]],
+    found: &mut Found,
+    steps: &mut Steps,
+) -> Result<bool, AllocError>
+    requires lists { length lists.now ≡ length (terms_in (chain (plain_phrase near.now.first) (map plain_link near.now.links.items))) }
+    requires fits { found.old.next + length lists.now < 2 ^ 64 }
+    ensures accepted { IfOk result (λ b. b ≡ is_accepted (chain (plain_phrase near.now.first) (map plain_link near.now.links.items)) (plain_lists lists.now)) }
+    ensures offsets { OnOk result (found.new.offsets.items ≡ found.old.offsets.items
+        ++ numbered found.old.next (marks_of (chain (plain_phrase near.now.first) (map plain_link near.now.links.items)) (plain_lists lists.now))) }
+    ensures next { OnOk result (found.new.next ≡ found.old.next + length lists.now) }
+    ensures at_least { steps.old.taken ≤ steps.new.taken }
+{
+    let links = near.links.as_slice();
+    let (starts, mut all) = linked(alloc, &near.first, links, lists, steps)?;
+    all.reverse();
+    let size = near.first.terms.len();
+    let (own, lists) = lists.split_at(size);
+    mark_phrase(found, &starts, own, steps)?;
+    mark_links(alloc, found, size, &starts, links, lists, &all, steps)?;
+    Ok(starts.are_filled())
 }
