@@ -99,7 +99,7 @@ linked_push p links lists rest next first later =
     ∙ ap (λ l. reverse (drop 1 (linked p links lists)) ++ l ∷ []) first
     ∙ sym (ap reverse (linked_first p links lists) ∙ reverse-append (head_of (linked p links lists) ∷ []) (drop 1 (linked p links lists)))
 
-numbered-append : (n : ℕ) (ms more : List (List Place)) → numbered n (ms ++ more) ≡ numbered n ms ++ numbered (n + length ms) more
+pub numbered-append : (n : ℕ) (ms more : List (List Place)) → numbered n (ms ++ more) ≡ numbered n ms ++ numbered (n + length ms) more
 numbered-append n [] more = ap (λ m. numbered m more) (sym (add-zero n))
 numbered-append n (m ∷ ms) more =
     let next : n + 1 + length ms ≡ n + length (m ∷ ms) = omega arith in
@@ -107,7 +107,7 @@ numbered-append n (m ∷ ms) more =
     ∙ ap (λ k. map (offset_at n) m ++ (numbered (n + 1) ms ++ numbered k more)) next
     ∙ sym (append_assoc (map (offset_at n) m) (numbered (n + 1) ms) (numbered (n + length (m ∷ ms)) more))
 
-marks_length : (i : ℕ) (lists : List (List Place)) (starts : List Place) → length (marks_from i lists starts) ≡ length lists
+pub marks_length : (i : ℕ) (lists : List (List Place)) (starts : List Place) → length (marks_from i lists starts) ≡ length lists
 marks_length i [] starts = refl
 marks_length i (l ∷ ls) starts = ap (λ n. suc n) (marks_length (i + 1) ls starts)
 
@@ -123,12 +123,12 @@ numbered_marks old n lists starts more =
 
 -- ---- the lists of a phrase's terms, and those behind them
 
-map-drop : (n : ℕ) (lists : List (Bor (List Place))) → drop n (plain_lists lists) ≡ plain_lists (drop n lists)
+pub map-drop : (n : ℕ) (lists : List (Bor (List Place))) → drop n (plain_lists lists) ≡ plain_lists (drop n lists)
 map-drop zero lists = refl
 map-drop (suc n) [] = refl
 map-drop (suc n) (l ∷ lists) = map-drop n lists
 
-map-take : (n : ℕ) (lists : List (Bor (List Place))) → take n (plain_lists lists) ≡ plain_lists (take n lists)
+pub map-take : (n : ℕ) (lists : List (Bor (List Place))) → take n (plain_lists lists) ≡ plain_lists (take n lists)
 map-take zero lists = refl
 map-take (suc n) [] = refl
 map-take (suc n) (l ∷ lists) = ap (λ ls. l.now ∷ ls) (map-take n lists)

@@ -1,5 +1,5 @@
 // Where phrases occur in one document.
-ghost use Rattle.std.specs.Prelude.{◌≡◌, ◌≤◌, ◌+◌, ◌*◌, ◌++◌, [], length, filter, map, IfOk, OnOk};
+ghost use Rattle.std.specs.Prelude.{◌≡◌, ◌≤◌, ◌+◌, ◌-◌, ◌^◌, min, ◌*◌, ◌++◌, [], length, filter, map, IfOk, OnOk};
 ghost use Rattle.ft_query.specs.Documents.{is_filled};
 ghost use Rattle.ft_query.specs.Occurs.{are_near};
 ghost use Rattle.ft_query.specs.Visit.{place_order, seek, among, is_behind, skip_behind, begin_near, near_those, may_begin, offset_at};
@@ -10,8 +10,9 @@ use crate::walk::steps::Steps;
 use std::alloc::{AllocError, Global};
 use std::cmp::Ordering;
 
-// One comparison more.
-fn look(steps: &mut Steps)
+/// One step more.
+pub(crate) fn take_step(steps: &mut Steps)
+    ensures step { steps.new.taken ≡ min (steps.old.taken + 1) (2 ^ 64 - 1) }
     ensures at_least { steps.old.taken ≤ steps.new.taken }
     ensures at_most { steps.new.taken ≤ steps.old.taken + 1 }
 {
@@ -25,7 +26,7 @@ fn order(a: &Place, i: usize, b: &Place, j: usize, steps: &mut Steps) -> Orderin
     ensures at_least { steps.old.taken ≤ steps.new.taken }
     ensures at_most { steps.new.taken ≤ steps.old.taken + 1 }
 {
-    look(steps);
+    take_step(steps);
     let here = a.pos as u128 + i as u128;
     let there = b.pos as u128 + j as u128;
     a.column.cmp(&b.column).then(here.cmp(&there))
@@ -37,7 +38,7 @@ fn is_behind(a: &Place, k: usize, b: &Place, most: usize, steps: &mut Steps) -> 
     ensures at_least { steps.old.taken ≤ steps.new.taken }
     ensures at_most { steps.new.taken ≤ steps.old.taken + 1 }
 {
-    look(steps);
+    take_step(steps);
     let last = a.pos as u128 + k as u128 + most as u128;
     a.column < b.column || a.column == b.column && last < b.pos as u128
 }
@@ -49,7 +50,7 @@ fn are_near(a: &Place, k: usize, b: &Place, m: usize, most: usize, steps: &mut S
     ensures at_least { steps.old.taken ≤ steps.new.taken }
     ensures at_most { steps.new.taken ≤ steps.old.taken + 1 }
 {
-    look(steps);
+    take_step(steps);
     let a_end = a.pos as u128 + k as u128;
     let b_end = b.pos as u128 + m as u128;
     let between = (b.pos as u128)
@@ -130,7 +131,7 @@ fn may_begin(place: &Place, only: Option<usize>, first: bool, steps: &mut Steps)
     ensures at_least { steps.old.taken ≤ steps.new.taken }
     ensures at_most { steps.new.taken ≤ steps.old.taken + 1 }
 {
-    look(steps);
+    take_step(steps);
     let is_within = match only {
         None => true,
         Some(column) => column == place.column,

@@ -1,5 +1,5 @@
 // The evaluation of a query in one document.
-ghost use Rattle.std.specs.Prelude.{◌≡◌, ◌≤◌, ◌<◌, ◌+◌, ◌*◌, ◌^◌, ◌++◌, [], if◌then◌else◌, length, drop, reverse, map, flat_map, vec_len, IfOk, OnOk};
+ghost use Rattle.std.specs.Prelude.{◌≡◌, ◌≤◌, ◌<◌, ◌+◌, ◌*◌, ◌-◌, ◌^◌, min, ◌++◌, [], if◌then◌else◌, length, drop, reverse, map, flat_map, vec_len, IfOk, OnOk};
 ghost use Rattle.ft_query.specs.Documents.{is_filled};
 ghost use Rattle.ft_query.specs.Trees.{plain_term, plain_phrase, plain_link, tree_of, chain};
 ghost use Rattle.ft_query.specs.Work.{terms_in, width};
@@ -9,7 +9,7 @@ use crate::lists::Place;
 use crate::query::{Chain, Link, Phrase, Query, QueryTerm};
 use crate::walk::Offset;
 use crate::walk::cursor::Cursor;
-use crate::walk::starts::Starts;
+use crate::walk::starts::{Starts, take_step};
 use crate::walk::steps::Steps;
 use std::alloc::{AllocError, Global};
 
@@ -169,6 +169,7 @@ fn mark_links(
     mark_links(alloc, found, size, &next, links, lists, all, steps)
 }
 
+#[tactic(auto, using(crate::proofs::Marks::phrase_marks_count))]
 // Adds the offsets of a phrase, and says whether it occurs.
 fn visit_phrase(
     alloc: Global,
@@ -182,7 +183,9 @@ fn visit_phrase(
     ensures accepted { IfOk result (λ b. b ≡ is_filled (starts_of (plain_phrase phrase.now) (plain_lists lists.now))) }
     ensures offsets { OnOk result (found.new.offsets.items ≡ found.old.offsets.items
         ++ numbered found.old.next (marks_from 0 (plain_lists lists.now) (starts_of (plain_phrase phrase.now) (plain_lists lists.now)))) }
-    ensures next { OnOk result (found.new.next ≡ found.old.next + length lists.now) }
+    ensures next { OnOk result (found.new.next ≡ found.old.next
+        + length (marks_from 0 (plain_lists lists.now) (starts_of (plain_phrase phrase.now) (plain_lists lists.now)))) }
+    ensures room { OnOk result (found.new.next ≤ found.old.next + length lists.now) }
     ensures at_least { steps.old.taken ≤ steps.new.taken }
 {
     let starts = starts_of(alloc, phrase, lists, steps)?;
@@ -190,6 +193,7 @@ fn visit_phrase(
     Ok(starts.are_filled())
 }
 
+#[tactic(auto, using(crate::proofs::Marks::chain_marks_count))]
 // Adds the offsets of a chain, and says whether its phrases occur near one another.
 fn visit_chain(
     alloc: Global,
@@ -203,7 +207,9 @@ fn visit_chain(
     ensures accepted { IfOk result (λ b. b ≡ is_accepted (chain (plain_phrase near.now.first) (map plain_link near.now.links.items)) (plain_lists lists.now)) }
     ensures offsets { OnOk result (found.new.offsets.items ≡ found.old.offsets.items
         ++ numbered found.old.next (marks_of (chain (plain_phrase near.now.first) (map plain_link near.now.links.items)) (plain_lists lists.now))) }
-    ensures next { OnOk result (found.new.next ≡ found.old.next + length lists.now) }
+    ensures next { OnOk result (found.new.next ≡ found.old.next
+        + length (marks_of (chain (plain_phrase near.now.first) (map plain_link near.now.links.items)) (plain_lists lists.now))) }
+    ensures room { OnOk result (found.new.next ≤ found.old.next + length lists.now) }
     ensures at_least { steps.old.taken ≤ steps.new.taken }
 {
     let links = near.links.as_slice();
@@ -214,4 +220,77 @@ fn visit_chain(
     mark_phrase(found, &starts, own, steps)?;
     mark_links(alloc, found, size, &starts, links, lists, &all, steps)?;
     Ok(starts.are_filled())
+}
+
+#[tactic(auto, using(crate::proofs::Marks::count_more))]
+// How many terms a chain has.
+fn chain_count(near: &Chain) -> usize
+    requires { length (terms_in (chain (plain_phrase near.now.first) (map plain_link near.now.links.items))) < 2 ^ 64 }
+    ensures { result ≡ length (terms_in (chain (plain_phrase near.now.first) (map plain_link near.now.links.items))) }
+{
+    let mut count = near.first.terms.len();
+    for link in &near.links {
+        count += link.to.terms.len();
+    }
+    count
+}
+
+// How many terms a query has.
+fn term_count(query: &Query) -> usize
+    requires { length (terms_in (tree_of query.now)) < 2 ^ 64 }
+    ensures { result ≡ length (terms_in (tree_of query.now)) }
+{
+    match query {
+        Query::Phrase(phrase) => phrase.terms.len(),
+        Query::Near(near) => chain_count(near),
+        Query::And(left, right) => term_count(left) + term_count(right),
+        Query::Or(left, right) => term_count(left) + term_count(right),
+        Query::Not(left, right) => term_count(left) + term_count(right),
+    }
+}
+
+// Adds the offsets of a query or of a part of one, and says whether it accepts the document.
+fn visit_part(
+    alloc: Global,
+    query: &Query,
+    lists: &[&[Place]],
+    found: &mut Found,
+    steps: &mut Steps,
+) -> Result<bool, AllocError>
+    requires lists { length lists.now ≡ length (terms_in (tree_of query.now)) }
+    requires fits { found.old.next + length lists.now < 2 ^ 64 }
+    ensures accepted { IfOk result (λ b. b ≡ is_accepted (tree_of query.now) (plain_lists lists.now)) }
+    ensures offsets { OnOk result (found.new.offsets.items ≡ found.old.offsets.items
+        ++ numbered found.old.next (marks_of (tree_of query.now) (plain_lists lists.now))) }
+    ensures next { OnOk result (found.new.next ≡ found.old.next + length (marks_of (tree_of query.now) (plain_lists lists.now))) }
+    ensures room { OnOk result (found.new.next ≤ found.old.next + length lists.now) }
+    ensures at_least { min (steps.old.taken + 1) (2 ^ 64 - 1) ≤ steps.new.taken }
+{
+    take_step(steps);
+    match query {
+        Query::Phrase(phrase) => visit_phrase(alloc, phrase, lists, found, steps),
+        Query::Near(near) => visit_chain(alloc, near, lists, found, steps),
+        Query::And(left, right) => {
+            let (own, rest) = lists.split_at(term_count(left));
+            let is_left = visit_part(alloc, left, own, found, steps)?;
+            let is_right = visit_part(alloc, right, rest, found, steps)?;
+            Ok(is_left && is_right)
+        }
+        Query::Or(left, right) => {
+            let (own, rest) = lists.split_at(term_count(left));
+            let is_left = visit_part(alloc, left, own, found, steps)?;
+            let is_right = visit_part(alloc, right, rest, found, steps)?;
+            Ok(is_left || is_right)
+        }
+        Query::Not(left, right) => {
+            let (own, rest) = lists.split_at(term_count(left));
+            let is_left = visit_part(alloc, left, own, found, steps)?;
+            let mut unmarked = Found {
+                offsets: Vec::new(alloc),
+                next: 0,
+            };
+            let is_right = visit_part(alloc, right, rest, &mut unmarked, steps)?;
+            Ok(is_left && !is_right)
+        }
+    }
 }

@@ -1,7 +1,8 @@
-use Rattle.std.proofs.Common.{◌≡◌, List, ◌∷◌, ◌++◌, ◌+◌, drop, map, length, sym, ap, ◌∙◌, refl, rules}
+use Rattle.std.proofs.Common.{◌≡◌, List, ◌∷◌, ◌++◌, ◌+◌, drop, map, length, sym, ap, ◌∙◌, refl, rules, arith}
 use Rattle.std.proofs.lemmas.List.{length-map}
 use Rattle.ft_query.specs.Trees.{plain_phrase, plain_link, chain}
 use Rattle.ft_query.specs.Visit.{linked, link_marks, marks_of, numbered, marks_from, plain_lists, plain_starts}
+use Rattle.ft_query.proofs.Marks.{chain_marks_count}
 use Rattle.ft_query.proofs.Passes.{numbered_marks, linked_length, starts_forward, starts_many, chain_marks}
 use Rattle.ft_query.proofs.walk.visit.visit_chain.Goals as goal
 
@@ -35,3 +36,8 @@ returns-clause-offsets c =
     ∙ numbered_marks old n own starts (link_marks c.len-size.result starts (map plain_link links) (plain_lists behind) later)
     ∙ ap (λ ms. old ++ numbered n ms) one
     ∙ ap (λ ls. old ++ numbered n (marks_of (chain (plain_phrase first) (map plain_link ls)) (plain_lists lists))) c.as_slice-links.ensures.value
+
+pub returns-clause-next : goal.returns-clause-next
+returns-clause-next c =
+    let count = chain_marks_count (plain_phrase c.args.near.now.first) (map plain_link c.args.near.now.links.items) c.args.lists.now c.requires.lists in
+    omega (arith, count, c.in_ok-mark_links.ensures.next, c.in_ok-mark_phrase.ensures.next, c.split_at.ensures.front_len, c.split_at.ensures.back_len)
