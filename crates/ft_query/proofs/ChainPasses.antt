@@ -1,0 +1,162 @@
+-- The passes over the phrases of a chain, backwards and forwards, give the members of its choices.
+use Rattle.std.proofs.Common.{◌≡◌, ℕ, ◌+◌, ◌-◌, ◌==◌, ◌&&◌, ◌||◌, Bool, true, false, not, cond, List, [], ◌∷◌, ◌++◌, ◌⊎◌, inl, inr, length, map, take, drop, zero, suc, refl, sym, ap, ◌∙◌, subst, arith, ⊎_elim}
+use Rattle.std.specs.Prelude.{filter, flat_map, AllPairs, Contains, nat_le, max}
+use Rattle.std.specs.List.{list_any, AllByRecursion}
+use Rattle.std.proofs.lemmas.Bool.Decides.{nat_tests}
+use Rattle.std.proofs.lemmas.List.{append-nil}
+use Rattle.ft_query.specs.declared.lists.Place.{Place}
+use Rattle.ft_query.specs.Documents.{Posting, IsBefore, is_filled}
+use Rattle.ft_query.specs.Trees.{PlainTerm, PlainPhrase, PlainLink, chain}
+use Rattle.ft_query.specs.Occurs.{places_of, occurs, occurrences, are_near, begins_near, IsChoice, choices, heads, taken_in, taken_links}
+use Rattle.ft_query.specs.Visit.{starts_of, marks_from, head_of, linked, link_marks, near_those, marks_of}
+use Rattle.ft_query.proofs.ByLists.{listed_places}
+use Rattle.ft_query.proofs.OffsetOrder.{contains_cases, contains_head, contains_tail}
+use Rattle.ft_query.proofs.Choices.{contains_nothing, map_from, map_to, filter_from, filter_to, chosen}
+use Rattle.ft_query.proofs.Merges.{Rising}
+use Rattle.ft_query.proofs.NearPasses.{near_is}
+use Rattle.ft_query.proofs.PhrasePasses.{all_filter, rising_filter, occurrences_rising, starts_are, any_same, filter_alike}
+use Rattle.ft_query.proofs.PhraseMarks.{Alike, Takes, marks_are, occurrences_take}
+
+-- ---- lists of terms
+
+front_part : (L : PlainTerm → List Place) (ts more : List PlainTerm) → take (length ts) (map L (ts ++ more)) ≡ map L ts
+front_part L [] more = refl
+front_part L (t ∷ ts) more = ap (λ ls. L t ∷ ls) (front_part L ts more)
+
+back_part : (L : PlainTerm → List Place) (ts more : List PlainTerm) → drop (length ts) (map L (ts ++ more)) ≡ map L more
+back_part L [] more = refl
+back_part L (t ∷ ts) more = back_part L ts more
+
+-- ---- tests and members
+
+pub any_to : {X : Type 0} (p : X → Bool) (xs : List X) (x : X) → Contains xs x → p x ≡ true → list_any p xs ≡ true
+any_to p [] x c e = absurd (contains_nothing x c)
+any_to p (y ∷ ys) x c e = ⊎_elim
+    (λ (here : y ≡ x). ap (λ b. b || list_any p ys) (ap p here ∙ e))
+    (λ (later : Contains ys x). ap (λ b. p y || b) (any_to p ys x later e) ∙ or_true (p y))
+    (contains_cases y x ys c)
+  where
+    or_true : (b : Bool) → (b || true) ≡ true
+    or_true true = refl
+    or_true false = refl
+
+pub any_from : {X : Type 0} (p : X → Bool) (xs : List X) → list_any p xs ≡ true → (x : X) × Contains xs x × (p x ≡ true)
+any_from p [] e = cc
+any_from p (y ∷ ys) e = by (p y) refl e (any_from p ys)
+  where
+    by : (b : Bool) → p y ≡ b → (b || list_any p ys) ≡ true → (list_any p ys ≡ true → (x : _) × Contains ys x × (p x ≡ true)) → (x : _) × Contains (y ∷ ys) x × (p x ≡ true)
+    by true is f rest = (y, contains_head y ys, is)
+    by false is f rest = let one = rest f in (one.0, contains_tail y one.0 ys one.1, one.2)
+
+pub same_bool : (a b : Bool) → (a ≡ true → b ≡ true) → (b ≡ true → a ≡ true) → a ≡ b
+same_bool true b to from = sym (to refl)
+same_bool false true to from = from refl
+same_bool false false to from = refl
+
+pub alike_by : (xs ys : List Place) → ((x : Place) → Contains xs x → Contains ys x) → ((x : Place) → Contains ys x → Contains xs x) → Alike xs ys
+alike_by xs ys to from = λ p. same_bool (list_any p xs) (list_any p ys)
+    (λ e. let one = any_from p xs e in any_to p ys one.0 (to one.0 one.1) one.2)
+    (λ e. let one = any_from p ys e in any_to p xs one.0 (from one.0 one.1) one.2)
+
+filled_to : {X : Type 0} (xs : List X) (x : X) → Contains xs x → is_filled xs ≡ true
+filled_to [] x c = absurd (contains_nothing x c)
+filled_to (y ∷ ys) x c = refl
+
+filled_from : {X : Type 0} (xs : List X) → is_filled xs ≡ true → (x : X) × Contains xs x
+filled_from [] e = cc
+filled_from (y ∷ ys) e = (y, contains_head y ys)
+
+heads_from : (cs : List (List Place)) (at : Place) → Contains (heads cs) at → (rest : List Place) × Contains cs (at ∷ rest)
+heads_from [] at c = absurd (contains_nothing at c)
+heads_from ([] ∷ cs) at c = let one = heads_from cs at c in (one.0, contains_tail [] (at ∷ one.0) cs one.1)
+heads_from ((x ∷ choice) ∷ cs) at c = ⊎_elim
+    (λ (here : x ≡ at). (choice, subst (λ u. Contains ((x ∷ choice) ∷ cs) (u ∷ choice)) here (contains_head (x ∷ choice) cs)))
+    (λ (later : Contains (heads cs) at). let one = heads_from cs at later in (one.0, contains_tail (x ∷ choice) (at ∷ one.0) cs one.1))
+    (contains_cases x at (heads cs) c)
+
+heads_to : (cs : List (List Place)) (at : Place) (rest : List Place) → Contains cs (at ∷ rest) → Contains (heads cs) at
+heads_to [] at rest c = absurd (contains_nothing (at ∷ rest) c)
+heads_to ([] ∷ cs) at rest c = ⊎_elim
+    (λ (here : [] ≡ at ∷ rest). cc)
+    (λ (later : Contains cs (at ∷ rest)). heads_to cs at rest later)
+    (contains_cases [] (at ∷ rest) cs c)
+heads_to ((x ∷ choice) ∷ cs) at rest c = ⊎_elim
+    (λ (here : x ∷ choice ≡ at ∷ rest). let same : x ≡ at = cc in subst (Contains (x ∷ heads cs)) same (contains_head x (heads cs)))
+    (λ (later : Contains cs (at ∷ rest)). contains_tail x at (heads cs) (heads_to cs at rest later))
+    (contains_cases (x ∷ choice) (at ∷ rest) cs c)
+
+-- ---- backwards
+
+same_number : (x y : ℕ) → (x == y) ≡ (y == x)
+same_number x y = grind (arith, nat_tests)
+
+near_turned : (most k : ℕ) (a : Place) (m : ℕ) (b : Place) → are_near most m b k a ≡ are_near most k a m b
+near_turned most k a m b =
+    let between : max (a.pos - (b.pos + m)) (b.pos - (a.pos + k)) ≡ max (b.pos - (a.pos + k)) (a.pos - (b.pos + m)) = omega arith in
+    ap (λ t. t && not (b.pos + m == a.pos + k) && nat_le (max (a.pos - (b.pos + m)) (b.pos - (a.pos + k))) most) (same_number b.column a.column)
+    ∙ ap (λ t. a.column == b.column && not t && nat_le (max (a.pos - (b.pos + m)) (b.pos - (a.pos + k))) most) (same_number (b.pos + m) (a.pos + k))
+    ∙ ap (λ n. a.column == b.column && not (a.pos + k == b.pos + m) && nat_le n most) between
+
+abbrev near_from : PlainPhrase → PlainLink → Place → Place → Bool
+near_from p link at b = are_near link.most (length p.terms) at (length link.to.terms) b
+
+-- the occurrences of a chain's first phrase from which the others can be reached
+abbrev reach : List Posting → PlainPhrase → List PlainLink → List Place
+reach postings p [] = occurrences postings p
+reach postings p (link ∷ links) = filter (λ at. list_any (near_from p link at) (reach postings link.to links)) (occurrences postings p)
+
+reach_rising : (postings : List Posting) (p : PlainPhrase) (links : List PlainLink) → AllPairs IsBefore postings → Rising (reach postings p links)
+reach_rising postings p [] ordered = occurrences_rising postings p ordered
+reach_rising postings p (link ∷ links) ordered = rising_filter (λ at. list_any (near_from p link at) (reach postings link.to links)) (occurrences postings p) (occurrences_rising postings p ordered)
+
+reach_takes : (postings : List Posting) (p : PlainPhrase) (links : List PlainLink) → AllByRecursion (Takes postings 0 p.terms) (reach postings p links)
+reach_takes postings p [] = occurrences_take postings p (places_of postings)
+reach_takes postings p (link ∷ links) = all_filter (Takes postings 0 p.terms) (λ at. list_any (near_from p link at) (reach postings link.to links)) (occurrences postings p) (occurrences_take postings p (places_of postings))
+
+abbrev link_terms : List PlainLink → List PlainTerm
+link_terms links = flat_map (λ link. link.to.terms) links
+
+linked_are : (postings : List Posting) (p : PlainPhrase) (links : List PlainLink) → AllPairs IsBefore postings → head_of (linked p links (map (listed_places postings) (p.terms ++ link_terms links))) ≡ reach postings p links
+linked_are postings p [] ordered = ap (λ ts. starts_of p (map (listed_places postings) ts)) (append-nil p.terms) ∙ starts_are postings p.filter p.terms ordered
+linked_are postings p (link ∷ links) ordered =
+    let L = listed_places postings in
+    let more = link_terms (link ∷ links) in
+    let lists = map L (p.terms ++ more) in
+    let k = length p.terms in
+    let m = length link.to.terms in
+    let next = reach postings link.to links in
+    let own : starts_of p (take k lists) ≡ occurrences postings p = ap (starts_of p) (front_part L p.terms more) ∙ starts_are postings p.filter p.terms ordered in
+    let behind : head_of (linked link.to links (drop k lists)) ≡ next = ap (λ ls. head_of (linked link.to links ls)) (back_part L p.terms more) ∙ linked_are postings link.to links ordered in
+    ap (λ s. near_those link.most m (head_of (linked link.to links (drop k lists))) k s) own
+    ∙ ap (λ s. near_those link.most m s k (occurrences postings p)) behind
+    ∙ near_is link.most m next k (occurrences postings p) (reach_rising postings link.to links ordered) (occurrences_rising postings p ordered)
+    ∙ filter_alike (λ b. list_any (λ a. are_near link.most m a k b) next) (λ at. list_any (near_from p link at) next) (occurrences postings p)
+    (λ at. any_same (λ a. are_near link.most m a k at) (near_from p link at) next (λ b. near_turned link.most k at m b))
+
+reach_of_choice : (postings : List Posting) (p : PlainPhrase) (links : List PlainLink) (at : Place) (rest : List Place) → IsChoice postings p links (at ∷ rest) → Contains (reach postings p links) at
+reach_of_choice postings p [] at rest is = is.0
+reach_of_choice postings p (link ∷ links) at [] is = absurd is.2
+reach_of_choice postings p (link ∷ links) at (b ∷ rest) is =
+    let there = reach_of_choice postings link.to links b rest is.2 in
+    filter_to (λ u. list_any (near_from p link u) (reach postings link.to links)) (occurrences postings p) at is.0 (any_to (near_from p link at) (reach postings link.to links) b there is.1)
+
+choice_of_reach : (postings : List Posting) (p : PlainPhrase) (links : List PlainLink) (at : Place) → Contains (reach postings p links) at → (rest : List Place) × IsChoice postings p links (at ∷ rest)
+choice_of_reach postings p [] at c = ([], (c, refl))
+choice_of_reach postings p (link ∷ links) at c =
+    let here = filter_from (λ u. list_any (near_from p link u) (reach postings link.to links)) (occurrences postings p) at c in
+    let next = any_from (near_from p link at) (reach postings link.to links) here.1 in
+    let rest = choice_of_reach postings link.to links next.0 next.1 in
+    (next.0 ∷ rest.0, (here.0, next.2, rest.1))
+
+-- a chain has a choice where its first phrase has an occurrence from which the others can be reached
+chain_accepted : (postings : List Posting) (p : PlainPhrase) (links : List PlainLink) → is_filled (reach postings p links) ≡ is_filled (choices postings p links)
+chain_accepted postings p links = same_bool (is_filled (reach postings p links)) (is_filled (choices postings p links))
+    (λ e.
+    let at = filled_from (reach postings p links) e in
+    let rest = choice_of_reach postings p links at.0 at.1 in
+    filled_to (choices postings p links) (at.0 ∷ rest.0) ((chosen postings p links (at.0 ∷ rest.0)).1 rest.1))
+    (λ e. let c = filled_from (choices postings p links) e in one c.0 ((chosen postings p links c.0).0 c.1))
+  where
+    one : (c : List Place) → IsChoice postings p links c → is_filled (reach postings p links) ≡ true
+    one [] is = absurd is
+    one (at ∷ rest) is = filled_to (reach postings p links) at (reach_of_choice postings p links at rest is)
