@@ -19,11 +19,11 @@ use Rattle.ft_query.proofs.PhraseMarks.{Alike, Takes, marks_are, occurrences_tak
 
 -- ---- lists of terms
 
-front_part : (L : PlainTerm → List Place) (ts more : List PlainTerm) → take (length ts) (map L (ts ++ more)) ≡ map L ts
+pub front_part : (L : PlainTerm → List Place) (ts more : List PlainTerm) → take (length ts) (map L (ts ++ more)) ≡ map L ts
 front_part L [] more = refl
 front_part L (t ∷ ts) more = ap (λ ls. L t ∷ ls) (front_part L ts more)
 
-back_part : (L : PlainTerm → List Place) (ts more : List PlainTerm) → drop (length ts) (map L (ts ++ more)) ≡ map L more
+pub back_part : (L : PlainTerm → List Place) (ts more : List PlainTerm) → drop (length ts) (map L (ts ++ more)) ≡ map L more
 back_part L [] more = refl
 back_part L (t ∷ ts) more = back_part L ts more
 
@@ -160,3 +160,100 @@ chain_accepted postings p links = same_bool (is_filled (reach postings p links))
     one : (c : List Place) → IsChoice postings p links c → is_filled (reach postings p links) ≡ true
     one [] is = absurd is
     one (at ∷ rest) is = filled_to (reach postings p links) at (reach_of_choice postings p links at rest is)
+
+-- ---- forwards
+
+-- these are the choices whose first place is one of these
+record Counted (postings : List Posting) (p : PlainPhrase) (links : List PlainLink) (starts : List Place) (cs : List (List Place)) : Type 0 where
+  to : (at : Place) (rest : List Place) → Contains cs (at ∷ rest) → IsChoice postings p links (at ∷ rest) × Contains starts at
+  from : (at : Place) (rest : List Place) → IsChoice postings p links (at ∷ rest) → Contains starts at → Contains cs (at ∷ rest)
+
+counted_heads : (postings : List Posting) (p : PlainPhrase) (links : List PlainLink) (starts : List Place) (cs : List (List Place)) → Counted postings p links starts cs
+    → ((at : Place) → Contains starts at → Contains (reach postings p links) at) → Alike starts (heads cs)
+counted_heads postings p links starts cs counted within = alike_by starts (heads cs)
+    (λ at c. let rest = choice_of_reach postings p links at (within at c) in heads_to cs at rest.0 (counted.from at rest.0 rest.1 c))
+    (λ at c. let one = heads_from cs at c in (counted.to at one.0 one.1).1)
+
+-- the next phrase's occurrences that count
+abbrev onward : List Posting → PlainPhrase → PlainLink → List PlainLink → List Place → List Place
+onward postings p link links starts = filter (λ b. list_any (λ a. near_from p link a b) starts) (reach postings link.to links)
+
+counted_to : (postings : List Posting) (p : PlainPhrase) (link : PlainLink) (links : List PlainLink) (starts : List Place) (cs : List (List Place)) → Counted postings p (link ∷ links) starts cs
+    → (at : Place) (rest : List Place) (c : List Place) → Contains cs c → drop 1 c ≡ at ∷ rest → IsChoice postings link.to links (at ∷ rest) × Contains (onward postings p link links starts) at
+counted_to postings p link links starts cs counted at rest [] c is = cc
+counted_to postings p link links starts cs counted at rest (x ∷ choice) c is =
+    let here = counted.to x (at ∷ rest) (subst (λ r. Contains cs (x ∷ r)) is c) in
+    let choice_is = here.0.2 in
+    (choice_is, filter_to (λ b. list_any (λ a. near_from p link a b) starts) (reach postings link.to links) at (reach_of_choice postings link.to links at rest choice_is) (any_to (λ a. near_from p link a at) starts x here.1 here.0.1))
+
+counted_from : (postings : List Posting) (p : PlainPhrase) (link : PlainLink) (links : List PlainLink) (starts : List Place) (cs : List (List Place)) → Counted postings p (link ∷ links) starts cs
+    → ((at : Place) → Contains starts at → Contains (reach postings p (link ∷ links)) at)
+    → (at : Place) (rest : List Place) → IsChoice postings link.to links (at ∷ rest) → Contains (onward postings p link links starts) at → Contains (map (drop 1) cs) (at ∷ rest)
+counted_from postings p link links starts cs counted within at rest is c =
+    let here = filter_from (λ b. list_any (λ a. near_from p link a b) starts) (reach postings link.to links) at c in
+    let before = any_from (λ a. near_from p link a at) starts here.1 in
+    let first = filter_from (λ u. list_any (near_from p link u) (reach postings link.to links)) (occurrences postings p) before.0 (within before.0 before.1) in
+    map_to (drop 1) cs (before.0 ∷ at ∷ rest) (counted.from before.0 (at ∷ rest) (first.0, before.2, is) before.1)
+
+counted_next : (postings : List Posting) (p : PlainPhrase) (link : PlainLink) (links : List PlainLink) (starts : List Place) (cs : List (List Place)) → Counted postings p (link ∷ links) starts cs
+    → ((at : Place) → Contains starts at → Contains (reach postings p (link ∷ links)) at) → Counted postings link.to links (onward postings p link links starts) (map (drop 1) cs)
+counted_next postings p link links starts cs counted within = record {
+  to = λ at rest c. let one = map_from (drop 1) cs (at ∷ rest) c in counted_to postings p link links starts cs counted at rest one.0 one.1 one.2;
+  from = counted_from postings p link links starts cs counted within;
+}
+
+link_marks_are : (postings : List Posting) (p : PlainPhrase) (links : List PlainLink) (starts : List Place) (cs : List (List Place)) → AllPairs IsBefore postings → Rising starts
+    → ((at : Place) → Contains starts at → Contains (reach postings p links) at) → Counted postings p links starts cs
+    → link_marks (length p.terms) starts links (map (listed_places postings) (link_terms links)) (drop 1 (linked p links (map (listed_places postings) (p.terms ++ link_terms links)))) ≡ taken_links postings (map (drop 1) cs) links
+link_marks_are postings p [] starts cs ordered rising within counted = refl
+link_marks_are postings p (link ∷ links) starts cs ordered rising within counted =
+    let L = listed_places postings in
+    let more = link_terms links in
+    let lists = map L (link.to.terms ++ more) in
+    let k = length p.terms in
+    let n = length link.to.terms in
+    let all = linked link.to links lists in
+    let next = onward postings p link links starts in
+    let goes_on = λ (b : Place). list_any (λ a. near_from p link a b) starts in
+    let next_rising = rising_filter goes_on (reach postings link.to links) (reach_rising postings link.to links ordered) in
+    let next_takes = all_filter (Takes postings 0 link.to.terms) goes_on (reach postings link.to links) (reach_takes postings link.to links) in
+    let next_within = λ (b : Place) (c : Contains next b). (filter_from goes_on (reach postings link.to links) b c).0 in
+    let next_counted = counted_next postings p link links starts cs counted within in
+    let is_next : near_those link.most k starts n (head_of all) ≡ next =
+        ap (near_those link.most k starts n) (linked_are postings link.to links ordered) ∙ near_is link.most k starts n (reach postings link.to links) rising (reach_rising postings link.to links ordered) in
+    let marked : List Place → List (List Place) → List (List Place) → List (List Place) → List (List Place) = λ s front back later. marks_from 0 front s ++ link_marks n s links back later in
+    ap (λ ls. link_marks k starts (link ∷ links) lists (linked link.to links ls)) (back_part L p.terms (link.to.terms ++ more))
+    ∙ ap (λ s. marked s (take n lists) (drop n lists) (drop 1 all)) is_next
+    ∙ ap (λ ls. marked next ls (drop n lists) (drop 1 all)) (front_part L link.to.terms more)
+    ∙ ap (λ ls. marked next (map L link.to.terms) ls (drop 1 all)) (back_part L link.to.terms more)
+    ∙ ap (λ ms. ms ++ link_marks n next links (map L more) (drop 1 all)) (marks_are postings 0 link.to.terms next (heads (map (drop 1) cs)) ordered next_rising next_takes (counted_heads postings link.to links next (map (drop 1) cs) next_counted next_within))
+    ∙ ap (λ ms. taken_in postings 0 link.to.terms (heads (map (drop 1) cs)) ++ ms) (link_marks_are postings link.to links next (map (drop 1) cs) ordered next_rising next_within next_counted)
+
+all_counted : (postings : List Posting) (p : PlainPhrase) (links : List PlainLink) → Counted postings p links (reach postings p links) (choices postings p links)
+all_counted postings p links = record {
+  to = λ at rest c. let is = (chosen postings p links (at ∷ rest)).0 c in (is, reach_of_choice postings p links at rest is);
+  from = λ at rest is c. (chosen postings p links (at ∷ rest)).1 is;
+}
+
+pub chain_accepts : (postings : List Posting) (p : PlainPhrase) (links : List PlainLink) → AllPairs IsBefore postings
+    → is_filled (head_of (linked p links (map (listed_places postings) (p.terms ++ link_terms links)))) ≡ is_filled (choices postings p links)
+chain_accepts postings p links ordered = ap (λ (s : List Place). is_filled s) (linked_are postings p links ordered) ∙ chain_accepted postings p links
+
+-- the marks of a chain are the places that its terms take in the choices
+pub chain_marks_are : (postings : List Posting) (p : PlainPhrase) (links : List PlainLink) → AllPairs IsBefore postings
+    → marks_of (chain p links) (map (listed_places postings) (p.terms ++ link_terms links)) ≡ taken_in postings 0 p.terms (heads (choices postings p links)) ++ taken_links postings (map (drop 1) (choices postings p links)) links
+chain_marks_are postings p links ordered =
+    let L = listed_places postings in
+    let more = link_terms links in
+    let lists = map L (p.terms ++ more) in
+    let n = length p.terms in
+    let starts = reach postings p links in
+    let cs = choices postings p links in
+    let within = λ (at : Place) (c : Contains starts at). c in
+    let rising = reach_rising postings p links ordered in
+    let marked : List Place → List (List Place) → List (List Place) → List (List Place) = λ s front back. marks_from 0 front s ++ link_marks n s links back (drop 1 (linked p links lists)) in
+    ap (λ s. marked s (take n lists) (drop n lists)) (linked_are postings p links ordered)
+    ∙ ap (λ ls. marked starts ls (drop n lists)) (front_part L p.terms more)
+    ∙ ap (λ ls. marked starts (map L p.terms) ls) (back_part L p.terms more)
+    ∙ ap (λ ms. ms ++ link_marks n starts links (map L more) (drop 1 (linked p links lists))) (marks_are postings 0 p.terms starts (heads cs) ordered rising (reach_takes postings p links) (counted_heads postings p links starts cs (all_counted postings p links) within))
+    ∙ ap (λ ms. taken_in postings 0 p.terms (heads cs) ++ ms) (link_marks_are postings p links starts cs ordered rising within (all_counted postings p links))
