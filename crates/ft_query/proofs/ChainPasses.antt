@@ -8,8 +8,7 @@ use Rattle.ft_query.specs.declared.lists.Place.{Place}
 use Rattle.ft_query.specs.Documents.{Posting, IsBefore, is_filled}
 use Rattle.ft_query.specs.Trees.{PlainTerm, PlainPhrase, PlainLink, chain}
 use Rattle.ft_query.specs.Occurs.{places_of, occurs, occurrences, are_near, begins_near, IsChoice, choices, heads, taken_in, taken_links}
-use Rattle.ft_query.specs.Visit.{starts_of, marks_from, head_of, linked, link_marks, near_those, marks_of}
-use Rattle.ft_query.proofs.ByLists.{listed_places}
+use Rattle.ft_query.specs.Visit.{listed_places, starts_of, marks_from, head_of, linked, link_marks, near_those, marks_of}
 use Rattle.ft_query.proofs.OffsetOrder.{contains_cases, contains_head, contains_tail}
 use Rattle.ft_query.proofs.Choices.{contains_nothing, map_from, map_to, filter_from, filter_to, chosen}
 use Rattle.ft_query.proofs.Merges.{Rising}
@@ -220,7 +219,7 @@ link_marks_are postings p (link ∷ links) starts cs ordered rising within count
     let next_within = λ (b : Place) (c : Contains next b). (filter_from goes_on (reach postings link.to links) b c).0 in
     let next_counted = counted_next postings p link links starts cs counted within in
     let is_next : near_those link.most k starts n (head_of all) ≡ next =
-        ap (near_those link.most k starts n) (linked_are postings link.to links ordered) ∙ near_is link.most k starts n (reach postings link.to links) rising (reach_rising postings link.to links ordered) in
+    ap (near_those link.most k starts n) (linked_are postings link.to links ordered) ∙ near_is link.most k starts n (reach postings link.to links) rising (reach_rising postings link.to links ordered) in
     let marked : List Place → List (List Place) → List (List Place) → List (List Place) → List (List Place) = λ s front back later. marks_from 0 front s ++ link_marks n s links back later in
     ap (λ ls. link_marks k starts (link ∷ links) lists (linked link.to links ls)) (back_part L p.terms (link.to.terms ++ more))
     ∙ ap (λ s. marked s (take n lists) (drop n lists) (drop 1 all)) is_next

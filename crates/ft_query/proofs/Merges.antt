@@ -27,7 +27,7 @@ meets i j x y = y.column == x.column && y.pos + j == x.pos + i
 
 -- ---- the order of two places
 
-abbrev Compared : ℕ → ℕ → Ordering → Type 0
+abbrev pub Compared : ℕ → ℕ → Ordering → Type 0
 Compared a b Less = a < b
 Compared a b Equal = a ≡ b
 Compared a b Greater = b < a
@@ -37,7 +37,7 @@ compared_by a b true same l s = grind (arith, nat_tests)
 compared_by a b false true l s = grind (arith, nat_tests)
 compared_by a b false false l s = grind (arith, nat_tests)
 
-compared : (a b : ℕ) → Compared a b (nat_cmp a b)
+pub compared : (a b : ℕ) → Compared a b (nat_cmp a b)
 compared a b = compared_by a b (nat_lt a b) (a == b) refl refl
 
 abbrev Ordered : ℕ → Place → ℕ → Place → Ordering → Type 0

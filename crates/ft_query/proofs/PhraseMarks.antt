@@ -7,8 +7,8 @@ use Rattle.ft_query.specs.declared.lists.Place.{Place}
 use Rattle.ft_query.specs.Documents.{Posting, IsBefore}
 use Rattle.ft_query.specs.Trees.{PlainTerm, PlainPhrase}
 use Rattle.ft_query.specs.Occurs.{is_listed, fits, takes, take_row, is_within, places_of, occurs, occurrences, shifted, taken_in}
-use Rattle.ft_query.specs.Visit.{among, marks_from}
-use Rattle.ft_query.proofs.ByLists.{listed_places, TakesHere, takes_here}
+use Rattle.ft_query.specs.Visit.{listed_places, among, marks_from}
+use Rattle.ft_query.proofs.ByLists.{TakesHere, takes_here}
 use Rattle.ft_query.proofs.Merges.{Rising, meets, among_is}
 use Rattle.ft_query.proofs.PhrasePasses.{listed_rising, any_same, filter_alike}
 
@@ -86,10 +86,10 @@ marks_are postings i [] starts counted ordered rising all alike = refl
 marks_are postings i (t ∷ ts) starts counted ordered rising all alike =
     let list = listed_places postings t in
     let one : among 0 i list starts ≡ shifted postings i counted =
-        among_is 0 i list starts (listed_rising postings t ordered) rising
-        ∙ filter_alike (λ at. list_any (meets 0 i at) starts) (λ at. list_any (follows i at) starts) list (λ at. any_same (meets 0 i at) (follows i at) starts (λ s. ap (λ n. s.column == at.column && s.pos + i == n) (add-zero at.pos)))
-        ∙ kept_of_list t (λ at. list_any (follows i at) starts) postings (all_listed postings i t ts starts postings all (takes_here postings t ordered))
-        ∙ filter_alike (λ at. list_any (follows i at) starts) (λ at. list_any (follows i at) counted) (places_of postings) (λ at. alike (follows i at)) in
+    among_is 0 i list starts (listed_rising postings t ordered) rising
+    ∙ filter_alike (λ at. list_any (meets 0 i at) starts) (λ at. list_any (follows i at) starts) list (λ at. any_same (meets 0 i at) (follows i at) starts (λ s. ap (λ n. s.column == at.column && s.pos + i == n) (add-zero at.pos)))
+    ∙ kept_of_list t (λ at. list_any (follows i at) starts) postings (all_listed postings i t ts starts postings all (takes_here postings t ordered))
+    ∙ filter_alike (λ at. list_any (follows i at) starts) (λ at. list_any (follows i at) counted) (places_of postings) (λ at. alike (follows i at)) in
     ap (λ l. l ∷ marks_from (i + 1) (map (listed_places postings) ts) starts) one
     ∙ ap (λ ls. shifted postings i counted ∷ ls) (marks_are postings (i + 1) ts starts counted ordered rising (next_takes postings i t ts starts all) alike)
 

@@ -9,8 +9,8 @@ use Rattle.ft_query.specs.declared.lists.Place.{Place}
 use Rattle.ft_query.specs.Documents.{Posting, IsBefore}
 use Rattle.ft_query.specs.Trees.{PlainTerm, PlainPhrase}
 use Rattle.ft_query.specs.Occurs.{is_listed, fits, takes, take_row, is_within, places_of, occurs, occurrences, shifted, taken_in}
-use Rattle.ft_query.specs.Visit.{among, may_begin, followed, starts_from, starts_of, marks_from}
-use Rattle.ft_query.proofs.ByLists.{term_places, listed_places, may_take, places_by_list, stands, follow, joined, occurrences_by_lists, TakesHere, takes_here}
+use Rattle.ft_query.specs.Visit.{listed_places, among, may_begin, followed, starts_from, starts_of, marks_from}
+use Rattle.ft_query.proofs.ByLists.{term_places, may_take, places_by_list, stands, follow, joined, occurrences_by_lists, TakesHere, takes_here}
 use Rattle.ft_query.proofs.Merges.{Before, Rising, meets, among_is, filter_same, all_weaker}
 
 -- ---- rising places

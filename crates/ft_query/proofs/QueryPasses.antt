@@ -6,8 +6,7 @@ use Rattle.ft_query.specs.Documents.{Posting, IsBefore, is_filled}
 use Rattle.ft_query.specs.Trees.{PlainTerm, PlainPhrase, Tree, phrase, chain, both, either, without}
 use Rattle.ft_query.specs.Work.{terms_in}
 use Rattle.ft_query.specs.Occurs.{accepts, taken, taken_in, occurrences, places_of}
-use Rattle.ft_query.specs.Visit.{is_accepted, marks_of, marks_from, starts_of}
-use Rattle.ft_query.proofs.ByLists.{listed_places}
+use Rattle.ft_query.specs.Visit.{listed_places, is_accepted, marks_of, marks_from, starts_of}
 use Rattle.ft_query.proofs.PhrasePasses.{starts_are, occurrences_rising}
 use Rattle.ft_query.proofs.PhraseMarks.{marks_are, occurrences_take}
 use Rattle.ft_query.proofs.ChainPasses.{front_part, back_part, chain_accepts, chain_marks_are}

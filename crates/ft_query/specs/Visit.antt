@@ -1,15 +1,15 @@
 -- How one document is evaluated: by passes over the lists of places of the query's terms, each from front to back (own choices).
 use Rattle.std.specs.Prelude.{ℕ, ℤ, ◌+◌, ◌*◌, ◌==◌, ◌&&◌, ◌||◌, Bool, true, false, not, nat_lt, if◌then◌else◌, List, [], ◌∷◌, ◌++◌, length, take, drop, map, filter, Option}
-use Rattle.std.specs.Ordering.{ordering_then, nat_cmp, match_ordering}
+use Rattle.std.specs.Ordering.{ordering_then, nat_cmp, match_ordering, is_lt}
 use Rattle.std.specs.declared.cmp.Ordering.{Ordering}
 use denote.Ref.{Bor}
 use Rattle.ft_query.specs.declared.lists.Place.{Place}
 use Rattle.ft_query.specs.declared.walk.Offset.{Offset}
 use Rattle.ft_query.specs.declared.walk.cursor.Cursor.{Cursor}
 use Rattle.ft_query.specs.declared.walk.starts.Starts.{Starts}
-use Rattle.ft_query.specs.Documents.{is_filled}
+use Rattle.ft_query.specs.Documents.{Posting, is_filled}
 use Rattle.ft_query.specs.Trees.{PlainTerm, PlainPhrase, PlainLink, Tree, phrase, chain, both, either, without}
-use Rattle.ft_query.specs.Occurs.{is_within, are_near}
+use Rattle.ft_query.specs.Occurs.{is_listed, is_within, are_near}
 use Rattle.ft_query.specs.Work.{terms_in}
 use Rattle.ft_query.specs.Cursors.{lists_left, places_at}
 
@@ -119,9 +119,17 @@ numbered n (m ∷ ms) = map (offset_at n) m ++ numbered (n + 1) ms
 abbrev pub plain_starts : List Starts → List (List Place)
 plain_starts all = map (λ s. s.places.items) all
 
+-- by column, then by place, then by term number
+abbrev pub precedes : Offset → Offset → Bool
+precedes a b = is_lt (ordering_then (ordering_then (nat_cmp a.column b.column) (nat_cmp a.place b.place)) (nat_cmp a.term b.term))
+
 -- the lists behind these references
 abbrev pub plain_lists : List (Bor (List Place)) → List (List Place)
 plain_lists lists = map (λ l. l.now) lists
+
+-- what a term's list answers for a document: its places in every position
+abbrev pub listed_places : List Posting → PlainTerm → List Place
+listed_places postings t = map (λ p. p.place) (filter (λ p. is_listed t p.term) postings)
 
 -- the places of each term in this document
 abbrev pub places_in : ℤ → List Cursor → List (List Place)

@@ -1,9 +1,11 @@
 // The evaluation of a query in one document.
 ghost use Rattle.std.specs.Prelude.{◌≡◌, ◌≤◌, ◌<◌, ◌+◌, ◌*◌, ◌-◌, ◌^◌, min, ◌++◌, [], if◌then◌else◌, length, drop, reverse, map, flat_map, vec_len, IfOk, OnOk};
+ghost use Rattle.std.specs.List.Sorted.{IsPermutation, IsSortedBy};
+ghost use Rattle.ft_query.specs.Cursors.{lists_left, places_at};
 ghost use Rattle.ft_query.specs.Documents.{is_filled};
 ghost use Rattle.ft_query.specs.Trees.{plain_term, plain_phrase, plain_link, tree_of, chain};
 ghost use Rattle.ft_query.specs.Work.{terms_in, width};
-ghost use Rattle.ft_query.specs.Visit.{among, followed, starts_of, marks_from, head_of, linked, link_marks, is_accepted, marks_of, numbered, plain_starts, plain_lists, places_in, total, link_cost};
+ghost use Rattle.ft_query.specs.Visit.{among, followed, starts_of, marks_from, head_of, linked, link_marks, is_accepted, marks_of, numbered, plain_starts, plain_lists, precedes, places_in, total, link_cost};
 
 use crate::lists::Place;
 use crate::query::{Chain, Link, Phrase, Query, QueryTerm};
@@ -293,4 +295,38 @@ fn visit_part(
             Ok(is_left && !is_right)
         }
     }
+}
+
+fn sort_offsets(offsets: &mut Vec<Offset>)
+    ensures permutation { IsPermutation offsets.old.items offsets.new.items }
+    ensures sorted { IsSortedBy precedes offsets.new.items }
+{
+    offsets.sort_unstable_by_key(|offset| (offset.column, offset.place, offset.term));
+}
+
+fn places_of<'a>(cursor: &'a Cursor, docid: i64, steps: &mut Steps) -> &'a [Place]
+    ensures places { result.now ≡ places_at docid (lists_left cursor.now) }
+    ensures at_least { steps.old.taken ≤ steps.new.taken }
+    ensures at_most { steps.new.taken ≤ steps.old.taken + 1 }
+{
+    let _before = steps.taken;
+    cursor.places(docid, steps)
+}
+
+// The places of each term in this document.
+fn lists_of<'a>(
+    alloc: Global,
+    cursors: &'a [Cursor],
+    docid: i64,
+    steps: &mut Steps,
+) -> Result<Vec<&'a [Place]>, AllocError>
+    ensures lists { IfOk result (λ v. plain_lists v.items ≡ places_in docid cursors.now) }
+    ensures at_least { steps.old.taken ≤ steps.new.taken }
+    ensures at_most { steps.new.taken ≤ steps.old.taken + length cursors.now }
+{
+    let mut lists = Vec::new(alloc);
+    for cursor in cursors {
+        lists.push(places_of(cursor, docid, steps))?;
+    }
+    Ok(lists)
 }
