@@ -18,7 +18,8 @@ use Rattle.ft_query.specs.Documents.{Posting, Document, AreDocuments, IsBefore, 
 use Rattle.ft_query.specs.Trees.{PlainTerm, Tree, tree_of}
 use Rattle.ft_query.specs.Occurs.{PlainHit, accepts, offsets_of, hits_of}
 use Rattle.ft_query.specs.Work.{terms_in, lists_of, width, entry_count, candidate_count}
-use Rattle.ft_query.specs.Cursors.{lists_left, places_at, passed, least_of, least_from, listed_places, listed_for}
+use Rattle.ft_query.specs.Cursors.{lists_left, places_at, passed, least_of, least_from, listed_for}
+use Rattle.ft_query.specs.Visit.{listed_places}
 use Rattle.ft_query.specs.Walk.{Walk, StandsBefore, steps_to_come, Went}
 use Rattle.ft_query.specs.Search.{walk_at, Considers}
 use Rattle.ft_query.proofs.Nexts.{Next, Nothing, First, next_of, are_more, all_places, all_passed, all_counted, without_it, with_it}

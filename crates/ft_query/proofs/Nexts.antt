@@ -14,7 +14,8 @@ use Rattle.ft_query.specs.Documents.{Posting, Document, AreDocuments, IsBefore, 
 use Rattle.ft_query.specs.Trees.{PlainTerm, Tree}
 use Rattle.ft_query.specs.Occurs.{PlainHit, is_listed, accepts, offsets_of, hits_of}
 use Rattle.ft_query.specs.Work.{terms_in, lists_of, entry_count, candidate_count}
-use Rattle.ft_query.specs.Cursors.{places_at, passed, least_of, least_from, listed_places, listed_for}
+use Rattle.ft_query.specs.Cursors.{places_at, passed, least_of, least_from, listed_for}
+use Rattle.ft_query.specs.Visit.{listed_places}
 use Rattle.ft_query.proofs.NotListed.{has_term, or_left, or_right, accepts_none}
 
 -- ---- docids

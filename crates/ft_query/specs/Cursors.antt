@@ -1,9 +1,9 @@
 -- What is left of the lists of a walk.
-use Rattle.std.specs.Prelude.{ℕ, ℤ, int_lt, Bool, List, [], ◌∷◌, drop, map, filter, sum_by, if◌then◌else◌, Option, Some, None}
+use Rattle.std.specs.Prelude.{ℕ, ℤ, int_lt, List, [], ◌∷◌, drop, map, sum_by, if◌then◌else◌, Option, Some, None}
 use Rattle.std.specs.Ordering.{int_eq}
 use Rattle.ft_query.specs.declared.lists.Place.{Place}
 use Rattle.ft_query.specs.declared.walk.cursor.Cursor.{Cursor}
-use Rattle.ft_query.specs.Documents.{Posting, Document, PlaceList, plain_list, lists_with, place_count}
+use Rattle.ft_query.specs.Documents.{Document, PlaceList, plain_list, lists_with, place_count}
 use Rattle.ft_query.specs.Trees.{PlainTerm}
 use Rattle.ft_query.specs.Occurs.{is_listed}
 
@@ -34,10 +34,6 @@ abbrev pub least_of : Option ℤ → List PlaceList → Option ℤ
 least_of docid [] = docid
 least_of None (l ∷ ls) = Some l.docid
 least_of (Some docid) (l ∷ ls) = if int_lt l.docid docid then Some l.docid else Some docid
-
--- what a term's list has of one document
-abbrev pub listed_places : List Posting → PlainTerm → List Place
-listed_places postings t = map (λ p. p.place) (filter (λ p. is_listed t p.term) postings)
 
 -- the least docid that is next in some list, or this one
 abbrev pub least_from : Option ℤ → List (List PlaceList) → Option ℤ

@@ -7,6 +7,7 @@ mod cursor;
 mod load;
 mod matches;
 mod search;
+mod starts;
 mod steps;
 mod visit;
 

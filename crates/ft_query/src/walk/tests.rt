@@ -198,7 +198,7 @@ fn found(
 
 #[test]
 fn two_columns(rt: HostRuntime) -> Result<(), Fail> {
-    let mail: [Texts<'_>; 2] = [
+    let mails: [Texts<'_>; 2] = [
         (1, &["hello world", "This message is a hello world message."]),
         (2, &["urgent: serious", "This mail is seen as a more serious mail"]),
     ];
@@ -213,7 +213,7 @@ fn two_columns(rt: HostRuntime) -> Result<(), Fail> {
         ("\"world this\"", ""),
     ];
     for (text, want) in rows {
-        let found = found(rt.alloc(), &["subject", "body"], &mail, text)?;
+        let found = found(rt.alloc(), &["subject", "body"], &mails, text)?;
         assert_eq!(rt; found.as_str(), want, "at {text}");
     }
     Ok(())
