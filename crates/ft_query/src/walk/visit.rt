@@ -1,11 +1,12 @@
 // The evaluation of a query in one document.
-ghost use Rattle.std.specs.Prelude.{◌≡◌, ◌≤◌, ◌<◌, ◌+◌, ◌*◌, ◌-◌, ◌^◌, min, ◌++◌, [], if◌then◌else◌, length, drop, reverse, map, flat_map, vec_len, IfOk, OnOk};
+ghost use Rattle.std.specs.Prelude.{◌≡◌, ◌≤◌, ◌<◌, ◌+◌, ◌*◌, ◌-◌, ◌^◌, min, ◌++◌, [], if◌then◌else◌, length, drop, reverse, map, flat_map, vec_len, option_map, List, AllPairs, Some, None, IfOk, OnOk, OnErr};
 ghost use Rattle.std.specs.List.Sorted.{IsPermutation, IsSortedBy};
 ghost use Rattle.ft_query.specs.Cursors.{lists_left, places_at};
-ghost use Rattle.ft_query.specs.Documents.{is_filled};
+ghost use Rattle.ft_query.specs.Documents.{Posting, IsBefore, is_filled};
+ghost use Rattle.ft_query.specs.Occurs.{accepts, offsets_of};
 ghost use Rattle.ft_query.specs.Trees.{plain_term, plain_phrase, plain_link, tree_of, chain};
 ghost use Rattle.ft_query.specs.Work.{terms_in, width};
-ghost use Rattle.ft_query.specs.Visit.{among, followed, starts_of, marks_from, head_of, linked, link_marks, is_accepted, marks_of, numbered, plain_starts, plain_lists, precedes, places_in, total, link_cost};
+ghost use Rattle.ft_query.specs.Visit.{among, followed, starts_of, marks_from, head_of, linked, link_marks, is_accepted, marks_of, numbered, plain_starts, plain_lists, listed_places, precedes, places_in, total, link_cost};
 
 use crate::lists::Place;
 use crate::query::{Chain, Link, Phrase, Query, QueryTerm};
@@ -306,6 +307,7 @@ fn sort_offsets(offsets: &mut Vec<Offset>)
 
 fn places_of<'a>(cursor: &'a Cursor, docid: i64, steps: &mut Steps) -> &'a [Place]
     ensures places { result.now ≡ places_at docid (lists_left cursor.now) }
+    ensures step { steps.new.taken ≡ min (steps.old.taken + 1) (2 ^ 64 - 1) }
     ensures at_least { steps.old.taken ≤ steps.new.taken }
     ensures at_most { steps.new.taken ≤ steps.old.taken + 1 }
 {
@@ -321,6 +323,7 @@ fn lists_of<'a>(
     steps: &mut Steps,
 ) -> Result<Vec<&'a [Place]>, AllocError>
     ensures lists { IfOk result (λ v. plain_lists v.items ≡ places_in docid cursors.now) }
+    ensures looked { OnErr result (min (steps.old.taken + 1) (2 ^ 64 - 1) ≤ steps.new.taken) }
     ensures at_least { steps.old.taken ≤ steps.new.taken }
     ensures at_most { steps.new.taken ≤ steps.old.taken + length cursors.now }
 {
@@ -329,4 +332,32 @@ fn lists_of<'a>(
         lists.push(places_of(cursor, docid, steps))?;
     }
     Ok(lists)
+}
+
+/// The offsets of a document, if the query accepts it. The cursors are those of the query's terms, in the text's order.
+pub(crate) fn visit(
+    alloc: Global,
+    query: &Query,
+    cursors: &[Cursor],
+    docid: i64,
+    steps: &mut Steps,
+) -> Result<Option<Vec<Offset>>, AllocError>
+    requires { length cursors.now ≡ length (terms_in (tree_of query.now)) }
+    ensures offsets { IfOk result (λ offsets. (postings : List Posting) → AllPairs IsBefore postings →
+        map (λ c. places_at docid (lists_left c)) cursors.now ≡ map (listed_places postings) (terms_in (tree_of query.now)) →
+        option_map (λ o. o.items) offsets
+        ≡ (if accepts postings (tree_of query.now) then Some (offsets_of postings (tree_of query.now)) else None)) }
+    ensures at_least { min (steps.old.taken + 1) (2 ^ 64 - 1) ≤ steps.new.taken }
+{
+    let lists = lists_of(alloc, cursors, docid, steps)?;
+    let mut found = Found {
+        offsets: Vec::new(alloc),
+        next: 0,
+    };
+    if !visit_part(alloc, query, &lists, &mut found, steps)? {
+        return Ok(None);
+    }
+    let mut offsets = found.offsets;
+    sort_offsets(&mut offsets);
+    Ok(Some(offsets))
 }
