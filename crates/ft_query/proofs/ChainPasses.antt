@@ -1,5 +1,5 @@
 -- The passes over the phrases of a chain, backwards and forwards, give the members of its choices.
-use Rattle.std.proofs.Common.{◌≡◌, ℕ, ◌+◌, ◌-◌, ◌==◌, ◌&&◌, ◌||◌, Bool, true, false, not, cond, List, [], ◌∷◌, ◌++◌, ◌⊎◌, inl, inr, length, map, take, drop, zero, suc, refl, sym, ap, ◌∙◌, subst, arith, ⊎_elim}
+use Rattle.std.proofs.Common.{◌≡◌, ℕ, ◌+◌, ◌-◌, ◌==◌, ◌&&◌, ◌||◌, Bool, true, false, not, List, [], ◌∷◌, ◌++◌, length, map, take, drop, refl, sym, ap, ◌∙◌, subst, arith, ⊎_elim}
 use Rattle.std.specs.Prelude.{filter, flat_map, AllPairs, Contains, nat_le, max}
 use Rattle.std.specs.List.{list_any, AllByRecursion}
 use Rattle.std.proofs.lemmas.Bool.Decides.{nat_tests}
@@ -7,7 +7,7 @@ use Rattle.std.proofs.lemmas.List.{append-nil}
 use Rattle.ft_query.specs.declared.lists.Place.{Place}
 use Rattle.ft_query.specs.Documents.{Posting, IsBefore, is_filled}
 use Rattle.ft_query.specs.Trees.{PlainTerm, PlainPhrase, PlainLink, chain}
-use Rattle.ft_query.specs.Occurs.{places_of, occurs, occurrences, are_near, begins_near, IsChoice, choices, heads, taken_in, taken_links}
+use Rattle.ft_query.specs.Occurs.{places_of, occurrences, are_near, IsChoice, choices, heads, taken_in, taken_links}
 use Rattle.ft_query.specs.Visit.{listed_places, starts_of, marks_from, head_of, linked, link_marks, near_those, marks_of}
 use Rattle.ft_query.proofs.OffsetOrder.{contains_cases, contains_head, contains_tail}
 use Rattle.ft_query.proofs.Choices.{contains_nothing, map_from, map_to, filter_from, filter_to, chosen}

@@ -1,14 +1,13 @@
 -- What the passes over rising places keep.
-use Rattle.std.proofs.Common.{◌≡◌, ℕ, ◌+◌, ◌-◌, ◌<◌, ◌≤◌, ◌==◌, ◌&&◌, ◌||◌, Bool, true, false, not, cond, List, [], ◌∷◌, ◌⊎◌, inl, inr, refl, sym, ap, ◌∙◌, arith, ⊎_elim}
-use Rattle.std.specs.Prelude.{filter, nat_lt, nat_le, max}
+use Rattle.std.proofs.Common.{◌≡◌, ℕ, ◌+◌, ◌<◌, ◌==◌, ◌&&◌, ◌||◌, Bool, true, false, cond, List, [], ◌∷◌, ◌⊎◌, inl, inr, refl, sym, ap, ◌∙◌, arith}
+use Rattle.std.specs.Prelude.{filter, nat_lt}
 use Rattle.std.specs.List.{list_any, AllByRecursion}
 use Rattle.std.specs.Ordering.{nat_cmp, ordering_then, match_ordering}
 use Rattle.std.specs.declared.cmp.Ordering.{Ordering}
 use Rattle.std.specs.declared.cmp.Ordering.TheVariants.{Less, Equal, Greater}
 use Rattle.std.proofs.lemmas.Bool.Decides.{nat_tests}
 use Rattle.ft_query.specs.declared.lists.Place.{Place}
-use Rattle.ft_query.specs.Occurs.{are_near}
-use Rattle.ft_query.specs.Visit.{place_order, seek, among, is_behind, skip_behind, begin_near, near_those}
+use Rattle.ft_query.specs.Visit.{place_order, seek, among}
 
 -- an earlier column, or an earlier position of one column, where a is moved by i and b by j
 abbrev pub Earlier : ℕ → Place → ℕ → Place → Type 0

@@ -6,7 +6,7 @@ use Rattle.std.proofs.lemmas.Bool.Decides.{nat_tests}
 use Rattle.ft_query.specs.declared.lists.Place.{Place}
 use Rattle.ft_query.specs.Documents.{Posting, IsBefore}
 use Rattle.ft_query.specs.Trees.{PlainTerm, PlainPhrase}
-use Rattle.ft_query.specs.Occurs.{is_listed, fits, takes, take_row, is_within, places_of, occurs, occurrences, shifted, taken_in}
+use Rattle.ft_query.specs.Occurs.{is_listed, fits, takes, take_row, places_of, occurs, shifted, taken_in}
 use Rattle.ft_query.specs.Visit.{listed_places, among, marks_from}
 use Rattle.ft_query.proofs.ByLists.{TakesHere, takes_here}
 use Rattle.ft_query.proofs.Merges.{Rising, meets, among_is}

@@ -1,5 +1,5 @@
 -- The passes over the lists of a phrase's terms give its occurrences, and the places of its terms in them.
-use Rattle.std.proofs.Common.{◌≡◌, ℕ, ◌+◌, ◌<◌, ◌≤◌, ◌==◌, ◌&&◌, ◌||◌, Bool, true, false, not, cond, List, [], ◌∷◌, ◌⊎◌, inl, inr, length, map, refl, sym, ap, ◌∙◌, subst, arith, ⊎_elim, add-zero}
+use Rattle.std.proofs.Common.{◌≡◌, ℕ, ◌+◌, ◌<◌, ◌==◌, ◌&&◌, ◌||◌, Bool, true, false, not, cond, List, [], ◌∷◌, inl, inr, map, refl, sym, ap, ◌∙◌, arith, add-zero}
 use Rattle.std.specs.Prelude.{filter, AllPairs, Option}
 use Rattle.std.specs.List.{list_any, AllByRecursion}
 use Rattle.std.proofs.lemmas.Bool.Decides.{nat_tests}
@@ -8,10 +8,10 @@ use Rattle.ft_query.proofs.TokenOnce.{pairs_head, pairs_tail}
 use Rattle.ft_query.specs.declared.lists.Place.{Place}
 use Rattle.ft_query.specs.Documents.{Posting, IsBefore}
 use Rattle.ft_query.specs.Trees.{PlainTerm, PlainPhrase}
-use Rattle.ft_query.specs.Occurs.{is_listed, fits, takes, take_row, is_within, places_of, occurs, occurrences, shifted, taken_in}
-use Rattle.ft_query.specs.Visit.{listed_places, among, may_begin, followed, starts_from, starts_of, marks_from}
-use Rattle.ft_query.proofs.ByLists.{term_places, may_take, places_by_list, stands, follow, joined, occurrences_by_lists, TakesHere, takes_here}
-use Rattle.ft_query.proofs.Merges.{Before, Rising, meets, among_is, filter_same, all_weaker}
+use Rattle.ft_query.specs.Occurs.{is_listed, is_within, places_of, occurs, occurrences}
+use Rattle.ft_query.specs.Visit.{listed_places, among, may_begin, followed, starts_from}
+use Rattle.ft_query.proofs.ByLists.{term_places, may_take, places_by_list, stands, follow, occurrences_by_lists}
+use Rattle.ft_query.proofs.Merges.{Before, Rising, meets, among_is}
 
 -- ---- rising places
 

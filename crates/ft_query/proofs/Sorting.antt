@@ -1,6 +1,6 @@
 -- The marks of a query's terms, sorted, are the offsets of the document.
-use Rattle.std.proofs.Common.{◌≡◌, ℕ, ◌+◌, ◌<◌, ◌≤◌, ◌==◌, ◌&&◌, ◌||◌, Bool, true, false, cond, List, [], ◌∷◌, ◌++◌, ◌⊎◌, inl, inr, length, map, drop, get_or, zero, suc, refl, sym, ap, ◌∙◌, subst, arith, ⊎_elim}
-use Rattle.std.specs.Prelude.{All, AllPairs, Contains, Some, None, filter, flat_map, filter_map, nat_lt}
+use Rattle.std.proofs.Common.{◌≡◌, ℕ, ◌+◌, ◌<◌, ◌==◌, ◌&&◌, Bool, true, false, cond, List, [], ◌∷◌, ◌++◌, ◌⊎◌, inl, inr, length, map, drop, get_or, suc, refl, sym, ap, ◌∙◌, subst, arith, ⊎_elim}
+use Rattle.std.specs.Prelude.{AllPairs, Contains, Some, None, filter, filter_map}
 use Rattle.std.specs.List.{AllByRecursion, IsDistinct, list_any, enumerate_from, cons_option}
 use Rattle.std.specs.List.Sorted.{IsPermutation, IsSortedBy}
 use Rattle.std.specs.Ordering.{nat_cmp, ordering_then, is_lt}
@@ -15,7 +15,7 @@ use Rattle.ft_query.specs.declared.lists.Place.{Place}
 use Rattle.ft_query.specs.declared.walk.Offset.{Offset}
 use Rattle.ft_query.specs.Documents.{Posting, IsBefore}
 use Rattle.ft_query.specs.Trees.{PlainTerm, PlainLink, Tree, phrase, chain, both, either, without}
-use Rattle.ft_query.specs.Occurs.{is_at, offsets_at, offsets_of, taken, taken_in, taken_links, shifted, places_of, heads, choices, occurrences}
+use Rattle.ft_query.specs.Occurs.{is_at, offsets_at, offsets_of, taken, taken_in, taken_links, places_of, heads, choices, occurrences}
 use Rattle.ft_query.specs.Visit.{offset_at, numbered, precedes}
 use Rattle.ft_query.proofs.TokenOnce.{pairs_head, pairs_tail}
 use Rattle.ft_query.proofs.OffsetOrder.{Rises, contains_cases, contains_head, contains_tail, only_offsets}

@@ -142,7 +142,12 @@ abbrev pub total : List (List Place) → ℕ
 total [] = 0
 total (l ∷ ls) = length l + total ls
 
--- the most steps for the marks of these links, whose phrases have these occurrences
-abbrev pub link_cost : List PlainLink → List (List Place) → List (List Place) → ℕ
-link_cost [] lists all = 0
-link_cost (link ∷ links) lists all = 4 * length (head_of all) + total (take (length link.to.terms) lists) + length link.to.terms * length (head_of all) + link_cost links (drop (length link.to.terms) lists) (drop 1 all)
+-- the most steps back from a chain's last phrase
+abbrev pub linked_cost : PlainPhrase → List PlainLink → List (List Place) → ℕ
+linked_cost p [] lists = 2 * total lists
+linked_cost p (link ∷ links) lists = 2 * total (take (length p.terms) lists) + linked_cost link.to links (drop (length p.terms) lists) + length (head_of (linked link.to links (drop (length p.terms) lists))) + 3 * length (starts_of p (take (length p.terms) lists))
+
+-- the most steps for the marks of the phrases of these links
+abbrev pub link_cost : ℕ → List Place → List PlainLink → List (List Place) → List (List Place) → ℕ
+link_cost k starts [] lists all = 0
+link_cost k starts (link ∷ links) lists all = let next = near_those link.most k starts (length link.to.terms) (head_of all) in length starts + 3 * length (head_of all) + total (take (length link.to.terms) lists) + length link.to.terms * length next + link_cost (length link.to.terms) next links (drop (length link.to.terms) lists) (drop 1 all)

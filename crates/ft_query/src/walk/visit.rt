@@ -6,7 +6,7 @@ ghost use Rattle.ft_query.specs.Documents.{Posting, IsBefore, is_filled};
 ghost use Rattle.ft_query.specs.Occurs.{accepts, offsets_of};
 ghost use Rattle.ft_query.specs.Trees.{plain_term, plain_phrase, plain_link, tree_of, chain};
 ghost use Rattle.ft_query.specs.Work.{terms_in, width};
-ghost use Rattle.ft_query.specs.Visit.{among, followed, starts_of, marks_from, head_of, linked, link_marks, is_accepted, marks_of, numbered, plain_starts, plain_lists, listed_places, precedes, places_in, total, link_cost};
+ghost use Rattle.ft_query.specs.Visit.{among, followed, starts_of, marks_from, head_of, linked, link_marks, is_accepted, marks_of, numbered, plain_starts, plain_lists, listed_places, precedes, places_in, total, linked_cost, link_cost};
 
 use crate::lists::Place;
 use crate::query::{Chain, Link, Phrase, Query, QueryTerm};
@@ -125,6 +125,8 @@ fn linked(
     ensures rest { IfOk result (λ r. plain_starts r.1.items
         ≡ reverse (drop 1 (linked (plain_phrase first.now) (map plain_link links.now) (plain_lists lists.now)))) }
     ensures at_least { steps.old.taken ≤ steps.new.taken }
+    ensures at_most { steps.new.taken
+        ≤ steps.old.taken + linked_cost (plain_phrase first.now) (map plain_link links.now) (plain_lists lists.now) }
 {
     let Some((link, links)) = links.split_first() else {
         let starts = starts_of(alloc, first, lists, steps)?;
@@ -158,6 +160,8 @@ fn mark_links(
         ++ numbered found.old.next (link_marks k starts.now.places.items (map plain_link links.now) (plain_lists lists.now) (plain_starts all.now))) }
     ensures next { OnOk result (found.new.next ≡ found.old.next + length lists.now) }
     ensures at_least { steps.old.taken ≤ steps.new.taken }
+    ensures at_most { steps.new.taken
+        ≤ steps.old.taken + link_cost k starts.now.places.items (map plain_link links.now) (plain_lists lists.now) (plain_starts all.now) }
 {
     let Some((link, links)) = links.split_first() else {
         return Ok(());
@@ -346,7 +350,7 @@ pub(crate) fn visit(
     ensures offsets { IfOk result (λ offsets. (postings : List Posting) → AllPairs IsBefore postings →
         map (λ c. places_at docid (lists_left c)) cursors.now ≡ map (listed_places postings) (terms_in (tree_of query.now)) →
         option_map (λ o. o.items) offsets
-            ≡ (if accepts postings (tree_of query.now) then Some (offsets_of postings (tree_of query.now)) else None)) }
+        ≡ (if accepts postings (tree_of query.now) then Some (offsets_of postings (tree_of query.now)) else None)) }
     ensures at_least { min (steps.old.taken + 1) (2 ^ 64 - 1) ≤ steps.new.taken }
 {
     let lists = lists_of(alloc, cursors, docid, steps)?;

@@ -1,5 +1,5 @@
-use Rattle.std.proofs.Common.{◌≡◌, List, [], ◌∷◌, map, drop, reverse, length, sym, ap, ◌∙◌, arith, rules}
-use Rattle.ft_query.specs.Trees.{plain_phrase, plain_link, plain_term, PlainLink}
+use Rattle.std.proofs.Common.{◌≡◌, map, drop, reverse, length, sym, ap, ◌∙◌, rules}
+use Rattle.ft_query.specs.Trees.{plain_phrase, plain_link}
 use Rattle.ft_query.specs.Visit.{linked, plain_lists, plain_starts}
 use Rattle.ft_query.proofs.Passes.{linked_push, back_lists}
 use Rattle.ft_query.proofs.walk.visit.+linked.Goals as goal

@@ -1,4 +1,4 @@
-use Rattle.std.proofs.Common.{◌≡◌, List, ◌∷◌, ◌++◌, ◌+◌, map, length, sym, ap, ◌∙◌, rules}
+use Rattle.std.proofs.Common.{◌≡◌, ◌∷◌, ◌++◌, map, length, sym, ap, ◌∙◌, rules}
 use Rattle.std.proofs.lemmas.Result.{IfOk-equal}
 use Rattle.ft_query.specs.Trees.{plain_link}
 use Rattle.ft_query.specs.Visit.{link_marks, numbered, marks_from, plain_lists, plain_starts}

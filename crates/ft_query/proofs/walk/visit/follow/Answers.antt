@@ -1,9 +1,9 @@
-use Rattle.std.proofs.Common.{◌≡◌, ◌+◌, ◌<◌, ◌≤◌, [], cond, map, drop, length, get_or, sym, ap, ◌∙◌, arith}
+use Rattle.std.proofs.Common.{◌+◌, ◌<◌, [], map, drop, length, get_or, sym, ap, ◌∙◌, arith}
 use denote.Ref.{Bor}
 use Rattle.std.specs.Prelude.{List}
 use Rattle.ft_query.specs.declared.lists.Place.{Place}
 use Rattle.ft_query.specs.Trees.{plain_term}
-use Rattle.ft_query.specs.Visit.{among, followed, plain_lists}
+use Rattle.ft_query.specs.Visit.{followed, plain_lists}
 use Rattle.ft_query.proofs.Passes.{follow_more, total_more, followed_few}
 use Rattle.ft_query.proofs.walk.visit.follow.Goals as goal
 

@@ -1,4 +1,4 @@
-use Rattle.std.proofs.Common.{◌≡◌, ◌≤◌, ◌+◌, ◌*◌, length, drop, take, map}
+use Rattle.std.proofs.Common.{◌≡◌, ◌≤◌, ◌+◌, ◌*◌, length, drop, map}
 use Rattle.ft_query.specs.Trees.{plain_term}
 use Rattle.ft_query.specs.Visit.{followed, plain_lists, total}
 use Rattle.ft_query.proofs.walk.visit.follow.Given as goal

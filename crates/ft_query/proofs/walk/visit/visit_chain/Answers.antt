@@ -1,4 +1,4 @@
-use Rattle.std.proofs.Common.{◌≡◌, List, ◌∷◌, ◌++◌, ◌+◌, drop, map, length, sym, ap, ◌∙◌, refl, rules, arith}
+use Rattle.std.proofs.Common.{◌≡◌, ◌++◌, ◌+◌, drop, map, length, ap, ◌∙◌, refl, rules, arith}
 use Rattle.std.proofs.lemmas.List.{length-map}
 use Rattle.ft_query.specs.Trees.{plain_phrase, plain_link, chain}
 use Rattle.ft_query.specs.Visit.{linked, link_marks, marks_of, numbered, marks_from, plain_lists, plain_starts}
