@@ -98,7 +98,7 @@ one_left q ls s t docid offsets documents stands least given at_most at_least = 
         let left : map (passed docid) ls ≡ lists_of tree ds = ap (λ z. map (passed z) ls) (sym one) ∙ ap (map (passed d.docid)) lists ∙ all_passed d ds later (terms_in tree) in
         let here : offsets ≡ (if accepts d.postings tree then Some (offsets_of d.postings tree) else None) = given d.postings (All-head (λ (e : Document). AllPairs IsBefore e.postings) d ds are.ordered) places in
         let entries : entry_count tree documents ≡ sum_by length (map (places_at docid) ls) + entry_count tree ds =
-            ap (sum_by place_count) same ∙ all_counted d ds later (terms_in tree) ∙ ap (λ ps. sum_by length ps + entry_count tree ds) (sym places) in
+        ap (sum_by place_count) same ∙ all_counted d ds later (terms_in tree) ∙ ap (λ ps. sum_by length ps + entry_count tree ds) (sym places) in
         let product : 8 * width tree * candidate_count tree documents ≡ 8 * width tree * candidate_count tree ds + 8 * width tree = ap (λ n. 8 * width tree * n) (count ∙ one_more (candidate_count tree ds)) ∙ mul-suc (8 * width tree) (candidate_count tree ds) in
         record {
           rest = ds;
@@ -112,7 +112,7 @@ one_left q ls s t docid offsets documents stands least given at_most at_least = 
 pub went_on : (q : Query) (cursors passed_by : List Cursor) (s a b t : ℕ) (docid : ℤ) (offsets : Option (List Offset)) (documents : List Document) → StandsBefore (walk_at q cursors s) documents → least_from None (map lists_left cursors) ≡ Some docid →
     ((postings : List Posting) → AllPairs IsBefore postings → map (λ c. places_at docid (lists_left c)) cursors ≡ map (listed_places postings) (terms_in (tree_of q)) → offsets ≡ (if accepts postings (tree_of q) then Some (offsets_of postings (tree_of q)) else None)) →
     map lists_left passed_by ≡ map (passed docid) (map lists_left cursors) → length cursors ≡ length (terms_in (tree_of q)) → s ≤ a → a ≤ s + length cursors →
-    min (a + 1) (2 ^ 64 - 1) ≤ b → b ≤ a + 31 * sum_by (λ c. length (places_at docid (lists_left c))) cursors + 5 * width (tree_of q) → t ≡ min (b + length cursors) (2 ^ 64 - 1) →
+    min (a + 1) (2 ^ 64 - 1) ≤ b → b ≤ a + 12 * sum_by (λ c. length (places_at docid (lists_left c))) cursors + 3 * width (tree_of q) → t ≡ min (b + length cursors) (2 ^ 64 - 1) →
     Went (walk_at q cursors s) (walk_at q passed_by t) (hit_with docid offsets) documents
 went_on q cursors passed_by s a b t docid offsets documents stands least given left number first_least first_most visit_least visit_most last =
     let ls = map lists_left cursors in
@@ -134,7 +134,7 @@ went_on q cursors passed_by s a b t docid offsets documents stands least given l
 
 fewer : (docid : ℤ) (l : List PlaceList) → length (passed docid l) ≤ length l
 fewer docid [] = omega arith
-fewer docid (x ∷ l) = elim (int_eq x.docid docid) as (λ v. length (cond v l (x ∷ l)) ≤ length (x ∷ l)) [ | true ↦ omega arith | false ↦ omega arith ]
+fewer docid (x ∷ l) = elim (int_eq x.docid docid) as (λ v. length (cond v l (x ∷ l)) ≤ length (x ∷ l)) [ true ↦ omega arith | false ↦ omega arith ]
 
 none_more : (docid : ℤ) (ls : List (List PlaceList)) → sum_by length (map (passed docid) ls) ≤ sum_by length ls
 none_more docid [] = omega arith

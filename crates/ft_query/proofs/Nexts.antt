@@ -132,7 +132,7 @@ module _ (d : Document) (ds : List Document) (later : AllByRecursion (λ e. d.do
   unfolding IsLater
   still_behind so_far [] behind later = behind
   still_behind None (l ∷ ls) behind later = later
-  still_behind (Some docid) (l ∷ ls) behind later = elim (int_lt l.docid docid) as (λ v. IsBehind (cond v (Some l.docid) (Some docid))) [ | true ↦ later | false ↦ behind ]
+  still_behind (Some docid) (l ∷ ls) behind later = elim (int_lt l.docid docid) as (λ v. IsBehind (cond v (Some l.docid) (Some docid))) [ true ↦ later | false ↦ behind ]
 
   found : (so_far : Option ℤ) (places : List Place) (ls : List PlaceList) → IsBehind so_far → least_of so_far (record { docid = d.docid; places = places } ∷ ls) ≡ Some d.docid
   found None places ls behind = refl

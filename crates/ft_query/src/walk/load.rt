@@ -12,11 +12,7 @@ use crate::walk::cursor::Cursor;
 use std::alloc::Global;
 
 /// The list of one term.
-fn load_term<L: Lists>(
-    alloc: Global,
-    term: &QueryTerm,
-    lists: &mut L,
-) -> Result<Cursor, ListFault>
+fn load_term<L: Lists>(alloc: Global, term: &QueryTerm, lists: &mut L) -> Result<Cursor, ListFault>
     ensures list { IfOk result (λ c. L.is_clean lists.new → lists_kept c ≡ listed_for (L.documents lists.new) (plain_term term.now)) }
     ensures clean { L.is_clean lists.new → L.is_clean lists.old × (L.documents lists.new ≡ L.documents lists.old) }
     ensures failed { L.has_failed lists.new ≡ (L.has_failed lists.old || is_failed result) }

@@ -151,11 +151,7 @@ fn next(matches: &mut Matches<'_>) -> Result<Option<Hit>, Fail> {
 }
 
 // A walk, also where the first call lacks memory.
-fn open<'q>(
-    alloc: Global,
-    query: &'q Query,
-    documents: &[Texts<'_>],
-) -> Result<Matches<'q>, Fail> {
+fn open<'q>(alloc: Global, query: &'q Query, documents: &[Texts<'_>]) -> Result<Matches<'q>, Fail> {
     if let Ok(matches) = Matches::open(alloc, query, &mut words_of(documents)) {
         return Ok(matches);
     }
@@ -199,8 +195,17 @@ fn found(
 #[test]
 fn two_columns(rt: HostRuntime) -> Result<(), Fail> {
     let mails: [Texts<'_>; 2] = [
-        (1, &["hello world", "This message is a hello world message."]),
-        (2, &["urgent: serious", "This mail is seen as a more serious mail"]),
+        (
+            1,
+            &["hello world", "This message is a hello world message."],
+        ),
+        (
+            2,
+            &[
+                "urgent: serious",
+                "This mail is seen as a more serious mail",
+            ],
+        ),
     ];
     let rows = [
         ("world", "1: 0 0 6 5 1 0 24 5;"),
@@ -274,10 +279,19 @@ fn occurrences_of_one_word(rt: HostRuntime) -> Result<(), Fail> {
 fn sets_of_documents(rt: HostRuntime) -> Result<(), Fail> {
     let texts = ["a c", "b c", "b", "a"];
     let rows = [
-        ("(a NOT b) OR c", "1: 0 0 0 1 0 1 2 1;2: 0 1 2 1;4: 0 0 0 1;"),
+        (
+            "(a NOT b) OR c",
+            "1: 0 0 0 1 0 1 2 1;2: 0 1 2 1;4: 0 0 0 1;",
+        ),
         ("a OR b NOT c", "1: 0 0 0 1;3: 0 1 0 1;4: 0 0 0 1;"),
-        ("a OR b AND c", "1: 0 0 0 1 0 2 2 1;2: 0 1 0 1 0 2 2 1;4: 0 0 0 1;"),
-        ("a OR b c", "1: 0 0 0 1 0 2 2 1;2: 0 1 0 1 0 2 2 1;4: 0 0 0 1;"),
+        (
+            "a OR b AND c",
+            "1: 0 0 0 1 0 2 2 1;2: 0 1 0 1 0 2 2 1;4: 0 0 0 1;",
+        ),
+        (
+            "a OR b c",
+            "1: 0 0 0 1 0 2 2 1;2: 0 1 0 1 0 2 2 1;4: 0 0 0 1;",
+        ),
         ("(a OR b) NOT c", "3: 0 1 0 1;4: 0 0 0 1;"),
         ("a and c", ""),
         ("\"!!\"", ""),
@@ -350,12 +364,7 @@ fn a_list_that_fails_fails_the_walk(rt: HostRuntime) -> Result<(), Fail> {
 }
 
 // How many hits there are. After each the steps are no more than `most`, and at the end no fewer than the hits.
-fn counted(
-    alloc: Global,
-    documents: &[Texts<'_>],
-    text: &str,
-    most: u64,
-) -> Result<u64, Fail> {
+fn counted(alloc: Global, documents: &[Texts<'_>], text: &str, most: u64) -> Result<u64, Fail> {
     let Ok(Some(query)) = parse(alloc, text, &[], None) else {
         return Err("no query")?;
     };
