@@ -1,5 +1,5 @@
 -- The steps for one document are few for each place of its lists and each term of the query.
-use Rattle.std.proofs.Common.{◌≡◌, ℕ, ◌+◌, ◌*◌, ◌-◌, ◌≤◌, Bool, true, false, cond, List, [], ◌∷◌, ◌++◌, length, map, take, drop, zero, suc, refl, sym, ap, ◌∙◌, subst, arith, max, ℤ}
+use Rattle.std.proofs.Common.{◌≡◌, ℕ, ◌+◌, ◌*◌, ◌≤◌, Bool, true, false, cond, List, [], ◌∷◌, ◌++◌, length, take, drop, zero, suc, refl, sym, ap, ◌∙◌, subst, arith, max, ℤ}
 use Rattle.std.specs.Prelude.{filter, flat_map, sum_by, Option}
 use Rattle.std.proofs.Math.Nat.{mul-le-mul_left}
 use Rattle.std.proofs.lemmas.List.{length-append, length-take-le, length-drop, length-map, take_all}
@@ -9,7 +9,7 @@ use Rattle.ft_query.specs.declared.walk.cursor.Cursor.{Cursor}
 use Rattle.ft_query.specs.Trees.{PlainTerm, PlainPhrase, PlainLink, Tree, phrase, chain, both, either, without}
 use Rattle.ft_query.specs.Work.{terms_in, width}
 use Rattle.ft_query.specs.Cursors.{lists_left, places_at}
-use Rattle.ft_query.specs.Visit.{among, may_begin, followed, starts_from, starts_of, near_those, head_of, linked, link_marks, total, linked_cost, link_cost, visit_cost, places_in}
+use Rattle.ft_query.specs.Visit.{among, may_begin, followed, starts_from, starts_of, near_those, head_of, linked, total, linked_cost, link_cost, visit_cost, places_in}
 use Rattle.ft_query.proofs.Passes.{among_short, followed_few, near_short, filter_short}
 
 total_split : (n : ℕ) (ls : List (List Place)) → total (take n ls) + total (drop n ls) ≡ total ls

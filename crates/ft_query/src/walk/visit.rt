@@ -1,5 +1,5 @@
 // The evaluation of a query in one document.
-ghost use Rattle.std.specs.Prelude.{◌≡◌, ◌≤◌, ◌<◌, ◌+◌, ◌*◌, ◌-◌, ◌^◌, min, ◌++◌, [], if◌then◌else◌, length, drop, reverse, map, flat_map, vec_len, option_map, List, AllPairs, Some, None, IfOk, OnOk, OnErr};
+ghost use Rattle.std.specs.Prelude.{◌≡◌, ◌≤◌, ◌<◌, ◌+◌, ◌*◌, ◌-◌, ◌^◌, min, ◌++◌, [], if◌then◌else◌, length, drop, reverse, map, flat_map, vec_len, option_map, sum_by, List, AllPairs, Some, None, IfOk, OnOk, OnErr};
 ghost use Rattle.std.specs.List.Sorted.{IsPermutation, IsSortedBy};
 ghost use Rattle.ft_query.specs.Cursors.{lists_left, places_at};
 ghost use Rattle.ft_query.specs.Documents.{Posting, IsBefore, is_filled};
@@ -356,6 +356,8 @@ pub(crate) fn visit(
         option_map (λ o. o.items) offsets
         ≡ (if accepts postings (tree_of query.now) then Some (offsets_of postings (tree_of query.now)) else None)) }
     ensures at_least { min (steps.old.taken + 1) (2 ^ 64 - 1) ≤ steps.new.taken }
+    ensures at_most { steps.new.taken ≤ steps.old.taken
+        + 12 * (sum_by (λ c. length (places_at docid (lists_left c))) cursors.now) + 3 * width (tree_of query.now) }
 {
     let lists = lists_of(alloc, cursors, docid, steps)?;
     let mut found = Found {
