@@ -1,5 +1,5 @@
 -- How many places the passes keep.
-use Rattle.std.proofs.Common.{◌≡◌, ℕ, ◌+◌, ◌<◌, ◌≤◌, Bool, true, false, cond, List, [], ◌∷◌, ◌++◌, length, get_or, map, take, drop, reverse, zero, suc, add-zero, refl, ap, sym, ◌∙◌, arith}
+use Rattle.std.proofs.Common.{◌≡◌, ℕ, ◌+◌, ◌*◌, ◌<◌, ◌≤◌, Bool, true, false, cond, List, [], ◌∷◌, ◌++◌, length, get_or, map, take, drop, reverse, zero, suc, add-zero, refl, ap, sym, ◌∙◌, arith}
 use Rattle.std.specs.Prelude.{filter}
 use Rattle.std.specs.Ordering.{match_ordering}
 use Rattle.std.specs.declared.cmp.Ordering.{Ordering}
@@ -12,7 +12,7 @@ use Rattle.ft_query.specs.declared.query.Link.{Link}
 use Rattle.ft_query.specs.declared.query.Phrase.{Phrase}
 use Rattle.ft_query.specs.declared.walk.Offset.{Offset}
 use Rattle.ft_query.specs.Trees.{PlainPhrase, PlainLink, plain_term, plain_phrase, plain_link, chain}
-use Rattle.ft_query.specs.Visit.{place_order, seek, among, skip_behind, begin_near, near_those, followed, head_of, linked, link_marks, marks_from, marks_of, numbered, offset_at, plain_starts, total, plain_lists}
+use Rattle.ft_query.specs.Visit.{place_order, seek, among, skip_behind, begin_near, near_those, followed, head_of, linked, link_marks, marks_from, marks_of, numbered, offset_at, plain_starts, total, plain_lists, linked_cost, link_cost, visit_cost}
 use Rattle.ft_query.specs.declared.walk.starts.Starts.{Starts}
 
 -- what is left of a list, with the one that was found
@@ -192,3 +192,22 @@ chain_marks first links lists own behind starts all size is_size is_own is_behin
     ∙ ap (λ m. marked m begun later (plain_lists own) (plain_lists behind)) same
     ∙ ap (λ ls. marked n begun later ls (plain_lists behind)) (sym (front_lists terms lists own size is_size is_own))
     ∙ ap (λ ls. marked n begun later (take n (plain_lists lists)) ls) (sym (back_lists terms lists behind size is_size is_behind))
+
+-- the steps for a chain: back to its first phrase, for that one's marks, and for those of its links
+pub chain_cost : (first : Phrase) (links : List Link) (lists own behind : List (Bor (List Place))) (starts : List Place) (all : List (List Place)) (size : ℕ)
+    → size ≡ length first.terms.items → own ≡ take size lists → behind ≡ drop size lists
+    → starts ≡ head_of (linked (plain_phrase first) (map plain_link links) (plain_lists lists)) → all ≡ drop 1 (linked (plain_phrase first) (map plain_link links) (plain_lists lists))
+    → 1 + (linked_cost (plain_phrase first) (map plain_link links) (plain_lists lists) + total (plain_lists own) + size * length starts + link_cost size starts (map plain_link links) (plain_lists behind) all) ≡ visit_cost (chain (plain_phrase first) (map plain_link links)) (plain_lists lists)
+chain_cost first links lists own behind starts all size is_size is_own is_behind is_starts is_all =
+    let terms = first.terms.items in
+    let n = length (map plain_term terms) in
+    let same : size ≡ n = is_size ∙ sym (length-map terms plain_term) in
+    let begun = head_of (linked (plain_phrase first) (map plain_link links) (plain_lists lists)) in
+    let later = drop 1 (linked (plain_phrase first) (map plain_link links) (plain_lists lists)) in
+    let back = linked_cost (plain_phrase first) (map plain_link links) (plain_lists lists) in
+    let cost : ℕ → List Place → List (List Place) → List (List Place) → List (List Place) → ℕ = λ m s ss front rest. 1 + (back + total front + m * length s + link_cost m s (map plain_link links) rest ss) in
+    ap (λ s. cost size s all (plain_lists own) (plain_lists behind)) is_starts
+    ∙ ap (λ ss. cost size begun ss (plain_lists own) (plain_lists behind)) is_all
+    ∙ ap (λ m. cost m begun later (plain_lists own) (plain_lists behind)) same
+    ∙ ap (λ ls. cost n begun later ls (plain_lists behind)) (sym (front_lists terms lists own size is_size is_own))
+    ∙ ap (λ ls. cost n begun later (take n (plain_lists lists)) ls) (sym (back_lists terms lists behind size is_size is_behind))

@@ -1,12 +1,12 @@
 // The evaluation of a query in one document.
-ghost use Rattle.std.specs.Prelude.{◌≡◌, ◌≤◌, ◌<◌, ◌+◌, ◌*◌, ◌-◌, ◌^◌, min, ◌++◌, [], if◌then◌else◌, length, drop, reverse, map, flat_map, vec_len, option_map, List, AllPairs, Some, None, IfOk, OnOk, OnErr};
+ghost use Rattle.std.specs.Prelude.{◌≡◌, ◌≤◌, ◌<◌, ◌+◌, ◌*◌, ◌-◌, ◌^◌, min, ◌++◌, [], if◌then◌else◌, length, drop, reverse, map, flat_map, vec_len, option_map, sum_by, List, AllPairs, Some, None, IfOk, OnOk, OnErr};
 ghost use Rattle.std.specs.List.Sorted.{IsPermutation, IsSortedBy};
 ghost use Rattle.ft_query.specs.Cursors.{lists_left, places_at};
 ghost use Rattle.ft_query.specs.Documents.{Posting, IsBefore, is_filled};
 ghost use Rattle.ft_query.specs.Occurs.{accepts, offsets_of};
-ghost use Rattle.ft_query.specs.Trees.{plain_term, plain_phrase, plain_link, tree_of, chain};
+ghost use Rattle.ft_query.specs.Trees.{plain_term, plain_phrase, plain_link, tree_of, phrase, chain};
 ghost use Rattle.ft_query.specs.Work.{terms_in, width};
-ghost use Rattle.ft_query.specs.Visit.{among, followed, starts_of, marks_from, head_of, linked, link_marks, is_accepted, marks_of, numbered, plain_starts, plain_lists, listed_places, precedes, places_in, total, linked_cost, link_cost};
+ghost use Rattle.ft_query.specs.Visit.{among, followed, starts_of, marks_from, head_of, linked, link_marks, is_accepted, marks_of, numbered, plain_starts, plain_lists, listed_places, precedes, places_in, total, linked_cost, link_cost, visit_cost};
 
 use crate::lists::Place;
 use crate::query::{Chain, Link, Phrase, Query, QueryTerm};
@@ -180,22 +180,23 @@ fn mark_links(
 // Adds the offsets of a phrase, and says whether it occurs.
 fn visit_phrase(
     alloc: Global,
-    phrase: &Phrase,
+    words: &Phrase,
     lists: &[&[Place]],
     found: &mut Found,
     steps: &mut Steps,
 ) -> Result<bool, AllocError>
-    requires lists { length lists.now ≡ vec_len phrase.now.terms }
+    requires lists { length lists.now ≡ vec_len words.now.terms }
     requires fits { found.old.next + length lists.now < 2 ^ 64 }
-    ensures accepted { IfOk result (λ b. b ≡ is_filled (starts_of (plain_phrase phrase.now) (plain_lists lists.now))) }
+    ensures accepted { IfOk result (λ b. b ≡ is_filled (starts_of (plain_phrase words.now) (plain_lists lists.now))) }
     ensures offsets { OnOk result (found.new.offsets.items ≡ found.old.offsets.items
-        ++ numbered found.old.next (marks_from 0 (plain_lists lists.now) (starts_of (plain_phrase phrase.now) (plain_lists lists.now)))) }
+        ++ numbered found.old.next (marks_from 0 (plain_lists lists.now) (starts_of (plain_phrase words.now) (plain_lists lists.now)))) }
     ensures next { OnOk result (found.new.next ≡ found.old.next
-        + length (marks_from 0 (plain_lists lists.now) (starts_of (plain_phrase phrase.now) (plain_lists lists.now)))) }
+        + length (marks_from 0 (plain_lists lists.now) (starts_of (plain_phrase words.now) (plain_lists lists.now)))) }
     ensures room { OnOk result (found.new.next ≤ found.old.next + length lists.now) }
     ensures at_least { steps.old.taken ≤ steps.new.taken }
+    ensures at_most { steps.new.taken + 1 ≤ steps.old.taken + visit_cost (phrase (plain_phrase words.now)) (plain_lists lists.now) }
 {
-    let starts = starts_of(alloc, phrase, lists, steps)?;
+    let starts = starts_of(alloc, words, lists, steps)?;
     mark_phrase(found, &starts, lists, steps)?;
     Ok(starts.are_filled())
 }
@@ -218,6 +219,8 @@ fn visit_chain(
         + length (marks_of (chain (plain_phrase near.now.first) (map plain_link near.now.links.items)) (plain_lists lists.now))) }
     ensures room { OnOk result (found.new.next ≤ found.old.next + length lists.now) }
     ensures at_least { steps.old.taken ≤ steps.new.taken }
+    ensures at_most { steps.new.taken + 1 ≤ steps.old.taken
+        + visit_cost (chain (plain_phrase near.now.first) (map plain_link near.now.links.items)) (plain_lists lists.now) }
 {
     let links = near.links.as_slice();
     let (starts, mut all) = linked(alloc, &near.first, links, lists, steps)?;
@@ -272,6 +275,7 @@ fn visit_part(
     ensures next { OnOk result (found.new.next ≡ found.old.next + length (marks_of (tree_of query.now) (plain_lists lists.now))) }
     ensures room { OnOk result (found.new.next ≤ found.old.next + length lists.now) }
     ensures at_least { min (steps.old.taken + 1) (2 ^ 64 - 1) ≤ steps.new.taken }
+    ensures at_most { steps.new.taken ≤ steps.old.taken + visit_cost (tree_of query.now) (plain_lists lists.now) }
 {
     take_step(steps);
     match query {
@@ -352,6 +356,8 @@ pub(crate) fn visit(
         option_map (λ o. o.items) offsets
         ≡ (if accepts postings (tree_of query.now) then Some (offsets_of postings (tree_of query.now)) else None)) }
     ensures at_least { min (steps.old.taken + 1) (2 ^ 64 - 1) ≤ steps.new.taken }
+    ensures at_most { steps.new.taken ≤ steps.old.taken
+        + 12 * (sum_by (λ c. length (places_at docid (lists_left c))) cursors.now) + 3 * width (tree_of query.now) }
 {
     let lists = lists_of(alloc, cursors, docid, steps)?;
     let mut found = Found {
