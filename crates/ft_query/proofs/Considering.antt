@@ -1,6 +1,6 @@
 -- What considering one document does to a walk.
 use Rattle.std.proofs.Common.{◌≡◌, ◌≢◌, ℕ, suc, ◌+◌, ◌-◌, ◌*◌, ◌^◌, ◌<◌, ◌≤◌, ◌⊎◌, inl, inr, ℤ, ◌<ℤ◌, min, Bool, true, false, cond, List, [], ◌∷◌, ◌++◌, length, map, refl, sym, ap, subst, ◌∙◌, arith, true≢false, Option, Some, None, ⊎_elim}
-use Rattle.std.specs.Prelude.{All, AllPairs, sum_by, int_lt, if◌then◌else◌}
+use Rattle.std.specs.Prelude.{AllPairs, sum_by, int_lt, if◌then◌else◌}
 use Rattle.std.specs.Ordering.{int_eq}
 use Rattle.std.proofs.Math.Nat.{mul-suc}
 use Rattle.std.proofs.lemmas.Simd.{map-map}
@@ -15,7 +15,7 @@ use Rattle.ft_query.specs.declared.walk.Offset.{Offset}
 use Rattle.ft_query.specs.declared.walk.cursor.Cursor.{Cursor}
 use Rattle.ft_query.specs.declared.walk.search.Considered.TheVariants.{NoDocument}
 use Rattle.ft_query.specs.Documents.{Posting, Document, AreDocuments, IsBefore, PlaceList, place_count}
-use Rattle.ft_query.specs.Trees.{PlainTerm, Tree, tree_of}
+use Rattle.ft_query.specs.Trees.{Tree, tree_of}
 use Rattle.ft_query.specs.Occurs.{PlainHit, accepts, offsets_of, hits_of}
 use Rattle.ft_query.specs.Work.{terms_in, lists_of, width, entry_count, candidate_count}
 use Rattle.ft_query.specs.Cursors.{lists_left, places_at, passed, least_of, least_from, listed_for}

@@ -1,7 +1,7 @@
 -- Which document a walk comes to next.
-use Rattle.std.proofs.Common.{◌≡◌, ◌≢◌, ℕ, ◌+◌, ◌<◌, ◌==◌, ◌&&◌, ◌||◌, ℤ, pos, negsuc, ◌<ℤ◌, Bool, true, false, not, cond, List, [], ◌∷◌, ◌++◌, length, map, refl, sym, ap, subst, ◌∙◌, arith, true≢false, Option, Some, None}
-use Rattle.std.specs.Prelude.{filter, All, AllPairs, int_lt, sum_by, count_by}
-use Rattle.std.specs.Ordering.{int_eq, int_cmp, is_eq}
+use Rattle.std.proofs.Common.{◌≡◌, ◌≢◌, ◌+◌, ◌||◌, ℤ, pos, negsuc, ◌<ℤ◌, Bool, true, false, cond, List, [], ◌∷◌, length, map, refl, sym, ap, ◌∙◌, arith, true≢false, Option, Some, None}
+use Rattle.std.specs.Prelude.{filter, AllPairs, int_lt, sum_by}
+use Rattle.std.specs.Ordering.{int_eq, is_eq}
 use Rattle.std.proofs.Common.{Less, Equal, Greater}
 use Rattle.std.proofs.lemmas.Cmp.{tied_itself, int_cmp_total}
 use Rattle.std.proofs.lemmas.List.Sums.{sum_by-cons}
@@ -10,10 +10,10 @@ use Rattle.std.proofs.lemmas.Bool.Decides.{nat_tests}
 use Rattle.std.proofs.lemmas.List.Elements.{recursion_from_All, All-tail}
 use Rattle.ft_query.proofs.TokenOnce.{pairs_head, pairs_tail}
 use Rattle.ft_query.specs.declared.lists.Place.{Place}
-use Rattle.ft_query.specs.Documents.{Posting, Document, AreDocuments, IsBefore, PlaceList, is_filled, has_places, places_with, lists_with, place_count}
+use Rattle.ft_query.specs.Documents.{Posting, Document, AreDocuments, IsBefore, PlaceList, is_filled, has_places, places_with, place_count}
 use Rattle.ft_query.specs.Trees.{PlainTerm, Tree}
 use Rattle.ft_query.specs.Occurs.{PlainHit, is_listed, accepts, offsets_of, hits_of}
-use Rattle.ft_query.specs.Work.{terms_in, lists_of, entry_count, candidate_count}
+use Rattle.ft_query.specs.Work.{terms_in, lists_of, candidate_count}
 use Rattle.ft_query.specs.Cursors.{places_at, passed, least_of, least_from, listed_for}
 use Rattle.ft_query.specs.Visit.{listed_places}
 use Rattle.ft_query.proofs.NotListed.{has_term, or_left, or_right, accepts_none}

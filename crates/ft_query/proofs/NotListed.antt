@@ -1,5 +1,5 @@
 -- A query accepts no document that has none of its terms.
-use Rattle.std.proofs.Common.{◌≡◌, ℕ, ◌+◌, true≢false, ◌==◌, ◌&&◌, ◌||◌, Bool, true, false, not, cond, List, [], ◌∷◌, ◌++◌, map, refl, sym, ap, ◌∙◌}
+use Rattle.std.proofs.Common.{◌≡◌, ℕ, ◌+◌, true≢false, ◌==◌, ◌&&◌, ◌||◌, Bool, true, false, not, cond, List, [], ◌∷◌, map, refl, sym, ap, ◌∙◌}
 use Rattle.std.specs.Prelude.{filter, flat_map}
 use Rattle.std.specs.List.{list_any}
 use Rattle.std.proofs.Math.Bool.{and-false}
@@ -7,7 +7,7 @@ use Rattle.std.proofs.lemmas.List.Folds.{list_any-append}
 use Rattle.ft_query.specs.declared.lists.Place.{Place}
 use Rattle.ft_query.specs.Documents.{Posting, is_filled}
 use Rattle.ft_query.specs.Trees.{PlainTerm, PlainPhrase, PlainLink, Tree, phrase, chain, both, either, without}
-use Rattle.ft_query.specs.Occurs.{is_listed, fits, takes, take_row, is_within, places_of, occurs, occurrences, begins_near, choices, accepts}
+use Rattle.ft_query.specs.Occurs.{is_listed, takes, take_row, is_within, places_of, occurs, occurrences, begins_near, choices, accepts}
 use Rattle.ft_query.specs.Work.{terms_in}
 
 -- the document has a posting under the term

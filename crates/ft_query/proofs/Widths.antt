@@ -1,8 +1,8 @@
 -- How wide a query is.
-use Rattle.std.proofs.Common.{◌≡◌, ℕ, ◌+◌, ◌*◌, ◌≤◌, ◌<◌, max, List, [], ◌∷◌, ◌++◌, length, map, sym, arith, length-append}
+use Rattle.std.proofs.Common.{◌≤◌, max, List, [], ◌∷◌, length, arith, length-append}
 use Rattle.std.specs.Prelude.{flat_map, sum_by}
 use Rattle.std.proofs.lemmas.List.Sums.{sum_by-cons}
-use Rattle.ft_query.specs.Trees.{PlainPhrase, PlainLink, Tree, phrase, chain, both, either, without}
+use Rattle.ft_query.specs.Trees.{PlainLink, Tree, phrase, chain, both, either, without}
 use Rattle.ft_query.specs.Work.{terms_in, width}
 
 links_wide : (links : List PlainLink) → length (flat_map (λ (link : PlainLink). link.to.terms) links) ≤ sum_by (λ (link : PlainLink). max 1 (length link.to.terms)) links

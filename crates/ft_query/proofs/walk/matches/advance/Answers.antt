@@ -1,4 +1,4 @@
-use Rattle.std.proofs.Common.{◌≡◌, ◌∙◌, map, sym, subst}
+use Rattle.std.proofs.Common.{◌∙◌, map, sym, subst}
 use Rattle.ft_query.specs.Cursors.{lists_left, lists_kept}
 use Rattle.ft_query.specs.Walk.{Walk, Walked}
 use Rattle.ft_query.proofs.walk.matches.advance.Goals as goal

@@ -1,4 +1,4 @@
-use Rattle.std.proofs.Common.{rules, ◌≡◌, refl, ap, ap₂, map}
+use Rattle.std.proofs.Common.{rules, refl, ap₂, map}
 use Rattle.ft_query.proofs.Sweeps.{sweep_next}
 use Rattle.ft_query.proofs.Standing.{both_lists, as_kept, swept_all}
 use Rattle.ft_query.proofs.walk.matches.begin.Goals as goal

@@ -1,11 +1,10 @@
-use Rattle.std.proofs.Common.{◌≡◌, ◌<◌, ◌≤◌, ◌+◌, ◌-◌, ◌*◌, ◌^◌, ◌∙◌, rules, true, false, true≢false, min, map, length, refl, sym, ap, subst, to_z, of_z, w64, to_z-of_z, Option, Some, None, Vec, Global}
-use Rattle.std.specs.Prelude.{sum_by, option_map}
-use Rattle.ft_query.specs.Trees.{tree_of}
+use Rattle.std.proofs.Common.{◌≡◌, ◌∙◌, rules, true, false, true≢false, map, sym, ap, subst, to_z, of_z, w64, Some, None, Vec, Global}
+use Rattle.std.specs.Prelude.{option_map}
 use Rattle.ft_query.specs.declared.walk.Hit.{Hit}
 use Rattle.ft_query.specs.declared.walk.Offset.{Offset}
 use Rattle.ft_query.specs.declared.walk.search.Considered.{Considered}
 use Rattle.ft_query.specs.declared.walk.search.Considered.TheVariants.{NoDocument, Passed, Found}
-use Rattle.ft_query.specs.Cursors.{lists_left, places_at, passed, least_from}
+use Rattle.ft_query.specs.Cursors.{lists_left, least_from}
 use Rattle.ft_query.proofs.Considering.{nothing_left, went_on, fewer_left}
 use Rattle.ft_query.proofs.walk.search.consider.Goals as goal
 

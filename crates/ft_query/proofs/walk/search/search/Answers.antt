@@ -1,11 +1,8 @@
-use Rattle.std.proofs.Common.{◌≡◌, ◌∙◌, rules, map, refl, sym, subst, List}
+use Rattle.std.proofs.Common.{map, refl, subst}
 use Rattle.ft_query.specs.declared.walk.search.Considered.{Considered}
-use Rattle.ft_query.specs.Documents.{Document}
-use Rattle.ft_query.specs.Cursors.{lists_left, lists_kept}
-use Rattle.ft_query.specs.Walk.{StandsBefore, Walked}
+use Rattle.ft_query.specs.Cursors.{lists_left}
 use Rattle.ft_query.specs.Search.{walk_at, Considers}
-use Rattle.ft_query.specs.declared.walk.search.Considered.TheVariants.{NoDocument, Passed, Found}
-use Rattle.ft_query.proofs.Considering.{goes_nowhere, went_then}
+use Rattle.ft_query.proofs.Considering.{went_then}
 use Rattle.ft_query.proofs.walk.search.search.Goals as goal
 
 pub returns-in-NoDocument-clause-walked : goal.returns-in-NoDocument-clause-walked

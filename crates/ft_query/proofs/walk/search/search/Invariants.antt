@@ -1,4 +1,4 @@
-use Rattle.std.proofs.Common.{◌≡◌, ◌≤◌, ℕ, List, [], length, map}
+use Rattle.std.proofs.Common.{◌≡◌, ◌≤◌, List, [], length, map}
 use Rattle.std.specs.Prelude.{sum_by}
 use Rattle.ft_query.specs.Documents.{Document}
 use Rattle.ft_query.specs.Cursors.{lists_left, lists_kept}

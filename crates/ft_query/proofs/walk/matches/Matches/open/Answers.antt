@@ -1,4 +1,4 @@
-use Rattle.std.proofs.Common.{◌≡◌, ◌∙◌, ◌++◌, map, ap}
+use Rattle.std.proofs.Common.{◌∙◌, ◌++◌, map, ap}
 use Rattle.ft_query.specs.Trees.{tree_of}
 use Rattle.ft_query.specs.Work.{terms_in}
 use Rattle.ft_query.specs.Cursors.{lists_kept, listed_for}
