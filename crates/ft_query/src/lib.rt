@@ -1,19 +1,23 @@
 //! Tokens, MATCH queries and what they find in documents.
 #![tactic(auto)]
 
-pub mod laws;
+mod laws;
 mod lexeme;
 mod lexer;
 mod limits;
-pub mod lists;
+mod lists;
 mod machine;
-pub mod parser;
-pub mod query;
-pub mod text;
-pub mod walk;
+mod parser;
+mod query;
+mod text;
+mod walk;
 
+pub use laws::{
+    choices_of_chain, documents_of_texts, eligible_by_character, postings_of_texts, query_of_text,
+    reads_once, tokens_once,
+};
 pub use lists::{DocList, ListFault, Lists, Place};
 pub use parser::parse;
 pub use query::{Chain, Link, Phrase, Query, QueryFault, QueryTerm};
 pub use text::{Token, is_eligible, tokens};
-pub use walk::{Hit, Offset, offsets_text};
+pub use walk::{Hit, Matches, Offset, offsets_text};

@@ -1,0 +1,190 @@
+-- The steps for one document are few for each place of its lists and each term of the query.
+use Rattle.std.proofs.Common.{◌≡◌, ℕ, ◌+◌, ◌*◌, ◌≤◌, Bool, true, false, cond, List, [], ◌∷◌, ◌++◌, length, take, drop, zero, suc, refl, sym, ap, ◌∙◌, subst, arith, max, ℤ}
+use Rattle.std.specs.Prelude.{filter, flat_map, sum_by, Option}
+use Rattle.std.proofs.Math.Nat.{mul-le-mul_left}
+use Rattle.std.proofs.lemmas.List.{length-append, length-take-le, length-drop, length-map, take_all}
+use Rattle.std.proofs.lemmas.List.Sums.{sum_by-cons}
+use Rattle.ft_query.specs.declared.lists.Place.{Place}
+use Rattle.ft_query.specs.declared.walk.cursor.Cursor.{Cursor}
+use Rattle.ft_query.specs.Trees.{PlainTerm, PlainPhrase, PlainLink, Tree, phrase, chain, both, either, without}
+use Rattle.ft_query.specs.Work.{terms_in, width}
+use Rattle.ft_query.specs.Cursors.{lists_left, places_at}
+use Rattle.ft_query.specs.Visit.{among, may_begin, followed, starts_from, starts_of, near_those, head_of, linked, total, linked_cost, link_cost, visit_cost, places_in}
+use Rattle.ft_query.proofs.Passes.{among_short, followed_few, near_short, filter_short}
+
+total_split : (n : ℕ) (ls : List (List Place)) → total (take n ls) + total (drop n ls) ≡ total ls
+total_split zero ls = omega arith
+total_split (suc n) [] = refl
+total_split (suc n) (l ∷ ls) = let rest = total_split n ls in omega (arith, rest)
+
+-- ---- phrases
+
+one_le : (first : Bool) (i : ℕ) (starts list : List Place) → length (cond first [] (among i 0 starts list)) ≤ length starts
+one_le true i starts list = omega arith
+one_le false i starts list = among_short i 0 starts list
+
+followed_le : (i : ℕ) (ts : List PlainTerm) (ls : List (List Place)) (starts : List Place) → length (followed i ts ls starts) ≤ length starts
+followed_le i [] ls starts = omega arith
+followed_le i (t ∷ ts) [] starts = omega arith
+followed_le i (t ∷ ts) (l ∷ ls) starts =
+    let rest = followed_le (i + 1) ts ls (cond t.first [] (among i 0 starts l)) in
+    let one = one_le t.first i starts l in
+    omega (arith, rest, one)
+
+followed_times : (i : ℕ) (ts : List PlainTerm) (ls : List (List Place)) (starts : List Place) → length ts ≡ length ls → length ts * length (followed i ts ls starts) ≤ total ls
+followed_times i [] ls starts same = omega arith
+followed_times i (t ∷ ts) [] starts same = absurd (omega arith)
+followed_times i (t ∷ ts) (l ∷ ls) starts same =
+    let next = cond t.first [] (among i 0 starts l) in
+    let rest = followed_times (i + 1) ts ls next (omega arith) in
+    let short = followed_le (i + 1) ts ls next in
+    let few = followed_few t.first i starts l in
+    omega (arith, rest, short, few)
+
+from_le : (only : Option ℕ) (ts : List PlainTerm) (ls : List (List Place)) → length (starts_from only ts ls) ≤ total ls
+from_le only [] ls = omega arith
+from_le only (t ∷ ts) [] = omega arith
+from_le only (t ∷ ts) (l ∷ ls) =
+    let rest = followed_le 1 ts ls (filter (may_begin only t.first) l) in
+    let one = filter_short (may_begin only t.first) l in
+    omega (arith, rest, one)
+
+from_times : (only : Option ℕ) (ts : List PlainTerm) (ls : List (List Place)) → length ts ≡ length ls → length ts * length (starts_from only ts ls) ≤ total ls
+from_times only [] ls same = omega arith
+from_times only (t ∷ ts) [] same = omega arith
+from_times only (t ∷ ts) (l ∷ ls) same =
+    let rest = followed_le 1 ts ls (filter (may_begin only t.first) l) in
+    let times = followed_times 1 ts ls (filter (may_begin only t.first) l) (omega arith) in
+    let one = filter_short (may_begin only t.first) l in
+    omega (arith, rest, times, one)
+
+-- ---- chains
+
+abbrev link_terms : List PlainLink → List PlainTerm
+link_terms links = flat_map (λ link. link.to.terms) links
+
+linked_le : (p : PlainPhrase) (links : List PlainLink) (ls : List (List Place)) → length ls ≡ length (p.terms ++ link_terms links) → length (head_of (linked p links ls)) ≤ total (take (length p.terms) ls)
+linked_le p [] ls same =
+    let all = take_all (length p.terms) ls (let sum = length-append p.terms [] in omega (arith, sum, same)) in
+    subst (λ l. length (starts_of p ls) ≤ total l) (sym all) (from_le p.filter p.terms ls)
+linked_le p (link ∷ links) ls same =
+    let n = length p.terms in
+    let short = near_short link.most (length link.to.terms) (head_of (linked link.to links (drop n ls))) n (starts_of p (take n ls)) in
+    let one = from_le p.filter p.terms (take n ls) in
+    omega (arith, short, one)
+
+linked_times : (p : PlainPhrase) (links : List PlainLink) (ls : List (List Place)) → length ls ≡ length (p.terms ++ link_terms links) → length p.terms * length (head_of (linked p links ls)) ≤ total (take (length p.terms) ls)
+linked_times p [] ls same =
+    let sum = length-append p.terms [] in
+    let all = take_all (length p.terms) ls (omega (arith, sum, same)) in
+    subst (λ l. length p.terms * length (starts_of p ls) ≤ total l) (sym all) (from_times p.filter p.terms ls (omega (arith, sum, same)))
+linked_times p (link ∷ links) ls same =
+    let n = length p.terms in
+    let sum = length-append p.terms (link_terms (link ∷ links)) in
+    let front = length-take-le n ls (omega (arith, sum, same)) in
+    let short = near_short link.most (length link.to.terms) (head_of (linked link.to links (drop n ls))) n (starts_of p (take n ls)) in
+    let one = from_times p.filter p.terms (take n ls) (sym front) in
+    let more = mul-le-mul_left n short in
+    omega (arith, more, one)
+
+linked_bound : (p : PlainPhrase) (links : List PlainLink) (ls : List (List Place)) → linked_cost p links ls + length (head_of (linked p links ls)) ≤ 6 * total ls
+linked_bound p [] ls = let one = from_le p.filter p.terms ls in omega (arith, one)
+linked_bound p (link ∷ links) ls =
+    let n = length p.terms in
+    let parts = total_split n ls in
+    let rest = linked_bound link.to links (drop n ls) in
+    let one = from_le p.filter p.terms (take n ls) in
+    let short = near_short link.most (length link.to.terms) (head_of (linked link.to links (drop n ls))) n (starts_of p (take n ls)) in
+    omega (arith, parts, rest, one, short)
+
+links_bound : (p : PlainPhrase) (links : List PlainLink) (ls : List (List Place)) (starts : List Place) → length ls ≡ length (p.terms ++ link_terms links)
+    → link_cost (length p.terms) starts links (drop (length p.terms) ls) (drop 1 (linked p links ls)) ≤ length starts + 6 * total (drop (length p.terms) ls)
+links_bound p [] ls starts same = omega arith
+links_bound p (link ∷ links) ls starts same =
+    let behind = drop (length p.terms) ls in
+    let n = length link.to.terms in
+    let all = linked link.to links behind in
+    let next = near_those link.most (length p.terms) starts n (head_of all) in
+    let sum = length-append p.terms (link_terms (link ∷ links)) in
+    let left = length-drop (length p.terms) ls in
+    let many : length behind ≡ length (link.to.terms ++ link_terms links) = omega (arith, sum, left, same) in
+    let rest = links_bound link.to links behind next many in
+    let parts = total_split n behind in
+    let short = near_short link.most (length p.terms) starts n (head_of all) in
+    let few = linked_le link.to links behind many in
+    let times = linked_times link.to links behind many in
+    let more = mul-le-mul_left n short in
+    omega (arith, rest, parts, short, few, times, more)
+
+-- ---- queries
+
+some_width : (p : PlainPhrase) → 1 ≤ max 1 (length p.terms)
+some_width p = omega arith
+
+chain_bound : (p : PlainPhrase) (links : List PlainLink) (ls : List (List Place)) → length ls ≡ length (p.terms ++ link_terms links) → visit_cost (chain p links) ls ≤ 1 + 12 * total ls
+chain_bound p links ls same =
+    let n = length p.terms in
+    let back = linked_bound p links ls in
+    let parts = total_split n ls in
+    let few = linked_le p links ls same in
+    let times = linked_times p links ls same in
+    let rest = links_bound p links ls (head_of (linked p links ls)) same in
+    omega (arith, back, parts, few, times, rest)
+
+two_bound : (p q : Tree) (ls : List (List Place)) → length ls ≡ length (terms_in p ++ terms_in q)
+    → ((l : List (List Place)) → length l ≡ length (terms_in p) → visit_cost p l + 1 ≤ 12 * total l + 2 * width p) → ((l : List (List Place)) → length l ≡ length (terms_in q) → visit_cost q l + 1 ≤ 12 * total l + 2 * width q)
+    → 1 + (visit_cost p (take (length (terms_in p)) ls) + visit_cost q (drop (length (terms_in p)) ls)) + 1 ≤ 12 * total ls + 2 * (width p + width q)
+two_bound p q ls same left right =
+    let n = length (terms_in p) in
+    let sum = length-append (terms_in p) (terms_in q) in
+    let front = length-take-le n ls (omega (arith, sum, same)) in
+    let back = length-drop n ls in
+    let one = left (take n ls) front in
+    let other = right (drop n ls) (omega (arith, sum, back, same)) in
+    let parts = total_split n ls in
+    omega (arith, one, other, parts)
+
+visit_bound : (tree : Tree) (ls : List (List Place)) → length ls ≡ length (terms_in tree) → visit_cost tree ls + 1 ≤ 12 * total ls + 2 * width tree
+visit_bound (phrase p) ls same =
+    let times = from_times p.filter p.terms ls (sym same) in
+    let many = ap (λ n. n * length (starts_of p ls)) same in
+    let some = some_width p in
+    omega (arith, times, many, some)
+visit_bound (chain p links) ls same =
+    let cost = chain_bound p links ls same in
+    let some = some_width p in
+    omega (arith, cost, some)
+visit_bound (both p q) ls same = two_bound p q ls same (visit_bound p) (visit_bound q)
+visit_bound (either p q) ls same = two_bound p q ls same (visit_bound p) (visit_bound q)
+visit_bound (without p q) ls same = two_bound p q ls same (visit_bound p) (visit_bound q)
+
+links_width : (links : List PlainLink) → length (link_terms links) ≤ sum_by (λ link. max 1 (length link.to.terms)) links
+links_width [] = omega arith
+links_width (link ∷ links) =
+    let rest = links_width links in
+    let sum = length-append link.to.terms (link_terms links) in
+    let all = sum_by-cons (λ (l : PlainLink). max 1 (length l.to.terms)) link links in
+    omega (arith, rest, sum, all)
+
+terms_width : (tree : Tree) → length (terms_in tree) ≤ width tree
+terms_width (phrase p) = omega arith
+terms_width (chain p links) = let sum = length-append p.terms (link_terms links) in let rest = links_width links in omega (arith, sum, rest)
+terms_width (both p q) = let sum = length-append (terms_in p) (terms_in q) in let one = terms_width p in let other = terms_width q in omega (arith, sum, one, other)
+terms_width (either p q) = let sum = length-append (terms_in p) (terms_in q) in let one = terms_width p in let other = terms_width q in omega (arith, sum, one, other)
+terms_width (without p q) = let sum = length-append (terms_in p) (terms_in q) in let one = terms_width p in let other = terms_width q in omega (arith, sum, one, other)
+
+total_is : (docid : ℤ) (cursors : List Cursor) → total (places_in docid cursors) ≡ sum_by (λ c. length (places_at docid (lists_left c))) cursors
+total_is docid [] = refl
+total_is docid (c ∷ cs) =
+    let rest = total_is docid cs in
+    ap (λ n. length (places_at docid (lists_left c)) + n) rest ∙ sym (sum_by-cons (λ (u : Cursor). length (places_at docid (lists_left u))) c cs)
+
+-- what a document costs, with one step for each of its lists
+pub document_bound : (tree : Tree) (docid : ℤ) (cursors : List Cursor) (lists : List (List Place)) → length cursors ≡ length (terms_in tree) → lists ≡ places_in docid cursors
+    → length cursors + visit_cost tree lists ≤ 12 * sum_by (λ c. length (places_at docid (lists_left c))) cursors + 3 * width tree
+document_bound tree docid cursors lists same is =
+    let many : length lists ≡ length (terms_in tree) = ap length is ∙ length-map cursors (λ c. places_at docid (lists_left c)) ∙ same in
+    let cost = visit_bound tree lists many in
+    let all = ap total is ∙ total_is docid cursors in
+    let terms = terms_width tree in
+    omega (arith, cost, all, terms, same)
