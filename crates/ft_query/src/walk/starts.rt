@@ -16,6 +16,7 @@ pub(crate) fn take_step(steps: &mut Steps)
     ensures at_least { steps.old.taken ≤ steps.new.taken }
     ensures at_most { steps.new.taken ≤ steps.old.taken + 1 }
 {
+    // Read, so that the count is known to be no more than its type holds.
     let _before = steps.taken;
     steps.take();
 }
