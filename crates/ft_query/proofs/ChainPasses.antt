@@ -47,12 +47,12 @@ any_from p (y ∷ ys) e = by (p y) refl e (any_from p ys)
     by true is f rest = (y, contains_head y ys, is)
     by false is f rest = let one = rest f in (one.0, contains_tail y one.0 ys one.1, one.2)
 
-pub same_bool : (a b : Bool) → (a ≡ true → b ≡ true) → (b ≡ true → a ≡ true) → a ≡ b
+same_bool : (a b : Bool) → (a ≡ true → b ≡ true) → (b ≡ true → a ≡ true) → a ≡ b
 same_bool true b to from = sym (to refl)
 same_bool false true to from = from refl
 same_bool false false to from = refl
 
-pub alike_by : (xs ys : List Place) → ((x : Place) → Contains xs x → Contains ys x) → ((x : Place) → Contains ys x → Contains xs x) → Alike xs ys
+alike_by : (xs ys : List Place) → ((x : Place) → Contains xs x → Contains ys x) → ((x : Place) → Contains ys x → Contains xs x) → Alike xs ys
 alike_by xs ys to from = λ p. same_bool (list_any p xs) (list_any p ys)
     (λ e. let one = any_from p xs e in any_to p ys one.0 (to one.0 one.1) one.2)
     (λ e. let one = any_from p ys e in any_to p xs one.0 (from one.0 one.1) one.2)

@@ -10,7 +10,7 @@ use Rattle.ft_query.specs.declared.lists.Place.{Place}
 use Rattle.ft_query.specs.Visit.{place_order, seek, among}
 
 -- an earlier column, or an earlier position of one column, where a is moved by i and b by j
-abbrev pub Earlier : ℕ → Place → ℕ → Place → Type 0
+abbrev Earlier : ℕ → Place → ℕ → Place → Type 0
 Earlier i a j b = (a.column < b.column) ⊎ ((a.column ≡ b.column) × (a.pos + i < b.pos + j))
 
 abbrev pub Before : Place → Place → Type 0

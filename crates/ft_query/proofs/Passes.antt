@@ -44,7 +44,7 @@ among_short i j (x ∷ xs) ys =
     let rest = among_short i j xs r.1 in
     kept_le r.0 x (among i j xs r.1) (length xs) rest
 
-pub among_few : (i j : ℕ) (xs ys : List Place) → length (among i j xs ys) ≤ length ys
+among_few : (i j : ℕ) (xs ys : List Place) → length (among i j xs ys) ≤ length ys
 among_few i j [] ys = omega arith
 among_few i j (x ∷ xs) ys =
     let r = seek i x j ys in
@@ -83,7 +83,7 @@ followed_few false i starts list = among_few i 0 starts list
 
 -- ---- chains
 
-pub starts_push : (all : List Starts) (s : Starts) → plain_starts (all ++ s ∷ []) ≡ plain_starts all ++ s.places.items ∷ []
+starts_push : (all : List Starts) (s : Starts) → plain_starts (all ++ s ∷ []) ≡ plain_starts all ++ s.places.items ∷ []
 starts_push [] s = refl
 starts_push (x ∷ all) s = ap (λ ls. x.places.items ∷ ls) (starts_push all s)
 
@@ -137,7 +137,7 @@ pub back_lists : (terms : List QueryTerm) (lists back : List (Bor (List Place)))
 back_lists terms lists back n size is =
     ap (λ k. drop k (plain_lists lists)) (length-map terms plain_term ∙ sym size) ∙ map-drop n lists ∙ ap plain_lists (sym is)
 
-pub front_lists : (terms : List QueryTerm) (lists front : List (Bor (List Place))) (n : ℕ) → n ≡ length terms → front ≡ take n lists → take (length (map plain_term terms)) (plain_lists lists) ≡ plain_lists front
+front_lists : (terms : List QueryTerm) (lists front : List (Bor (List Place))) (n : ℕ) → n ≡ length terms → front ≡ take n lists → take (length (map plain_term terms)) (plain_lists lists) ≡ plain_lists front
 front_lists terms lists front n size is =
     ap (λ k. take k (plain_lists lists)) (length-map terms plain_term ∙ sym size) ∙ map-take n lists ∙ ap plain_lists (sym is)
 

@@ -25,7 +25,7 @@ right_true true b e = e
 right_true false true e = refl
 right_true false false e = e
 
-pub witness : {X : Type 0} (p : X → Bool) (Q : X → Type 0) (xs : List X) → AllByRecursion Q xs → list_any p xs ≡ true → (x : X) × (p x ≡ true) × Q x
+witness : {X : Type 0} (p : X → Bool) (Q : X → Type 0) (xs : List X) → AllByRecursion Q xs → list_any p xs ≡ true → (x : X) × (p x ≡ true) × Q x
 witness p Q [] all e = cc
 witness p Q (x ∷ xs) all e = by (p x) refl e (witness p Q xs all.1)
   where

@@ -86,7 +86,7 @@ filter_none : {X : Type 0} (xs : List X) → filter (λ (x : X). false) xs ≡ [
 filter_none [] = refl
 filter_none (x ∷ xs) = filter_none xs
 
-pub filter_filter : {X : Type 0} (p q : X → Bool) (xs : List X) → filter p (filter q xs) ≡ filter (λ x. q x && p x) xs
+filter_filter : {X : Type 0} (p q : X → Bool) (xs : List X) → filter p (filter q xs) ≡ filter (λ x. q x && p x) xs
 filter_filter p q [] = refl
 filter_filter p q (x ∷ xs) = elim (q x) as (λ b. filter p (cond b (x ∷ filter q xs) (filter q xs)) ≡ cond (b && p x) (x ∷ filter (λ u. q u && p u) xs) (filter (λ u. q u && p u) xs)) [
   | true ↦ ap (λ ls. cond (p x) (x ∷ ls) ls) (filter_filter p q xs)

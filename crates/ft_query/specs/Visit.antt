@@ -33,12 +33,13 @@ among i j (x ∷ xs) ys = let found = seek i x j ys in if found.0 then x ∷ amo
 abbrev pub is_behind : ℕ → ℕ → Place → Place → Bool
 is_behind most k a b = nat_lt a.column b.column || a.column == b.column && nat_lt (a.pos + k + most) b.pos
 
--- those that aren't
+-- what is left of them from the first on that isn't
 abbrev pub skip_behind : ℕ → ℕ → List Place → Place → List Place
 skip_behind most k [] b = []
 skip_behind most k (a ∷ more) b = if is_behind most k a b then skip_behind most k more b else a ∷ more
 
--- one of the first two is near this occurrence of m terms
+-- One of the first two is near this occurrence of m terms. Where they rise and none before them is near, no later one need be
+-- looked at: only one can be barred for ending at the same token.
 abbrev pub begin_near : ℕ → ℕ → List Place → ℕ → Place → Bool
 begin_near most k [] m b = false
 begin_near most k (a ∷ []) m b = are_near most k a m b
@@ -61,6 +62,7 @@ followed i [] lists starts = starts
 followed i (t ∷ ts) [] starts = starts
 followed i (t ∷ ts) (l ∷ ls) starts = followed (i + 1) ts ls (if t.first then [] else among i 0 starts l)
 
+-- the places of the first term where the phrase may begin, as far as the other terms follow
 abbrev pub starts_from : Option ℕ → List PlainTerm → List (List Place) → List Place
 starts_from only [] lists = []
 starts_from only (t ∷ ts) [] = []
@@ -77,6 +79,7 @@ marks_from i (l ∷ ls) starts = among 0 i l starts ∷ marks_from (i + 1) ls st
 
 -- ---- chains
 
+-- the first phrase's
 abbrev pub head_of : List (List Place) → List Place
 head_of [] = []
 head_of (s ∷ ss) = s
@@ -93,6 +96,7 @@ link_marks k starts (link ∷ links) lists all = let next = near_those link.most
 
 -- ---- queries
 
+-- from the lists of its terms in a document, whether a query accepts the document
 abbrev pub is_accepted : Tree → List (List Place) → Bool
 is_accepted (phrase p) lists = is_filled (starts_of p lists)
 is_accepted (chain p links) lists = is_filled (head_of (linked p links lists))
@@ -100,6 +104,7 @@ is_accepted (both p q) lists = is_accepted p (take (length (terms_in p)) lists) 
 is_accepted (either p q) lists = is_accepted p (take (length (terms_in p)) lists) || is_accepted q (drop (length (terms_in p)) lists)
 is_accepted (without p q) lists = is_accepted p (take (length (terms_in p)) lists) && not (is_accepted q (drop (length (terms_in p)) lists))
 
+-- and for each term the places that it takes in the occurrences that count
 abbrev pub marks_of : Tree → List (List Place) → List (List Place)
 marks_of (phrase p) lists = marks_from 0 lists (starts_of p lists)
 marks_of (chain p links) lists = let all = linked p links lists in marks_from 0 (take (length p.terms) lists) (head_of all) ++ link_marks (length p.terms) (head_of all) links (drop (length p.terms) lists) (drop 1 all)

@@ -16,6 +16,7 @@ pub(crate) fn take_step(steps: &mut Steps)
     ensures at_least { steps.old.taken ≤ steps.new.taken }
     ensures at_most { steps.new.taken ≤ steps.old.taken + 1 }
 {
+    // Read, so that the count is known to be no more than its type holds.
     let _before = steps.taken;
     steps.take();
 }
@@ -23,6 +24,7 @@ pub(crate) fn take_step(steps: &mut Steps)
 // The order of two places by column and then by position, where the first is moved by i and the other by j.
 fn order(a: &Place, i: usize, b: &Place, j: usize, steps: &mut Steps) -> Ordering
     ensures order { result ≡ place_order i a.now j b.now }
+    ensures step { steps.new.taken ≡ min (steps.old.taken + 1) (2 ^ 64 - 1) }
     ensures at_least { steps.old.taken ≤ steps.new.taken }
     ensures at_most { steps.new.taken ≤ steps.old.taken + 1 }
 {
@@ -35,6 +37,7 @@ fn order(a: &Place, i: usize, b: &Place, j: usize, steps: &mut Steps) -> Orderin
 // The first occurrence, of k terms, ends too far before the other one to be near it.
 fn is_behind(a: &Place, k: usize, b: &Place, most: usize, steps: &mut Steps) -> bool
     ensures behind { result ≡ is_behind most k a.now b.now }
+    ensures step { steps.new.taken ≡ min (steps.old.taken + 1) (2 ^ 64 - 1) }
     ensures at_least { steps.old.taken ≤ steps.new.taken }
     ensures at_most { steps.new.taken ≤ steps.old.taken + 1 }
 {
@@ -47,6 +50,7 @@ fn is_behind(a: &Place, k: usize, b: &Place, most: usize, steps: &mut Steps) -> 
 // so many tokens between them.
 fn are_near(a: &Place, k: usize, b: &Place, m: usize, most: usize, steps: &mut Steps) -> bool
     ensures near { result ≡ are_near most k a.now m b.now }
+    ensures step { steps.new.taken ≡ min (steps.old.taken + 1) (2 ^ 64 - 1) }
     ensures at_least { steps.old.taken ≤ steps.new.taken }
     ensures at_most { steps.new.taken ≤ steps.old.taken + 1 }
 {
@@ -82,6 +86,7 @@ fn seek<'a>(
     (false, &[])
 }
 
+// What is left of these occurrences of k terms from the first on that doesn't end too far before this place to be near it.
 fn skip_behind<'a>(
     places: &'a [Place],
     k: usize,
@@ -101,6 +106,7 @@ fn skip_behind<'a>(
     &[]
 }
 
+// One of the first two is near this occurrence, of m terms.
 fn begin_near(
     places: &[Place],
     k: usize,
@@ -128,6 +134,7 @@ fn begin_near(
 // A phrase with this filter may begin here, where its first term may want position 0.
 fn may_begin(place: &Place, only: Option<usize>, first: bool, steps: &mut Steps) -> bool
     ensures begins { result ≡ may_begin only first place.now }
+    ensures step { steps.new.taken ≡ min (steps.old.taken + 1) (2 ^ 64 - 1) }
     ensures at_least { steps.old.taken ≤ steps.new.taken }
     ensures at_most { steps.new.taken ≤ steps.old.taken + 1 }
 {

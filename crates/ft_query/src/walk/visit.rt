@@ -81,11 +81,24 @@ fn starts_of(
     follow(alloc, first, terms, lists, steps)
 }
 
-// The offsets so far, and the number of the next term.
+// The offsets so far, the number of the next term, and where memory comes from.
 #[derive(Drop)]
 struct Found {
+    alloc: Global,
     offsets: Vec<Offset>,
     next: usize,
+}
+
+// No offsets so far.
+fn no_offsets(alloc: Global) -> Found
+    ensures offsets { result.offsets.items ≡ [] }
+    ensures next { result.next ≡ 0 }
+{
+    Found {
+        alloc,
+        offsets: Vec::new(alloc),
+        next: 0,
+    }
 }
 
 // Adds the offsets of a phrase's terms, which have these lists, in its occurrences.
@@ -144,7 +157,6 @@ fn linked(
 // Adds the offsets of these links' phrases, whose occurrences also have to be near one of the k terms before them: for each phrase
 // those that are near one of the next phrase's.
 fn mark_links(
-    alloc: Global,
     found: &mut Found,
     k: usize,
     starts: &Starts,
@@ -171,15 +183,14 @@ fn mark_links(
     };
     let size = link.to.terms.len();
     let (own, lists) = lists.split_at(size);
-    let next = starts.near(alloc, k, others, size, link.most, steps)?;
+    let next = starts.near(found.alloc, k, others, size, link.most, steps)?;
     mark_phrase(found, &next, own, steps)?;
-    mark_links(alloc, found, size, &next, links, lists, all, steps)
+    mark_links(found, size, &next, links, lists, all, steps)
 }
 
 #[tactic(auto, using(crate::proofs::Marks::phrase_marks_count))]
 // Adds the offsets of a phrase, and says whether it occurs.
 fn visit_phrase(
-    alloc: Global,
     words: &Phrase,
     lists: &[&[Place]],
     found: &mut Found,
@@ -196,7 +207,7 @@ fn visit_phrase(
     ensures at_least { steps.old.taken ≤ steps.new.taken }
     ensures at_most { steps.new.taken + 1 ≤ steps.old.taken + visit_cost (phrase (plain_phrase words.now)) (plain_lists lists.now) }
 {
-    let starts = starts_of(alloc, words, lists, steps)?;
+    let starts = starts_of(found.alloc, words, lists, steps)?;
     mark_phrase(found, &starts, lists, steps)?;
     Ok(starts.are_filled())
 }
@@ -204,7 +215,6 @@ fn visit_phrase(
 #[tactic(auto, using(crate::proofs::Marks::chain_marks_count))]
 // Adds the offsets of a chain, and says whether its phrases occur near one another.
 fn visit_chain(
-    alloc: Global,
     near: &Chain,
     lists: &[&[Place]],
     found: &mut Found,
@@ -223,12 +233,12 @@ fn visit_chain(
         + visit_cost (chain (plain_phrase near.now.first) (map plain_link near.now.links.items)) (plain_lists lists.now) }
 {
     let links = near.links.as_slice();
-    let (starts, mut all) = linked(alloc, &near.first, links, lists, steps)?;
+    let (starts, mut all) = linked(found.alloc, &near.first, links, lists, steps)?;
     all.reverse();
     let size = near.first.terms.len();
     let (own, lists) = lists.split_at(size);
     mark_phrase(found, &starts, own, steps)?;
-    mark_links(alloc, found, size, &starts, links, lists, &all, steps)?;
+    mark_links(found, size, &starts, links, lists, &all, steps)?;
     Ok(starts.are_filled())
 }
 
@@ -261,7 +271,6 @@ fn term_count(query: &Query) -> usize
 
 // Adds the offsets of a query or of a part of one, and says whether it accepts the document.
 fn visit_part(
-    alloc: Global,
     query: &Query,
     lists: &[&[Place]],
     found: &mut Found,
@@ -279,33 +288,31 @@ fn visit_part(
 {
     take_step(steps);
     match query {
-        Query::Phrase(phrase) => visit_phrase(alloc, phrase, lists, found, steps),
-        Query::Near(near) => visit_chain(alloc, near, lists, found, steps),
+        Query::Phrase(phrase) => visit_phrase(phrase, lists, found, steps),
+        Query::Near(near) => visit_chain(near, lists, found, steps),
         Query::And(left, right) => {
             let (own, rest) = lists.split_at(term_count(left));
-            let is_left = visit_part(alloc, left, own, found, steps)?;
-            let is_right = visit_part(alloc, right, rest, found, steps)?;
+            let is_left = visit_part(left, own, found, steps)?;
+            let is_right = visit_part(right, rest, found, steps)?;
             Ok(is_left && is_right)
         }
         Query::Or(left, right) => {
             let (own, rest) = lists.split_at(term_count(left));
-            let is_left = visit_part(alloc, left, own, found, steps)?;
-            let is_right = visit_part(alloc, right, rest, found, steps)?;
+            let is_left = visit_part(left, own, found, steps)?;
+            let is_right = visit_part(right, rest, found, steps)?;
             Ok(is_left || is_right)
         }
         Query::Not(left, right) => {
             let (own, rest) = lists.split_at(term_count(left));
-            let is_left = visit_part(alloc, left, own, found, steps)?;
-            let mut unmarked = Found {
-                offsets: Vec::new(alloc),
-                next: 0,
-            };
-            let is_right = visit_part(alloc, right, rest, &mut unmarked, steps)?;
+            let is_left = visit_part(left, own, found, steps)?;
+            let mut unmarked = no_offsets(found.alloc);
+            let is_right = visit_part(right, rest, &mut unmarked, steps)?;
             Ok(is_left && !is_right)
         }
     }
 }
 
+// By column, then by place, then by term number.
 fn sort_offsets(offsets: &mut Vec<Offset>)
     ensures permutation { IsPermutation offsets.old.items offsets.new.items }
     ensures sorted { IsSortedBy precedes offsets.new.items }
@@ -313,12 +320,14 @@ fn sort_offsets(offsets: &mut Vec<Offset>)
     offsets.sort_unstable_by_key(|offset| (offset.column, offset.place, offset.term));
 }
 
+// The places of a term in this document.
 fn places_of<'a>(cursor: &'a Cursor, docid: i64, steps: &mut Steps) -> &'a [Place]
     ensures places { result.now ≡ places_at docid (lists_left cursor.now) }
     ensures step { steps.new.taken ≡ min (steps.old.taken + 1) (2 ^ 64 - 1) }
     ensures at_least { steps.old.taken ≤ steps.new.taken }
     ensures at_most { steps.new.taken ≤ steps.old.taken + 1 }
 {
+    // Read, so that the count is known to be no more than its type holds.
     let _before = steps.taken;
     cursor.places(docid, steps)
 }
@@ -360,11 +369,8 @@ pub(crate) fn visit(
         + 12 * (sum_by (λ c. length (places_at docid (lists_left c))) cursors.now) + 3 * width (tree_of query.now) }
 {
     let lists = lists_of(alloc, cursors, docid, steps)?;
-    let mut found = Found {
-        offsets: Vec::new(alloc),
-        next: 0,
-    };
-    if !visit_part(alloc, query, &lists, &mut found, steps)? {
+    let mut found = no_offsets(alloc);
+    if !visit_part(query, &lists, &mut found, steps)? {
         return Ok(None);
     }
     let mut offsets = found.offsets;

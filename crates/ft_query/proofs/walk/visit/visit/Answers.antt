@@ -16,7 +16,7 @@ returns-clause-offsets c = λ postings ordered same.
     let tree = tree_of c.args.query.now in
     let lists = plain_lists c.deref.result.now in
     let is = ap plain_lists c.deref.ensures.value ∙ c.in_ok-lists.ensures.lists ∙ ap (λ z. places_in z c.args.cursors.now) (to_z-of_z c.ranges.docid) ∙ same in
-    let marked : c.visit_part.new.found.offsets.items ≡ numbered 0 (marks_of tree lists) = c.in_ok-visit_part.ensures.offsets ∙ ap (λ os. os ++ numbered 0 (marks_of tree lists)) c.new.ensures.items in
+    let marked : c.visit_part.new.found.offsets.items ≡ numbered 0 (marks_of tree lists) = c.in_ok-visit_part.ensures.offsets ∙ ap (λ os. os ++ numbered c.no_offsets-found.result.next (marks_of tree lists)) c.no_offsets-found.ensures.offsets ∙ ap (λ n. numbered n (marks_of tree lists)) c.no_offsets-found.ensures.next in
     found_is postings tree lists c.in_ok-visit_part.field-0 c.visit_part.new.found.offsets.items c.sort_offsets.new.offsets.items ordered is c.in_ok-visit_part.ensures.accepted c.if-not-branch.false marked c.sort_offsets.ensures.permutation c.sort_offsets.ensures.sorted
 
 pub returns-in_err-lists-clause-at_most : goal.returns-in_err-lists-clause-at_most
