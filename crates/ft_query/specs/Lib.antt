@@ -8,3 +8,8 @@ pub mod Documents
 pub mod Lists
 pub mod Occurs
 pub mod Machine
+pub mod Work
+pub mod Cursors
+pub mod Walk
+pub mod Search
+pub mod Visit

@@ -4,7 +4,7 @@ ghost use Rattle.std.specs.List.{starts_with};
 ghost use Rattle.ft_query.specs.Documents.{Document, AreDocuments, lists_with, plain_list, place_count};
 ghost use Rattle.ft_query.specs.Lists.{is_failed};
 
-use std::alloc::Global;
+use std::alloc::{AllocError, AllocFailed, Global};
 use thiserror::Error;
 
 /// Where a token stands: its column, its number in the cell, and its place and size in bytes.
@@ -32,6 +32,28 @@ pub enum ListFault {
     Memory,
 }
 
+impl From<AllocError> for ListFault {
+    ghost use Rattle.std.specs.Prelude.{◌≡◌};
+    ghost use Rattle.ft_query.specs.declared.lists.ListFault.TheVariants.{Memory};
+
+    ghost from_gives = { λ _ fault. fault ≡ Memory };
+
+    fn from(_error: AllocError) -> ListFault {
+        ListFault::Memory
+    }
+}
+
+impl<T: Drop> From<AllocFailed<T>> for ListFault {
+    ghost use Rattle.std.specs.Prelude.{◌≡◌};
+    ghost use Rattle.ft_query.specs.declared.lists.ListFault.TheVariants.{Memory};
+
+    ghost from_gives = { λ _ fault. fault ≡ Memory };
+
+    fn from(_error: AllocFailed<T>) -> ListFault {
+        ListFault::Memory
+    }
+}
+
 /// The lists of places of an index. Where they are clean as a call ends, its answer is exact.
 pub trait Lists {
     /// The documents that the lists mean, while they are clean.
@@ -51,7 +73,6 @@ pub trait Lists {
         ensures answer { IfOk result (λ lists. is_clean self.new →
             map plain_list lists.items ≡ lists_with (λ t. bytes_eq t term.now) (documents self.new)) }
         ensures clean { is_clean self.new → is_clean self.old × (documents self.new ≡ documents self.old) }
-        ensures ordered { is_clean self.new → AreDocuments (documents self.new) }
         ensures failed { has_failed self.new ≡ (has_failed self.old || is_failed result) }
         ensures given { IfOk result (λ lists. given_so_far self.new
             ≡ min (given_so_far self.old + place_count (map plain_list lists.items)) (2 ^ 64 - 1)) }
@@ -62,7 +83,6 @@ pub trait Lists {
         ensures answer { IfOk result (λ lists. is_clean self.new →
             map plain_list lists.items ≡ lists_with (λ t. starts_with nat_eq t begin.now) (documents self.new)) }
         ensures clean { is_clean self.new → is_clean self.old × (documents self.new ≡ documents self.old) }
-        ensures ordered { is_clean self.new → AreDocuments (documents self.new) }
         ensures failed { has_failed self.new ≡ (has_failed self.old || is_failed result) }
         ensures given { IfOk result (λ lists. given_so_far self.new
             ≡ min (given_so_far self.old + place_count (map plain_list lists.items)) (2 ^ 64 - 1)) }
@@ -75,6 +95,9 @@ pub trait Lists {
     /// How many places the answers gave, up to 2^64 - 1.
     fn given(&self) -> u64
         ensures { result ≡ given_so_far self.now };
+
+    /// What clean lists mean is in order.
+    ghost in_order: { (lists : Self) → is_clean lists → AreDocuments (documents lists) };
 }
 
 #[cfg(test)]

@@ -3,6 +3,16 @@ ghost use Rattle.std.specs.Prelude.{◌≡◌, ◌∷◌, ◌++◌, map, decimal
 ghost use Rattle.std.specs.List.{join_with_byte};
 ghost use Rattle.ft_query.specs.Occurs.{offset_numbers, offsets_text};
 
+mod cursor;
+mod load;
+mod matches;
+mod search;
+mod starts;
+mod steps;
+mod visit;
+
+pub use matches::Matches;
+
 use itoa::Buffer;
 use std::alloc::{AllocError, Global};
 
@@ -65,23 +75,4 @@ pub fn offsets_text(alloc: Global, offsets: &[Offset]) -> Result<String, AllocEr
 }
 
 #[cfg(test)]
-mod tests {
-    use super::{Offset, offsets_text};
-    use std::test::Fail;
-
-    #[test]
-    fn four_numbers_an_offset(rt: HostRuntime) -> Result<(), Fail> {
-        let first = Offset {
-            column: 1,
-            term: 0,
-            place: 5,
-            size: 7,
-        };
-        let next = Offset { place: 30, ..first };
-        let text = offsets_text(rt.alloc(), &[first, next])?;
-        assert_eq!(rt; text.as_str(), "1 0 5 7 1 0 30 7");
-        let text = offsets_text(rt.alloc(), &[])?;
-        assert_eq!(rt; text.as_str(), "");
-        Ok(())
-    }
-}
+mod tests;

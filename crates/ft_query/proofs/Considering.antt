@@ -1,0 +1,206 @@
+-- What considering one document does to a walk.
+use Rattle.std.proofs.Common.{◌≡◌, ◌≢◌, ℕ, suc, ◌+◌, ◌-◌, ◌*◌, ◌^◌, ◌<◌, ◌≤◌, ◌⊎◌, inl, inr, ℤ, ◌<ℤ◌, min, Bool, true, false, cond, List, [], ◌∷◌, ◌++◌, length, map, refl, sym, ap, subst, ◌∙◌, arith, true≢false, Option, Some, None, ⊎_elim}
+use Rattle.std.specs.Prelude.{All, AllPairs, sum_by, int_lt, if◌then◌else◌}
+use Rattle.std.specs.Ordering.{int_eq}
+use Rattle.std.proofs.Math.Nat.{mul-suc}
+use Rattle.std.proofs.lemmas.Simd.{map-map}
+use Rattle.ft_query.proofs.Widths.{all_terms}
+use Rattle.std.proofs.lemmas.List.Elements.{recursion_from_All, All-nil, All-head}
+use Rattle.std.proofs.lemmas.Bool.Decides.{Decides-int_eq}
+use Rattle.std.proofs.lemmas.List.Sums.{sum_by-cons}
+use Rattle.ft_query.proofs.TokenOnce.{pairs_head}
+use Rattle.ft_query.specs.declared.query.Query.{Query}
+use Rattle.ft_query.specs.declared.lists.Place.{Place}
+use Rattle.ft_query.specs.declared.walk.Offset.{Offset}
+use Rattle.ft_query.specs.declared.walk.cursor.Cursor.{Cursor}
+use Rattle.ft_query.specs.declared.walk.search.Considered.TheVariants.{NoDocument}
+use Rattle.ft_query.specs.Documents.{Posting, Document, AreDocuments, IsBefore, PlaceList, place_count}
+use Rattle.ft_query.specs.Trees.{PlainTerm, Tree, tree_of}
+use Rattle.ft_query.specs.Occurs.{PlainHit, accepts, offsets_of, hits_of}
+use Rattle.ft_query.specs.Work.{terms_in, lists_of, width, entry_count, candidate_count}
+use Rattle.ft_query.specs.Cursors.{lists_left, places_at, passed, least_of, least_from, listed_for}
+use Rattle.ft_query.specs.Visit.{listed_places}
+use Rattle.ft_query.specs.Walk.{Walk, StandsBefore, steps_to_come, Went}
+use Rattle.ft_query.specs.Search.{walk_at, Considers}
+use Rattle.ft_query.proofs.Nexts.{Next, Nothing, First, next_of, are_more, all_places, all_passed, all_counted, without_it, with_it}
+
+no_documents : AreDocuments []
+no_documents = record {
+  rising = λ i j d before inside. absurd (omega arith);
+  filled = All-nil (λ (e : Document). e.postings ≢ []);
+  ordered = All-nil (λ (e : Document). AllPairs IsBefore e.postings);
+}
+
+not_found : (docid : ℤ) → (Some docid ≡ None) → ⊥
+not_found docid same = true≢false (ap (λ (o : Option ℤ). elim o [ Some _ ↦ true | None ↦ false ]) same)
+
+one_docid : (a b : ℤ) → (Some a ≡ Some b) → a ≡ b
+one_docid a b same = ap (λ (o : Option ℤ). elim o [ Some c ↦ c | None ↦ a ]) same
+
+-- where no list has a document left
+pub nothing_left : (q : Query) (ls : List (List PlaceList)) (s t : ℕ) (documents : List Document) → AreDocuments documents × (ls ≡ lists_of (tree_of q) documents) → least_from None ls ≡ None → t ≡ s →
+    Considers (record { query = q; lists = ls; steps = s }) (record { query = q; lists = ls; steps = t }) NoDocument documents
+nothing_left q ls s t documents stands none same_steps = by (next_of (tree_of q) documents stands.0)
+  where
+    by : Next (tree_of q) documents → Considers (record { query = q; lists = ls; steps = s }) (record { query = q; lists = ls; steps = t }) NoDocument documents
+    by (First d ds are least same hits count) = absurd (not_found d.docid (sym least ∙ ap (least_from None) (sym stands.1) ∙ none))
+    by (Nothing least same hits count) =
+        let tree = tree_of q in
+        let entries : entry_count tree documents ≡ entry_count tree [] = ap (sum_by place_count) same in
+        let to_come : steps_to_come tree documents ≡ steps_to_come tree [] = ap (λ n. 32 * n + 8 * width tree * candidate_count tree documents) entries ∙ ap (λ n. 32 * entry_count tree [] + 8 * width tree * n) count in
+        record {
+          went = record {
+            rest = [];
+            stands = (no_documents, stands.1 ∙ same);
+            hits_are = hits;
+            at_most = omega arith;
+            at_least = omega arith;
+          };
+          ended = λ _. refl;
+        }
+
+one_more : (n : ℕ) → 1 + n ≡ suc n
+one_more n = omega arith
+
+-- the hit of this docid, where there are offsets
+abbrev pub hit_with : ℤ → Option (List Offset) → List PlainHit
+hit_with docid None = []
+hit_with docid (Some offsets) = record { docid = docid; offsets = offsets } ∷ []
+
+hits_here : (docid : ℤ) (offsets : Option (List Offset)) (tree : Tree) (d : Document) (ds : List Document) → d.docid ≡ docid → offsets ≡ (if accepts d.postings tree then Some (offsets_of d.postings tree) else None) →
+    hits_of tree (d ∷ ds) ≡ hit_with docid offsets ++ hits_of tree ds
+hits_here docid offsets tree d ds one here = cases (accepts d.postings tree) refl
+  where
+    cases : (v : Bool) → accepts d.postings tree ≡ v → hits_of tree (d ∷ ds) ≡ hit_with docid offsets ++ hits_of tree ds
+    cases true is =
+        with_it tree d ds is
+        ∙ ap (λ z. record { docid = z; offsets = offsets_of d.postings tree } ∷ hits_of tree ds) one
+        ∙ ap (λ o. hit_with docid o ++ hits_of tree ds) (sym (here ∙ ap (λ v. if v then Some (offsets_of d.postings tree) else None) is))
+    cases false is =
+        without_it tree d ds is
+        ∙ ap (λ o. hit_with docid o ++ hits_of tree ds) (sym (here ∙ ap (λ v. if v then Some (offsets_of d.postings tree) else None) is))
+
+-- where this is the least docid left
+pub one_left : (q : Query) (ls : List (List PlaceList)) (s t : ℕ) (docid : ℤ) (offsets : Option (List Offset)) (documents : List Document) → AreDocuments documents × (ls ≡ lists_of (tree_of q) documents) → least_from None ls ≡ Some docid →
+    ((postings : List Posting) → AllPairs IsBefore postings → map (places_at docid) ls ≡ map (listed_places postings) (terms_in (tree_of q)) → offsets ≡ (if accepts postings (tree_of q) then Some (offsets_of postings (tree_of q)) else None)) →
+    t ≤ s + 32 * sum_by length (map (places_at docid) ls) + 8 * width (tree_of q) → min (s + 1) (2 ^ 64 - 1) ≤ t →
+    Went (record { query = q; lists = ls; steps = s }) (record { query = q; lists = map (passed docid) ls; steps = t }) (hit_with docid offsets) documents
+one_left q ls s t docid offsets documents stands least given at_most at_least = by (next_of (tree_of q) documents stands.0)
+  where
+    by : Next (tree_of q) documents → Went (record { query = q; lists = ls; steps = s }) (record { query = q; lists = map (passed docid) ls; steps = t }) (hit_with docid offsets) documents
+    by (Nothing none same hits count) = absurd (not_found docid (sym least ∙ ap (least_from None) stands.1 ∙ none))
+    by (First d ds are first same hits count) =
+        let tree = tree_of q in
+        let one : d.docid ≡ docid = one_docid d.docid docid (sym first ∙ ap (least_from None) (sym stands.1) ∙ least) in
+        let later = recursion_from_All (λ (e : Document). d.docid <ℤ e.docid) ds (pairs_head (λ (a b : Document). a.docid <ℤ b.docid) d ds are.rising) in
+        let lists : ls ≡ map (listed_for (d ∷ ds)) (terms_in tree) = stands.1 ∙ same in
+        let places : map (places_at docid) ls ≡ map (listed_places d.postings) (terms_in tree) = ap (λ z. map (places_at z) ls) (sym one) ∙ ap (map (places_at d.docid)) lists ∙ all_places d ds later (terms_in tree) in
+        let left : map (passed docid) ls ≡ lists_of tree ds = ap (λ z. map (passed z) ls) (sym one) ∙ ap (map (passed d.docid)) lists ∙ all_passed d ds later (terms_in tree) in
+        let here : offsets ≡ (if accepts d.postings tree then Some (offsets_of d.postings tree) else None) = given d.postings (All-head (λ (e : Document). AllPairs IsBefore e.postings) d ds are.ordered) places in
+        let entries : entry_count tree documents ≡ sum_by length (map (places_at docid) ls) + entry_count tree ds =
+            ap (sum_by place_count) same ∙ all_counted d ds later (terms_in tree) ∙ ap (λ ps. sum_by length ps + entry_count tree ds) (sym places) in
+        let product : 8 * width tree * candidate_count tree documents ≡ 8 * width tree * candidate_count tree ds + 8 * width tree = ap (λ n. 8 * width tree * n) (count ∙ one_more (candidate_count tree ds)) ∙ mul-suc (8 * width tree) (candidate_count tree ds) in
+        record {
+          rest = ds;
+          stands = (are_more d ds are, left);
+          hits_are = hits ∙ hits_here docid offsets tree d ds one here;
+          at_most = omega arith;
+          at_least = omega arith;
+        }
+
+-- the same, of cursors and the steps of the calls
+pub went_on : (q : Query) (cursors passed_by : List Cursor) (s a b t : ℕ) (docid : ℤ) (offsets : Option (List Offset)) (documents : List Document) → StandsBefore (walk_at q cursors s) documents → least_from None (map lists_left cursors) ≡ Some docid →
+    ((postings : List Posting) → AllPairs IsBefore postings → map (λ c. places_at docid (lists_left c)) cursors ≡ map (listed_places postings) (terms_in (tree_of q)) → offsets ≡ (if accepts postings (tree_of q) then Some (offsets_of postings (tree_of q)) else None)) →
+    map lists_left passed_by ≡ map (passed docid) (map lists_left cursors) → length cursors ≡ length (terms_in (tree_of q)) → s ≤ a → a ≤ s + length cursors →
+    min (a + 1) (2 ^ 64 - 1) ≤ b → b ≤ a + 31 * sum_by (λ c. length (places_at docid (lists_left c))) cursors + 5 * width (tree_of q) → t ≡ min (b + length cursors) (2 ^ 64 - 1) →
+    Went (walk_at q cursors s) (walk_at q passed_by t) (hit_with docid offsets) documents
+went_on q cursors passed_by s a b t docid offsets documents stands least given left number first_least first_most visit_least visit_most last =
+    let ls = map lists_left cursors in
+    let same : map (places_at docid) ls ≡ map (λ c. places_at docid (lists_left c)) cursors = map-map (places_at docid) lists_left cursors in
+    let sum : sum_by length (map (places_at docid) ls) ≡ sum_by (λ c. length (places_at docid (lists_left c))) cursors = ap (sum_by length) same ∙ sum_mapped (λ c. places_at docid (lists_left c)) cursors in
+    let terms = all_terms (tree_of q) in
+    let went = one_left q ls s t docid offsets documents stands least (λ postings ordered here. given postings ordered (sym same ∙ here)) (omega arith) (omega arith) in
+    subst (λ new. Went (walk_at q cursors s) (record { query = q; lists = new; steps = t }) (hit_with docid offsets) documents) (sym left) went
+  where
+    sum_mapped : {X : Type 0} (f : X → List Place) (xs : List X) → sum_by length (map f xs) ≡ sum_by (λ x. length (f x)) xs
+    sum_mapped f [] = refl
+    sum_mapped f (x ∷ xs) =
+        let more = sum_mapped f xs in
+        let l = sum_by-cons length (f x) (map f xs) in
+        let r = sum_by-cons (λ y. length (f y)) x xs in
+        omega arith
+
+-- ---- what a pass leaves
+
+fewer : (docid : ℤ) (l : List PlaceList) → length (passed docid l) ≤ length l
+fewer docid [] = omega arith
+fewer docid (x ∷ l) = elim (int_eq x.docid docid) as (λ v. length (cond v l (x ∷ l)) ≤ length (x ∷ l)) [ | true ↦ omega arith | false ↦ omega arith ]
+
+none_more : (docid : ℤ) (ls : List (List PlaceList)) → sum_by length (map (passed docid) ls) ≤ sum_by length ls
+none_more docid [] = omega arith
+none_more docid (l ∷ ls) =
+    let here = fewer docid l in
+    let rest = none_more docid ls in
+    let a = sum_by-cons length (passed docid l) (map (passed docid) ls) in
+    let b = sum_by-cons length l ls in
+    omega arith
+
+-- the least is the docid so far, or one list gets shorter
+less_left : (docid : ℤ) (so_far : Option ℤ) (ls : List (List PlaceList)) → least_from so_far ls ≡ Some docid → (so_far ≡ Some docid) ⊎ (sum_by length (map (passed docid) ls) < sum_by length ls)
+less_left docid so_far [] least = inl least
+less_left docid so_far (l ∷ ls) least = ⊎_elim
+    (λ (here : least_of so_far l ≡ Some docid). first l here)
+    (λ (shorter : sum_by length (map (passed docid) ls) < sum_by length ls).
+    let one = fewer docid l in
+    let a = sum_by-cons length (passed docid l) (map (passed docid) ls) in
+    let b = sum_by-cons length l ls in
+    inr (omega arith))
+    (less_left docid (least_of so_far l) ls least)
+  where
+    same_docid : (x : PlaceList) (xs : List PlaceList) → (Some x.docid ≡ Some docid) → sum_by length (map (passed docid) ((x ∷ xs) ∷ ls)) < sum_by length ((x ∷ xs) ∷ ls)
+    same_docid x xs same =
+        let is : int_eq x.docid docid ≡ true = (Decides-int_eq x.docid docid).1 (one_docid x.docid docid same) in
+        let passes : length (passed docid (x ∷ xs)) ≡ length xs = ap (λ v. length (cond v xs (x ∷ xs))) is in
+        let rest = none_more docid ls in
+        let a = sum_by-cons length (passed docid (x ∷ xs)) (map (passed docid) ls) in
+        let b = sum_by-cons length (x ∷ xs) ls in
+        omega arith
+
+    first : (l : List PlaceList) → least_of so_far l ≡ Some docid → (so_far ≡ Some docid) ⊎ (sum_by length (map (passed docid) (l ∷ ls)) < sum_by length (l ∷ ls))
+    first [] here = inl here
+    first (x ∷ xs) here = by so_far here
+      where
+        by : (o : Option ℤ) → least_of o (x ∷ xs) ≡ Some docid → (o ≡ Some docid) ⊎ (sum_by length (map (passed docid) ((x ∷ xs) ∷ ls)) < sum_by length ((x ∷ xs) ∷ ls))
+        by None here = inr (same_docid x xs here)
+        by (Some z) here = less (int_lt x.docid z) refl
+          where
+            less : (v : Bool) → int_lt x.docid z ≡ v → (Some z ≡ Some docid) ⊎ (sum_by length (map (passed docid) ((x ∷ xs) ∷ ls)) < sum_by length ((x ∷ xs) ∷ ls))
+            less true is = inr (same_docid x xs (sym (ap (λ v. if v then Some x.docid else Some z) is) ∙ here))
+            less false is = inl (sym (ap (λ v. if v then Some x.docid else Some z) is) ∙ here)
+
+passes_one : (docid : ℤ) (ls : List (List PlaceList)) → least_from None ls ≡ Some docid → sum_by length (map (passed docid) ls) < sum_by length ls
+passes_one docid ls least = ⊎_elim
+    (λ (never : None ≡ Some docid). absurd (not_found docid (sym never)))
+    (λ (less : sum_by length (map (passed docid) ls) < sum_by length ls). less)
+    (less_left docid None ls least)
+
+pub fewer_left : (docid : ℤ) (cursors passed_by : List Cursor) → least_from None (map lists_left cursors) ≡ Some docid → map lists_left passed_by ≡ map (passed docid) (map lists_left cursors) →
+    sum_by length (map lists_left passed_by) < sum_by length (map lists_left cursors)
+fewer_left docid cursors passed_by least left = subst (λ ls. sum_by length ls < sum_by length (map lists_left cursors)) (sym left) (passes_one docid (map lists_left cursors) least)
+
+-- ---- one walk after the other
+
+pub goes_nowhere : (walk : Walk) (documents : List Document) → StandsBefore walk documents → Went walk walk [] documents
+goes_nowhere walk documents stands = record { rest = documents; stands = stands; hits_are = refl; at_most = omega arith; at_least = omega arith }
+
+abbrev pub went_then : (q : Query) (a b c : List (List PlaceList)) (s t u : ℕ) (hits : List PlainHit) (documents : List Document) →
+    (first : Went (record { query = q; lists = a; steps = s }) (record { query = q; lists = b; steps = t }) [] documents) →
+    Went (record { query = q; lists = b; steps = t }) (record { query = q; lists = c; steps = u }) hits first.rest →
+    Went (record { query = q; lists = a; steps = s }) (record { query = q; lists = c; steps = u }) hits documents
+went_then q a b c s t u hits documents first then_on = record {
+  rest = then_on.rest;
+  stands = then_on.stands;
+  hits_are = first.hits_are ∙ then_on.hits_are;
+  at_most = let x = first.at_most in let y = then_on.at_most in omega arith;
+  at_least = let x = first.at_least in let y = then_on.at_least in omega arith;
+}

@@ -1,0 +1,91 @@
+-- How many marks a query's terms have, and the offsets of marks one after the other.
+use Rattle.std.proofs.Common.{◌≡◌, ℕ, ◌+◌, ◌≤◌, ◌<◌, List, [], ◌∷◌, ◌++◌, length, map, take, drop, get_or, ap, sym, ◌∙◌, arith}
+use Rattle.std.specs.Prelude.{flat_map}
+use Rattle.std.proofs.lemmas.List.{append_assoc, length-append, length-map, length-drop, length-take-le, drop_more}
+use denote.Ref.{Bor}
+use Rattle.ft_query.specs.declared.lists.Place.{Place}
+use Rattle.ft_query.specs.declared.walk.Offset.{Offset}
+use Rattle.ft_query.specs.declared.query.Link.{Link}
+use Rattle.ft_query.specs.Trees.{PlainPhrase, PlainLink, Tree, phrase, chain, both, either, without, plain_link, plain_term}
+use Rattle.ft_query.specs.Work.{terms_in}
+use Rattle.ft_query.specs.Visit.{marks_from, head_of, linked, link_marks, near_those, starts_of, marks_of, numbered, plain_lists}
+use Rattle.ft_query.proofs.Passes.{numbered-append, marks_length, map-take, map-drop}
+
+link_marks_length : (k : ℕ) (starts : List Place) (links : List PlainLink) (lists : List (List Place)) (all : List (List Place)) → length lists ≡ length (flat_map (λ link. link.to.terms) links) → length (link_marks k starts links lists all) ≡ length lists
+link_marks_length k starts [] lists all same = sym same
+link_marks_length k starts (link ∷ links) lists all same =
+    let n = length link.to.terms in
+    let next = near_those link.most k starts n (head_of all) in
+    let sum = length-append link.to.terms (flat_map (λ l. l.to.terms) links) in
+    let back = length-drop n lists in
+    let rest = link_marks_length n next links (drop n lists) (drop 1 all) (omega (arith, sum, back, same)) in
+    let front = marks_length 0 (take n lists) next in
+    let short = length-take-le n lists (omega (arith, sum, same)) in
+    length-append (marks_from 0 (take n lists) next) (link_marks n next links (drop n lists) (drop 1 all)) ∙ omega (arith, sum, back, rest, front, short, same)
+
+-- each term of a chain has marks
+pub chain_marks_length : (p : PlainPhrase) (links : List PlainLink) (lists : List (List Place)) → length lists ≡ length (terms_in (chain p links)) → length (marks_of (chain p links) lists) ≡ length lists
+chain_marks_length p links lists same =
+    let n = length p.terms in
+    let all = linked p links lists in
+    let sum = length-append p.terms (flat_map (λ l. l.to.terms) links) in
+    let back = length-drop n lists in
+    let rest = link_marks_length n (head_of all) links (drop n lists) (drop 1 all) (omega (arith, sum, back, same)) in
+    let front = marks_length 0 (take n lists) (head_of all) in
+    let short = length-take-le n lists (omega (arith, sum, same)) in
+    length-append (marks_from 0 (take n lists) (head_of all)) (link_marks n (head_of all) links (drop n lists) (drop 1 all)) ∙ omega (arith, sum, back, rest, front, short, same)
+
+two_short : (p q : Tree) (lists : List (List Place)) → length lists ≡ length (terms_in p ++ terms_in q)
+    → ((ls : List (List Place)) → length ls ≡ length (terms_in p) → length (marks_of p ls) ≤ length ls) → ((ls : List (List Place)) → length ls ≡ length (terms_in q) → length (marks_of q ls) ≤ length ls)
+    → length (marks_of p (take (length (terms_in p)) lists) ++ marks_of q (drop (length (terms_in p)) lists)) ≤ length lists
+two_short p q lists same left right =
+    let n = length (terms_in p) in
+    let sum = length-append (terms_in p) (terms_in q) in
+    let front : length (take n lists) ≡ n = length-take-le n lists (omega (arith, sum, same)) in
+    let back = length-drop n lists in
+    let one = left (take n lists) front in
+    let other = right (drop n lists) (omega (arith, sum, back, same)) in
+    let added = length-append (marks_of p (take n lists)) (marks_of q (drop n lists)) in
+    omega (arith, front, back, one, other, sum, same, added)
+
+pub marks_short : (tree : Tree) (lists : List (List Place)) → length lists ≡ length (terms_in tree) → length (marks_of tree lists) ≤ length lists
+marks_short (phrase p) lists same = let n = marks_length 0 lists (starts_of p lists) in omega (arith, n)
+marks_short (chain p links) lists same = let n = chain_marks_length p links lists same in omega (arith, n)
+marks_short (both p q) lists same = two_short p q lists same (marks_short p) (marks_short q)
+marks_short (either p q) lists same = two_short p q lists same (marks_short p) (marks_short q)
+marks_short (without p q) lists same =
+    let n = length (terms_in p) in
+    let sum = length-append (terms_in p) (terms_in q) in
+    let short = length-take-le n lists (omega (arith, sum, same)) in
+    let left = marks_short p (take n lists) short in
+    omega (arith, short, left, sum, same)
+
+-- what a query's left side adds before its right one
+pub numbered_more : (old : List Offset) (n : ℕ) (ms more : List (List Place)) → old ++ numbered n ms ++ numbered (n + length ms) more ≡ old ++ numbered n (ms ++ more)
+numbered_more old n ms more = append_assoc old (numbered n ms) (numbered (n + length ms) more) ∙ sym (ap (λ os. old ++ os) (numbered-append n ms more))
+
+-- the terms of the first link of those that are left
+pub count_more : (links : List Link) (i : ℕ) (d : Link) → i < length links → length (flat_map (λ l. l.to.terms) (map plain_link (drop i links))) ≡ length (get_or links i d).to.terms.items + length (flat_map (λ l. l.to.terms) (map plain_link (drop (i + 1) links)))
+count_more links i d h =
+    let link = get_or links i d in
+    ap (λ ls. length (flat_map (λ l. l.to.terms) (map plain_link ls))) (drop_more links i d h)
+    ∙ length-append (map plain_term link.to.terms.items) (flat_map (λ l. l.to.terms) (map plain_link (drop (i + 1) links)))
+    ∙ ap (λ n. n + length (flat_map (λ l. l.to.terms) (map plain_link (drop (i + 1) links)))) (length-map link.to.terms.items plain_term)
+
+pub phrase_marks_count : (lists : List (Bor (List Place))) (starts : List Place) → length (marks_from 0 (plain_lists lists) starts) ≡ length lists
+phrase_marks_count lists starts = marks_length 0 (plain_lists lists) starts ∙ length-map lists (λ l. l.now)
+
+pub chain_marks_count : (p : PlainPhrase) (links : List PlainLink) (lists : List (Bor (List Place))) → length lists ≡ length (terms_in (chain p links)) → length (marks_of (chain p links) (plain_lists lists)) ≡ length lists
+chain_marks_count p links lists same = chain_marks_length p links (plain_lists lists) (length-map lists (λ l. l.now) ∙ same) ∙ length-map lists (λ l. l.now)
+
+pub tree_offsets : (p q : Tree) (lists own rest : List (Bor (List Place))) (n : ℕ) (old mid : List Offset) (k more : ℕ)
+    → n ≡ length (terms_in p) → own ≡ take n lists → rest ≡ drop n lists → mid ≡ old ++ numbered k (marks_of p (plain_lists own)) → more ≡ k + length (marks_of p (plain_lists own))
+    → mid ++ numbered more (marks_of q (plain_lists rest)) ≡ old ++ numbered k (marks_of p (take (length (terms_in p)) (plain_lists lists)) ++ marks_of q (drop (length (terms_in p)) (plain_lists lists)))
+tree_offsets p q lists own rest n old mid k more size is_own is_rest is_mid is_more =
+    let front : plain_lists own ≡ take (length (terms_in p)) (plain_lists lists) = ap plain_lists is_own ∙ sym (map-take n lists) ∙ ap (λ m. take m (plain_lists lists)) size in
+    let back : plain_lists rest ≡ drop (length (terms_in p)) (plain_lists lists) = ap plain_lists is_rest ∙ sym (map-drop n lists) ∙ ap (λ m. drop m (plain_lists lists)) size in
+    ap (λ os. os ++ numbered more (marks_of q (plain_lists rest))) is_mid
+    ∙ ap (λ m. old ++ numbered k (marks_of p (plain_lists own)) ++ numbered m (marks_of q (plain_lists rest))) is_more
+    ∙ numbered_more old k (marks_of p (plain_lists own)) (marks_of q (plain_lists rest))
+    ∙ ap (λ ls. old ++ numbered k (marks_of p ls ++ marks_of q (plain_lists rest))) front
+    ∙ ap (λ ls. old ++ numbered k (marks_of p (take (length (terms_in p)) (plain_lists lists)) ++ marks_of q ls)) back

@@ -1,0 +1,227 @@
+-- Which document a walk comes to next.
+use Rattle.std.proofs.Common.{◌≡◌, ◌≢◌, ℕ, ◌+◌, ◌<◌, ◌==◌, ◌&&◌, ◌||◌, ℤ, pos, negsuc, ◌<ℤ◌, Bool, true, false, not, cond, List, [], ◌∷◌, ◌++◌, length, map, refl, sym, ap, subst, ◌∙◌, arith, true≢false, Option, Some, None}
+use Rattle.std.specs.Prelude.{filter, All, AllPairs, int_lt, sum_by, count_by}
+use Rattle.std.specs.Ordering.{int_eq, int_cmp, is_eq}
+use Rattle.std.proofs.Common.{Less, Equal, Greater}
+use Rattle.std.proofs.lemmas.Cmp.{tied_itself, int_cmp_total}
+use Rattle.std.proofs.lemmas.List.Sums.{sum_by-cons}
+use Rattle.std.specs.List.{list_any, AllByRecursion}
+use Rattle.std.proofs.lemmas.Bool.Decides.{nat_tests}
+use Rattle.std.proofs.lemmas.List.Elements.{recursion_from_All, All-tail}
+use Rattle.ft_query.proofs.TokenOnce.{pairs_head, pairs_tail}
+use Rattle.ft_query.specs.declared.lists.Place.{Place}
+use Rattle.ft_query.specs.Documents.{Posting, Document, AreDocuments, IsBefore, PlaceList, is_filled, has_places, places_with, lists_with, place_count}
+use Rattle.ft_query.specs.Trees.{PlainTerm, Tree}
+use Rattle.ft_query.specs.Occurs.{PlainHit, is_listed, accepts, offsets_of, hits_of}
+use Rattle.ft_query.specs.Work.{terms_in, lists_of, entry_count, candidate_count}
+use Rattle.ft_query.specs.Cursors.{places_at, passed, least_of, least_from, listed_for}
+use Rattle.ft_query.specs.Visit.{listed_places}
+use Rattle.ft_query.proofs.NotListed.{has_term, or_left, or_right, accepts_none}
+
+-- ---- docids
+
+earlier : (a b : ℤ) → a <ℤ b → (int_lt a b ≡ true) × (int_lt b a ≡ false)
+earlier (pos a) (pos b) h = (grind (arith, nat_tests), grind (arith, nat_tests))
+earlier (pos a) (negsuc b) h = absurd (omega arith)
+earlier (negsuc a) (pos b) h = (refl, refl)
+earlier (negsuc a) (negsuc b) h = (grind (arith, nat_tests), grind (arith, nat_tests))
+
+not_later : (a b : ℤ) → a <ℤ b → int_eq b a ≡ false
+not_later a b h =
+    let t = earlier a b h in
+    ap (λ v. is_eq (cond v Less (cond (int_lt a b) Greater Equal))) t.1 ∙ ap (λ v. is_eq (cond v Greater Equal)) t.0
+
+not_less : (a : ℤ) → int_lt a a ≡ false
+not_less (pos a) = grind (arith, nat_tests)
+not_less (negsuc a) = grind (arith, nat_tests)
+
+itself : (a : ℤ) → int_eq a a ≡ true
+itself a = ap is_eq (tied_itself int_cmp_total a)
+
+-- ---- one list
+
+-- the first docid of a list is behind this one
+IsLater : ℤ → List PlaceList → Type 0
+IsLater docid [] = Unit {0}
+IsLater docid (l ∷ ls) = docid <ℤ l.docid
+
+later_lists : (docid : ℤ) (ds : List Document) (t : PlainTerm) → AllByRecursion (λ d. docid <ℤ d.docid) ds → IsLater docid (listed_for ds t)
+unfolding IsLater
+later_lists docid [] t later = tt
+later_lists docid (d ∷ ds) t later = elim (has_places (places_with (is_listed t) d)) as (λ v. IsLater docid (cond v (places_with (is_listed t) d ∷ listed_for ds t) (listed_for ds t))) [
+  | true ↦ later.0
+  | false ↦ later_lists docid ds t later.1
+]
+
+none_at : (docid : ℤ) (ls : List PlaceList) → IsLater docid ls → places_at docid ls ≡ []
+unfolding IsLater
+none_at docid [] later = refl
+none_at docid (l ∷ ls) later = ap (λ b. cond b l.places []) (not_later docid l.docid later)
+
+none_passed : (docid : ℤ) (ls : List PlaceList) → IsLater docid ls → passed docid ls ≡ ls
+unfolding IsLater
+none_passed docid [] later = refl
+none_passed docid (l ∷ ls) later = ap (λ b. cond b ls (l ∷ ls)) (not_later docid l.docid later)
+
+filled : (t : PlainTerm) (ps : List Posting) → is_filled (listed_places ps t) ≡ has_term ps t
+filled t [] = refl
+filled t (p ∷ ps) = elim (is_listed t p.term) as (λ v. is_filled (map (λ (q : Posting). q.place) (cond v (p ∷ filter (λ q. is_listed t q.term) ps) (filter (λ q. is_listed t q.term) ps))) ≡ (v || has_term ps t)) [
+  | true ↦ refl
+  | false ↦ filled t ps
+]
+
+empty_one : (places : List Place) → is_filled places ≡ false → places ≡ []
+empty_one [] none = refl
+empty_one (p ∷ ps) none = absurd (true≢false none)
+
+module _ (d : Document) (ds : List Document) (later : AllByRecursion (λ e. d.docid <ℤ e.docid) ds) (t : PlainTerm) where
+  here : PlaceList
+  here = places_with (is_listed t) d
+
+  one_places : places_at d.docid (listed_for (d ∷ ds) t) ≡ listed_places d.postings t
+  unfolding here
+  one_places = by (has_places here) refl
+    where
+      by : (v : Bool) → has_places here ≡ v → places_at d.docid (cond v (here ∷ listed_for ds t) (listed_for ds t)) ≡ listed_places d.postings t
+      by true is = ap (λ b. cond b (listed_places d.postings t) []) (itself d.docid)
+      by false is = none_at d.docid (listed_for ds t) (later_lists d.docid ds t later) ∙ sym (empty_one (listed_places d.postings t) is)
+
+  one_passed : passed d.docid (listed_for (d ∷ ds) t) ≡ listed_for ds t
+  unfolding here
+  one_passed = elim (has_places here) as (λ v. passed d.docid (cond v (here ∷ listed_for ds t) (listed_for ds t)) ≡ listed_for ds t) [
+    | true ↦ ap (λ b. cond b (listed_for ds t) (here ∷ listed_for ds t)) (itself d.docid)
+    | false ↦ none_passed d.docid (listed_for ds t) (later_lists d.docid ds t later)
+  ]
+
+  one_count : place_count (listed_for (d ∷ ds) t) ≡ length (listed_places d.postings t) + place_count (listed_for ds t)
+  unfolding here
+  one_count = by (has_places here) refl
+    where
+      by : (v : Bool) → has_places here ≡ v → place_count (cond v (here ∷ listed_for ds t) (listed_for ds t)) ≡ length (listed_places d.postings t) + place_count (listed_for ds t)
+      by true is = sum_by-cons (λ (l : PlaceList). length l.places) here (listed_for ds t)
+      by false is = let none = ap length (empty_one (listed_places d.postings t) is) in omega arith
+
+-- ---- the lists of all terms
+
+module _ (d : Document) (ds : List Document) (later : AllByRecursion (λ e. d.docid <ℤ e.docid) ds) where
+  pub all_places : (ts : List PlainTerm) → map (places_at d.docid) (map (listed_for (d ∷ ds)) ts) ≡ map (listed_places d.postings) ts
+  all_places [] = refl
+  all_places (t ∷ ts) = ap (λ p. p ∷ map (places_at d.docid) (map (listed_for (d ∷ ds)) ts)) (one_places d ds later t) ∙ ap (λ ps. listed_places d.postings t ∷ ps) (all_places ts)
+
+  pub all_passed : (ts : List PlainTerm) → map (passed d.docid) (map (listed_for (d ∷ ds)) ts) ≡ map (listed_for ds) ts
+  all_passed [] = refl
+  all_passed (t ∷ ts) = ap (λ p. p ∷ map (passed d.docid) (map (listed_for (d ∷ ds)) ts)) (one_passed d ds later t) ∙ ap (λ ps. listed_for ds t ∷ ps) (all_passed ts)
+
+  pub all_counted : (ts : List PlainTerm) → sum_by place_count (map (listed_for (d ∷ ds)) ts) ≡ sum_by length (map (listed_places d.postings) ts) + sum_by place_count (map (listed_for ds) ts)
+  all_counted [] = refl
+  all_counted (t ∷ ts) =
+      let more = all_counted ts in
+      let one = one_count d ds later t in
+      let left = sum_by-cons place_count (listed_for (d ∷ ds) t) (map (listed_for (d ∷ ds)) ts) in
+      let here = sum_by-cons length (listed_places d.postings t) (map (listed_places d.postings) ts) in
+      let right = sum_by-cons place_count (listed_for ds t) (map (listed_for ds) ts) in
+      omega arith
+
+  -- the least docid so far is behind the document, or there is none
+  abbrev IsBehind : Option ℤ → Type 0
+  IsBehind None = Unit {0}
+  IsBehind (Some docid) = d.docid <ℤ docid
+
+  -- in a list that may have the document first
+  still_behind : (so_far : Option ℤ) (ls : List PlaceList) → IsBehind so_far → IsLater d.docid ls → IsBehind (least_of so_far ls)
+  unfolding IsLater
+  still_behind so_far [] behind later = behind
+  still_behind None (l ∷ ls) behind later = later
+  still_behind (Some docid) (l ∷ ls) behind later = elim (int_lt l.docid docid) as (λ v. IsBehind (cond v (Some l.docid) (Some docid))) [ | true ↦ later | false ↦ behind ]
+
+  found : (so_far : Option ℤ) (places : List Place) (ls : List PlaceList) → IsBehind so_far → least_of so_far (record { docid = d.docid; places = places } ∷ ls) ≡ Some d.docid
+  found None places ls behind = refl
+  found (Some docid) places ls behind = ap (λ v. cond v (Some d.docid) (Some docid)) (earlier d.docid docid behind).0
+
+  stays_one : (ls : List PlaceList) → IsLater d.docid ls → least_of (Some d.docid) ls ≡ Some d.docid
+  unfolding IsLater
+  stays_one [] later = refl
+  stays_one (l ∷ ls) later = ap (λ v. cond v (Some l.docid) (Some d.docid)) (earlier d.docid l.docid later).1
+
+  stays : (t : PlainTerm) → least_of (Some d.docid) (listed_for (d ∷ ds) t) ≡ Some d.docid
+  stays t = elim (has_places (places_with (is_listed t) d)) as (λ v. least_of (Some d.docid) (cond v (places_with (is_listed t) d ∷ listed_for ds t) (listed_for ds t)) ≡ Some d.docid) [
+    | true ↦ ap (λ v. cond v (Some d.docid) (Some d.docid)) (not_less d.docid)
+    | false ↦ stays_one (listed_for ds t) (later_lists d.docid ds t later)
+  ]
+
+  stays_all : (ts : List PlainTerm) → least_from (Some d.docid) (map (listed_for (d ∷ ds)) ts) ≡ Some d.docid
+  stays_all [] = refl
+  stays_all (t ∷ ts) = ap (λ o. least_from o (map (listed_for (d ∷ ds)) ts)) (stays t) ∙ stays_all ts
+
+  -- where the document has one of the terms, it is the least
+  least_is : (so_far : Option ℤ) (ts : List PlainTerm) → IsBehind so_far → list_any (has_term d.postings) ts ≡ true → least_from so_far (map (listed_for (d ∷ ds)) ts) ≡ Some d.docid
+  least_is so_far [] behind some = absurd (true≢false (sym some))
+  least_is so_far (t ∷ ts) behind some = by (has_term d.postings t) refl (least_is (least_of so_far (listed_for ds t)) ts (still_behind so_far (listed_for ds t) behind (later_lists d.docid ds t later)))
+    where
+      by : (v : Bool) → has_term d.postings t ≡ v → (list_any (has_term d.postings) ts ≡ true → least_from (least_of so_far (listed_for ds t)) (map (listed_for (d ∷ ds)) ts) ≡ Some d.docid) →
+          least_from (least_of so_far (listed_for (d ∷ ds) t)) (map (listed_for (d ∷ ds)) ts) ≡ Some d.docid
+      by true is rest =
+          ap (λ v. least_from (least_of so_far (cond v (places_with (is_listed t) d ∷ listed_for ds t) (listed_for ds t))) (map (listed_for (d ∷ ds)) ts)) (filled t d.postings ∙ is)
+          ∙ ap (λ o. least_from o (map (listed_for (d ∷ ds)) ts)) (found so_far (listed_places d.postings t) (listed_for ds t) behind)
+          ∙ stays_all ts
+      by false is rest =
+          ap (λ v. least_from (least_of so_far (cond v (places_with (is_listed t) d ∷ listed_for ds t) (listed_for ds t))) (map (listed_for (d ∷ ds)) ts)) (filled t d.postings ∙ is)
+          ∙ rest (ap (λ b. b || list_any (has_term d.postings) ts) (sym is) ∙ some)
+
+-- a document that has none of the terms is in none of their lists
+pub unlisted : (d : Document) (ds : List Document) (ts : List PlainTerm) → list_any (has_term d.postings) ts ≡ false → map (listed_for (d ∷ ds)) ts ≡ map (listed_for ds) ts
+unlisted d ds [] none = refl
+unlisted d ds (t ∷ ts) none =
+    ap (λ v. cond v (places_with (is_listed t) d ∷ listed_for ds t) (listed_for ds t) ∷ map (listed_for (d ∷ ds)) ts) (filled t d.postings ∙ or_left (has_term d.postings t) (list_any (has_term d.postings) ts) none)
+    ∙ ap (λ ls. listed_for ds t ∷ ls) (unlisted d ds ts (or_right (has_term d.postings t) (list_any (has_term d.postings) ts) none))
+
+none_left : (ts : List PlainTerm) → least_from None (map (listed_for []) ts) ≡ None
+none_left [] = refl
+none_left (t ∷ ts) = none_left ts
+
+-- ---- the next document
+
+pub are_more : (d : Document) (ds : List Document) → AreDocuments (d ∷ ds) → AreDocuments ds
+are_more d ds are = record {
+  rising = pairs_tail (λ (a b : Document). a.docid <ℤ b.docid) d ds are.rising;
+  filled = All-tail (λ (e : Document). e.postings ≢ []) d ds are.filled;
+  ordered = All-tail (λ (e : Document). AllPairs IsBefore e.postings) d ds are.ordered;
+}
+
+-- No document is left that has one of the terms, or this one is the first.
+pub data Next (tree : Tree) (documents : List Document) : Type 0 where
+  Nothing : least_from None (lists_of tree documents) ≡ None → lists_of tree documents ≡ lists_of tree [] → hits_of tree documents ≡ [] → candidate_count tree documents ≡ 0 → Next tree documents
+  First : (d : Document) → (ds : List Document) → AreDocuments (d ∷ ds) → least_from None (lists_of tree documents) ≡ Some d.docid → lists_of tree documents ≡ lists_of tree (d ∷ ds) →
+      hits_of tree documents ≡ hits_of tree (d ∷ ds) → candidate_count tree documents ≡ 1 + candidate_count tree ds → Next tree documents
+
+counted : (tree : Tree) (d : Document) (ds : List Document) → candidate_count tree (d ∷ ds) ≡ cond (list_any (has_term d.postings) (terms_in tree)) 1 0 + candidate_count tree ds
+counted tree d ds = sum_by-cons (λ (e : Document). cond (list_any (has_term e.postings) (terms_in tree)) 1 0) d ds
+
+abbrev hit_in : Tree → Document → PlainHit
+hit_in tree d = record { docid = d.docid; offsets = offsets_of d.postings tree }
+
+-- the hits with and without a document
+pub without_it : (tree : Tree) (d : Document) (ds : List Document) → accepts d.postings tree ≡ false → hits_of tree (d ∷ ds) ≡ hits_of tree ds
+without_it tree d ds is = ap (λ v. map (hit_in tree) (cond v (d ∷ filter (λ e. accepts e.postings tree) ds) (filter (λ e. accepts e.postings tree) ds))) is
+
+pub with_it : (tree : Tree) (d : Document) (ds : List Document) → accepts d.postings tree ≡ true → hits_of tree (d ∷ ds) ≡ record { docid = d.docid; offsets = offsets_of d.postings tree } ∷ hits_of tree ds
+with_it tree d ds is = ap (λ v. map (hit_in tree) (cond v (d ∷ filter (λ e. accepts e.postings tree) ds) (filter (λ e. accepts e.postings tree) ds))) is
+
+pub next_of : (tree : Tree) (documents : List Document) → AreDocuments documents → Next tree documents
+next_of tree [] are = Nothing (none_left (terms_in tree)) refl refl refl
+next_of tree (d ∷ ds) are = by (list_any (has_term d.postings) (terms_in tree)) refl (next_of tree ds (are_more d ds are))
+  where
+    by : (v : Bool) → list_any (has_term d.postings) (terms_in tree) ≡ v → Next tree ds → Next tree (d ∷ ds)
+    by true is next =
+        let later = recursion_from_All (λ (e : Document). d.docid <ℤ e.docid) ds (pairs_head (λ (a b : Document). a.docid <ℤ b.docid) d ds are.rising) in
+        First d ds are (least_is d ds later None (terms_in tree) tt is) refl refl (counted tree d ds ∙ ap (λ v. cond v 1 0 + candidate_count tree ds) is)
+    by false is (Nothing least same hits count) =
+        let lists = unlisted d ds (terms_in tree) is in
+        let here = without_it tree d ds (accepts_none d.postings tree is) in
+        let more = counted tree d ds ∙ ap (λ v. cond v 1 0 + candidate_count tree ds) is in
+        Nothing (ap (least_from None) lists ∙ least) (lists ∙ same) (here ∙ hits) (omega arith)
+    by false is (First e es are_next least same hits count) =
+        let lists = unlisted d ds (terms_in tree) is in
+        let here = without_it tree d ds (accepts_none d.postings tree is) in
+        let more = counted tree d ds ∙ ap (λ v. cond v 1 0 + candidate_count tree ds) is in
+        First e es are_next (ap (least_from None) lists ∙ least) (lists ∙ same) (here ∙ hits) (omega arith)

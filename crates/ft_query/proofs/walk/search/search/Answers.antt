@@ -1,0 +1,19 @@
+use Rattle.std.proofs.Common.{◌≡◌, ◌∙◌, rules, map, refl, sym, subst, List}
+use Rattle.ft_query.specs.declared.walk.search.Considered.{Considered}
+use Rattle.ft_query.specs.Documents.{Document}
+use Rattle.ft_query.specs.Cursors.{lists_left, lists_kept}
+use Rattle.ft_query.specs.Walk.{StandsBefore, Walked}
+use Rattle.ft_query.specs.Search.{walk_at, Considers}
+use Rattle.ft_query.specs.declared.walk.search.Considered.TheVariants.{NoDocument, Passed, Found}
+use Rattle.ft_query.proofs.Considering.{goes_nowhere, went_then}
+use Rattle.ft_query.proofs.walk.search.search.Goals as goal
+
+pub returns-in-NoDocument-clause-walked : goal.returns-in-NoDocument-clause-walked
+returns-in-NoDocument-clause-walked c = λ documents stands.
+    let first = c.loop-hit.invariant.went documents stands in
+    let last = c.in_ok-consider.ensures.considers first.rest first.stands in
+    let one = subst (λ (x : Considered). Considers (walk_at c.args.query.now c.loop-hit.cursors c.loop-hit.steps.taken) (walk_at c.args.query.now c.consider.new.cursors c.consider.new.steps.taken) x first.rest) c.in-NoDocument.is last in
+    record {
+      went = went_then c.args.query.now (map lists_left c.args.cursors.now) (map lists_left c.loop-hit.cursors) (map lists_left c.consider.new.cursors) c.args.steps.now.taken c.loop-hit.steps.taken c.consider.new.steps.taken _ documents first one.went;
+      ended = λ _. one.ended refl;
+    }

@@ -1,0 +1,19 @@
+use Rattle.std.proofs.Common.{◌≡◌, ◌≤◌, ℕ, List, [], length, map}
+use Rattle.std.specs.Prelude.{sum_by}
+use Rattle.ft_query.specs.Documents.{Document}
+use Rattle.ft_query.specs.Cursors.{lists_left, lists_kept}
+use Rattle.ft_query.specs.Walk.{StandsBefore, Went}
+use Rattle.ft_query.specs.Search.{walk_at}
+use Rattle.ft_query.proofs.walk.search.search.Given as goal
+
+-- no hit so far
+abbrev pub invariant-loop-hit : goal.invariant-loop-hit
+invariant-loop-hit l = record {
+  kept : map lists_kept l.cursors ≡ map lists_kept l.fn.cursors;
+  number : length l.cursors ≡ length l.fn.cursors;
+  fewer : sum_by length (map lists_left l.cursors) ≤ sum_by length (map lists_left l.fn.cursors);
+  went : (documents : List Document) → StandsBefore (walk_at l.fn.query l.fn.cursors l.fn.steps.taken) documents → Went (walk_at l.fn.query l.fn.cursors l.fn.steps.taken) (walk_at l.fn.query l.cursors l.steps.taken) [] documents;
+}
+
+abbrev pub decreases-loop-hit : goal.decreases-loop-hit
+decreases-loop-hit l = sum_by length (map lists_left l.cursors)

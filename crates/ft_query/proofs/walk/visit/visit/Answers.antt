@@ -1,0 +1,19 @@
+use Rattle.std.proofs.Common.{◌≡◌, ◌++◌, ap, ◌∙◌, to_z-of_z}
+use Rattle.ft_query.specs.Trees.{tree_of}
+use Rattle.ft_query.specs.Visit.{numbered, marks_of, plain_lists, places_in}
+use Rattle.ft_query.proofs.Visits.{rejected_is, found_is}
+use Rattle.ft_query.proofs.walk.visit.visit.Goals as goal
+
+pub returns-then-not-branch-clause-offsets : goal.returns-then-not-branch-clause-offsets
+returns-then-not-branch-clause-offsets c = λ postings ordered same.
+    let lists = plain_lists c.deref.result.now in
+    let is = ap plain_lists c.deref.ensures.value ∙ c.in_ok-lists.ensures.lists ∙ ap (λ z. places_in z c.args.cursors.now) (to_z-of_z c.ranges.docid) ∙ same in
+    rejected_is postings (tree_of c.args.query.now) lists c.in_ok-visit_part.field-0 ordered is c.in_ok-visit_part.ensures.accepted c.if-not-branch.true
+
+pub returns-clause-offsets : goal.returns-clause-offsets
+returns-clause-offsets c = λ postings ordered same.
+    let tree = tree_of c.args.query.now in
+    let lists = plain_lists c.deref.result.now in
+    let is = ap plain_lists c.deref.ensures.value ∙ c.in_ok-lists.ensures.lists ∙ ap (λ z. places_in z c.args.cursors.now) (to_z-of_z c.ranges.docid) ∙ same in
+    let marked : c.visit_part.new.found.offsets.items ≡ numbered 0 (marks_of tree lists) = c.in_ok-visit_part.ensures.offsets ∙ ap (λ os. os ++ numbered 0 (marks_of tree lists)) c.new.ensures.items in
+    found_is postings tree lists c.in_ok-visit_part.field-0 c.visit_part.new.found.offsets.items c.sort_offsets.new.offsets.items ordered is c.in_ok-visit_part.ensures.accepted c.if-not-branch.false marked c.sort_offsets.ensures.permutation c.sort_offsets.ensures.sorted

@@ -1,0 +1,43 @@
+use Rattle.std.proofs.Common.{◌≡◌, ◌++◌, ◌+◌, drop, map, length, ap, ◌∙◌, refl, rules, arith}
+use Rattle.std.proofs.lemmas.List.{length-map}
+use Rattle.ft_query.specs.Trees.{plain_phrase, plain_link, chain}
+use Rattle.ft_query.specs.Visit.{linked, link_marks, marks_of, numbered, marks_from, plain_lists, plain_starts}
+use Rattle.ft_query.proofs.Marks.{chain_marks_count}
+use Rattle.ft_query.proofs.Passes.{numbered_marks, linked_length, starts_forward, starts_many, chain_marks}
+use Rattle.ft_query.proofs.walk.visit.visit_chain.Goals as goal
+
+pub mark_links-requires-clause-all : goal.mark_links-requires-clause-all
+mark_links-requires-clause-all c =
+    let links = c.as_slice-links.result.now in
+    let later = drop 1 (linked (plain_phrase c.args.near.now.first) (map plain_link links) (plain_lists c.args.lists.now)) in
+    ap length (c.deref.ensures.value ∙ c.reverse.ensures.items)
+    ∙ starts_many _ later (starts_forward c.in_ok-starts.all.items later c.in_ok-starts.ensures.rest)
+    ∙ linked_length (plain_phrase c.args.near.now.first) (map plain_link links) (plain_lists c.args.lists.now)
+    ∙ length-map links plain_link
+
+pub returns-clause-offsets : goal.returns-clause-offsets
+returns-clause-offsets c =
+    let first = c.args.near.now.first in
+    let links = c.as_slice-links.result.now in
+    let lists = c.args.lists.now in
+    let own = c.split_at.result.0.now in
+    let behind = c.split_at.result.1.now in
+    let later = drop 1 (linked (plain_phrase first) (map plain_link links) (plain_lists lists)) in
+    let size : c.len-size.result ≡ length first.terms.items = search rules in
+    let all = ap plain_starts (c.deref.ensures.value ∙ c.reverse.ensures.items) ∙ starts_forward c.in_ok-starts.all.items later c.in_ok-starts.ensures.rest in
+    let starts = c.in_ok-starts.starts.places.items in
+    let one = chain_marks first links lists own behind starts later c.len-size.result size c.split_at.ensures.front c.split_at.ensures.back c.in_ok-starts.ensures.first refl in
+    let old = c.args.found.now.offsets.items in
+    let n = c.args.found.now.next in
+    c.in_ok-mark_links.ensures.offsets
+    ∙ ap (λ os. os ++ numbered c.mark_phrase.new.found.next (link_marks c.len-size.result starts (map plain_link links) (plain_lists behind) (plain_starts c.deref.result.now))) c.in_ok-mark_phrase.ensures.offsets
+    ∙ ap (λ k. old ++ numbered n (marks_from 0 (plain_lists own) starts) ++ numbered k (link_marks c.len-size.result starts (map plain_link links) (plain_lists behind) (plain_starts c.deref.result.now))) c.in_ok-mark_phrase.ensures.next
+    ∙ ap (λ ss. old ++ numbered n (marks_from 0 (plain_lists own) starts) ++ numbered (n + length own) (link_marks c.len-size.result starts (map plain_link links) (plain_lists behind) ss)) all
+    ∙ numbered_marks old n own starts (link_marks c.len-size.result starts (map plain_link links) (plain_lists behind) later)
+    ∙ ap (λ ms. old ++ numbered n ms) one
+    ∙ ap (λ ls. old ++ numbered n (marks_of (chain (plain_phrase first) (map plain_link ls)) (plain_lists lists))) c.as_slice-links.ensures.value
+
+pub returns-clause-next : goal.returns-clause-next
+returns-clause-next c =
+    let count = chain_marks_count (plain_phrase c.args.near.now.first) (map plain_link c.args.near.now.links.items) c.args.lists.now c.requires.lists in
+    omega (arith, count, c.in_ok-mark_links.ensures.next, c.in_ok-mark_phrase.ensures.next, c.split_at.ensures.front_len, c.split_at.ensures.back_len)

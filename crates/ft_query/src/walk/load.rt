@@ -1,0 +1,96 @@
+// The lists of a query's terms.
+ghost use Rattle.std.specs.Prelude.{◌≡◌, ℕ, ◌+◌, ◌-◌, ◌^◌, ◌||◌, ◌++◌, map, min, length, flat_map, vec_len, IfOk, OnOk};
+ghost use Rattle.ft_query.specs.Documents.{place_count};
+ghost use Rattle.ft_query.specs.Trees.{plain_term, plain_link, tree_of};
+ghost use Rattle.ft_query.specs.Lists.{is_failed};
+ghost use Rattle.ft_query.specs.Work.{terms_in};
+ghost use Rattle.ft_query.specs.Cursors.{lists_kept, places_left, listed_for};
+
+use crate::lists::{ListFault, Lists};
+use crate::query::{Link, Query, QueryTerm};
+use crate::walk::cursor::Cursor;
+use std::alloc::Global;
+
+/// The list of one term.
+fn load_term<L: Lists>(
+    alloc: Global,
+    term: &QueryTerm,
+    lists: &mut L,
+) -> Result<Cursor, ListFault>
+    ensures list { IfOk result (λ c. L.is_clean lists.new → lists_kept c ≡ listed_for (L.documents lists.new) (plain_term term.now)) }
+    ensures clean { L.is_clean lists.new → L.is_clean lists.old × (L.documents lists.new ≡ L.documents lists.old) }
+    ensures failed { L.has_failed lists.new ≡ (L.has_failed lists.old || is_failed result) }
+    ensures given { IfOk result (λ c. L.given_so_far lists.new ≡ min (L.given_so_far lists.old + place_count (lists_kept c)) (2 ^ 64 - 1)) }
+{
+    let list = if term.prefix {
+        lists.prefix(alloc, term.text.as_str())?
+    } else {
+        lists.word(alloc, term.text.as_str())?
+    };
+    Ok(Cursor::new(list))
+}
+
+/// The lists of some terms, behind those that are there.
+fn load_terms<L: Lists>(
+    alloc: Global,
+    terms: &[QueryTerm],
+    lists: &mut L,
+    cursors: &mut Vec<Cursor>,
+) -> Result<(), ListFault>
+    ensures lists { OnOk result (L.is_clean lists.new → map lists_kept cursors.new.items ≡ map lists_kept cursors.old.items ++ map (listed_for (L.documents lists.new)) (map plain_term terms.now)) }
+    ensures number { OnOk result (vec_len cursors.new ≡ vec_len cursors.old + length terms.now) }
+    ensures clean { L.is_clean lists.new → L.is_clean lists.old × (L.documents lists.new ≡ L.documents lists.old) }
+    ensures failed { L.has_failed lists.new ≡ (L.has_failed lists.old || is_failed result) }
+    ensures given { OnOk result ((start : ℕ) → L.given_so_far lists.old ≡ min (start + places_left cursors.old.items) (2 ^ 64 - 1) → L.given_so_far lists.new ≡ min (start + places_left cursors.new.items) (2 ^ 64 - 1)) }
+{
+    for term in terms {
+        let cursor = load_term(alloc, term, lists)?;
+        cursors.push(cursor)?;
+    }
+    Ok(())
+}
+
+/// The lists of the terms of some links.
+fn load_links<L: Lists>(
+    alloc: Global,
+    links: &[Link],
+    lists: &mut L,
+    cursors: &mut Vec<Cursor>,
+) -> Result<(), ListFault>
+    ensures lists { OnOk result (L.is_clean lists.new → map lists_kept cursors.new.items ≡ map lists_kept cursors.old.items ++ map (listed_for (L.documents lists.new)) (flat_map (λ link. link.to.terms) (map plain_link links.now))) }
+    ensures number { OnOk result (vec_len cursors.new ≡ vec_len cursors.old + length (flat_map (λ link. link.to.terms) (map plain_link links.now))) }
+    ensures clean { L.is_clean lists.new → L.is_clean lists.old × (L.documents lists.new ≡ L.documents lists.old) }
+    ensures failed { L.has_failed lists.new ≡ (L.has_failed lists.old || is_failed result) }
+    ensures given { OnOk result ((start : ℕ) → L.given_so_far lists.old ≡ min (start + places_left cursors.old.items) (2 ^ 64 - 1) → L.given_so_far lists.new ≡ min (start + places_left cursors.new.items) (2 ^ 64 - 1)) }
+{
+    for link in links {
+        load_terms(alloc, link.to.terms.as_slice(), lists, cursors)?;
+    }
+    Ok(())
+}
+
+/// The lists of the terms of a query.
+pub(crate) fn load<L: Lists>(
+    alloc: Global,
+    query: &Query,
+    lists: &mut L,
+    cursors: &mut Vec<Cursor>,
+) -> Result<(), ListFault>
+    ensures lists { OnOk result (L.is_clean lists.new → map lists_kept cursors.new.items ≡ map lists_kept cursors.old.items ++ map (listed_for (L.documents lists.new)) (terms_in (tree_of query.now))) }
+    ensures number { OnOk result (vec_len cursors.new ≡ vec_len cursors.old + length (terms_in (tree_of query.now))) }
+    ensures clean { L.is_clean lists.new → L.is_clean lists.old × (L.documents lists.new ≡ L.documents lists.old) }
+    ensures failed { L.has_failed lists.new ≡ (L.has_failed lists.old || is_failed result) }
+    ensures given { OnOk result ((start : ℕ) → L.given_so_far lists.old ≡ min (start + places_left cursors.old.items) (2 ^ 64 - 1) → L.given_so_far lists.new ≡ min (start + places_left cursors.new.items) (2 ^ 64 - 1)) }
+{
+    match query {
+        Query::Phrase(phrase) => load_terms(alloc, phrase.terms.as_slice(), lists, cursors),
+        Query::Near(chain) => {
+            load_terms(alloc, chain.first.terms.as_slice(), lists, cursors)?;
+            load_links(alloc, chain.links.as_slice(), lists, cursors)
+        }
+        Query::And(left, right) | Query::Or(left, right) | Query::Not(left, right) => {
+            load(alloc, left, lists, cursors)?;
+            load(alloc, right, lists, cursors)
+        }
+    }
+}

@@ -1,0 +1,131 @@
+// The documents that a query accepts, one after the other.
+ghost use Rattle.std.specs.Prelude.{◌≡◌, ◌+◌, ◌-◌, ◌^◌, ◌<◌, ◌||◌, List, length, map, min, sum_by, IfOk, IfSome, OnOk, OnErr};
+ghost use Rattle.ft_query.specs.Documents.{Document};
+ghost use Rattle.ft_query.specs.Trees.{tree_of};
+ghost use Rattle.ft_query.specs.Lists.{is_failed};
+ghost use Rattle.ft_query.specs.Work.{terms_in, entry_count};
+ghost use Rattle.ft_query.specs.Cursors.{lists_left, lists_kept};
+ghost use Rattle.ft_query.specs.Walk.{lists_to_come, StandsBefore, Walked};
+ghost use Rattle.ft_query.specs.Search.{stands_at};
+
+use crate::lists::{ListFault, Lists};
+use crate::query::Query;
+use crate::walk::Hit;
+use crate::walk::cursor::Cursor;
+use crate::walk::load::load;
+use crate::walk::search::search;
+use crate::walk::steps::Steps;
+use std::alloc::{AllocError, Global};
+use std::marker::Model;
+
+/// Begins a search where the walk stands.
+fn begin(cursors: &mut [Cursor])
+    ensures left { map lists_left cursors.new ≡ map lists_kept cursors.old }
+    ensures kept { map lists_kept cursors.new ≡ map lists_kept cursors.old }
+{
+    for cursor in cursors.iter_mut() {
+        cursor.begin();
+    }
+}
+
+/// The walk now stands where the search is.
+fn keep(cursors: &mut [Cursor])
+    ensures { map lists_kept cursors.new ≡ map lists_left cursors.old }
+{
+    for cursor in cursors.iter_mut() {
+        cursor.keep();
+    }
+}
+
+/// The next hit. The walk then stands behind it, and after an error where it stood.
+fn advance(
+    alloc: Global,
+    query: &Query,
+    cursors: &mut [Cursor],
+    steps: &mut Steps,
+) -> Result<Option<Hit>, AllocError>
+    requires { length cursors.old ≡ length (terms_in (tree_of query.now)) }
+    ensures walked { IfOk result (λ hit. (documents : List Document) → StandsBefore (stands_at query.now cursors.old steps.old.taken) documents →
+        Walked (stands_at query.now cursors.old steps.old.taken) (stands_at query.now cursors.new steps.new.taken) hit documents) }
+    ensures passes { IfOk result (λ hit. IfSome hit (λ _. sum_by length (map lists_kept cursors.new) < sum_by length (map lists_kept cursors.old))) }
+    ensures err { OnErr result ((map lists_kept cursors.new ≡ map lists_kept cursors.old) × (steps.new ≡ steps.old)) }
+{
+    let mut taken = *steps;
+    begin(cursors);
+    let hit = search(alloc, query, cursors, &mut taken)?;
+    keep(cursors);
+    *steps = taken;
+    Ok(hit)
+}
+
+/// The walk over the documents that a query accepts, by rising docid. It goes over the lists of the query's terms once.
+#[derive(Drop)]
+pub struct Matches<'q> {
+    query: &'q Query,
+    cursors: Vec<Cursor>,
+    steps: Steps,
+    alloc: Global,
+}
+
+impl<'q> Model for Matches<'q> {
+    ghost use Rattle.std.specs.Prelude.{◌≡◌, map, length, vec_len};
+    ghost use Rattle.ft_query.specs.Trees.{tree_of};
+    ghost use Rattle.ft_query.specs.Work.{terms_in};
+    ghost use Rattle.ft_query.specs.Cursors.{lists_kept};
+    ghost use Rattle.ft_query.specs.Walk.{Walk};
+    ghost use Rattle.ft_query.specs.contracts.query.Query as q;
+    ghost use Rattle.std.specs.Coded.{codes};
+
+    ghost Value = { Walk };
+
+    ghost coded = { Prim.hlevel (codes, q.the_row.coded) };
+
+    ghost view = { λ m. record { query = m.query.now; lists = map lists_kept m.cursors.items; steps = m.steps.taken } };
+
+    ghost invariant = { λ m. vec_len m.cursors ≡ length (terms_in (tree_of m.query.now)) };
+}
+
+impl<'q> Matches<'q> {
+    /// Begins a walk: asks once for each term of the query. Where the lists are clean afterwards, the walk stands before the
+    /// documents that they mean.
+    pub fn open<L: Lists>(
+        alloc: Global,
+        query: &'q Query,
+        lists: &mut L,
+    ) -> Result<Matches<'q>, ListFault>
+        ensures stands { IfOk result (λ m. L.is_clean lists.new → StandsBefore m (L.documents lists.new)) }
+        ensures query { IfOk result (λ m. (m.query ≡ query.now) × (m.steps ≡ 0)) }
+        ensures given { OnOk result (L.is_clean lists.new → L.given_so_far lists.old < 2 ^ 64 → L.given_so_far lists.new
+            ≡ min (L.given_so_far lists.old + entry_count (tree_of query.now) (L.documents lists.new)) (2 ^ 64 - 1)) }
+        ensures clean { L.is_clean lists.new → L.is_clean lists.old × (L.documents lists.new ≡ L.documents lists.old) }
+        ensures failed { L.has_failed lists.new ≡ (L.has_failed lists.old || is_failed result) }
+    {
+        let mut cursors = Vec::new(alloc);
+        load(alloc, query, lists, &mut cursors)?;
+        Ok(Matches {
+            query,
+            cursors,
+            steps: Steps { taken: 0 },
+            alloc,
+        })
+    }
+
+    /// The next hit, or `None` where there is none left. After an error the walk stands where it stood.
+    pub fn next(&mut self) -> Result<Option<Hit>, AllocError>
+        ensures walked { IfOk result (λ hit. (documents : List Document) → StandsBefore self.old documents → Walked self.old self.new hit documents) }
+        ensures passes { IfOk result (λ hit. IfSome hit (λ _. lists_to_come self.new < lists_to_come self.old)) }
+        ensures query { self.new.query ≡ self.old.query }
+        ensures err { OnErr result (self.new ≡ self.old) }
+    {
+        let cursors = self.cursors.as_mut_slice();
+        advance(self.alloc, self.query, cursors, &mut self.steps)
+    }
+
+    /// The steps that the walk has taken: docids and positions that were looked at, and parts of the query that were visited for a
+    /// document.
+    pub fn steps(&self) -> u64
+        ensures { result ≡ self.now.steps }
+    {
+        self.steps.taken
+    }
+}

@@ -1,0 +1,367 @@
+// The evaluation of a query in one document.
+ghost use Rattle.std.specs.Prelude.{◌≡◌, ◌≤◌, ◌<◌, ◌+◌, ◌*◌, ◌-◌, ◌^◌, min, ◌++◌, [], if◌then◌else◌, length, drop, reverse, map, flat_map, vec_len, option_map, List, AllPairs, Some, None, IfOk, OnOk, OnErr};
+ghost use Rattle.std.specs.List.Sorted.{IsPermutation, IsSortedBy};
+ghost use Rattle.ft_query.specs.Cursors.{lists_left, places_at};
+ghost use Rattle.ft_query.specs.Documents.{Posting, IsBefore, is_filled};
+ghost use Rattle.ft_query.specs.Occurs.{accepts, offsets_of};
+ghost use Rattle.ft_query.specs.Trees.{plain_term, plain_phrase, plain_link, tree_of, chain};
+ghost use Rattle.ft_query.specs.Work.{terms_in, width};
+ghost use Rattle.ft_query.specs.Visit.{among, followed, starts_of, marks_from, head_of, linked, link_marks, is_accepted, marks_of, numbered, plain_starts, plain_lists, listed_places, precedes, places_in, total, linked_cost, link_cost};
+
+use crate::lists::Place;
+use crate::query::{Chain, Link, Phrase, Query, QueryTerm};
+use crate::walk::Offset;
+use crate::walk::cursor::Cursor;
+use crate::walk::starts::{Starts, take_step};
+use crate::walk::steps::Steps;
+use std::alloc::{AllocError, Global};
+
+// Of these occurrences the ones that this term follows after i positions, which has this list. A first term follows nothing.
+fn follow_one(
+    alloc: Global,
+    starts: &Starts,
+    i: usize,
+    term: &QueryTerm,
+    list: &[Place],
+    steps: &mut Steps,
+) -> Result<Starts, AllocError>
+    ensures starts { IfOk result (λ s. s.places.items
+        ≡ (if term.now.first then [] else among i 0 starts.now.places.items list.now)) }
+    ensures at_least { steps.old.taken ≤ steps.new.taken }
+    ensures at_most { steps.new.taken ≤ steps.old.taken + length starts.now.places.items + length list.now }
+{
+    if term.first {
+        Ok(Starts::none(alloc))
+    } else {
+        starts.followed(alloc, i, list, steps)
+    }
+}
+
+// Of these occurrences of a phrase's first term the ones that its other terms follow, which have these lists.
+fn follow(
+    alloc: Global,
+    first: Starts,
+    terms: &[QueryTerm],
+    lists: &[&[Place]],
+    steps: &mut Steps,
+) -> Result<Starts, AllocError>
+    requires { length lists.now ≡ length terms.now }
+    ensures starts { IfOk result (λ s. s.places.items
+        ≡ followed 1 (map plain_term terms.now) (plain_lists lists.now) first.places.items) }
+    ensures at_least { steps.old.taken ≤ steps.new.taken }
+    ensures at_most { steps.new.taken ≤ steps.old.taken + length first.places.items + 2 * total (plain_lists lists.now) }
+{
+    let mut starts = first;
+    for (i, term) in terms.iter().enumerate() {
+        starts = follow_one(alloc, &starts, i + 1, term, lists[i], steps)?;
+    }
+    Ok(starts)
+}
+
+#[tactic(auto, using(crate::proofs::Passes::filter_short))]
+// The occurrences of a phrase.
+fn starts_of(
+    alloc: Global,
+    phrase: &Phrase,
+    lists: &[&[Place]],
+    steps: &mut Steps,
+) -> Result<Starts, AllocError>
+    requires { length lists.now ≡ vec_len phrase.now.terms }
+    ensures starts { IfOk result (λ s. s.places.items ≡ starts_of (plain_phrase phrase.now) (plain_lists lists.now)) }
+    ensures at_least { steps.old.taken ≤ steps.new.taken }
+    ensures at_most { steps.new.taken ≤ steps.old.taken + 2 * total (plain_lists lists.now) }
+{
+    let Some((term, terms)) = phrase.terms.split_first() else {
+        return Ok(Starts::none(alloc));
+    };
+    let Some((list, lists)) = lists.split_first() else {
+        return Ok(Starts::none(alloc));
+    };
+    let first = Starts::begin(alloc, list, phrase.filter, term.first, steps)?;
+    follow(alloc, first, terms, lists, steps)
+}
+
+// The offsets so far, and the number of the next term.
+#[derive(Drop)]
+struct Found {
+    offsets: Vec<Offset>,
+    next: usize,
+}
+
+// Adds the offsets of a phrase's terms, which have these lists, in its occurrences.
+fn mark_phrase(
+    found: &mut Found,
+    starts: &Starts,
+    lists: &[&[Place]],
+    steps: &mut Steps,
+) -> Result<(), AllocError>
+    requires { found.old.next + length lists.now < 2 ^ 64 }
+    ensures offsets { OnOk result (found.new.offsets.items ≡ found.old.offsets.items
+        ++ numbered found.old.next (marks_from 0 (plain_lists lists.now) starts.now.places.items)) }
+    ensures next { OnOk result (found.new.next ≡ found.old.next + length lists.now) }
+    ensures at_least { steps.old.taken ≤ steps.new.taken }
+    ensures at_most { steps.new.taken
+        ≤ steps.old.taken + total (plain_lists lists.now) + length lists.now * length starts.now.places.items }
+{
+    for (i, list) in lists.iter().enumerate() {
+        starts.mark(&mut found.offsets, found.next, i, list, steps)?;
+        found.next += 1;
+    }
+    Ok(())
+}
+
+// For each phrase of a chain its occurrences that are near one of the next phrase's here: those of the first phrase, and from the
+// last one back those of the others.
+fn linked(
+    alloc: Global,
+    first: &Phrase,
+    links: &[Link],
+    lists: &[&[Place]],
+    steps: &mut Steps,
+) -> Result<(Starts, Vec<Starts>), AllocError>
+    requires { length lists.now ≡ length (terms_in (chain (plain_phrase first.now) (map plain_link links.now))) }
+    ensures first { IfOk result (λ r. r.0.places.items
+        ≡ head_of (linked (plain_phrase first.now) (map plain_link links.now) (plain_lists lists.now))) }
+    ensures rest { IfOk result (λ r. plain_starts r.1.items
+        ≡ reverse (drop 1 (linked (plain_phrase first.now) (map plain_link links.now) (plain_lists lists.now)))) }
+    ensures at_least { steps.old.taken ≤ steps.new.taken }
+    ensures at_most { steps.new.taken
+        ≤ steps.old.taken + linked_cost (plain_phrase first.now) (map plain_link links.now) (plain_lists lists.now) }
+{
+    let Some((link, links)) = links.split_first() else {
+        let starts = starts_of(alloc, first, lists, steps)?;
+        return Ok((starts, Vec::new(alloc)));
+    };
+    let size = first.terms.len();
+    let (own, lists) = lists.split_at(size);
+    let starts = starts_of(alloc, first, own, steps)?;
+    let (next, mut rest) = linked(alloc, &link.to, links, lists, steps)?;
+    let kept = next.near(alloc, link.to.terms.len(), &starts, size, link.most, steps)?;
+    rest.push(next)?;
+    Ok((kept, rest))
+}
+
+// Adds the offsets of these links' phrases, whose occurrences also have to be near one of the k terms before them: for each phrase
+// those that are near one of the next phrase's.
+fn mark_links(
+    alloc: Global,
+    found: &mut Found,
+    k: usize,
+    starts: &Starts,
+    links: &[Link],
+    lists: &[&[Place]],
+    all: &[Starts],
+    steps: &mut Steps,
+) -> Result<(), AllocError>
+    requires lists { length lists.now ≡ length (flat_map (λ l. l.to.terms) (map plain_link links.now)) }
+    requires all { length all.now ≡ length links.now }
+    requires fits { found.old.next + length lists.now < 2 ^ 64 }
+    ensures offsets { OnOk result (found.new.offsets.items ≡ found.old.offsets.items
+        ++ numbered found.old.next (link_marks k starts.now.places.items (map plain_link links.now) (plain_lists lists.now) (plain_starts all.now))) }
+    ensures next { OnOk result (found.new.next ≡ found.old.next + length lists.now) }
+    ensures at_least { steps.old.taken ≤ steps.new.taken }
+    ensures at_most { steps.new.taken
+        ≤ steps.old.taken + link_cost k starts.now.places.items (map plain_link links.now) (plain_lists lists.now) (plain_starts all.now) }
+{
+    let Some((link, links)) = links.split_first() else {
+        return Ok(());
+    };
+    let Some((others, all)) = all.split_first() else {
+        return Ok(());
+    };
+    let size = link.to.terms.len();
+    let (own, lists) = lists.split_at(size);
+    let next = starts.near(alloc, k, others, size, link.most, steps)?;
+    mark_phrase(found, &next, own, steps)?;
+    mark_links(alloc, found, size, &next, links, lists, all, steps)
+}
+
+#[tactic(auto, using(crate::proofs::Marks::phrase_marks_count))]
+// Adds the offsets of a phrase, and says whether it occurs.
+fn visit_phrase(
+    alloc: Global,
+    phrase: &Phrase,
+    lists: &[&[Place]],
+    found: &mut Found,
+    steps: &mut Steps,
+) -> Result<bool, AllocError>
+    requires lists { length lists.now ≡ vec_len phrase.now.terms }
+    requires fits { found.old.next + length lists.now < 2 ^ 64 }
+    ensures accepted { IfOk result (λ b. b ≡ is_filled (starts_of (plain_phrase phrase.now) (plain_lists lists.now))) }
+    ensures offsets { OnOk result (found.new.offsets.items ≡ found.old.offsets.items
+        ++ numbered found.old.next (marks_from 0 (plain_lists lists.now) (starts_of (plain_phrase phrase.now) (plain_lists lists.now)))) }
+    ensures next { OnOk result (found.new.next ≡ found.old.next
+        + length (marks_from 0 (plain_lists lists.now) (starts_of (plain_phrase phrase.now) (plain_lists lists.now)))) }
+    ensures room { OnOk result (found.new.next ≤ found.old.next + length lists.now) }
+    ensures at_least { steps.old.taken ≤ steps.new.taken }
+{
+    let starts = starts_of(alloc, phrase, lists, steps)?;
+    mark_phrase(found, &starts, lists, steps)?;
+    Ok(starts.are_filled())
+}
+
+#[tactic(auto, using(crate::proofs::Marks::chain_marks_count))]
+// Adds the offsets of a chain, and says whether its phrases occur near one another.
+fn visit_chain(
+    alloc: Global,
+    near: &Chain,
+    lists: &[&[Place]],
+    found: &mut Found,
+    steps: &mut Steps,
+) -> Result<bool, AllocError>
+    requires lists { length lists.now ≡ length (terms_in (chain (plain_phrase near.now.first) (map plain_link near.now.links.items))) }
+    requires fits { found.old.next + length lists.now < 2 ^ 64 }
+    ensures accepted { IfOk result (λ b. b ≡ is_accepted (chain (plain_phrase near.now.first) (map plain_link near.now.links.items)) (plain_lists lists.now)) }
+    ensures offsets { OnOk result (found.new.offsets.items ≡ found.old.offsets.items
+        ++ numbered found.old.next (marks_of (chain (plain_phrase near.now.first) (map plain_link near.now.links.items)) (plain_lists lists.now))) }
+    ensures next { OnOk result (found.new.next ≡ found.old.next
+        + length (marks_of (chain (plain_phrase near.now.first) (map plain_link near.now.links.items)) (plain_lists lists.now))) }
+    ensures room { OnOk result (found.new.next ≤ found.old.next + length lists.now) }
+    ensures at_least { steps.old.taken ≤ steps.new.taken }
+{
+    let links = near.links.as_slice();
+    let (starts, mut all) = linked(alloc, &near.first, links, lists, steps)?;
+    all.reverse();
+    let size = near.first.terms.len();
+    let (own, lists) = lists.split_at(size);
+    mark_phrase(found, &starts, own, steps)?;
+    mark_links(alloc, found, size, &starts, links, lists, &all, steps)?;
+    Ok(starts.are_filled())
+}
+
+#[tactic(auto, using(crate::proofs::Marks::count_more))]
+// How many terms a chain has.
+fn chain_count(near: &Chain) -> usize
+    requires { length (terms_in (chain (plain_phrase near.now.first) (map plain_link near.now.links.items))) < 2 ^ 64 }
+    ensures { result ≡ length (terms_in (chain (plain_phrase near.now.first) (map plain_link near.now.links.items))) }
+{
+    let mut count = near.first.terms.len();
+    for link in &near.links {
+        count += link.to.terms.len();
+    }
+    count
+}
+
+// How many terms a query has.
+fn term_count(query: &Query) -> usize
+    requires { length (terms_in (tree_of query.now)) < 2 ^ 64 }
+    ensures { result ≡ length (terms_in (tree_of query.now)) }
+{
+    match query {
+        Query::Phrase(phrase) => phrase.terms.len(),
+        Query::Near(near) => chain_count(near),
+        Query::And(left, right) => term_count(left) + term_count(right),
+        Query::Or(left, right) => term_count(left) + term_count(right),
+        Query::Not(left, right) => term_count(left) + term_count(right),
+    }
+}
+
+// Adds the offsets of a query or of a part of one, and says whether it accepts the document.
+fn visit_part(
+    alloc: Global,
+    query: &Query,
+    lists: &[&[Place]],
+    found: &mut Found,
+    steps: &mut Steps,
+) -> Result<bool, AllocError>
+    requires lists { length lists.now ≡ length (terms_in (tree_of query.now)) }
+    requires fits { found.old.next + length lists.now < 2 ^ 64 }
+    ensures accepted { IfOk result (λ b. b ≡ is_accepted (tree_of query.now) (plain_lists lists.now)) }
+    ensures offsets { OnOk result (found.new.offsets.items ≡ found.old.offsets.items
+        ++ numbered found.old.next (marks_of (tree_of query.now) (plain_lists lists.now))) }
+    ensures next { OnOk result (found.new.next ≡ found.old.next + length (marks_of (tree_of query.now) (plain_lists lists.now))) }
+    ensures room { OnOk result (found.new.next ≤ found.old.next + length lists.now) }
+    ensures at_least { min (steps.old.taken + 1) (2 ^ 64 - 1) ≤ steps.new.taken }
+{
+    take_step(steps);
+    match query {
+        Query::Phrase(phrase) => visit_phrase(alloc, phrase, lists, found, steps),
+        Query::Near(near) => visit_chain(alloc, near, lists, found, steps),
+        Query::And(left, right) => {
+            let (own, rest) = lists.split_at(term_count(left));
+            let is_left = visit_part(alloc, left, own, found, steps)?;
+            let is_right = visit_part(alloc, right, rest, found, steps)?;
+            Ok(is_left && is_right)
+        }
+        Query::Or(left, right) => {
+            let (own, rest) = lists.split_at(term_count(left));
+            let is_left = visit_part(alloc, left, own, found, steps)?;
+            let is_right = visit_part(alloc, right, rest, found, steps)?;
+            Ok(is_left || is_right)
+        }
+        Query::Not(left, right) => {
+            let (own, rest) = lists.split_at(term_count(left));
+            let is_left = visit_part(alloc, left, own, found, steps)?;
+            let mut unmarked = Found {
+                offsets: Vec::new(alloc),
+                next: 0,
+            };
+            let is_right = visit_part(alloc, right, rest, &mut unmarked, steps)?;
+            Ok(is_left && !is_right)
+        }
+    }
+}
+
+fn sort_offsets(offsets: &mut Vec<Offset>)
+    ensures permutation { IsPermutation offsets.old.items offsets.new.items }
+    ensures sorted { IsSortedBy precedes offsets.new.items }
+{
+    offsets.sort_unstable_by_key(|offset| (offset.column, offset.place, offset.term));
+}
+
+fn places_of<'a>(cursor: &'a Cursor, docid: i64, steps: &mut Steps) -> &'a [Place]
+    ensures places { result.now ≡ places_at docid (lists_left cursor.now) }
+    ensures step { steps.new.taken ≡ min (steps.old.taken + 1) (2 ^ 64 - 1) }
+    ensures at_least { steps.old.taken ≤ steps.new.taken }
+    ensures at_most { steps.new.taken ≤ steps.old.taken + 1 }
+{
+    let _before = steps.taken;
+    cursor.places(docid, steps)
+}
+
+// The places of each term in this document.
+fn lists_of<'a>(
+    alloc: Global,
+    cursors: &'a [Cursor],
+    docid: i64,
+    steps: &mut Steps,
+) -> Result<Vec<&'a [Place]>, AllocError>
+    ensures lists { IfOk result (λ v. plain_lists v.items ≡ places_in docid cursors.now) }
+    ensures looked { OnErr result (min (steps.old.taken + 1) (2 ^ 64 - 1) ≤ steps.new.taken) }
+    ensures at_least { steps.old.taken ≤ steps.new.taken }
+    ensures at_most { steps.new.taken ≤ steps.old.taken + length cursors.now }
+{
+    let mut lists = Vec::new(alloc);
+    for cursor in cursors {
+        lists.push(places_of(cursor, docid, steps))?;
+    }
+    Ok(lists)
+}
+
+/// The offsets of a document, if the query accepts it. The cursors are those of the query's terms, in the text's order.
+pub(crate) fn visit(
+    alloc: Global,
+    query: &Query,
+    cursors: &[Cursor],
+    docid: i64,
+    steps: &mut Steps,
+) -> Result<Option<Vec<Offset>>, AllocError>
+    requires { length cursors.now ≡ length (terms_in (tree_of query.now)) }
+    ensures offsets { IfOk result (λ offsets. (postings : List Posting) → AllPairs IsBefore postings →
+        map (λ c. places_at docid (lists_left c)) cursors.now ≡ map (listed_places postings) (terms_in (tree_of query.now)) →
+        option_map (λ o. o.items) offsets
+        ≡ (if accepts postings (tree_of query.now) then Some (offsets_of postings (tree_of query.now)) else None)) }
+    ensures at_least { min (steps.old.taken + 1) (2 ^ 64 - 1) ≤ steps.new.taken }
+{
+    let lists = lists_of(alloc, cursors, docid, steps)?;
+    let mut found = Found {
+        offsets: Vec::new(alloc),
+        next: 0,
+    };
+    if !visit_part(alloc, query, &lists, &mut found, steps)? {
+        return Ok(None);
+    }
+    let mut offsets = found.offsets;
+    sort_offsets(&mut offsets);
+    Ok(Some(offsets))
+}
