@@ -2,4 +2,6 @@
 #![tactic(auto)]
 
 #[cfg(test)]
+mod ram;
+#[cfg(test)]
 mod shell;
