@@ -11,9 +11,8 @@ mod starts;
 mod steps;
 mod visit;
 
-pub use matches::Matches;
-
 use itoa::Buffer;
+pub use matches::Matches;
 use std::alloc::{AllocError, Global};
 
 /// One term of a phrase's occurrence: its column, the term's number in the query, and its place and size in bytes.
@@ -73,6 +72,3 @@ pub fn offsets_text(alloc: Global, offsets: &[Offset]) -> Result<String, AllocEr
     }
     Ok(text)
 }
-
-#[cfg(test)]
-mod tests;

@@ -2,6 +2,8 @@
 #![tactic(auto)]
 
 #[cfg(test)]
+mod query;
+#[cfg(test)]
 mod ram;
 #[cfg(test)]
 mod shell;
