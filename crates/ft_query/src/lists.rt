@@ -99,6 +99,3 @@ pub trait Lists {
     /// What clean lists mean is in order.
     ghost in_order: { (lists : Self) → is_clean lists → AreDocuments (documents lists) };
 }
-
-#[cfg(test)]
-mod tests;

@@ -74,6 +74,3 @@ pub fn parse(
         Some(lexemes) => read(alloc, default, lexemes),
     }
 }
-
-#[cfg(test)]
-mod tests;

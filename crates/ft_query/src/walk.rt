@@ -72,6 +72,3 @@ pub fn offsets_text(alloc: Global, offsets: &[Offset]) -> Result<String, AllocEr
     }
     Ok(text)
 }
-
-#[cfg(test)]
-mod tests;

@@ -17,8 +17,6 @@ use std::alloc::Global;
 
 mod disk;
 mod honest;
-#[cfg(test)]
-mod tests;
 
 pub use disk::Ram;
 pub use honest::{Honest, execute_honest};

@@ -9,9 +9,6 @@ use std::alloc::{AllocError, Global};
 use std::io::Write;
 use unicode_width::UnicodeWidthStr;
 
-#[cfg(test)]
-mod tests;
-
 // The columns of a terminal.
 const LINE_WIDTH: usize = 80;
 

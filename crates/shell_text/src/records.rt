@@ -14,9 +14,6 @@ use csv::{ByteRecord, ReaderBuilder};
 use std::alloc::{AllocError, AllocFailed, Global};
 use thiserror::Error;
 
-#[cfg(test)]
-mod tests;
-
 /// Why bytes have no records of texts, in the order of the tests.
 #[derive(Debug, Drop, Error)]
 pub enum RecordFault {

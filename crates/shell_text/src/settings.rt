@@ -8,9 +8,6 @@ use std::alloc::{AllocError, Global};
 use std::marker::Model;
 use thiserror::Error;
 
-#[cfg(test)]
-mod tests;
-
 /// How a grid is printed.
 #[derive(Clone, Copy, Debug, PartialEq, Eq)]
 pub enum Mode {

@@ -8,9 +8,6 @@ ghost use Rattle.shell_text.specs.Words.{IsRising, begins_word, begun, ends_line
 use std::alloc::{AllocFailed, Global};
 use thiserror::Error;
 
-#[cfg(test)]
-mod tests;
-
 /// What kind of word stands in a text.
 #[derive(Clone, Copy, Debug, PartialEq, Eq)]
 pub enum SqlKind {

@@ -1,6 +1,6 @@
 //! Records of CSV.
 
-use crate::records::read_records;
+use shell_text::read_records;
 use std::alloc::Global;
 use std::test::Fail;
 

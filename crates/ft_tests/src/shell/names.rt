@@ -1,7 +1,7 @@
 //! Names in columns.
 
-use crate::names::write_names;
-use crate::print::tests::{Failing, is_front};
+use super::print::{Failing, is_front};
+use shell_text::write_names;
 use std::alloc::Global;
 use std::test::Fail;
 

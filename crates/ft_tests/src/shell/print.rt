@@ -1,7 +1,6 @@
 //! Grids in each mode, and writers that fail.
 
-use crate::print::{Cell, Grid, PrintFault, write_grid};
-use crate::settings::{Mode, Settings};
+use shell_text::{Cell, Grid, Mode, PrintFault, Settings, write_grid};
 use std::alloc::Global;
 use std::io;
 use std::io::{ErrorKind, Write};

@@ -1,4 +1,6 @@
-use crate::{
+//! A database in memory, and the file that it stands on.
+
+use ram_disk::{
     Ram, execute_honest, execute_in_ram, is_always_clean, open_ram, open_ram_with, ram_options,
 };
 use sqlite::{Error, params};

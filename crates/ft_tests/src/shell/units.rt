@@ -1,6 +1,6 @@
 //! Inputs with the units and faults that they give.
 
-use crate::units::{SplitFault, Splitter, Unit};
+use shell_text::{SplitFault, Splitter, Unit};
 use std::alloc::Global;
 use std::test::Fail;
 

@@ -1,6 +1,6 @@
 //! Which separators csv mode takes.
 
-use crate::settings::{Mode, Settings};
+use shell_text::{Mode, Settings};
 
 #[test]
 fn separators_of_csv(rt: HostRuntime) {

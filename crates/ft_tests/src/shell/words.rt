@@ -1,6 +1,6 @@
 //! Words of SQL.
 
-use crate::words::{LexFault, sql_words};
+use shell_text::{LexFault, sql_words};
 use std::alloc::Global;
 use std::test::Fail;
 

@@ -1,6 +1,6 @@
 //! Words of dot-commands.
 
-use crate::dot::dot_words;
+use shell_text::dot_words;
 use std::test::Fail;
 
 #[test]

@@ -1,0 +1,9 @@
+//! The tests of the crates by the names that they offer. Tests of what a crate keeps to itself stand in that crate.
+#![tactic(auto)]
+
+#[cfg(test)]
+mod query;
+#[cfg(test)]
+mod ram;
+#[cfg(test)]
+mod shell;

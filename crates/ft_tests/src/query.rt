@@ -1,0 +1,18 @@
+//! Tests of tokens, MATCH queries and walks.
+mod lists;
+mod parser;
+mod text;
+mod tree;
+mod walk;
+mod words;
+
+use std::alloc::Global;
+use std::test::Fail;
+
+// Refuses an answer that isn't the wanted one, and says at what.
+fn expect(alloc: Global, told: &str, want: &str, at: &str) -> Result<(), Fail> {
+    if told == want {
+        return Ok(());
+    }
+    Err(format!(in alloc; "{told} in place of {want}, at {at}")?)?
+}

@@ -1,0 +1,364 @@
+//! Walks over the words of some documents: what they find, in how many steps, and that a call without memory may be made again.
+use super::expect;
+use super::words::{Texts, words_of};
+use ft_query::walk::Matches;
+use ft_query::{Hit, ListFault, Lists, Offset, Query, offsets_text, parse};
+use std::alloc::{AllocError, Global};
+use std::test::Fail;
+
+// The next hit, also where the first call lacks memory: that changes neither the hit nor the steps.
+fn next(matches: &mut Matches<'_>) -> Result<Option<Hit>, Fail> {
+    let steps = matches.steps();
+    if let Ok(hit) = matches.next() {
+        return Ok(hit);
+    }
+    if matches.steps() != steps {
+        return Err("a refused call took steps")?;
+    }
+    Ok(matches.next()?)
+}
+
+// A walk, also where the first call lacks memory.
+fn open<'q>(alloc: Global, query: &'q Query, documents: &[Texts<'_>]) -> Result<Matches<'q>, Fail> {
+    if let Ok(matches) = Matches::open(alloc, query, &mut words_of(documents)) {
+        return Ok(matches);
+    }
+    match Matches::open(alloc, query, &mut words_of(documents)) {
+        Ok(matches) => Ok(matches),
+        Err(_) => Err("no walk")?,
+    }
+}
+
+fn names_of(alloc: Global, columns: &[&str]) -> Result<Vec<String>, AllocError> {
+    let mut names: Vec<String> = Vec::new(alloc);
+    for column in columns {
+        names.push(column.to_string(alloc)?)?;
+    }
+    Ok(names)
+}
+
+// The query of a text that is one, or is none.
+fn query_of(alloc: Global, columns: &[&str], text: &str) -> Result<Option<Query>, Fail> {
+    match parse(alloc, text, &names_of(alloc, columns)?, None) {
+        Ok(query) => Ok(query),
+        Err(fault) => Err(fault)?,
+    }
+}
+
+// `docid: offsets;`
+fn tell(alloc: Global, hit: &Hit, out: &mut String) -> Result<(), AllocError> {
+    let offsets = offsets_text(alloc, &hit.offsets)?;
+    write!(out, "{}: {offsets};", hit.docid)
+}
+
+// The end of a walk stays its end.
+fn ends(matches: &mut Matches<'_>) -> Result<(), Fail> {
+    match next(matches)? {
+        Some(_) => Err("a hit behind the end")?,
+        None => Ok(()),
+    }
+}
+
+// Each hit of a walk.
+fn walked(alloc: Global, matches: &mut Matches<'_>) -> Result<String, Fail> {
+    let mut out = String::new(alloc);
+    for _ in 0..u64::MAX {
+        let Some(hit) = next(matches)? else {
+            break;
+        };
+        tell(alloc, &hit, &mut out)?;
+    }
+    ends(matches)?;
+    Ok(out)
+}
+
+// Each hit of a text among documents.
+fn found(
+    alloc: Global,
+    columns: &[&str],
+    documents: &[Texts<'_>],
+    text: &str,
+) -> Result<String, Fail> {
+    match query_of(alloc, columns, text)? {
+        Some(query) => walked(alloc, &mut open(alloc, &query, documents)?),
+        None => Ok(String::new(alloc)),
+    }
+}
+
+// Rows of a text and its hits, among documents with these columns.
+fn finds(
+    alloc: Global,
+    columns: &[&str],
+    documents: &[Texts<'_>],
+    rows: &[(&str, &str)],
+) -> Result<(), Fail> {
+    for (text, want) in rows {
+        expect(
+            alloc,
+            found(alloc, columns, documents, text)?.as_str(),
+            want,
+            text,
+        )?;
+    }
+    Ok(())
+}
+
+const MAILS: [Texts<'static>; 2] = [
+    (
+        1,
+        &["hello world", "This message is a hello world message."],
+    ),
+    (
+        2,
+        &[
+            "urgent: serious",
+            "This mail is seen as a more serious mail",
+        ],
+    ),
+];
+
+const MAIL_ROWS: [(&str, &str); 8] = [
+    ("world", "1: 0 0 6 5 1 0 24 5;"),
+    ("message", "1: 1 0 5 7 1 0 30 7;"),
+    ("\"serious mail\"", "2: 1 0 28 7 1 1 36 4;"),
+    ("subject:world", "1: 0 0 6 5;"),
+    ("subject:mail", ""),
+    ("body:mail", "2: 1 0 5 4 1 0 36 4;"),
+    ("nosuch:world", ""),
+    ("\"world this\"", ""),
+];
+
+#[test]
+fn two_columns(rt: HostRuntime) -> Result<(), Fail> {
+    finds(rt.alloc(), &["subject", "body"], &MAILS, &MAIL_ROWS)
+}
+
+const SQLITE: [Texts<'static>; 1] = [(
+    1,
+    &["SQLite is an ACID compliant embedded relational database management system"],
+)];
+
+const SQLITE_ROWS: [(&str, &str); 5] = [
+    ("database NEAR/6 sqlite", "1: 0 1 0 6 0 0 48 8;"),
+    ("database NEAR/5 sqlite", ""),
+    (
+        "database NEAR/2 \"ACID compliant\"",
+        "1: 0 1 13 4 0 2 18 9 0 0 48 8;",
+    ),
+    (
+        "sqlite NEAR/2 acid NEAR/2 relational",
+        "1: 0 0 0 6 0 1 13 4 0 2 37 10;",
+    ),
+    ("acid NEAR/2 sqlite NEAR/2 relational", ""),
+];
+
+#[test]
+fn near_and_chains(rt: HostRuntime) -> Result<(), Fail> {
+    finds(rt.alloc(), &["x"], &SQLITE, &SQLITE_ROWS)
+}
+
+// Documents in a column `x`, each list of them with one text and its hits.
+const REPEATED: [(&[Texts<'static>], &str, &str); 5] = [
+    (
+        &[(1, &["b"]), (2, &["b a b"])],
+        "b NEAR b",
+        "2: 0 0 0 1 0 1 0 1 0 0 4 1 0 1 4 1;",
+    ),
+    (
+        &[(1, &["a a a"])],
+        "\"a a\"",
+        "1: 0 0 0 1 0 0 2 1 0 1 2 1 0 1 4 1;",
+    ),
+    (
+        &[(1, &["a b x a b c"])],
+        "a NEAR/0 b NEAR/0 c",
+        "1: 0 0 6 1 0 1 8 1 0 2 10 1;",
+    ),
+    (
+        &[(1, &["a b"])],
+        "a NEAR b NEAR a",
+        "1: 0 0 0 1 0 2 0 1 0 1 2 1;",
+    ),
+    (
+        &[(3, &["wb q"]), (i64::MAX, &["wa p"])],
+        "w*",
+        "3: 0 0 0 2;9223372036854775807: 0 0 0 2;",
+    ),
+];
+
+#[test]
+fn occurrences_of_one_word_and_documents_by_docid(rt: HostRuntime) -> Result<(), Fail> {
+    let alloc = rt.alloc();
+    for (documents, text, want) in REPEATED {
+        finds(alloc, &["x"], documents, &[(text, want)])?;
+    }
+    Ok(())
+}
+
+const SETS: [Texts<'static>; 4] = [(1, &["a c"]), (2, &["b c"]), (3, &["b"]), (4, &["a"])];
+
+const SET_ROWS: [(&str, &str); 8] = [
+    (
+        "(a NOT b) OR c",
+        "1: 0 0 0 1 0 1 2 1;2: 0 1 2 1;4: 0 0 0 1;",
+    ),
+    ("a OR b NOT c", "1: 0 0 0 1;3: 0 1 0 1;4: 0 0 0 1;"),
+    (
+        "a OR b AND c",
+        "1: 0 0 0 1 0 2 2 1;2: 0 1 0 1 0 2 2 1;4: 0 0 0 1;",
+    ),
+    (
+        "a OR b c",
+        "1: 0 0 0 1 0 2 2 1;2: 0 1 0 1 0 2 2 1;4: 0 0 0 1;",
+    ),
+    ("(a OR b) NOT c", "3: 0 1 0 1;4: 0 0 0 1;"),
+    ("a and c", ""),
+    ("\"!!\"", ""),
+    ("!!", ""),
+];
+
+#[test]
+fn sets_of_documents(rt: HostRuntime) -> Result<(), Fail> {
+    finds(rt.alloc(), &["x"], &SETS, &SET_ROWS)
+}
+
+const LETTERS: [Texts<'static>; 2] = [(1, &["Ærø café"]), (2, &["-15"])];
+
+const LETTER_ROWS: [(&str, &str); 3] = [
+    ("ærø", ""),
+    ("CAFé", "1: 0 0 6 5;"),
+    ("15", "2: 0 0 1 2;"),
+];
+
+#[test]
+fn letters_past_ascii(rt: HostRuntime) -> Result<(), Fail> {
+    finds(rt.alloc(), &["x"], &LETTERS, &LETTER_ROWS)
+}
+
+const LINES: [Texts<'static>; 3] = [(1, &["linux driver"]), (2, &["line"]), (3, &["lion"])];
+
+const LINE_ROWS: [(&str, &str); 3] = [
+    ("lin*", "1: 0 0 0 5;2: 0 0 0 4;"),
+    ("\"lin* dri*\"", "1: 0 0 0 5 0 1 6 6;"),
+    ("lin", ""),
+];
+
+#[test]
+fn prefixes(rt: HostRuntime) -> Result<(), Fail> {
+    finds(rt.alloc(), &["x"], &LINES, &LINE_ROWS)
+}
+
+const FIRSTS: [Texts<'static>; 2] = [(1, &["linux driver"]), (2, &["the linux"])];
+
+const FIRST_ROWS: [(&str, &str); 7] = [
+    ("^linux", "1: 0 0 0 5;"),
+    ("^lin*", "1: 0 0 0 5;"),
+    ("x: ^lin*", "1: 0 0 0 5;"),
+    ("\"^the linux\"", "2: 0 0 0 3 0 1 4 5;"),
+    ("\"the ^linux\"", ""),
+    ("the ^linux", ""),
+    ("^", ""),
+];
+
+#[test]
+fn first_terms(rt: HostRuntime) -> Result<(), Fail> {
+    finds(rt.alloc(), &["x"], &FIRSTS, &FIRST_ROWS)
+}
+
+// Whether the second word of a query is asked for in vain, and the fault then stands.
+fn fails(alloc: Global, query: &Query) -> bool {
+    let mut lists = words_of(&[(1, &["a b"])]);
+    lists.calls_left = 1;
+    let fault = Matches::open(alloc, query, &mut lists).err();
+    fault == Some(ListFault::Failed) && lists.failed() && lists.given() == 1
+}
+
+#[test]
+fn a_list_that_fails_fails_the_walk(rt: HostRuntime) -> Result<(), Fail> {
+    let Some(query) = query_of(rt.alloc(), &[], "a b")? else {
+        return Err("no query")?;
+    };
+    assert!(rt; fails(rt.alloc(), &query));
+    Ok(())
+}
+
+// The hits are this many. After each the steps are no more than `most`, and at the end no fewer than the hits.
+fn counted(matches: &mut Matches<'_>, most: u64) -> Result<u64, Fail> {
+    let mut hits: u64 = 0;
+    for _ in 0..u64::MAX {
+        if next(matches)?.is_none() {
+            break;
+        }
+        hits = hits.saturating_add(1);
+        if matches.steps() > most {
+            return Err("too many steps")?;
+        }
+    }
+    if matches.steps() > most || matches.steps() < hits {
+        return Err("too many steps or too few")?;
+    }
+    Ok(hits)
+}
+
+// Refuses another number of hits than the wanted one.
+fn counts(
+    alloc: Global,
+    documents: &[Texts<'_>],
+    text: &str,
+    most: u64,
+    want: u64,
+) -> Result<(), Fail> {
+    let Some(query) = query_of(alloc, &[], text)? else {
+        return Err("no query")?;
+    };
+    if counted(&mut open(alloc, &query, documents)?, most)? != want {
+        return Err("another number of hits")?;
+    }
+    Ok(())
+}
+
+const THREE: [Texts<'static>; 3] = [(1, &["a"]), (2, &["a"]), (3, &["a"])];
+
+// A text, the most steps that it may take, and how many hits it has.
+const STEPS: [(&str, u64, u64); 4] = [
+    ("a", 121, 3),
+    ("a a", 241, 3),
+    ("b", 1, 0),
+    ("\"!!\"", 1, 0),
+];
+
+#[test]
+fn steps_are_bounded(rt: HostRuntime) -> Result<(), Fail> {
+    let alloc = rt.alloc();
+    for (text, most, want) in STEPS {
+        counts(alloc, &THREE, text, most, want)?;
+    }
+    Ok(())
+}
+
+#[test]
+fn steps_of_many_documents_are_bounded(rt: HostRuntime) -> Result<(), Fail> {
+    let mut many: Vec<Texts<'_>> = Vec::new(rt.alloc());
+    for docid in 1..1_001 {
+        many.push((docid, &["a"]))?;
+    }
+    counts(rt.alloc(), &many, "a", 40_001, 1_000)
+}
+
+const FIRST: Offset = Offset {
+    column: 1,
+    term: 0,
+    place: 5,
+    size: 7,
+};
+
+const SECOND: Offset = Offset { place: 30, ..FIRST };
+
+#[test]
+fn four_numbers_an_offset(rt: HostRuntime) -> Result<(), Fail> {
+    let alloc = rt.alloc();
+    let text = offsets_text(alloc, &[FIRST, SECOND])?;
+    expect(alloc, text.as_str(), "1 0 5 7 1 0 30 7", "two offsets")?;
+    let text = offsets_text(alloc, &[])?;
+    expect(alloc, text.as_str(), "", "no offset")
+}
