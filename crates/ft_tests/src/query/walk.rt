@@ -1,8 +1,7 @@
 //! Walks over the words of some documents: what they find, in how many steps, and that a call without memory may be made again.
 use super::expect;
 use super::words::{Texts, words_of};
-use ft_query::walk::Matches;
-use ft_query::{Hit, ListFault, Lists, Offset, Query, offsets_text, parse};
+use ft_query::{Hit, ListFault, Lists, Matches, Offset, Query, offsets_text, parse};
 use std::alloc::{AllocError, Global};
 use std::test::Fail;
 
