@@ -15,6 +15,8 @@ pub mod PackedRows
 pub mod PutLemmas
 pub mod RangeLemmas
 pub mod ReadLemmas
+pub mod RowidLemmas
+pub mod ScanLemmas
 pub mod SelectLemmas
 pub mod SortedLemmas
 pub mod StepLemmas
