@@ -16,6 +16,7 @@ pub mod PutLemmas
 pub mod RangeLemmas
 pub mod ReadLemmas
 pub mod RowidLemmas
+pub mod SameLemmas
 pub mod ScanLemmas
 pub mod SelectLemmas
 pub mod SortedLemmas

@@ -6,6 +6,7 @@ pub mod Made
 pub mod Packed
 pub mod Range
 pub mod Rows
+pub mod Same
 pub mod Scan
 pub mod Shown
 pub mod Store

@@ -8,6 +8,7 @@ mod make;
 mod packed;
 mod read;
 mod rows;
+mod same;
 mod statements;
 mod store;
 mod tables;
