@@ -1,3 +1,4 @@
+pub mod AdoptLemmas
 pub mod AnswerLemmas
 pub mod ApartLemmas
 pub mod ApplyLemmas

@@ -1,3 +1,4 @@
+pub mod Adopted
 pub mod Calls
 pub mod Changes
 pub mod Found

@@ -1,6 +1,7 @@
 //! Rows of full-text tables in an SQL database of their own.
 #![tactic(auto)]
 
+mod adopt;
 mod examine;
 mod fault;
 mod lists;
