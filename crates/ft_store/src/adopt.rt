@@ -1,13 +1,16 @@
 //! Whether a database is taken as a store.
-ghost use Rattle.std.specs.Prelude.{◌≡◌, ◌≢◌, false, true, Err, IsTrue, OnOk, OnErr};
+ghost use Rattle.std.specs.Prelude.{◌≡◌, ◌≢◌, false, true, Err, IsTrue, IfErr, OnOk};
 ghost use Rattle.std.specs.List.{list_any};
 ghost use Rattle.sqlite.specs.State.{HasCleanDisk, Survives};
 ghost use Rattle.sqlite.specs.Held.{state};
 ghost use Rattle.sqlite_schema.specs.Names.{same_name};
-ghost use Rattle.ft_store.specs.Adopted.{TellsAs, rows_cause, error_cause, told_cause, our_names, has_our_name};
-ghost use Rattle.ft_store.specs.Calls.{Keeps};
+ghost use Rattle.ft_store.specs.Adopted.{TellsAs, rows_cause, error_cause, told_cause, our_names, has_our_name, IsTaken, IsNotTaken, LeavesEmpty};
+ghost use Rattle.ft_store.specs.Calls.{IsStoreIfOpen, Keeps};
 
+use crate::examine::examine;
 use crate::fault::StoreFault;
+use crate::make::make;
+use crate::same::{is_bare, is_store};
 use sqlite::types::ValueRef;
 use sqlite::{Alter, Connection, Error as SqlError, ErrorCode, Row};
 use sqlite_schema::names::same_name;
@@ -105,4 +108,25 @@ fn foreign<S: Alter>(conn: &mut Connection<S>) -> StoreFault
     } else {
         StoreFault::Refused
     }
+}
+
+/// Takes a database as a store. One without objects becomes an empty store, in one transaction.
+pub(crate) fn take<S: Alter>(conn: &mut Connection<S>) -> Result<(), StoreFault>
+    requires settled { (state S.Store conn.old).in_transaction ≡ false }
+    ensures store { OnOk result (IsStoreIfOpen (state S.Store conn.new)) }
+    ensures taken { OnOk result (IsTaken S.Store conn.old conn.new) }
+    ensures refused { IfErr result (IsNotTaken S.Store conn.old conn.new) }
+    ensures mode { (state S.Store conn.new).in_transaction ≡ false }
+    ensures crash { LeavesEmpty S.Store conn.old conn.new }
+{
+    let schema = conn.schema();
+    let bare = is_bare(schema);
+    let ours = is_store(schema);
+    if bare {
+        return make(conn);
+    }
+    if ours {
+        return examine(conn);
+    }
+    Err(foreign(conn))
 }

@@ -18,4 +18,4 @@ mod write;
 pub use fault::StoreFault;
 pub use packed::packed_lists;
 pub use rows::{CellRow, EntryRow, RowChange, SizeRow, Spot, TabRow, Value};
-pub use store::Store;
+pub use store::{AdoptFault, Store};
