@@ -148,7 +148,7 @@ pub cells_shown : (tab : ℤ) (old new : State) (rows : List Row) → (IsTrue ol
 cells_shown tab old new rows if_open h =
     let kept = if_open (shown_open _ _ old new rows h) in
     let sound = sound_of old kept in
-    found cell_key_cmp cell_key_total tied_cell_keys cell_cmp cell_total tied_cells cell_entry IsCellRow (overlay old.now.trees []) 5 (are_cells old.now.trees sound) (cells_apart old.now.trees sound kept.shaped.1.1.1.0) cells_query.filter (2 ∷ 3 ∷ 4 ∷ 5 ∷ []) (rising (1 ∷ 2 ∷ 3 ∷ 4 ∷ 5 ∷ [])) (Int tab ∷ []) (λ k. int_eq tab k.0) (found_cell tab)
+    found cell_key_cmp cell_key_total tied_cell_keys cell_cmp cell_total tied_cells cell_entry IsCellRow (overlay old.now.trees []) 5 (are_cells old.now.trees sound) (cells_apart old.now.trees sound kept.numbered.1.1.1.0) cells_query.filter (2 ∷ 3 ∷ 4 ∷ 5 ∷ []) (rising (1 ∷ 2 ∷ 3 ∷ 4 ∷ 5 ∷ [])) (Int tab ∷ []) (λ k. int_eq tab k.0) (found_cell tab)
     (λ r h. last_term (turned _ _ _ _ h.tab refl))
     (λ r h passed. ap (λ t. ((t, (cell_entry r).0.1, (cell_entry r).0.2), (cell_entry r).1)) (same_int tab (cell_entry r).0.0 passed))
     (λ a b p q. then_key (cmp_ints _ _ _ _ p.tab q.tab) (then_key (cmp_ints _ _ _ _ p.docid q.docid) (then_key (cmp_ints _ _ _ _ p.at q.at) (then_key (ap₂ value_cmp p.num q.num) (last_key (ap₂ value_cmp p.txt q.txt))))) ∙ regroup_3 (int_cmp (cell_entry a).0.0 (cell_entry b).0.0) (int_cmp (cell_entry a).0.1 (cell_entry b).0.1) (int_cmp (cell_entry a).0.2 (cell_entry b).0.2) (cell_cmp (cell_entry a).1 (cell_entry b).1))
@@ -159,7 +159,7 @@ pub document_shown : (tab docid : ℤ) (old new : State) (rows : List Row) → (
 document_shown tab docid old new rows if_open h =
     let kept = if_open (shown_open _ _ old new rows h) in
     let sound = sound_of old kept in
-    found cell_key_cmp cell_key_total tied_cell_keys cell_cmp cell_total tied_cells cell_entry IsCellRow (overlay old.now.trees []) 5 (are_cells old.now.trees sound) (cells_apart old.now.trees sound kept.shaped.1.1.1.0) document_query.filter (2 ∷ 3 ∷ 4 ∷ 5 ∷ []) (rising (1 ∷ 2 ∷ 3 ∷ 4 ∷ 5 ∷ [])) (Int tab ∷ Int docid ∷ []) (λ k. int_eq tab k.0 && int_eq docid k.1) (found_cell tab)
+    found cell_key_cmp cell_key_total tied_cell_keys cell_cmp cell_total tied_cells cell_entry IsCellRow (overlay old.now.trees []) 5 (are_cells old.now.trees sound) (cells_apart old.now.trees sound kept.numbered.1.1.1.0) document_query.filter (2 ∷ 3 ∷ 4 ∷ 5 ∷ []) (rising (1 ∷ 2 ∷ 3 ∷ 4 ∷ 5 ∷ [])) (Int tab ∷ Int docid ∷ []) (λ k. int_eq tab k.0 && int_eq docid k.1) (found_cell tab)
     (λ r h. then_term (turned _ _ _ _ h.tab refl) (last_term (turned _ _ _ _ h.docid refl)))
     (λ r h passed. ap (λ t. ((t, (cell_entry r).0.1, (cell_entry r).0.2), (cell_entry r).1)) (same_int tab (cell_entry r).0.0 (and_first _ _ passed)))
     (λ a b p q. then_key (cmp_ints _ _ _ _ p.tab q.tab) (then_key (cmp_ints _ _ _ _ p.docid q.docid) (then_key (cmp_ints _ _ _ _ p.at q.at) (then_key (ap₂ value_cmp p.num q.num) (last_key (ap₂ value_cmp p.txt q.txt))))) ∙ regroup_3 (int_cmp (cell_entry a).0.0 (cell_entry b).0.0) (int_cmp (cell_entry a).0.1 (cell_entry b).0.1) (int_cmp (cell_entry a).0.2 (cell_entry b).0.2) (cell_cmp (cell_entry a).1 (cell_entry b).1))
@@ -170,7 +170,7 @@ pub sizes_shown : (tab : ℤ) (old new : State) (rows : List Row) → (IsTrue ol
 sizes_shown tab old new rows if_open h =
     let kept = if_open (shown_open _ _ old new rows h) in
     let sound = sound_of old kept in
-    found cell_key_cmp cell_key_total tied_cell_keys int_cmp int_cmp_total tied_ints size_entry IsSizeRow (overlay old.now.trees []) 9 (are_sizes old.now.trees sound) (sizes_apart old.now.trees sound kept.shaped.1.1.1.1.1.0) sizes_query.filter (2 ∷ 3 ∷ 4 ∷ []) (rising (1 ∷ 2 ∷ 3 ∷ 4 ∷ [])) (Int tab ∷ []) (λ k. int_eq tab k.0) (found_size tab)
+    found cell_key_cmp cell_key_total tied_cell_keys int_cmp int_cmp_total tied_ints size_entry IsSizeRow (overlay old.now.trees []) 9 (are_sizes old.now.trees sound) (sizes_apart old.now.trees sound kept.numbered.1.1.1.1.1.0) sizes_query.filter (2 ∷ 3 ∷ 4 ∷ []) (rising (1 ∷ 2 ∷ 3 ∷ 4 ∷ [])) (Int tab ∷ []) (λ k. int_eq tab k.0) (found_size tab)
     (λ r h. last_term (turned _ _ _ _ h.tab refl))
     (λ r h passed. ap (λ t. ((t, (size_entry r).0.1, (size_entry r).0.2), (size_entry r).1)) (same_int tab (size_entry r).0.0 passed))
     (λ a b p q. then_key (cmp_ints _ _ _ _ p.tab q.tab) (then_key (cmp_ints _ _ _ _ p.docid q.docid) (then_key (cmp_ints _ _ _ _ p.at q.at) (last_key (cmp_ints _ _ _ _ p.n q.n)))) ∙ regroup_3 (int_cmp (size_entry a).0.0 (size_entry b).0.0) (int_cmp (size_entry a).0.1 (size_entry b).0.1) (int_cmp (size_entry a).0.2 (size_entry b).0.2) (int_cmp (size_entry a).1 (size_entry b).1))
@@ -181,7 +181,7 @@ pub columns_shown : (tab : ℤ) (old new : State) (rows : List Row) → (IsTrue 
 columns_shown tab old new rows if_open h =
     let kept = if_open (shown_open _ _ old new rows h) in
     let sound = sound_of old kept in
-    found column_key_cmp column_key_total tied_column_keys name_cmp name_total tied_names column_entry IsColumnRow (overlay old.now.trees []) 3 (are_columns old.now.trees sound) (columns_apart old.now.trees sound kept.shaped.1.1.0) columns_query.filter (2 ∷ 3 ∷ []) (rising (1 ∷ 2 ∷ 3 ∷ [])) (Int tab ∷ []) (λ k. int_eq tab k.0) (found_column tab)
+    found column_key_cmp column_key_total tied_column_keys name_cmp name_total tied_names column_entry IsColumnRow (overlay old.now.trees []) 3 (are_columns old.now.trees sound) (columns_apart old.now.trees sound kept.numbered.1.1.0) columns_query.filter (2 ∷ 3 ∷ []) (rising (1 ∷ 2 ∷ 3 ∷ [])) (Int tab ∷ []) (λ k. int_eq tab k.0) (found_column tab)
     (λ r h. last_term (turned _ _ _ _ h.tab refl))
     (λ r h passed. ap (λ t. ((t, (column_entry r).0.1), (column_entry r).1)) (same_int tab (column_entry r).0.0 passed))
     (λ a b p q. then_key (cmp_ints _ _ _ _ p.tab q.tab) (then_key (cmp_ints _ _ _ _ p.at q.at) (last_key (cmp_texts _ _ _ _ p.name q.name))) ∙ regroup_2 (int_cmp (column_entry a).0.0 (column_entry b).0.0) (int_cmp (column_entry a).0.1 (column_entry b).0.1) (name_cmp (column_entry a).1 (column_entry b).1))
@@ -192,7 +192,7 @@ pub skips_shown : (tab : ℤ) (old new : State) (rows : List Row) → (IsTrue ol
 skips_shown tab old new rows if_open h =
     let kept = if_open (shown_open _ _ old new rows h) in
     let sound = sound_of old kept in
-    found column_key_cmp column_key_total tied_column_keys all_tie all_tie_total (λ x y h. refl) skip_entry IsSkipRow (overlay old.now.trees []) 13 (are_skips old.now.trees sound) (skips_apart old.now.trees sound kept.shaped.1.1.1.1.1.1.1.0) skips_query.filter (2 ∷ []) (rising (1 ∷ 2 ∷ [])) (Int tab ∷ []) (λ k. int_eq tab k.0) (found_skip tab)
+    found column_key_cmp column_key_total tied_column_keys all_tie all_tie_total (λ x y h. refl) skip_entry IsSkipRow (overlay old.now.trees []) 13 (are_skips old.now.trees sound) (skips_apart old.now.trees sound kept.numbered.1.1.1.1.1.1.1.0) skips_query.filter (2 ∷ []) (rising (1 ∷ 2 ∷ [])) (Int tab ∷ []) (λ k. int_eq tab k.0) (found_skip tab)
     (λ r h. last_term (turned _ _ _ _ h.tab refl))
     (λ r h passed. ap (λ t. ((t, (skip_entry r).0.1), tt)) (same_int tab (skip_entry r).0.0 passed))
     (λ a b p q. then_key (cmp_ints _ _ _ _ p.tab q.tab) (last_key (cmp_ints _ _ _ _ p.at q.at)) ∙ alone (column_key_cmp (skip_entry a).0 (skip_entry b).0))
@@ -203,7 +203,7 @@ pub names_shown : (old new : State) (rows : List Row) → (IsTrue old.is_open �
 names_shown old new rows if_open h =
     let kept = if_open (shown_open _ _ old new rows h) in
     let sound = sound_of old kept in
-    found int_cmp int_cmp_total tied_ints name_cmp name_total tied_names table_entry IsNameRow (overlay old.now.trees []) 1 (are_names old.now.trees sound kept.shaped.1.0) (names_apart old.now.trees kept.shaped.1.0) names_query.filter (0 ∷ 2 ∷ []) (rising (0 ∷ 2 ∷ [])) ([]) (λ k. true) found_table
+    found int_cmp int_cmp_total tied_ints name_cmp name_total tied_names table_entry IsNameRow (overlay old.now.trees []) 1 (are_names old.now.trees sound kept.numbered.1.0) (names_apart old.now.trees kept.numbered.1.0) names_query.filter (0 ∷ 2 ∷ []) (rising (0 ∷ 2 ∷ [])) ([]) (λ k. true) found_table
     (λ r h. refl)
     (λ r h passed. refl)
     (λ a b p q. then_key (cmp_ints _ _ _ _ p.id q.id) (last_key (cmp_texts _ _ _ _ p.name q.name)))
@@ -214,7 +214,7 @@ pub noted_shown : (old new : State) (rows : List Row) → (IsTrue old.is_open �
 noted_shown old new rows if_open h =
     let kept = if_open (shown_open _ _ old new rows h) in
     let sound = sound_of old kept in
-    found name_cmp name_total tied_names name_cmp name_total tied_names note_entry IsNoteRow (overlay old.now.trees []) 11 (are_notes old.now.trees sound) (notes_apart old.now.trees sound kept.shaped.1.1.1.1.1.1.0) noted_query.filter (1 ∷ []) noted_query.order ([]) (λ k. true) found_note
+    found name_cmp name_total tied_names name_cmp name_total tied_names note_entry IsNoteRow (overlay old.now.trees []) 11 (are_notes old.now.trees sound) (notes_apart old.now.trees sound kept.numbered.1.1.1.1.1.1.0) noted_query.filter (1 ∷ []) noted_query.order ([]) (λ k. true) found_note
     (λ r h. refl)
     (λ r h passed. refl)
     (λ a b p q. then_key (cmp_cases _ _ _ _ p.name q.name) (last_key (cmp_texts _ _ _ _ p.name q.name)))
@@ -225,7 +225,7 @@ pub term_stored_shown : (tab : ℤ) (term : List ℕ) (old new : State) (rows : 
 term_stored_shown tab term old new rows if_open h =
     let kept = if_open (shown_open _ _ old new rows h) in
     let sound = sound_of old kept in
-    found list_key_cmp list_key_total tied_list_keys name_cmp name_total tied_names stored_entry IsListRow (overlay old.now.trees []) 7 (are_lists old.now.trees sound) (lists_apart old.now.trees sound kept.shaped.1.1.1.1.0) term_query.filter list_shown (rising list_order) (Int tab ∷ Text term ∷ []) (λ k. int_eq tab k.0 && is_eq (name_cmp term k.1)) (found_list tab)
+    found list_key_cmp list_key_total tied_list_keys name_cmp name_total tied_names stored_entry IsListRow (overlay old.now.trees []) 7 (are_lists old.now.trees sound) (lists_apart old.now.trees sound kept.numbered.1.1.1.1.0) term_query.filter list_shown (rising list_order) (Int tab ∷ Text term ∷ []) (λ k. int_eq tab k.0 && is_eq (name_cmp term k.1)) (found_list tab)
     (λ r h. then_term (turned _ _ _ _ h.tab refl) (last_term (turned_text _ _ _ _ h.term refl)))
     (λ r h passed. ap (λ t. ((t, (stored_entry r).0.1, (stored_entry r).0.2), (stored_entry r).1)) (same_int tab (stored_entry r).0.0 (and_first _ _ passed)))
     (λ a b p q. then_key (cmp_ints _ _ _ _ p.tab q.tab) (then_key (cmp_texts _ _ _ _ p.term q.term) (then_key (cmp_ints _ _ _ _ p.docid q.docid) (last_key (cmp_blobs _ _ _ _ p.list q.list)))) ∙ regroup_3 (int_cmp (stored_entry a).0.0 (stored_entry b).0.0) (name_cmp (stored_entry a).0.1 (stored_entry b).0.1) (int_cmp (stored_entry a).0.2 (stored_entry b).0.2) (name_cmp (stored_entry a).1 (stored_entry b).1))
@@ -237,7 +237,7 @@ prefix_stored_shown tab from end old new rows some past if_open h =
     let kept = if_open (shown_open _ _ old new rows h) in
     let sound = sound_of old kept in
     let params = Int tab ∷ Text from ∷ Text end ∷ [] in
-    found list_key_cmp list_key_total tied_list_keys name_cmp name_total tied_names stored_entry IsListRow (overlay old.now.trees []) 7 (are_lists old.now.trees sound) (lists_apart old.now.trees sound kept.shaped.1.1.1.1.0) prefix_query.filter list_shown (rising list_order) params (λ k. int_eq tab k.0 && starts_with nat_eq k.1 from) (found_list tab)
+    found list_key_cmp list_key_total tied_list_keys name_cmp name_total tied_names stored_entry IsListRow (overlay old.now.trees []) 7 (are_lists old.now.trees sound) (lists_apart old.now.trees sound kept.numbered.1.1.1.1.0) prefix_query.filter list_shown (rising list_order) params (λ k. int_eq tab k.0 && starts_with nat_eq k.1 from) (found_list tab)
     (λ r h. then_term (turned _ _ _ _ h.tab refl) (then_term (test_texts Ge _ _ _ _ h.term refl) (last_term (test_texts Lt _ _ _ _ h.term refl)))
     ∙ ap (λ e. int_eq tab (stored_entry r).0.0 && (is_le (name_cmp from (stored_entry r).0.1) && is_lt (name_cmp (stored_entry r).0.1 e))) past ∙ ap (λ t. int_eq tab (stored_entry r).0.0 && t) (in_range from (stored_entry r).0.1 some))
     (λ r h passed. ap (λ t. ((t, (stored_entry r).0.1, (stored_entry r).0.2), (stored_entry r).1)) (same_int tab (stored_entry r).0.0 (and_first _ _ passed)))
@@ -249,7 +249,7 @@ pub lists_stored_shown : (tab : ℤ) (old new : State) (rows : List Row) → (Is
 lists_stored_shown tab old new rows if_open h =
     let kept = if_open (shown_open _ _ old new rows h) in
     let sound = sound_of old kept in
-    found list_key_cmp list_key_total tied_list_keys name_cmp name_total tied_names stored_entry IsListRow (overlay old.now.trees []) 7 (are_lists old.now.trees sound) (lists_apart old.now.trees sound kept.shaped.1.1.1.1.0) lists_query.filter list_shown (rising list_order) (Int tab ∷ []) (λ k. int_eq tab k.0) (found_list tab)
+    found list_key_cmp list_key_total tied_list_keys name_cmp name_total tied_names stored_entry IsListRow (overlay old.now.trees []) 7 (are_lists old.now.trees sound) (lists_apart old.now.trees sound kept.numbered.1.1.1.1.0) lists_query.filter list_shown (rising list_order) (Int tab ∷ []) (λ k. int_eq tab k.0) (found_list tab)
     (λ r h. last_term (turned _ _ _ _ h.tab refl))
     (λ r h passed. ap (λ t. ((t, (stored_entry r).0.1, (stored_entry r).0.2), (stored_entry r).1)) (same_int tab (stored_entry r).0.0 passed))
     (λ a b p q. then_key (cmp_ints _ _ _ _ p.tab q.tab) (then_key (cmp_texts _ _ _ _ p.term q.term) (then_key (cmp_ints _ _ _ _ p.docid q.docid) (last_key (cmp_blobs _ _ _ _ p.list q.list)))) ∙ regroup_3 (int_cmp (stored_entry a).0.0 (stored_entry b).0.0) (name_cmp (stored_entry a).0.1 (stored_entry b).0.1) (int_cmp (stored_entry a).0.2 (stored_entry b).0.2) (name_cmp (stored_entry a).1 (stored_entry b).1))

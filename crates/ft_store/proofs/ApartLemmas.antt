@@ -1,5 +1,5 @@
 -- No two rows of a table have one key.
-use Rattle.std.proofs.Common.{◌≡◌, ℕ, ℤ, Bool, true, false, not, ◌&&◌, ◌||◌, List, [], ◌∷◌, map, None, refl, sym, ap, ap₂, ◌∙◌, Ordering, Less, Equal, Greater, is_eq, true≢false, IsTrue}
+use Rattle.std.proofs.Common.{◌≡◌, ◌≢◌, ℕ, ℤ, Bool, true, false, not, ◌&&◌, ◌||◌, List, [], ◌∷◌, map, None, refl, sym, ap, ap₂, ◌∙◌, Ordering, Less, Equal, Greater, is_eq, true≢false, IsTrue}
 use Rattle.std.specs.List.{AllByRecursion, list_all}
 use Rattle.std.specs.Ordering.{eq_by_cmp, int_cmp, int_eq, ordering_reverse}
 use Rattle.std.specs.Cmp.{tied_itself}
@@ -17,8 +17,9 @@ use Rattle.sqlite_sql.specs.declared.ops.BinaryOp.TheVariants.{Compare}
 use Rattle.sqlite_sql.specs.declared.ops.CompareOp.TheVariants.{Eq, Ne}
 use Rattle.sqlite.specs.Collation.TheVariants.{Binary, NoCase}
 use Rattle.sqlite.specs.Tree.{Trees}
-use Rattle.sqlite_trees.specs.Tree.{IsTable, rowid}
-use Rattle.sqlite_trees.specs.View.{is_int, IsShaped}
+use Rattle.sqlite_trees.specs.Tree.{IsAscending, rowid}
+use Rattle.ft_store.specs.Calls.{HasOwnRowids}
+use Rattle.ft_store.proofs.RowidLemmas.{IsInt, DifferIn, unequal, unequal_ints}
 use Rattle.sqlite_trees.specs.declared.store.Shape.TheVariants as shape
 use Rattle.sqlite_schema.specs.declared.schema.Constraint.TheVariants.{Unique}
 use Rattle.sqlite_schema.specs.Rules.{agree, clashes, differ}
@@ -49,18 +50,13 @@ false_unless : (a b : Bool) → (a ≡ true → b ≡ true) → b ≡ false → 
 false_unless true b f h = absurd (true≢false (sym (f refl) ∙ h))
 false_unless false b f h = refl
 
--- rowids that rise differ
-differs : (v w : Value) (m n : ℤ) → v ≡ Int m → w ≡ Int n → value_cmp v w ≡ Less → differ w v ≡ true
-differs v w m n e f less =
-    ap₂ (λ a b. is_true (binary (Compare Ne Binary) a b)) f e ∙ at_ints false Ne n m
-    ∙ ap (λ o. not (is_eq o)) (int_cmp_total.antisymm n m ∙ ap ordering_reverse (sym (value_cmp-Int m n) ∙ ap₂ value_cmp (sym e) (sym f) ∙ less))
-
-abbrev IsInt : Row → Type 0
-IsInt r = IsTrue (is_int (rowid r))
+differs : (v w : Value) (m n : ℤ) → v ≡ Int m → w ≡ Int n → v ≢ w → differ w v ≡ true
+differs v w m n e f apart =
+    ap₂ (λ a b. is_true (binary (Compare Ne Binary) a b)) f e ∙ at_ints false Ne n m ∙ ap not (unequal w v n m f e (λ same. apart (sym same)))
 
 module _ {K X : Type 0} (R : K → K → Ordering) (order : Order) (places : List ℕ) (P : Row → Type 0) (entry : Row → K × X)
     (agrees : (r s : Row) → P r → P s → eq_by_cmp R (entry r).0 (entry s).0 ≡ true → agree order places s places r ≡ true) where
-  none_found : (r : Row) (rows : List Row) → P r → IsInt r → AllByRecursion P rows → AllByRecursion IsInt rows → AllByRecursion (λ s. value_cmp (rowid r) (rowid s) ≡ Less) rows
+  none_found : (r : Row) (rows : List Row) → P r → IsInt r → AllByRecursion P rows → AllByRecursion IsInt rows → AllByRecursion (DifferIn r) rows
       → clashes order places rows r ≡ false → find R (entry r).0 (map entry rows) ≡ None
   none_found r [] p int ps ints less free = refl
   none_found r (s ∷ rows) p int ps ints less free =
@@ -68,7 +64,7 @@ module _ {K X : Type 0} (R : K → K → Ordering) (order : Order) (places : Lis
       none_from (eq_by_cmp R (entry r).0 (entry s).0) (entry s).1 (find R (entry r).0 (map entry rows)) (false_unless _ _ (agrees r s p ps.0) apart)
       (none_found r rows p int ps.1 ints.1 less.1 (or_second _ _ free))
 
-  pub apart : (rows : List Row) → IsTable rows → AllByRecursion IsInt rows → AllByRecursion P rows → AllByRecursion (λ r. clashes order places rows r ≡ false) rows → AreApart R (map entry rows)
+  pub apart : (rows : List Row) → IsAscending DifferIn rows → AllByRecursion IsInt rows → AllByRecursion P rows → AllByRecursion (λ r. clashes order places rows r ≡ false) rows → AreApart R (map entry rows)
   apart [] up ints ps free = tt
   apart (r ∷ rows) up ints ps free = (
     none_found r rows ps.0 ints.0 ps.1 ints.1 up.0 (or_second _ _ free.0),
@@ -140,51 +136,51 @@ cases_agree r s p q e = then_true (same_cases _ _ _ _ q.name p.name (sym (tied_n
 not_first : (b : Bool) → (not b && true) ≡ true → b ≡ false
 not_first b h = not_null b (and_first _ _ h)
 
-pub names_apart : (db : Trees) → IsShaped shape.Table (db 1) → AreApart int_cmp (map table_entry (db 1))
+pub names_apart : (db : Trees) → HasOwnRowids (db 1) → AreApart int_cmp (map table_entry (db 1))
 names_apart db shaped = go (db 1) shaped.0 shaped.1
   where
-    missed : (r : Row) (rows : List Row) → IsInt r → AllByRecursion IsInt rows → AllByRecursion (λ s. value_cmp (rowid r) (rowid s) ≡ Less) rows → find int_cmp (table_entry r).0 (map table_entry rows) ≡ None
+    missed : (r : Row) (rows : List Row) → IsInt r → AllByRecursion IsInt rows → AllByRecursion (DifferIn r) rows → find int_cmp (table_entry r).0 (map table_entry rows) ≡ None
     missed r [] int ints less = refl
     missed r (s ∷ rows) int ints less =
         none_from (eq_by_cmp int_cmp (table_entry r).0 (table_entry s).0) (table_entry s).1 (find int_cmp (table_entry r).0 (map table_entry rows))
-        (ap is_eq (sym (value_cmp-Int (table_entry r).0 (table_entry s).0) ∙ ap₂ value_cmp (sym (int_is _ int)) (sym (int_is _ ints.0)) ∙ less.0)) (missed r rows int ints.1 less.1)
+        (unequal (rowid r) (rowid s) (table_entry r).0 (table_entry s).0 (int_is _ int) (int_is _ ints.0) less.0) (missed r rows int ints.1 less.1)
 
-    go : (rows : List Row) → IsTable rows → AllByRecursion IsInt rows → AreApart int_cmp (map table_entry rows)
+    go : (rows : List Row) → IsAscending DifferIn rows → AllByRecursion IsInt rows → AreApart int_cmp (map table_entry rows)
     go [] up ints = tt
     go (r ∷ rows) up ints = (missed r rows ints.0 ints.1 up.0, go rows up.1 ints.1)
 
 -- nor have two tables one name
-pub cases_apart : (db : Trees) → IsSound store_schema db → IsShaped shape.Table (db 1) → AreApart name_cmp (map case_entry (db 1))
+pub cases_apart : (db : Trees) → IsSound store_schema db → HasOwnRowids (db 1) → AreApart name_cmp (map case_entry (db 1))
 cases_apart db sound shaped =
     apart name_cmp case_order (2 ∷ []) IsNameRow case_entry cases_agree (db 1) shaped.0 shaped.1 (are_names db sound shaped)
     (all_weaker _ (λ r. clashes case_order (2 ∷ []) (db 1) r ≡ false) (λ r h. not_first _ h) (db 1) (sound.obeys.rules Unique).1.0)
 
-pub columns_apart : (db : Trees) → IsSound store_schema db → IsShaped shape.Table (db 3) → AreApart column_key_cmp (map column_entry (db 3))
+pub columns_apart : (db : Trees) → IsSound store_schema db → HasOwnRowids (db 3) → AreApart column_key_cmp (map column_entry (db 3))
 columns_apart db sound shaped =
     apart column_key_cmp plain_order (1 ∷ 2 ∷ []) IsColumnRow column_entry columns_agree (db 3) shaped.0 shaped.1 (are_columns db sound)
     (all_weaker _ (λ r. clashes plain_order (1 ∷ 2 ∷ []) (db 3) r ≡ false) (λ r h. not_first _ h) (db 3) (sound.obeys.rules Unique).1.1.0)
 
-pub cells_apart : (db : Trees) → IsSound store_schema db → IsShaped shape.Table (db 5) → AreApart cell_key_cmp (map cell_entry (db 5))
+pub cells_apart : (db : Trees) → IsSound store_schema db → HasOwnRowids (db 5) → AreApart cell_key_cmp (map cell_entry (db 5))
 cells_apart db sound shaped =
     apart cell_key_cmp plain_order (1 ∷ 2 ∷ 3 ∷ []) IsCellRow cell_entry cells_agree (db 5) shaped.0 shaped.1 (are_cells db sound)
     (all_weaker _ (λ r. clashes plain_order (1 ∷ 2 ∷ 3 ∷ []) (db 5) r ≡ false) (λ r h. not_first _ h) (db 5) (sound.obeys.rules Unique).1.1.1.0)
 
-pub lists_apart : (db : Trees) → IsSound store_schema db → IsShaped shape.Table (db 7) → AreApart list_key_cmp (map stored_entry (db 7))
+pub lists_apart : (db : Trees) → IsSound store_schema db → HasOwnRowids (db 7) → AreApart list_key_cmp (map stored_entry (db 7))
 lists_apart db sound shaped =
     apart list_key_cmp plain_order (1 ∷ 2 ∷ 3 ∷ []) IsListRow stored_entry lists_agree (db 7) shaped.0 shaped.1 (are_lists db sound)
     (all_weaker _ (λ r. clashes plain_order (1 ∷ 2 ∷ 3 ∷ []) (db 7) r ≡ false) (λ r h. not_first _ h) (db 7) (sound.obeys.rules Unique).1.1.1.1.0)
 
-pub sizes_apart : (db : Trees) → IsSound store_schema db → IsShaped shape.Table (db 9) → AreApart cell_key_cmp (map size_entry (db 9))
+pub sizes_apart : (db : Trees) → IsSound store_schema db → HasOwnRowids (db 9) → AreApart cell_key_cmp (map size_entry (db 9))
 sizes_apart db sound shaped =
     apart cell_key_cmp plain_order (1 ∷ 2 ∷ 3 ∷ []) IsSizeRow size_entry sizes_agree (db 9) shaped.0 shaped.1 (are_sizes db sound)
     (all_weaker _ (λ r. clashes plain_order (1 ∷ 2 ∷ 3 ∷ []) (db 9) r ≡ false) (λ r h. not_first _ h) (db 9) (sound.obeys.rules Unique).1.1.1.1.1.0)
 
-pub notes_apart : (db : Trees) → IsSound store_schema db → IsShaped shape.Table (db 11) → AreApart name_cmp (map note_entry (db 11))
+pub notes_apart : (db : Trees) → IsSound store_schema db → HasOwnRowids (db 11) → AreApart name_cmp (map note_entry (db 11))
 notes_apart db sound shaped =
     apart name_cmp case_order (1 ∷ []) IsNoteRow note_entry notes_agree (db 11) shaped.0 shaped.1 (are_notes db sound)
     (all_weaker _ (λ r. clashes case_order (1 ∷ []) (db 11) r ≡ false) (λ r h. not_first _ h) (db 11) (sound.obeys.rules Unique).1.1.1.1.1.1.0)
 
-pub skips_apart : (db : Trees) → IsSound store_schema db → IsShaped shape.Table (db 13) → AreApart column_key_cmp (map skip_entry (db 13))
+pub skips_apart : (db : Trees) → IsSound store_schema db → HasOwnRowids (db 13) → AreApart column_key_cmp (map skip_entry (db 13))
 skips_apart db sound shaped =
     apart column_key_cmp plain_order (1 ∷ 2 ∷ []) IsSkipRow skip_entry skips_agree (db 13) shaped.0 shaped.1 (are_skips db sound)
     (all_weaker _ (λ r. clashes plain_order (1 ∷ 2 ∷ []) (db 13) r ≡ false) (λ r h. not_first _ h) (db 13) (sound.obeys.rules Unique).1.1.1.1.1.1.1.0)

@@ -1,5 +1,5 @@
 -- Reads one after another.
-use Rattle.std.proofs.Common.{◌≡◌, false, sym, ◌∙◌, subst, arith, IsTrue}
+use Rattle.std.proofs.Common.{◌≡◌, false, refl, sym, ◌∙◌, subst, arith, IsTrue, inl}
 use Rattle.sqlite.specs.State.{State, HasCleanDisk, Survives}
 use Rattle.sqlite.proofs.StateLemmas.{survives_then}
 use Rattle.ft_store.specs.Calls.{IsStore, IsStoreIfOpen, Keeps}
@@ -28,3 +28,28 @@ reading_then a b c one two = record {
   live = two.live;
   survives = reads_then a b c one.live one.survives two.survives;
 }
+
+-- reads from `old` to `now`, perhaps none
+pub record Looking (old now : State) : Type 0 where
+  pub mode : now.in_transaction ≡ false
+  pub kept : HasCleanDisk now → Keeps old now
+  pub live : HasCleanDisk now → IsTrue old.is_open → IsTrue now.is_open
+  pub survives : Survives old now (λ _. IsTrue old.is_open → ⊥)
+
+pub no_look : (s : State) → s.in_transaction ≡ false → Looking s s
+no_look s mode = record {
+  mode = mode;
+  kept = λ clean is_open. (refl, refl, is_open);
+  live = λ clean is_open. is_open;
+  survives = record { clean = omega arith; shield = λ h. h; counts = omega arith; limit = refl; closes = λ clean is_open. inl is_open; crash = λ clean db h. inl h };
+}
+
+module _ (a b c : State) (one : Looking a b) (kept : HasCleanDisk c → Keeps b c) (two : Survives b c (λ _. IsTrue b.is_open → ⊥)) where
+  pub look_kept : HasCleanDisk c → Keeps a c
+  look_kept clean = kept_then a b c (one.kept (omega (arith, two.clean, clean))) (kept clean)
+
+  pub look_survives : Survives a c (λ _. IsTrue a.is_open → ⊥)
+  look_survives = survives_then a b c _ _ _ (λ _ db none. none) (λ clean db none is_open. none (one.live (omega (arith, two.clean, clean)) is_open)) one.survives two
+
+  pub look_on : c.in_transaction ≡ false → (HasCleanDisk c → IsTrue c.is_open) → Looking a c
+  look_on mode live = record { mode = mode; kept = look_kept; live = λ clean is_open. live clean; survives = look_survives }

@@ -10,8 +10,10 @@ use Rattle.sqlite.specs.Order.{Row}
 use Rattle.sqlite_value.specs.Order.{value_cmp}
 use Rattle.sqlite_value.proofs.OrderLemmas.{value_cmp_total}
 use Rattle.sqlite.specs.Tree.{Trees}
-use Rattle.sqlite_trees.specs.Tree.{IsTable, rowid, has_rowid, without_rowid, put_row}
-use Rattle.sqlite_trees.specs.View.{is_int, IsShaped}
+use Rattle.sqlite_trees.specs.Tree.{IsAscending, rowid, has_rowid, without_rowid, put_row}
+use Rattle.sqlite_trees.specs.View.{is_int}
+use Rattle.ft_store.specs.Calls.{HasOwnRowids}
+use Rattle.ft_store.proofs.RowidLemmas.{IsInt, DifferIn, apart_rows}
 use Rattle.sqlite_trees.specs.declared.store.Shape.TheVariants as shape
 use Rattle.sqlite.specs.Edit.{edit_of, id_in, without_all, is_taken, are_fresh, put_all, next_rowid}
 use Rattle.sqlite.specs.Cast.{cast}
@@ -49,33 +51,31 @@ same x r = has_rowid (id_in (rowid x)) r
 same_itself : (r : Row) → IsTrue (is_int (rowid r)) → same r r ≡ true
 same_itself r h = ap is_eq (ap (value_cmp (rowid r)) (sym (int_is _ h)) ∙ tied_itself value_cmp_total (rowid r))
 
-not_same : (x y : Row) → IsTrue (is_int (rowid x)) → value_cmp (rowid x) (rowid y) ≡ Less → same x y ≡ false
-not_same x y h less = ap is_eq (ap (value_cmp (rowid y)) (sym (int_is _ h)) ∙ value_cmp_total.antisymm (rowid y) (rowid x) ∙ ap ordering_reverse less)
+not_same : (x y : Row) → IsInt x → IsInt y → DifferIn x y → same x y ≡ false
+not_same x y p q apart = ap is_eq (ap (value_cmp (rowid y)) (sym (int_is _ p))) ∙ apart_rows y x q p (λ e. apart (sym e))
 
-not_same_back : (x y : Row) → IsTrue (is_int (rowid y)) → value_cmp (rowid x) (rowid y) ≡ Less → same y x ≡ false
-not_same_back x y h less = ap is_eq (ap (value_cmp (rowid x)) (sym (int_is _ h)) ∙ less)
+not_same_back : (x y : Row) → IsInt x → IsInt y → DifferIn x y → same y x ≡ false
+not_same_back x y p q apart = ap is_eq (ap (value_cmp (rowid x)) (sym (int_is _ q))) ∙ apart_rows x y p q apart
 
 none_any : {X : Type 0} (p q : X → Bool) (xs : List X) → AllByRecursion (λ x. p x ≡ false) xs → list_any p (filter q xs) ≡ false
 none_any p q [] h = refl
 none_any p q (x ∷ xs) h =
     elim (q x) as (λ b. list_any p (cond b (x ∷ filter q xs) (filter q xs)) ≡ false) [ true ↦ rw (h.0, none_any p q xs h.1) refl | false ↦ none_any p q xs h.1 ]
 
-abbrev IsInt : Row → Type 0
-IsInt r = IsTrue (is_int (rowid r))
-
 -- a row has the rowid of one that passes exactly where it passes
-found_again : (p : Row → Bool) (rows : List Row) → IsTable rows → AllByRecursion IsInt rows → AllByRecursion (λ r. list_any (λ x. same x r) (filter p rows) ≡ p r) rows
+found_again : (p : Row → Bool) (rows : List Row) → IsAscending DifferIn rows → AllByRecursion IsInt rows → AllByRecursion (λ r. list_any (λ x. same x r) (filter p rows) ≡ p r) rows
 found_again p [] up ints = tt
 found_again p (y ∷ ys) up ints = (go (p y) refl, later (p y) (found_again p ys up.1 ints.1))
   where
     go : (b : Bool) → p y ≡ b → list_any (λ x. same x y) (cond b (y ∷ filter p ys) (filter p ys)) ≡ p y
     go true e = rw (same_itself y ints.0) (sym e)
-    go false e = none_any (λ x. same x y) p ys (all_both (λ x. value_cmp (rowid y) (rowid x) ≡ Less) IsInt (λ x. same x y ≡ false) (λ x less int. not_same_back y x int less) ys up.0 ints.1) ∙ sym e
+    go false e = none_any (λ x. same x y) p ys (all_both (DifferIn y) IsInt (λ x. same x y ≡ false) (λ x apart int. not_same_back y x ints.0 int apart) ys up.0 ints.1) ∙ sym e
 
     later : (b : Bool) → AllByRecursion (λ r. list_any (λ x. same x r) (filter p ys) ≡ p r) ys → AllByRecursion (λ r. list_any (λ x. same x r) (cond b (y ∷ filter p ys) (filter p ys)) ≡ p r) ys
     later false h = h
     later true h =
-        all_both (λ r. value_cmp (rowid y) (rowid r) ≡ Less) (λ r. list_any (λ x. same x r) (filter p ys) ≡ p r) (λ r. list_any (λ x. same x r) (y ∷ filter p ys) ≡ p r) (λ r less e. rw (not_same y r ints.0 less) e) ys up.0 h
+        all_both (λ r. same y r ≡ false) (λ r. list_any (λ x. same x r) (filter p ys) ≡ p r) (λ r. list_any (λ x. same x r) (y ∷ filter p ys) ≡ p r) (λ r apart e. rw apart e) ys
+        (all_both (DifferIn y) IsInt (λ r. same y r ≡ false) (λ r apart int. not_same y r ints.0 int apart) ys up.0 ints.1) h
 
 filter_twice : {X : Type 0} (p q : X → Bool) (xs : List X) → filter p (filter q xs) ≡ filter (λ x. q x && p x) xs
 filter_twice p q [] = refl
@@ -102,7 +102,7 @@ filter_same_on : {X : Type 0} (p q : X → Bool) (xs : List X) → AllByRecursio
 filter_same_on p q [] all = refl
 filter_same_on p q (x ∷ xs) all = rw (all.0, filter_same_on p q xs all.1) refl
 
-pub without_passing : (p : Row → Bool) (rows : List Row) (ids : List ℤ) → IsShaped shape.Table rows → IsPermutation (map (λ r. id_in (rowid r)) (filter p rows)) ids
+pub without_passing : (p : Row → Bool) (rows : List Row) (ids : List ℤ) → HasOwnRowids rows → IsPermutation (map (λ r. id_in (rowid r)) (filter p rows)) ids
     → without_all rows ids ≡ filter (λ r. not (p r)) rows
 without_passing p rows ids shaped perm =
     without_each ids rows
@@ -137,7 +137,7 @@ pub record Wrote (tree : ℕ) (old new : State) (rows : List Row) : Type 0 where
 
 pub deletes : (old new : State) (text : List ℕ) (params : Row) (at : ℕ) (table : Table) (terms : List Term) (count : ℕ) → old.now.schema ≡ store_schema
     → command_of (understood store_schema text) ≡ Delete at (record { lets = []; body = table_query table.tree terms (0 ∷ []) [] }) → IsPlain (understood store_schema text)
-    → slice_get store_schema.tables at ≡ Some table → (overlay old.now.trees [] table.tree ≡ old.now.trees table.tree) → IsShaped shape.Table (old.now.trees table.tree) → Executes text params old new (Ok count)
+    → slice_get store_schema.tables at ≡ Some table → (overlay old.now.trees [] table.tree ≡ old.now.trees table.tree) → HasOwnRowids (old.now.trees table.tree) → Executes text params old new (Ok count)
     → Wrote table.tree old new (filter (λ r. not (list_all (holds (params ∷ r ∷ [])) terms)) (old.now.trees table.tree))
 deletes old new text params at table terms count has is plain found here shaped h =
     let db = old.now.trees in

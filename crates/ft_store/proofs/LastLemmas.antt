@@ -46,7 +46,7 @@ all-reverse : {X : Type 0} (P : X → Type 0) (xs : List X) → AllByRecursion P
 all-reverse P [] all = tt
 all-reverse P (x ∷ xs) all = subst (AllByRecursion P) (sym (reverse_onto xs x [])) (all-append P (reverse xs) (x ∷ []) (all-reverse P xs all.1) (all.0, tt))
 
-ascending-end : {X : Type 0} (R : X → X → Type 0) (xs : List X) (x : X) → IsAscending R xs → AllByRecursion (λ y. R y x) xs → IsAscending R (xs ++ x ∷ [])
+pub ascending-end : {X : Type 0} (R : X → X → Type 0) (xs : List X) (x : X) → IsAscending R xs → AllByRecursion (λ y. R y x) xs → IsAscending R (xs ++ x ∷ [])
 ascending-end R [] x up all = (tt, tt)
 ascending-end R (y ∷ ys) x up all = (all-append (R y) ys (x ∷ []) up.0 (all.0, tt), ascending-end R ys x up.1 all.1)
 
@@ -149,4 +149,4 @@ last_shown tab old new rows if_open h =
     let kept = if_open (shown_open _ _ old new rows h) in
     let sound = sound_of old kept in
     first_of tab rows _
-    (last_read tab (overlay old.now.trees []) (are_cells old.now.trees sound) (cells_apart old.now.trees sound kept.shaped.1.1.1.0) rows ((reads_as last_text (Int tab ∷ []) old new store_schema kept.schema _ last_is last_plain last_unlisted rows h).answer Null))
+    (last_read tab (overlay old.now.trees []) (are_cells old.now.trees sound) (cells_apart old.now.trees sound kept.numbered.1.1.1.0) rows ((reads_as last_text (Int tab ∷ []) old new store_schema kept.schema _ last_is last_plain last_unlisted rows h).answer Null))

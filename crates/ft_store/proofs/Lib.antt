@@ -1,3 +1,4 @@
+pub mod AdoptLemmas
 pub mod AnswerLemmas
 pub mod ApartLemmas
 pub mod ApplyLemmas
@@ -15,6 +16,9 @@ pub mod PackedRows
 pub mod PutLemmas
 pub mod RangeLemmas
 pub mod ReadLemmas
+pub mod RowidLemmas
+pub mod SameLemmas
+pub mod ScanLemmas
 pub mod SelectLemmas
 pub mod SortedLemmas
 pub mod StepLemmas

@@ -26,10 +26,9 @@ use Rattle.sqlite_keyed.proofs.ListLemmas.{all-append, all_both}
 use Rattle.ft_store.specs.Tables.{no_schema, store_schema, meta_table, tab_table, col_table, cell_table, posting_table, sizes_table, noted_table, skip_table}
 use Rattle.ft_store.proofs.Texts.{make_meta_text, make_tab_text, make_col_text, make_cell_text, make_posting_text, make_sizes_text, make_noted_text, make_skip_text, mark_text}
 use Rattle.ft_store.specs.Made.{AreEmpty, IsEmptyOf, Makes}
-use Rattle.ft_store.specs.Calls.{AreShaped, IsMarked, IsStore, IsStored}
+use Rattle.ft_store.specs.Calls.{HasOwnRowids, AreNumbered, IsMarked, IsStore, IsStored}
 use Rattle.ft_store.specs.Store.{nothing_held}
 use Rattle.ft_store.specs.Rows.{value_of}
-use Rattle.sqlite_trees.specs.View.{IsShaped}
 use Rattle.sqlite_trees.specs.declared.store.Shape.TheVariants as shape
 
 went : {B E R : Type 0} {b : B} {Stops : E → Type 0} → ((stop : E) × Stops stop × (Ok b ≡ Err stop)) ⊎ R → R
@@ -156,9 +155,9 @@ marks old new count was h =
     let sizes : new.now.trees 9 ≡ [] = rest.1.1.1.1.0 (λ e. omega (arith, e)) ∙ none.1.1.1.1.0 in
     let noted : new.now.trees 11 ≡ [] = rest.1.1.1.1.1.0 (λ e. omega (arith, e)) ∙ none.1.1.1.1.1.0 in
     let skipped : new.now.trees 13 ≡ [] = rest.1.1.1.1.1.1.0 (λ e. omega (arith, e)) ∙ none.1.1.1.1.1.1.0 in
-    let shaped : AreShaped store_schema.tables new.now.trees =
-    (subst (IsShaped shape.Table) (sym row) ((tt, tt), (refl, tt)), (empty_shaped tables, (empty_shaped columns, (empty_shaped cells, (empty_shaped lists, (empty_shaped sizes, (empty_shaped noted, (empty_shaped skipped, tt)))))))) in (
-      record { schema = wrote.schema; sound = wrote.sound; shaped = shaped; marked = ap (map (λ (r : Row). column r 2)) row },
+    let shaped : AreNumbered store_schema.tables new.now.trees =
+    (subst (HasOwnRowids) (sym row) ((tt, tt), (refl, tt)), (empty_shaped tables, (empty_shaped columns, (empty_shaped cells, (empty_shaped lists, (empty_shaped sizes, (empty_shaped noted, (empty_shaped skipped, tt)))))))) in (
+      record { schema = wrote.schema; sound = wrote.sound; numbered = shaped; marked = ap (map (λ (r : Row). column r 2)) row },
       λ i. record {
         tables = keyed int_cmp (map table_entry (tables i));
         columns = keyed column_key_cmp (map column_entry (columns i));
@@ -170,8 +169,8 @@ marks old new count was h =
       },
     )
   where
-    empty_shaped : {rows : List Row} → rows ≡ [] → IsShaped shape.Table rows
-    empty_shaped e = subst (IsShaped shape.Table) (sym e) (tt, tt)
+    empty_shaped : {rows : List Row} → rows ≡ [] → HasOwnRowids rows
+    empty_shaped e = subst (HasOwnRowids) (sym e) (tt, tt)
 
 -- a database without tables is one of an empty schema
 pub is_bare : (db : Database) → IsDatabase db → db.schema ≡ no_schema → IsEmptyOf no_schema db
@@ -180,4 +179,4 @@ is_bare db sound schema = record { schema = schema; empty = tt; sound = sound }
 -- what a commit writes is the empty store
 pub stored : (now : Database) → IsStore now → value_of now.trees ≡ nothing_held → (db : Trees) → db ≡ now.trees → IsStored db nothing_held
 stored now store is db same =
-    subst (λ t. IsStored t nothing_held) (sym same) (record { sound = subst (λ s. IsSound s now.trees) store.schema store.sound; shaped = store.shaped; marked = store.marked; is = is })
+    subst (λ t. IsStored t nothing_held) (sym same) (record { sound = subst (λ s. IsSound s now.trees) store.schema store.sound; numbered = store.numbered; marked = store.marked; is = is })

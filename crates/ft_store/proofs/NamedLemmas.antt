@@ -13,7 +13,7 @@ use Rattle.sqlite_value.specs.Order.{bytes}
 use Rattle.sqlite_value.specs.Keys.{without_case}
 use Rattle.sqlite.specs.Tree.{Trees}
 use Rattle.sqlite_trees.specs.Tree.{IsAscending}
-use Rattle.sqlite_trees.specs.View.{IsShaped}
+use Rattle.ft_store.specs.Calls.{HasOwnRowids}
 use Rattle.sqlite_trees.specs.declared.store.Shape.TheVariants as shape
 use Rattle.sqlite_catalog.specs.Listing.{IsSound}
 use Rattle.ft_store.specs.Tables.{store_schema}
@@ -103,7 +103,7 @@ no_repeat : (es : List (ℤ × List ℕ)) → IsAscending (λ (a b : ℤ × List
 no_repeat [] up = refl
 no_repeat (e ∷ es) up = rw (none_same e.1 es up.0) (no_repeat es up.1)
 
-pub named_apart : (db : Trees) → IsSound store_schema db → IsShaped shape.Table (db 1) → AreNamedApart (value_of db)
+pub named_apart : (db : Trees) → IsSound store_schema db → HasOwnRowids (db 1) → AreNamedApart (value_of db)
 named_apart db sound shaped =
     no_repeat (keyed int_cmp (map table_entry (db 1))) (pairs-keyed int_cmp Differ (λ a b h e. h (sym e)) (map table_entry (db 1)) (pairs_differ (db 1) (cases_apart db sound shaped)))
 

@@ -164,7 +164,7 @@ all_gone old last changes i v end goes is_open db is =
     let at = goes.going is_open in
     subst (λ t. IsStored t (all_applied (map shown_change changes) v)) (sym is) (record {
       sound = subst (λ s. IsSound s last.now.trees) at.1.schema at.1.sound;
-      shaped = at.1.shaped;
+      numbered = at.1.numbered;
       marked = at.1.marked;
       is = at.2 ∙ ap (λ l. all_applied (map shown_change l) v) (take_all i changes end);
     })

@@ -8,7 +8,8 @@ use Rattle.sqlite_value.specs.Order.{value_cmp, bytes}
 use Rattle.sqlite.specs.Tree.{Trees}
 use Rattle.sqlite.specs.Edit.{id_in}
 use Rattle.sqlite_trees.specs.Tree.{rowid}
-use Rattle.sqlite_trees.specs.View.{is_int, IsShaped}
+use Rattle.sqlite_trees.specs.View.{is_int}
+use Rattle.ft_store.specs.Calls.{HasOwnRowids}
 use Rattle.sqlite_trees.specs.declared.store.Shape.TheVariants as shape
 use Rattle.sqlite_sql.specs.Ops.{is_null, is_false, binary}
 use Rattle.sqlite_sql.specs.declared.ops.BinaryOp.TheVariants.{Or, Is}
@@ -87,7 +88,7 @@ name_typed db (r ∷ v ∷ w ∷ values) typed id = record {
   name = is_text w (and_first _ _ (and_second _ _ (and_first _ _ typed.0))) (not_null _ (and_first _ _ typed.1));
 }
 
-pub are_names : (db : Trees) → IsSound store_schema db → IsShaped shape.Table (db 1) → AllByRecursion IsNameRow (db 1)
+pub are_names : (db : Trees) → IsSound store_schema db → HasOwnRowids (db 1) → AllByRecursion IsNameRow (db 1)
 are_names db sound shaped =
     let typed = all_both _ (λ row. passes NotNull store_schema db (tab_table 1) row ≡ true) (λ row. (passes Datatype store_schema db (tab_table 1) row ≡ true) × (passes NotNull store_schema db (tab_table 1) row ≡ true)) (λ row h k. (h, k)) (db 1) (sound.obeys.rules Datatype).1.0 (sound.obeys.rules NotNull).1.0 in
     all_both _ (λ row. IsTrue (is_int (rowid row))) IsNameRow (name_typed db) (db 1) typed shaped.1

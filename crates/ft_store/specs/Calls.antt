@@ -1,12 +1,12 @@
 -- What a call does to a store.
-use Rattle.std.specs.Prelude.{◌≡◌, ℕ, ◌+◌, ◌-◌, ◌^◌, min, ℤ, pos, true, false, Result, List, [], ◌∷◌, map, IsTrue, OnOk}
+use Rattle.std.specs.Prelude.{◌≡◌, ◌≢◌, ◌⊎◌, ℕ, ◌+◌, ◌-◌, ◌^◌, min, ℤ, pos, true, false, Result, List, [], ◌∷◌, map, IsTrue, OnOk}
 use Rattle.std.specs.List.{AllByRecursion}
 use Rattle.std.specs.Coded.{Coded, code_by, coded×, coded_ℕ}
 use Rattle.sqlite.specs.declared.types.Value.TheVariants as value
 use Rattle.sqlite.specs.Order.{Row, column}
 use Rattle.sqlite.specs.Tree.{Trees}
-use Rattle.sqlite_trees.specs.View.{IsShaped}
-use Rattle.sqlite_trees.specs.declared.store.Shape.TheVariants as shape
+use Rattle.sqlite_trees.specs.Tree.{IsAscending, rowid}
+use Rattle.sqlite_trees.specs.View.{is_int}
 use Rattle.sqlite_catalog.specs.Listing.{IsSound}
 use Rattle.sqlite.specs.Schema.{Schema}
 use Rattle.sqlite.specs.Table.{Table}
@@ -15,13 +15,18 @@ use Rattle.sqlite.specs.State.{State, HasCleanDisk, Shows, Survives, KeepsCommit
 use Rattle.sqlite.specs.Store.{Ghosts}
 use Rattle.sqlite.specs.Held.{Held, held_code, state}
 use Rattle.ft_store.specs.declared.fault.StoreFault.{StoreFault}
+use Rattle.ft_store.specs.declared.fault.StoreFault.TheVariants as fault
 use Rattle.ft_store.specs.Tables.{store_schema}
 use Rattle.ft_store.specs.Store.{StoreValue}
 use Rattle.ft_store.specs.Rows.{value_of}
 
--- each table of a schema has its rows in the order of their rowids
-abbrev pub AreShaped : List Table → Trees → Type 0
-AreShaped tables db = AllByRecursion (λ t. IsShaped shape.Table (db t.tree)) tables
+-- the rowids are integers, and no two rows have one
+abbrev pub HasOwnRowids : List Row → Type 0
+HasOwnRowids rows = IsAscending (λ a b. rowid a ≢ rowid b) rows × AllByRecursion (λ r. IsTrue (is_int (rowid r))) rows
+
+-- so it is in each table of a schema
+abbrev pub AreNumbered : List Table → Trees → Type 0
+AreNumbered tables db = AllByRecursion (λ t. HasOwnRowids (db t.tree)) tables
 
 -- `meta` has one row, with the version
 abbrev pub IsMarked : Trees → Type 0
@@ -31,7 +36,7 @@ IsMarked db = map (λ (r : Row). column r 2) (db 0) ≡ value.Int (pos 3) ∷ []
 pub record IsStore (db : Database) : Type 0 where
   pub schema : db.schema ≡ store_schema
   pub sound : IsDatabase db
-  pub shaped : AreShaped store_schema.tables db.trees
+  pub numbered : AreNumbered store_schema.tables db.trees
   pub marked : IsMarked db.trees
 
 -- what a step inside a transaction makes
@@ -80,9 +85,13 @@ pub record Goes (old now : State) (value : StoreValue) : Type 0 where
 -- trees that are a store with this value, as an adoption finds them
 pub record IsStored (db : Trees) (value : StoreValue) : Type 0 where
   pub sound : IsSound store_schema db
-  pub shaped : AreShaped store_schema.tables db
+  pub numbered : AreNumbered store_schema.tables db
   pub marked : IsMarked db
   pub is : value_of db ≡ value
+
+-- want of memory, or a refusal by the database
+abbrev pub IsPlainFault : StoreFault → Type 0
+IsPlainFault e = (e ≡ fault.Memory) ⊎ (e ≡ fault.Refused)
 
 -- what is kept true of the connection of a store between calls
 abbrev pub IsStoreIfOpen : State → Type 0

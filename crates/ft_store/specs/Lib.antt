@@ -1,3 +1,4 @@
+pub mod Adopted
 pub mod Calls
 pub mod Changes
 pub mod Found
@@ -6,6 +7,8 @@ pub mod Made
 pub mod Packed
 pub mod Range
 pub mod Rows
+pub mod Same
+pub mod Scan
 pub mod Shown
 pub mod Store
 pub mod Tables

@@ -1,12 +1,15 @@
 //! Rows of full-text tables in an SQL database of their own.
 #![tactic(auto)]
 
+mod adopt;
+mod examine;
 mod fault;
 mod lists;
 mod make;
 mod packed;
 mod read;
 mod rows;
+mod same;
 mod statements;
 mod store;
 mod tables;
@@ -15,4 +18,4 @@ mod write;
 pub use fault::StoreFault;
 pub use packed::packed_lists;
 pub use rows::{CellRow, EntryRow, RowChange, SizeRow, Spot, TabRow, Value};
-pub use store::Store;
+pub use store::{AdoptFault, Store};

@@ -1,5 +1,5 @@
 //! The tables of an empty store, made in one transaction.
-ghost use Rattle.std.specs.Prelude.{◌≡◌, false, true, ℕ, [], IsTrue, OnOk, OnErr, Ok};
+ghost use Rattle.std.specs.Prelude.{◌≡◌, false, true, ℕ, [], IsTrue, IfErr, OnOk, OnErr, Ok};
 ghost use Rattle.sqlite.specs.State.{HasCleanDisk, Survives, Shows};
 ghost use Rattle.sqlite.specs.Held.{state};
 ghost use Rattle.sqlite.specs.Schema.{Schema};
@@ -8,7 +8,7 @@ ghost use Rattle.sqlite.specs.Change.{created};
 ghost use Rattle.ft_store.specs.Tables.{no_schema, store_schema};
 ghost use Rattle.ft_store.specs.Store.{nothing_held};
 ghost use Rattle.ft_store.specs.Rows.{value_of};
-ghost use Rattle.ft_store.specs.Calls.{IsStore, IsStored, Keeps, KeepsLast, LeavesNothing};
+ghost use Rattle.ft_store.specs.Calls.{IsPlainFault, IsStore, IsStored, Keeps, KeepsLast, LeavesNothing};
 ghost use Rattle.ft_store.specs.Made.{IsEmptyOf, Makes};
 
 use crate::fault::StoreFault;
@@ -20,6 +20,7 @@ fn create<S: Alter>(tx: &mut Transaction<'_, S>, sql: &str) -> Result<(), StoreF
     ensures steps { HasCleanDisk (state S.Store tx.new.conn.now) → IsTrue (state S.Store tx.old.conn.now).in_transaction
         → OnOk result ((s : Schema) (table : Table) → Makes s sql.now table → (IsTrue (state S.Store tx.old.conn.now).is_open → IsEmptyOf s (state S.Store tx.old.conn.now).now)
         → IsEmptyOf (created s table) (state S.Store tx.new.conn.now).now × Shows (state S.Store tx.old.conn.now) (state S.Store tx.new.conn.now) (state S.Store tx.new.conn.now).now (state S.Store tx.old.conn.now).committed true) }
+    ensures fault { IfErr result IsPlainFault }
     ensures kept { KeepsLast S.Store tx.old.conn.now tx.new.conn.now }
     ensures survives { LeavesNothing S.Store tx.old.conn.now tx.new.conn.now }
 {
@@ -31,6 +32,7 @@ fn create_all<S: Alter>(tx: &mut Transaction<'_, S>) -> Result<(), StoreFault>
     ensures same_reference { tx.new.conn.ghost_name ≡ tx.old.conn.ghost_name }
     ensures steps { HasCleanDisk (state S.Store tx.new.conn.now) → IsTrue (state S.Store tx.old.conn.now).in_transaction → (IsTrue (state S.Store tx.old.conn.now).is_open → IsEmptyOf no_schema (state S.Store tx.old.conn.now).now)
         → OnOk result (IsEmptyOf store_schema (state S.Store tx.new.conn.now).now × Shows (state S.Store tx.old.conn.now) (state S.Store tx.new.conn.now) (state S.Store tx.new.conn.now).now (state S.Store tx.old.conn.now).committed true) }
+    ensures fault { IfErr result IsPlainFault }
     ensures kept { KeepsLast S.Store tx.old.conn.now tx.new.conn.now }
     ensures survives { LeavesNothing S.Store tx.old.conn.now tx.new.conn.now }
 {
@@ -73,6 +75,7 @@ fn mark<S: Alter>(tx: &mut Transaction<'_, S>) -> Result<(), StoreFault>
     ensures same_reference { tx.new.conn.ghost_name ≡ tx.old.conn.ghost_name }
     ensures steps { HasCleanDisk (state S.Store tx.new.conn.now) → IsTrue (state S.Store tx.old.conn.now).in_transaction → (IsTrue (state S.Store tx.old.conn.now).is_open → IsEmptyOf store_schema (state S.Store tx.old.conn.now).now)
         → OnOk result (IsStore (state S.Store tx.new.conn.now).now × (value_of (state S.Store tx.new.conn.now).now.trees ≡ nothing_held) × Shows (state S.Store tx.old.conn.now) (state S.Store tx.new.conn.now) (state S.Store tx.new.conn.now).now (state S.Store tx.old.conn.now).committed true) }
+    ensures fault { IfErr result IsPlainFault }
     ensures kept { KeepsLast S.Store tx.old.conn.now tx.new.conn.now }
     ensures survives { LeavesNothing S.Store tx.old.conn.now tx.new.conn.now }
 {
@@ -85,6 +88,7 @@ pub(crate) fn make<S: Alter>(conn: &mut Connection<S>) -> Result<(), StoreFault>
     requires empty { HasCleanDisk (state S.Store conn.old) → IsTrue (state S.Store conn.old).is_open → (state S.Store conn.old).now.schema ≡ no_schema }
     ensures all { HasCleanDisk (state S.Store conn.new) → OnOk result (IsStore (state S.Store conn.new).now × (value_of (state S.Store conn.new).now.trees ≡ nothing_held)) }
     ensures none { HasCleanDisk (state S.Store conn.new) → OnErr result (Keeps (state S.Store conn.old) (state S.Store conn.new)) }
+    ensures fault { IfErr result IsPlainFault }
     ensures mode { (state S.Store conn.new).in_transaction ≡ false }
     ensures crash { Survives (state S.Store conn.old) (state S.Store conn.new) (λ db. IsTrue (state S.Store conn.old).is_open → IsStored db nothing_held) }
 {

@@ -1,5 +1,5 @@
 //! Queries, each with the rows of the store's value that it gives.
-ghost use Rattle.std.specs.Prelude.{◌≡◌, false, ◌&&◌, Err, map, slice_get, option_map, IsTrue, IfOk, OnOk};
+ghost use Rattle.std.specs.Prelude.{◌≡◌, false, ◌&&◌, Err, map, slice_get, option_map, IsTrue, IfOk, IfErr, OnOk};
 ghost use Rattle.std.specs.Ordering.{int_eq};
 ghost use Rattle.std.specs.FinMap.Entries.{where_key};
 ghost use Rattle.sqlite.specs.State.{HasCleanDisk, Survives, Shown};
@@ -13,7 +13,7 @@ ghost use Rattle.ft_store.specs.Store.{cell_key_cmp, column_key_cmp};
 ghost use Rattle.ft_store.specs.Rows.{value_of};
 ghost use Rattle.ft_store.specs.Found.{found_table, found_column, found_skip, found_cell, found_size, found_note};
 ghost use Rattle.ft_store.specs.Shown.{shown_cell, shown_size, shown_name, shown_column, shown_skip, shown_note, last_docid_of};
-ghost use Rattle.ft_store.specs.Calls.{IsStoreIfOpen, Keeps};
+ghost use Rattle.ft_store.specs.Calls.{IsStoreIfOpen, IsPlainFault, Keeps};
 
 use crate::fault::StoreFault;
 use crate::rows::{CellRow, SizeRow, Value};
@@ -34,6 +34,7 @@ pub(crate) fn select<S: Alter>(
     ensures live { HasCleanDisk (state S.Store conn.new) → OnOk result (IsTrue (state S.Store conn.new).is_open) }
     ensures mode { (state S.Store conn.new).in_transaction ≡ false }
     ensures whole { ¬ (result ≡ Err StoreFault.Damaged) }
+    ensures fault { IfErr result IsPlainFault }
     ensures survives { Survives (state S.Store conn.old) (state S.Store conn.new) (λ _. IsTrue (state S.Store conn.old).is_open → ⊥) }
 {
     let _schema = conn.schema();

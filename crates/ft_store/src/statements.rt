@@ -1,5 +1,5 @@
 //! The statements that change rows, each with what it makes of the store's value.
-ghost use Rattle.std.specs.Prelude.{◌≡◌, ℕ, [], not, ◌&&◌, unwrap_or, IsTrue, OnOk, Ok, None};
+ghost use Rattle.std.specs.Prelude.{◌≡◌, ℕ, [], not, ◌&&◌, unwrap_or, IsTrue, IfErr, OnOk, Ok, None};
 ghost use Rattle.std.specs.Ordering.{int_cmp, int_eq, eq_by_cmp};
 ghost use Rattle.std.specs.FinMap.Entries.{put, where_key, find};
 ghost use Rattle.sqlite.specs.State.{HasCleanDisk, Survives, ExecutesInside, KeepsCommit};
@@ -11,7 +11,7 @@ ghost use Rattle.sqlite.specs.declared.types.Value.TheVariants.{Int};
 ghost use Rattle.ft_store.specs.Packed.{spots_in};
 ghost use Rattle.ft_store.specs.Store.{StoreValue, cell_key_cmp, list_key_cmp, column_key_cmp, name_cmp};
 ghost use Rattle.ft_store.specs.Changes.{shown_value, num_of, txt_of};
-ghost use Rattle.ft_store.specs.Calls.{StepsOnOk, AddsOnOk, KeepsLast, LeavesNothing};
+ghost use Rattle.ft_store.specs.Calls.{IsPlainFault, StepsOnOk, AddsOnOk, KeepsLast, LeavesNothing};
 
 use crate::fault::StoreFault;
 use crate::rows::Value;
@@ -27,6 +27,7 @@ pub(crate) fn run<S: Alter>(
     ensures same_reference { tx.new.conn.ghost_name ≡ tx.old.conn.ghost_name }
     ensures ran { HasCleanDisk (state S.Store tx.new.conn.now) → IsTrue (state S.Store tx.old.conn.now).in_transaction
         → OnOk result ((count : ℕ) × ExecutesInside 0 sql.now (bound params.now) (state S.Store tx.old.conn.now) (state S.Store tx.new.conn.now) (Ok count)) }
+    ensures fault { IfErr result IsPlainFault }
     ensures kept { KeepsLast S.Store tx.old.conn.now tx.new.conn.now }
     ensures survives { LeavesNothing S.Store tx.old.conn.now tx.new.conn.now }
 {

@@ -1,4 +1,4 @@
-ghost use Rattle.std.specs.Prelude.{◌≡◌, ◌&&◌, Err, map, vec_len, length, option_to_list, nat_eq, All, IsTrue, IfOk, OnOk, OnErr};
+ghost use Rattle.std.specs.Prelude.{◌≡◌, ◌&&◌, false, Err, MatchResult, IfErr, map, vec_len, length, option_to_list, nat_eq, All, IsTrue, IfOk, OnOk, OnErr};
 ghost use Rattle.std.specs.Ordering.{int_eq, is_eq};
 ghost use Rattle.std.specs.List.{starts_with};
 ghost use Rattle.std.specs.FinMap.Entries.{where_key};
@@ -7,15 +7,20 @@ ghost use Rattle.ft_store.specs.Store.{cell_key_cmp, list_key_cmp, name_cmp, not
 ghost use Rattle.ft_store.specs.Changes.{shown_change, CanApply};
 ghost use Rattle.ft_store.specs.Shown.{shown_cell, shown_size, shown_note, shown_entry, tables_listed, shown_table, last_docid_of, entries_of, AreWhole, SomeDamaged, AreNamedApart};
 ghost use Rattle.ft_store.specs.Calls.{IsStored, Keeps};
+ghost use Rattle.ft_store.specs.Adopted.{IsTaken, IsNotTaken, LeavesEmpty};
 
+use crate::adopt::take;
 use crate::fault::StoreFault;
 use crate::make::make;
 use crate::rows::{CellRow, EntryRow, RowChange, SizeRow, TabRow};
 use crate::{lists, read, tables, write};
 use ram_disk::{Ram, open_ram};
-use sqlite::{Alter, Connection, FileStore};
+use sqlite::{Alter, Connection, File, FileStore};
 use std::alloc::Global;
 use std::marker::Model;
+
+/// How many rows the reads of a new store gave.
+const UNREAD: u64 = 0;
 
 /// Rows of full-text tables, in a database that holds nothing else.
 ///
@@ -40,6 +45,13 @@ impl<S: Alter> Model for Store<S> {
     ghost invariant = { λ s. IsKept S.Store s.conn };
 }
 
+/// Why a database is not taken as a store, with its connection as it was.
+#[derive(Drop)]
+pub struct AdoptFault<S: Alter> {
+    pub connection: Connection<S>,
+    pub cause: StoreFault,
+}
+
 impl Store<FileStore<Ram>> {
     ghost use Rattle.sqlite.specs.Files.{over_files};
     ghost use Rattle.ft_store.specs.Kept.{shows, value_in};
@@ -55,13 +67,48 @@ impl Store<FileStore<Ram>> {
         Ok(Store {
             conn,
             alloc,
-            rows_read: 0,
+            rows_read: UNREAD,
         })
+    }
+}
+
+impl Store<FileStore<File>> {
+    /// The store in a file, which is made where it isn't there. `:memory:` is refused.
+    pub fn open_file(rt: &HostRuntime, path: &str) -> Result<Store<FileStore<File>>, StoreFault>
+        ensures unread { IfOk result (λ store. store.rows_read ≡ 0) }
+    {
+        let conn = Connection::open(rt, path)?;
+        match Store::adopt(rt.alloc(), conn) {
+            Ok(store) => Ok(store),
+            Err(fault) => Err(fault.cause),
+        }
     }
 }
 
 impl<S: Alter> Store<S> {
     ghost use Rattle.ft_store.specs.Kept.{shows, value_in, more_rows};
+
+    /// Takes a database that holds a store, as it is, or one without objects, which becomes an empty store in one
+    /// transaction. Any other is handed back as it was.
+    pub fn adopt(alloc: Global, conn: Connection<S>) -> Result<Store<S>, AdoptFault<S>>
+        requires { conn.in_transaction ≡ false }
+        ensures taken { IfOk result (λ store. IsTaken S.Store conn store.held × (store.rows_read ≡ 0)) }
+        ensures refused { IfErr result (λ fault. IsNotTaken S.Store conn fault.connection fault.cause) }
+        ensures crash { MatchResult result (λ store. LeavesEmpty S.Store conn store.held) (λ fault. LeavesEmpty S.Store conn fault.connection) }
+    {
+        let mut conn = conn;
+        match take(&mut conn) {
+            Ok(()) => Ok(Store {
+                conn,
+                alloc,
+                rows_read: UNREAD,
+            }),
+            Err(cause) => Err(AdoptFault {
+                connection: conn,
+                cause,
+            }),
+        }
+    }
 
     /// All tables, by rising number, each with its columns and the numbers of those that aren't indexed.
     pub fn tables(&mut self) -> Result<Vec<TabRow>, StoreFault>

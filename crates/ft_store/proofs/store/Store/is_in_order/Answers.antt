@@ -11,4 +11,4 @@ pub returns-clause-names : goal.returns-clause-names
 returns-clause-names g c clean is_open =
     let kept = (subst (λ s. IsKept g.S.Store s.held) c.self.view_is c.self.invariant).store clean is_open in
     let db = (shows g.S.Store c.args.self.now).now.trees in
-    named_apart db (subst (λ s. IsSound s db) kept.schema kept.sound) kept.shaped.1.0
+    named_apart db (subst (λ s. IsSound s db) kept.schema kept.sound) kept.numbered.1.0

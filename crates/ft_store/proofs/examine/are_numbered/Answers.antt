@@ -1,0 +1,33 @@
+use Rattle.std.proofs.Common.{◌≡◌, ℕ, ◌<◌, sym, ap, subst, ◌∙◌, arith, below_more, IsTrue}
+use Rattle.sqlite.specs.Effect.{Database}
+use Rattle.sqlite.specs.Held.{state}
+use Rattle.sqlite.specs.State.{HasCleanDisk}
+use Rattle.ft_store.specs.Tables.{store_schema}
+use Rattle.ft_store.specs.Scan.{tree_at}
+use Rattle.ft_store.specs.Calls.{HasOwnRowids}
+use Rattle.ft_store.proofs.ChainLemmas.{Looking, no_look, look_kept, look_survives, look_on}
+use Rattle.ft_store.proofs.ScanLemmas.{each_numbered}
+use Rattle.ft_store.proofs.examine.are_numbered.Goals as goal
+
+pub is_numbered-requires-clause-schema : goal.is_numbered-requires-clause-schema
+is_numbered-requires-clause-schema g c clean is_open =
+    let before = c.loop-at.invariant.0 in
+    let kept = before.kept clean is_open in
+    ap (λ (d : Database). d.schema) kept.0 ∙ c.requires.schema (omega (arith, before.survives.clean, clean)) kept.2
+
+pub loop-at-preserved : goal.loop-at-preserved
+loop-at-preserved g c =
+    let old = state g.S.Store c.args.conn.now in
+    let was = state g.S.Store c.loop-at.conn in
+    let now = state g.S.Store c.is_numbered.new.conn in
+    let before = c.loop-at.invariant in (
+      look_on old was now before.0 c.is_numbered.ensures.kept c.is_numbered.ensures.survives c.is_numbered.ensures.mode c.in_ok-is_numbered.ensures.live,
+      λ clean.
+          let clean_was : HasCleanDisk was = omega (arith, c.is_numbered.ensures.survives.clean, clean) in
+          let is_open = (c.is_numbered.ensures.kept clean (c.in_ok-is_numbered.ensures.live clean)).2 in
+          let same = (before.0.kept clean_was is_open).0 in
+          below_more (λ i. HasOwnRowids (old.now.trees (tree_at i))) c.loop-at.at (before.1 clean_was) (subst (λ (d : Database). HasOwnRowids (d.trees (tree_at c.loop-at.at))) same (c.in_ok-is_numbered.ensures.own clean c.if-not-branch.false)),
+    )
+
+pub returns-clause-own : goal.returns-clause-own
+returns-clause-own g c clean holds = each_numbered (state g.S.Store c.args.conn.now).now.trees (λ i below. c.loop-at.invariant.1 clean i (omega (arith, c.loop-at-test.false, below)))

@@ -1,0 +1,13 @@
+use Rattle.std.proofs.Common.{◌≡◌, ℕ, ◌<◌, false, IsTrue}
+use Rattle.sqlite.specs.Held.{state}
+use Rattle.sqlite.specs.State.{HasCleanDisk, Survives}
+use Rattle.ft_store.specs.Scan.{tree_at}
+use Rattle.ft_store.specs.Calls.{HasOwnRowids, Keeps}
+use Rattle.ft_store.proofs.ChainLemmas.{Looking}
+use Rattle.ft_store.proofs.examine.are_numbered.Given as goal
+
+abbrev pub invariant-loop-at : goal.invariant-loop-at
+invariant-loop-at g l =
+    let old = state g.S.Store l.fn.conn in
+    let now = state g.S.Store l.conn in
+    Looking old now × (HasCleanDisk now → (i : ℕ) → i < l.at → HasOwnRowids (old.now.trees (tree_at i)))

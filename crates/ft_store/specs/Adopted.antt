@@ -1,0 +1,90 @@
+-- Why a database that is not a store is not taken (own choice).
+use Rattle.std.specs.Prelude.{◌≡◌, ◌≢◌, ◌⊎◌, ℤ, pos, false, length, map, IsTrue, Bool, if◌then◌else◌, List, [], ◌∷◌, true, Result, Ok, Err, Vec}
+use Rattle.std.specs.List.{list_any}
+use Rattle.std.specs.Ordering.{int_eq}
+use Rattle.std.specs.declared.alloc.Global.{Global}
+use Rattle.sqlite.specs.declared.error.Error.{Error}
+use Rattle.sqlite.specs.declared.error.Error.TheVariants.{SqliteFailure}
+use Rattle.sqlite.specs.declared.error.ErrorCode.TheVariants as code
+use Rattle.sqlite.specs.declared.types.Value.{Value}
+use Rattle.sqlite.specs.declared.types.Value.TheVariants.{Int}
+use Rattle.sqlite.specs.Schema.{Schema}
+use Rattle.sqlite_schema.specs.Names.{same_name}
+use Rattle.ft_store.specs.declared.fault.StoreFault.{StoreFault}
+use Rattle.ft_store.specs.declared.fault.StoreFault.TheVariants as fault
+use Rattle.sqlite.specs.Order.{Row, column}
+use Rattle.sqlite.specs.State.{State, HasCleanDisk, Survives, Shown, FailsToQuery, IsTooLate}
+use Rattle.sqlite.specs.Store.{Ghosts}
+use Rattle.sqlite.specs.Held.{Held, state}
+use Rattle.std.specs.Prelude.{codes, ℕ}
+use Rattle.ft_store.specs.Tables.{no_schema, store_schema}
+use Rattle.ft_store.specs.Store.{nothing_held}
+use Rattle.ft_store.specs.Rows.{value_of}
+use Rattle.ft_store.specs.Calls.{IsPlainFault, IsStored, Keeps}
+
+abbrev pub version_query : List ℕ
+version_query = codes "SELECT version FROM meta"
+
+-- what a query gives, or why it is refused
+abbrev pub Gives : State → State → Result (Vec Row Global) Error → Type 0
+Gives old new (Ok rows) = Shown version_query [] old new rows.items
+Gives old new (Err e) = FailsToQuery version_query [] old new e ⊎ IsTooLate version_query [] old new e
+
+-- the database answers so when it is asked for its version, in a transaction
+abbrev pub TellsAs : {S : Type 0} → Ghosts S → Held S → Result (Vec Row Global) Error → Type 0
+TellsAs {S} g old result = (after : Held S) × Gives (state g (record old { in_transaction = true })) (state g after) result
+
+-- the version is the one that stores have, or another
+abbrev pub version_cause : Value → StoreFault
+version_cause (Int n) = if int_eq n (pos 3) then fault.Refused else fault.Version n
+version_cause _ = fault.NotAStore
+
+-- `meta` has one row, with a number
+abbrev pub rows_cause : List Row → StoreFault
+rows_cause [] = fault.NotAStore
+rows_cause (row ∷ []) = version_cause (column row 0)
+rows_cause (row ∷ second ∷ more) = fault.NotAStore
+
+-- what comes of memory and disk says nothing of the database
+abbrev pub error_cause : Error → StoreFault
+error_cause (SqliteFailure code.OutOfMemory) = fault.Memory
+error_cause (SqliteFailure code.SystemIoFailure) = fault.Refused
+error_cause (SqliteFailure code.DatabaseCorrupt) = fault.Refused
+error_cause (SqliteFailure code.DiskFull) = fault.Refused
+error_cause (SqliteFailure code.Closed) = fault.Refused
+error_cause _ = fault.NotAStore
+
+-- why a database that tells this of its version is not taken
+abbrev pub told_cause : Result (Vec Row Global) Error → StoreFault
+told_cause (Ok rows) = rows_cause rows.items
+told_cause (Err e) = error_cause e
+
+-- the tables of a store
+abbrev pub our_names : List (List ℕ)
+our_names = codes "meta" ∷ codes "tab" ∷ codes "col" ∷ codes "cell" ∷ codes "posting" ∷ codes "sizes" ∷ codes "noted" ∷ codes "skip" ∷ []
+
+-- one of them is a table here
+abbrev pub has_our_name : Schema → Bool
+has_our_name schema = list_any (λ t. list_any (same_name t.name) our_names) schema.tables
+
+-- A database is taken as a store. One that had no object holds the empty store then; any other has the tables of a store,
+-- and is as it was.
+pub record IsTaken {S : Type 0} (g : Ghosts S) (old new : Held S) : Type 0 where
+  pub bare : HasCleanDisk (state g new) → IsTrue (state g new).is_open → old.schema ≡ no_schema → value_of (state g new).now.trees ≡ nothing_held
+  pub held : HasCleanDisk (state g new) → IsTrue (state g new).is_open → old.schema ≢ no_schema → (old.schema ≡ store_schema) × ((state g new).now ≡ (state g old).now)
+
+-- A database is not taken, and is as it was.
+pub record IsNotTaken {S : Type 0} (g : Ghosts S) (old new : Held S) (cause : StoreFault) : Type 0 where
+  pub kept : HasCleanDisk (state g new) → Keeps (state g old) (state g new)
+  -- a database without objects is not made a store for want of memory, or since it refused
+  pub bare : old.schema ≡ no_schema → IsPlainFault cause
+  -- with the tables of a store `meta` decides
+  pub unmarked : HasCleanDisk (state g new) → old.schema ≡ store_schema → cause ≡ fault.NotAStore → length ((state g old).now.trees 0) ≢ 1
+  pub version : HasCleanDisk (state g new) → (n : ℤ) → old.schema ≡ store_schema → cause ≡ fault.Version n → (map (λ (r : Row). column r 2) ((state g old).now.trees 0) ≡ Int n ∷ []) × (n ≢ pos 3)
+  -- with other tables it is what the database tells, if one of them has a name of ours
+  pub other : old.schema ≢ no_schema → old.schema ≢ store_schema → has_our_name old.schema ≡ false → cause ≡ fault.Refused
+  pub told : HasCleanDisk (state g new) → old.schema ≢ no_schema → old.schema ≢ store_schema → IsTrue (has_our_name old.schema) → (found : Result (Vec Row Global) Error) × TellsAs g old found × (cause ≡ told_cause found)
+
+-- a crash leaves what it could leave before, or an empty store in a database that had no object
+abbrev pub LeavesEmpty : {S : Type 0} → Ghosts S → Held S → Held S → Type 0
+LeavesEmpty g old new = Survives (state g old) (state g new) (λ db. IsTrue (state g old).is_open → (old.schema ≡ no_schema) × IsStored db nothing_held)

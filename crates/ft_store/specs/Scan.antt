@@ -1,0 +1,37 @@
+-- What is seen of a database that has the tables of a store, before it is taken for one (own choice).
+use Rattle.std.specs.Prelude.{◌≡◌, ℕ, ◌-◌, ◌*◌, pos, negsuc, false, List, [], ◌∷◌, None}
+use Rattle.sqlite.specs.declared.types.Value.TheVariants.{Int}
+use Rattle.sqlite.specs.Command.TheVariants.{Select}
+use Rattle.sqlite.specs.Query.{Query, inner, end}
+use Rattle.sqlite.specs.Term.{lit, col}
+use Rattle.sqlite.specs.Collation.TheVariants.{Binary}
+use Rattle.sqlite_value.specs.Keys.{ascending}
+use Rattle.sqlite.specs.Listing.{understood, reads_listing}
+use Rattle.sqlite.specs.Given.{IsPlain}
+use Rattle.ft_store.specs.Tables.{store_schema}
+use Rattle.ft_store.specs.Made.{command_of}
+
+-- the query of the rowids of a tree, in their order
+abbrev pub rowids_of : ℕ → Query
+rowids_of tree = record {
+  from = inner tree end;
+  filter = [];
+  group = None;
+  project = col 1 0 ∷ [];
+  distinct = false;
+  collations = [];
+  order = (col 1 0, ascending Binary) ∷ [];
+  limit = lit (Int (negsuc 0));
+  offset = lit (Int (pos 0));
+}
+
+-- over the tables of a store the text is that query
+pub record Scans (text : List ℕ) (tree : ℕ) : Type 0 where
+  pub names : List (List ℕ)
+  pub is : command_of (understood store_schema text) ≡ Select (record { lets = []; body = rowids_of tree }) names
+  pub plain : IsPlain (understood store_schema text)
+  pub unlisted : reads_listing store_schema text ≡ false
+
+-- the tree of each of the eight tables, in the order of the schema
+abbrev pub tree_at : ℕ → ℕ
+tree_at at = 2 * at - 1

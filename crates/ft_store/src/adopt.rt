@@ -1,0 +1,132 @@
+//! Whether a database is taken as a store.
+ghost use Rattle.std.specs.Prelude.{◌≡◌, ◌≢◌, false, true, Err, IsTrue, IfErr, OnOk};
+ghost use Rattle.std.specs.List.{list_any};
+ghost use Rattle.sqlite.specs.State.{HasCleanDisk, Survives};
+ghost use Rattle.sqlite.specs.Held.{state};
+ghost use Rattle.sqlite_schema.specs.Names.{same_name};
+ghost use Rattle.ft_store.specs.Adopted.{TellsAs, rows_cause, error_cause, told_cause, our_names, has_our_name, IsTaken, IsNotTaken, LeavesEmpty};
+ghost use Rattle.ft_store.specs.Calls.{IsStoreIfOpen, Keeps};
+
+use crate::examine::examine;
+use crate::fault::StoreFault;
+use crate::make::make;
+use crate::same::{is_bare, is_store};
+use sqlite::types::ValueRef;
+use sqlite::{Alter, Connection, Error as SqlError, ErrorCode, Row};
+use sqlite_schema::names::same_name;
+use sqlite_schema::schema::Schema;
+
+/// What the database answers when it is asked for its version, whatever its tables are. It changes nothing.
+fn version_answer<S: Alter>(conn: &mut Connection<S>) -> Result<Vec<Row>, SqlError>
+    requires settled { (state S.Store conn.old).in_transaction ≡ false }
+    ensures told { HasCleanDisk (state S.Store conn.new) → TellsAs S.Store conn.old result }
+    ensures kept { HasCleanDisk (state S.Store conn.new) → Keeps (state S.Store conn.old) (state S.Store conn.new) }
+    ensures mode { (state S.Store conn.new).in_transaction ≡ false }
+    ensures survives { Survives (state S.Store conn.old) (state S.Store conn.new) (λ _. ⊥) }
+{
+    let _settled = conn.is_autocommit();
+    let mut tx = conn.transaction();
+    let found = tx.query_all("SELECT version FROM meta", &[]);
+    tx.rollback();
+    found
+}
+
+fn cause_of_rows(rows: &[Row]) -> StoreFault
+    ensures { result ≡ rows_cause rows.now }
+{
+    match rows {
+        [row] => match row.get_ref(0) {
+            Ok(ValueRef::Int(3)) => StoreFault::Refused,
+            Ok(ValueRef::Int(version)) => StoreFault::Version(version),
+            _ => StoreFault::NotAStore,
+        },
+        _ => StoreFault::NotAStore,
+    }
+}
+
+fn cause_of_error(error: &SqlError) -> StoreFault
+    ensures { result ≡ error_cause error.now }
+{
+    match error {
+        SqlError::SqliteFailure(ErrorCode::OutOfMemory) => StoreFault::Memory,
+        SqlError::SqliteFailure(
+            ErrorCode::SystemIoFailure
+            | ErrorCode::DatabaseCorrupt
+            | ErrorCode::DiskFull
+            | ErrorCode::Closed,
+        ) => StoreFault::Refused,
+        _ => StoreFault::NotAStore,
+    }
+}
+
+fn cause_told(found: &Result<Vec<Row>, SqlError>) -> StoreFault
+    ensures { result ≡ told_cause found.now }
+{
+    match found {
+        Ok(rows) => cause_of_rows(rows.as_slice()),
+        Err(error) => cause_of_error(error),
+    }
+}
+
+/// Whether a table of a store has this name.
+fn is_our_name(name: &[u8]) -> bool
+    ensures { result ≡ list_any (same_name name.now) our_names }
+{
+    same_name(name, b"meta")
+        || same_name(name, b"tab")
+        || same_name(name, b"col")
+        || same_name(name, b"cell")
+        || same_name(name, b"posting")
+        || same_name(name, b"sizes")
+        || same_name(name, b"noted")
+        || same_name(name, b"skip")
+}
+
+fn names_ours(schema: &Schema) -> bool
+    ensures { result ≡ has_our_name schema.now }
+{
+    for table in schema.tables.as_slice() {
+        if is_our_name(table.name.as_slice()) {
+            return true;
+        }
+    }
+    false
+}
+
+/// Why a database with other tables is not taken. It changes nothing.
+fn foreign<S: Alter>(conn: &mut Connection<S>) -> StoreFault
+    requires settled { (state S.Store conn.old).in_transaction ≡ false }
+    ensures none { has_our_name (state S.Store conn.old).now.schema ≡ false → result ≡ StoreFault.Refused }
+    ensures told { HasCleanDisk (state S.Store conn.new) → IsTrue (has_our_name (state S.Store conn.old).now.schema) → (found : _) × TellsAs S.Store conn.old found × (result ≡ told_cause found) }
+    ensures kept { HasCleanDisk (state S.Store conn.new) → Keeps (state S.Store conn.old) (state S.Store conn.new) }
+    ensures mode { (state S.Store conn.new).in_transaction ≡ false }
+    ensures survives { Survives (state S.Store conn.old) (state S.Store conn.new) (λ _. ⊥) }
+{
+    if names_ours(conn.schema()) {
+        let found = version_answer(conn);
+        cause_told(&found)
+    } else {
+        StoreFault::Refused
+    }
+}
+
+/// Takes a database as a store. One without objects becomes an empty store, in one transaction.
+pub(crate) fn take<S: Alter>(conn: &mut Connection<S>) -> Result<(), StoreFault>
+    requires settled { (state S.Store conn.old).in_transaction ≡ false }
+    ensures store { OnOk result (IsStoreIfOpen (state S.Store conn.new)) }
+    ensures taken { OnOk result (IsTaken S.Store conn.old conn.new) }
+    ensures refused { IfErr result (IsNotTaken S.Store conn.old conn.new) }
+    ensures mode { (state S.Store conn.new).in_transaction ≡ false }
+    ensures crash { LeavesEmpty S.Store conn.old conn.new }
+{
+    let schema = conn.schema();
+    let bare = is_bare(schema);
+    let ours = is_store(schema);
+    if bare {
+        return make(conn);
+    }
+    if ours {
+        return examine(conn);
+    }
+    Err(foreign(conn))
+}
