@@ -1,12 +1,11 @@
 -- A query in a transaction that is undone changes nothing.
-use Rattle.std.proofs.Common.{◌≡◌, ◌⊎◌, inl, inr, true, List, [], ℕ, Option, Some, None, Result, Ok, Err, refl, sym, ap, ◌∙◌, subst, IsTrue, cond}
+use Rattle.std.proofs.Common.{◌≡◌, ◌⊎◌, inl, inr, true, List, [], ℕ, Option, Some, None, Result, Ok, Err, sym, ap, ◌∙◌, IsTrue, cond}
 use Rattle.std.specs.Prelude.{Vec, IfOk, IfErr}
 use Rattle.std.specs.declared.alloc.Global.{Global}
 use Rattle.sqlite.specs.declared.error.Error.{Error}
 use Rattle.sqlite.specs.Order.{Row}
 use Rattle.sqlite_schema.specs.declared.command.Returning.{Returning}
 use Rattle.sqlite.specs.Clock.{timed}
-use Rattle.sqlite.specs.Effect.{Database}
 use Rattle.sqlite.specs.State.{State, Shown, ShowsRows, IsUnchanged, IsRolledBack, KeepsCommit, FailsToQuery, IsTooLate}
 use Rattle.ft_store.specs.Calls.{Keeps}
 use Rattle.ft_store.specs.Adopted.{Gives, version_query}

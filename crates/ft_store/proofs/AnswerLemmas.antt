@@ -1,15 +1,15 @@
 -- What the queries of a store answer.
 use Rattle.std.proofs.Common.{◌≡◌, ◌≢◌, is_lt, is_le, ℕ, ℤ, Bool, true, false, not, ◌&&◌, List, [], ◌∷◌, map, filter, refl, sym, ap, ap₂, subst, ◌∙◌, Ordering, Less, Equal, Greater, is_eq, IsTrue, true≢false}
-use Rattle.std.specs.Prelude.{unwrap_or, Option, option_map, nat_eq}
+use Rattle.std.specs.Prelude.{unwrap_or, nat_eq}
 use Rattle.std.specs.List.{AllByRecursion, list_all, starts_with}
 use Rattle.std.specs.Ordering.{int_cmp, int_eq, ordering_then}
 use Rattle.std.specs.Cmp.{IsTotalOrder}
 use Rattle.std.specs.FinMap.Entries.{where_key}
-use Rattle.std.proofs.lemmas.Cmp.{on_total, then_total, int_cmp_total, nat_list_cmp_total}
+use Rattle.std.proofs.lemmas.Cmp.{on_total, then_total, int_cmp_total}
 use Rattle.sqlite.specs.declared.types.Value.{Value}
 use Rattle.sqlite.specs.declared.types.Value.TheVariants.{Null, Int, Text, Blob}
-use Rattle.sqlite.specs.Order.{Row, column}
-use Rattle.sqlite_value.specs.Order.{value_cmp, bytes}
+use Rattle.sqlite.specs.Order.{Row}
+use Rattle.sqlite_value.specs.Order.{value_cmp}
 use Rattle.sqlite_value.specs.Keys.{without_case, by_key, ascending}
 use Rattle.sqlite.specs.Collation.TheVariants.{Binary, NoCase}
 use Rattle.sqlite_sql.specs.Ops.{binary, is_true}
@@ -19,12 +19,10 @@ use Rattle.sqlite_sql.specs.declared.ops.CompareOp.TheVariants.{Ge, Lt}
 use Rattle.sqlite_value.specs.declared.keys.Key.{Key}
 use Rattle.sqlite_value.proofs.OrderLemmas.{value_cmp_total, value_cmp-Int, value_cmp-Text, value_cmp-Blob}
 use Rattle.sqlite.specs.Tree.{Trees}
-use Rattle.sqlite.specs.Edit.{id_in}
 use Rattle.sqlite.specs.Term.{Term, holds}
 use Rattle.sqlite.specs.Query.{Output, output, output_cmp, IsAnswer}
 use Rattle.sqlite.specs.Program.{overlay}
 use Rattle.sqlite.specs.State.{State, Shown}
-use Rattle.sqlite.specs.Listing.{understood}
 use Rattle.sqlite_catalog.specs.Listing.{IsSound}
 use Rattle.sqlite.proofs.Callers.{reads_as}
 use Rattle.sqlite_typed.proofs.TestLemmas.{by_order, at_texts, same_bytes, then_key, last_key, then_term, last_term}
@@ -34,12 +32,12 @@ use Rattle.ft_store.specs.Packed.{spots_in}
 use Rattle.ft_store.specs.Tables.{store_schema}
 use Rattle.ft_store.specs.Store.{Cell, CellKey, ListKey, ColumnKey, cell_key_cmp, list_key_cmp, column_key_cmp, name_cmp}
 use Rattle.ft_store.specs.Store as store
-use Rattle.ft_store.specs.Rows.{cell_in, keyed, table_entry, column_entry, skip_entry, cell_entry, list_entry, size_entry, note_entry, value_of}
+use Rattle.ft_store.specs.Rows.{keyed, table_entry, column_entry, skip_entry, cell_entry, list_entry, size_entry, note_entry, value_of}
 use Rattle.ft_store.specs.Changes.{num_of, txt_of}
 use Rattle.ft_store.specs.Found.{found_table, found_column, found_skip, found_cell, found_size, found_note, found_list, found_places}
 use Rattle.ft_store.specs.Calls.{IsStore}
 use Rattle.ft_store.proofs.Texts.{names_text, columns_text, skips_text, cells_text, document_text, term_text, prefix_text, lists_text, sizes_text, noted_text}
-use Rattle.ft_store.proofs.TextLemmas.{query_by, table_query, rising, no_limit, list_shown, list_order, names_query, names_is, names_plain, names_unlisted, columns_query, columns_is, columns_plain, columns_unlisted, skips_query, skips_is, skips_plain, skips_unlisted, cells_query, cells_is, cells_plain, cells_unlisted, document_query, document_is, document_plain, document_unlisted, term_query, term_is, term_plain, term_unlisted, prefix_query, prefix_is, prefix_plain, prefix_unlisted, lists_query, lists_is, lists_plain, lists_unlisted, sizes_query, sizes_is, sizes_plain, sizes_unlisted, noted_query, noted_is, noted_plain, noted_unlisted}
+use Rattle.ft_store.proofs.TextLemmas.{query_by, rising, no_limit, list_shown, list_order, names_query, names_is, names_plain, names_unlisted, columns_query, columns_is, columns_plain, columns_unlisted, skips_query, skips_is, skips_plain, skips_unlisted, cells_query, cells_is, cells_plain, cells_unlisted, document_query, document_is, document_plain, document_unlisted, term_query, term_is, term_plain, term_unlisted, prefix_query, prefix_is, prefix_plain, prefix_unlisted, lists_query, lists_is, lists_plain, lists_unlisted, sizes_query, sizes_is, sizes_plain, sizes_unlisted, noted_query, noted_is, noted_plain, noted_unlisted}
 use Rattle.ft_store.specs.Range.{after_last}
 use Rattle.ft_store.proofs.RangeLemmas.{in_range}
 use Rattle.ft_store.proofs.SelectLemmas.{all_selected}

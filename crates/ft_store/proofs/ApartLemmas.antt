@@ -1,17 +1,17 @@
 -- No two rows of a table have one key.
 use Rattle.std.proofs.Common.{◌≡◌, ◌≢◌, ℕ, ℤ, Bool, true, false, not, ◌&&◌, ◌||◌, List, [], ◌∷◌, map, None, refl, sym, ap, ap₂, ◌∙◌, Ordering, Less, Equal, Greater, is_eq, true≢false, IsTrue}
-use Rattle.std.specs.List.{AllByRecursion, list_all}
-use Rattle.std.specs.Ordering.{eq_by_cmp, int_cmp, int_eq, ordering_reverse}
+use Rattle.std.specs.List.{AllByRecursion}
+use Rattle.std.specs.Ordering.{eq_by_cmp, int_cmp}
 use Rattle.std.specs.Cmp.{tied_itself}
 use Rattle.std.specs.FinMap.Entries.{find}
 use Rattle.std.proofs.lemmas.Cmp.{int_cmp_total, nat_list_cmp_total}
 use Rattle.sqlite.specs.declared.types.Value.{Value}
-use Rattle.sqlite.specs.declared.types.Value.TheVariants.{Null, Int, Real, Text, Blob}
+use Rattle.sqlite.specs.declared.types.Value.TheVariants.{Int, Text}
 use Rattle.sqlite.specs.Order.{Row, column}
-use Rattle.sqlite_value.specs.Order.{value_cmp, bytes}
+use Rattle.sqlite_value.specs.Order.{bytes}
 use Rattle.sqlite_value.specs.Keys.{first_key, without_case}
 use Rattle.sqlite_value.specs.declared.keys.Order.{Order}
-use Rattle.sqlite_value.proofs.OrderLemmas.{value_cmp-Int, value_cmp-Text}
+use Rattle.sqlite_value.proofs.OrderLemmas.{value_cmp-Text}
 use Rattle.sqlite_sql.specs.Ops.{binary, is_true}
 use Rattle.sqlite_sql.specs.declared.ops.BinaryOp.TheVariants.{Compare}
 use Rattle.sqlite_sql.specs.declared.ops.CompareOp.TheVariants.{Eq, Ne}
@@ -19,8 +19,7 @@ use Rattle.sqlite.specs.Collation.TheVariants.{Binary, NoCase}
 use Rattle.sqlite.specs.Tree.{Trees}
 use Rattle.sqlite_trees.specs.Tree.{IsAscending, rowid}
 use Rattle.ft_store.specs.Calls.{HasOwnRowids}
-use Rattle.ft_store.proofs.RowidLemmas.{IsInt, DifferIn, unequal, unequal_ints}
-use Rattle.sqlite_trees.specs.declared.store.Shape.TheVariants as shape
+use Rattle.ft_store.proofs.RowidLemmas.{IsInt, DifferIn, unequal}
 use Rattle.sqlite_schema.specs.declared.schema.Constraint.TheVariants.{Unique}
 use Rattle.sqlite_schema.specs.Rules.{agree, clashes, differ}
 use Rattle.sqlite_catalog.specs.Listing.{IsSound}

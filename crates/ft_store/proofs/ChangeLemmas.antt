@@ -1,11 +1,10 @@
 -- What DELETE and INSERT make of the rows of a table.
-use Rattle.std.proofs.Common.{◌≡◌, ◌≢◌, ◌⊎◌, inl, inr, ℕ, ◌/◌, length, ℤ, Bool, true, false, not, ◌&&◌, ◌||◌, cond, List, [], ◌∷◌, map, filter, slice_get, Option, Some, None, Ok, Err, Result, refl, sym, ap, ◌∙◌, subst, Ordering, Less, Equal, Greater, is_eq, true≢false, IsPermutation, IsTrue}
+use Rattle.std.proofs.Common.{◌≡◌, ◌≢◌, ◌⊎◌, inl, inr, ℕ, ◌/◌, length, ℤ, Bool, true, false, not, ◌&&◌, ◌||◌, cond, List, [], ◌∷◌, map, filter, slice_get, Option, Some, None, Ok, Err, Result, refl, sym, ap, ◌∙◌, subst, is_eq, IsPermutation, IsTrue}
 use Rattle.std.specs.List.{AllByRecursion, list_any, list_all}
-use Rattle.std.specs.Ordering.{ordering_reverse}
 use Rattle.std.proofs.lemmas.Cmp.{tied_itself}
-use Rattle.std.proofs.lemmas.List.Sorted.{list_any-IsPermutation, IsPermutation-map, IsPermutation-refl, IsPermutation-cons, IsPermutation-trans, IsPermutation-middle}
+use Rattle.std.proofs.lemmas.List.Sorted.{list_any-IsPermutation, IsPermutation-map}
 use Rattle.sqlite.specs.declared.types.Value.{Value}
-use Rattle.sqlite.specs.declared.types.Value.TheVariants.{Null, Int, Real, Text, Blob}
+use Rattle.sqlite.specs.declared.types.Value.TheVariants.{Null, Int}
 use Rattle.sqlite.specs.Order.{Row}
 use Rattle.sqlite_value.specs.Order.{value_cmp}
 use Rattle.sqlite_value.proofs.OrderLemmas.{value_cmp_total}
@@ -14,13 +13,10 @@ use Rattle.sqlite_trees.specs.Tree.{IsAscending, rowid, has_rowid, without_rowid
 use Rattle.sqlite_trees.specs.View.{is_int}
 use Rattle.ft_store.specs.Calls.{HasOwnRowids}
 use Rattle.ft_store.proofs.RowidLemmas.{IsInt, DifferIn, apart_rows}
-use Rattle.sqlite_trees.specs.declared.store.Shape.TheVariants as shape
-use Rattle.sqlite.specs.Edit.{edit_of, id_in, without_all, is_taken, are_fresh, put_all, next_rowid}
+use Rattle.sqlite.specs.Edit.{edit_of, id_in, without_all, is_taken, are_fresh, put_all}
 use Rattle.sqlite.specs.Cast.{cast}
 use Rattle.sqlite_sql.specs.Ops.{unary}
-use Rattle.sqlite.specs.Kind.TheVariants as kind
 use Rattle.sqlite.specs.Kind.TheVariants.{Integer}
-use Rattle.std.specs.Ordering.{match_ordering}
 use Rattle.ft_store.proofs.TypedLemmas.{int_is}
 use Rattle.sqlite_rules.specs.Calls.{ids_of}
 use Rattle.sqlite.specs.Rowids.TheVariants.{Chosen, Given}

@@ -1,8 +1,8 @@
 -- The last row of a table, in the order of the keys.
 use Rattle.std.proofs.Common.{◌≡◌, ℕ, ℤ, Bool, true, false, cond, List, [], ◌∷◌, ◌++◌, map, filter, take, reverse, pos, refl, sym, ap, ap₂, subst, ◌∙◌, Ordering, Equal, is_gt, IsTrue, Some, None}
-use Rattle.std.specs.Prelude.{Option, option_map, slice_get}
-use Rattle.std.specs.List.{AllByRecursion, list_all}
-use Rattle.std.specs.Ordering.{int_cmp, int_eq, eq_by_cmp}
+use Rattle.std.specs.Prelude.{option_map, slice_get}
+use Rattle.std.specs.List.{AllByRecursion}
+use Rattle.std.specs.Ordering.{int_eq, eq_by_cmp}
 use Rattle.std.specs.Cmp.{IsTotalOrder}
 use Rattle.std.specs.FinMap.Entries.{find, where_key}
 use Rattle.std.proofs.lemmas.Cmp.{back_total}

@@ -26,10 +26,9 @@ use Rattle.sqlite_keyed.proofs.ListLemmas.{all-append, all_both}
 use Rattle.ft_store.specs.Tables.{no_schema, store_schema, meta_table, tab_table, col_table, cell_table, posting_table, sizes_table, noted_table, skip_table}
 use Rattle.ft_store.proofs.Texts.{make_meta_text, make_tab_text, make_col_text, make_cell_text, make_posting_text, make_sizes_text, make_noted_text, make_skip_text, mark_text}
 use Rattle.ft_store.specs.Made.{AreEmpty, IsEmptyOf, Makes}
-use Rattle.ft_store.specs.Calls.{HasOwnRowids, AreNumbered, IsMarked, IsStore, IsStored}
+use Rattle.ft_store.specs.Calls.{HasOwnRowids, AreNumbered, IsStore, IsStored}
 use Rattle.ft_store.specs.Store.{nothing_held}
 use Rattle.ft_store.specs.Rows.{value_of}
-use Rattle.sqlite_trees.specs.declared.store.Shape.TheVariants as shape
 
 went : {B E R : Type 0} {b : B} {Stops : E → Type 0} → ((stop : E) × Stops stop × (Ok b ≡ Err stop)) ⊎ R → R
 went (inl stopped) = absurd (let e = stopped.2 in cc)

@@ -1,6 +1,5 @@
 -- No two tables of a store have one name.
-use Rattle.std.proofs.Common.{◌≡◌, ◌≢◌, ℕ, ◌+◌, ◌<◌, ◌≤◌, ℤ, Bool, true, false, ◌||◌, ◌==◌, cond, List, [], ◌∷◌, map, length, None, refl, sym, ap, ap₂, ◌∙◌, subst, arith, Ordering, Less, Equal, Greater, true≢false, T}
-use Rattle.std.specs.Prelude.{nat_eq, nat_lt}
+use Rattle.std.proofs.Common.{◌≡◌, ◌≢◌, ℕ, ℤ, Bool, true, false, ◌==◌, List, [], ◌∷◌, map, None, refl, sym, ap, ◌∙◌, arith, Ordering, Less, Equal, Greater, true≢false, T}
 use Rattle.std.specs.List.{AllByRecursion, list_any}
 use Rattle.std.specs.Char.{to_ascii_lowercase}
 use Rattle.std.specs.Str.{str_to_ascii_lowercase, str_eq_ignore_ascii_case}
@@ -14,7 +13,6 @@ use Rattle.sqlite_value.specs.Keys.{without_case}
 use Rattle.sqlite.specs.Tree.{Trees}
 use Rattle.sqlite_trees.specs.Tree.{IsAscending}
 use Rattle.ft_store.specs.Calls.{HasOwnRowids}
-use Rattle.sqlite_trees.specs.declared.store.Shape.TheVariants as shape
 use Rattle.sqlite_catalog.specs.Listing.{IsSound}
 use Rattle.ft_store.specs.Tables.{store_schema}
 use Rattle.ft_store.specs.Store.{AreInOrder, cell_key_cmp, list_key_cmp, column_key_cmp, name_cmp}

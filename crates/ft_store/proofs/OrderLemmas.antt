@@ -1,5 +1,5 @@
 -- The orders of keys are total, and keys that tie are equal.
-use Rattle.std.proofs.Common.{◌≡◌, ℕ, ℤ, List, refl, sym, ap, ◌∙◌, Ordering, Less, Equal, Greater, is_eq, true≢false}
+use Rattle.std.proofs.Common.{◌≡◌, ℕ, ℤ, List, refl, sym, ap, Ordering, Less, Equal, Greater, is_eq, true≢false}
 use Rattle.std.specs.Cmp.{IsTotalOrder}
 use Rattle.std.specs.Ordering.{ordering_then, int_cmp}
 use Rattle.std.proofs.lemmas.Cmp.{int_ranked, on_total, then_total, int_cmp_total, nat_list_cmp_total}

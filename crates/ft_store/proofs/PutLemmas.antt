@@ -1,5 +1,5 @@
 -- How the steps of a change are put together.
-use Rattle.std.proofs.Common.{◌≡◌, ℕ, ◌+◌, ◌<◌, ◌≤◌, ℤ, pos, true, false, not, cond, List, [], ◌∷◌, ◌++◌, map, filter, length, get_or, take, Option, None, refl, sym, ap, ◌∙◌, subst, arith, IsTrue, is_eq}
+use Rattle.std.proofs.Common.{◌≡◌, ℕ, ◌+◌, ◌<◌, ◌≤◌, ℤ, pos, not, cond, List, [], ◌∷◌, ◌++◌, map, length, get_or, take, Option, None, refl, sym, ap, ◌∙◌, subst, arith, IsTrue, is_eq}
 use Rattle.std.specs.Prelude.{unwrap_or, option_map, string_bytes, String}
 use Rattle.std.specs.declared.alloc.Global.{Global}
 use Rattle.std.specs.List.{enumerate_from}
@@ -10,15 +10,14 @@ use Rattle.std.proofs.lemmas.Cmp.{int_cmp_total}
 use Rattle.std.proofs.lemmas.List.{take_more, take_all, map-append, length-map, length-take-le}
 use Rattle.sqlite.specs.Tree.{Trees}
 use Rattle.sqlite_catalog.specs.Listing.{IsSound}
-use Rattle.sqlite.specs.State.{State, Shows, HasCleanDisk}
+use Rattle.sqlite.specs.State.{State, HasCleanDisk}
 use Rattle.sqlite.specs.Store.{Ghosts}
 use Rattle.sqlite.specs.Held.{Held, state}
 use Rattle.ft_store.specs.declared.rows.Spot.{Spot}
 use Rattle.ft_store.specs.declared.rows.RowChange.{RowChange}
-use Rattle.ft_store.specs.Packed.{CanPack, packed_spots, packed, unpacked, plain_spot, stored_spot, spots_in}
-use Rattle.ft_store.specs.Tables.{store_schema}
+use Rattle.ft_store.specs.Packed.{CanPack, packed_spots, plain_spot, stored_spot, spots_in}
 use Rattle.ft_store.specs.Store.{Cell, CellKey, ListKey, ColumnKey, cell_key_cmp, list_key_cmp, column_key_cmp, name_cmp, StoreValue, Change, without_key, with_columns, with_skipped, applied, all_applied}
-use Rattle.ft_store.specs.Rows.{table_entry, column_entry, skip_entry, cell_entry, list_entry, size_entry, note_entry, value_of}
+use Rattle.ft_store.specs.Rows.{column_entry, skip_entry, cell_entry, list_entry, size_entry, note_entry, value_of}
 use Rattle.ft_store.specs.Changes.{shown_change}
 use Rattle.ft_store.specs.Calls.{IsStore, Steps, Goes, IsStored}
 use Rattle.ft_store.proofs.PackedLemmas.{packed_is_read}

@@ -1,8 +1,8 @@
 -- What is seen of a database before it is taken as a store.
-use Rattle.std.proofs.Common.{◌≡◌, ◌≢◌, ℕ, zero, suc, ◌+◌, ◌<◌, ℤ, pos, Bool, true, false, cond, List, [], ◌∷◌, ◌++◌, map, filter, length, refl, sym, ap, ◌∙◌, subst, arith, IsTrue, IsPermutation, codes, None, Some, take, get_or, ◌≤ℤ◌, ◌<ℤ◌, inl, inr}
+use Rattle.std.proofs.Common.{◌≡◌, ◌≢◌, ℕ, ◌+◌, ◌<◌, ℤ, true, false, cond, List, [], ◌∷◌, ◌++◌, map, length, refl, sym, ap, ◌∙◌, subst, arith, IsTrue, IsPermutation, codes, None, Some, take, get_or, ◌≤ℤ◌, ◌<ℤ◌, inl, inr}
 use Rattle.std.specs.Prelude.{Option, IfSome, MatchOption, nat_le, ◌-◌, ◌^◌, unwrap_or, slice_get}
 use Rattle.std.proofs.lemmas.Int.{ints}
-use Rattle.std.specs.List.{AllByRecursion, list_all}
+use Rattle.std.specs.List.{AllByRecursion}
 use Rattle.std.proofs.lemmas.List.{length-map, take_more}
 use Rattle.std.proofs.lemmas.List.Sorted.{IsPermutation-map, IsPermutation-sym, length_permutation}
 use Rattle.sqlite.specs.declared.types.Value.{Value}
@@ -10,10 +10,9 @@ use Rattle.sqlite.specs.declared.types.Value.TheVariants.{Null, Int}
 use Rattle.sqlite.specs.Command.TheVariants.{Select}
 use Rattle.sqlite.specs.Order.{Row, column}
 use Rattle.sqlite.specs.Tree.{Trees}
-use Rattle.sqlite.specs.Term.{holds}
 use Rattle.sqlite.specs.Query.{Query, Output, output, IsAnswer}
 use Rattle.sqlite.specs.Program.{overlay}
-use Rattle.sqlite.specs.State.{State, HasCleanDisk, Survives, Shown}
+use Rattle.sqlite.specs.State.{State, Shown}
 use Rattle.sqlite.specs.Listing.{understood, reads_listing}
 use Rattle.sqlite_tied.specs.Compute.{everything}
 use Rattle.sqlite.proofs.Callers.{reads_as, command_of, one_permutation, IsPlain}
@@ -21,14 +20,13 @@ use Rattle.sqlite_trees.specs.Tree.{IsAscending, rowid}
 use Rattle.sqlite_trees.specs.View.{is_int}
 use Rattle.sqlite_keyed.proofs.ListLemmas.{map-map, filter_all, all_of, all_weaker, all-append, along_permutation}
 use Rattle.ft_store.specs.Tables.{store_schema}
-use Rattle.ft_store.specs.Scan.{Scans, rowids_of, tree_at}
+use Rattle.ft_store.specs.Scan.{Scans, tree_at}
 use Rattle.sqlite.specs.Effect.{Database, IsDatabase}
 use Rattle.ft_store.specs.Calls.{HasOwnRowids, AreNumbered, IsMarked, IsStore, IsPlainFault, Keeps}
 use Rattle.ft_store.specs.declared.fault.StoreFault.{StoreFault}
 use Rattle.ft_store.specs.declared.fault.StoreFault.TheVariants as fault
 use Rattle.ft_store.proofs.TextLemmas.{query_by, rising, no_limit}
 use Rattle.ft_store.proofs.SelectLemmas.{arranged}
-use Rattle.ft_store.proofs.CallLemmas.{shown_open}
 use Rattle.ft_store.proofs.RowidLemmas.{IsInt, DifferIn}
 use Rattle.ft_store.proofs.LastLemmas.{ascending-end}
 

@@ -1,5 +1,5 @@
 -- What the steps of a change make of the value of a store.
-use Rattle.std.proofs.Common.{◌≡◌, ◌≢◌, ℕ, ℤ, Bool, true, false, not, List, [], ◌∷◌, map, filter, None, Ok, refl, sym, ap, ◌∙◌, subst, arith, IsTrue, nat_eq}
+use Rattle.std.proofs.Common.{◌≡◌, ◌≢◌, ℕ, ℤ, Bool, true, false, not, List, [], ◌∷◌, map, None, Ok, refl, sym, ap, ◌∙◌, subst, arith, IsTrue, nat_eq}
 use Rattle.std.specs.List.{AllByRecursion, list_all}
 use Rattle.std.specs.Ordering.{int_cmp}
 use Rattle.std.specs.FinMap.Entries.{put, where_key, find}
@@ -10,7 +10,6 @@ use Rattle.sqlite.specs.Tree.{Trees}
 use Rattle.sqlite.specs.Table.{Table}
 use Rattle.sqlite_trees.specs.Tree.{put_row, rowid}
 use Rattle.sqlite_trees.specs.View.{is_int}
-use Rattle.sqlite_trees.specs.declared.store.Shape.TheVariants as shape
 use Rattle.ft_store.proofs.RowidLemmas.{own-filter, own-put_row}
 use Rattle.sqlite_catalog.specs.Listing.{IsSound}
 use Rattle.sqlite_rules.specs.Edit.{is_taken}
@@ -24,13 +23,13 @@ use Rattle.ft_store.specs.declared.rows.Spot.{Spot}
 use Rattle.ft_store.specs.Tables.{store_schema, tab_table, col_table, cell_table, posting_table, sizes_table, noted_table, skip_table}
 use Rattle.ft_store.specs.Store.{Cell, CellKey, ListKey, ColumnKey, cell_key_cmp, list_key_cmp, column_key_cmp, name_cmp, StoreValue}
 use Rattle.ft_store.specs.Rows.{keyed, table_entry, column_entry, skip_entry, cell_entry, list_entry, size_entry, note_entry, value_of}
-use Rattle.ft_store.specs.Calls.{HasOwnRowids, AreNumbered, IsMarked, IsStore, Steps}
+use Rattle.ft_store.specs.Calls.{HasOwnRowids, AreNumbered, IsStore, Steps}
 use Rattle.ft_store.proofs.TextLemmas.{table_query}
 use Rattle.ft_store.proofs.KeyedLemmas.{keyed-where, keyed-put_row}
 use Rattle.ft_store.proofs.OrderLemmas.{tied_ints, tied_names, tied_cell_keys, cell_key_total, tied_list_keys, list_key_total, tied_column_keys, column_key_total, name_total}
 use Rattle.ft_store.proofs.SelectLemmas.{filter_same_on}
 use Rattle.ft_store.proofs.TypedLemmas.{IsNameRow, IsColumnRow, IsSkipRow, IsCellRow, IsListRow, IsSizeRow, IsNoteRow, are_names, are_columns, are_skips, are_cells, are_lists, are_sizes, are_notes}
-use Rattle.ft_store.proofs.ChangeLemmas.{KeepsOthers, Wrote, deletes}
+use Rattle.ft_store.proofs.ChangeLemmas.{Wrote, deletes}
 
 -- ---- what a write to one table leaves
 

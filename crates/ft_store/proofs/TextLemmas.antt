@@ -1,5 +1,5 @@
 -- What the texts mean.
-use Rattle.std.proofs.Common.{◌≡◌, map, ℕ, true, false, List, [], ◌∷◌, ◌++◌, pos, negsuc, codes, None, Ok, refl}
+use Rattle.std.proofs.Common.{◌≡◌, map, ℕ, true, false, List, [], ◌∷◌, pos, negsuc, codes, None, refl}
 use Rattle.sqlite_tied.specs.Compute.{everything}
 use Rattle.sqlite.specs.Listing.{understood, reads_listing}
 use Rattle.sqlite.specs.declared.types.Value.TheVariants.{Null, Int}

@@ -10,7 +10,6 @@ use Rattle.sqlite.specs.Edit.{id_in}
 use Rattle.sqlite_trees.specs.Tree.{rowid}
 use Rattle.sqlite_trees.specs.View.{is_int}
 use Rattle.ft_store.specs.Calls.{HasOwnRowids}
-use Rattle.sqlite_trees.specs.declared.store.Shape.TheVariants as shape
 use Rattle.sqlite_sql.specs.Ops.{is_null, is_false, binary}
 use Rattle.sqlite_sql.specs.declared.ops.BinaryOp.TheVariants.{Or, Is}
 use Rattle.sqlite.specs.Collation.TheVariants.{Binary}

@@ -1,5 +1,5 @@
 -- The row changes of a call as changes of the store's value.
-use Rattle.std.specs.Prelude.{◌≡◌, ℤ, List, map, string_bytes, All, ℕ}
+use Rattle.std.specs.Prelude.{map, string_bytes}
 use Rattle.sqlite.specs.declared.types.Value.{Value as SqlValue}
 use Rattle.sqlite.specs.declared.types.Value.TheVariants as sql
 use Rattle.ft_store.specs.declared.rows.Value.{Value}

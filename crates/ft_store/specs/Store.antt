@@ -1,10 +1,10 @@
 -- A store seen as a value: rows under their keys, in the order of the keys, and what row changes make of them. All of it is
 -- our own choice.
-use Rattle.std.specs.Prelude.{ℕ, ℤ, pos, Bool, true, false, not, ◌&&◌, List, [], ◌∷◌, map, filter, Option, option_map, slice_get, reverse, IsTrue}
+use Rattle.std.specs.Prelude.{ℕ, ℤ, pos, not, ◌&&◌, List, [], ◌∷◌, IsTrue}
 use Rattle.std.specs.declared.cmp.Ordering.{Ordering}
 use Rattle.std.specs.Ordering.{int_cmp, int_eq, eq_by_cmp, nat_cmp, ordering_then}
 use Rattle.std.specs.Cmp.Lexicographic.{slice_cmp}
-use Rattle.std.specs.List.{enumerate_from, flat_map}
+use Rattle.std.specs.List.{enumerate_from}
 use Rattle.std.specs.FinMap.Entries.{put, where_key, is_sorted}
 use Rattle.sqlite_value.specs.Keys.{without_case}
 use Rattle.ft_store.specs.declared.rows.Spot.{Spot}

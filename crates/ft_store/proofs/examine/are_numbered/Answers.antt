@@ -1,11 +1,10 @@
-use Rattle.std.proofs.Common.{◌≡◌, ℕ, ◌<◌, sym, ap, subst, ◌∙◌, arith, below_more, IsTrue}
+use Rattle.std.proofs.Common.{ap, subst, ◌∙◌, arith, below_more}
 use Rattle.sqlite.specs.Effect.{Database}
 use Rattle.sqlite.specs.Held.{state}
 use Rattle.sqlite.specs.State.{HasCleanDisk}
-use Rattle.ft_store.specs.Tables.{store_schema}
 use Rattle.ft_store.specs.Scan.{tree_at}
 use Rattle.ft_store.specs.Calls.{HasOwnRowids}
-use Rattle.ft_store.proofs.ChainLemmas.{Looking, no_look, look_kept, look_survives, look_on}
+use Rattle.ft_store.proofs.ChainLemmas.{look_on}
 use Rattle.ft_store.proofs.ScanLemmas.{each_numbered}
 use Rattle.ft_store.proofs.examine.are_numbered.Goals as goal
 

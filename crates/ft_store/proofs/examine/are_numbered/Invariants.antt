@@ -1,8 +1,8 @@
-use Rattle.std.proofs.Common.{◌≡◌, ℕ, ◌<◌, false, IsTrue}
+use Rattle.std.proofs.Common.{ℕ, ◌<◌}
 use Rattle.sqlite.specs.Held.{state}
-use Rattle.sqlite.specs.State.{HasCleanDisk, Survives}
+use Rattle.sqlite.specs.State.{HasCleanDisk}
 use Rattle.ft_store.specs.Scan.{tree_at}
-use Rattle.ft_store.specs.Calls.{HasOwnRowids, Keeps}
+use Rattle.ft_store.specs.Calls.{HasOwnRowids}
 use Rattle.ft_store.proofs.ChainLemmas.{Looking}
 use Rattle.ft_store.proofs.examine.are_numbered.Given as goal
 

@@ -1,6 +1,5 @@
 use Rattle.std.proofs.Common.{rules}
-use Rattle.ft_store.proofs.ScanLemmas.{not_unmarked, no_version, taken}
-use Rattle.ft_store.proofs.ChainLemmas.{kept_then, reads_then}
+use Rattle.ft_store.proofs.ScanLemmas.{not_unmarked, no_version}
 use Rattle.ft_store.proofs.examine.examine.Goals as goal
 
 pub returns-in_err-version-clause-unmarked : goal.returns-in_err-version-clause-unmarked

@@ -1,4 +1,4 @@
-use Rattle.std.proofs.Common.{rules, arith, subst, sym, ◌≡◌, FitsSigned, w64, to_z-of_z}
+use Rattle.std.proofs.Common.{rules, subst, ◌≡◌, FitsSigned, w64, to_z-of_z}
 use Rattle.std.proofs.lemmas.List.{take_all}
 use Rattle.sqlite.specs.declared.types.Value.TheVariants.{Int}
 use Rattle.sqlite_trees.specs.Tree.{IsAscending, rowid}

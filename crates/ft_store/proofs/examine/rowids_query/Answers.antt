@@ -1,5 +1,4 @@
-use Rattle.std.proofs.Common.{◌≡◌, arith, subst, sym}
-use Rattle.ft_store.specs.Scan.{Scans, tree_at}
+use Rattle.std.proofs.Common.{◌≡◌, arith}
 use Rattle.ft_store.proofs.ScanLemmas.{scans_meta, scans_tab, scans_col, scans_cell, scans_posting, scans_sizes, scans_noted, scans_skip}
 use Rattle.ft_store.proofs.examine.rowids_query.Goals as goal
 

@@ -1,7 +1,6 @@
-use Rattle.std.proofs.Common.{◌≡◌, ℕ, ◌+◌, ◌++◌, ◌∷◌, [], sym, ap, ◌∙◌, arith, rules, subst, append-nil}
-use Rattle.std.specs.List.{AllByRecursion}
+use Rattle.std.proofs.Common.{◌≡◌, [], sym, ap, ◌∙◌, arith, rules}
 use Rattle.ft_store.specs.Range.{after_last}
-use Rattle.ft_store.proofs.RangeLemmas.{after_last-end, end-below, none_of}
+use Rattle.ft_store.proofs.RangeLemmas.{after_last-end, none_of}
 use Rattle.ft_store.proofs.lists.after_last.Goals as goal
 use Rattle.ft_store.proofs.lists.after_last.Goals.{in-Some+in_ok-push, in_default}
 

@@ -1,4 +1,4 @@
-use Rattle.std.proofs.Common.{◌≡◌, [], ℕ, List, rules, sym, ap, ◌∙◌, to_z-of_z, FitsSigned, w64}
+use Rattle.std.proofs.Common.{◌≡◌, [], rules, sym, ap, ◌∙◌, to_z-of_z, FitsSigned, w64}
 use Rattle.std.specs.Prelude.{unwrap_or, string_bytes}
 use Rattle.sqlite.specs.Order.{column}
 use Rattle.sqlite_value.specs.Order.{bytes}

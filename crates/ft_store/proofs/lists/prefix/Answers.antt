@@ -1,7 +1,5 @@
-use Rattle.std.proofs.Common.{◌≡◌, ℕ, ℤ, Bool, true, false, [], List, map, refl, sym, ap, subst, ◌∙◌, arith, to_z-of_z, ◌&&◌, rules}
-use Rattle.std.specs.Prelude.{nat_eq, IfOk, Err}
-use Rattle.std.specs.List.{AllByRecursion, starts_with}
-use Rattle.std.specs.Ordering.{int_eq}
+use Rattle.std.proofs.Common.{◌≡◌, Bool, [], map, ap, subst, ◌∙◌, to_z-of_z, rules}
+use Rattle.std.specs.Prelude.{IfOk}
 use Rattle.std.specs.FinMap.Entries.{where_key}
 use Rattle.sqlite.specs.Held.{state}
 use Rattle.std.proofs.lemmas.Result.{IfOk-weaker}

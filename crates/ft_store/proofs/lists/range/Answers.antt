@@ -1,4 +1,4 @@
-use Rattle.std.proofs.Common.{[], map, sym, ap, subst, ◌∙◌, arith, to_z-of_z, ◌&&◌}
+use Rattle.std.proofs.Common.{sym, subst, arith, to_z-of_z, ◌&&◌}
 use Rattle.std.specs.Prelude.{nat_eq}
 use Rattle.std.specs.List.{starts_with}
 use Rattle.std.specs.Ordering.{int_eq}

@@ -1,17 +1,15 @@
-use Rattle.std.proofs.Common.{[], map, sym, ap, subst, ◌∙◌, arith, to_z-of_z, ◌&&◌, is_eq, ◌≡◌, rules}
+use Rattle.std.proofs.Common.{map, sym, ap, subst, ◌∙◌, arith, to_z-of_z, ◌&&◌, is_eq, ◌≡◌, rules}
 use Rattle.std.specs.Ordering.{int_eq}
-use Rattle.std.specs.FinMap.Entries.{where_key}
 use Rattle.sqlite.specs.Given.{IsPlain}
 use Rattle.sqlite.specs.Listing.{understood}
 use Rattle.sqlite.specs.Held.{state}
 use Rattle.std.proofs.lemmas.Result.{IfOk-weaker}
-use Rattle.ft_store.specs.Store.{list_key_cmp, name_cmp}
-use Rattle.ft_store.specs.Rows.{value_of}
+use Rattle.ft_store.specs.Store.{name_cmp}
 use Rattle.ft_store.specs.Found.{found_places}
 use Rattle.ft_store.specs.Shown.{shown_entry, entries_of, AreWhole, SomeDamaged}
 use Rattle.ft_store.proofs.Texts.{term_text}
 use Rattle.ft_store.proofs.TextLemmas.{term_plain}
-use Rattle.ft_store.proofs.AnswerLemmas.{term_stored_shown, with_places, placed}
+use Rattle.ft_store.proofs.AnswerLemmas.{term_stored_shown, placed}
 use Rattle.ft_store.proofs.lists.term.Goals as goal
 
 pub select-requires-clause-plain : goal.select-requires-clause-plain

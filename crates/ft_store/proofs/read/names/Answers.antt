@@ -1,5 +1,5 @@
 use Rattle.std.specs.Ordering.{int_cmp}
-use Rattle.std.proofs.Common.{[], ◌∷◌, map, sym, ap, subst, ◌∙◌, arith}
+use Rattle.std.proofs.Common.{map, sym, ap, subst, ◌∙◌, arith}
 use Rattle.sqlite.specs.Given.{IsPlain}
 use Rattle.sqlite.specs.Listing.{understood}
 use Rattle.sqlite.specs.Held.{state}

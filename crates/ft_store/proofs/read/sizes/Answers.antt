@@ -1,4 +1,4 @@
-use Rattle.std.proofs.Common.{[], ◌∷◌, map, sym, ap, subst, ◌∙◌, arith, to_z-of_z}
+use Rattle.std.proofs.Common.{map, sym, ap, subst, ◌∙◌, arith, to_z-of_z}
 use Rattle.sqlite.specs.Given.{IsPlain}
 use Rattle.sqlite.specs.Listing.{understood}
 use Rattle.sqlite.specs.Held.{state}

@@ -1,4 +1,4 @@
-use Rattle.std.proofs.Common.{◌≡◌, map, take, sym, ap, ◌∙◌, arith, rules, FitsSigned, w64, to_z-of_z}
+use Rattle.std.proofs.Common.{◌≡◌, map, sym, ap, ◌∙◌, arith, rules, FitsSigned, w64, to_z-of_z}
 use Rattle.std.specs.Prelude.{string_bytes}
 use Rattle.std.proofs.lemmas.List.{take_all}
 use Rattle.sqlite.specs.Effect.{Database}
@@ -8,7 +8,7 @@ use Rattle.sqlite_keyed.proofs.ListLemmas.{map-map}
 use Rattle.ft_store.specs.Rows.{value_of}
 use Rattle.ft_store.specs.Shown.{shown_name, shown_table, table_listed}
 use Rattle.ft_store.proofs.CallLemmas.{one_more}
-use Rattle.ft_store.proofs.ChainLemmas.{Reading, reading_then, kept_store, kept_then, reads_then}
+use Rattle.ft_store.proofs.ChainLemmas.{Reading, reading_then}
 use Rattle.ft_store.proofs.tables.tables.Goals as goal
 
 pub loop-named-preserved : goal.loop-named-preserved

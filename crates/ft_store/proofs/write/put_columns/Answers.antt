@@ -1,11 +1,10 @@
-use Rattle.std.proofs.Common.{ℤ, List, sym, ap, subst, map, take, ◌∙◌, arith, to_z-of_z}
+use Rattle.std.proofs.Common.{ℤ, List, subst, map, take, ◌∙◌, arith, to_z-of_z}
 use Rattle.std.specs.Prelude.{string_bytes, String}
 use Rattle.std.specs.declared.alloc.Global.{Global}
 use Rattle.std.specs.List.{enumerate_from}
 use Rattle.std.proofs.lemmas.Int.{ints}
 use Rattle.std.proofs.lemmas.List.{take_all}
 use Rattle.sqlite.specs.Held.{state}
-use Rattle.sqlite.specs.State.{HasCleanDisk}
 use Rattle.sqlite.proofs.StateLemmas.{survives_then}
 use Rattle.ft_store.specs.Store.{with_columns}
 use Rattle.ft_store.specs.Rows.{value_of}

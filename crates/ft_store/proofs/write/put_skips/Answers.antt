@@ -1,6 +1,5 @@
-use Rattle.std.proofs.Common.{sym, ◌∙◌, arith, to_z-of_z, pos, get_or, FitsSigned, w64, rules}
+use Rattle.std.proofs.Common.{◌∙◌, arith, to_z-of_z, pos, get_or, FitsSigned, w64, rules}
 use Rattle.sqlite.specs.Held.{state}
-use Rattle.sqlite.specs.State.{HasCleanDisk}
 use Rattle.sqlite.proofs.StateLemmas.{survives_then}
 use Rattle.ft_store.proofs.CallLemmas.{keeps_then}
 use Rattle.ft_store.proofs.PutLemmas.{skip_step}
