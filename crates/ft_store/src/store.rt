@@ -89,14 +89,20 @@ impl<S: Alter> Store<S> {
     ghost use Rattle.ft_store.specs.Kept.{shows, value_in, more_rows};
 
     /// Takes a database that holds a store, as it is, or one without objects, which becomes an empty store in one
-    /// transaction. Any other is handed back as it was.
+    /// transaction. Any other is handed back as it was, and so is one in a transaction, which is refused.
     pub fn adopt(alloc: Global, conn: Connection<S>) -> Result<Store<S>, AdoptFault<S>>
-        requires { conn.in_transaction ≡ false }
-        ensures taken { IfOk result (λ store. IsTaken S.Store conn store.held × (store.rows_read ≡ 0)) }
-        ensures refused { IfErr result (λ fault. IsNotTaken S.Store conn fault.connection fault.cause) }
-        ensures crash { MatchResult result (λ store. LeavesEmpty S.Store conn store.held) (λ fault. LeavesEmpty S.Store conn fault.connection) }
+        ensures taken { conn.in_transaction ≡ false → IfOk result (λ store. IsTaken S.Store conn store.held × (store.rows_read ≡ 0)) }
+        ensures refused { conn.in_transaction ≡ false → IfErr result (λ fault. IsNotTaken S.Store conn fault.connection fault.cause) }
+        ensures busy { IsTrue conn.in_transaction → MatchResult result (λ _. ⊥) (λ fault. (fault.connection ≡ conn) × (fault.cause ≡ StoreFault.Refused)) }
+        ensures crash { conn.in_transaction ≡ false → MatchResult result (λ store. LeavesEmpty S.Store conn store.held) (λ fault. LeavesEmpty S.Store conn fault.connection) }
     {
         let mut conn = conn;
+        if !conn.is_autocommit() {
+            return Err(AdoptFault {
+                connection: conn,
+                cause: StoreFault::Refused,
+            });
+        }
         match take(&mut conn) {
             Ok(()) => Ok(Store {
                 conn,
