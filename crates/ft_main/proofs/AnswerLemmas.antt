@@ -4,13 +4,13 @@ use Rattle.std.specs.Prelude.{IfOk, OnOk}
 use Rattle.std.specs.Str.{IsUtf8, is_utf8}
 use Rattle.std.proofs.lemmas.Str.{IsUtf8-from_is_utf8}
 use Rattle.std.proofs.lemmas.Bool.{false_from_ne_true}
-use Rattle.ft_index.specs.declared.fault.Fault.{Fault}
-use Rattle.ft_index.specs.declared.fault.Fault.TheVariants.{Memory}
-use Rattle.ft_index.specs.Content.{Cell, Text}
-use Rattle.ft_index.specs.Command.{Command, Reply}
-use Rattle.ft_index.specs.Deserved.{Contents}
-use Rattle.ft_index.specs.Step.{step}
-use Rattle.ft_index.specs.Plain.{Answers, done}
+use Rattle.ft_content.specs.declared.fault.Fault.{Fault}
+use Rattle.ft_content.specs.declared.fault.Fault.TheVariants.{Memory}
+use Rattle.ft_store.specs.Store.{Cell, Text}
+use Rattle.ft_content.specs.Command.{Command, Reply}
+use Rattle.ft_content.specs.Deserved.{Contents}
+use Rattle.ft_content.specs.Step.{step}
+use Rattle.ft_content.specs.Plain.{Answers, done}
 use Rattle.ft_main.specs.declared.answer.Answer.{Answer}
 use Rattle.ft_main.specs.Session.{told_answer}
 use Rattle.ft_main.specs.Answers.{told_by, told_result}

@@ -5,7 +5,7 @@ use Rattle.std.specs.List.{list_any, onto_first}
 use Rattle.std.specs.Str.{is_utf8}
 use Rattle.std.specs.Io.KnownBytes.{Appends, Consumes, IsAtEnd}
 use Rattle.shell_text.specs.Units.{lines_of}
-use Rattle.ft_index.specs.Deserved.{Contents}
+use Rattle.ft_content.specs.Deserved.{Contents}
 use Rattle.ft_main.specs.Session.{Told, silent, followed, unread, turn_unless, turn, told_from, told_of, told_fault, next_number}
 use Rattle.ft_main.specs.Runs.{Reading, Held, Tells, Ends, HasRead, told_after}
 

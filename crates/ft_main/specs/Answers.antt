@@ -1,7 +1,7 @@
 -- Answers as the code holds them.
 use Rattle.std.specs.Prelude.{ℕ, [], Result, Ok, Err, string_bytes}
-use Rattle.ft_index.specs.declared.fault.Fault.{Fault}
-use Rattle.ft_index.specs.Command.{Reply}
+use Rattle.ft_content.specs.declared.fault.Fault.{Fault}
+use Rattle.ft_content.specs.Command.{Reply}
 use Rattle.ft_main.specs.declared.answer.Answer.{Answer}
 use Rattle.ft_main.specs.declared.answer.Answer.TheVariants as answers
 use Rattle.ft_main.specs.Session.{Told, silent, reply_text, fault_text, told_fault}

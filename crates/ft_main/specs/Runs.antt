@@ -2,7 +2,7 @@
 use Rattle.std.specs.Prelude.{◌≡◌, length, ℕ, ◌+◌, ◌-◌, ◌^◌, min, List, [], ◌++◌, Option}
 use Rattle.std.specs.Io.KnownBytes.{Appends, Consumes}
 use Rattle.shell_text.specs.Units.{lines_of}
-use Rattle.ft_index.specs.Deserved.{Contents}
+use Rattle.ft_content.specs.Deserved.{Contents}
 use Rattle.ft_main.specs.Session.{Told, followed, told_from}
 
 -- a session between two pieces of its input: the number of the line that is being read, its bytes so far, and the fault lines

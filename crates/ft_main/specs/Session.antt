@@ -7,12 +7,13 @@ use Rattle.std.specs.Str.Lines.{strip_carriage_return}
 use Rattle.std.specs.Fmt.{signed_decimal}
 use Rattle.shell_text.specs.Words.{words_of, is_unclosed}
 use Rattle.shell_text.specs.Units.{lines_of}
-use Rattle.ft_index.specs.declared.fault.Fault.{Fault}
-use Rattle.ft_index.specs.declared.fault.Fault.TheVariants as faults
-use Rattle.ft_index.specs.Content.{Cell, cell_text}
-use Rattle.ft_index.specs.Command.{Grid, Reply, Done, Rows}
-use Rattle.ft_index.specs.Deserved.{Contents}
-use Rattle.ft_index.specs.Step.{step}
+use Rattle.ft_content.specs.declared.fault.Fault.{Fault}
+use Rattle.ft_content.specs.declared.fault.Fault.TheVariants as faults
+use Rattle.ft_store.specs.Store.{Cell}
+use Rattle.ft_content.specs.Content.{cell_text}
+use Rattle.ft_content.specs.Command.{Grid, Reply, Done, Rows}
+use Rattle.ft_content.specs.Deserved.{Contents}
+use Rattle.ft_content.specs.Step.{step}
 use Rattle.ft_main.specs.Statements.{Form, spelled, form_in, command_of}
 
 -- what is written to standard output and to standard error, and how many fault lines that has

@@ -8,7 +8,7 @@ ghost use Rattle.ft_main.specs.Answers.{told_by};
 ghost use Rattle.ft_main.specs.Runs.{Tells, Ends, HasRead, told_after};
 
 use crate::answer::{Answer, turn};
-use ft_index::PlainTables;
+use ft_content::PlainTables;
 use std::alloc::{AllocError, AllocFailed, Global};
 use std::io::{Read, Write};
 use std::marker::Model;

@@ -6,7 +6,7 @@ ghost use Rattle.ft_main.specs.Pieces.{spelled_as, plain, form_of, follows_at, i
 use crate::pieces::{
     Piece, is_symbol, key_at, literal_at, literal_of, name_at, name_of, symbol_at,
 };
-use ft_index::SearchWord;
+use ft_content::SearchWord;
 use std::alloc::{AllocError, Global};
 
 /// A statement that is read today.

@@ -1,9 +1,9 @@
 -- one row of texts
 use Rattle.std.proofs.Common.{◌≡◌, ◌∷◌, ◌++◌, [], None, sym, ap, subst, ◌∙◌}
 use Rattle.std.specs.Prelude.{IfOk}
-use Rattle.ft_index.specs.Command as commands
-use Rattle.ft_index.specs.Step.{step}
-use Rattle.ft_index.specs.Plain.{insert_command}
+use Rattle.ft_content.specs.Command as commands
+use Rattle.ft_content.specs.Step.{step}
+use Rattle.ft_content.specs.Plain.{insert_command}
 use Rattle.ft_main.specs.Statements.{command_of}
 use Rattle.ft_main.specs.Session as session
 use Rattle.ft_main.specs.Pieces.{form_of}

@@ -1,0 +1,16 @@
+pub mod CommandRows
+pub mod MatchRows
+pub mod RowLemmas
+pub mod ContentLemmas
+pub mod IndexLemmas
+pub mod PlanLemmas
+pub mod MeaningLemmas
+pub mod Lists
+pub mod NameLemmas
+pub mod PlainLemmas
+pub mod InsertLemmas
+pub mod CommandLemmas
+pub mod SearchLemmas
+pub mod WordLemmas
+pub mod AcceptLemmas
+pub mod SelectLemmas

@@ -1,0 +1,92 @@
+-- What a Select answers ("Simple FTS Queries").
+use Rattle.std.specs.Prelude.{ℕ, Bool, true, false, cond, List, [], ◌∷◌, ◌++◌, map, length, take, drop, filter, position, Option, Some, None, Result, Ok, Err, ℤ, pos, codes, unwrap_or, option_and_then, slice_get}
+use Rattle.std.specs.List.{flat_map}
+use Rattle.std.specs.Option.{option_map_or}
+use Rattle.std.specs.Ordering.{int_eq}
+use Rattle.ft_query.specs.declared.query.QueryFault.{QueryFault}
+use Rattle.ft_query.specs.Trees.{Tree}
+use Rattle.ft_query.specs.Reads.{query_of}
+use Rattle.ft_query.specs.Occurs.{accepts, offsets_of, offsets_text}
+use Rattle.ft_store.specs.Store.{Cell, Null, Int, Text}
+use Rattle.ft_content.specs.Content.{Documents, Content, same_name, is_docid, names_of}
+use Rattle.ft_content.specs.Index.{document_postings}
+use Rattle.ft_content.specs.Command.{Filter, Everything, OfDocid, Matching, Item, AllColumns, Named, OffsetsOf, Items, Counted, Listed, Grid}
+
+-- the column with this name. A MATCH name that is no column is the table, and stands for every column ("Simple FTS Queries")
+abbrev pub column_place : Content → List ℕ → Option ℕ
+column_place content name = position (same_name name) (names_of content.columns)
+
+-- What the text of a MATCH reads as over a content's columns: a query, none where it has no lexeme, or a fault. A phrase
+-- without filter is of the column that the MATCH names, and of any column where it names the table.
+unfoldable pub reading : Content → List ℕ → List ℕ → Result (Option Tree) QueryFault
+reading content name text = query_of (names_of content.columns) (column_place content name) text
+
+abbrev pub query_read : Result (Option Tree) QueryFault → Option Tree
+query_read (Ok query) = query
+query_read (Err fault) = None
+
+-- the query of a filter, if it has one
+abbrev pub query_in : Content → Filter → Option Tree
+query_in content Everything = None
+query_in content (OfDocid docid) = None
+query_in content (Matching name text) = query_read (reading content name text)
+
+abbrev pub accepts_read : Content → Option Tree → ℤ × List Cell → Bool
+accepts_read content query document = option_map_or (accepts (document_postings content.columns document.1)) query false
+
+-- Whether a filter chooses a document. A text without lexemes chooses none (own choice).
+abbrev pub is_chosen : Content → Filter → ℤ × List Cell → Bool
+is_chosen content Everything = λ document. true
+is_chosen content (OfDocid docid) = λ document. int_eq docid document.0
+is_chosen content (Matching name text) = accepts_read content (query_in content (Matching name text))
+
+-- the documents that a filter chooses, by rising docid (own choice)
+unfoldable pub chosen : Content → Filter → Documents
+chosen content f = filter (is_chosen content f) content.documents
+
+abbrev pub docid_header : List ℕ → List ℕ
+docid_header name = cond (same_name name (codes "docid")) (codes "docid") (codes "rowid")
+
+-- a column's name as declared (own choice)
+abbrev pub header : Content → List ℕ → List ℕ
+header content name = cond (is_docid name) (docid_header name) (unwrap_or (option_and_then (slice_get (names_of content.columns)) (column_place content name)) [])
+
+abbrev pub item_headers : List ℕ → Content → Item → List (List ℕ)
+item_headers table content AllColumns = names_of content.columns
+item_headers table content (Named name) = header content name ∷ []
+item_headers table content (OffsetsOf name) = (codes "offsets(" ++ table ++ codes ")") ∷ []
+
+-- the cell of a document under a name
+abbrev pub named_cell : Content → ℤ × List Cell → List ℕ → Cell
+named_cell content document name = cond (is_docid name) (Int document.0) (unwrap_or (option_and_then (slice_get document.1) (column_place content name)) Null)
+
+-- the offsets of the query in a document, as one text ("The Offsets Function")
+abbrev pub offsets_cell : Option Tree → Content → ℤ × List Cell → Cell
+offsets_cell query content document = Text (offsets_text (option_map_or (offsets_of (document_postings content.columns document.1)) query []))
+
+abbrev pub item_cells : Option Tree → Content → ℤ × List Cell → Item → List Cell
+item_cells query content document AllColumns = document.1
+item_cells query content document (Named name) = named_cell content document name ∷ []
+item_cells query content document (OffsetsOf name) = offsets_cell query content document ∷ []
+
+-- a row with the items of each document
+abbrev pub item_rows : Option Tree → Content → List Item → Documents → List (List Cell)
+item_rows query content items documents = map (λ (document : ℤ × List Cell). flat_map (item_cells query content document) items) documents
+
+-- First offset rows are dropped, then at most limit kept. The one row of a count is cut in the same way (own choice).
+abbrev pub cut : {A : Type 0} → Option ℕ → ℕ → List A → List A
+cut None offset rows = drop offset rows
+cut (Some limit) offset rows = take limit (drop offset rows)
+
+-- the rows of a Select: one for each chosen document, or for a count one with their number
+abbrev pub answer_rows : Content → Items → Filter → List (List Cell)
+answer_rows content Counted f = (Int (pos (length (chosen content f))) ∷ []) ∷ []
+answer_rows content (Listed items) f = item_rows (query_in content f) content items (chosen content f)
+
+abbrev pub answer_names : List ℕ → Content → Items → List (List ℕ)
+answer_names table content Counted = codes "count(*)" ∷ []
+answer_names table content (Listed items) = flat_map (item_headers table content) items
+
+-- the answer of a Select over a table of this name
+unfoldable pub answer : List ℕ → Content → Items → Filter → Option ℕ → ℕ → Grid
+answer table content items f limit offset = record { names = answer_names table content items; rows = cut limit offset (answer_rows content items f) }

@@ -1,0 +1,258 @@
+-- Which fault a command deserves. Which faults there are, their limits, and the order in which they are tested over a whole command
+-- are own choices, but where a section is named.
+use Rattle.std.specs.Prelude.{ℕ, ◌-◌, ◌^◌, Bool, true, false, cond, not, ◌&&◌, ◌||◌, List, [], ◌∷◌, map, length, zip, Option, Some, None, Result, Ok, Err, ℤ, pos, ◌+ℤ◌, codes, nat_lt, nat_le, ◌==◌, unwrap_or, option_map, is_some, is_none}
+use Rattle.std.specs.List.{list_any, list_all, find, flat_map}
+use Rattle.std.specs.Ordering.{int_cmp, int_eq}
+use Rattle.std.specs.FinMap.Entries.{put, find as cells_at}
+use Rattle.ft_content.specs.declared.fault.Fault.{Fault}
+use Rattle.ft_content.specs.declared.fault.Fault.TheVariants as faults
+use Rattle.ft_query.specs.declared.query.QueryFault.{QueryFault}
+use Rattle.ft_query.specs.declared.query.QueryFault.TheVariants.{Malformed, TooLarge, Memory}
+use Rattle.ft_query.specs.Trees.{Tree}
+use Rattle.ft_store.specs.Store.{Cell, Null, Int, Text}
+use Rattle.ft_content.specs.Content.{Column, Documents, Content, TableRows, same_name, is_docid, is_name, names_of, repeats_name, names_clash, is_too_long, has_nul}
+use Rattle.ft_content.specs.Command.{Filter, Everything, OfDocid, Matching, Item, AllColumns, Named, OffsetsOf, Items, Counted, Listed, Command, Create, Drop, Insert, Update, Delete, Select, Rebuild, Check, Optimize}
+use Rattle.ft_content.specs.Answer.{reading, chosen}
+
+-- What the rows of a table are: a content with the right index rows, a content with other index rows, or no content.
+pub data Held : Type 0 where
+  Sound : (content : Content) → Held
+  Stale : (content : Content) → Held
+  Loose : (rows : TableRows) → Held
+
+pub record Table : Type 0 where
+  pub name : List ℕ
+  pub held : Held
+
+-- the tables by rising id
+abbrev pub Contents : Type 0
+Contents = List (ℤ × Table)
+
+abbrev pub table_named : Contents → List ℕ → Option (ℤ × Table)
+table_named contents name = find (λ (t : ℤ × Table). same_name t.1.name name) contents
+
+-- the fault of the first test that applies
+abbrev pub first_of : List (Bool × Fault) → Option Fault
+first_of [] = None
+first_of (test ∷ tests) = cond test.0 (Some test.1) (first_of tests)
+
+abbrev pub or_else : Option Fault → Option Fault → Option Fault
+or_else None later = later
+or_else (Some fault) later = Some fault
+
+-- tests of a table, which has to be there and sound
+abbrev pub on_held : Held → (Content → Option Fault) → Option Fault
+on_held (Sound content) test = test content
+on_held (Stale content) test = Some faults.Unsound
+on_held (Loose rows) test = Some faults.Unsound
+
+abbrev pub on_found : Option (ℤ × Table) → (List ℕ → Held → Option Fault) → Option Fault
+on_found None test = Some faults.NoSuchTable
+on_found (Some t) test = test t.1.name t.1.held
+
+abbrev pub on_sound : Contents → List ℕ → (List ℕ → Content → Option Fault) → Option Fault
+on_sound contents name test = on_found (table_named contents name) (λ table held. on_held held (test table))
+
+-- Create: with no column there is one, named content ("Creating and Destroying FTS Tables")
+abbrev pub made_columns : List (List ℕ) → List (List ℕ)
+made_columns [] = codes "content" ∷ []
+made_columns (name ∷ names) = name ∷ names
+
+abbrev pub is_tokenize : List ℕ × List ℕ → Bool
+is_tokenize option = same_name option.0 (codes "tokenize")
+
+-- an option that names a column whose cells are not indexed ("The notindexed= option")
+abbrev pub is_notindexed : List ℕ × List ℕ → Bool
+is_notindexed option = same_name option.0 (codes "notindexed")
+
+abbrev pub create_fault : Contents → List ℕ → List ℕ → List (List ℕ × List ℕ) → List (List ℕ) → Bool → Option Fault
+create_fault contents table module_name options names if_new = first_of (
+    (not (same_name module_name (codes "fts4")), faults.Module)
+    ∷ (list_any (λ (o : List ℕ × List ℕ). is_tokenize o && not (same_name o.1 (codes "simple"))) options, faults.Tokenizer)
+    ∷ (list_any (λ (o : List ℕ × List ℕ). not (is_tokenize o || is_notindexed o)) options, faults.Parameter)
+    ∷ (not (list_all is_name (table ∷ names)), faults.Name)
+    ∷ (names_clash table names, faults.DuplicateColumn)
+    ∷ (nat_lt 100 (length names), faults.TooManyColumns)
+    ∷ (is_some (table_named contents table) && not if_new, faults.TableExists)
+    ∷ (is_none (table_named contents table) && nat_le 1000 (length contents), faults.TooManyTables)
+    ∷ (is_none (table_named contents table) && list_any (λ (o : List ℕ × List ℕ). is_notindexed o && not (list_any (same_name o.1) names)) options, faults.NoSuchColumn)
+    ∷ [])
+
+-- names of columns that a table has, docid among them
+abbrev pub has_column : Content → List ℕ → Bool
+has_column content name = is_docid name || list_any (same_name name) (names_of content.columns)
+
+-- the docid that a value under a name gives
+abbrev pub number_of : Cell → List ℤ
+number_of Null = []
+number_of (Int number) = number ∷ []
+number_of (Text bytes) = []
+
+abbrev pub docids_in : List (List ℕ × Cell) → List ℤ
+docids_in values = flat_map (λ (v : List ℕ × Cell). cond (is_docid v.0) (number_of v.1) []) values
+
+abbrev pub is_text : Cell → Bool
+is_text Null = false
+is_text (Int number) = false
+is_text (Text bytes) = true
+
+abbrev pub is_null : Cell → Bool
+is_null Null = true
+is_null (Int number) = false
+is_null (Text bytes) = false
+
+-- Insert: the columns that its rows have values for
+abbrev pub listed_columns : Content → Option (List (List ℕ)) → List (List ℕ)
+listed_columns content names = unwrap_or names (names_of content.columns)
+
+-- the value under a column's name, else the cell that stands there
+abbrev pub value_under : List (List ℕ × Cell) → Column → Cell → Cell
+value_under values column cell = unwrap_or (option_map (λ (v : List ℕ × Cell). v.1) (find (λ (v : List ℕ × Cell). same_name v.0 column.name) values)) cell
+
+-- the cells of a document after these values are set
+abbrev pub with_values : List (List ℕ × Cell) → List Column → List Cell → List Cell
+with_values values columns cells = map (λ (c : Column × Cell). value_under values c.0 c.1) (zip columns cells)
+
+-- a new document has NULL where no value is given
+abbrev pub new_cells : List (List ℕ × Cell) → List Column → List Cell
+new_cells values columns = map (λ column. value_under values column Null) columns
+
+-- the docid of a row that gives none: one more than the largest, 1 where there is no document (own choice)
+abbrev pub next_docid : Documents → Option ℤ
+next_docid [] = Some (pos 1)
+next_docid (d ∷ []) = cond (int_eq d.0 (pos (2 ^ 63 - 1))) None (Some (d.0 +ℤ pos 1))
+next_docid (d ∷ e ∷ documents) = next_docid (e ∷ documents)
+
+abbrev pub has_docid : Documents → ℤ → Bool
+has_docid documents docid = is_some (cells_at int_cmp docid documents)
+
+abbrev pub place_document : Documents → ℤ → List Cell → Result Documents Fault
+place_document documents docid cells = cond (has_docid documents docid) (Err (faults.DocidTaken docid)) (Ok (put int_cmp docid cells documents))
+
+abbrev pub append_document : Documents → Option ℤ → List Cell → Result Documents Fault
+append_document documents None cells = Err faults.DocidFull
+append_document documents (Some docid) cells = Ok (put int_cmp docid cells documents)
+
+-- The documents after one row, with the docids that it gives. One that exists is refused ("Populating FTS Tables").
+abbrev pub insert_row : Documents → List ℤ → List Cell → Result Documents Fault
+insert_row documents [] cells = append_document documents (next_docid documents) cells
+insert_row documents (docid ∷ docids) cells = place_document documents docid cells
+
+abbrev pub then_rows : Result Documents Fault → (Documents → Result Documents Fault) → Result Documents Fault
+then_rows (Ok documents) rest = rest documents
+then_rows (Err fault) rest = Err fault
+
+-- the documents after rows, each given as its values under names, or the fault of the first row that fails
+unfoldable pub insert_rows : List Column → List (List (List ℕ × Cell)) → Documents → Result Documents Fault
+insert_rows columns [] documents = Ok documents
+insert_rows columns (values ∷ rows) documents = then_rows (insert_row documents (docids_in values) (new_cells values columns)) (insert_rows columns rows)
+
+abbrev pub fault_of : Result Documents Fault → Option Fault
+fault_of (Ok documents) = None
+fault_of (Err fault) = Some fault
+
+abbrev pub insert_fault : Content → List (List ℕ) → List (List Cell) → Option Fault
+insert_fault content names rows = or_else (first_of (
+    (not (list_all (has_column content) names), faults.NoSuchColumn)
+    ∷ (list_any (λ (row : List Cell). not (length row == length names)) rows, faults.Count)
+    ∷ (list_any (λ (row : List Cell). list_any (λ (v : List ℕ × Cell). is_docid v.0 && is_text v.1) (zip names row)) rows, faults.DocidKind)
+    ∷ (list_any (λ (row : List Cell). nat_lt 1 (length (docids_in (zip names row)))) rows, faults.DocidTwice)
+    ∷ (list_any (list_any is_too_long) rows, faults.TooLong)
+    ∷ (list_any (list_any has_nul) rows, faults.HasNul)
+    ∷ []))
+    (fault_of (insert_rows content.columns (map (zip names) rows) content.documents))
+
+-- What a MATCH deserves. `query_of` answers no third fault.
+abbrev pub reading_fault : Result (Option Tree) QueryFault → Option Fault
+reading_fault (Ok query) = None
+reading_fault (Err Malformed) = Some faults.Malformed
+reading_fault (Err TooLarge) = Some faults.TooLarge
+reading_fault (Err Memory) = Some faults.Memory
+
+abbrev pub query_fault : Content → Filter → Option Fault
+query_fault content Everything = None
+query_fault content (OfDocid docid) = None
+query_fault content (Matching name text) = reading_fault (reading content name text)
+
+-- a MATCH name is the table or a column
+abbrev pub names_unknown : List ℕ → Content → Filter → Bool
+names_unknown table content Everything = false
+names_unknown table content (OfDocid docid) = false
+names_unknown table content (Matching name text) = not (same_name table name || list_any (same_name name) (names_of content.columns))
+
+abbrev pub is_match : Filter → Bool
+is_match Everything = false
+is_match (OfDocid docid) = false
+is_match (Matching name text) = true
+
+-- An Update that sets docid may choose one document, and no other may have that docid (own choice).
+abbrev pub move_fault : Documents → Documents → ℤ → Option Fault
+move_fault documents [] docid = None
+move_fault documents (d ∷ []) docid = cond (has_docid documents docid && not (int_eq d.0 docid)) (Some (faults.DocidTaken docid)) None
+move_fault documents (d ∷ e ∷ more) docid = Some (faults.DocidTaken docid)
+
+abbrev pub moves_fault : Documents → Documents → List ℤ → Option Fault
+moves_fault documents picked [] = None
+moves_fault documents picked (docid ∷ docids) = move_fault documents picked docid
+
+abbrev pub update_fault : List ℕ → Content → List (List ℕ × Cell) → Filter → Option Fault
+update_fault table content sets f = or_else (first_of (
+    (not (list_all (λ (s : List ℕ × Cell). has_column content s.0) sets) || names_unknown table content f, faults.NoSuchColumn)
+    ∷ (list_any (λ (s : List ℕ × Cell). is_docid s.0 && (is_text s.1 || is_null s.1)) sets, faults.DocidKind)
+    ∷ (nat_lt 1 (length (docids_in sets)), faults.DocidTwice)
+    ∷ (list_any (λ (s : List ℕ × Cell). is_too_long s.1) sets, faults.TooLong)
+    ∷ (list_any (λ (s : List ℕ × Cell). has_nul s.1) sets, faults.HasNul)
+    ∷ []))
+    (or_else (query_fault content f) (moves_fault content.documents (chosen content f) (docids_in sets)))
+
+abbrev pub delete_fault : List ℕ → Content → Filter → Option Fault
+delete_fault table content f = or_else (first_of ((names_unknown table content f, faults.NoSuchColumn) ∷ [])) (query_fault content f)
+
+-- a named item is a column or docid; the argument of offsets is the table
+abbrev pub item_unknown : List ℕ → Content → Item → Bool
+item_unknown table content AllColumns = false
+item_unknown table content (Named name) = not (has_column content name)
+item_unknown table content (OffsetsOf name) = not (same_name table name)
+
+abbrev pub is_offsets : Item → Bool
+is_offsets AllColumns = false
+is_offsets (Named name) = false
+is_offsets (OffsetsOf name) = true
+
+abbrev pub items_in : Items → List Item
+items_in Counted = []
+items_in (Listed items) = items
+
+abbrev pub select_fault : List ℕ → Content → Items → Filter → Option Fault
+select_fault table content items f = or_else (first_of (
+    (list_any (item_unknown table content) (items_in items) || names_unknown table content f, faults.NoSuchColumn)
+    ∷ (list_any is_offsets (items_in items) && not (is_match f), faults.Context)
+    ∷ []))
+    (query_fault content f)
+
+-- Rebuild wants a content ("The "rebuild" command"), and Check wants its index rows to be right ("The "integrity-check" command").
+abbrev pub rebuild_fault : List ℕ → Held → Option Fault
+rebuild_fault table (Sound content) = None
+rebuild_fault table (Stale content) = None
+rebuild_fault table (Loose rows) = Some faults.Corrupt
+
+abbrev pub check_fault : List ℕ → Held → Option Fault
+check_fault table (Sound content) = None
+check_fault table (Stale content) = Some faults.Corrupt
+check_fault table (Loose rows) = Some faults.Corrupt
+
+-- The first fault that applies to a command, None where it is to be done. Two docids for one row are refused ("Populating FTS Tables").
+unfoldable pub deserved : Contents → Command → Option Fault
+deserved contents (Create table module_name options columns if_new) = create_fault contents table module_name options (made_columns columns) if_new
+deserved contents (Drop table if_there) = first_of ((is_none (table_named contents table) && not if_there, faults.NoSuchTable) ∷ [])
+deserved contents (Insert table columns rows) =
+    or_else (first_of ((repeats_name (unwrap_or columns []), faults.DuplicateColumn) ∷ []))
+    (on_sound contents table (λ name content. insert_fault content (listed_columns content columns) rows))
+deserved contents (Update table sets f) =
+    or_else (first_of ((repeats_name (map (λ (s : List ℕ × Cell). s.0) sets), faults.DuplicateColumn) ∷ []))
+    (on_sound contents table (λ name content. update_fault name content sets f))
+deserved contents (Delete table f) = on_sound contents table (λ name content. delete_fault name content f)
+deserved contents (Select table items f limit offset) = on_sound contents table (λ name content. select_fault name content items f)
+deserved contents (Rebuild table) = on_found (table_named contents table) rebuild_fault
+deserved contents (Check table) = on_found (table_named contents table) check_fault
+deserved contents (Optimize table) = on_sound contents table (λ name content. None)

@@ -1,0 +1,123 @@
+-- The index of a content: its entries, the rows that hold them, and the sizes of its cells. Its rows are an own choice; the document's
+-- own are those of "Data Structures".
+use Rattle.std.specs.Prelude.{cond, ℕ, List, [], ◌∷◌, map, length, filter, ℤ, pos, nat_lt, unwrap_or}
+use Rattle.std.specs.List.{flat_map, enumerate_from}
+use Rattle.std.specs.declared.cmp.Ordering.{Ordering}
+use Rattle.std.specs.Ordering.{nat_cmp, int_cmp, ordering_then}
+use Rattle.std.specs.Cmp.Lexicographic.{slice_cmp}
+use Rattle.std.specs.FinMap.Entries.{put, find}
+use Rattle.ft_store.specs.declared.rows.Spot as stored
+use Rattle.ft_query.specs.Tokens.{PlainToken, tokens_of}
+use Rattle.ft_query.specs.Documents.{Posting, postings_of}
+use Rattle.ft_store.specs.Store.{Cell}
+use Rattle.ft_content.specs.Content.{Column, Content, cell_text}
+
+-- the text of a cell that is indexed: none in a column that is not indexed ("The notindexed= option")
+abbrev pub indexed_text : Column → Cell → List ℕ
+indexed_text column cell = cond column.indexed (cell_text cell) []
+
+abbrev pub cell_tokens : Column → Cell → List PlainToken
+cell_tokens column cell = tokens_of (indexed_text column cell)
+
+-- the tokens of each column of a document ("Tokenizers")
+abbrev pub document_tokens : List Column → List Cell → List (List PlainToken)
+document_tokens [] cells = []
+document_tokens (column ∷ columns) [] = []
+document_tokens (column ∷ columns) (cell ∷ cells) = cell_tokens column cell ∷ document_tokens columns cells
+
+-- the tokens of a document under their terms
+abbrev pub document_postings : List Column → List Cell → List Posting
+document_postings columns cells = postings_of (document_tokens columns cells)
+
+-- where a term stands in a document, as the store says it
+pub record Spot : Type 0 where
+  pub column : ℕ
+  pub pos : ℕ
+  pub place : ℕ
+  pub size : ℕ
+
+-- a term at a spot of a document
+pub record Entry : Type 0 where
+  pub term : List ℕ
+  pub docid : ℤ
+  pub spot : Spot
+
+abbrev pub entry_at : ℤ → Posting → Entry
+entry_at docid p = record { term = p.term; docid = docid; spot = record { column = p.place.column; pos = p.place.pos; place = p.place.start; size = p.place.size } }
+
+-- one entry for each token of a document
+abbrev pub document_entries : List Column → ℤ × List Cell → List Entry
+document_entries columns document = map (entry_at document.0) (document_postings columns document.1)
+
+-- one entry for each token of a content
+unfoldable pub entries : Content → List Entry
+entries content = flat_map (document_entries content.columns) content.documents
+
+-- a term with a document that has it. Terms are ordered by their bytes
+abbrev pub Key : Type 0
+Key = List ℕ × ℤ
+
+abbrev pub key_cmp : Key → Key → Ordering
+key_cmp a b = ordering_then (slice_cmp nat_cmp a.0 b.0) (int_cmp a.1 b.1)
+
+-- the spots of each key, by rising keys
+abbrev pub SpotLists : Type 0
+SpotLists = List (Key × List Spot)
+
+-- the spots of a key, none where it has no list
+abbrev pub spots_at : SpotLists → Key → List Spot
+spots_at lists key = unwrap_or (find key_cmp key lists) []
+
+abbrev pub key_of : Entry → Key
+key_of e = (e.term, e.docid)
+
+-- the spots of entries under their keys
+unfoldable pub spot_lists : List Entry → SpotLists
+spot_lists [] = []
+spot_lists (e ∷ es) = put key_cmp (key_of e) (e.spot ∷ spots_at (spot_lists es) (key_of e)) (spot_lists es)
+
+-- how many tokens a cell has, where it has any
+pub record Size : Type 0 where
+  pub docid : ℤ
+  pub column : ℕ
+  pub n : ℕ
+
+abbrev pub document_sizes : List Column → ℤ × List Cell → List Size
+document_sizes columns document =
+    filter (λ (s : Size). nat_lt 0 s.n) (map (λ (c : ℕ × List PlainToken). record { docid = document.0; column = c.0; n = length c.1 }) (enumerate_from 0 (document_tokens columns document.1)))
+
+-- by rising docid and then column
+unfoldable pub sizes : Content → List Size
+sizes content = flat_map (document_sizes content.columns) content.documents
+
+-- A table's index rows as the store shows them: under each key its spots, and sizes under docid and column.
+abbrev pub StoredSpot : Type 0
+StoredSpot = stored.Spot
+
+pub record SizeRow : Type 0 where
+  pub docid : ℤ
+  pub column : ℤ
+  pub n : ℤ
+
+pub record IndexRows : Type 0 where
+  pub lists : List (Key × List StoredSpot)
+  pub sizes : List SizeRow
+
+abbrev pub stored_spot : Spot → StoredSpot
+stored_spot s = record { column = pos s.column; pos = pos s.pos; place = pos s.place; size = pos s.size }
+
+abbrev pub size_row : Size → SizeRow
+size_row s = record { docid = s.docid; column = pos s.column; n = pos s.n }
+
+-- the index rows made from scratch out of a content
+unfoldable pub index_rows : Content → IndexRows
+index_rows content = record { lists = map (λ (l : Key × List Spot). (l.0, map stored_spot l.1)) (spot_lists (entries content)); sizes = map size_row (sizes content) }
+
+-- a row for each spot, as the store reads them
+pub record EntryRow : Type 0 where
+  pub term : List ℕ
+  pub docid : ℤ
+  pub spot : StoredSpot
+
+abbrev pub entry_rows : List (Key × List StoredSpot) → List EntryRow
+entry_rows lists = flat_map (λ (l : Key × List StoredSpot). map (λ (s : StoredSpot). record { term = l.0.0; docid = l.0.1; spot = s }) l.1) lists

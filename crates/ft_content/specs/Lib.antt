@@ -1,0 +1,11 @@
+pub mod Content
+pub mod Index
+pub mod Command
+pub mod Views
+pub mod Answer
+pub mod Deserved
+pub mod Step
+pub mod Laws
+pub mod Meaning
+pub mod Word
+pub mod Plain

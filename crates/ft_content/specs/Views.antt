@@ -1,0 +1,87 @@
+-- Commands, replies and tables as the definitions see them.
+use Rattle.std.specs.Prelude.{ℕ, ℤ, Bool, List, map, option_map, Result, Ok, Err, string_bytes, String, Vec}
+use Rattle.std.specs.declared.alloc.Global.{Global}
+use Rattle.ft_store.specs.declared.rows.Value.{Value}
+use Rattle.ft_store.specs.Store.{Cell}
+use Rattle.ft_store.specs.Changes.{shown_value}
+use Rattle.ft_content.specs.declared.command.Filter.{Filter}
+use Rattle.ft_content.specs.declared.command.Filter.TheVariants as filters
+use Rattle.ft_content.specs.declared.command.Item.{Item}
+use Rattle.ft_content.specs.declared.command.Item.TheVariants as item
+use Rattle.ft_content.specs.declared.command.Items.{Items}
+use Rattle.ft_content.specs.declared.command.Items.TheVariants as items
+use Rattle.ft_content.specs.declared.command.Command.{Command}
+use Rattle.ft_content.specs.declared.command.Command.TheVariants as commands
+use Rattle.ft_content.specs.declared.command.Grid.{Grid}
+use Rattle.ft_content.specs.declared.command.Reply.{Reply}
+use Rattle.ft_content.specs.declared.command.Reply.TheVariants as replies
+use Rattle.ft_content.specs.declared.fault.Fault.{Fault}
+use Rattle.ft_content.specs.declared.table.Column.{Column}
+use Rattle.ft_content.specs.declared.table.TableInfo.{TableInfo}
+use Rattle.ft_content.specs.Content as content
+use Rattle.ft_content.specs.Command as plain
+
+abbrev pub filter_of : Filter → plain.Filter
+filter_of filters.All = plain.Everything
+filter_of (filters.Docid docid) = plain.OfDocid docid
+filter_of (filters.Match name query) = plain.Matching (string_bytes name) (string_bytes query)
+
+abbrev pub item_of : Item → plain.Item
+item_of item.All = plain.AllColumns
+item_of (item.Name name) = plain.Named (string_bytes name)
+item_of (item.Offsets name) = plain.OffsetsOf (string_bytes name)
+
+abbrev pub items_of : Items → plain.Items
+items_of items.Count = plain.Counted
+items_of (items.List list) = plain.Listed (map item_of list.items)
+
+abbrev pub names_in : {A : Type 0} → Vec (String Global) A → List (List ℕ)
+names_in texts = map string_bytes texts.items
+
+abbrev pub cells_of : {A : Type 0} → Vec Value A → List Cell
+cells_of cells = map shown_value cells.items
+
+abbrev pub rows_of : {A : Type 0} → Vec (Vec Value Global) A → List (List Cell)
+rows_of rows = map cells_of rows.items
+
+-- a name with a value, and a name with a text
+abbrev pub set_of : String Global × Value → List ℕ × Cell
+set_of s = (string_bytes s.0, shown_value s.1)
+
+abbrev pub option_of : String Global × String Global → List ℕ × List ℕ
+option_of o = (string_bytes o.0, string_bytes o.1)
+
+abbrev pub command_of : Command → plain.Command
+command_of (commands.Create table module_name options columns if_new) = plain.Create (string_bytes table) (string_bytes module_name) (map option_of options.items) (names_in columns) if_new
+command_of (commands.Drop table if_there) = plain.Drop (string_bytes table) if_there
+command_of (commands.Insert table columns rows) = plain.Insert (string_bytes table) (option_map names_in columns) (rows_of rows)
+command_of (commands.Update table sets f) = plain.Update (string_bytes table) (map set_of sets.items) (filter_of f)
+command_of (commands.Delete table f) = plain.Delete (string_bytes table) (filter_of f)
+command_of (commands.Select table list f limit offset) = plain.Select (string_bytes table) (items_of list) (filter_of f) limit offset
+command_of (commands.Rebuild table) = plain.Rebuild (string_bytes table)
+command_of (commands.Check table) = plain.Check (string_bytes table)
+command_of (commands.Optimize table) = plain.Optimize (string_bytes table)
+
+abbrev pub grid_of : Grid → plain.Grid
+grid_of grid = record { names = names_in grid.names; rows = rows_of grid.rows }
+
+abbrev pub reply_of : Reply → plain.Reply
+reply_of replies.Done = plain.Done
+reply_of (replies.Rows grid) = plain.Rows (grid_of grid)
+
+abbrev pub answer_of : Result Reply Fault → Result plain.Reply Fault
+answer_of (Ok reply) = Ok (reply_of reply)
+answer_of (Err fault) = Err fault
+
+abbrev pub column_of : Column → content.Column
+column_of c = record { name = string_bytes c.name; indexed = c.indexed }
+
+-- what is known of a table without its rows
+pub record KnownTable : Type 0 where
+  pub id : ℤ
+  pub name : List ℕ
+  pub columns : List content.Column
+  pub sound : Bool
+
+abbrev pub known_info : TableInfo → KnownTable
+known_info info = record { id = info.id; name = string_bytes info.name; columns = map column_of info.columns.items; sound = info.sound }

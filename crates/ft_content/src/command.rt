@@ -1,0 +1,91 @@
+// Commands on full-text tables and their replies.
+use ft_store::Value;
+
+/// Which documents are meant.
+#[derive(Debug, Drop)]
+pub enum Filter {
+    /// All of them.
+    All,
+    /// The one with this docid, if there is one.
+    Docid(i64),
+    /// Those that a query accepts. The name is the table's, for all columns, or a column's.
+    Match { name: String, query: String },
+}
+
+/// An item of a Select.
+#[derive(Debug, Drop)]
+pub enum Item {
+    /// All columns.
+    All,
+    /// A column, or the docid by one of its names.
+    Name(String),
+    /// The offsets of the filter's query. The name is the table's.
+    Offsets(String),
+}
+
+/// What a Select answers.
+#[derive(Debug, Drop)]
+pub enum Items {
+    /// How many documents are chosen.
+    Count,
+    /// A row of these items for each document that is chosen.
+    List(Vec<Item>),
+}
+
+/// A command on full-text tables. Names are compared without ASCII case.
+#[derive(Debug, Drop)]
+pub enum Command {
+    /// Makes a table of these columns, or of one named `content` where there is none. An option is a name and a value.
+    /// With `if_new` a table of that name may be there, and then nothing is made.
+    Create {
+        table: String,
+        module: String,
+        options: Vec<(String, String)>,
+        columns: Vec<String>,
+        if_new: bool,
+    },
+    /// Removes a table. With `if_there` it may be missing.
+    Drop { table: String, if_there: bool },
+    /// Adds a document for each row. A row has a value for each of `columns`, or for each column of the table.
+    Insert {
+        table: String,
+        columns: Option<Vec<String>>,
+        rows: Vec<Vec<Value>>,
+    },
+    /// Sets values of the documents that are chosen.
+    Update {
+        table: String,
+        sets: Vec<(String, Value)>,
+        filter: Filter,
+    },
+    /// Removes the documents that are chosen.
+    Delete { table: String, filter: Filter },
+    /// Answers items of the documents that are chosen, by rising docid, without the first `offset` and at most `limit`.
+    Select {
+        table: String,
+        items: Items,
+        filter: Filter,
+        limit: Option<u64>,
+        offset: u64,
+    },
+    /// Makes the index again out of the documents.
+    Rebuild { table: String },
+    /// Compares the index with the documents.
+    Check { table: String },
+    /// Changes nothing.
+    Optimize { table: String },
+}
+
+/// Names, and rows with a value under each.
+#[derive(Debug, Drop)]
+pub struct Grid {
+    pub names: Vec<String>,
+    pub rows: Vec<Vec<Value>>,
+}
+
+/// What a command is answered.
+#[derive(Debug, Drop)]
+pub enum Reply {
+    Done,
+    Rows(Grid),
+}

@@ -1,0 +1,20 @@
+//! What commands on full-text tables mean: contents, the rows that hold them, faults and answers.
+#![tactic(auto)]
+
+mod command;
+mod fault;
+mod laws;
+mod names;
+mod plain;
+mod table;
+mod word;
+
+pub use command::{Command, Filter, Grid, Item, Items, Reply};
+pub use fault::Fault;
+pub use ft_store::Value;
+pub use laws::{
+    commands_keep_contents, index_by_document, lists_mean_documents, rows_hold_one_content,
+};
+pub use plain::PlainTables;
+pub use table::{Column, TableInfo};
+pub use word::SearchWord;

@@ -1,9 +1,0 @@
-pub mod Content
-pub mod Index
-pub mod Command
-pub mod Answer
-pub mod Deserved
-pub mod Step
-pub mod Laws
-pub mod Word
-pub mod Plain
