@@ -6,7 +6,7 @@ use Rattle.std.specs.Ordering.{int_cmp, int_eq}
 use Rattle.std.specs.Str.{str_eq_ignore_ascii_case}
 use Rattle.std.specs.Fmt.{signed_decimal}
 use Rattle.std.specs.FinMap.Entries.{is_sorted}
-use Rattle.ft_store.specs.Store.{Cell, Null, Int, Text}
+pub use Rattle.ft_store.specs.Store.{Cell, Null, Int, Text}
 
 -- The text of a cell: nothing, the decimal text, or the text. A cell is NULL, an integer or a text (own choice).
 abbrev pub cell_text : Cell → List ℕ

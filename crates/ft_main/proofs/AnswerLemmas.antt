@@ -6,7 +6,7 @@ use Rattle.std.proofs.lemmas.Str.{IsUtf8-from_is_utf8}
 use Rattle.std.proofs.lemmas.Bool.{false_from_ne_true}
 use Rattle.ft_content.specs.declared.fault.Fault.{Fault}
 use Rattle.ft_content.specs.declared.fault.Fault.TheVariants.{Memory}
-use Rattle.ft_store.specs.Store.{Cell, Text}
+use Rattle.ft_content.specs.Content.{Cell, Text}
 use Rattle.ft_content.specs.Command.{Command, Reply}
 use Rattle.ft_content.specs.Deserved.{Contents}
 use Rattle.ft_content.specs.Step.{step}

@@ -9,7 +9,7 @@ use Rattle.shell_text.specs.Words.{words_of, is_unclosed}
 use Rattle.shell_text.specs.Units.{lines_of}
 use Rattle.ft_content.specs.declared.fault.Fault.{Fault}
 use Rattle.ft_content.specs.declared.fault.Fault.TheVariants as faults
-use Rattle.ft_store.specs.Store.{Cell}
+use Rattle.ft_content.specs.Content.{Cell}
 use Rattle.ft_content.specs.Content.{cell_text}
 use Rattle.ft_content.specs.Command.{Grid, Reply, Done, Rows}
 use Rattle.ft_content.specs.Deserved.{Contents}

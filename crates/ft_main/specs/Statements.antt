@@ -9,7 +9,7 @@ use Rattle.shell_text.specs.declared.words.SqlWord.{SqlWord}
 use Rattle.shell_text.specs.declared.words.SqlKind.{SqlKind}
 use Rattle.shell_text.specs.declared.words.SqlKind.TheVariants as kinds
 use Rattle.ft_content.specs.Word.{is_search_word}
-use Rattle.ft_store.specs.Store.{Text}
+use Rattle.ft_content.specs.Content.{Text}
 use Rattle.ft_content.specs.Command as commands
 use Rattle.ft_content.specs.Plain.{create_command, docids_command}
 

@@ -1,7 +1,7 @@
 -- the lines so far
 use Rattle.std.proofs.Common.{◌≡◌, ◌∷◌, [], map, take, string_bytes}
 use Rattle.std.specs.List.{flat_map}
-use Rattle.ft_store.specs.Store.{Int}
+use Rattle.ft_content.specs.Content.{Int}
 use Rattle.ft_main.specs.Session as session
 use Rattle.ft_main.proofs.answer.docid_lines.Given as goal
 

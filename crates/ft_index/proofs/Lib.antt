@@ -1,0 +1,5 @@
+pub mod ChangeLemmas
+pub mod Calls
+pub mod HeldLemmas
+pub mod NameLemmas
+pub mod SoundLemmas

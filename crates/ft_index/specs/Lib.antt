@@ -1,0 +1,5 @@
+pub mod Tables
+pub mod Kept
+pub mod RowLaws
+pub mod RowsRead
+pub mod Walked
