@@ -1,5 +1,5 @@
 -- What calls one after another leave.
-use Rattle.std.proofs.Common.{◌≡◌, ℕ, Bool, true, false, cond, List, [], ◌∷◌, Option, Some, None, Result, Ok, Err, refl, ◌⊎◌, sym, ap, subst, ◌∙◌, inl, inr, map}
+use Rattle.std.proofs.Common.{◌≡◌, ℕ, Bool, true, false, cond, List, [], ◌∷◌, Option, Some, None, Result, Ok, Err, refl, ◌⊎◌, sym, ap, subst, ◌∙◌, inl, inr}
 use Rattle.std.specs.Prelude.{IsTrue, is_ok}
 use Rattle.ft_content.specs.declared.fault.Fault.{Fault}
 use Rattle.ft_content.specs.Command.{Command, Reply}
@@ -7,7 +7,7 @@ use Rattle.ft_content.specs.Deserved.{Contents, deserved}
 use Rattle.ft_content.specs.Step.{step, step_by, after}
 use Rattle.sqlite.specs.Store.{Ghosts}
 use Rattle.ft_store.specs.Store.{applied, Note}
-use Rattle.ft_index.specs.Kept.{StoreHolds, known_table, Known, IsUp, value_of, Holds, Answers, Call, Executed, Noted, Runs, accepted, left_by, is_outside, AreAnswered, KeptByCalls}
+use Rattle.ft_index.specs.Kept.{StoreHolds, Known, IsUp, value_of, Holds, Answers, Call, Executed, Noted, Runs, accepted, left_by, is_outside, AreAnswered, KeptByCalls}
 
 -- a step that is done leaves what comes after it, and one that is refused leaves the contents
 done : (due : Option Fault) (first mid : Contents) (command : Command) (reply : Reply) → step_by due first command ≡ (Ok reply, mid) → mid ≡ after first command
@@ -48,15 +48,10 @@ up_before g start end (Noted name is_done ∷ calls) up runs = runs.1.was_up (up
 -- a note changes no table
 note_holds : {S : Type 0} (g : Ghosts S) (old new : Known S) (name : List ℕ) (is_done : Bool) (contents : Contents) →
     value_of g new ≡ cond is_done (applied (Note name) (value_of g old)) (value_of g old) → new.tables ≡ old.tables → Holds g old contents → Holds g new contents
-note_holds g old new name true contents value tables h = record {
+note_holds g old new name is_done contents value tables h = record {
   named_once = h.named_once;
-  store = subst (λ v. StoreHolds v contents) (sym value) h.store;
-  tables = tables ∙ h.tables ∙ ap (λ v. map (known_table v) contents) (sym value);
-}
-note_holds g old new name false contents value tables h = record {
-  named_once = h.named_once;
-  store = subst (λ v. StoreHolds v contents) (sym value) h.store;
-  tables = tables ∙ h.tables ∙ ap (λ v. map (known_table v) contents) (sym value);
+  held = subst (λ v. StoreHolds v contents) (sym value) (elim is_done as (λ b. StoreHolds (cond b (applied (Note name) (value_of g old)) (value_of g old)) contents) [ true ↦ h.held | false ↦ h.held ]);
+  told = tables ∙ h.told;
 }
 
 pub kept : {S : Type 0} (g : Ghosts S) → KeptByCalls g

@@ -1,12 +1,11 @@
 -- What stays true of full-text tables, whatever is called.
-use Rattle.std.specs.Prelude.{◌≡◌, ◌≢◌, ◌⊎◌, ℕ, Bool, true, false, cond, not, List, [], ◌∷◌, map, Option, Some, None, Result, Ok, Err, ℤ, IsTrue, is_ok, All, Contains, refl}
+use Rattle.std.specs.Prelude.{◌≡◌, ◌≢◌, ◌⊎◌, ℕ, Bool, true, false, cond, List, [], ◌∷◌, map, Option, Some, None, Result, Ok, Err, ℤ, IsTrue, is_ok, All, Contains, refl}
 use Rattle.std.specs.List.{AllZip, list_any}
 use Rattle.std.specs.Ordering.{int_eq}
 use Rattle.std.specs.Coded.{Coded, code_by, coded×, coded_ℤ, coded_ℕ, coded_bool, coded_list}
 use Rattle.sqlite.specs.State.{HasCleanDisk, Survives}
 use Rattle.sqlite.specs.Store.{Ghosts}
 use Rattle.ft_store.specs.Store.{StoreValue, Change, AddTable, DropTable, PutCell, DropCells, PutEntries, DropEntries, PutSize, DropSize, ClearIndex, Note, applied, all_applied}
-use Rattle.ft_store.specs.Calls.{Keeps}
 use Rattle.ft_store.specs.Kept.{StoreState, store_code, shows, value_in}
 use Rattle.ft_content.specs.declared.fault.Fault.{Fault}
 use Rattle.ft_content.specs.declared.fault.Fault.TheVariants as faults
@@ -64,15 +63,23 @@ pub record HoldsTable (named : ℤ × List ℕ) (rows : TableRows) (index : Inde
 abbrev pub StoreHolds : StoreValue → Contents → Type 0
 StoreHolds store contents = AllZip (λ (named : ℤ × List ℕ) (table : ℤ × Table). HoldsTable named (table_rows named.0 store) (table_index named.0 store) table) store.tables contents
 
--- what is told of the tables that the store holds
-abbrev pub known_table : StoreValue → ℤ × Table → KnownTable
-known_table store table = record { id = table.0; name = table.1.name; columns = (content_in (table_rows table.0 store)).columns; sound = is_sound table.1.held }
+-- what is told of a table
+abbrev pub held_columns : Held → List Column
+held_columns (Sound content) = content.columns
+held_columns (Stale content) = content.columns
+held_columns (Loose rows) = (content_in rows).columns
 
--- A `FullText` holds these contents: its store does, no two tables have one name, and it tells the tables with their marks.
-pub record Holds {S : Type 0} (g : Ghosts S) (known : Known S) (contents : Contents) : Type 0 where
+abbrev pub told_table : ℤ × Table → KnownTable
+told_table table = record { id = table.0; name = table.1.name; columns = held_columns table.1.held; sound = is_sound table.1.held }
+
+-- What a store holds, and the tables that are told of it with their marks, are these contents. No two tables have one name.
+pub record AreHeld (store : StoreValue) (tables : List KnownTable) (contents : Contents) : Type 0 where
   pub named_once : repeats_name (map (λ (t : ℤ × Table). t.1.name) contents) ≡ false
-  pub store : StoreHolds (value_of g known) contents
-  pub tables : known.tables ≡ map (known_table (value_of g known)) contents
+  pub held : StoreHolds store contents
+  pub told : tables ≡ map told_table contents
+
+abbrev pub Holds : {S : Type 0} → Ghosts S → Known S → Contents → Type 0
+Holds g known contents = AreHeld (value_of g known) known.tables contents
 
 -- where it is up it holds some contents
 abbrev pub HoldsSome : {S : Type 0} → Ghosts S → Known S → Type 0
