@@ -38,7 +38,7 @@ both_equal Less b e = absurd (let no = ap is_lt e in cc)
 both_equal Equal b e = (refl, e)
 both_equal Greater b e = absurd (let no = ap is_eq e in cc)
 
-column_exact : CmpEqualImpliesEq column_key_cmp
+pub column_exact : CmpEqualImpliesEq column_key_cmp
 column_exact x y e = let k = both_equal _ _ e in λ i. (exact_signed x.0 y.0 k.0 i, exact_signed x.1 y.1 k.1 i)
 
 cell_exact : CmpEqualImpliesEq cell_key_cmp
@@ -47,7 +47,7 @@ cell_exact x y e = let k = both_equal _ _ e in let l = both_equal _ _ k.1 in λ 
 list_exact : CmpEqualImpliesEq list_key_cmp
 list_exact x y e = let k = both_equal _ _ e in let l = both_equal _ _ k.1 in λ i. (exact_signed x.0 y.0 k.0 i, exact_bytes x.1 y.1 l.0 i, exact_signed x.2 y.2 l.1 i)
 
-tie : (o : Ordering) → is_eq o ≡ true → o ≡ Equal
+pub tie : (o : Ordering) → is_eq o ≡ true → o ≡ Equal
 tie Less h = absurd (let no = h in cc)
 tie Equal h = refl
 tie Greater h = absurd (let no = h in cc)
@@ -184,11 +184,11 @@ sorted_own tab (e ∷ es) h =
       | false ↦ λ _. rest
     ] refl
 
-true_of : (b : Bool) → T b → b ≡ true
+pub true_of : (b : Bool) → T b → b ≡ true
 true_of true h = refl
 true_of false h = absurd h
 
-of_true : (b : Bool) → b ≡ true → T b
+pub of_true : (b : Bool) → b ≡ true → T b
 of_true b h = subst T (sym h) tt
 
 pub puts_entries : PutsEntries
@@ -224,7 +224,7 @@ drops_entries tab docid term store = dropped store.lists
 
 -- ---- order
 
-column_total : IsTotalOrder column_key_cmp
+pub column_total : IsTotalOrder column_key_cmp
 column_total = then_total (on_total (λ (k : ℤ × ℤ). k.0) int_cmp_total) (on_total (λ (k : ℤ × ℤ). k.1) int_cmp_total)
 
 cell_total : IsTotalOrder cell_key_cmp

@@ -3,3 +3,7 @@ pub mod Calls
 pub mod HeldLemmas
 pub mod NameLemmas
 pub mod SoundLemmas
+pub mod OneTable
+pub mod FoundLemmas
+pub mod TableChanges
+pub mod AddLemmas

@@ -2,6 +2,7 @@
 #![tactic(auto)]
 
 mod full_text;
+mod names;
 
 pub use ft_content::{
     Column, Command, Fault, Filter, Grid, Item, Items, Reply, TableInfo, Value,

@@ -1,0 +1,23 @@
+-- The table of a name among those that are told.
+use Rattle.std.specs.Prelude.{◌≡◌, ℕ, List, Option, Some, None, slice_get, IsTrue, false}
+use Rattle.std.specs.List.{find}
+use Rattle.ft_content.specs.declared.fault.Fault.{Fault}
+use Rattle.ft_content.specs.declared.fault.Fault.TheVariants as faults
+use Rattle.ft_content.specs.Content.{same_name}
+use Rattle.ft_content.specs.Views.{KnownTable}
+
+abbrev pub known_named : List KnownTable → List ℕ → Option KnownTable
+known_named tables name = find (λ (t : KnownTable). same_name t.name name) tables
+
+-- it stands at this place, and is sound
+pub record IsSoundAt (tables : List KnownTable) (name : List ℕ) (place : ℕ) : Type 0 where
+  pub table : KnownTable
+  pub stands : slice_get tables place ≡ Some table
+  pub named : known_named tables name ≡ Some table
+  pub sound : IsTrue table.sound
+
+-- there is none, or it isn't sound
+abbrev pub IsUnfit : List KnownTable → List ℕ → Fault → Type 0
+IsUnfit tables name faults.NoSuchTable = known_named tables name ≡ None
+IsUnfit tables name faults.Unsound = (table : KnownTable) × (known_named tables name ≡ Some table) × (table.sound ≡ false)
+IsUnfit tables name _ = ⊥
