@@ -1,7 +1,7 @@
 -- The rows of a table that is made.
-use Rattle.std.proofs.Common.{◌≡◌, ℕ, ◌+◌, ◌<◌, ◌≤◌, Bool, true, false, cond, not, T, ◌&&◌, List, [], ◌∷◌, ◌++◌, map, Option, Some, None, ℤ, pos, refl, sym, ap, subst, ◌∙◌, arith}
-use Rattle.std.specs.Prelude.{filter, IsTrue, unwrap_or}
-use Rattle.std.specs.List.{AllByRecursion, list_any, enumerate_from, flat_map}
+use Rattle.std.proofs.Common.{◌≡◌, ℕ, ◌+◌, ◌<◌, Bool, true, false, cond, not, List, [], ◌∷◌, ◌++◌, map, Some, None, ℤ, pos, refl, sym, ap, ◌∙◌, arith}
+use Rattle.std.specs.Prelude.{filter, IsTrue}
+use Rattle.std.specs.List.{AllByRecursion, enumerate_from}
 use Rattle.std.specs.declared.cmp.Ordering.{Ordering}
 use Rattle.std.specs.declared.cmp.Ordering.TheVariants.{Less, Equal, Greater}
 use Rattle.std.specs.Ordering.{int_cmp, int_eq, is_lt, is_eq, eq_by_cmp, ordering_reverse, ordering_then}
@@ -9,10 +9,10 @@ use Rattle.std.specs.Cmp.{IsTotalOrder, int_cmp_is, int_cmp_total, tied_itself}
 use Rattle.std.specs.FinMap.Entries.{put, find, by_order, where_key, below_all, is_sorted, is_sorted-put, is_sorted-where_key, find-put, find-where_key, same_entries}
 use Rattle.std.proofs.lemmas.Int.{ints}
 use Rattle.std.proofs.lemmas.Bool.{and_parts, and_from}
-use Rattle.std.proofs.lemmas.Map.Lookups.{CmpEqualImpliesEq, exact_signed}
-use Rattle.ft_store.specs.Store.{StoreValue, AreInOrder, Cell, CellKey, ListKey, ColumnKey, cell_key_cmp, column_key_cmp, AddTable, applied, without_rows, with_columns, with_skipped}
-use Rattle.ft_content.specs.Content.{Column, Content, names_of, skipped_from, content_rows, CellRow}
-use Rattle.ft_content.specs.Index.{StoredSpot, SizeRow, index_rows, entries, sizes, spot_lists}
+use Rattle.std.proofs.lemmas.Map.Lookups.{CmpEqualImpliesEq}
+use Rattle.ft_store.specs.Store.{StoreValue, AreInOrder, Cell, CellKey, ListKey, ColumnKey, column_key_cmp, AddTable, applied, without_rows, with_columns, with_skipped}
+use Rattle.ft_content.specs.Content.{Column, Content, names_of, skipped_from, content_rows}
+use Rattle.ft_content.specs.Index.{StoredSpot, index_rows, entries, sizes, spot_lists}
 use Rattle.ft_index.specs.Tables.{table_rows, table_index}
 use Rattle.ft_index.proofs.ChangeLemmas.{column_total, column_exact, tie, true_of, of_true}
 

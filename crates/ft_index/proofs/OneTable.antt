@@ -1,7 +1,7 @@
 -- The one table of a name, and what a change of its rows leaves.
-use Rattle.std.proofs.Common.{◌≡◌, ℕ, Bool, true, false, cond, not, ◌&&◌, ◌||◌, List, [], ◌∷◌, map, Option, Some, None, ℤ, refl, sym, ap, subst, ◌∙◌}
-use Rattle.std.specs.Prelude.{filter, IsTrue, unwrap_or}
-use Rattle.std.specs.List.{AllZip, AllByRecursion, list_any, find}
+use Rattle.std.proofs.Common.{◌≡◌, ℕ, Bool, true, false, cond, ◌&&◌, ◌||◌, List, [], ◌∷◌, map, Some, ℤ, refl, sym, ap, subst, ◌∙◌}
+use Rattle.std.specs.Prelude.{unwrap_or}
+use Rattle.std.specs.List.{AllZip, AllByRecursion, list_any}
 use Rattle.std.specs.declared.cmp.Ordering.{Ordering}
 use Rattle.std.specs.declared.cmp.Ordering.TheVariants.{Less, Equal, Greater}
 use Rattle.std.specs.Ordering.{int_cmp, int_eq, is_lt, is_eq}
@@ -10,15 +10,12 @@ use Rattle.std.specs.Cmp.{int_cmp_total, eq_by_cmp_equiv, tied_itself}
 use Rattle.std.specs.Cmp.Lexicographic.{nat_list_eq_equiv}
 use Rattle.std.specs.FinMap.Entries.{below_all, is_sorted}
 use Rattle.std.proofs.lemmas.Bool.{and_parts}
-use Rattle.std.proofs.lemmas.Map.Lookups.{exact_signed}
 use Rattle.ft_store.specs.Store.{StoreValue}
-use Rattle.ft_content.specs.Content.{TableRows, same_name, repeats_name}
-use Rattle.ft_content.specs.Index.{IndexRows}
-use Rattle.ft_content.specs.Views.{KnownTable}
+use Rattle.ft_content.specs.Content.{same_name, repeats_name}
 use Rattle.ft_content.specs.Deserved.{Held, Table, Contents, table_named}
-use Rattle.ft_content.specs.Step.{on_table, dropped}
+use Rattle.ft_content.specs.Step.{on_table}
 use Rattle.ft_index.specs.Tables.{table_rows, table_index}
-use Rattle.ft_index.specs.Kept.{Stands, HoldsTable, StoreHolds, told_table}
+use Rattle.ft_index.specs.Kept.{Stands, HoldsTable}
 
 neither : (a b : Bool) → (a || b) ≡ false → (a ≡ false) × (b ≡ false)
 neither true b h = absurd (let no = h in cc)

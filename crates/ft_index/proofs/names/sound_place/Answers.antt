@@ -1,6 +1,6 @@
 -- by the place
-use Rattle.std.proofs.Common.{◌≡◌, ℕ, Bool, Some, refl, sym, ap, subst, ◌∙◌, map, string_bytes}
-use Rattle.std.specs.Prelude.{slice_get, option_map}
+use Rattle.std.proofs.Common.{◌≡◌, refl, sym, ap, ◌∙◌}
+use Rattle.std.specs.Prelude.{option_map}
 use Rattle.std.proofs.lemmas.Option.{slice_get_read, slice_get-map, slice_get_within, same_Some}
 use Rattle.ft_content.specs.declared.table.TableInfo.{TableInfo}
 use Rattle.ft_content.specs.Content.{same_name}
