@@ -6,6 +6,7 @@ pub mod IndexLemmas
 pub mod PlanLemmas
 pub mod MeaningLemmas
 pub mod Lists
+pub mod ColumnLemmas
 pub mod NameLemmas
 pub mod PlainLemmas
 pub mod InsertLemmas

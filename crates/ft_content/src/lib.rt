@@ -1,6 +1,7 @@
 //! What commands on full-text tables mean: contents, the rows that hold them, faults and answers.
 #![tactic(auto)]
 
+mod columns;
 mod command;
 mod fault;
 mod laws;
@@ -9,6 +10,7 @@ mod plain;
 mod table;
 mod word;
 
+pub use columns::{column_place, has_column, names_unknown};
 pub use command::{Command, Filter, Grid, Item, Items, Reply};
 pub use fault::Fault;
 pub use ft_store::Value;
