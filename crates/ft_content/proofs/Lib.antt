@@ -7,6 +7,7 @@ pub mod PlanLemmas
 pub mod MeaningLemmas
 pub mod Lists
 pub mod ColumnLemmas
+pub mod TableLemmas
 pub mod NameLemmas
 pub mod PlainLemmas
 pub mod InsertLemmas

@@ -1,5 +1,5 @@
 -- Tests of mapped lists.
-use Rattle.std.proofs.Common.{◌≡◌, ◌+◌, Bool, cond, not, nat_lt, ◌&&◌, ◌||◌, List, [], ◌∷◌, map, None, Some, refl, ap}
+use Rattle.std.proofs.Common.{◌≡◌, ◌+◌, Bool, cond, not, nat_lt, ◌&&◌, ◌||◌, List, [], ◌∷◌, map, length, None, Some, refl, ap}
 use Rattle.std.specs.Prelude.{position}
 use Rattle.std.specs.List.{list_any, list_all, position_or_len}
 use Rattle.std.proofs.lemmas.List.{length-map}
@@ -18,3 +18,6 @@ places_of_map p h (x ∷ xs) = ap (λ n. cond (not (p (h x))) (1 + n) 0) (places
 
 pub position_of_map : {X Y : Type 0} (p : Y → Bool) (h : X → Y) (xs : List X) → position p (map h xs) ≡ position (λ x. p (h x)) xs
 position_of_map p h xs = λ i. cond (nat_lt (places_of_map p h xs i) (length-map xs h i)) (Some (places_of_map p h xs i)) None
+
+pub length_of_map : {X Y : Type 0} (h : X → Y) (xs : List X) → length (map h xs) ≡ length xs
+length_of_map h xs = length-map xs h

@@ -3,6 +3,7 @@
 
 mod columns;
 mod command;
+mod create;
 mod fault;
 mod laws;
 mod names;
@@ -12,6 +13,7 @@ mod word;
 
 pub use columns::{column_place, has_column, names_unknown};
 pub use command::{Command, Filter, Grid, Item, Items, Reply};
+pub use create::{create_fault, free_id, made_columns, made_names};
 pub use fault::Fault;
 pub use ft_store::Value;
 pub use laws::{
