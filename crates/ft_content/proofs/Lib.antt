@@ -8,6 +8,7 @@ pub mod MeaningLemmas
 pub mod Lists
 pub mod ColumnLemmas
 pub mod TableLemmas
+pub mod GivenLemmas
 pub mod NameLemmas
 pub mod PlainLemmas
 pub mod InsertLemmas
