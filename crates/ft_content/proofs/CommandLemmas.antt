@@ -1,6 +1,6 @@
 -- What a command answers over tables in memory.
 use Rattle.std.proofs.Common.{◌≡◌, ◌≢◌, ℕ, ◌+◌, ◌<◌, ◌≤◌, Bool, true, false, cond, not, ◌&&◌, ◌||◌, List, [], ◌∷◌, ◌++◌, map, length, Option, Some, None, Result, Ok, Err, ℤ, pos, refl, sym, ap, subst, ◌∙◌, arith, string_bytes, String, Vec, codes, nat_lt, nat_le, is_some, slice_set, add-zero}
-use Rattle.std.specs.Prelude.{slice_get, is_none, IfErr, OnOk, OnErr}
+use Rattle.std.specs.Prelude.{slice_get, IfErr, OnOk, OnErr}
 use Rattle.std.specs.List.{list_any, list_all}
 use Rattle.std.specs.declared.alloc.Global.{Global}
 use Rattle.std.specs.Ordering.{int_cmp}
@@ -29,17 +29,17 @@ create_tests ts table module_name columns = first_of (
     ∷ (nat_le 1000 (length ts), faults.TooManyTables)
     ∷ [])
 
-last_tests : (there : Option (ℤ × Table)) (few : Bool) →
-    first_of ((is_some there && true, faults.TableExists) ∷ (is_none there && few, faults.TooManyTables) ∷ (is_none there && false, faults.NoSuchColumn) ∷ [])
-    ≡ first_of ((is_some there, faults.TableExists) ∷ (few, faults.TooManyTables) ∷ [])
-last_tests None few = refl
-last_tests (Some t) few = refl
+last_tests : (there : Bool) (few : Bool) →
+    first_of ((there && true, faults.TableExists) ∷ (not there && few, faults.TooManyTables) ∷ (not there && false, faults.NoSuchColumn) ∷ [])
+    ≡ first_of ((there, faults.TableExists) ∷ (few, faults.TooManyTables) ∷ [])
+last_tests false few = refl
+last_tests true few = refl
 
 pub create_fault_is : (ts : List PlainTable) (table module_name : List ℕ) (columns : List (String Global)) → create_fault (contents_from 1 ts) table module_name [] (texts_of columns) false ≡ create_tests ts table module_name columns
 create_fault_is ts table module_name columns =
-    let rest : first_of ((is_some (table_named (contents_from 1 ts) table) && true, faults.TableExists) ∷ (is_none (table_named (contents_from 1 ts) table) && nat_le 1000 (length (contents_from 1 ts)), faults.TooManyTables) ∷ (is_none (table_named (contents_from 1 ts) table) && false, faults.NoSuchColumn) ∷ [])
+    let rest : first_of ((is_some (table_named (contents_from 1 ts) table) && true, faults.TableExists) ∷ (not (is_some (table_named (contents_from 1 ts) table)) && nat_le 1000 (length (contents_from 1 ts)), faults.TooManyTables) ∷ (not (is_some (table_named (contents_from 1 ts) table)) && false, faults.NoSuchColumn) ∷ [])
     ≡ first_of ((list_any (is_named table) ts, faults.TableExists) ∷ (nat_le 1000 (length ts), faults.TooManyTables) ∷ []) =
-    last_tests (table_named (contents_from 1 ts) table) (nat_le 1000 (length (contents_from 1 ts)))
+    last_tests (is_some (table_named (contents_from 1 ts) table)) (nat_le 1000 (length (contents_from 1 ts)))
     ∙ (λ i. first_of ((named-any table 1 ts i, faults.TableExists) ∷ (nat_le 1000 (length-contents 1 ts i), faults.TooManyTables) ∷ [])) in
     λ i. cond (not (same_name module_name (codes "fts4"))) (Some faults.Module)
     (cond (not (is_name table && all_of_map is_name string_bytes columns i)) (Some faults.Name)

@@ -6,6 +6,9 @@ pub mod IndexLemmas
 pub mod PlanLemmas
 pub mod MeaningLemmas
 pub mod Lists
+pub mod ColumnLemmas
+pub mod TableLemmas
+pub mod GivenLemmas
 pub mod NameLemmas
 pub mod PlainLemmas
 pub mod InsertLemmas

@@ -1,6 +1,8 @@
 -- Tests of mapped lists.
-use Rattle.std.proofs.Common.{◌≡◌, Bool, ◌&&◌, ◌||◌, List, [], ◌∷◌, map, refl, ap}
-use Rattle.std.specs.List.{list_any, list_all}
+use Rattle.std.proofs.Common.{◌≡◌, ◌+◌, Bool, cond, not, nat_lt, ◌&&◌, ◌||◌, List, [], ◌∷◌, map, length, None, Some, refl, ap}
+use Rattle.std.specs.Prelude.{position}
+use Rattle.std.specs.List.{list_any, list_all, position_or_len}
+use Rattle.std.proofs.lemmas.List.{length-map}
 
 pub any_of_map : {X Y : Type 0} (p : Y → Bool) (h : X → Y) (xs : List X) → list_any p (map h xs) ≡ list_any (λ x. p (h x)) xs
 any_of_map p h [] = refl
@@ -9,3 +11,13 @@ any_of_map p h (x ∷ xs) = ap (λ b. p (h x) || b) (any_of_map p h xs)
 pub all_of_map : {X Y : Type 0} (p : Y → Bool) (h : X → Y) (xs : List X) → list_all p (map h xs) ≡ list_all (λ x. p (h x)) xs
 all_of_map p h [] = refl
 all_of_map p h (x ∷ xs) = ap (λ b. p (h x) && b) (all_of_map p h xs)
+
+places_of_map : {X Y : Type 0} (p : Y → Bool) (h : X → Y) (xs : List X) → position_or_len p (map h xs) ≡ position_or_len (λ x. p (h x)) xs
+places_of_map p h [] = refl
+places_of_map p h (x ∷ xs) = ap (λ n. cond (not (p (h x))) (1 + n) 0) (places_of_map p h xs)
+
+pub position_of_map : {X Y : Type 0} (p : Y → Bool) (h : X → Y) (xs : List X) → position p (map h xs) ≡ position (λ x. p (h x)) xs
+position_of_map p h xs = λ i. cond (nat_lt (places_of_map p h xs i) (length-map xs h i)) (Some (places_of_map p h xs i)) None
+
+pub length_of_map : {X Y : Type 0} (h : X → Y) (xs : List X) → length (map h xs) ≡ length xs
+length_of_map h xs = length-map xs h

@@ -20,19 +20,12 @@ use Rattle.ft_content.specs.Step.{answer_of_found, after, reply_to, step_by, ste
 use Rattle.ft_content.specs.Word.{is_search_word}
 use Rattle.ft_content.specs.declared.plain.table.PlainTable.{PlainTable}
 use Rattle.ft_content.specs.Plain.{plain_column, texts_of, text_cells, documents_from, content_of, table_of, contents_from, Answers, docid_item, docids_command, docid_grid, docid_rows, has_term, docids_with}
-use Rattle.ft_content.proofs.Lists.{any_of_map}
+use Rattle.ft_content.proofs.Lists.{any_of_map, position_of_map}
 use Rattle.ft_content.proofs.PlainLemmas.{names_of_plain, is_named, IsApart, not_named, named-at}
 use Rattle.ft_content.proofs.WordLemmas.{term_of, word_tree, word_reads}
 use Rattle.ft_content.proofs.AcceptLemmas.{accepts_texts}
 
 -- ---- names of a MATCH
-
-places_of_map : {X Y : Type 0} (p : Y → Bool) (h : X → Y) (xs : List X) → position_or_len p (map h xs) ≡ position_or_len (λ x. p (h x)) xs
-places_of_map p h [] = refl
-places_of_map p h (x ∷ xs) = ap (λ n. cond (not (p (h x))) (1 + n) 0) (places_of_map p h xs)
-
-position_of_map : {X Y : Type 0} (p : Y → Bool) (h : X → Y) (xs : List X) → position p (map h xs) ≡ position (λ x. p (h x)) xs
-position_of_map p h xs = λ i. cond (nat_lt (places_of_map p h xs i) (length-map xs h i)) (Some (places_of_map p h xs i)) None
 
 pub column_place_is : (t : PlainTable) (name : List ℕ) → column_place (content_of t) name ≡ position (λ c. same_name name (string_bytes c)) t.columns.items
 column_place_is t name = ap (position (same_name name)) (names_of_plain t.columns.items) ∙ position_of_map (same_name name) string_bytes t.columns.items

@@ -65,18 +65,22 @@ is_tokenize option = same_name option.0 (codes "tokenize")
 abbrev pub is_notindexed : List ℕ × List ℕ → Bool
 is_notindexed option = same_name option.0 (codes "notindexed")
 
-abbrev pub create_fault : Contents → List ℕ → List ℕ → List (List ℕ × List ℕ) → List (List ℕ) → Bool → Option Fault
-create_fault contents table module_name options names if_new = first_of (
+-- the tests of a Create, where a table of the name is there or not, among so many tables
+abbrev pub create_tests : Bool → ℕ → List ℕ → List ℕ → List (List ℕ × List ℕ) → List (List ℕ) → Bool → Option Fault
+create_tests is_there count table module_name options names if_new = first_of (
     (not (same_name module_name (codes "fts4")), faults.Module)
     ∷ (list_any (λ (o : List ℕ × List ℕ). is_tokenize o && not (same_name o.1 (codes "simple"))) options, faults.Tokenizer)
     ∷ (list_any (λ (o : List ℕ × List ℕ). not (is_tokenize o || is_notindexed o)) options, faults.Parameter)
     ∷ (not (list_all is_name (table ∷ names)), faults.Name)
     ∷ (names_clash table names, faults.DuplicateColumn)
     ∷ (nat_lt 100 (length names), faults.TooManyColumns)
-    ∷ (is_some (table_named contents table) && not if_new, faults.TableExists)
-    ∷ (is_none (table_named contents table) && nat_le 1000 (length contents), faults.TooManyTables)
-    ∷ (is_none (table_named contents table) && list_any (λ (o : List ℕ × List ℕ). is_notindexed o && not (list_any (same_name o.1) names)) options, faults.NoSuchColumn)
+    ∷ (is_there && not if_new, faults.TableExists)
+    ∷ (not is_there && nat_le 1000 count, faults.TooManyTables)
+    ∷ (not is_there && list_any (λ (o : List ℕ × List ℕ). is_notindexed o && not (list_any (same_name o.1) names)) options, faults.NoSuchColumn)
     ∷ [])
+
+abbrev pub create_fault : Contents → List ℕ → List ℕ → List (List ℕ × List ℕ) → List (List ℕ) → Bool → Option Fault
+create_fault contents table module_name options names if_new = create_tests (is_some (table_named contents table)) (length contents) table module_name options names if_new
 
 -- names of columns that a table has, docid among them
 abbrev pub has_column : Content → List ℕ → Bool
@@ -151,16 +155,19 @@ abbrev pub fault_of : Result Documents Fault → Option Fault
 fault_of (Ok documents) = None
 fault_of (Err fault) = Some fault
 
-abbrev pub insert_fault : Content → List (List ℕ) → List (List Cell) → Option Fault
-insert_fault content names rows = or_else (first_of (
+-- the tests of an Insert, but for those of the docids that its rows give
+abbrev pub insert_tests : Content → List (List ℕ) → List (List Cell) → Option Fault
+insert_tests content names rows = first_of (
     (not (list_all (has_column content) names), faults.NoSuchColumn)
     ∷ (list_any (λ (row : List Cell). not (length row == length names)) rows, faults.Count)
     ∷ (list_any (λ (row : List Cell). list_any (λ (v : List ℕ × Cell). is_docid v.0 && is_text v.1) (zip names row)) rows, faults.DocidKind)
     ∷ (list_any (λ (row : List Cell). nat_lt 1 (length (docids_in (zip names row)))) rows, faults.DocidTwice)
     ∷ (list_any (list_any is_too_long) rows, faults.TooLong)
     ∷ (list_any (list_any has_nul) rows, faults.HasNul)
-    ∷ []))
-    (fault_of (insert_rows content.columns (map (zip names) rows) content.documents))
+    ∷ [])
+
+abbrev pub insert_fault : Content → List (List ℕ) → List (List Cell) → Option Fault
+insert_fault content names rows = or_else (insert_tests content names rows) (fault_of (insert_rows content.columns (map (zip names) rows) content.documents))
 
 -- What a MATCH deserves. `query_of` answers no third fault.
 abbrev pub reading_fault : Result (Option Tree) QueryFault → Option Fault
@@ -195,18 +202,25 @@ abbrev pub moves_fault : Documents → Documents → List ℤ → Option Fault
 moves_fault documents picked [] = None
 moves_fault documents picked (docid ∷ docids) = move_fault documents picked docid
 
-abbrev pub update_fault : List ℕ → Content → List (List ℕ × Cell) → Filter → Option Fault
-update_fault table content sets f = or_else (first_of (
+-- the tests of an Update that come before its query
+abbrev pub update_tests : List ℕ → Content → List (List ℕ × Cell) → Filter → Option Fault
+update_tests table content sets f = first_of (
     (not (list_all (λ (s : List ℕ × Cell). has_column content s.0) sets) || names_unknown table content f, faults.NoSuchColumn)
     ∷ (list_any (λ (s : List ℕ × Cell). is_docid s.0 && (is_text s.1 || is_null s.1)) sets, faults.DocidKind)
     ∷ (nat_lt 1 (length (docids_in sets)), faults.DocidTwice)
     ∷ (list_any (λ (s : List ℕ × Cell). is_too_long s.1) sets, faults.TooLong)
     ∷ (list_any (λ (s : List ℕ × Cell). has_nul s.1) sets, faults.HasNul)
-    ∷ []))
-    (or_else (query_fault content f) (moves_fault content.documents (chosen content f) (docids_in sets)))
+    ∷ [])
+
+abbrev pub update_fault : List ℕ → Content → List (List ℕ × Cell) → Filter → Option Fault
+update_fault table content sets f = or_else (update_tests table content sets f) (or_else (query_fault content f) (moves_fault content.documents (chosen content f) (docids_in sets)))
+
+-- the test of a Delete that comes before its query
+abbrev pub delete_tests : List ℕ → Content → Filter → Option Fault
+delete_tests table content f = first_of ((names_unknown table content f, faults.NoSuchColumn) ∷ [])
 
 abbrev pub delete_fault : List ℕ → Content → Filter → Option Fault
-delete_fault table content f = or_else (first_of ((names_unknown table content f, faults.NoSuchColumn) ∷ [])) (query_fault content f)
+delete_fault table content f = or_else (delete_tests table content f) (query_fault content f)
 
 -- a named item is a column or docid; the argument of offsets is the table
 abbrev pub item_unknown : List ℕ → Content → Item → Bool
@@ -223,12 +237,15 @@ abbrev pub items_in : Items → List Item
 items_in Counted = []
 items_in (Listed items) = items
 
-abbrev pub select_fault : List ℕ → Content → Items → Filter → Option Fault
-select_fault table content items f = or_else (first_of (
+-- the tests of a Select that come before its query
+abbrev pub select_tests : List ℕ → Content → Items → Filter → Option Fault
+select_tests table content items f = first_of (
     (list_any (item_unknown table content) (items_in items) || names_unknown table content f, faults.NoSuchColumn)
     ∷ (list_any is_offsets (items_in items) && not (is_match f), faults.Context)
-    ∷ []))
-    (query_fault content f)
+    ∷ [])
+
+abbrev pub select_fault : List ℕ → Content → Items → Filter → Option Fault
+select_fault table content items f = or_else (select_tests table content items f) (query_fault content f)
 
 -- Rebuild wants a content ("The "rebuild" command"), and Check wants its index rows to be right ("The "integrity-check" command").
 abbrev pub rebuild_fault : List ℕ → Held → Option Fault

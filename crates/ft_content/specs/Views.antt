@@ -1,5 +1,5 @@
 -- Commands, replies and tables as the definitions see them.
-use Rattle.std.specs.Prelude.{ℕ, ℤ, Bool, List, map, option_map, Result, Ok, Err, string_bytes, String, Vec}
+use Rattle.std.specs.Prelude.{ℕ, ℤ, Bool, List, [], map, option_map, Result, Ok, Err, string_bytes, String, Vec}
 use Rattle.std.specs.declared.alloc.Global.{Global}
 use Rattle.ft_store.specs.declared.rows.Value.{Value}
 use Rattle.ft_store.specs.Store.{Cell}
@@ -20,6 +20,7 @@ use Rattle.ft_content.specs.declared.table.Column.{Column}
 use Rattle.ft_content.specs.declared.table.TableInfo.{TableInfo}
 use Rattle.ft_content.specs.Content as content
 use Rattle.ft_content.specs.Command as plain
+use Rattle.ft_content.specs.Deserved.{Contents}
 
 abbrev pub filter_of : Filter → plain.Filter
 filter_of filters.All = plain.Everything
@@ -75,6 +76,23 @@ answer_of (Err fault) = Err fault
 
 abbrev pub column_of : Column → content.Column
 column_of c = record { name = string_bytes c.name; indexed = c.indexed }
+
+-- a content of these columns without documents, as a test sees it that looks at columns alone
+abbrev pub bare_content : List Column → content.Content
+bare_content columns = record { columns = map column_of columns; documents = [] }
+
+-- the names and the ids of tables
+abbrev pub table_names : Contents → List (List ℕ)
+table_names contents = map (λ t. t.1.name) contents
+
+abbrev pub table_ids : Contents → List ℤ
+table_ids contents = map (λ t. t.0) contents
+
+abbrev pub info_names : List TableInfo → List (List ℕ)
+info_names tables = map (λ t. string_bytes t.name) tables
+
+abbrev pub info_ids : List TableInfo → List ℤ
+info_ids tables = map (λ t. t.id) tables
 
 -- what is known of a table without its rows
 pub record KnownTable : Type 0 where

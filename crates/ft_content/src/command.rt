@@ -45,7 +45,10 @@ pub enum Command {
         if_new: bool,
     },
     /// Removes a table. With `if_there` it may be missing.
-    Drop { table: String, if_there: bool },
+    Drop {
+        table: String,
+        if_there: bool,
+    },
     /// Adds a document for each row. A row has a value for each of `columns`, or for each column of the table.
     Insert {
         table: String,
@@ -59,7 +62,10 @@ pub enum Command {
         filter: Filter,
     },
     /// Removes the documents that are chosen.
-    Delete { table: String, filter: Filter },
+    Delete {
+        table: String,
+        filter: Filter,
+    },
     /// Answers items of the documents that are chosen, by rising docid, without the first `offset` and at most `limit`.
     Select {
         table: String,
@@ -69,11 +75,17 @@ pub enum Command {
         offset: u64,
     },
     /// Makes the index again out of the documents.
-    Rebuild { table: String },
+    Rebuild {
+        table: String,
+    },
     /// Compares the index with the documents.
-    Check { table: String },
+    Check {
+        table: String,
+    },
     /// Changes nothing.
-    Optimize { table: String },
+    Optimize {
+        table: String,
+    },
 }
 
 /// Names, and rows with a value under each.

@@ -1,0 +1,11 @@
+-- no table is left
+use Rattle.std.proofs.Common.{pos, drop, sym, ap, ◌∙◌}
+use Rattle.std.proofs.lemmas.List.{drop_all}
+use Rattle.ft_content.specs.Views.{info_ids}
+use Rattle.ft_content.proofs.TableLemmas.{free_from, free_among}
+use Rattle.ft_content.proofs.create.free_id.Goals as goal
+
+pub returns : goal.returns
+returns c = λ contents same.
+    let left = ap (λ ts. free_from c.loop-table.invariant.0 (info_ids ts)) (drop_all c.loop-table.table-index c.args.tables.now c.loop-table-test.false) in
+    c.loop-table.invariant.1 ∙ ap pos (sym left ∙ c.loop-table.invariant.3 ∙ sym (free_among contents c.args.tables.now same))

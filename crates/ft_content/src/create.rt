@@ -1,0 +1,182 @@
+// What a Create makes, and the tests that refuse it.
+ghost use Rattle.std.specs.Prelude.{◌≡◌, ◌-◌, ◌^◌, ◌<◌, ◌&&◌, ◌||◌, not, pos, map, length, codes, string_bytes, IfOk};
+ghost use Rattle.std.specs.List.{list_any};
+ghost use Rattle.ft_content.specs.Content as content;
+ghost use Rattle.ft_content.specs.Deserved as deserved;
+ghost use Rattle.ft_content.specs.Deserved.{Contents};
+ghost use Rattle.ft_content.specs.Step as step;
+ghost use Rattle.ft_content.specs.Views.{option_of, column_of, table_names, table_ids, info_names, info_ids};
+
+use crate::fault::Fault;
+use crate::names::{are_names, has_name, is_name, names_clash, same_name};
+use crate::table::{Column, TableInfo};
+use std::alloc::{AllocError, Global};
+
+/// The names of the columns that a Create makes: those given, or `content` where there are none.
+pub fn made_names(alloc: Global, columns: &[String]) -> Result<Vec<String>, AllocError>
+    ensures { IfOk result (λ names. map string_bytes names.items ≡ deserved.made_columns (map string_bytes columns.now)) }
+{
+    let mut names = copied_texts(alloc, columns)?;
+    if names.is_empty() {
+        names.push("content".to_string(alloc)?)?;
+    }
+    Ok(names)
+}
+
+fn copied_texts(alloc: Global, texts: &[String]) -> Result<Vec<String>, AllocError>
+    ensures { IfOk result (λ copies. map string_bytes copies.items ≡ map string_bytes texts.now) }
+{
+    let mut copies = Vec::new(alloc);
+    for text in texts {
+        copies.push(text.clone()?)?;
+    }
+    Ok(copies)
+}
+
+/// The columns of these names that a Create with these options makes.
+pub fn made_columns(
+    alloc: Global,
+    options: &[(String, String)],
+    names: Vec<String>,
+) -> Result<Vec<Column>, AllocError>
+    ensures { IfOk result (λ columns. map column_of columns.items ≡ map (step.made_column (map option_of options.now)) (map string_bytes names.items)) }
+{
+    let mut columns = Vec::new(alloc);
+    for name in names {
+        let indexed = is_indexed(options, name.as_str());
+        columns.push(Column { name, indexed })?;
+    }
+    Ok(columns)
+}
+
+fn is_tokenize(option: &(String, String)) -> bool
+    ensures { result ≡ deserved.is_tokenize (option_of option.now) }
+{
+    same_name(option.0.as_str(), "tokenize")
+}
+
+fn is_notindexed(option: &(String, String)) -> bool
+    ensures { result ≡ deserved.is_notindexed (option_of option.now) }
+{
+    same_name(option.0.as_str(), "notindexed")
+}
+
+// Whether no option says that the column of this name isn't indexed.
+fn is_indexed(options: &[(String, String)], name: &str) -> bool
+    ensures { result ≡ not (list_any (λ o. deserved.is_notindexed o && content.same_name o.1 name.now) (map option_of options.now)) }
+{
+    !options.iter().any(|option| is_notindexed(option) && same_name(option.1.as_str(), name))
+}
+
+// Whether an option names a tokenizer that isn't `simple`.
+fn has_other_tokenizer(options: &[(String, String)]) -> bool
+    ensures { result ≡ list_any (λ o. deserved.is_tokenize o && not (content.same_name o.1 (codes "simple"))) (map option_of options.now) }
+{
+    options.iter().any(|option| is_tokenize(option) && !same_name(option.1.as_str(), "simple"))
+}
+
+// Whether an option is none of the two that there are.
+fn has_other_option(options: &[(String, String)]) -> bool
+    ensures { result ≡ list_any (λ o. not (deserved.is_tokenize o || deserved.is_notindexed o)) (map option_of options.now) }
+{
+    options
+        .iter()
+        .any(|option| !(is_tokenize(option) || is_notindexed(option)))
+}
+
+// Whether an option says of a column that isn't among these that it isn't indexed.
+fn leaves_out_unknown(options: &[(String, String)], names: &[String]) -> bool
+    ensures { result ≡ list_any (λ o. deserved.is_notindexed o && not (list_any (content.same_name o.1) (map string_bytes names.now))) (map option_of options.now) }
+{
+    options.iter().any(|option| is_notindexed(option) && !has_name(names, option.1.as_str()))
+}
+
+#[tactic(auto, using(crate::proofs::Lists::all_of_map, crate::proofs::Lists::length_of_map))]
+fn create_tests(
+    is_there: bool,
+    count: usize,
+    table: &str,
+    module_name: &str,
+    options: &[(String, String)],
+    names: &[String],
+    if_new: bool,
+) -> Option<Fault>
+    ensures { result ≡ deserved.create_tests is_there count table.now module_name.now (map option_of options.now) (map string_bytes names.now) if_new }
+{
+    if !same_name(module_name, "fts4") {
+        return Some(Fault::Module);
+    }
+    if has_other_tokenizer(options) {
+        return Some(Fault::Tokenizer);
+    }
+    if has_other_option(options) {
+        return Some(Fault::Parameter);
+    }
+    if !(is_name(table) && are_names(names)) {
+        return Some(Fault::Name);
+    }
+    if names_clash(table, names) {
+        return Some(Fault::DuplicateColumn);
+    }
+    if names.len() > 100 {
+        return Some(Fault::TooManyColumns);
+    }
+    if is_there && !if_new {
+        return Some(Fault::TableExists);
+    }
+    if !is_there && count >= 1000 {
+        return Some(Fault::TooManyTables);
+    }
+    if !is_there && leaves_out_unknown(options, names) {
+        return Some(Fault::NoSuchColumn);
+    }
+    None
+}
+
+// Whether a table of this name is there.
+fn has_table(tables: &[TableInfo], name: &str) -> bool
+    ensures { result ≡ list_any (λ n. content.same_name n name.now) (info_names tables.now) }
+{
+    tables
+        .iter()
+        .any(|table| same_name(table.name.as_str(), name))
+}
+
+/// The fault of a Create of a table with columns of these names, if it deserves one. The tables are those that are
+/// there.
+pub fn create_fault(
+    tables: &[TableInfo],
+    table: &str,
+    module_name: &str,
+    options: &[(String, String)],
+    names: &[String],
+    if_new: bool,
+) -> Option<Fault>
+    ensures { (contents : Contents) → table_names contents ≡ info_names tables.now →
+        result ≡ deserved.create_fault contents table.now module_name.now (map option_of options.now) (map string_bytes names.now) if_new }
+{
+    let is_there = has_table(tables, table);
+    create_tests(
+        is_there,
+        tables.len(),
+        table,
+        module_name,
+        options,
+        names,
+        if_new,
+    )
+}
+
+/// The least positive id that none of these tables has, which stand by rising id.
+pub fn free_id(tables: &[TableInfo]) -> i64
+    requires { length tables.now < 2 ^ 63 - 1 }
+    ensures { (contents : Contents) → table_ids contents ≡ info_ids tables.now → result ≡ pos (step.free_id_from 1 contents) }
+{
+    let mut id = 1;
+    for table in tables {
+        if table.id == id {
+            id += 1;
+        }
+    }
+    id
+}
