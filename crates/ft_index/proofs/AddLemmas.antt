@@ -1,5 +1,5 @@
 -- The rows of a table that is made.
-use Rattle.std.proofs.Common.{◌≡◌, ℕ, ◌+◌, ◌<◌, Bool, true, false, cond, not, List, [], ◌∷◌, ◌++◌, map, Some, None, ℤ, pos, refl, sym, ap, ◌∙◌, arith}
+use Rattle.std.proofs.Common.{◌≡◌, ℕ, ◌+◌, ◌<◌, Bool, true, false, cond, not, List, [], ◌∷◌, ◌++◌, map, length, Some, None, ℤ, pos, refl, sym, ap, ◌∙◌, arith}
 use Rattle.std.specs.Prelude.{filter, IsTrue}
 use Rattle.std.specs.List.{AllByRecursion, enumerate_from}
 use Rattle.std.specs.declared.cmp.Ordering.{Ordering}
@@ -43,7 +43,7 @@ append_one : {A : Type 0} (xs : List A) (y : A) (ys : List A) → (xs ++ y ∷ [
 append_one [] y ys = refl
 append_one (x ∷ xs) y ys = ap (λ l. x ∷ l) (append_one xs y ys)
 
-append_none : {A : Type 0} (xs : List A) → xs ++ [] ≡ xs
+pub append_none : {A : Type 0} (xs : List A) → xs ++ [] ≡ xs
 append_none [] = refl
 append_none (x ∷ xs) = ap (λ l. x ∷ l) (append_none xs)
 
@@ -187,3 +187,13 @@ added_index id name columns store = λ i. record {
   lists = map (λ (l : ListKey × List StoredSpot). ((l.0.1, l.0.2), l.1)) (none_left (λ (k : ListKey). int_eq id k.0) store.lists i);
   sizes = map (λ (z : CellKey × ℤ). record { docid = z.0.1; column = z.0.2; n = z.1 }) (none_left (λ (k : CellKey). int_eq id k.0) store.sizes i);
 }
+
+-- the numbers of the columns that aren't indexed, of one column more
+pub one_more_skipped : (k : ℕ) (cs : List Column) (c : Column) → skipped_from k (cs ++ c ∷ []) ≡ skipped_from k cs ++ cond c.indexed [] (pos (k + length cs) ∷ [])
+one_more_skipped k [] c = elim c.indexed as (λ b. cond b (skipped_from (k + 1) []) (pos k ∷ skipped_from (k + 1) []) ≡ cond b [] (pos (k + 0) ∷ [])) [ true ↦ refl | false ↦ ap (λ n. pos n ∷ []) (let e : k ≡ k + 0 = omega arith in e) ]
+one_more_skipped k (d ∷ ds) c =
+    let rest = one_more_skipped (k + 1) ds c ∙ ap (λ n. skipped_from (k + 1) ds ++ cond c.indexed [] (pos n ∷ [])) (let e : k + 1 + length ds ≡ k + length (d ∷ ds) = omega arith in e) in
+    elim d.indexed as (λ b. cond b (skipped_from (k + 1) (ds ++ c ∷ [])) (pos k ∷ skipped_from (k + 1) (ds ++ c ∷ [])) ≡ cond b (skipped_from (k + 1) ds) (pos k ∷ skipped_from (k + 1) ds) ++ cond c.indexed [] (pos (k + length (d ∷ ds)) ∷ [])) [
+      | true ↦ rest
+      | false ↦ ap (λ l. pos k ∷ l) rest
+    ]

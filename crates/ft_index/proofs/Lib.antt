@@ -7,3 +7,5 @@ pub mod OneTable
 pub mod FoundLemmas
 pub mod TableChanges
 pub mod AddLemmas
+pub mod KnownLemmas
+pub mod TablePlans

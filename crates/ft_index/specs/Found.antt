@@ -1,5 +1,5 @@
 -- The table of a name among those that are told.
-use Rattle.std.specs.Prelude.{◌≡◌, ℕ, List, Option, Some, None, slice_get, IsTrue, false}
+use Rattle.std.specs.Prelude.{◌≡◌, ◌⊎◌, ℕ, List, Option, Some, None, slice_get, IsTrue, false}
 use Rattle.std.specs.List.{find}
 use Rattle.ft_content.specs.declared.fault.Fault.{Fault}
 use Rattle.ft_content.specs.declared.fault.Fault.TheVariants as faults
@@ -18,6 +18,6 @@ pub record IsSoundAt (tables : List KnownTable) (name : List ℕ) (place : ℕ) 
 
 -- there is none, or it isn't sound
 abbrev pub IsUnfit : List KnownTable → List ℕ → Fault → Type 0
-IsUnfit tables name faults.NoSuchTable = known_named tables name ≡ None
-IsUnfit tables name faults.Unsound = (table : KnownTable) × (known_named tables name ≡ Some table) × (table.sound ≡ false)
-IsUnfit tables name _ = ⊥
+IsUnfit tables name fault =
+    ((fault ≡ faults.NoSuchTable) × (known_named tables name ≡ None))
+    ⊎ ((fault ≡ faults.Unsound) × ((table : KnownTable) × (known_named tables name ≡ Some table) × (table.sound ≡ false)))

@@ -3,6 +3,7 @@
 
 mod full_text;
 mod names;
+mod tables;
 
 pub use ft_content::{
     Column, Command, Fault, Filter, Grid, Item, Items, Reply, TableInfo, Value,

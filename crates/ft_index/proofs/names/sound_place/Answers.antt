@@ -1,5 +1,5 @@
 -- by the place
-use Rattle.std.proofs.Common.{◌≡◌, refl, sym, ap, ◌∙◌}
+use Rattle.std.proofs.Common.{inl, inr, ◌≡◌, refl, sym, ap, ◌∙◌}
 use Rattle.std.specs.Prelude.{option_map}
 use Rattle.std.proofs.lemmas.Option.{slice_get_read, slice_get-map, slice_get_within, same_Some}
 use Rattle.ft_content.specs.declared.table.TableInfo.{TableInfo}
@@ -9,7 +9,7 @@ use Rattle.ft_index.proofs.FoundLemmas.{placed, unplaced}
 use Rattle.ft_index.proofs.names.sound_place.Goals as goal
 
 pub returns-in_default : goal.returns-in_default
-returns-in_default c = unplaced known_info (λ (t : KnownTable). same_name t.name c.args.name.now) c.args.tables.now (sym c.place_of.ensures ∙ c.in_default.is)
+returns-in_default c = inl (refl, unplaced known_info (λ (t : KnownTable). same_name t.name c.args.name.now) c.args.tables.now (sym c.place_of.ensures ∙ c.in_default.is))
 
 pub returns-then-tables-place : goal.returns-then-tables-place
 returns-then-tables-place c =
@@ -28,4 +28,4 @@ returns-else-tables-place c =
     let s = placed known_info (λ (t : KnownTable). same_name t.name c.args.name.now) c.args.tables.now c.in-Some.place (sym c.place_of.ensures ∙ c.in-Some.is) in
     let read = slice_get_read c.args.tables.now _ c.in-Some.place c.index-tables-place.result refl (slice_get_within c.args.tables.now c.in-Some.place s.item s.is) c.index-tables-place.is in
     let same : s.item ≡ c.index-tables-place.result = same_Some s.item c.index-tables-place.result (sym s.is ∙ read) in
-    (known_info s.item, s.found, ap (λ (t : TableInfo). t.sound) (same ∙ c.index-tables-place.is) ∙ c.if-tables-place.false)
+    inr (refl, (known_info s.item, s.found, ap (λ (t : TableInfo). t.sound) (same ∙ c.index-tables-place.is) ∙ c.if-tables-place.false))

@@ -1,0 +1,61 @@
+-- The plans of a Create and of a Drop.
+use Rattle.std.proofs.Common.{Ok, ◌≡◌, ℕ, Bool, true, false, cond, not, ◌&&◌, List, [], ◌∷◌, map, Option, Some, None, ℤ, pos, refl, sym, ap, subst, ◌∙◌}
+use Rattle.std.specs.Prelude.{option_map, is_some, is_none, IsTrue}
+use Rattle.std.specs.Ordering.{int_cmp}
+use Rattle.std.specs.FinMap.Entries.{put}
+use Rattle.ft_store.specs.Store.{StoreValue, AreInOrder, AddTable, DropTable, applied, all_applied}
+use Rattle.ft_content.specs.declared.fault.Fault.TheVariants as faults
+use Rattle.ft_content.specs.Content.{same_name, names_of, skipped_from}
+use Rattle.ft_content.specs.Command.{Create, Drop}
+use Rattle.ft_content.specs.Views.{KnownTable}
+use Rattle.ft_content.specs.Deserved.{Table, Contents, table_named, first_of, deserved}
+use Rattle.ft_content.specs.Step.{dropped, after}
+use Rattle.ft_index.specs.Found.{known_named}
+use Rattle.ft_index.specs.Kept.{AreHeld, StoreHolds, PlansFrom, told_table}
+use Rattle.ft_index.proofs.OneTable.{one_named, ids_sorted}
+use Rattle.ft_index.proofs.TableChanges.{drop_spares, drops_one}
+use Rattle.ft_index.proofs.KnownLemmas.{told_named, none_named, some_named}
+
+-- ---- Drop
+
+pub drop_missing : (contents : Contents) (name : List ℕ) (if_there : Bool) → table_named contents name ≡ None → if_there ≡ false → deserved contents (Drop name if_there) ≡ Some faults.NoSuchTable
+unfolding deserved
+drop_missing contents name if_there none may = λ i. first_of ((is_none (none i) && not (may i), faults.NoSuchTable) ∷ [])
+
+-- no table has the name
+pub none_dropped : (contents : Contents) (name : List ℕ) → table_named contents name ≡ None → dropped contents name ≡ contents
+none_dropped [] name none = refl
+none_dropped (t ∷ ts) name none = go (same_name t.1.name name) refl (none_dropped ts name) none
+  where
+    go : (b : Bool) → same_name t.1.name name ≡ b → (table_named ts name ≡ None → dropped ts name ≡ ts) → cond b (Some t) (table_named ts name) ≡ None → cond (not (same_name t.1.name name)) (t ∷ dropped ts name) (dropped ts name) ≡ t ∷ ts
+    go true is rest none = absurd (let no = none in cc)
+    go false is rest none = ap (λ b. cond (not b) (t ∷ dropped ts name) (dropped ts name)) is ∙ ap (λ l. t ∷ l) (rest none)
+
+spared_due : (found : Option (ℤ × Table)) → first_of ((is_none found && not true, faults.NoSuchTable) ∷ []) ≡ None
+spared_due None = refl
+spared_due (Some t) = refl
+
+pub drop_spared : (store : StoreValue) (tables : List KnownTable) (contents : Contents) (name : List ℕ) (if_there : Bool) → if_there ≡ true → AreHeld store tables contents → known_named tables name ≡ None → PlansFrom contents (Drop name if_there) store (Ok [])
+unfolding deserved after
+drop_spared store tables contents name if_there may held none =
+    let none_here : table_named contents name ≡ None = none_named contents name (ap (λ ts. known_named ts name) (sym held.told) ∙ none) in
+    (ap (λ b. first_of ((is_none (table_named contents name) && not b, faults.NoSuchTable) ∷ [])) may ∙ spared_due (table_named contents name),
+    subst (StoreHolds store) (sym (none_dropped contents name none_here)) held.held,
+    refl,
+    tt)
+
+found_due : (found : Option (ℤ × Table)) (t : ℤ × Table) (if_there : Bool) → found ≡ Some t → first_of ((is_none found && not if_there, faults.NoSuchTable) ∷ []) ≡ None
+found_due found t if_there is = ap (λ f. first_of ((is_none f && not if_there, faults.NoSuchTable) ∷ [])) is
+
+pub drop_planned : (store : StoreValue) (tables : List KnownTable) (contents : Contents) (name : List ℕ) (if_there : Bool) (known : KnownTable) → AreInOrder store → AreHeld store tables contents → known_named tables name ≡ Some known →
+    PlansFrom contents (Drop name if_there) store (Ok (DropTable known.id ∷ []))
+unfolding deserved after
+drop_planned store tables contents name if_there known order held named =
+    let it = some_named contents name known (ap (λ ts. known_named ts name) (sym held.told) ∙ named) in
+    let t = it.0 in
+    let one = one_named name t contents (ids_sorted store store.tables contents held.held order.tables) held.named_once it.1 in
+    let id : t.0 ≡ known.id = ap (λ (k : KnownTable). k.id) it.2 in
+    (found_due (table_named contents name) t if_there it.1,
+    subst (λ k. StoreHolds (applied (DropTable k) store) (dropped contents name)) id (drops_one name t store (applied (DropTable t.0) store) store.tables contents (drop_spares t.0 store) one held.held),
+    refl,
+    tt)

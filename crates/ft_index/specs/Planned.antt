@@ -1,0 +1,36 @@
+-- Plans over the tables that are told.
+use Rattle.std.specs.Prelude.{◌≡◌, ◌⊎◌, ℕ, Bool, List, map, option_map, Option, Some, None, Result, Ok, Err, pos, is_some, string_bytes, String, Vec, IsTrue}
+use Rattle.std.specs.declared.alloc.Global.{Global}
+use Rattle.ft_store.specs.declared.rows.RowChange.{RowChange}
+use Rattle.ft_store.specs.Store.{StoreValue, AreInOrder, Change}
+use Rattle.ft_store.specs.Changes.{shown_change}
+use Rattle.ft_content.specs.declared.fault.Fault.{Fault}
+use Rattle.ft_content.specs.declared.fault.Fault.TheVariants as faults
+use Rattle.ft_content.specs.declared.table.TableInfo.{TableInfo}
+use Rattle.ft_content.specs.Command.{Command, Create}
+use Rattle.ft_content.specs.Views.{known_info, column_of}
+use Rattle.ft_content.specs.Deserved.{Contents, table_named, made_columns, deserved}
+use Rattle.ft_content.specs.Step.{free_id_from, made_column}
+use Rattle.ft_index.specs.Kept.{AreHeld, PlansFrom}
+
+-- the changes of a plan as changes of the store's value
+abbrev pub changes_of : Result (Vec RowChange Global) Fault → Result (List Change) Fault
+changes_of (Ok list) = Ok (map shown_change list.items)
+changes_of (Err fault) = Err fault
+
+-- It is a plan whatever the store holds, as long as the tables that are told are those of what it holds.
+abbrev pub PlansOver : List TableInfo → Command → Result (Vec RowChange Global) Fault → Type 0
+PlansOver tables command answer = (store : StoreValue) (contents : Contents) → AreInOrder store → AreHeld store (map known_info tables) contents → PlansFrom contents command store (changes_of answer)
+
+-- the table that a Create makes
+pub record IsMade (contents : Contents) (table : List ℕ) (options : List (List ℕ × List ℕ)) (names : List (List ℕ)) (made : TableInfo) : Type 0 where
+  pub id : made.id ≡ pos (free_id_from 1 contents)
+  pub name : string_bytes made.name ≡ table
+  pub columns : map column_of made.columns.items ≡ map (made_column options) (made_columns names)
+  pub sound : IsTrue made.sound
+
+-- What a Create makes: a table, or nothing where one of its name is there; or its fault.
+abbrev pub Makes : Contents → List ℕ → List ℕ → List (List ℕ × List ℕ) → List (List ℕ) → Bool → Result (Option TableInfo) Fault → Type 0
+Makes contents table module_name options columns if_new (Ok (Some made)) = (deserved contents (Create table module_name options columns if_new) ≡ None) × (table_named contents table ≡ None) × IsMade contents table options columns made
+Makes contents table module_name options columns if_new (Ok None) = (deserved contents (Create table module_name options columns if_new) ≡ None) × IsTrue (is_some (table_named contents table))
+Makes contents table module_name options columns if_new (Err fault) = (fault ≡ faults.Memory) ⊎ (deserved contents (Create table module_name options columns if_new) ≡ Some fault)

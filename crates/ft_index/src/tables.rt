@@ -1,0 +1,97 @@
+// Making and removing tables.
+ghost use Rattle.std.specs.Prelude.{◌≡◌, map, string_bytes, IfOk};
+ghost use Rattle.ft_store.specs.Store as store;
+ghost use Rattle.ft_store.specs.Changes.{shown_change};
+ghost use Rattle.ft_content.specs.Content.{names_of, skipped_from};
+ghost use Rattle.ft_content.specs.Command as plain;
+ghost use Rattle.ft_content.specs.Views.{known_info, option_of, column_of};
+ghost use Rattle.ft_content.specs.Deserved.{Contents};
+ghost use Rattle.ft_index.specs.Kept.{told_table};
+ghost use Rattle.ft_index.specs.Planned.{PlansOver, Makes};
+
+use crate::names::place_of;
+use ft_content::{Column, Fault, TableInfo, create_fault, free_id, made_columns, made_names};
+use ft_store::RowChange;
+use std::alloc::{AllocError, Global};
+
+/// The table that a Create makes, or None where one of its name may be there and is.
+pub(crate) fn made_table(
+    alloc: Global,
+    tables: &[TableInfo],
+    table: &str,
+    module_name: &str,
+    options: &[(String, String)],
+    columns: &[String],
+    if_new: bool,
+) -> Result<Option<TableInfo>, Fault>
+    ensures { (contents : Contents) → map known_info tables.now ≡ map told_table contents →
+        Makes contents table.now module_name.now (map option_of options.now) (map string_bytes columns.now) if_new result }
+{
+    let names = made_names(alloc, columns)?;
+    if let Some(fault) = create_fault(tables, table, module_name, options, names.as_slice(), if_new) {
+        return Err(fault);
+    }
+    if place_of(tables, table).is_some() {
+        return Ok(None);
+    }
+    let name = String::from_str(alloc, table)?;
+    let columns = made_columns(alloc, options, names)?;
+    Ok(Some(TableInfo {
+        id: free_id(tables),
+        name,
+        columns,
+        sound: true,
+    }))
+}
+
+/// The row change that makes a table.
+pub(crate) fn adding(alloc: Global, table: &TableInfo) -> Result<RowChange, AllocError>
+    ensures { IfOk result (λ change. shown_change change
+        ≡ store.AddTable table.now.id (string_bytes table.now.name) (names_of (map column_of table.now.columns.items)) (skipped_from 0 (map column_of table.now.columns.items))) }
+{
+    let name = table.name.clone()?;
+    let names = column_names(alloc, table.columns.as_slice())?;
+    let skipped = skipped(alloc, table.columns.as_slice())?;
+    Ok(RowChange::AddTable(table.id, name, names, skipped))
+}
+
+fn column_names(alloc: Global, columns: &[Column]) -> Result<Vec<String>, AllocError>
+    ensures { IfOk result (λ names. map string_bytes names.items ≡ names_of (map column_of columns.now)) }
+{
+    let mut names = Vec::new(alloc);
+    for column in columns {
+        names.push(column.name.clone()?)?;
+    }
+    Ok(names)
+}
+
+// The numbers of the columns that aren't indexed.
+fn skipped(alloc: Global, columns: &[Column]) -> Result<Vec<i64>, AllocError>
+    ensures { IfOk result (λ numbers. numbers.items ≡ skipped_from 0 (map column_of columns.now)) }
+{
+    let mut numbers = Vec::new(alloc);
+    for (number, column) in columns.iter().enumerate() {
+        if !column.indexed {
+            numbers.push(number as i64)?;
+        }
+    }
+    Ok(numbers)
+}
+
+/// The row changes of a Drop.
+pub(crate) fn drop_changes(
+    alloc: Global,
+    tables: &[TableInfo],
+    table: &str,
+    if_there: bool,
+) -> Result<Vec<RowChange>, Fault>
+    ensures { PlansOver tables.now (plain.Drop table.now if_there) result }
+{
+    let mut changes = Vec::new(alloc);
+    match place_of(tables, table) {
+        Some(place) => changes.push(RowChange::DropTable(tables[place].id))?,
+        None if !if_there => return Err(Fault::NoSuchTable),
+        None => {}
+    }
+    Ok(changes)
+}
