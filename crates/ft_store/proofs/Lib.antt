@@ -28,3 +28,4 @@ pub mod TextLemmas
 pub mod Texts
 pub mod TypedLemmas
 pub mod WriteLemmas
+pub mod PackTests

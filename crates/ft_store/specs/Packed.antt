@@ -87,6 +87,14 @@ natural (negsuc n) = 0
 abbrev pub plain_spot : StoredSpot → Spot
 plain_spot s = record { column = natural s.column; pos = natural s.pos; place = natural s.place; size = natural s.size }
 
+-- no number of the place is negative
+abbrev pub is_nonnegative : ℤ → Bool
+is_nonnegative (pos n) = true
+is_nonnegative (negsuc n) = false
+
+abbrev pub is_natural : StoredSpot → Bool
+is_natural s = is_nonnegative s.column && is_nonnegative s.pos && is_nonnegative s.place && is_nonnegative s.size
+
 -- Places that a posting may have: those of a list that may be packed, so no number is negative.
 pub record CanPack (spots : List StoredSpot) : Type 0 where
   pub plain : spots ≡ map stored_spot (map plain_spot spots)

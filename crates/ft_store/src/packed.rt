@@ -1,8 +1,8 @@
 //! The packed list: where one term stands in one document, as bytes.
-ghost use Rattle.std.specs.Prelude.{◌≡◌, ℕ, [], ◌∷◌, ◌++◌, ◌+◌, ◌<◌, ◌&&◌, ◌||◌, ◌==◌, ◌⊎◌, map, reverse, true, false, if◌then◌else◌, Some, None, Err, IfOk, IfErr, IfSome, IfNone, OnOk, MatchOption, slice_index};
+ghost use Rattle.std.specs.Prelude.{◌≡◌, ℕ, [], ◌∷◌, ◌++◌, ◌+◌, ◌<◌, ◌&&◌, ◌||◌, ◌==◌, ◌⊎◌, map, reverse, true, false, if◌then◌else◌, Some, None, Err, IfOk, IfErr, IfSome, IfNone, OnOk, MatchOption, slice_index, IsTrue};
 ghost use Rattle.std.specs.List.{flat_map};
 ghost use Rattle.std.specs.Option.{option_and_then};
-ghost use Rattle.ft_store.specs.Packed.{PackedIsRead, PackedIsExact, OnlyPackedIsRead, packed_spots, spots_in, stored_spot, plain_spot, leb128, natural, numbers_after, numbers_in, unpacked, is_spot, is_after, origin};
+ghost use Rattle.ft_store.specs.Packed.{CanPack, is_natural, PackedIsRead, PackedIsExact, OnlyPackedIsRead, packed_spots, spots_in, stored_spot, plain_spot, leb128, natural, numbers_after, numbers_in, unpacked, is_spot, is_after, origin};
 ghost use Rattle.ft_store.specs.Unpacking.{next_numbers, spot_from, passes, checked};
 
 use crate::fault::StoreFault;
@@ -79,6 +79,44 @@ pub(crate) fn pack(alloc: Global, spots: &[Spot]) -> Result<Vec<u8>, AllocError>
         last = *spot;
     }
     Ok(bytes)
+}
+
+// ---- which places can be packed
+
+fn is_natural(spot: &Spot) -> bool
+    ensures { result ≡ is_natural spot.now }
+{
+    spot.column >= 0 && spot.pos >= 0 && spot.place >= 0 && spot.size >= 0
+}
+
+/// Whether a posting may have a place, the first or one behind the last.
+fn may_follow(is_first: bool, last: &Spot, spot: &Spot) -> bool
+    ensures { result ≡ (is_natural spot.now && passes is_first (plain_spot last.now) (plain_spot spot.now)) }
+{
+    is_natural(spot)
+        && passes(
+            is_first,
+            last,
+            natural(spot.column),
+            natural(spot.pos),
+            natural(spot.place),
+            natural(spot.size),
+        )
+}
+
+/// Whether places can be packed.
+pub(crate) fn can_pack(spots: &[Spot]) -> bool
+    ensures can { IsTrue result → CanPack spots.now }
+    ensures cannot { CanPack spots.now → IsTrue result }
+{
+    let mut last = ORIGIN;
+    for (at, spot) in spots.iter().enumerate() {
+        if !may_follow(at == 0, &last, spot) {
+            return false;
+        }
+        last = *spot;
+    }
+    !spots.is_empty()
 }
 
 // ---- unpacking

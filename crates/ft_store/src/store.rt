@@ -237,9 +237,9 @@ impl<S: Alter> Store<S> {
         Ok(found)
     }
 
-    /// Makes all changes, in their order, or none.
+    /// Makes all changes, in their order, or none. Places that can't be packed are Damaged.
     pub fn change(&mut self, changes: &[RowChange]) -> Result<(), StoreFault>
-        requires { All CanApply changes.now }
+        ensures packable { OnOk result (All CanApply changes.now) }
         ensures all { HasCleanDisk (shows S.Store self.new) → OnOk result (value_in S.Store self.new ≡ all_applied (map shown_change changes.now) (value_in S.Store self.old)) }
         ensures none { HasCleanDisk (shows S.Store self.new) → OnErr result (Keeps (shows S.Store self.old) (shows S.Store self.new)) }
         ensures unread { self.new.rows_read ≡ self.old.rows_read }

@@ -13,7 +13,7 @@ ghost use Rattle.ft_store.specs.Changes.{shown_value, shown_change, CanApply};
 ghost use Rattle.ft_store.specs.Calls.{StepsOnOk, StepsIfOpen, KeepsLast, LeavesNothing, IsStore, IsStored, IsStoreIfOpen, Keeps};
 
 use crate::fault::StoreFault;
-use crate::packed::pack;
+use crate::packed::{can_pack, pack};
 use crate::rows::{RowChange, Spot, Value};
 use crate::statements::{
     add_cell, add_column, add_list, add_name, add_note, add_size, add_skip, drop_cell, drop_cells,
@@ -112,7 +112,7 @@ fn put_note<S: Alter>(tx: &mut Transaction<'_, S>, name: &str) -> Result<(), Sto
     add_note(tx, name)
 }
 
-/// Puts a term's places in a document.
+/// Puts a term's places in a document. Places that can't be packed are Damaged.
 fn put_entries<S: Alter>(
     tx: &mut Transaction<'_, S>,
     alloc: Global,
@@ -121,12 +121,15 @@ fn put_entries<S: Alter>(
     docid: i64,
     spots: &[Spot],
 ) -> Result<(), StoreFault>
-    requires { CanPack spots.now }
+    ensures packable { OnOk result (CanPack spots.now) }
     ensures same_reference { tx.new.conn.ghost_name ≡ tx.old.conn.ghost_name }
     ensures steps { StepsOnOk S.Store tx.old.conn.now tx.new.conn.now result (λ v. record v { lists = put list_key_cmp (tab, term.now, docid) spots.now v.lists }) }
     ensures kept { KeepsLast S.Store tx.old.conn.now tx.new.conn.now }
     ensures survives { LeavesNothing S.Store tx.old.conn.now tx.new.conn.now }
 {
+    if !can_pack(spots) {
+        return Err(StoreFault::Damaged);
+    }
     let list = pack(alloc, spots)?;
     put_list(tx, tab, term, docid, list.as_slice())
 }
@@ -215,7 +218,7 @@ fn apply<S: Alter>(
     alloc: Global,
     change: &RowChange,
 ) -> Result<(), StoreFault>
-    requires { CanApply change.now }
+    ensures packable { OnOk result (CanApply change.now) }
     ensures same_reference { tx.new.conn.ghost_name ≡ tx.old.conn.ghost_name }
     ensures steps { StepsOnOk S.Store tx.old.conn.now tx.new.conn.now result (λ v. applied (shown_change change.now) v) }
     ensures kept { KeepsLast S.Store tx.old.conn.now tx.new.conn.now }
@@ -251,7 +254,7 @@ pub(crate) fn change<S: Alter>(
 ) -> Result<(), StoreFault>
     requires settled { (state S.Store conn.old).in_transaction ≡ false }
     requires store { IsStoreIfOpen (state S.Store conn.old) }
-    requires packable { All CanApply changes.now }
+    ensures packable { OnOk result (All CanApply changes.now) }
     ensures all { HasCleanDisk (state S.Store conn.new) → OnOk result (IsStore (state S.Store conn.new).now
         × (value_of (state S.Store conn.new).now.trees ≡ all_applied (map shown_change changes.now) (value_of (state S.Store conn.old).now.trees))) }
     ensures none { HasCleanDisk (state S.Store conn.new) → OnErr result (Keeps (state S.Store conn.old) (state S.Store conn.new)) }

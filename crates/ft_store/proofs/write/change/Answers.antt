@@ -1,4 +1,4 @@
-use Rattle.std.proofs.Common.{◌≡◌, rules, subst, ◌∙◌, arith, IsTrue, map}
+use Rattle.std.proofs.Common.{◌≡◌, ◌≤◌, length, rules, subst, ◌∙◌, arith, IsTrue, map}
 use Rattle.sqlite.specs.Tree.{Trees}
 use Rattle.sqlite.specs.State.{Survives}
 use Rattle.sqlite.specs.Held.{state}
@@ -7,7 +7,7 @@ use Rattle.ft_store.specs.Store.{all_applied}
 use Rattle.ft_store.specs.Rows.{value_of}
 use Rattle.ft_store.specs.Changes.{shown_change}
 use Rattle.ft_store.specs.Calls.{IsStored}
-use Rattle.ft_store.proofs.PutLemmas.{goes_on, all_gone}
+use Rattle.ft_store.proofs.PutLemmas.{goes_on, all_gone, one_more_can}
 use Rattle.ft_store.proofs.write.change.Goals as goal
 
 pub loop-change-preserved : goal.loop-change-preserved
@@ -15,7 +15,7 @@ loop-change-preserved g c =
     let old = state g.S.Store c.args.conn.now in
     let was = state g.S.Store c.loop-change.tx.conn.now in
     let now = state g.S.Store c.apply.new.tx.conn.now in (
-      c.apply.ensures.same_reference ∙ c.loop-change.invariant.0,
+      (c.apply.ensures.same_reference ∙ c.loop-change.invariant.0.0, one_more_can c.args.changes.now c.loop-change.change-index c.change-item.result c.loop-change-test.true c.change-item.is c.loop-change.invariant.0.1 c.in_ok-apply.ensures.packable),
       survives_then old was now _ _ _ (λ _ db none. none) (λ _ db none. none) c.loop-change.invariant.1 c.apply.ensures.survives,
       λ clean.
           let before = c.loop-change.invariant.2 (omega (arith, c.apply.ensures.survives.clean)) in
@@ -33,3 +33,6 @@ returns-in_err-commit-clause-crash g c =
     c.loop-change.invariant.1 c.commit.ensures.survives in
     let same : c.commit.new.self.0 ≡ c.conn-2-1.given.0 = search rules in
     subst (λ h. Survives old (state g.S.Store h) P) same whole
+
+pub returns-clause-packable : goal.returns-clause-packable
+returns-clause-packable g c = λ k d h. c.loop-change.invariant.0.1 k d (let out : length c.args.changes.now ≤ c.loop-change.change-index = c.loop-change-test.false in omega (arith, h, out))
