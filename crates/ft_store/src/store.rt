@@ -242,6 +242,7 @@ impl<S: Alter> Store<S> {
         ensures packable { OnOk result (All CanApply changes.now) }
         ensures all { HasCleanDisk (shows S.Store self.new) → OnOk result (value_in S.Store self.new ≡ all_applied (map shown_change changes.now) (value_in S.Store self.old)) }
         ensures none { HasCleanDisk (shows S.Store self.new) → OnErr result (Keeps (shows S.Store self.old) (shows S.Store self.new)) }
+        ensures live { HasCleanDisk (shows S.Store self.new) → OnOk result (IsTrue (shows S.Store self.old).is_open × IsTrue (shows S.Store self.new).is_open) }
         ensures unread { self.new.rows_read ≡ self.old.rows_read }
 
         // A crash leaves what it could leave before, or a store with all changes made.

@@ -258,6 +258,7 @@ pub(crate) fn change<S: Alter>(
     ensures all { HasCleanDisk (state S.Store conn.new) → OnOk result (IsStore (state S.Store conn.new).now
         × (value_of (state S.Store conn.new).now.trees ≡ all_applied (map shown_change changes.now) (value_of (state S.Store conn.old).now.trees))) }
     ensures none { HasCleanDisk (state S.Store conn.new) → OnErr result (Keeps (state S.Store conn.old) (state S.Store conn.new)) }
+    ensures live { HasCleanDisk (state S.Store conn.new) → OnOk result (IsTrue (state S.Store conn.old).is_open × IsTrue (state S.Store conn.new).is_open) }
     ensures mode { (state S.Store conn.new).in_transaction ≡ false }
     ensures crash { Survives (state S.Store conn.old) (state S.Store conn.new)
         (λ db. IsTrue (state S.Store conn.old).is_open → IsStored db (all_applied (map shown_change changes.now) (value_of (state S.Store conn.old).now.trees))) }
