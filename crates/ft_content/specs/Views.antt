@@ -1,5 +1,5 @@
 -- Commands, replies and tables as the definitions see them.
-use Rattle.std.specs.Prelude.{ℕ, ℤ, Bool, List, [], map, option_map, Result, Ok, Err, string_bytes, String, Vec}
+use Rattle.std.specs.Prelude.{ℕ, ℤ, Bool, List, [], ◌∷◌, map, Option, Some, None, option_map, Result, Ok, Err, string_bytes, String, Vec}
 use Rattle.std.specs.declared.alloc.Global.{Global}
 use Rattle.ft_store.specs.declared.rows.Value.{Value}
 use Rattle.ft_store.specs.Store.{Cell}
@@ -80,6 +80,12 @@ column_of c = record { name = string_bytes c.name; indexed = c.indexed }
 -- a content of these columns without documents, as a test sees it that looks at columns alone
 abbrev pub bare_content : List Column → content.Content
 bare_content columns = record { columns = map column_of columns; documents = [] }
+
+-- the docid of the last document
+abbrev pub last_docid : content.Documents → Option ℤ
+last_docid [] = None
+last_docid (d ∷ []) = Some d.0
+last_docid (d ∷ e ∷ documents) = last_docid (e ∷ documents)
 
 -- the names and the ids of tables
 abbrev pub table_names : Contents → List (List ℕ)

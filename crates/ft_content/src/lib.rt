@@ -18,7 +18,7 @@ pub use command::{Command, Filter, Grid, Item, Items, Reply};
 pub use create::{create_fault, free_id, made_columns, made_names};
 pub use fault::Fault;
 pub use ft_store::Value;
-pub use insert::listed_names;
+pub use insert::{insert_tests, listed_names, new_cells, next_docid, row_docid};
 pub use laws::{
     commands_keep_contents, index_by_document, lists_mean_documents, rows_hold_one_content,
 };
