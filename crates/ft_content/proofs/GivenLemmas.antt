@@ -38,7 +38,7 @@ docids_are (v ∷ vs) = number_first v.1 (is_docid v.0) (docids_in vs) ∙ ap (c
 abbrev pub given : Bor (List ℕ) × Value → List ℕ × Cell
 given p = (p.0.now, shown_value p.1)
 
-find_of_map : {X Y : Type 0} (p : Y → Bool) (h : X → Y) (xs : List X) → option_map h (find (λ x. p (h x)) xs) ≡ find p (map h xs)
+pub find_of_map : {X Y : Type 0} (p : Y → Bool) (h : X → Y) (xs : List X) → option_map h (find (λ x. p (h x)) xs) ≡ find p (map h xs)
 find_of_map p h [] = refl
 find_of_map p h (x ∷ xs) = elim (p (h x)) as (λ b. option_map h (cond b (Some x) (find (λ x. p (h x)) xs)) ≡ cond b (Some (h x)) (find p (map h xs))) [ true ↦ refl | false ↦ find_of_map p h xs ]
 

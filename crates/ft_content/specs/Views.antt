@@ -16,6 +16,9 @@ use Rattle.ft_content.specs.declared.command.Grid.{Grid}
 use Rattle.ft_content.specs.declared.command.Reply.{Reply}
 use Rattle.ft_content.specs.declared.command.Reply.TheVariants as replies
 use Rattle.ft_content.specs.declared.fault.Fault.{Fault}
+use Rattle.ft_content.specs.declared.fault.Fault.TheVariants as faults
+use Rattle.ft_store.specs.declared.fault.StoreFault.{StoreFault}
+use Rattle.ft_store.specs.declared.fault.StoreFault.TheVariants as stores
 use Rattle.ft_content.specs.declared.table.Column.{Column}
 use Rattle.ft_content.specs.declared.table.TableInfo.{TableInfo}
 use Rattle.ft_content.specs.Content as content
@@ -73,6 +76,11 @@ reply_of (replies.Rows grid) = plain.Rows (grid_of grid)
 abbrev pub answer_of : Result Reply Fault → Result plain.Reply Fault
 answer_of (Ok reply) = Ok (reply_of reply)
 answer_of (Err fault) = Err fault
+
+-- what a call answers where the store refused a read for this reason (own choice)
+abbrev pub fault_of_read : StoreFault → Fault
+fault_of_read stores.Memory = faults.Memory
+fault_of_read _ = faults.Store
 
 abbrev pub column_of : Column → content.Column
 column_of c = record { name = string_bytes c.name; indexed = c.indexed }

@@ -12,7 +12,7 @@ use crate::columns::has_column;
 use crate::fault::Fault;
 use crate::names::{is_docid, same_name};
 use crate::table::Column;
-use crate::value::{copied_value, has_nul, is_text, is_too_long};
+use crate::value::{copied_value, docid_under, has_nul, is_text, is_too_long};
 use ft_store::Value;
 use std::alloc::{AllocError, Global};
 
@@ -73,16 +73,6 @@ fn gives_text(names: &[&str], row: &[Value]) -> bool
         .iter()
         .zip(row.iter())
         .any(|(name, value)| is_docid(name) && is_text(value))
-}
-
-// The docid that a value gives under this name, if it gives one.
-fn docid_under(name: &str, value: &Value) -> Option<i64>
-    ensures { result ≡ slice_get (cond (content.is_docid name.now) (deserved.number_of (shown_value value.now)) []) 0 }
-{
-    match value {
-        Value::Int(number) if is_docid(name) => Some(*number),
-        _ => None,
-    }
 }
 
 // How many docids a row gives.

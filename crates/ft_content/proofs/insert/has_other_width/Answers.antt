@@ -1,5 +1,5 @@
 -- a row has as many cells as values
-use Rattle.std.proofs.Common.{ℕ, List, Vec, map, length, not, ◌==◌, sym, ap, ◌∙◌, rules, tests}
+use Rattle.std.proofs.Common.{ℕ, List, Vec, map, length, not, ◌==◌, sym, ◌∙◌, rules, tests}
 use Rattle.std.specs.List.{list_any}
 use Rattle.std.proofs.lemmas.Iterator.{YieldsList-from_slice}
 use Rattle.std.proofs.lemmas.Iterator.Search.{any_from_yields_List}

@@ -1,16 +1,12 @@
 -- the rows as cells
-use Rattle.std.proofs.Common.{ℕ, List, Vec, Bool, map, length, nat_lt, ◌&&◌, sym, ◌∙◌, rules, tests}
-use Rattle.std.specs.Prelude.{zip}
+use Rattle.std.proofs.Common.{List, Vec, Bool, sym, ◌∙◌, rules, tests}
 use Rattle.std.specs.List.{list_any}
 use Rattle.std.proofs.lemmas.Iterator.{YieldsList-from_slice}
 use Rattle.std.proofs.lemmas.Iterator.Search.{any_from_yields_List}
-use denote.Ref.{Bor}
 use Rattle.std.specs.declared.alloc.Global.{Global}
 use Rattle.ft_store.specs.declared.rows.Value.{Value}
 use Rattle.ft_store.specs.Store.{Cell}
-use Rattle.ft_store.specs.Changes.{shown_value}
-use Rattle.ft_content.specs.Content.{is_docid, is_too_long, has_nul}
-use Rattle.ft_content.specs.Deserved.{is_text, docids_in}
+use Rattle.ft_content.specs.Content.{has_nul}
 use Rattle.ft_content.specs.Views.{cells_of}
 use Rattle.ft_content.proofs.Lists.{any_of_map}
 use Rattle.ft_content.proofs.insert.have_nul.Goals as goal

@@ -1,6 +1,6 @@
 -- behind the last docid
 use mir.Val.{to_z, of_z}
-use Rattle.std.proofs.Common.{◌≡◌, ℤ, Some, pos, sym, ap, subst, ◌∙◌, rules}
+use Rattle.std.proofs.Common.{◌≡◌, ℤ, pos, sym, ap, subst, ◌∙◌, rules}
 use Rattle.std.specs.Prelude.{◌+ℤ◌, FitsSigned}
 use Rattle.std.specs.Option.{SomeIff}
 use Rattle.std.specs.Int.{w64}

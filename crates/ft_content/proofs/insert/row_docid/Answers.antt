@@ -1,6 +1,6 @@
 -- the first value that gives a docid
-use Rattle.std.proofs.Common.{◌≡◌, ℕ, List, Bool, Option, map, is_some, option_map, ap, sym, ◌∙◌, rules, tests}
-use Rattle.std.specs.Prelude.{zip, find, option_and_then}
+use Rattle.std.proofs.Common.{ℕ, List, Bool, Option, map, is_some, option_map, ap, sym, ◌∙◌, rules, tests}
+use Rattle.std.specs.Prelude.{zip, option_and_then}
 use Rattle.std.proofs.lemmas.Iterator.{YieldsList-from_slice, YieldsList-from_zip}
 use Rattle.std.proofs.lemmas.Iterator.Search.{find_from_yields_List}
 use denote.Ref.{Bor}

@@ -1,12 +1,10 @@
 -- the values under their names
-use Rattle.std.proofs.Common.{◌≡◌, ℕ, List, Bool, Option, map, option_map, ap, sym, ◌∙◌, rules, tests}
-use Rattle.std.specs.Prelude.{zip, find}
+use Rattle.std.proofs.Common.{ℕ, List, Bool, Option, option_map, ap, sym, ◌∙◌, rules, tests}
 use Rattle.std.proofs.lemmas.Iterator.{YieldsList-from_slice, YieldsList-from_zip}
 use Rattle.std.proofs.lemmas.Iterator.Search.{find_from_yields_List}
 use denote.Ref.{Bor}
 use Rattle.ft_store.specs.declared.rows.Value.{Value}
 use Rattle.ft_store.specs.Store.{Cell}
-use Rattle.ft_store.specs.Changes.{shown_value}
 use Rattle.ft_content.specs.Content.{same_name}
 use Rattle.ft_content.proofs.GivenLemmas.{given, find_given}
 use Rattle.ft_content.proofs.insert.value_under.Goals as goal
