@@ -1,5 +1,5 @@
 -- A query of one term accepts a document exactly where one of its cells has the term.
-use Rattle.std.proofs.Common.{◌≡◌, ℕ, zero, suc, pred, ◌+◌, ◌<◌, Bool, true, false, cond, not, nat_eq, ◌&&◌, ◌||◌, ◌==◌, List, [], ◌∷◌, ◌++◌, map, length, Option, Some, refl, sym, ap, subst, ◌∙◌, arith, string_bytes, String, append_assoc, eqb-true, eq-eqb}
+use Rattle.std.proofs.Common.{◌≡◌, ℕ, pred, ◌+◌, Bool, true, false, cond, not, nat_eq, ◌&&◌, ◌||◌, ◌==◌, List, [], ◌∷◌, ◌++◌, map, length, Option, refl, sym, ap, subst, ◌∙◌, arith, string_bytes, String, append_assoc, eqb-true, eq-eqb}
 use Rattle.std.specs.Prelude.{bytes_eq, filter, flat_map}
 use Rattle.std.specs.List.{list_any, starts_with, enumerate_from}
 use Rattle.std.specs.declared.alloc.Global.{Global}
@@ -9,10 +9,10 @@ use Rattle.ft_query.specs.declared.lists.Place.{Place}
 use Rattle.ft_query.specs.Tokens.{PlainToken, tokens_of}
 use Rattle.ft_query.specs.Documents.{Posting, is_filled, posting, postings_of}
 use Rattle.ft_query.specs.Trees.{PlainTerm, phrase}
-use Rattle.ft_query.specs.Occurs.{is_within, fits, takes, occurs, places_of, occurrences, accepts}
-use Rattle.ft_store.specs.Store.{Cell, Text}
+use Rattle.ft_query.specs.Occurs.{is_within, fits, takes, occurs, places_of, accepts}
+use Rattle.ft_store.specs.Store.{Text}
 use Rattle.ft_content.specs.Index.{document_tokens, document_postings}
-use Rattle.ft_content.specs.Plain.{plain_column, has_token, has_term}
+use Rattle.ft_content.specs.Plain.{plain_column, has_term}
 use Rattle.ft_content.proofs.Lists.{any_of_map}
 
 -- ---- tests of lists

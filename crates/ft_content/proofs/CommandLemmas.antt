@@ -1,5 +1,5 @@
 -- What a command answers over tables in memory.
-use Rattle.std.proofs.Common.{◌≡◌, ◌≢◌, ℕ, ◌+◌, ◌<◌, ◌≤◌, Bool, true, false, cond, not, ◌&&◌, ◌||◌, List, [], ◌∷◌, ◌++◌, map, length, Option, Some, None, Result, Ok, Err, ℤ, pos, refl, sym, ap, subst, ◌∙◌, arith, string_bytes, String, Vec, codes, nat_lt, nat_le, is_some, slice_set, add-zero}
+use Rattle.std.proofs.Common.{◌≡◌, ◌≢◌, ℕ, ◌+◌, Bool, true, false, cond, not, ◌&&◌, List, [], ◌∷◌, ◌++◌, map, length, Option, Some, None, Result, Ok, Err, ℤ, pos, refl, sym, ap, subst, ◌∙◌, arith, string_bytes, String, Vec, codes, nat_lt, nat_le, is_some, slice_set}
 use Rattle.std.specs.Prelude.{slice_get, IfErr, OnOk, OnErr}
 use Rattle.std.specs.List.{list_any, list_all}
 use Rattle.std.specs.declared.alloc.Global.{Global}
@@ -7,10 +7,10 @@ use Rattle.std.specs.Ordering.{int_cmp}
 use Rattle.std.specs.FinMap.Entries.{put}
 use Rattle.ft_content.specs.declared.fault.Fault.{Fault}
 use Rattle.ft_content.specs.declared.fault.Fault.TheVariants as faults
-use Rattle.ft_content.specs.Content.{Content, same_name, is_name, names_of, names_clash}
-use Rattle.ft_content.specs.Command.{Command, Create, Insert, Select, Reply, Done, Rows}
-use Rattle.ft_content.specs.Deserved.{Held, Sound, Contents, Table, table_named, on_found, on_held, first_of, made_columns, create_fault, insert_fault, deserved}
-use Rattle.ft_content.specs.Step.{free_id_from, new_table, made_column, inserted, with_documents, on_table, after, reply_to, step_by, step}
+use Rattle.ft_content.specs.Content.{same_name, is_name, names_of, names_clash}
+use Rattle.ft_content.specs.Command.{Done}
+use Rattle.ft_content.specs.Deserved.{Sound, Contents, Table, table_named, on_found, on_held, first_of, made_columns, create_fault, insert_fault, deserved}
+use Rattle.ft_content.specs.Step.{free_id_from, new_table, made_column, inserted, with_documents, after, reply_to, step_by, step}
 use Rattle.ft_content.specs.declared.plain.table.PlainTable.{PlainTable}
 use Rattle.ft_content.specs.Plain.{plain_column, texts_of, text_cells, documents_from, content_of, table_of, contents_from, Answers, create_command, insert_command, done}
 use Rattle.ft_content.proofs.Lists.{all_of_map}

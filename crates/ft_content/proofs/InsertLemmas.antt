@@ -1,22 +1,21 @@
 -- An INSERT of texts into every column of a table.
-use Rattle.std.proofs.Common.{◌≡◌, ◌≢◌, ℕ, zero, suc, pred, ◌+◌, ◌-◌, ◌^◌, ◌<◌, ◌≤◌, Bool, true, false, cond, not, ◌&&◌, ◌||◌, ◌==◌, List, [], ◌∷◌, ◌++◌, map, length, Option, Some, None, Result, Ok, Err, ℤ, pos, refl, sym, ap, subst, ◌∙◌, arith, string_bytes, string_len, vec_len, String, Vec, nat_lt, ltb-true, eqb-true, add-zero, append-nil, append_assoc, length-append, inl, inr}
-use Rattle.std.specs.Prelude.{zip, unwrap_or, option_map, bytes_eq}
+use Rattle.std.proofs.Common.{◌≡◌, ℕ, suc, pred, ◌+◌, ◌-◌, ◌^◌, ◌<◌, ◌≤◌, Bool, true, false, cond, not, ◌&&◌, ◌||◌, ◌==◌, List, [], ◌∷◌, ◌++◌, map, length, Option, Some, None, Ok, Err, ℤ, pos, refl, sym, ap, subst, ◌∙◌, arith, string_bytes, string_len, vec_len, String, Vec, nat_lt, eqb-true, add-zero, append-nil, append_assoc, length-append, inl, inr}
+use Rattle.std.specs.Prelude.{zip, unwrap_or, option_map}
 use Rattle.std.specs.List.{list_any, list_all, find}
 use Rattle.std.specs.declared.alloc.Global.{Global}
-use Rattle.std.specs.Ordering.{int_cmp, int_eq, is_eq}
+use Rattle.std.specs.Ordering.{int_eq, is_eq}
 use Rattle.std.specs.declared.cmp.Ordering.TheVariants.{Less}
 use Rattle.std.specs.Cmp.{int_cmp_is, int_cmp_total, tied_itself}
-use Rattle.std.specs.FinMap.Entries.{put}
 use Rattle.std.proofs.lemmas.Int.{ints}
 use Rattle.std.proofs.lemmas.Bool.{and_parts, and_from, cases_lt}
 use Rattle.ft_content.specs.declared.fault.Fault.{Fault}
 use Rattle.ft_content.specs.declared.fault.Fault.TheVariants as faults
 use Rattle.ft_store.specs.Store.{Cell, Null, Text}
-use Rattle.ft_content.specs.Content.{Column, Documents, Content, same_name, is_docid, names_of, repeats_name, names_clash, is_too_long, has_nul}
-use Rattle.ft_content.specs.Deserved.{has_column, number_of, docids_in, is_text, value_under, new_cells, next_docid, append_document, insert_row, then_rows, insert_rows, fault_of, first_of, or_else, insert_fault}
+use Rattle.ft_content.specs.Content.{Column, same_name, is_docid, names_of, repeats_name, names_clash, is_too_long, has_nul}
+use Rattle.ft_content.specs.Deserved.{has_column, number_of, docids_in, is_text, new_cells, next_docid, append_document, insert_row, then_rows, insert_rows, fault_of, first_of, or_else, insert_fault}
 use Rattle.ft_content.specs.Step.{inserted, inserted_into}
 use Rattle.ft_content.specs.declared.plain.table.PlainTable.{PlainTable}
-use Rattle.ft_content.specs.Plain.{plain_column, texts_of, text_cells, documents_from, content_of}
+use Rattle.ft_content.specs.Plain.{texts_of, text_cells, documents_from, content_of}
 use Rattle.ft_content.proofs.PlainLemmas.{same_itself, names_of_plain, length-texts, length-columns, documents-append, put-behind}
 
 neither : (x y : Bool) → (x || y) ≡ false → (x ≡ false) × (y ≡ false)

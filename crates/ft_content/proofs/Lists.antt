@@ -21,3 +21,7 @@ position_of_map p h xs = λ i. cond (nat_lt (places_of_map p h xs i) (length-map
 
 pub length_of_map : {X Y : Type 0} (h : X → Y) (xs : List X) → length (map h xs) ≡ length xs
 length_of_map h xs = length-map xs h
+
+pub map_of_map : {X Y Z : Type 0} (g : Y → Z) (h : X → Y) (xs : List X) → map g (map h xs) ≡ map (λ x. g (h x)) xs
+map_of_map g h [] = refl
+map_of_map g h (x ∷ xs) = ap (λ zs. g (h x) ∷ zs) (map_of_map g h xs)

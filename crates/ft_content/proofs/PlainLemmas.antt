@@ -1,22 +1,22 @@
 -- Tables and documents that are numbered one after the other.
-use Rattle.std.proofs.Common.{◌≡◌, ℕ, zero, suc, ◌+◌, ◌-◌, ◌^◌, ◌<◌, ◌≤◌, Bool, true, false, cond, not, ◌&&◌, ◌||◌, List, [], ◌∷◌, ◌++◌, map, length, Option, Some, None, ℤ, pos, refl, sym, ap, subst, ◌∙◌, arith, rules, string_bytes, String, Vec, codes, is_some, slice_set}
+use Rattle.std.proofs.Common.{◌≡◌, ℕ, zero, suc, ◌+◌, ◌<◌, ◌≤◌, Bool, true, false, cond, ◌||◌, List, [], ◌∷◌, ◌++◌, map, length, Option, Some, None, pos, refl, sym, ap, ◌∙◌, arith, string_bytes, String, Vec, is_some, slice_set}
 use Rattle.std.specs.Prelude.{bytes_eq, unwrap_or, slice_get}
-use Rattle.std.specs.List.{list_any, find}
+use Rattle.std.specs.List.{list_any}
 use Rattle.std.specs.declared.alloc.Global.{Global}
-use Rattle.std.specs.declared.cmp.Ordering.TheVariants.{Less, Equal, Greater}
-use Rattle.std.specs.Ordering.{int_cmp, int_eq, is_eq}
+use Rattle.std.specs.declared.cmp.Ordering.TheVariants.{Greater}
+use Rattle.std.specs.Ordering.{int_cmp, is_eq}
 use Rattle.std.specs.Cmp.{int_cmp_is, int_cmp_total, tied_itself}
 use Rattle.std.specs.FinMap.Entries.{by_order, put}
 use Rattle.std.proofs.lemmas.Int.{ints}
 use Rattle.std.proofs.lemmas.Slice.Eq.{bytes_eq-Decides}
 use Rattle.std.proofs.lemmas.Bool.Decides.{same_from_decides}
 use Rattle.std.specs.Str.{str_to_ascii_lowercase}
-use Rattle.ft_store.specs.Store.{Cell, Text}
-use Rattle.ft_content.specs.Content.{Column, Documents, Content, same_name, names_of, repeats_name}
-use Rattle.ft_content.specs.Deserved.{Held, Contents, Table, table_named}
+use Rattle.ft_store.specs.Store.{Cell}
+use Rattle.ft_content.specs.Content.{same_name, names_of, repeats_name}
+use Rattle.ft_content.specs.Deserved.{Held, Table, table_named}
 use Rattle.ft_content.specs.Step.{free_id_from, on_table}
 use Rattle.ft_content.specs.declared.plain.table.PlainTable.{PlainTable}
-use Rattle.ft_content.specs.Plain.{plain_column, texts_of, text_cells, documents_from, content_of, table_of, contents_from}
+use Rattle.ft_content.specs.Plain.{plain_column, texts_of, text_cells, documents_from, table_of, contents_from}
 
 pub after_is : (a b : ℕ) → b < a → int_cmp (pos a) (pos b) ≡ Greater
 after_is a b h = sym (int_cmp_is (pos a) (pos b) Greater (omega (arith, ints)))

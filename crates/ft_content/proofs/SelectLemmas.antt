@@ -1,25 +1,22 @@
 -- A SELECT of docids by one word.
-use Rattle.std.proofs.Common.{◌≡◌, ◌≢◌, ℕ, zero, suc, ◌+◌, ◌<◌, Bool, true, false, cond, not, ◌||◌, List, [], ◌∷◌, map, length, Option, Some, None, Result, Ok, Err, ℤ, pos, refl, sym, ap, subst, ◌∙◌, arith, string_bytes, vec_len, String, Vec, nat_lt}
+use Rattle.std.proofs.Common.{◌≡◌, ◌≢◌, ℕ, ◌+◌, Bool, true, false, cond, not, ◌||◌, List, [], ◌∷◌, map, length, Option, Some, None, Result, Ok, Err, ℤ, pos, refl, sym, ap, subst, ◌∙◌, string_bytes, vec_len, String, Vec, nat_lt}
 use Rattle.std.specs.Prelude.{position, filter, slice_get, codes, IfErr, IfOk, OnOk}
-use Rattle.std.specs.List.{list_any, prefix_len, position_or_len, All}
+use Rattle.std.specs.List.{list_any, All}
 use Rattle.std.specs.Str.{str_to_ascii_lowercase}
 use Rattle.std.specs.declared.alloc.Global.{Global}
-use Rattle.std.proofs.lemmas.List.{length-map}
 use Rattle.std.proofs.lemmas.List.Elements.{All-head, All-tail}
-use Rattle.ft_query.specs.declared.query.QueryFault.{QueryFault}
 use Rattle.ft_query.specs.declared.query.QueryFault.TheVariants.{TooLarge}
-use Rattle.ft_query.specs.Trees.{Tree}
 use Rattle.ft_content.specs.declared.fault.Fault.{Fault}
 use Rattle.ft_content.specs.declared.fault.Fault.TheVariants as faults
 use Rattle.ft_store.specs.Store.{Cell, Int}
-use Rattle.ft_content.specs.Content.{Documents, Content, same_name, names_of}
-use Rattle.ft_content.specs.Command.{Matching, Reply, Rows}
+use Rattle.ft_content.specs.Content.{Documents, same_name, names_of}
+use Rattle.ft_content.specs.Command.{Matching, Rows}
 use Rattle.ft_content.specs.Answer.{column_place, reading, query_read, accepts_read, chosen, answer}
 use Rattle.ft_content.specs.Deserved.{Contents, Table, on_found, on_held, or_else, first_of, reading_fault, select_fault, deserved}
 use Rattle.ft_content.specs.Step.{answer_of_found, after, reply_to, step_by, step}
 use Rattle.ft_content.specs.Word.{is_search_word}
 use Rattle.ft_content.specs.declared.plain.table.PlainTable.{PlainTable}
-use Rattle.ft_content.specs.Plain.{plain_column, texts_of, text_cells, documents_from, content_of, table_of, contents_from, Answers, docid_item, docids_command, docid_grid, docid_rows, has_term, docids_with}
+use Rattle.ft_content.specs.Plain.{text_cells, documents_from, content_of, contents_from, Answers, docid_item, docids_command, docid_grid, docid_rows, has_term, docids_with}
 use Rattle.ft_content.proofs.Lists.{any_of_map, position_of_map}
 use Rattle.ft_content.proofs.PlainLemmas.{names_of_plain, is_named, IsApart, not_named, named-at}
 use Rattle.ft_content.proofs.WordLemmas.{term_of, word_tree, word_reads}

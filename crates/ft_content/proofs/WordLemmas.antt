@@ -1,5 +1,5 @@
 -- A MATCH text of one word is a query of one term.
-use Rattle.std.proofs.Common.{◌≡◌, ℕ, zero, suc, ◌+◌, ◌<◌, ◌≤◌, Bool, true, false, cond, not, ◌&&◌, ◌||◌, ◌==◌, List, [], ◌∷◌, ◌++◌, map, length, take, drop, Option, Some, None, Result, Ok, Err, refl, sym, ap, subst, ◌∙◌, arith, codes, nat_lt, nat_le, nat_eq, append-nil, append_assoc, slice_index, eqb-true, leb-true, inl, inr}
+use Rattle.std.proofs.Common.{◌≡◌, ℕ, zero, suc, ◌+◌, ◌<◌, ◌≤◌, Bool, true, false, cond, not, ◌&&◌, ◌||◌, ◌==◌, List, [], ◌∷◌, ◌++◌, map, length, take, drop, Option, Some, None, Ok, Err, refl, sym, ap, ◌∙◌, arith, codes, nat_lt, nat_le, nat_eq, append-nil, append_assoc, slice_index, eqb-true, leb-true, inl, inr}
 use Rattle.std.specs.Prelude.{bytes_eq, position, flat_map}
 use Rattle.std.specs.List.{list_any, list_all, starts_with, sum_by, before_first}
 use Rattle.std.specs.Int.{is_in_range}
@@ -8,11 +8,10 @@ use Rattle.std.specs.Str.{byte, str_to_ascii_lowercase, str_eq_ignore_ascii_case
 use Rattle.std.proofs.lemmas.Bool.{and_parts, and_from, false_from_ne_true, cases_lt}
 use Rattle.std.proofs.lemmas.Slice.Eq.{bytes_eq-Decides}
 use Rattle.std.proofs.lemmas.List.{get_or_past}
-use Rattle.ft_query.specs.declared.query.QueryFault.{QueryFault}
 use Rattle.ft_query.specs.declared.query.QueryFault.TheVariants.{Malformed, TooLarge}
-use Rattle.ft_query.specs.Tokens.{PlainToken, is_eligible, Scan, token_of, ended, tokens_from, tokens_of}
+use Rattle.ft_query.specs.Tokens.{PlainToken, is_eligible, Scan, token_of, ended, tokens_from}
 use Rattle.ft_query.specs.Trees.{PlainTerm, Tree, phrase}
-use Rattle.ft_query.specs.Lexemes.{Part, open_part, close_part, chunk_part, Mark, quote, paren, space, plain, mark_of, Begun, in_chunk, chunk_parts, begun_after, parts_ended, parts_from, parts_of, Lexeme, and_word, or_word, not_word, near_word, word, terms_of, follows_caret, is_colon, filter_of, words_after, number_of, is_number, lexemes_of_chunk, lexemes_of_part, lexemes_of}
+use Rattle.ft_query.specs.Lexemes.{open_part, close_part, chunk_part, quote, paren, space, plain, mark_of, in_chunk, chunk_parts, begun_after, parts_ended, parts_from, parts_of, and_word, or_word, not_word, near_word, word, terms_of, follows_caret, is_colon, filter_of, words_after, number_of, is_number, lexemes_of_chunk, lexemes_of_part, lexemes_of}
 use Rattle.ft_query.specs.Reads.{is_unclosed, term_count, is_far, nests_deep, first_fault, query_unless, query_of}
 use Rattle.ft_content.specs.Word.{operators, is_search_word}
 

@@ -64,6 +64,12 @@ named_cell content document name = cond (is_docid name) (Int document.0) (unwrap
 abbrev pub offsets_cell : Option Tree → Content → ℤ × List Cell → Cell
 offsets_cell query content document = Text (offsets_text (option_map_or (offsets_of (document_postings content.columns document.1)) query []))
 
+-- the cells of an item, where the offsets of the query in the document are this cell
+abbrev pub cells_with : Cell → Content → ℤ × List Cell → Item → List Cell
+cells_with offsets content document AllColumns = document.1
+cells_with offsets content document (Named name) = named_cell content document name ∷ []
+cells_with offsets content document (OffsetsOf name) = offsets ∷ []
+
 abbrev pub item_cells : Option Tree → Content → ℤ × List Cell → Item → List Cell
 item_cells query content document AllColumns = document.1
 item_cells query content document (Named name) = named_cell content document name ∷ []

@@ -1,5 +1,5 @@
 -- Commands, replies and tables as the definitions see them.
-use Rattle.std.specs.Prelude.{ℕ, ℤ, Bool, List, [], map, option_map, Result, Ok, Err, string_bytes, String, Vec}
+use Rattle.std.specs.Prelude.{ℕ, ℤ, Bool, List, [], ◌∷◌, map, Option, Some, None, option_map, Result, Ok, Err, string_bytes, String, Vec}
 use Rattle.std.specs.declared.alloc.Global.{Global}
 use Rattle.ft_store.specs.declared.rows.Value.{Value}
 use Rattle.ft_store.specs.Store.{Cell}
@@ -16,6 +16,9 @@ use Rattle.ft_content.specs.declared.command.Grid.{Grid}
 use Rattle.ft_content.specs.declared.command.Reply.{Reply}
 use Rattle.ft_content.specs.declared.command.Reply.TheVariants as replies
 use Rattle.ft_content.specs.declared.fault.Fault.{Fault}
+use Rattle.ft_content.specs.declared.fault.Fault.TheVariants as faults
+use Rattle.ft_store.specs.declared.fault.StoreFault.{StoreFault}
+use Rattle.ft_store.specs.declared.fault.StoreFault.TheVariants as stores
 use Rattle.ft_content.specs.declared.table.Column.{Column}
 use Rattle.ft_content.specs.declared.table.TableInfo.{TableInfo}
 use Rattle.ft_content.specs.Content as content
@@ -74,12 +77,23 @@ abbrev pub answer_of : Result Reply Fault → Result plain.Reply Fault
 answer_of (Ok reply) = Ok (reply_of reply)
 answer_of (Err fault) = Err fault
 
+-- what a call answers where the store refused a read for this reason (own choice)
+abbrev pub fault_of_read : StoreFault → Fault
+fault_of_read stores.Memory = faults.Memory
+fault_of_read _ = faults.Store
+
 abbrev pub column_of : Column → content.Column
 column_of c = record { name = string_bytes c.name; indexed = c.indexed }
 
 -- a content of these columns without documents, as a test sees it that looks at columns alone
 abbrev pub bare_content : List Column → content.Content
 bare_content columns = record { columns = map column_of columns; documents = [] }
+
+-- the docid of the last document
+abbrev pub last_docid : content.Documents → Option ℤ
+last_docid [] = None
+last_docid (d ∷ []) = Some d.0
+last_docid (d ∷ e ∷ documents) = last_docid (e ∷ documents)
 
 -- the names and the ids of tables
 abbrev pub table_names : Contents → List (List ℕ)

@@ -1,16 +1,18 @@
 // What an Insert makes of its rows, and the tests that refuse them.
-ghost use Rattle.std.specs.Prelude.{◌≡◌, ◌∷◌, ◌&&◌, ◌==◌, [], cond, not, nat_lt, map, length, zip, slice_get, option_map, string_bytes, IfOk};
+ghost use Rattle.std.specs.Prelude.{◌≡◌, ◌∷◌, ◌&&◌, ◌==◌, [], cond, not, nat_lt, map, length, zip, find, slice_get, option_map, string_bytes, IfOk};
 ghost use Rattle.std.specs.List.{list_any, list_all};
 ghost use Rattle.ft_store.specs.Changes.{shown_value};
+ghost use Rattle.ft_store.specs.Store as store;
 ghost use Rattle.ft_content.specs.Content as content;
+ghost use Rattle.ft_content.specs.Content.{Documents};
 ghost use Rattle.ft_content.specs.Deserved as deserved;
-ghost use Rattle.ft_content.specs.Views.{bare_content, cells_of};
+ghost use Rattle.ft_content.specs.Views.{bare_content, cells_of, column_of, last_docid};
 
 use crate::columns::has_column;
 use crate::fault::Fault;
-use crate::names::is_docid;
+use crate::names::{is_docid, same_name};
 use crate::table::Column;
-use crate::value::{has_nul, is_text, is_too_long};
+use crate::value::{copied_value, docid_under, has_nul, is_text, is_too_long};
 use ft_store::Value;
 use std::alloc::{AllocError, Global};
 
@@ -56,9 +58,10 @@ fn are_known(columns: &[Column], names: &[&str]) -> bool
 }
 
 // Whether a row has another number of values than there are names.
-fn has_other_width(width: usize, rows: &[Vec<Value>]) -> bool
-    ensures { result ≡ list_any (λ row. not (length row == width)) (map cells_of rows.now) }
+fn has_other_width(names: &[&str], rows: &[Vec<Value>]) -> bool
+    ensures { result ≡ list_any (λ row. not (length row == length (map (λ n. n.now) names.now))) (map cells_of rows.now) }
 {
+    let width = names.len();
     rows.iter().any(|row| row.len() != width)
 }
 
@@ -72,16 +75,6 @@ fn gives_text(names: &[&str], row: &[Value]) -> bool
         .any(|(name, value)| is_docid(name) && is_text(value))
 }
 
-// The docid that a value gives under this name, if it gives one.
-fn docid_under(name: &str, value: &Value) -> Option<i64>
-    ensures { result ≡ slice_get (cond (content.is_docid name.now) (deserved.number_of (shown_value value.now)) []) 0 }
-{
-    match value {
-        Value::Int(number) if is_docid(name) => Some(*number),
-        _ => None,
-    }
-}
-
 // How many docids a row gives.
 fn docid_count(names: &[&str], row: &[Value]) -> usize
     ensures { result ≡ length (deserved.docids_in (zip (map (λ n. n.now) names.now) (map shown_value row.now))) }
@@ -91,4 +84,138 @@ fn docid_count(names: &[&str], row: &[Value]) -> usize
         .zip(row.iter())
         .filter_map(|(name, value)| docid_under(name, value))
         .count()
+}
+
+// Whether a row gives a text as the docid.
+fn have_texts(names: &[&str], rows: &[Vec<Value>]) -> bool
+    ensures { result ≡ list_any (λ row. list_any (λ v. content.is_docid v.0 && deserved.is_text v.1) (zip (map (λ n. n.now) names.now) row)) (map cells_of rows.now) }
+{
+    rows.iter().any(|row| gives_text(names, row.as_slice()))
+}
+
+// Whether a row gives two docids.
+fn have_two_docids(names: &[&str], rows: &[Vec<Value>]) -> bool
+    ensures { result ≡ list_any (λ row. nat_lt 1 (length (deserved.docids_in (zip (map (λ n. n.now) names.now) row)))) (map cells_of rows.now) }
+{
+    rows.iter()
+        .any(|row| docid_count(names, row.as_slice()) > 1)
+}
+
+fn has_long(row: &[Value]) -> bool
+    ensures { result ≡ list_any content.is_too_long (map shown_value row.now) }
+{
+    row.iter().any(|value| is_too_long(value))
+}
+
+fn have_long(rows: &[Vec<Value>]) -> bool
+    ensures { result ≡ list_any (list_any content.is_too_long) (map cells_of rows.now) }
+{
+    rows.iter().any(|row| has_long(row.as_slice()))
+}
+
+fn row_has_nul(row: &[Value]) -> bool
+    ensures { result ≡ list_any content.has_nul (map shown_value row.now) }
+{
+    row.iter().any(|value| has_nul(value))
+}
+
+fn have_nul(rows: &[Vec<Value>]) -> bool
+    ensures { result ≡ list_any (list_any content.has_nul) (map cells_of rows.now) }
+{
+    rows.iter().any(|row| row_has_nul(row.as_slice()))
+}
+
+/// The first test of an Insert that refuses it, before those of the docids that its rows give.
+pub fn insert_tests(columns: &[Column], names: &[&str], rows: &[Vec<Value>]) -> Option<Fault>
+    ensures { result ≡ deserved.insert_tests (bare_content columns.now) (map (λ n. n.now) names.now) (map cells_of rows.now) }
+{
+    if !are_known(columns, names) {
+        return Some(Fault::NoSuchColumn);
+    }
+    if has_other_width(names, rows) {
+        return Some(Fault::Count);
+    }
+    if have_texts(names, rows) {
+        return Some(Fault::DocidKind);
+    }
+    if have_two_docids(names, rows) {
+        return Some(Fault::DocidTwice);
+    }
+    if have_long(rows) {
+        return Some(Fault::TooLong);
+    }
+    if have_nul(rows) {
+        return Some(Fault::HasNul);
+    }
+    None
+}
+
+/// The first docid that a row gives.
+pub fn row_docid(names: &[&str], row: &[Value]) -> Option<i64>
+    ensures { result ≡ slice_get (deserved.docids_in (zip (map (λ n. n.now) names.now) (map shown_value row.now))) 0 }
+{
+    let found = names
+        .iter()
+        .zip(row.iter())
+        .find(|(name, value)| docid_under(name, value).is_some());
+    match found {
+        Some((name, value)) => docid_under(name, value),
+        None => None,
+    }
+}
+
+// The first value of a row under a column's name.
+fn value_under<'a>(names: &[&str], row: &'a [Value], column: &str) -> Option<&'a Value>
+    ensures { option_map (λ v. shown_value v.now) result ≡ option_map (λ v. v.1) (find (λ v. content.same_name v.0 column.now) (zip (map (λ n. n.now) names.now) (map shown_value row.now))) }
+{
+    let found = names
+        .iter()
+        .zip(row.iter())
+        .find(|(name, _)| same_name(name, column));
+    match found {
+        Some((_, value)) => Some(value),
+        None => None,
+    }
+}
+
+// What a row has for a column.
+fn cell_under(
+    alloc: Global,
+    names: &[&str],
+    row: &[Value],
+    column: &Column,
+) -> Result<Value, AllocError>
+    ensures { IfOk result (λ cell. shown_value cell ≡ deserved.value_under (zip (map (λ n. n.now) names.now) (map shown_value row.now)) (column_of column.now) store.Null) }
+{
+    match value_under(names, row, column.name.as_str()) {
+        Some(value) => copied_value(alloc, value),
+        None => Ok(Value::Null),
+    }
+}
+
+/// The cells of the document that a row makes.
+pub fn new_cells(
+    alloc: Global,
+    columns: &[Column],
+    names: &[&str],
+    row: &[Value],
+) -> Result<Vec<Value>, AllocError>
+    ensures { IfOk result (λ cells. cells_of cells ≡ deserved.new_cells (zip (map (λ n. n.now) names.now) (map shown_value row.now)) (map column_of columns.now)) }
+{
+    let mut cells = Vec::new(alloc);
+    for column in columns {
+        cells.push(cell_under(alloc, names, row, column)?)?;
+    }
+    Ok(cells)
+}
+
+/// The docid of a document that is given none, where this is the last one's: one more, or 1 where there is no document.
+/// There is none behind the largest of all.
+pub fn next_docid(last: Option<i64>) -> Option<i64>
+    ensures { (documents : Documents) → last_docid documents ≡ last → result ≡ deserved.next_docid documents }
+{
+    match last {
+        None => Some(1),
+        Some(docid) => docid.checked_add(1),
+    }
 }

@@ -7,9 +7,13 @@ mod create;
 mod fault;
 mod insert;
 mod laws;
+mod limit;
 mod names;
 mod plain;
+mod query;
+mod select;
 mod table;
+mod update;
 mod value;
 mod word;
 
@@ -18,11 +22,16 @@ pub use command::{Command, Filter, Grid, Item, Items, Reply};
 pub use create::{create_fault, free_id, made_columns, made_names};
 pub use fault::Fault;
 pub use ft_store::Value;
-pub use insert::listed_names;
+pub use insert::{insert_tests, listed_names, new_cells, next_docid, row_docid};
 pub use laws::{
     commands_keep_contents, index_by_document, lists_mean_documents, rows_hold_one_content,
 };
+pub use limit::cut;
+pub use names::repeats_name;
 pub use plain::PlainTables;
+pub use query::read_query;
+pub use select::{answer_names, asks_offsets, count_rows, delete_tests, item_row, select_tests};
 pub use table::{Column, TableInfo};
+pub use update::{repeats_set, set_docid, update_tests, with_values};
 pub use value::copied_value;
 pub use word::SearchWord;

@@ -46,7 +46,7 @@ pub(crate) fn has_docid(names: &[String]) -> bool
 }
 
 /// Whether a name stands twice among these.
-pub(crate) fn repeats_name(names: &[String]) -> bool
+pub fn repeats_name(names: &[String]) -> bool
     ensures { result ≡ content.repeats_name (map string_bytes names.now) }
 {
     for k in 0..names.len() {

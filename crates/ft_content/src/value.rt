@@ -1,9 +1,10 @@
 // Values of cells.
-ghost use Rattle.std.specs.Prelude.{◌≡◌, IfOk};
+ghost use Rattle.std.specs.Prelude.{◌≡◌, [], cond, slice_get, IfOk};
 ghost use Rattle.ft_store.specs.Changes.{shown_value};
 ghost use Rattle.ft_content.specs.Content as content;
 ghost use Rattle.ft_content.specs.Deserved as deserved;
 
+use crate::names::is_docid;
 use ft_store::Value;
 use std::alloc::{AllocError, Global};
 
@@ -47,5 +48,15 @@ pub(crate) fn has_nul(value: &Value) -> bool
     match value {
         Value::Text(text) => text.as_bytes().contains(&0),
         _ => false,
+    }
+}
+
+// The docid that a value gives under this name, if it gives one.
+pub(crate) fn docid_under(name: &str, value: &Value) -> Option<i64>
+    ensures { result ≡ slice_get (cond (content.is_docid name.now) (deserved.number_of (shown_value value.now)) []) 0 }
+{
+    match value {
+        Value::Int(number) if is_docid(name) => Some(*number),
+        _ => None,
     }
 }

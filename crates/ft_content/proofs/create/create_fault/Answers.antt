@@ -1,5 +1,5 @@
 -- the tables by their names
-use Rattle.std.proofs.Common.{map, length, string_bytes, sym, ap, ◌∙◌}
+use Rattle.std.proofs.Common.{map, string_bytes, sym, ◌∙◌}
 use Rattle.ft_content.specs.Deserved.{create_tests}
 use Rattle.ft_content.specs.Views.{option_of}
 use Rattle.ft_content.proofs.TableLemmas.{is_named, as_many}

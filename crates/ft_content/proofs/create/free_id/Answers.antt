@@ -1,5 +1,5 @@
 -- no table is left
-use Rattle.std.proofs.Common.{pos, drop, sym, ap, ◌∙◌}
+use Rattle.std.proofs.Common.{pos, sym, ap, ◌∙◌}
 use Rattle.std.proofs.lemmas.List.{drop_all}
 use Rattle.ft_content.specs.Views.{info_ids}
 use Rattle.ft_content.proofs.TableLemmas.{free_from, free_among}

@@ -1,10 +1,10 @@
 -- the options as pairs of texts
-use Rattle.std.proofs.Common.{ℕ, Bool, List, not, ◌&&◌, ◌||◌, codes, ap, sym, ◌∙◌, rules, tests, String, string_bytes}
+use Rattle.std.proofs.Common.{ℕ, Bool, List, not, ◌&&◌, codes, sym, ◌∙◌, rules, tests, String}
 use Rattle.std.proofs.lemmas.Iterator.{YieldsList-from_slice}
 use Rattle.std.proofs.lemmas.Iterator.Search.{any_from_yields_List}
 use Rattle.std.specs.declared.alloc.Global.{Global}
 use Rattle.ft_content.specs.Content.{same_name}
-use Rattle.ft_content.specs.Deserved.{is_tokenize, is_notindexed}
+use Rattle.ft_content.specs.Deserved.{is_tokenize}
 use Rattle.ft_content.specs.Views.{option_of}
 use Rattle.ft_content.proofs.Lists.{any_of_map}
 use Rattle.ft_content.proofs.create.has_other_tokenizer.Goals as goal

@@ -1,8 +1,7 @@
 -- one more column
-use Rattle.std.proofs.Common.{◌≡◌, ℕ, List, [], ◌∷◌, ◌++◌, map, not, ◌&&◌, string_bytes, String, refl, sym, ap, ◌∙◌}
+use Rattle.std.proofs.Common.{◌≡◌, ℕ, List, [], ◌∷◌, ◌++◌, map, not, ◌&&◌, string_bytes, sym, ap, ◌∙◌}
 use Rattle.std.proofs.lemmas.List.{map-append}
 use Rattle.std.specs.List.{list_any}
-use Rattle.std.specs.declared.alloc.Global.{Global}
 use Rattle.ft_content.specs.Content.{same_name}
 use Rattle.ft_content.specs.declared.table.Column.{Column}
 use Rattle.ft_content.specs.Deserved.{is_notindexed}

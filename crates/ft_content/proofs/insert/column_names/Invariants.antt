@@ -1,5 +1,5 @@
 -- the names so far
-use Rattle.std.proofs.Common.{◌≡◌, map, take, string_bytes}
+use Rattle.std.proofs.Common.{◌≡◌, map, take}
 use Rattle.ft_content.specs.Content.{names_of}
 use Rattle.ft_content.specs.Views.{column_of}
 use Rattle.ft_content.proofs.insert.column_names.Given as goal

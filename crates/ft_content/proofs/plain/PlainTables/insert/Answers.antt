@@ -1,5 +1,5 @@
 -- by the table's own answer
-use Rattle.std.proofs.Common.{◌≡◌, List, string_bytes, refl, sym, ◌∙◌, ap, subst, Some, Err, slice_set}
+use Rattle.std.proofs.Common.{◌≡◌, List, string_bytes, refl, sym, ◌∙◌, ap, subst, Some, Err}
 use Rattle.std.specs.Prelude.{slice_get}
 use Rattle.std.specs.List.{list_any}
 use Rattle.std.proofs.lemmas.Option.{slice_get_read, slice_get_within}

@@ -1,5 +1,5 @@
 -- the tests one after the other, and then the documents
-use Rattle.std.proofs.Common.{◌≡◌, ◌<◌, true, false, length, string_bytes, sym, ◌∙◌, ap, arith, nat_lt, lt-ltb, ltb-true}
+use Rattle.std.proofs.Common.{◌<◌, length, string_bytes, sym, ◌∙◌, ap, arith, nat_lt, lt-ltb, ltb-true}
 use Rattle.std.specs.Prelude.{position}
 use Rattle.std.specs.Str.{str_to_ascii_lowercase}
 use Rattle.std.proofs.lemmas.Bool.{false_from_ne_true}

@@ -1,0 +1,10 @@
+-- the cells so far
+use Rattle.std.proofs.Common.{◌≡◌, map, take}
+use Rattle.std.specs.Prelude.{zip}
+use Rattle.ft_store.specs.Changes.{shown_value}
+use Rattle.ft_content.specs.Deserved as deserved
+use Rattle.ft_content.specs.Views.{column_of}
+use Rattle.ft_content.proofs.insert.new_cells.Given as goal
+
+abbrev pub invariant-loop-column : goal.invariant-loop-column
+invariant-loop-column l = map shown_value l.cells.items ≡ deserved.new_cells (zip (map (λ n. n.now) l.names) (map shown_value l.row)) (map column_of (take l.column-index l.columns))

@@ -1,0 +1,17 @@
+-- the values under their names
+use Rattle.std.proofs.Common.{ℕ, List, Bool, String, sym, ◌∙◌, rules, tests}
+use Rattle.std.proofs.lemmas.Iterator.{YieldsList-from_slice}
+use Rattle.std.proofs.lemmas.Iterator.Search.{any_from_yields_List}
+use Rattle.std.specs.declared.alloc.Global.{Global}
+use Rattle.ft_store.specs.declared.rows.Value.{Value}
+use Rattle.ft_store.specs.Store.{Cell}
+use Rattle.ft_content.specs.Content.{has_nul}
+use Rattle.ft_content.specs.Views.{set_of}
+use Rattle.ft_content.proofs.Lists.{any_of_map}
+use Rattle.ft_content.proofs.update.sets_nul.Goals as goal
+
+pub returns : goal.returns
+returns c =
+    let test : List ℕ × Cell → Bool = λ (s : List ℕ × Cell). has_nul s.1 in
+    any_from_yields_List (λ (s : String Global × Value). test (set_of s)) _ _ _ c.any.ensures.ran (YieldsList-from_slice c.args.sets.now cc) (λ x b q k. search (rules, tests))
+    ∙ sym (any_of_map test set_of c.args.sets.now)

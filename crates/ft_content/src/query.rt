@@ -1,0 +1,45 @@
+// MATCH texts as queries over a table's columns.
+ghost use Rattle.std.specs.Prelude.{◌≡◌, ◌≢◌, map, option_map, string_bytes, Ok, IfOk, IfErr, OnOk, None, Some};
+ghost use Rattle.ft_query.specs.Trees.{tree_of};
+ghost use Rattle.ft_content.specs.Content.{names_of};
+ghost use Rattle.ft_content.specs.Command.{Matching};
+ghost use Rattle.ft_content.specs.Answer.{reading};
+ghost use Rattle.ft_content.specs.Deserved.{query_fault};
+ghost use Rattle.ft_content.specs.Views.{bare_content};
+
+use crate::columns::column_place;
+use crate::fault::Fault;
+use crate::table::Column;
+use ft_query::{Query, parse};
+use std::alloc::{AllocError, Global};
+
+fn named_columns(alloc: Global, columns: &[Column]) -> Result<Vec<String>, AllocError>
+    ensures { IfOk result (λ names. map string_bytes names.items ≡ names_of (bare_content columns.now).columns) }
+{
+    let mut names = Vec::new(alloc);
+    for column in columns {
+        names.push(column.name.clone()?)?;
+    }
+    Ok(names)
+}
+
+/// The query of a MATCH on this name, where the name is the table's or a column's. There is none in a text without
+/// lexemes.
+///
+/// # Errors
+///
+/// `Malformed` and `TooLarge` as the text deserves them, or `Memory`.
+pub fn read_query(
+    alloc: Global,
+    columns: &[Column],
+    name: &str,
+    text: &str,
+) -> Result<Option<Query>, Fault>
+    ensures query { IfOk result (λ query. reading (bare_content columns.now) name.now text.now ≡ Ok (option_map tree_of query)) }
+    ensures fine { OnOk result (query_fault (bare_content columns.now) (Matching name.now text.now) ≡ None) }
+    ensures fault { IfErr result (λ fault. fault ≢ Fault.Memory → query_fault (bare_content columns.now) (Matching name.now text.now) ≡ Some fault) }
+{
+    let names = named_columns(alloc, columns)?;
+    let default = column_place(columns, name);
+    Ok(parse(alloc, text, names.as_slice(), default)?)
+}
