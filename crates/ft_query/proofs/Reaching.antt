@@ -1,12 +1,22 @@
 -- Calls one after another.
-use Rattle.ft_query.specs.Lists.{Reaches, Stays, Goes}
+use Rattle.std.proofs.Common.{Bool, true, false}
+use Rattle.ft_query.specs.Lists.{Reaches, Stays, Goes, Ends}
 
-pub no_call : {X : Type 0} (Becomes : X → X → Type 0) (x : X) → Reaches Becomes x x
-no_call Becomes x = Stays x
+pub no_call : {X : Type 0} (Becomes : X → Bool → X → Type 0) (x : X) (all : Bool) → Reaches Becomes x all x
+no_call Becomes x all = Stays x all
 
-pub one_call : {X : Type 0} (Becomes : X → X → Type 0) (x y : X) → Becomes x y → Reaches Becomes x y
-one_call Becomes x y step = Goes x y y step (Stays y)
+pub one_call : {X : Type 0} (Becomes : X → Bool → X → Type 0) (x y : X) (all : Bool) → Becomes x all y → Reaches Becomes x all y
+one_call Becomes x y true step = Goes x y y true step (Stays y true)
+one_call Becomes x y false step = Ends x y step
 
-pub reaches_on : {X : Type 0} (Becomes : X → X → Type 0) (x y z : X) → Reaches Becomes x y → Reaches Becomes y z → Reaches Becomes x z
-reaches_on Becomes x y z (Stays w) rest = rest
-reaches_on Becomes x y z (Goes a b d step calls) rest = Goes a b z step (reaches_on Becomes b d z calls rest)
+abbrev IsAll : Bool → Type 0
+IsAll true = Unit {0}
+IsAll false = ⊥
+
+joined : {X : Type 0} (Becomes : X → Bool → X → Type 0) (x y z : X) (one all : Bool) → IsAll one → Reaches Becomes x one y → Reaches Becomes y all z → Reaches Becomes x all z
+joined Becomes x y z one all h (Stays w _) rest = rest
+joined Becomes x y z one all h (Goes a b d _ step calls) rest = Goes a b z all step (joined Becomes b d z one all h calls rest)
+joined Becomes x y z one all h (Ends a b step) rest = absurd h
+
+pub reaches_on : {X : Type 0} (Becomes : X → Bool → X → Type 0) (x y z : X) (all : Bool) → Reaches Becomes x true y → Reaches Becomes y all z → Reaches Becomes x all z
+reaches_on Becomes x y z all calls rest = joined Becomes x y z true all tt calls rest

@@ -9,7 +9,7 @@ loop-link-init g c = record {
   lists = search rules;
   number = search rules;
   clean = search rules;
-  becomes = no_call _ _;
+  becomes = no_call _ _ _;
   failed = search rules;
   given = search rules;
 }
@@ -19,7 +19,7 @@ loop-link-preserved g c = record {
   lists = grind (arith, common_steps);
   number = grind (arith, common_steps);
   clean = grind (arith, common_steps);
-  becomes = reaches_on _ _ _ _ c.loop-link.invariant.becomes c.load_terms.ensures.becomes;
+  becomes = reaches_on _ _ _ _ _ c.loop-link.invariant.becomes c.in_ok-load_terms.ensures.becomes;
   failed = grind (arith, common_steps);
   given = grind (arith, common_steps);
 }

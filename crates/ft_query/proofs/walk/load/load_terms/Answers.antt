@@ -9,7 +9,7 @@ loop-term-init g c = record {
   lists = search rules;
   number = search rules;
   clean = search rules;
-  becomes = no_call _ _;
+  becomes = no_call _ _ _;
   failed = search rules;
   given = search rules;
 }
@@ -19,7 +19,10 @@ loop-term-preserved g c = record {
   lists = grind (arith, common_steps);
   number = grind (arith, common_steps);
   clean = grind (arith, common_steps);
-  becomes = reaches_on _ _ _ _ c.loop-term.invariant.becomes c.load_term.ensures.becomes;
+  becomes = reaches_on _ _ _ _ _ c.loop-term.invariant.becomes c.in_ok-cursor.ensures.becomes;
   failed = grind (arith, common_steps);
   given = grind (arith, common_steps);
 }
+
+pub returns-in_err-push-clause-becomes : goal.returns-in_err-push-clause-becomes
+returns-in_err-push-clause-becomes g c = reaches_on _ _ _ _ _ (reaches_on _ _ _ _ _ c.loop-term.invariant.becomes c.in_ok-cursor.ensures.becomes) (no_call _ _ _)
