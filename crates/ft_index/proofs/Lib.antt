@@ -3,3 +3,4 @@ pub mod Calls
 pub mod HeldLemmas
 pub mod NameLemmas
 pub mod SoundLemmas
+pub mod PlacedLemmas

@@ -3,3 +3,4 @@ pub mod Kept
 pub mod RowLaws
 pub mod RowsRead
 pub mod Walked
+pub mod Placed
