@@ -9,3 +9,4 @@ pub mod TableChanges
 pub mod AddLemmas
 pub mod KnownLemmas
 pub mod TablePlans
+pub mod PlacedLemmas

@@ -5,3 +5,4 @@ pub mod RowsRead
 pub mod Walked
 pub mod Found
 pub mod Planned
+pub mod Placed

@@ -1,5 +1,5 @@
 // The lists that a walk asks for.
-ghost use Rattle.std.specs.Prelude.{◌≡◌, ℕ, ◌+◌, ◌-◌, ◌^◌, ◌||◌, Bool, List, map, min, bytes_eq, nat_eq, IfOk, OnErr};
+ghost use Rattle.std.specs.Prelude.{◌≡◌, ℕ, ◌+◌, ◌-◌, ◌^◌, ◌||◌, Bool, List, map, min, bytes_eq, nat_eq, is_ok, IfOk, OnErr};
 ghost use Rattle.std.specs.List.{starts_with};
 ghost use Rattle.ft_query.specs.Documents.{Document, AreDocuments, lists_with, plain_list, place_count};
 ghost use Rattle.ft_query.specs.Lists.{is_failed};
@@ -68,6 +68,9 @@ pub trait Lists {
     /// How many places the answers gave.
     ghost given_so_far: { Self → ℕ };
 
+    /// What else is known of a call that is answered, or refused: what it makes of the lists.
+    ghost becomes: { Self → Bool → Self → Type 0 } = { λ old is_answered new. Unit {0} };
+
     /// The places of one term.
     fn word(&mut self, alloc: Global, term: &str) -> Result<Vec<DocList>, ListFault>
         ensures answer { IfOk result (λ lists. is_clean self.new →
@@ -76,7 +79,8 @@ pub trait Lists {
         ensures failed { has_failed self.new ≡ (has_failed self.old || is_failed result) }
         ensures given { IfOk result (λ lists. given_so_far self.new
             ≡ min (given_so_far self.old + place_count (map plain_list lists.items)) (2 ^ 64 - 1)) }
-        ensures none_given { OnErr result (given_so_far self.new ≡ given_so_far self.old) };
+        ensures none_given { OnErr result (given_so_far self.new ≡ given_so_far self.old) }
+        ensures becomes { becomes self.old (is_ok result) self.new };
 
     /// The places of the terms that begin so.
     fn prefix(&mut self, alloc: Global, begin: &str) -> Result<Vec<DocList>, ListFault>
@@ -86,7 +90,8 @@ pub trait Lists {
         ensures failed { has_failed self.new ≡ (has_failed self.old || is_failed result) }
         ensures given { IfOk result (λ lists. given_so_far self.new
             ≡ min (given_so_far self.old + place_count (map plain_list lists.items)) (2 ^ 64 - 1)) }
-        ensures none_given { OnErr result (given_so_far self.new ≡ given_so_far self.old) };
+        ensures none_given { OnErr result (given_so_far self.new ≡ given_so_far self.old) }
+        ensures becomes { becomes self.old (is_ok result) self.new };
 
     /// A call has answered `Failed`.
     fn failed(&self) -> bool

@@ -241,6 +241,7 @@ pub(crate) fn cells<S: Alter>(
     requires settled { (state S.Store conn.old).in_transaction ≡ false }
     ensures rows { HasCleanDisk (state S.Store conn.new) → IfOk result (λ found. map (shown_cell tab) found.items ≡ where_key cell_key_cmp (λ k. int_eq tab k.0) (value_of (state S.Store conn.old).now.trees).cells) }
     ensures kept { HasCleanDisk (state S.Store conn.new) → Keeps (state S.Store conn.old) (state S.Store conn.new) }
+    ensures live { HasCleanDisk (state S.Store conn.new) → OnOk result (IsTrue (state S.Store conn.new).is_open) }
     ensures mode { (state S.Store conn.new).in_transaction ≡ false }
     ensures survives { Survives (state S.Store conn.old) (state S.Store conn.new) (λ _. IsTrue (state S.Store conn.old).is_open → ⊥) }
 {
@@ -263,6 +264,7 @@ pub(crate) fn document<S: Alter>(
     requires settled { (state S.Store conn.old).in_transaction ≡ false }
     ensures rows { HasCleanDisk (state S.Store conn.new) → IfOk result (λ found. map (shown_cell tab) found.items ≡ where_key cell_key_cmp (λ k. int_eq tab k.0 && int_eq docid k.1) (value_of (state S.Store conn.old).now.trees).cells) }
     ensures kept { HasCleanDisk (state S.Store conn.new) → Keeps (state S.Store conn.old) (state S.Store conn.new) }
+    ensures live { HasCleanDisk (state S.Store conn.new) → OnOk result (IsTrue (state S.Store conn.new).is_open) }
     ensures mode { (state S.Store conn.new).in_transaction ≡ false }
     ensures survives { Survives (state S.Store conn.old) (state S.Store conn.new) (λ _. IsTrue (state S.Store conn.old).is_open → ⊥) }
 {
@@ -293,6 +295,7 @@ pub(crate) fn last_docid<S: Alter>(
     requires settled { (state S.Store conn.old).in_transaction ≡ false }
     ensures last { HasCleanDisk (state S.Store conn.new) → IfOk result (λ last. last ≡ last_docid_of tab (value_of (state S.Store conn.old).now.trees).cells) }
     ensures kept { HasCleanDisk (state S.Store conn.new) → Keeps (state S.Store conn.old) (state S.Store conn.new) }
+    ensures live { HasCleanDisk (state S.Store conn.new) → OnOk result (IsTrue (state S.Store conn.new).is_open) }
     ensures mode { (state S.Store conn.new).in_transaction ≡ false }
     ensures survives { Survives (state S.Store conn.old) (state S.Store conn.new) (λ _. IsTrue (state S.Store conn.old).is_open → ⊥) }
 {
@@ -314,6 +317,7 @@ pub(crate) fn sizes<S: Alter>(
     requires settled { (state S.Store conn.old).in_transaction ≡ false }
     ensures rows { HasCleanDisk (state S.Store conn.new) → IfOk result (λ found. map (shown_size tab) found.items ≡ where_key cell_key_cmp (λ k. int_eq tab k.0) (value_of (state S.Store conn.old).now.trees).sizes) }
     ensures kept { HasCleanDisk (state S.Store conn.new) → Keeps (state S.Store conn.old) (state S.Store conn.new) }
+    ensures live { HasCleanDisk (state S.Store conn.new) → OnOk result (IsTrue (state S.Store conn.new).is_open) }
     ensures mode { (state S.Store conn.new).in_transaction ≡ false }
     ensures survives { Survives (state S.Store conn.old) (state S.Store conn.new) (λ _. IsTrue (state S.Store conn.old).is_open → ⊥) }
 {
@@ -334,6 +338,7 @@ pub(crate) fn noted<S: Alter>(
     requires settled { (state S.Store conn.old).in_transaction ≡ false }
     ensures rows { HasCleanDisk (state S.Store conn.new) → IfOk result (λ found. map shown_note found.items ≡ (value_of (state S.Store conn.old).now.trees).noted) }
     ensures kept { HasCleanDisk (state S.Store conn.new) → Keeps (state S.Store conn.old) (state S.Store conn.new) }
+    ensures live { HasCleanDisk (state S.Store conn.new) → OnOk result (IsTrue (state S.Store conn.new).is_open) }
     ensures mode { (state S.Store conn.new).in_transaction ≡ false }
     ensures survives { Survives (state S.Store conn.old) (state S.Store conn.new) (λ _. IsTrue (state S.Store conn.old).is_open → ⊥) }
 {

@@ -133,6 +133,7 @@ impl<S: Alter> Store<S> {
     pub fn cells(&mut self, tab: i64) -> Result<Vec<CellRow>, StoreFault>
         ensures rows { HasCleanDisk (shows S.Store self.new) → IfOk result (λ found. map (shown_cell tab) found.items ≡ where_key cell_key_cmp (λ k. int_eq tab k.0) (value_in S.Store self.old).cells) }
         ensures kept { HasCleanDisk (shows S.Store self.new) → Keeps (shows S.Store self.old) (shows S.Store self.new) }
+        ensures live { HasCleanDisk (shows S.Store self.new) → OnOk result (IsTrue (shows S.Store self.new).is_open) }
         ensures survives { Survives (shows S.Store self.old) (shows S.Store self.new) (λ _. IsTrue (shows S.Store self.old).is_open → ⊥) }
         ensures counted { IfOk result (λ found. self.new.rows_read ≡ more_rows (vec_len found) self.old) }
         ensures uncounted { OnErr result (self.new.rows_read ≡ self.old.rows_read) }
@@ -146,6 +147,7 @@ impl<S: Alter> Store<S> {
     pub fn document(&mut self, tab: i64, docid: i64) -> Result<Vec<CellRow>, StoreFault>
         ensures rows { HasCleanDisk (shows S.Store self.new) → IfOk result (λ found. map (shown_cell tab) found.items ≡ where_key cell_key_cmp (λ k. int_eq tab k.0 && int_eq docid k.1) (value_in S.Store self.old).cells) }
         ensures kept { HasCleanDisk (shows S.Store self.new) → Keeps (shows S.Store self.old) (shows S.Store self.new) }
+        ensures live { HasCleanDisk (shows S.Store self.new) → OnOk result (IsTrue (shows S.Store self.new).is_open) }
         ensures survives { Survives (shows S.Store self.old) (shows S.Store self.new) (λ _. IsTrue (shows S.Store self.old).is_open → ⊥) }
         ensures counted { IfOk result (λ found. self.new.rows_read ≡ more_rows (vec_len found) self.old) }
         ensures uncounted { OnErr result (self.new.rows_read ≡ self.old.rows_read) }
@@ -159,6 +161,7 @@ impl<S: Alter> Store<S> {
     pub fn last_docid(&mut self, tab: i64) -> Result<Option<i64>, StoreFault>
         ensures last { HasCleanDisk (shows S.Store self.new) → IfOk result (λ last. last ≡ last_docid_of tab (value_in S.Store self.old).cells) }
         ensures kept { HasCleanDisk (shows S.Store self.new) → Keeps (shows S.Store self.old) (shows S.Store self.new) }
+        ensures live { HasCleanDisk (shows S.Store self.new) → OnOk result (IsTrue (shows S.Store self.new).is_open) }
         ensures survives { Survives (shows S.Store self.old) (shows S.Store self.new) (λ _. IsTrue (shows S.Store self.old).is_open → ⊥) }
         ensures counted { IfOk result (λ last. self.new.rows_read ≡ more_rows (length (option_to_list last)) self.old) }
         ensures uncounted { OnErr result (self.new.rows_read ≡ self.old.rows_read) }
@@ -176,6 +179,7 @@ impl<S: Alter> Store<S> {
         ensures survives { Survives (shows S.Store self.old) (shows S.Store self.new) (λ _. IsTrue (shows S.Store self.old).is_open → ⊥) }
         ensures counted { IfOk result (λ found. self.new.rows_read ≡ more_rows (vec_len found) self.old) }
         ensures uncounted { OnErr result (self.new.rows_read ≡ self.old.rows_read) }
+        ensures live { HasCleanDisk (shows S.Store self.new) → OnOk result (IsTrue (shows S.Store self.new).is_open) }
     {
         let found = lists::term(&mut self.conn, self.alloc, tab, term)?;
         self.rows_read = self.rows_read.saturating_add(found.len() as u64);
@@ -191,6 +195,7 @@ impl<S: Alter> Store<S> {
         ensures survives { Survives (shows S.Store self.old) (shows S.Store self.new) (λ _. IsTrue (shows S.Store self.old).is_open → ⊥) }
         ensures counted { IfOk result (λ found. self.new.rows_read ≡ more_rows (vec_len found) self.old) }
         ensures uncounted { OnErr result (self.new.rows_read ≡ self.old.rows_read) }
+        ensures live { HasCleanDisk (shows S.Store self.new) → OnOk result (IsTrue (shows S.Store self.new).is_open) }
     {
         let found = lists::prefix(&mut self.conn, self.alloc, tab, begin)?;
         self.rows_read = self.rows_read.saturating_add(found.len() as u64);
@@ -205,6 +210,7 @@ impl<S: Alter> Store<S> {
         ensures survives { Survives (shows S.Store self.old) (shows S.Store self.new) (λ _. IsTrue (shows S.Store self.old).is_open → ⊥) }
         ensures counted { IfOk result (λ found. self.new.rows_read ≡ more_rows (vec_len found) self.old) }
         ensures uncounted { OnErr result (self.new.rows_read ≡ self.old.rows_read) }
+        ensures live { HasCleanDisk (shows S.Store self.new) → OnOk result (IsTrue (shows S.Store self.new).is_open) }
     {
         let found = lists::entries(&mut self.conn, self.alloc, tab)?;
         self.rows_read = self.rows_read.saturating_add(found.len() as u64);
@@ -215,6 +221,7 @@ impl<S: Alter> Store<S> {
     pub fn sizes(&mut self, tab: i64) -> Result<Vec<SizeRow>, StoreFault>
         ensures rows { HasCleanDisk (shows S.Store self.new) → IfOk result (λ found. map (shown_size tab) found.items ≡ where_key cell_key_cmp (λ k. int_eq tab k.0) (value_in S.Store self.old).sizes) }
         ensures kept { HasCleanDisk (shows S.Store self.new) → Keeps (shows S.Store self.old) (shows S.Store self.new) }
+        ensures live { HasCleanDisk (shows S.Store self.new) → OnOk result (IsTrue (shows S.Store self.new).is_open) }
         ensures survives { Survives (shows S.Store self.old) (shows S.Store self.new) (λ _. IsTrue (shows S.Store self.old).is_open → ⊥) }
         ensures counted { IfOk result (λ found. self.new.rows_read ≡ more_rows (vec_len found) self.old) }
         ensures uncounted { OnErr result (self.new.rows_read ≡ self.old.rows_read) }
@@ -228,6 +235,7 @@ impl<S: Alter> Store<S> {
     pub fn noted(&mut self) -> Result<Vec<String>, StoreFault>
         ensures rows { HasCleanDisk (shows S.Store self.new) → IfOk result (λ found. map shown_note found.items ≡ (value_in S.Store self.old).noted) }
         ensures kept { HasCleanDisk (shows S.Store self.new) → Keeps (shows S.Store self.old) (shows S.Store self.new) }
+        ensures live { HasCleanDisk (shows S.Store self.new) → OnOk result (IsTrue (shows S.Store self.new).is_open) }
         ensures survives { Survives (shows S.Store self.old) (shows S.Store self.new) (λ _. IsTrue (shows S.Store self.old).is_open → ⊥) }
         ensures counted { IfOk result (λ found. self.new.rows_read ≡ more_rows (vec_len found) self.old) }
         ensures uncounted { OnErr result (self.new.rows_read ≡ self.old.rows_read) }

@@ -1,8 +1,8 @@
 // The lists of a query's terms.
-ghost use Rattle.std.specs.Prelude.{◌≡◌, ℕ, ◌+◌, ◌-◌, ◌^◌, ◌||◌, ◌++◌, map, min, length, flat_map, vec_len, IfOk, OnOk};
+ghost use Rattle.std.specs.Prelude.{◌≡◌, ℕ, ◌+◌, ◌-◌, ◌^◌, ◌||◌, ◌++◌, map, min, length, flat_map, vec_len, is_ok, IfOk, OnOk};
 ghost use Rattle.ft_query.specs.Documents.{place_count};
 ghost use Rattle.ft_query.specs.Trees.{plain_term, plain_link, tree_of};
-ghost use Rattle.ft_query.specs.Lists.{is_failed};
+ghost use Rattle.ft_query.specs.Lists.{is_failed, Reaches};
 ghost use Rattle.ft_query.specs.Work.{terms_in};
 ghost use Rattle.ft_query.specs.Cursors.{lists_kept, places_left, listed_for};
 
@@ -11,11 +11,13 @@ use crate::query::{Link, Query, QueryTerm};
 use crate::walk::cursor::Cursor;
 use std::alloc::Global;
 
+#[tactic(auto, using(crate::proofs::Reaching::one_call))]
 /// The list of one term.
 fn load_term<L: Lists>(alloc: Global, term: &QueryTerm, lists: &mut L) -> Result<Cursor, ListFault>
     ensures list { IfOk result (λ c. L.is_clean lists.new → lists_kept c ≡ listed_for (L.documents lists.new) (plain_term term.now)) }
     ensures clean { L.is_clean lists.new → L.is_clean lists.old × (L.documents lists.new ≡ L.documents lists.old) }
     ensures failed { L.has_failed lists.new ≡ (L.has_failed lists.old || is_failed result) }
+    ensures becomes { Reaches L.becomes lists.old (is_ok result) lists.new }
     ensures given { IfOk result (λ c. L.given_so_far lists.new ≡ min (L.given_so_far lists.old + place_count (lists_kept c)) (2 ^ 64 - 1)) }
 {
     let list = if term.prefix {
@@ -26,6 +28,7 @@ fn load_term<L: Lists>(alloc: Global, term: &QueryTerm, lists: &mut L) -> Result
     Ok(Cursor::new(list))
 }
 
+#[tactic(auto, using(crate::proofs::Reaching::reaches_on))]
 /// The lists of some terms, behind those that are there.
 fn load_terms<L: Lists>(
     alloc: Global,
@@ -37,6 +40,7 @@ fn load_terms<L: Lists>(
     ensures number { OnOk result (vec_len cursors.new ≡ vec_len cursors.old + length terms.now) }
     ensures clean { L.is_clean lists.new → L.is_clean lists.old × (L.documents lists.new ≡ L.documents lists.old) }
     ensures failed { L.has_failed lists.new ≡ (L.has_failed lists.old || is_failed result) }
+    ensures becomes { Reaches L.becomes lists.old (is_ok result) lists.new }
     ensures given { OnOk result ((start : ℕ) → L.given_so_far lists.old ≡ min (start + places_left cursors.old.items) (2 ^ 64 - 1) → L.given_so_far lists.new ≡ min (start + places_left cursors.new.items) (2 ^ 64 - 1)) }
 {
     for term in terms {
@@ -46,6 +50,7 @@ fn load_terms<L: Lists>(
     Ok(())
 }
 
+#[tactic(auto, using(crate::proofs::Reaching::reaches_on))]
 /// The lists of the terms of some links.
 fn load_links<L: Lists>(
     alloc: Global,
@@ -57,6 +62,7 @@ fn load_links<L: Lists>(
     ensures number { OnOk result (vec_len cursors.new ≡ vec_len cursors.old + length (flat_map (λ link. link.to.terms) (map plain_link links.now))) }
     ensures clean { L.is_clean lists.new → L.is_clean lists.old × (L.documents lists.new ≡ L.documents lists.old) }
     ensures failed { L.has_failed lists.new ≡ (L.has_failed lists.old || is_failed result) }
+    ensures becomes { Reaches L.becomes lists.old (is_ok result) lists.new }
     ensures given { OnOk result ((start : ℕ) → L.given_so_far lists.old ≡ min (start + places_left cursors.old.items) (2 ^ 64 - 1) → L.given_so_far lists.new ≡ min (start + places_left cursors.new.items) (2 ^ 64 - 1)) }
 {
     for link in links {
@@ -65,6 +71,7 @@ fn load_links<L: Lists>(
     Ok(())
 }
 
+#[tactic(auto, using(crate::proofs::Reaching::reaches_on))]
 /// The lists of the terms of a query.
 pub(crate) fn load<L: Lists>(
     alloc: Global,
@@ -76,6 +83,7 @@ pub(crate) fn load<L: Lists>(
     ensures number { OnOk result (vec_len cursors.new ≡ vec_len cursors.old + length (terms_in (tree_of query.now))) }
     ensures clean { L.is_clean lists.new → L.is_clean lists.old × (L.documents lists.new ≡ L.documents lists.old) }
     ensures failed { L.has_failed lists.new ≡ (L.has_failed lists.old || is_failed result) }
+    ensures becomes { Reaches L.becomes lists.old (is_ok result) lists.new }
     ensures given { OnOk result ((start : ℕ) → L.given_so_far lists.old ≡ min (start + places_left cursors.old.items) (2 ^ 64 - 1) → L.given_so_far lists.new ≡ min (start + places_left cursors.new.items) (2 ^ 64 - 1)) }
 {
     match query {

@@ -1,8 +1,8 @@
 // The documents that a query accepts, one after the other.
-ghost use Rattle.std.specs.Prelude.{◌≡◌, ◌+◌, ◌-◌, ◌^◌, ◌<◌, ◌||◌, List, length, map, min, sum_by, IfOk, IfSome, OnOk, OnErr};
+ghost use Rattle.std.specs.Prelude.{◌≡◌, ◌+◌, ◌-◌, ◌^◌, ◌<◌, ◌||◌, List, length, map, min, sum_by, is_ok, IfOk, IfSome, OnOk, OnErr};
 ghost use Rattle.ft_query.specs.Documents.{Document};
 ghost use Rattle.ft_query.specs.Trees.{tree_of};
-ghost use Rattle.ft_query.specs.Lists.{is_failed};
+ghost use Rattle.ft_query.specs.Lists.{is_failed, Reaches};
 ghost use Rattle.ft_query.specs.Work.{terms_in, entry_count};
 ghost use Rattle.ft_query.specs.Cursors.{lists_left, lists_kept};
 ghost use Rattle.ft_query.specs.Walk.{lists_to_come, StandsBefore, Walked};
@@ -99,6 +99,7 @@ impl<'q> Matches<'q> {
             ≡ min (L.given_so_far lists.old + entry_count (tree_of query.now) (L.documents lists.new)) (2 ^ 64 - 1)) }
         ensures clean { L.is_clean lists.new → L.is_clean lists.old × (L.documents lists.new ≡ L.documents lists.old) }
         ensures failed { L.has_failed lists.new ≡ (L.has_failed lists.old || is_failed result) }
+        ensures becomes { Reaches L.becomes lists.old (is_ok result) lists.new }
     {
         let mut cursors = Vec::new(alloc);
         load(alloc, query, lists, &mut cursors)?;

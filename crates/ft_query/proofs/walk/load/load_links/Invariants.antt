@@ -1,6 +1,7 @@
-use Rattle.std.proofs.Common.{◌≡◌, ℕ, ◌+◌, ◌-◌, ◌^◌, ◌++◌, map, min, length, vec_len}
+use Rattle.std.proofs.Common.{◌≡◌, ℕ, true, ◌+◌, ◌-◌, ◌^◌, ◌++◌, map, min, length, vec_len}
 use Rattle.std.specs.Prelude.{take, flat_map}
 use Rattle.ft_query.specs.Trees.{plain_link}
+use Rattle.ft_query.specs.Lists.{Reaches}
 use Rattle.ft_query.specs.Cursors.{lists_kept, places_left, listed_for}
 use Rattle.ft_query.proofs.walk.load.load_links.Given as goal
 
@@ -15,6 +16,7 @@ invariant-loop-link g l =
       lists : is_clean l.lists → map lists_kept l.cursors.items ≡ map lists_kept l.fn.cursors.items ++ map (listed_for (documents l.lists)) terms;
       number : vec_len l.cursors ≡ vec_len l.fn.cursors + length terms;
       clean : is_clean l.lists → is_clean l.fn.lists × (documents l.lists ≡ documents l.fn.lists);
+      becomes : Reaches g.L.Lists.becomes l.fn.lists true l.lists;
       failed : g.L.Lists.has_failed l.lists ≡ g.L.Lists.has_failed l.fn.lists;
       given : (start : ℕ) → given l.fn.lists ≡ min (start + places_left l.fn.cursors.items) (2 ^ 64 - 1) → given l.lists ≡ min (start + places_left l.cursors.items) (2 ^ 64 - 1);
     }
