@@ -1,7 +1,6 @@
 -- The tables that are told of contents, by their names.
-use Rattle.std.proofs.Common.{inl, inr, ◌⊎◌, ◌≡◌, ℕ, Bool, true, false, cond, List, [], ◌∷◌, map, Option, Some, None, ℤ, refl, sym, ap, subst, ◌∙◌}
+use Rattle.std.proofs.Common.{inl, inr, ◌≡◌, ℕ, Bool, true, false, cond, List, [], ◌∷◌, map, Option, Some, None, ℤ, refl, sym, ap, ◌∙◌}
 use Rattle.std.specs.Prelude.{option_map, IsTrue, is_some}
-use Rattle.std.specs.List.{find}
 use Rattle.ft_content.specs.declared.fault.Fault.{Fault}
 use Rattle.ft_content.specs.declared.fault.Fault.TheVariants as faults
 use Rattle.ft_content.specs.declared.table.TableInfo.{TableInfo}
@@ -10,7 +9,7 @@ use Rattle.ft_content.specs.Views.{KnownTable, known_info, table_names, table_id
 use Rattle.ft_content.specs.Deserved.{Held, Sound, Stale, Loose, Table, Contents, table_named, on_sound, on_found, on_held, made_columns, create_fault, deserved}
 use Rattle.ft_content.specs.Command.{Create}
 use Rattle.ft_index.specs.Kept.{told_table, is_sound}
-use Rattle.ft_index.specs.Found.{known_named, IsSoundAt, IsUnfit}
+use Rattle.ft_index.specs.Found.{known_named, IsUnfit}
 
 pub told_named : (contents : Contents) (name : List ℕ) → known_named (map told_table contents) name ≡ option_map told_table (table_named contents name)
 told_named [] name = refl

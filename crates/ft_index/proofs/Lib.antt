@@ -10,3 +10,4 @@ pub mod AddLemmas
 pub mod KnownLemmas
 pub mod TablePlans
 pub mod PlacedLemmas
+pub mod Changing

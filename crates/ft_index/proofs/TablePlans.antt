@@ -1,20 +1,18 @@
 -- The plans of a Create and of a Drop.
-use Rattle.std.proofs.Common.{Ok, ◌≡◌, ℕ, Bool, true, false, cond, not, ◌&&◌, List, [], ◌∷◌, map, Option, Some, None, ℤ, pos, refl, sym, ap, subst, ◌∙◌}
-use Rattle.std.specs.Prelude.{option_map, is_some, is_none, IsTrue}
-use Rattle.std.specs.Ordering.{int_cmp}
-use Rattle.std.specs.FinMap.Entries.{put}
-use Rattle.ft_store.specs.Store.{StoreValue, AreInOrder, AddTable, DropTable, applied, all_applied}
+use Rattle.std.proofs.Common.{Ok, ◌≡◌, ℕ, Bool, true, false, cond, not, ◌&&◌, List, [], ◌∷◌, Option, Some, None, ℤ, refl, sym, ap, subst, ◌∙◌}
+use Rattle.std.specs.Prelude.{is_none}
+use Rattle.ft_store.specs.Store.{StoreValue, AreInOrder, DropTable, applied}
 use Rattle.ft_content.specs.declared.fault.Fault.TheVariants as faults
-use Rattle.ft_content.specs.Content.{same_name, names_of, skipped_from}
-use Rattle.ft_content.specs.Command.{Create, Drop}
+use Rattle.ft_content.specs.Content.{same_name}
+use Rattle.ft_content.specs.Command.{Drop}
 use Rattle.ft_content.specs.Views.{KnownTable}
 use Rattle.ft_content.specs.Deserved.{Table, Contents, table_named, first_of, deserved}
 use Rattle.ft_content.specs.Step.{dropped, after}
 use Rattle.ft_index.specs.Found.{known_named}
-use Rattle.ft_index.specs.Kept.{AreHeld, StoreHolds, PlansFrom, told_table}
+use Rattle.ft_index.specs.Kept.{AreHeld, StoreHolds, PlansFrom}
 use Rattle.ft_index.proofs.OneTable.{one_named, ids_sorted}
 use Rattle.ft_index.proofs.TableChanges.{drop_spares, drops_one}
-use Rattle.ft_index.proofs.KnownLemmas.{told_named, none_named, some_named}
+use Rattle.ft_index.proofs.KnownLemmas.{none_named, some_named}
 
 -- ---- Drop
 

@@ -6,3 +6,4 @@ pub mod Walked
 pub mod Found
 pub mod Planned
 pub mod Placed
+pub mod Changed

@@ -1,5 +1,5 @@
 -- Plans over the tables that are told.
-use Rattle.std.specs.Prelude.{◌≡◌, ◌⊎◌, ℕ, Bool, List, map, option_map, Option, Some, None, Result, Ok, Err, pos, is_some, string_bytes, String, Vec, IsTrue}
+use Rattle.std.specs.Prelude.{◌≡◌, ◌⊎◌, ℕ, Bool, List, map, Option, Some, None, Result, Ok, Err, pos, is_some, string_bytes, Vec, IsTrue}
 use Rattle.std.specs.declared.alloc.Global.{Global}
 use Rattle.ft_store.specs.declared.rows.RowChange.{RowChange}
 use Rattle.ft_store.specs.Store.{StoreValue, AreInOrder, Change}

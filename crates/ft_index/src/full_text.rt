@@ -1,6 +1,7 @@
 // Full-text tables over a store.
-use ft_content::{Command, Fault, Reply, TableInfo};
-use ft_store::{Store, StoreFault};
+use crate::change::change_rows;
+use ft_content::{Fault, TableInfo};
+use ft_store::{RowChange, Store, StoreFault};
 use sqlite::Alter;
 use std::alloc::Global;
 use std::marker::Model;
@@ -39,8 +40,34 @@ pub struct NewFault<S: Alter> {
 }
 
 impl<S: Alter> FullText<S> {
-    ghost use Rattle.std.specs.Prelude.{◌≡◌};
-    ghost use Rattle.ft_index.specs.Kept.{KeptByCalls, NoneGetsUnsound, NamesStayApart};
+    ghost use Rattle.std.specs.Prelude.{◌≡◌, map, string_bytes, is_ok, IfOk};
+    ghost use Rattle.ft_content.specs.Views.{known_info};
+    ghost use Rattle.ft_index.specs.Kept.{IsUp, value_of, OnlyLooks, Notes, KeptByCalls, NoneGetsUnsound, NamesStayApart};
+
+    /// The tables by rising id, each with its mark.
+    pub fn tables(&self) -> &[TableInfo]
+        ensures { map known_info result.now ≡ self.now.tables }
+    {
+        self.tables.as_slice()
+    }
+
+    /// Notes a name, in its latest spelling.
+    pub fn note(&mut self, name: &str) -> Result<(), Fault>
+        ensures noted { Notes S.Store self.old name.now (is_ok result) self.new }
+    {
+        let mut changes = Vec::new(self.alloc);
+        changes.push(RowChange::Note(String::from_str(self.alloc, name)?))?;
+        change_rows(&mut self.store, changes.as_slice())
+    }
+
+    /// The noted names, in the order of their small letters.
+    pub fn noted(&mut self) -> Result<Vec<String>, Fault>
+        ensures names { IsUp S.Store self.new → IfOk result (λ names. map string_bytes names.items ≡ map (λ n. n.1) (value_of S.Store self.old).noted) }
+        ensures looks { OnlyLooks S.Store self.old self.new }
+    {
+        let names = self.store.noted()?;
+        Ok(names)
+    }
 
     /// The store as it stands.
     pub fn into_store(self) -> Store<S>

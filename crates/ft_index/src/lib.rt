@@ -1,6 +1,7 @@
 //! Full-text tables over a store, with an index that is always the one made from scratch.
 #![tactic(auto)]
 
+mod change;
 mod doc_lists;
 mod full_text;
 mod names;

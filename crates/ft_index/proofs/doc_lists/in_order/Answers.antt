@@ -1,8 +1,7 @@
 -- a sort only moves places
-use Rattle.std.proofs.Common.{◌≡◌, List, map, sym, subst, IsPermutation, rules}
+use Rattle.std.proofs.Common.{List, subst, IsPermutation}
 use Rattle.std.proofs.lemmas.List.Sorted.{IsPermutation-refl}
 use Rattle.ft_index.specs.declared.doc_lists.Placed.{Placed}
-use Rattle.ft_index.specs.Placed.{placed_at}
 use Rattle.ft_index.proofs.doc_lists.in_order.Goals as goal
 use Rattle.ft_index.proofs.doc_lists.in_order.Goals.{then-not-is_sorted+in_ok-sort, else-not-is_sorted}
 

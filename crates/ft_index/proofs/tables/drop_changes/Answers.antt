@@ -1,5 +1,5 @@
 -- the table of the name is the one that goes
-use Rattle.std.proofs.Common.{◌≡◌, ◌∷◌, [], List, ◌++◌, Some, None, Ok, Result, refl, sym, ap, subst, ◌∙◌, map, true, false, rules, ℤ, FitsSigned, w64, to_z, of_z, to_z-of_z, Vec, Global}
+use Rattle.std.proofs.Common.{◌≡◌, ◌∷◌, [], List, ◌++◌, Ok, refl, sym, ap, subst, ◌∙◌, map, rules, FitsSigned, w64, to_z, of_z, to_z-of_z, Vec, Global}
 use Rattle.std.specs.Prelude.{slice_index_or}
 use Rattle.ft_store.specs.Changes.{shown_change}
 use Rattle.ft_store.specs.Store.{Change, DropTable}

@@ -1,13 +1,11 @@
 -- the names of the tables are those of the contents
-use Rattle.std.proofs.Common.{◌≡◌, inl, inr, refl, sym, ap, subst, ◌∙◌, map, string_bytes, true, None, Some, FitsSigned, w64, to_z-of_z, rules}
-use Rattle.std.specs.Prelude.{is_some, position}
-use Rattle.ft_content.specs.declared.table.TableInfo.{TableInfo}
+use Rattle.std.proofs.Common.{inr, refl, sym, ap, ◌∙◌, map, string_bytes, None, Some, FitsSigned, w64, to_z-of_z, rules}
+use Rattle.std.specs.Prelude.{is_some}
 use Rattle.ft_content.specs.Content.{same_name}
 use Rattle.ft_content.specs.Deserved.{create_fault}
 use Rattle.ft_content.specs.Step.{made_column}
 use Rattle.ft_content.specs.Views.{KnownTable, known_info, option_of}
 use Rattle.ft_index.specs.Found.{known_named}
-use Rattle.ft_index.specs.Kept.{told_table}
 use Rattle.ft_index.proofs.FoundLemmas.{found_is, unplaced, not_some}
 use Rattle.ft_index.proofs.KnownLemmas.{same_names, same_ids, create_due, is_named, none_named}
 use Rattle.ft_index.proofs.tables.made_table.Goals as goal

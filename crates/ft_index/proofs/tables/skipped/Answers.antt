@@ -1,5 +1,5 @@
 -- one column more
-use Rattle.std.proofs.Common.{◌≡◌, ℕ, ℤ, ◌+◌, ◌<◌, ◌^◌, ◌++◌, List, [], ◌∷◌, map, length, take, cond, pos, refl, sym, ap, ◌∙◌, arith, true, false, not, Bool, rules, to_z, w64, Vec, Global}
+use Rattle.std.proofs.Common.{◌≡◌, ℤ, ◌+◌, ◌<◌, ◌++◌, List, [], ◌∷◌, map, length, take, cond, pos, sym, ap, ◌∙◌, arith, rules, to_z, w64, Vec, Global}
 use Rattle.std.proofs.lemmas.List.{map-append, take_more, length-map}
 use Rattle.std.proofs.lemmas.List.{length-take-le}
 use Rattle.ft_content.specs.declared.table.Column.{Column}

@@ -1,0 +1,30 @@
+-- a note changes no table
+use Rattle.std.proofs.Common.{◌≡◌, ◌∷◌, [], List, map, subst, refl, rules}
+use Rattle.std.specs.Prelude.{is_ok}
+use Rattle.ft_store.specs.Store.{Change, Note}
+use Rattle.ft_store.specs.Changes.{shown_change}
+use Rattle.ft_content.specs.Views.{known_info}
+use Rattle.ft_index.specs.Kept.{Notes}
+use Rattle.ft_index.specs.Changed.{Changed, with_tables}
+use Rattle.ft_index.proofs.Changing.{note_upheld}
+use Rattle.ft_index.proofs.full_text.FullText.note.Goals as goal
+
+pub invariant_of-self : goal.invariant_of-self
+invariant_of-self g c =
+    let same : map shown_change c.as_slice.result.now ≡ Note c.args.name.now ∷ [] = search rules in
+    note_upheld g.S.Store c.self.inside.store c.change_rows.new.store (map known_info c.self.inside.tables.items) c.args.name.now (is_ok c.change_rows.result)
+    (subst (λ (cs : List Change). Changed g.S.Store c.self.inside.store c.change_rows.new.store cs (is_ok c.change_rows.result)) same c.change_rows.ensures.changed)
+    c.self.invariant
+
+pub returns : goal.returns
+returns g c =
+    let tables = map known_info c.self.inside.tables.items in
+    let same : map shown_change c.as_slice.result.now ≡ Note c.args.name.now ∷ [] = search rules in
+    let changed = subst (λ (cs : List Change). Changed g.S.Store c.self.inside.store c.change_rows.new.store cs (is_ok c.change_rows.result)) same c.change_rows.ensures.changed in
+    record {
+      noted = subst (λ k. Notes g.S.Store k c.args.name.now (is_ok c.change_rows.result) (with_tables c.change_rows.new.store tables)) c.self.view_is (record {
+        was_up = λ up. changed.was_up tables tables up;
+        noted = λ up. changed.value tables up;
+        tables = refl;
+      });
+    }
