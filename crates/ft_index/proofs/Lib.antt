@@ -11,3 +11,4 @@ pub mod KnownLemmas
 pub mod TablePlans
 pub mod PlacedLemmas
 pub mod Changing
+pub mod ToldLemmas

@@ -1,6 +1,7 @@
 -- The table of a name among those that are told.
-use Rattle.std.specs.Prelude.{◌≡◌, ◌⊎◌, ℕ, List, Option, Some, None, slice_get, IsTrue, false}
+use Rattle.std.specs.Prelude.{◌≡◌, ◌⊎◌, ℕ, ℤ, not, cond, filter, List, [], ◌∷◌, Option, Some, None, slice_get, IsTrue, false}
 use Rattle.std.specs.List.{find}
+use Rattle.std.specs.Ordering.{int_cmp, int_eq, is_lt}
 use Rattle.ft_content.specs.declared.fault.Fault.{Fault}
 use Rattle.ft_content.specs.declared.fault.Fault.TheVariants as faults
 use Rattle.ft_content.specs.Content.{same_name}
@@ -21,3 +22,12 @@ abbrev pub IsUnfit : List KnownTable → List ℕ → Fault → Type 0
 IsUnfit tables name fault =
     ((fault ≡ faults.NoSuchTable) × (known_named tables name ≡ None))
     ⊎ ((fault ≡ faults.Unsound) × ((table : KnownTable) × (known_named tables name ≡ Some table) × (table.sound ≡ false)))
+
+-- the tables with one more, in its place by its id
+abbrev pub with_told : KnownTable → List KnownTable → List KnownTable
+with_told table [] = table ∷ []
+with_told table (t ∷ ts) = cond (is_lt (int_cmp table.id t.id)) (table ∷ t ∷ ts) (t ∷ with_told table ts)
+
+-- the tables without the one of an id
+abbrev pub without_told : ℤ → List KnownTable → List KnownTable
+without_told id tables = filter (λ (t : KnownTable). not (int_eq id t.id)) tables

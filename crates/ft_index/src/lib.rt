@@ -6,6 +6,7 @@ mod doc_lists;
 mod full_text;
 mod names;
 mod tables;
+mod told;
 
 pub use ft_content::{Column, Command, Fault, Filter, Grid, Item, Items, Reply, TableInfo, Value};
 pub use full_text::{FullText, NewFault};

@@ -1,0 +1,42 @@
+// The list of tables that is kept beside a store.
+ghost use Rattle.std.specs.Prelude.{◌≡◌, ◌<◌, ◌≤◌, map, length, is_ok, cond, vec_len, IfOk, remove, OnErr};
+ghost use Rattle.std.specs.List.{insert};
+ghost use Rattle.ft_content.specs.Views.{KnownTable, known_info};
+ghost use Rattle.ft_index.specs.Found.{with_told, without_told};
+
+use ft_content::TableInfo;
+use std::alloc::AllocError;
+
+// Where a table of this id stands among the others.
+fn place_for(tables: &[TableInfo], id: i64) -> usize
+    ensures within { result ≤ length tables.now }
+    ensures place { (table : KnownTable) → table.id ≡ id → with_told table (map known_info tables.now) ≡ insert (map known_info tables.now) result table }
+{
+    for (place, table) in tables.iter().enumerate() {
+        if id < table.id {
+            return place;
+        }
+    }
+    tables.len()
+}
+
+/// Adds a table in its place by its id, which is answered.
+pub(crate) fn insert_table(
+    tables: &mut Vec<TableInfo>,
+    table: TableInfo,
+) -> Result<usize, AllocError>
+    ensures added { IfOk result (λ _. map known_info tables.new.items ≡ with_told (known_info table) (map known_info tables.old.items)) }
+    ensures back { IfOk result (λ place. (place < vec_len tables.new) × (remove tables.new.items place ≡ tables.old.items)) }
+    ensures err { OnErr result (tables.new.items ≡ tables.old.items) }
+{
+    let place = place_for(tables.as_slice(), table.id);
+    tables.insert(place, table)?;
+    Ok(place)
+}
+
+/// Takes the table of an id out.
+pub(crate) fn remove_table(tables: &mut Vec<TableInfo>, id: i64)
+    ensures { map known_info tables.new.items ≡ without_told id (map known_info tables.old.items) }
+{
+    tables.retain(|table| table.id != id);
+}
