@@ -9,6 +9,7 @@ pub mod Lists
 pub mod ColumnLemmas
 pub mod TableLemmas
 pub mod GivenLemmas
+pub mod AnswerLemmas
 pub mod DocidLemmas
 pub mod NameLemmas
 pub mod PlainLemmas

@@ -10,6 +10,7 @@ ghost use Rattle.ft_content.specs.Views.{option_of, column_of, table_names, tabl
 use crate::fault::Fault;
 use crate::names::{are_names, has_name, is_name, names_clash, same_name};
 use crate::table::{Column, TableInfo};
+use crate::tables::has_table;
 use std::alloc::{AllocError, Global};
 
 /// The names of the columns that a Create makes: those given, or `content` where there are none.
@@ -131,15 +132,6 @@ fn create_tests(
         return Some(Fault::NoSuchColumn);
     }
     None
-}
-
-// Whether a table of this name is there.
-fn has_table(tables: &[TableInfo], name: &str) -> bool
-    ensures { result ≡ list_any (λ n. content.same_name n name.now) (info_names tables.now) }
-{
-    tables
-        .iter()
-        .any(|table| same_name(table.name.as_str(), name))
 }
 
 /// The fault of a Create of a table with columns of these names, if it deserves one. The tables are those that are
