@@ -11,6 +11,7 @@ pub mod TableLemmas
 pub mod GivenLemmas
 pub mod AnswerLemmas
 pub mod DocidLemmas
+pub mod LastLemmas
 pub mod NameLemmas
 pub mod PlainLemmas
 pub mod InsertLemmas

@@ -1,5 +1,7 @@
 // Docids that rows and Updates give.
-ghost use Rattle.std.specs.Prelude.{◌≡◌, ℤ, List, slice_get, IfSome};
+ghost use Rattle.std.specs.Prelude.{◌≡◌, ℤ, List, slice_get, IfSome, IsTrue};
+ghost use Rattle.std.specs.Ordering.{int_cmp};
+ghost use Rattle.std.specs.FinMap.Entries.{put, is_sorted};
 ghost use Rattle.ft_store.specs.Store.{Cell};
 ghost use Rattle.ft_content.specs.Content.{Documents};
 ghost use Rattle.ft_content.specs.Deserved as deserved;
@@ -43,9 +45,20 @@ pub fn docid_for_row(last: Option<i64>, given: Option<i64>, is_taken: bool) -> R
     }
 }
 
-/// The fault of an Update that chooses the documents of these docids and sets one, if it deserves a fault. The docid that
-/// is set may be taken by a document of the table.
-pub fn move_fault(chosen: &[i64], docid: i64, is_taken: bool) -> Option<Fault>
+/// The fault of an Update that chooses the documents of these docids and may set one, if it deserves a fault. The docid
+/// that is set may be taken by a document of the table.
+pub fn moves_fault(chosen: &[i64], given: Option<i64>, is_taken: bool) -> Option<Fault>
+    ensures { (documents picked : Documents) (docids : List ℤ) → step.docids_of picked ≡ chosen.now → slice_get docids 0 ≡ given →
+        IfSome given (λ docid. deserved.has_docid documents docid ≡ is_taken) → result ≡ deserved.moves_fault documents picked docids }
+{
+    match given {
+        None => None,
+        Some(docid) => move_fault(chosen, docid, is_taken),
+    }
+}
+
+// The same where this docid is set.
+fn move_fault(chosen: &[i64], docid: i64, is_taken: bool) -> Option<Fault>
     ensures { (documents picked : Documents) → step.docids_of picked ≡ chosen.now → deserved.has_docid documents docid ≡ is_taken →
         result ≡ deserved.move_fault documents picked docid }
 {
@@ -59,5 +72,16 @@ pub fn move_fault(chosen: &[i64], docid: i64, is_taken: bool) -> Option<Fault>
             }
         }
         _ => Some(Fault::DocidTaken(docid)),
+    }
+}
+
+/// The last docid of documents after one is put under this docid, where the other was the last.
+pub fn last_docid_after(last: Option<i64>, docid: i64) -> i64
+    ensures { (documents : Documents) (cells : List Cell) → IsTrue (is_sorted int_cmp documents) → last_docid documents ≡ last →
+        last_docid (put int_cmp docid cells documents) ≡ Some result }
+{
+    match last {
+        None => docid,
+        Some(last) => { if docid > last { docid } else { last } }
     }
 }
