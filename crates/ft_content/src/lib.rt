@@ -21,7 +21,7 @@ mod word;
 
 pub use columns::{column_place, has_column, names_unknown};
 pub use command::{Command, Filter, Grid, Item, Items, Reply};
-pub use create::{create_fault, free_id, made_columns, made_names};
+pub use create::{create_fault, free_id, made_columns, made_names, place_of_id};
 pub use docid::{docid_for_row, last_docid_after, moves_fault, next_docid};
 pub use fault::Fault;
 pub use ft_store::Value;
