@@ -9,7 +9,9 @@ pub mod Lists
 pub mod ColumnLemmas
 pub mod TableLemmas
 pub mod GivenLemmas
+pub mod AnswerLemmas
 pub mod DocidLemmas
+pub mod LastLemmas
 pub mod NameLemmas
 pub mod PlainLemmas
 pub mod InsertLemmas

@@ -1,6 +1,8 @@
 -- Commands, replies and tables as the definitions see them.
 use Rattle.std.specs.Prelude.{ℕ, ℤ, Bool, List, [], ◌∷◌, map, Option, Some, None, option_map, Result, Ok, Err, string_bytes, String, Vec}
 use Rattle.std.specs.declared.alloc.Global.{Global}
+use Rattle.std.specs.Ordering.{int_cmp}
+use Rattle.std.specs.FinMap.Entries.{put}
 use Rattle.ft_store.specs.declared.rows.Value.{Value}
 use Rattle.ft_store.specs.Store.{Cell}
 use Rattle.ft_store.specs.Changes.{shown_value}
@@ -94,6 +96,11 @@ abbrev pub last_docid : content.Documents → Option ℤ
 last_docid [] = None
 last_docid (d ∷ []) = Some d.0
 last_docid (d ∷ e ∷ documents) = last_docid (e ∷ documents)
+
+-- the documents with a new one under the docid that was found for it
+abbrev pub placed : content.Documents → List Cell → Result ℤ Fault → Result content.Documents Fault
+placed documents cells (Ok docid) = Ok (put int_cmp docid cells documents)
+placed documents cells (Err fault) = Err fault
 
 -- the names and the ids of tables
 abbrev pub table_names : Contents → List (List ℕ)

@@ -1,15 +1,18 @@
 // What a Create makes, and the tests that refuse it.
-ghost use Rattle.std.specs.Prelude.{◌≡◌, ◌-◌, ◌^◌, ◌<◌, ◌&&◌, ◌||◌, not, pos, map, length, codes, string_bytes, IfOk};
+ghost use Rattle.std.specs.Prelude.{◌≡◌, ◌-◌, ◌^◌, ◌<◌, ◌≤◌, ◌&&◌, ◌||◌, false, not, pos, map, length, insert, codes, string_bytes, IfOk, IsTrue};
 ghost use Rattle.std.specs.List.{list_any};
+ghost use Rattle.std.specs.Ordering.{int_cmp, int_eq};
+ghost use Rattle.std.specs.FinMap.Entries.{put, is_sorted};
 ghost use Rattle.ft_content.specs.Content as content;
 ghost use Rattle.ft_content.specs.Deserved as deserved;
-ghost use Rattle.ft_content.specs.Deserved.{Contents};
+ghost use Rattle.ft_content.specs.Deserved.{Contents, Table};
 ghost use Rattle.ft_content.specs.Step as step;
 ghost use Rattle.ft_content.specs.Views.{option_of, column_of, table_names, table_ids, info_names, info_ids};
 
 use crate::fault::Fault;
 use crate::names::{are_names, has_name, is_name, names_clash, same_name};
 use crate::table::{Column, TableInfo};
+use crate::tables::has_table;
 use std::alloc::{AllocError, Global};
 
 /// The names of the columns that a Create makes: those given, or `content` where there are none.
@@ -133,15 +136,6 @@ fn create_tests(
     None
 }
 
-// Whether a table of this name is there.
-fn has_table(tables: &[TableInfo], name: &str) -> bool
-    ensures { result ≡ list_any (λ n. content.same_name n name.now) (info_names tables.now) }
-{
-    tables
-        .iter()
-        .any(|table| same_name(table.name.as_str(), name))
-}
-
 /// The fault of a Create of a table with columns of these names, if it deserves one. The tables are those that are
 /// there.
 pub fn create_fault(
@@ -170,7 +164,8 @@ pub fn create_fault(
 /// The least positive id that none of these tables has, which stand by rising id.
 pub fn free_id(tables: &[TableInfo]) -> i64
     requires { length tables.now < 2 ^ 63 - 1 }
-    ensures { (contents : Contents) → table_ids contents ≡ info_ids tables.now → result ≡ pos (step.free_id_from 1 contents) }
+    ensures id { (contents : Contents) → table_ids contents ≡ info_ids tables.now → result ≡ pos (step.free_id_from 1 contents) }
+    ensures free { (contents : Contents) → table_ids contents ≡ info_ids tables.now → IsTrue (is_sorted int_cmp contents) → list_any (int_eq result) (info_ids tables.now) ≡ false }
 {
     let mut id = 1;
     for table in tables {
@@ -179,4 +174,18 @@ pub fn free_id(tables: &[TableInfo]) -> i64
         }
     }
     id
+}
+
+/// Where a table goes among these, which stand by rising id, if its id is none of theirs.
+pub fn place_of_id(tables: &[TableInfo], id: i64) -> usize
+    ensures within { result ≤ length tables.now }
+    ensures place { (contents : Contents) (table : Table) → table_ids contents ≡ info_ids tables.now → list_any (int_eq id) (info_ids tables.now) ≡ false →
+        put int_cmp id table contents ≡ insert contents result (id, table) }
+{
+    for (place, table) in tables.iter().enumerate() {
+        if id < table.id {
+            return place;
+        }
+    }
+    tables.len()
 }

@@ -4,9 +4,8 @@ ghost use Rattle.std.specs.List.{list_any, list_all};
 ghost use Rattle.ft_store.specs.Changes.{shown_value};
 ghost use Rattle.ft_store.specs.Store as store;
 ghost use Rattle.ft_content.specs.Content as content;
-ghost use Rattle.ft_content.specs.Content.{Documents};
 ghost use Rattle.ft_content.specs.Deserved as deserved;
-ghost use Rattle.ft_content.specs.Views.{bare_content, cells_of, column_of, last_docid};
+ghost use Rattle.ft_content.specs.Views.{bare_content, cells_of, column_of};
 
 use crate::columns::has_column;
 use crate::fault::Fault;
@@ -207,15 +206,4 @@ pub fn new_cells(
         cells.push(cell_under(alloc, names, row, column)?)?;
     }
     Ok(cells)
-}
-
-/// The docid of a document that is given none, where this is the last one's: one more, or 1 where there is no document.
-/// There is none behind the largest of all.
-pub fn next_docid(last: Option<i64>) -> Option<i64>
-    ensures { (documents : Documents) → last_docid documents ≡ last → result ≡ deserved.next_docid documents }
-{
-    match last {
-        None => Some(1),
-        Some(docid) => docid.checked_add(1),
-    }
 }

@@ -4,6 +4,7 @@
 mod columns;
 mod command;
 mod create;
+mod docid;
 mod fault;
 mod insert;
 mod laws;
@@ -13,16 +14,18 @@ mod plain;
 mod query;
 mod select;
 mod table;
+mod tables;
 mod update;
 mod value;
 mod word;
 
 pub use columns::{column_place, has_column, names_unknown};
 pub use command::{Command, Filter, Grid, Item, Items, Reply};
-pub use create::{create_fault, free_id, made_columns, made_names};
+pub use create::{create_fault, free_id, made_columns, made_names, place_of_id};
+pub use docid::{docid_for_row, last_docid_after, moves_fault, next_docid};
 pub use fault::Fault;
 pub use ft_store::Value;
-pub use insert::{insert_tests, listed_names, new_cells, next_docid, row_docid};
+pub use insert::{insert_tests, listed_names, new_cells, row_docid};
 pub use laws::{
     commands_keep_contents, index_by_document, lists_mean_documents, rows_hold_one_content,
 };
@@ -32,6 +35,7 @@ pub use plain::PlainTables;
 pub use query::read_query;
 pub use select::{answer_names, asks_offsets, count_rows, delete_tests, item_row, select_tests};
 pub use table::{Column, TableInfo};
+pub use tables::table_place;
 pub use update::{repeats_set, set_docid, update_tests, with_values};
 pub use value::copied_value;
 pub use word::SearchWord;

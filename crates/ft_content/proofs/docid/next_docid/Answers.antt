@@ -5,7 +5,7 @@ use Rattle.std.specs.Prelude.{◌+ℤ◌, FitsSigned}
 use Rattle.std.specs.Option.{SomeIff}
 use Rattle.std.specs.Int.{w64}
 use Rattle.ft_content.proofs.DocidLemmas.{next_after, next_is, stepped}
-use Rattle.ft_content.proofs.insert.next_docid.Goals as goal
+use Rattle.ft_content.proofs.docid.next_docid.Goals as goal
 
 pub returns-in-None : goal.returns-in-None
 returns-in-None c = λ documents same. sym (next_is documents ∙ ap next_after (same ∙ c.in-None.is))

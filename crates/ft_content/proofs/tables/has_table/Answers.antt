@@ -5,7 +5,7 @@ use Rattle.std.proofs.lemmas.Iterator.Search.{any_from_yields_List}
 use Rattle.ft_content.specs.Content.{same_name}
 use Rattle.ft_content.specs.declared.table.TableInfo.{TableInfo}
 use Rattle.ft_content.proofs.Lists.{any_of_map}
-use Rattle.ft_content.proofs.create.has_table.Goals as goal
+use Rattle.ft_content.proofs.tables.has_table.Goals as goal
 
 pub returns : goal.returns
 returns c =

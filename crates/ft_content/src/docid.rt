@@ -1,0 +1,87 @@
+// Docids that rows and Updates give.
+ghost use Rattle.std.specs.Prelude.{◌≡◌, ℤ, List, slice_get, IfSome, IsTrue};
+ghost use Rattle.std.specs.Ordering.{int_cmp};
+ghost use Rattle.std.specs.FinMap.Entries.{put, is_sorted};
+ghost use Rattle.ft_store.specs.Store.{Cell};
+ghost use Rattle.ft_content.specs.Content.{Documents};
+ghost use Rattle.ft_content.specs.Deserved as deserved;
+ghost use Rattle.ft_content.specs.Step as step;
+ghost use Rattle.ft_content.specs.Views.{last_docid, placed};
+
+use crate::fault::Fault;
+
+/// The docid of a document that is given none, where this is the last one's: one more, or 1 where there is no document.
+/// There is none behind the largest of all.
+pub fn next_docid(last: Option<i64>) -> Option<i64>
+    ensures { (documents : Documents) → last_docid documents ≡ last → result ≡ deserved.next_docid documents }
+{
+    match last {
+        None => Some(1),
+        Some(docid) => docid.checked_add(1),
+    }
+}
+
+/// Under which docid a row is put among documents of which this is the last docid. The row may give a docid, which may be
+/// taken.
+///
+/// # Errors
+///
+/// `DocidTaken` where the docid that is given is taken, and `DocidFull` where none is given and none is left.
+pub fn docid_for_row(last: Option<i64>, given: Option<i64>, is_taken: bool) -> Result<i64, Fault>
+    ensures { (documents : Documents) (docids : List ℤ) (cells : List Cell) → last_docid documents ≡ last → slice_get docids 0 ≡ given →
+        IfSome given (λ docid. deserved.has_docid documents docid ≡ is_taken) → deserved.insert_row documents docids cells ≡ placed documents cells result }
+{
+    match given {
+        Some(docid) => {
+            if is_taken {
+                return Err(Fault::DocidTaken(docid));
+            }
+            Ok(docid)
+        }
+        None => match next_docid(last) {
+            Some(docid) => Ok(docid),
+            None => Err(Fault::DocidFull),
+        },
+    }
+}
+
+/// The fault of an Update that chooses the documents of these docids and may set one, if it deserves a fault. The docid
+/// that is set may be taken by a document of the table.
+pub fn moves_fault(chosen: &[i64], given: Option<i64>, is_taken: bool) -> Option<Fault>
+    ensures { (documents picked : Documents) (docids : List ℤ) → step.docids_of picked ≡ chosen.now → slice_get docids 0 ≡ given →
+        IfSome given (λ docid. deserved.has_docid documents docid ≡ is_taken) → result ≡ deserved.moves_fault documents picked docids }
+{
+    match given {
+        None => None,
+        Some(docid) => move_fault(chosen, docid, is_taken),
+    }
+}
+
+// The same where this docid is set.
+fn move_fault(chosen: &[i64], docid: i64, is_taken: bool) -> Option<Fault>
+    ensures { (documents picked : Documents) → step.docids_of picked ≡ chosen.now → deserved.has_docid documents docid ≡ is_taken →
+        result ≡ deserved.move_fault documents picked docid }
+{
+    match chosen {
+        [] => None,
+        [only] => {
+            if is_taken && *only != docid {
+                Some(Fault::DocidTaken(docid))
+            } else {
+                None
+            }
+        }
+        _ => Some(Fault::DocidTaken(docid)),
+    }
+}
+
+/// The last docid of documents after one is put under this docid, where the other was the last.
+pub fn last_docid_after(last: Option<i64>, docid: i64) -> i64
+    ensures { (documents : Documents) (cells : List Cell) → IsTrue (is_sorted int_cmp documents) → last_docid documents ≡ last →
+        last_docid (put int_cmp docid cells documents) ≡ Some result }
+{
+    match last {
+        None => docid,
+        Some(last) => { if docid > last { docid } else { last } }
+    }
+}
