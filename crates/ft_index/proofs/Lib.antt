@@ -4,3 +4,5 @@ pub mod HeldLemmas
 pub mod NameLemmas
 pub mod SoundLemmas
 pub mod PlacedLemmas
+pub mod AskedLemmas
+pub mod WalkedLemmas
