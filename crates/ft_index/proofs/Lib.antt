@@ -6,3 +6,5 @@ pub mod SoundLemmas
 pub mod PlacedLemmas
 pub mod AskedLemmas
 pub mod WalkedLemmas
+pub mod ReadsLemmas
+pub mod TakenLemmas

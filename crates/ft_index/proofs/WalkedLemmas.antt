@@ -26,7 +26,7 @@ use Rattle.ft_content.specs.Meaning.{content_documents, documents_in, entries_in
 use Rattle.ft_content.proofs.MeaningLemmas.{lists_mean_documents, terms_are_their_lists, terms_are_counted, documents_are_in_order}
 use Rattle.ft_index.specs.Placed.{placed_at, AreListsOf}
 use Rattle.ft_index.specs.Tables.{table_index}
-use Rattle.ft_index.specs.Walked.{table_documents, AreReliable}
+use Rattle.ft_index.specs.Walked.{table_documents, AreReliable, IsIndexed}
 use Rattle.ft_index.proofs.AskedLemmas.{placed_row, bare, asked_entries, rows_answer}
 
 means : ListsMeanDocuments
@@ -38,14 +38,17 @@ in_order = documents_are_in_order documents_are
 their_lists : TermsAreTheirLists
 their_lists = terms_are_their_lists postings_rise
 
-pub reliable_means : {S : Type 0} (g : Ghosts S) (tab : ℤ) (store : StoreState S) (h : AreReliable g tab store) → table_documents g tab store ≡ content_documents h.content
+-- what lists of a content's index rows mean
+pub indexed_means : {S : Type 0} (g : Ghosts S) (tab : ℤ) (store : StoreState S) (name : List ℕ) (content : Content) → IsContent name content → table_index tab (value_in g store) ≡ index_rows content → table_documents g tab store ≡ content_documents content
 unfolding table_documents
-reliable_means g tab store h = ap (λ (rows : IndexRows). documents_in rows.lists) h.index ∙ means h.name h.content h.is_content
+indexed_means g tab store name content is index = ap (λ (rows : IndexRows). documents_in rows.lists) index ∙ means name content is
+
+pub reliable_means : {S : Type 0} (g : Ghosts S) (tab : ℤ) (store : StoreState S) (h : AreReliable g tab store) → table_documents g tab store ≡ content_documents h.content
+reliable_means g tab store h = indexed_means g tab store h.name h.content h.is_content h.index
 
 -- the lists of a table whose index rows are those of a content
 pub reliable_of : {S : Type 0} (g : Ghosts S) (tab : ℤ) (store : StoreState S) (name : List ℕ) (content : Content) → HasCleanDisk (shows g store) → IsTrue (shows g store).is_open → IsContent name content →
     table_index tab (value_in g store) ≡ index_rows content → AreReliable g tab store
-unfolding table_documents
 reliable_of g tab store name content clean is_open is index = record {
   clean = clean;
   is_open = is_open;
@@ -53,7 +56,7 @@ reliable_of g tab store name content clean is_open is index = record {
   content = content;
   is_content = is;
   index = index;
-  in_order = subst AreDocuments (sym (ap (λ (rows : IndexRows). documents_in rows.lists) index ∙ means name content is)) (in_order name content is);
+  in_order = subst AreDocuments (sym (indexed_means g tab store name content is index)) (in_order name content is);
 }
 
 module _ {S : Type 0} (g : Ghosts S) (tab : ℤ) (old new : StoreState S) (kept : HasCleanDisk (shows g new) → Keeps (shows g old) (shows g new)) where
@@ -88,3 +91,18 @@ module _ {S : Type 0} (g : Ghosts S) (tab : ℤ) (old new : StoreState S) (kept 
 -- the test of a term
 pub asks_term : (tab : ℤ) (term : List ℕ) (k : ListKey) → (int_eq tab k.0 && is_eq (name_cmp term k.1)) ≡ (int_eq tab k.0 && bytes_eq k.1 term)
 asks_term tab term k = ap (λ b. int_eq tab k.0 && b) ((eq_by_cmp_equiv nat_list_cmp_total).symm term k.1 ∙ is_eq-slice_cmp k.1 term)
+
+-- the lists of a table that was indexed can be relied on after reads
+pub now_reliable : {S : Type 0} (g : Ghosts S) (tab at : ℤ) (old new : StoreState S) (content : Content) → at ≡ tab → (HasCleanDisk (shows g new) → Keeps (shows g old) (shows g new)) → IsIndexed g tab old new content →
+    AreReliable g at new × (table_documents g at new ≡ content_documents content)
+now_reliable g tab at old new content same kept h =
+    let index : table_index at (value_in g new) ≡ index_rows content = (λ i. table_index (same i) (value_of ((kept h.clean h.is_open).0 i).trees)) ∙ h.index in
+    (reliable_of g at new h.name content h.clean h.is_open h.is_content index, indexed_means g at new h.name content h.is_content index)
+
+-- the same, said of equal states
+pub indexed_at : {S : Type 0} {g : Ghosts S} {tab : ℤ} {old last : StoreState S} {content : Content} (at : ℤ) (first new : StoreState S) → IsIndexed g tab old last content → at ≡ tab → first ≡ old → last ≡ new → IsIndexed g at first new content
+indexed_at {S} {g} {tab} {old} {last} {content} at first new h same_tab same_old same_new =
+    subst (λ (s : StoreState S). IsIndexed g at first s content) same_new (subst (λ (s : StoreState S). IsIndexed g at s last content) (sym same_old) (subst (λ t. IsIndexed g t old last content) (sym same_tab) h))
+
+pub rows_at : {S : Type 0} {g : Ghosts S} {tab : ℤ} {old last : StoreState S} {content : Content} {n : ℕ} (new : StoreState S) → IsIndexed g tab old last content → last ≡ new → new.rows_read ≡ n → last.rows_read ≡ n
+rows_at new h same is = ap (λ s. s.rows_read) same ∙ is

@@ -32,3 +32,11 @@ pub record Reads {S : Type 0} (g : Ghosts S) (old : StoreState S) (given : ℕ) 
   pub live : HasCleanDisk (shows g new) → IsTrue all → IsTrue (shows g new).is_open
   pub survives : Survives (shows g old) (shows g new) (λ _. IsTrue (shows g old).is_open → ⊥)
   pub counted : IsTrue all → (n : ℕ) × (new.rows_read ≡ more_rows n old) × (given_now ≡ min (given + n) (2 ^ 64 - 1))
+
+-- The index rows of a table were those of a content, and the store is up as the call ends.
+pub record IsIndexed {S : Type 0} (g : Ghosts S) (tab : ℤ) (old new : StoreState S) (content : Content) : Type 0 where
+  pub clean : HasCleanDisk (shows g new)
+  pub is_open : IsTrue (shows g new).is_open
+  pub name : List ℕ
+  pub is_content : IsContent name content
+  pub index : table_index tab (value_in g old) ≡ index_rows content
