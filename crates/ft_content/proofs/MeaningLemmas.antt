@@ -100,7 +100,7 @@ stored_flat (l ∷ ls) = λ i. stored_entries l.0 l.1 i ++ stored_flat ls i
 
 -- ---- sets of entries
 
-entry_total : IsTotalOrder entry_cmp
+pub entry_total : IsTotalOrder entry_cmp
 entry_total =
     then_total (on_total (λ (e : Entry). e.docid) int_cmp_total)
     (then_total (on_total (λ (e : Entry). e.spot.column) nat_cmp_total)

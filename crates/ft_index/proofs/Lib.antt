@@ -12,3 +12,7 @@ pub mod TablePlans
 pub mod PlacedLemmas
 pub mod Changing
 pub mod ToldLemmas
+pub mod AskedLemmas
+pub mod WalkedLemmas
+pub mod ReadsLemmas
+pub mod TakenLemmas

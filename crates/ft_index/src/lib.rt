@@ -7,6 +7,8 @@ mod full_text;
 mod names;
 mod tables;
 mod told;
+mod matching;
+mod table_lists;
 
 pub use ft_content::{Column, Command, Fault, Filter, Grid, Item, Items, Reply, TableInfo, Value};
 pub use full_text::{FullText, NewFault};

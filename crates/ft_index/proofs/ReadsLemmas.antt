@@ -1,0 +1,65 @@
+-- Reads one after another, as calls of lists.
+use Rattle.std.proofs.Common.{◌≡◌, ◌⊎◌, inl, inr, ℕ, ◌+◌, ◌-◌, ◌^◌, ◌<◌, Bool, true, false, min, refl, sym, ap, subst, ◌∙◌, arith, IsTrue, Result, Ok, Err}
+use Rattle.std.specs.Prelude.{is_ok, OnOk}
+use Rattle.sqlite.specs.State.{State, HasCleanDisk, Survives}
+use Rattle.sqlite.specs.Store.{Ghosts}
+use Rattle.ft_query.specs.Lists.{Reaches, Stays, Goes, Ends}
+use Rattle.ft_store.specs.Calls.{Keeps}
+use Rattle.ft_store.specs.Kept.{StoreState, shows, more_rows}
+use Rattle.ft_store.proofs.ChainLemmas.{kept_then, reads_then}
+use Rattle.ft_index.specs.Walked.{Reads}
+
+-- as many rows more as places were given: none, or some
+abbrev pub Grows : ℕ → ℕ → ℕ → ℕ → Type 0
+Grows rows given rows_now given_now =
+    ((rows_now ≡ rows) × (given_now ≡ given)) ⊎ ((n : ℕ) × (rows_now ≡ min (rows + n) (2 ^ 64 - 1)) × (given_now ≡ min (given + n) (2 ^ 64 - 1)))
+
+grows_then : (r g r' g' r'' g'' n : ℕ) → r' ≡ min (r + n) (2 ^ 64 - 1) → g' ≡ min (g + n) (2 ^ 64 - 1) → Grows r' g' r'' g'' → Grows r g r'' g''
+grows_then r g r' g' r'' g'' n rows given (inl same) = inr (n, same.0 ∙ rows, same.1 ∙ given)
+grows_then r g r' g' r'' g'' n rows given (inr more) = inr (n + more.0, (let h = more.1 in omega arith), (let h = more.2 in omega arith))
+
+-- what reads do, perhaps none
+pub record Read {S : Type 0} (g : Ghosts S) (old : StoreState S) (given : ℕ) (all : Bool) (new : StoreState S) (given_now : ℕ) : Type 0 where
+  pub kept : HasCleanDisk (shows g new) → Keeps (shows g old) (shows g new)
+  pub survives : Survives (shows g old) (shows g new) (λ _. IsTrue (shows g old).is_open → ⊥)
+  pub counted : IsTrue all → Grows old.rows_read given new.rows_read given_now
+
+module _ {X S : Type 0} (g : Ghosts S) (Becomes : X → Bool → X → Type 0) (store : X → StoreState S) (given : X → ℕ) (reads : (x : X) (all : Bool) (y : X) → Becomes x all y → Reads g (store x) (given x) all (store y) (given y)) where
+  none_read : (x : X) (all : Bool) → Read g (store x) (given x) all (store x) (given x)
+  none_read x all = record {
+    kept = λ clean is_open. (refl, refl, is_open);
+    survives = record { clean = omega arith; shield = λ h. h; counts = omega arith; limit = refl; closes = λ clean is_open. inl is_open; crash = λ clean db h. inl h };
+    counted = λ all. inl (refl, refl);
+  }
+
+  pub all_read : (x : X) (all : Bool) (y : X) → Reaches Becomes x all y → Read g (store x) (given x) all (store y) (given y)
+  all_read x all y (Stays z _) = none_read z all
+  all_read x all y (Goes a b d _ step calls) =
+      let one = reads a true b step in
+      let more = all_read b all d calls in
+      let first = shows g (store a) in
+      let middle = shows g (store b) in
+      let last = shows g (store d) in
+      record {
+        kept = λ clean. kept_then first middle last (one.kept (omega (arith, more.survives.clean, clean))) (more.kept clean);
+        survives = reads_then first middle last (λ clean. one.live clean refl) one.survives more.survives;
+        counted = λ whole. (let n = one.counted refl in grows_then (store a).rows_read (given a) (store b).rows_read (given b) (store d).rows_read (given d) n.0 n.1 n.2 (more.counted whole));
+      }
+  all_read x all y (Ends a b step) =
+      let one = reads a false b step in
+      record { kept = one.kept; survives = one.survives; counted = λ whole. absurd (let no = whole in cc) }
+
+  -- what no call changes
+  pub all_same : {A : Type 0} (f : X → A) → ((x : X) (all : Bool) (y : X) → Becomes x all y → f y ≡ f x) → (x : X) (all : Bool) (y : X) → Reaches Becomes x all y → f y ≡ f x
+  all_same f same x all y (Stays z _) = refl
+  all_same f same x all y (Goes a b d _ step calls) = all_same f same b all d calls ∙ same a true b step
+  all_same f same x all y (Ends a b step) = same a false b step
+
+-- the rows of a walk that began with nothing given
+pub rows_of_walk : (rows rows_now given_now n : ℕ) → rows < 2 ^ 64 → Grows rows 0 rows_now given_now → given_now ≡ min (0 + n) (2 ^ 64 - 1) → rows_now ≡ min (rows + n) (2 ^ 64 - 1)
+rows_of_walk rows rows_now given_now n fits (inl same) given = let h = same.0 in let k = same.1 in omega arith
+rows_of_walk rows rows_now given_now n fits (inr more) given = let h = more.1 in let k = more.2 in omega arith
+
+pub on_ok_from : {T E : Type 0} (r : Result T E) (P Q : Type 0) → (IsTrue (is_ok r) → P → Q) → OnOk r P → OnOk r Q
+on_ok_from (Ok x) P Q f h = f refl h
+on_ok_from (Err e) P Q f h = tt

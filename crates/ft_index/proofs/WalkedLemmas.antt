@@ -1,0 +1,108 @@
+-- What lists mean that can be relied on, and what reads leave of them.
+use Rattle.std.proofs.Common.{◌≡◌, ℕ, ℤ, ◌+◌, ◌-◌, ◌^◌, ◌&&◌, Bool, true, false, List, map, min, sym, ap, subst, ◌∙◌, arith, IsTrue, nat_eq}
+use Rattle.std.specs.Prelude.{bytes_eq}
+use Rattle.std.specs.List.{starts_with}
+use Rattle.std.specs.Ordering.{nat_cmp, int_eq, is_eq}
+use Rattle.std.specs.Cmp.{eq_by_cmp_equiv}
+use Rattle.std.specs.Cmp.Lexicographic.{nat_list_cmp_total}
+use Rattle.std.specs.FinMap.Entries.{where_key}
+use Rattle.std.proofs.lemmas.Map.Text.{is_eq-slice_cmp}
+use Rattle.sqlite.specs.State.{State, HasCleanDisk, Survives}
+use Rattle.sqlite.specs.Effect.{Database}
+use Rattle.sqlite.specs.Store.{Ghosts}
+use Rattle.sqlite_keyed.proofs.ListLemmas.{map-map}
+use Rattle.ft_query.specs.Documents.{AreDocuments, PlaceList, lists_with}
+use Rattle.ft_query.proofs.Bridge.{postings_rise}
+use Rattle.ft_query.proofs.BridgeDocuments.{documents_are}
+use Rattle.ft_store.specs.declared.rows.EntryRow.{EntryRow}
+use Rattle.ft_store.specs.Store.{StoreValue, ListKey, list_key_cmp, name_cmp}
+use Rattle.ft_store.specs.Rows.{value_of}
+use Rattle.ft_store.specs.Shown.{shown_entry, entries_of}
+use Rattle.ft_store.specs.Calls.{Keeps}
+use Rattle.ft_store.specs.Kept.{StoreState, shows, value_in}
+use Rattle.ft_content.specs.Content.{Content, IsContent}
+use Rattle.ft_content.specs.Index.{IndexRows, index_rows}
+use Rattle.ft_content.specs.Meaning.{content_documents, documents_in, entries_in, lists_of_terms, ListsMeanDocuments, TermsAreTheirLists, DocumentsAreInOrder}
+use Rattle.ft_content.proofs.MeaningLemmas.{lists_mean_documents, terms_are_their_lists, terms_are_counted, documents_are_in_order}
+use Rattle.ft_index.specs.Placed.{placed_at, AreListsOf}
+use Rattle.ft_index.specs.Tables.{table_index}
+use Rattle.ft_index.specs.Walked.{table_documents, AreReliable, IsIndexed}
+use Rattle.ft_index.proofs.AskedLemmas.{placed_row, bare, asked_entries, rows_answer}
+
+means : ListsMeanDocuments
+means = lists_mean_documents postings_rise
+
+in_order : DocumentsAreInOrder
+in_order = documents_are_in_order documents_are
+
+their_lists : TermsAreTheirLists
+their_lists = terms_are_their_lists postings_rise
+
+-- what lists of a content's index rows mean
+pub indexed_means : {S : Type 0} (g : Ghosts S) (tab : ℤ) (store : StoreState S) (name : List ℕ) (content : Content) → IsContent name content → table_index tab (value_in g store) ≡ index_rows content → table_documents g tab store ≡ content_documents content
+unfolding table_documents
+indexed_means g tab store name content is index = ap (λ (rows : IndexRows). documents_in rows.lists) index ∙ means name content is
+
+pub reliable_means : {S : Type 0} (g : Ghosts S) (tab : ℤ) (store : StoreState S) (h : AreReliable g tab store) → table_documents g tab store ≡ content_documents h.content
+reliable_means g tab store h = indexed_means g tab store h.name h.content h.is_content h.index
+
+-- the lists of a table whose index rows are those of a content
+pub reliable_of : {S : Type 0} (g : Ghosts S) (tab : ℤ) (store : StoreState S) (name : List ℕ) (content : Content) → HasCleanDisk (shows g store) → IsTrue (shows g store).is_open → IsContent name content →
+    table_index tab (value_in g store) ≡ index_rows content → AreReliable g tab store
+reliable_of g tab store name content clean is_open is index = record {
+  clean = clean;
+  is_open = is_open;
+  name = name;
+  content = content;
+  is_content = is;
+  index = index;
+  in_order = subst AreDocuments (sym (indexed_means g tab store name content is index)) (in_order name content is);
+}
+
+module _ {S : Type 0} (g : Ghosts S) (tab : ℤ) (old new : StoreState S) (kept : HasCleanDisk (shows g new) → Keeps (shows g old) (shows g new)) where
+  same_value : AreReliable g tab new → value_in g new ≡ value_in g old
+  same_value h = ap (λ (d : Database). value_of d.trees) (kept h.clean h.is_open).0
+
+  -- reads leave what the lists mean
+  pub still_reliable : Survives (shows g old) (shows g new) (λ _. IsTrue (shows g old).is_open → ⊥) → AreReliable g tab new → AreReliable g tab old × (table_documents g tab new ≡ table_documents g tab old)
+  unfolding table_documents
+  still_reliable survives h =
+      let same = same_value h in (
+        reliable_of g tab old h.name h.content (omega (arith, survives.clean, h.clean)) (kept h.clean h.is_open).2 h.is_content (subst (λ (v : StoreValue). table_index tab v ≡ index_rows h.content) same h.index),
+        ap (λ (v : StoreValue). documents_in (table_index tab v).lists) same,
+      )
+
+  -- the rows of the lists that are asked are what a walk wants
+  pub walk_answer : (asks : ListKey → Bool) (test : List ℕ → Bool) → ((k : ListKey) → asks k ≡ (int_eq tab k.0 && test k.1)) → (rows : List EntryRow) →
+      (HasCleanDisk (shows g new) → map shown_entry rows ≡ entries_of (where_key list_key_cmp asks (value_in g old).lists)) →
+      (found : List PlaceList) → AreListsOf rows found → AreReliable g tab new → found ≡ lists_with test (table_documents g tab new)
+  walk_answer asks test same rows read found shown h =
+      let order = in_order h.name h.content h.is_content in
+      let lists = (index_rows h.content).lists in
+      let are : map placed_at rows ≡ map bare (entries_in (lists_of_terms test lists)) =
+      sym (map-map placed_row shown_entry rows)
+      ∙ ap (map placed_row) (read h.clean)
+      ∙ ap (λ (v : StoreValue). map placed_row (entries_of (where_key list_key_cmp asks v.lists))) (sym (same_value h))
+      ∙ asked_entries tab asks test same (value_in g new).lists
+      ∙ ap (λ (r : IndexRows). map bare (entries_in (lists_of_terms test r.lists))) h.index in
+      rows_answer (content_documents h.content) order test lists (their_lists h.name h.content test h.is_content) (terms_are_counted h.name h.content test h.is_content) rows are found shown
+      ∙ ap (lists_with test) (sym (reliable_means g tab new h))
+
+-- the test of a term
+pub asks_term : (tab : ℤ) (term : List ℕ) (k : ListKey) → (int_eq tab k.0 && is_eq (name_cmp term k.1)) ≡ (int_eq tab k.0 && bytes_eq k.1 term)
+asks_term tab term k = ap (λ b. int_eq tab k.0 && b) ((eq_by_cmp_equiv nat_list_cmp_total).symm term k.1 ∙ is_eq-slice_cmp k.1 term)
+
+-- the lists of a table that was indexed can be relied on after reads
+pub now_reliable : {S : Type 0} (g : Ghosts S) (tab at : ℤ) (old new : StoreState S) (content : Content) → at ≡ tab → (HasCleanDisk (shows g new) → Keeps (shows g old) (shows g new)) → IsIndexed g tab old new content →
+    AreReliable g at new × (table_documents g at new ≡ content_documents content)
+now_reliable g tab at old new content same kept h =
+    let index : table_index at (value_in g new) ≡ index_rows content = (λ i. table_index (same i) (value_of ((kept h.clean h.is_open).0 i).trees)) ∙ h.index in
+    (reliable_of g at new h.name content h.clean h.is_open h.is_content index, indexed_means g at new h.name content h.is_content index)
+
+-- the same, said of equal states
+pub indexed_at : {S : Type 0} {g : Ghosts S} {tab : ℤ} {old last : StoreState S} {content : Content} (at : ℤ) (first new : StoreState S) → IsIndexed g tab old last content → at ≡ tab → first ≡ old → last ≡ new → IsIndexed g at first new content
+indexed_at {S} {g} {tab} {old} {last} {content} at first new h same_tab same_old same_new =
+    subst (λ (s : StoreState S). IsIndexed g at first s content) same_new (subst (λ (s : StoreState S). IsIndexed g at s last content) (sym same_old) (subst (λ t. IsIndexed g t old last content) (sym same_tab) h))
+
+pub rows_at : {S : Type 0} {g : Ghosts S} {tab : ℤ} {old last : StoreState S} {content : Content} {n : ℕ} (new : StoreState S) → IsIndexed g tab old last content → last ≡ new → new.rows_read ≡ n → last.rows_read ≡ n
+rows_at new h same is = ap (λ s. s.rows_read) same ∙ is

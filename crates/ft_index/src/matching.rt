@@ -1,0 +1,99 @@
+// What a MATCH finds in a table's index.
+ghost use Rattle.std.specs.Prelude.{◌≡◌, ◌^◌, ◌<◌, ◌⊎◌, List, map, IsTrue, IfOk, IfErr, OnOk, MatchOption, ⊤, ◌↔◌};
+ghost use Rattle.sqlite.specs.State.{HasCleanDisk, Survives};
+ghost use Rattle.ft_query.specs.Documents.{Document};
+ghost use Rattle.ft_query.specs.Trees.{tree_of};
+ghost use Rattle.ft_query.specs.Work.{entry_count};
+ghost use Rattle.ft_query.specs.Occurs.{plain_hit, hits_of};
+ghost use Rattle.ft_query.specs.Walk.{StandsBefore};
+ghost use Rattle.ft_store.specs.Calls.{Keeps};
+ghost use Rattle.ft_store.specs.Kept.{shows, more_rows};
+ghost use Rattle.ft_content.specs.declared.fault.Fault.TheVariants as faults;
+ghost use Rattle.ft_content.specs.Content.{Content};
+ghost use Rattle.ft_content.specs.Meaning.{content_documents};
+ghost use Rattle.ft_content.specs.Answer.{cut};
+ghost use Rattle.ft_index.specs.Walked.{IsIndexed};
+
+use crate::table_lists::TableLists;
+use ft_content::Fault;
+use ft_query::{Hit, ListFault, Matches, Query};
+use ft_store::Store;
+use sqlite::Alter;
+use std::alloc::{AllocError, Global};
+
+fn is_below(count: usize, most: Option<u64>) -> bool
+    ensures { IsTrue result ↔ MatchOption most ⊤ (λ m. count < m) }
+{
+    match most {
+        Some(most) => (count as u64) < most,
+        None => true,
+    }
+}
+
+/// The hits that are left, or the first ones where there are more than wanted.
+fn taken(alloc: Global, walk: &mut Matches<'_>, most: Option<u64>) -> Result<Vec<Hit>, AllocError>
+    ensures { IfOk result (λ hits. (documents : List Document) → StandsBefore walk.old documents
+        → map plain_hit hits.items ≡ cut most 0 (hits_of (tree_of walk.old.query) documents)) }
+{
+    let mut hits = Vec::new(alloc);
+    while is_below(hits.len(), most) {
+        let Some(hit) = walk.next()? else {
+            break;
+        };
+        hits.push(hit)?;
+    }
+    Ok(hits)
+}
+
+/// Begins a walk over the lists: asks once for each term of the query.
+fn opened<'q, S: Alter>(
+    alloc: Global,
+    query: &'q Query,
+    lists: &mut TableLists<'_, S>,
+) -> Result<Matches<'q>, ListFault>
+    ensures same_reference { lists.new.store.ghost_name ≡ lists.old.store.ghost_name }
+    ensures stands { IfOk result (λ walk. (content : Content) → IsIndexed S.Store lists.old.tab lists.old.store.now lists.new.store.now content
+        → StandsBefore walk (content_documents content)) }
+    ensures query { IfOk result (λ walk. walk.query ≡ query.now) }
+    ensures counted { OnOk result ((content : Content) → IsIndexed S.Store lists.old.tab lists.old.store.now lists.new.store.now content
+        → lists.old.given ≡ 0 → lists.old.store.now.rows_read < 2 ^ 64
+        → lists.new.store.now.rows_read ≡ more_rows (entry_count (tree_of query.now) (content_documents content)) lists.old.store.now) }
+    ensures kept { HasCleanDisk (shows S.Store lists.new.store.now) → Keeps (shows S.Store lists.old.store.now) (shows S.Store lists.new.store.now) }
+    ensures survives { Survives (shows S.Store lists.old.store.now) (shows S.Store lists.new.store.now) (λ _. IsTrue (shows S.Store lists.old.store.now).is_open → ⊥) }
+{
+    Matches::open(alloc, query, lists)
+}
+
+fn fault_of(fault: ListFault) -> Fault
+    ensures { (result ≡ faults.Store) ⊎ (result ≡ faults.Memory) }
+{
+    match fault {
+        ListFault::Failed => Fault::Store,
+        ListFault::Memory => Fault::Memory,
+    }
+}
+
+/// The documents that a query finds by the lists of a table's index, the first ones where a number is given, each with its offsets. One
+/// read for each term of the query. The store is only read, whatever is answered.
+pub(crate) fn hits<S: Alter>(
+    store: &mut Store<S>,
+    alloc: Global,
+    tab: i64,
+    query: &Query,
+    most: Option<u64>,
+) -> Result<Vec<Hit>, Fault>
+    ensures found { IfOk result (λ hits. (content : Content) → IsIndexed S.Store tab store.old store.new content
+        → map plain_hit hits.items ≡ cut most 0 (hits_of (tree_of query.now) (content_documents content))) }
+    ensures counted { OnOk result ((content : Content) → IsIndexed S.Store tab store.old store.new content
+        → store.new.rows_read ≡ more_rows (entry_count (tree_of query.now) (content_documents content)) store.old) }
+    ensures faults { IfErr result (λ fault. (fault ≡ faults.Store) ⊎ (fault ≡ faults.Memory)) }
+    ensures kept { HasCleanDisk (shows S.Store store.new) → Keeps (shows S.Store store.old) (shows S.Store store.new) }
+    ensures survives { Survives (shows S.Store store.old) (shows S.Store store.new) (λ _. IsTrue (shows S.Store store.old).is_open → ⊥) }
+{
+    let _read = store.rows_read();
+    let mut lists = TableLists::new(store, tab);
+    match opened(alloc, query, &mut lists) {
+        Ok(mut walk) => Ok(taken(alloc, &mut walk, most)?),
+        Err(fault) => Err(fault_of(fault)),
+    }
+}

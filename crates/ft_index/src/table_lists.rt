@@ -1,0 +1,99 @@
+// The posting lists of one table.
+ghost use Rattle.std.specs.Prelude.{◌≡◌, ◌+◌, ◌-◌, ◌^◌, ◌||◌, false, min, length, map, Err, IfOk, OnOk, OnErr};
+ghost use Rattle.ft_query.specs.Documents.{plain_list};
+ghost use Rattle.ft_query.specs.Lists.{is_failed};
+ghost use Rattle.ft_index.specs.Placed.{AreListsOf};
+
+use crate::doc_lists::doc_lists;
+use ft_query::{DocList, ListFault, Lists};
+use ft_store::{EntryRow, Store, StoreFault};
+use sqlite::Alter;
+use std::alloc::{AllocError, Global};
+
+/// The posting lists of one table of a store, as a walk asks for them: one read for each term.
+#[derive(Drop)]
+pub(crate) struct TableLists<'s, S: Alter> {
+    store: &'s mut Store<S>,
+    tab: i64,
+    has_failed: bool,
+    given: u64,
+}
+
+impl<'s, S: Alter> TableLists<'s, S> {
+    pub(crate) fn new(store: &'s mut Store<S>, tab: i64) -> TableLists<'s, S>
+        ensures same_reference { result.store.ghost_name ≡ store.entry.ghost_name }
+        ensures same_store { result.store.now ≡ store.old }
+        ensures table { result.tab ≡ tab }
+        ensures given { (result.has_failed ≡ false) × (result.given ≡ 0) }
+    {
+        TableLists {
+            store,
+            tab,
+            has_failed: false,
+            given: 0,
+        }
+    }
+
+    /// The lists of rows that were read.
+    fn answered(&mut self, alloc: Global, rows: &[EntryRow]) -> Result<Vec<DocList>, AllocError>
+        ensures lists { IfOk result (λ lists. AreListsOf rows.now (map plain_list lists.items)) }
+        ensures counted { OnOk result (self.new ≡ record self.old { given = min (self.old.given + length rows.now) (2 ^ 64 - 1) }) }
+        ensures err { OnErr result (self.new ≡ self.old) }
+    {
+        let lists = doc_lists(alloc, rows)?;
+        self.given = self.given.saturating_add(rows.len() as u64);
+        Ok(lists)
+    }
+
+    /// Notes that a read was refused.
+    fn refused(&mut self, fault: StoreFault) -> ListFault
+        ensures { self.new ≡ record self.old { has_failed = self.old.has_failed || is_failed {X = Unit {0}} (Err result) } }
+    {
+        match fault {
+            StoreFault::Memory => ListFault::Memory,
+            _ => {
+                self.has_failed = true;
+                ListFault::Failed
+            }
+        }
+    }
+}
+
+impl<'s, S: Alter> Lists for TableLists<'s, S> {
+    ghost use Rattle.std.specs.Prelude.{◌≡◌};
+    ghost use Rattle.ft_index.specs.Walked.{table_documents, AreReliable, Reads};
+
+    ghost documents = { λ l. table_documents S.Store l.tab l.store.now };
+
+    ghost is_clean = { λ l. AreReliable S.Store l.tab l.store.now };
+
+    ghost has_failed = { λ l. l.has_failed };
+
+    ghost given_so_far = { λ l. l.given };
+
+    ghost becomes = { λ old is_answered new. (new.store.ghost_name ≡ old.store.ghost_name) × (new.tab ≡ old.tab) × Reads S.Store old.store.now old.given is_answered new.store.now new.given };
+
+    ghost in_order = { λ l reliable. reliable.in_order };
+
+    fn word(&mut self, alloc: Global, term: &str) -> Result<Vec<DocList>, ListFault> {
+        match self.store.term(self.tab, term) {
+            Ok(rows) => Ok(self.answered(alloc, rows.as_slice())?),
+            Err(fault) => Err(self.refused(fault)),
+        }
+    }
+
+    fn prefix(&mut self, alloc: Global, begin: &str) -> Result<Vec<DocList>, ListFault> {
+        match self.store.prefix(self.tab, begin) {
+            Ok(rows) => Ok(self.answered(alloc, rows.as_slice())?),
+            Err(fault) => Err(self.refused(fault)),
+        }
+    }
+
+    fn failed(&self) -> bool {
+        self.has_failed
+    }
+
+    fn given(&self) -> u64 {
+        self.given
+    }
+}
