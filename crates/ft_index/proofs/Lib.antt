@@ -3,3 +3,10 @@ pub mod Calls
 pub mod HeldLemmas
 pub mod NameLemmas
 pub mod SoundLemmas
+pub mod Steps
+pub mod CellSteps
+pub mod MapSteps
+pub mod TokenSteps
+pub mod DocumentSteps
+pub mod KeyedRows
+pub mod IndexOf

@@ -1,5 +1,7 @@
 pub mod Tables
 pub mod Kept
 pub mod RowLaws
+pub mod Rewrite
+pub mod RewriteRows
 pub mod RowsRead
 pub mod Walked
