@@ -10,3 +10,4 @@ pub mod TokenSteps
 pub mod DocumentSteps
 pub mod KeyedRows
 pub mod IndexOf
+pub mod NearLemmas

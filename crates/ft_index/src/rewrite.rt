@@ -1,10 +1,11 @@
 //! Documents that are written anew, as row changes.
-ghost use Rattle.std.specs.Prelude.{◌≡◌, ◌++◌, ◌<◌, ◌^◌, [], map, option_map, unwrap_or, length, pos, IfOk, OnOk};
+ghost use Rattle.std.specs.Prelude.{◌≡◌, ◌++◌, ◌<◌, ◌^◌, [], map, option_map, unwrap_or, length, pos, All, IfOk, OnOk};
 ghost use Rattle.std.specs.Ordering.{int_cmp};
 ghost use Rattle.std.specs.FinMap.Entries.{find};
 ghost use Rattle.ft_store.specs.Changes.{shown_value, shown_change};
 ghost use Rattle.ft_content.specs.Views.{cells_of, column_of};
-ghost use Rattle.ft_index.specs.Rewrite.{shown_rewrite, befores, afters};
+ghost use Rattle.ft_index.specs.Kept.{IsOfDocids};
+ghost use Rattle.ft_index.specs.Rewrite.{shown_rewrite, docids_of, befores, afters};
 ghost use Rattle.ft_index.specs.RewriteRows as rows;
 
 use crate::document_index::DocumentIndex;
@@ -39,8 +40,12 @@ pub(crate) fn row_changes(
     tab: i64,
     columns: &[Column],
     rewrites: &[Rewrite],
-) -> Result<Vec<RowChange>, AllocError> {
-    planned_changes(alloc, tab, columns, rewrites)
+) -> Result<Vec<RowChange>, AllocError>
+    ensures plan { IfOk result (λ changes. map shown_change changes.items ≡ rows.rewrite_changes tab (map column_of columns.now) (map shown_rewrite rewrites.now)) }
+    ensures near { IfOk result (λ changes. All (IsOfDocids tab (docids_of (map shown_rewrite rewrites.now))) (map shown_change changes.items)) }
+{
+    let changes = planned_changes(alloc, tab, columns, rewrites)?;
+    Ok(changes)
 }
 
 // The row changes, kind by kind.
