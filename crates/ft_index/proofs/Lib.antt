@@ -16,3 +16,11 @@ pub mod AskedLemmas
 pub mod WalkedLemmas
 pub mod ReadsLemmas
 pub mod TakenLemmas
+pub mod Steps
+pub mod CellSteps
+pub mod MapSteps
+pub mod TokenSteps
+pub mod DocumentSteps
+pub mod KeyedRows
+pub mod IndexOf
+pub mod NearLemmas

@@ -1,6 +1,8 @@
 pub mod Tables
 pub mod Kept
 pub mod RowLaws
+pub mod Rewrite
+pub mod RewriteRows
 pub mod RowsRead
 pub mod Walked
 pub mod Found

@@ -3,12 +3,14 @@
 
 mod change;
 mod doc_lists;
+mod document_index;
 mod full_text;
+mod matching;
 mod names;
+mod rewrite;
+mod table_lists;
 mod tables;
 mod told;
-mod matching;
-mod table_lists;
 
 pub use ft_content::{Column, Command, Fault, Filter, Grid, Item, Items, Reply, TableInfo, Value};
 pub use full_text::{FullText, NewFault};

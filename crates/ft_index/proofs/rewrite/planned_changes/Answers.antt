@@ -1,0 +1,24 @@
+use Rattle.std.proofs.Common.{◌≡◌, ◌++◌, map, sym, ap, ◌∙◌, to_z-of_z}
+use Rattle.std.specs.Ordering.{int_eq}
+use Rattle.ft_store.specs.Changes.{shown_change}
+use Rattle.ft_store.specs.Store.{column_key_cmp}
+use Rattle.ft_content.specs.Index.{key_cmp}
+use Rattle.ft_content.specs.Views.{column_of}
+use Rattle.ft_index.specs.Rewrite.{shown_rewrite}
+use Rattle.ft_index.specs.RewriteRows.{rewrite_changes, dropped_documents, put_documents, dropped_lists, put_lists, dropped_sizes, put_sizes, gone, changed, same_spots}
+use Rattle.ft_index.proofs.Steps.{six_pieces}
+use Rattle.ft_index.proofs.rewrite.planned_changes.Goals as goal
+
+pub returns : goal.returns
+unfolding rewrite_changes
+returns c =
+    let t = to_z-of_z c.ranges.tab in
+    let made = c.in_ok-old.ensures in
+    let rewrites = map shown_rewrite c.args.rewrites.now in
+    six_pieces _ _ _ _ _ _ _ _ _ _ _ _ _ (ap (map shown_change) c.new-changes.ensures.items)
+    (c.in_ok-drop_documents.ensures ∙ (λ i. map shown_change c.new-changes.result.items ++ dropped_documents (t i) rewrites))
+    (c.in_ok-put_documents.ensures ∙ (λ i. map shown_change c.drop_documents.new.changes.items ++ put_documents (t i) rewrites))
+    (c.in_ok-drop_lists.ensures ∙ (λ i. map shown_change c.put_documents.new.changes.items ++ dropped_lists (t i) (gone key_cmp (made.old_lists i) (made.new_lists i))))
+    (c.in_ok-put_lists.ensures ∙ (λ i. map shown_change c.drop_lists.new.changes.items ++ put_lists (t i) (changed key_cmp same_spots (made.old_lists i) (made.new_lists i))))
+    (c.in_ok-drop_sizes.ensures ∙ (λ i. map shown_change c.put_lists.new.changes.items ++ dropped_sizes (t i) (gone column_key_cmp (made.old_sizes i) (made.new_sizes i))))
+    (c.in_ok-put_sizes.ensures ∙ (λ i. map shown_change c.drop_sizes.new.changes.items ++ put_sizes (t i) (changed column_key_cmp int_eq (made.old_sizes i) (made.new_sizes i))))

@@ -1,0 +1,9 @@
+-- the changes so far, and those of the cells that are left
+use Rattle.std.proofs.Common.{◌≡◌, ◌++◌, map, drop}
+use Rattle.ft_store.specs.Changes.{shown_value, shown_change}
+use Rattle.ft_index.specs.RewriteRows.{put_cells}
+use Rattle.ft_index.proofs.CellSteps.{put_from}
+use Rattle.ft_index.proofs.rewrite.put_cells.Given as goal
+
+abbrev pub invariant-loop-place : goal.invariant-loop-place
+invariant-loop-place l = map shown_change l.changes.items ++ put_from l.tab l.docid l.place (map shown_value l.before) (map shown_value (drop l.place l.after)) ≡ map shown_change l.fn.changes.items ++ put_cells l.tab l.docid (map shown_value l.before) (map shown_value l.after)

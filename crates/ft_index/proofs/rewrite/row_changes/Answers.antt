@@ -1,0 +1,16 @@
+use Rattle.std.proofs.Common.{map, ap, ◌∙◌, to_z-of_z}
+use Rattle.std.proofs.lemmas.List.Elements.{All-same}
+use Rattle.ft_store.specs.Changes.{shown_change}
+use Rattle.ft_content.specs.Views.{column_of}
+use Rattle.ft_index.specs.Kept.{IsOfDocids}
+use Rattle.ft_index.specs.Rewrite.{shown_rewrite, docids_of}
+use Rattle.ft_index.specs.RewriteRows.{rewrite_changes}
+use Rattle.ft_index.proofs.NearLemmas.{near}
+use Rattle.ft_index.proofs.rewrite.row_changes.Goals as goal
+
+pub returns-clause-near : goal.returns-clause-near
+returns-clause-near c =
+    let columns = map column_of c.args.columns.now in
+    let rewrites = map shown_rewrite c.args.rewrites.now in
+    let is = c.in_ok-changes.ensures ∙ ap (λ t. rewrite_changes t columns rewrites) (to_z-of_z c.ranges.tab) in
+    All-same (IsOfDocids c.args.tab (docids_of rewrites)) (map shown_change c.in_ok-changes.changes.items) (rewrite_changes c.args.tab columns rewrites) is (near c.args.tab columns rewrites)

@@ -1,0 +1,255 @@
+//! The index of some documents, made from scratch, and the row changes from one to another.
+ghost use Rattle.std.specs.Prelude.{◌≡◌, ◌<◌, ◌^◌, pos, length};
+ghost use Rattle.ft_store.specs.Changes.{shown_value};
+ghost use Rattle.ft_content.specs.Content as content;
+
+use ft_content::{Column, Value};
+use ft_query::{Token, tokens};
+use ft_store::{RowChange, Spot};
+use itoa::Buffer;
+use std::alloc::{AllocError, Global};
+use std::collections::BTreeMap;
+
+/// The posting lists of documents under term and docid, and the sizes of their cells under docid and column.
+#[derive(Drop)]
+pub(crate) struct DocumentIndex {
+    alloc: Global,
+    lists: BTreeMap<(String, i64), Vec<Spot>>,
+    sizes: BTreeMap<(i64, i64), i64>,
+}
+
+impl DocumentIndex {
+    ghost use Rattle.std.specs.Prelude.{◌++◌, ◌∷◌, [], map, option_map, unwrap_or, string_bytes, OnOk};
+    ghost use Rattle.std.specs.FinMap.Entries.{put, find};
+    ghost use Rattle.ft_query.specs.Tokens.{plain_token, tokens_of};
+    ghost use Rattle.ft_store.specs.Store.{column_key_cmp};
+    ghost use Rattle.ft_content.specs.Index as index;
+    ghost use Rattle.ft_content.specs.Views.{cells_of, column_of};
+    ghost use Rattle.ft_index.specs.Rewrite.{document_if};
+    ghost use Rattle.ft_index.specs.RewriteRows as rows;
+
+    /// The index of no document.
+    pub(crate) fn new(alloc: Global) -> DocumentIndex
+        ensures lists { rows.lists_in result ≡ [] }
+        ensures sizes { rows.sizes_in result ≡ [] }
+    {
+        DocumentIndex {
+            alloc,
+            lists: BTreeMap::new(alloc),
+            sizes: BTreeMap::new(alloc),
+        }
+    }
+
+    /// Adds the tokens of a document.
+    pub(crate) fn add(
+        &mut self,
+        columns: &[Column],
+        docid: i64,
+        cells: &[Value],
+    ) -> Result<(), AllocError>
+        ensures lists { OnOk result (rows.lists_in self.new ≡ rows.lists_with (map column_of columns.now) ((docid, map shown_value cells.now) ∷ []) (rows.lists_in self.old)) }
+        ensures sizes { OnOk result (rows.sizes_in self.new ≡ rows.sizes_with (map column_of columns.now) ((docid, map shown_value cells.now) ∷ []) (rows.sizes_in self.old)) }
+    {
+        for place in 0..columns.len().min(cells.len()) {
+            let value = &cells[place];
+            if columns[place].indexed {
+                self.add_cell(docid, place, value)?;
+            }
+        }
+        Ok(())
+    }
+
+    /// Adds the tokens of a document, if there is one.
+    pub(crate) fn add_if_any(
+        &mut self,
+        columns: &[Column],
+        docid: i64,
+        cells: &Option<Vec<Value>>,
+    ) -> Result<(), AllocError>
+        ensures lists { OnOk result (rows.lists_in self.new ≡ rows.lists_with (map column_of columns.now) (document_if docid (option_map cells_of cells.now)) (rows.lists_in self.old)) }
+        ensures sizes { OnOk result (rows.sizes_in self.new ≡ rows.sizes_with (map column_of columns.now) (document_if docid (option_map cells_of cells.now)) (rows.sizes_in self.old)) }
+    {
+        match cells {
+            Some(cells) => self.add(columns, docid, cells.as_slice()),
+            None => Ok(()),
+        }
+    }
+
+    // Adds the tokens of a cell that is indexed.
+    fn add_cell(&mut self, docid: i64, place: usize, value: &Value) -> Result<(), AllocError>
+        requires { place < 2 ^ 63 }
+        ensures lists { OnOk result (rows.lists_in self.new ≡ rows.with_entries (rows.cell_entries docid place (tokens_of (content.cell_text (shown_value value.now)))) (rows.lists_in self.old)) }
+        ensures sizes { OnOk result (rows.sizes_in self.new ≡ rows.all_put column_key_cmp (rows.sized (rows.cell_sizes docid place (length (tokens_of (content.cell_text (shown_value value.now)))))) (rows.sizes_in self.old)) }
+    {
+        let mut buffer = Buffer::new();
+        let text = text_of(value, &mut buffer);
+        let found = tokens(self.alloc, text)?;
+        self.add_size(docid, place, found.len())?;
+        for token in found {
+            self.add_token(docid, place, token)?;
+        }
+        Ok(())
+    }
+
+    // Adds the size of a cell, if it has tokens.
+    fn add_size(&mut self, docid: i64, place: usize, n: usize) -> Result<(), AllocError>
+        requires place { place < 2 ^ 63 }
+        requires n { n < 2 ^ 63 }
+        ensures lists { OnOk result (rows.lists_in self.new ≡ rows.lists_in self.old) }
+        ensures sizes { OnOk result (rows.sizes_in self.new ≡ rows.all_put column_key_cmp (rows.sized (rows.cell_sizes docid place n)) (rows.sizes_in self.old)) }
+    {
+        if n > 0 {
+            self.sizes.insert((docid, place as i64), n as i64)?;
+        }
+        Ok(())
+    }
+
+    // Adds a token of a cell.
+    fn add_token(&mut self, docid: i64, place: usize, token: Token) -> Result<(), AllocError>
+        requires place { place < 2 ^ 63 }
+        requires pos { token.pos < 2 ^ 63 }
+        requires start { token.start < 2 ^ 63 }
+        requires size { token.size < 2 ^ 63 }
+        ensures lists { OnOk result (rows.lists_in self.new ≡ rows.with_entries (rows.cell_entries docid place (plain_token token ∷ [])) (rows.lists_in self.old)) }
+        ensures sizes { OnOk result (rows.sizes_in self.new ≡ rows.sizes_in self.old) }
+    {
+        let spot = Spot {
+            column: place as i64,
+            pos: token.pos as i64,
+            place: token.start as i64,
+            size: token.size as i64,
+        };
+        self.add_spot((token.term, docid), spot)
+    }
+
+    // Adds a spot to a list.
+    fn add_spot(&mut self, key: (String, i64), spot: Spot) -> Result<(), AllocError>
+        ensures lists { OnOk result (rows.lists_in self.new ≡ put index.key_cmp (string_bytes key.0, key.1) (unwrap_or (find index.key_cmp (string_bytes key.0, key.1) (rows.lists_in self.old)) [] ++ spot ∷ []) (rows.lists_in self.old)) }
+        ensures sizes { OnOk result (rows.sizes_in self.new ≡ rows.sizes_in self.old) }
+    {
+        if let Some(spots) = self.lists.get_mut(&key) {
+            spots.push(spot)?;
+            return Ok(());
+        }
+        let mut spots = Vec::new(self.alloc);
+        spots.push(spot)?;
+        self.lists.insert(key, spots)?;
+        Ok(())
+    }
+}
+
+// The text of a cell.
+fn text_of<'a>(value: &'a Value, buffer: &'a mut Buffer) -> &'a str
+    ensures text { result.now ≡ content.cell_text (shown_value value.now) }
+    ensures short { length result.now < 2 ^ 63 }
+{
+    match value {
+        Value::Null => "",
+        Value::Int(number) => buffer.format(*number),
+        Value::Text(text) => text.as_str(),
+    }
+}
+
+impl DocumentIndex {
+    ghost use Rattle.std.specs.Prelude.{◌++◌, map, string_bytes, OnOk};
+    ghost use Rattle.std.specs.Ordering.{int_eq};
+    ghost use Rattle.std.specs.FinMap.Entries.{find};
+    ghost use Rattle.ft_store.specs.Store.{column_key_cmp};
+    ghost use Rattle.ft_store.specs.Changes.{shown_change};
+    ghost use Rattle.ft_content.specs.Index.{key_cmp};
+    ghost use Rattle.ft_index.specs.RewriteRows as rows;
+
+    /// Drops the lists that another index has not.
+    pub(crate) fn drop_lists(
+        &self,
+        changes: &mut Vec<RowChange>,
+        tab: i64,
+        new: &DocumentIndex,
+    ) -> Result<(), AllocError>
+        ensures { OnOk result (map shown_change changes.new.items ≡ map shown_change changes.old.items ++ rows.dropped_lists tab (rows.gone key_cmp (rows.lists_in self.now) (rows.lists_in new.now))) }
+    {
+        for (key, _spots) in self.lists.iter() {
+            let docid = key.1;
+            if !new.lists.contains_key(key) {
+                changes.push(RowChange::DropEntries(tab, key.0.clone()?, docid))?;
+            }
+        }
+        Ok(())
+    }
+
+    /// Puts the lists of another index that are new or differ.
+    pub(crate) fn put_lists(
+        &self,
+        changes: &mut Vec<RowChange>,
+        tab: i64,
+        new: &DocumentIndex,
+    ) -> Result<(), AllocError>
+        ensures { OnOk result (map shown_change changes.new.items ≡ map shown_change changes.old.items ++ rows.put_lists tab (rows.changed key_cmp rows.same_spots (rows.lists_in self.now) (rows.lists_in new.now))) }
+    {
+        for (key, spots) in new.lists.iter() {
+            let docid = key.1;
+            if !self.has_list(key, spots.as_slice()) {
+                let term = key.0.clone()?;
+                let copy = Vec::from_slice(self.alloc, spots.as_slice())?;
+                changes.push(RowChange::PutEntries(tab, term, docid, copy))?;
+            }
+        }
+        Ok(())
+    }
+
+    // Whether it has exactly this list under its key.
+    fn has_list(&self, key: &(String, i64), spots: &[Spot]) -> bool
+        ensures { result ≡ rows.was_there rows.same_spots (find key_cmp (string_bytes key.now.0, key.now.1) (rows.lists_in self.now)) spots.now }
+    {
+        match self.lists.get(key) {
+            Some(other) => other.as_slice() == spots,
+            None => false,
+        }
+    }
+
+    /// Drops the sizes that another index has not.
+    pub(crate) fn drop_sizes(
+        &self,
+        changes: &mut Vec<RowChange>,
+        tab: i64,
+        new: &DocumentIndex,
+    ) -> Result<(), AllocError>
+        ensures { OnOk result (map shown_change changes.new.items ≡ map shown_change changes.old.items ++ rows.dropped_sizes tab (rows.gone column_key_cmp (rows.sizes_in self.now) (rows.sizes_in new.now))) }
+    {
+        for (key, _n) in self.sizes.iter() {
+            let (docid, column) = *key;
+            if !new.sizes.contains_key(key) {
+                changes.push(RowChange::DropSize(tab, docid, column))?;
+            }
+        }
+        Ok(())
+    }
+
+    /// Puts the sizes of another index that are new or differ.
+    pub(crate) fn put_sizes(
+        &self,
+        changes: &mut Vec<RowChange>,
+        tab: i64,
+        new: &DocumentIndex,
+    ) -> Result<(), AllocError>
+        ensures { OnOk result (map shown_change changes.new.items ≡ map shown_change changes.old.items ++ rows.put_sizes tab (rows.changed column_key_cmp int_eq (rows.sizes_in self.now) (rows.sizes_in new.now))) }
+    {
+        for (key, n) in new.sizes.iter() {
+            let (docid, column) = *key;
+            let n = *n;
+            if !self.has_size(key, n) {
+                changes.push(RowChange::PutSize(tab, docid, column, n))?;
+            }
+        }
+        Ok(())
+    }
+    // Whether it has exactly this size under its key.
+    fn has_size(&self, key: &(i64, i64), n: i64) -> bool
+        ensures { result ≡ rows.was_there int_eq (find column_key_cmp key.now (rows.sizes_in self.now)) n }
+    {
+        match self.sizes.get(key) {
+            Some(other) => *other == n,
+            None => false,
+        }
+    }
+}
