@@ -2,7 +2,8 @@
 use Rattle.std.specs.Prelude.{◌≡◌, ◌⊎◌, ℕ, Bool, List, map, Option, Some, None, Result, Ok, Err, pos, is_some, string_bytes, Vec, IsTrue}
 use Rattle.std.specs.declared.alloc.Global.{Global}
 use Rattle.ft_store.specs.declared.rows.RowChange.{RowChange}
-use Rattle.ft_store.specs.Store.{StoreValue, AreInOrder, Change}
+use Rattle.ft_store.specs.Store.{StoreValue, AreInOrder, Change, AddTable}
+use Rattle.ft_content.specs.Content.{names_of, skipped_from}
 use Rattle.ft_store.specs.Changes.{shown_change}
 use Rattle.ft_content.specs.declared.fault.Fault.{Fault}
 use Rattle.ft_content.specs.declared.fault.Fault.TheVariants as faults
@@ -28,6 +29,10 @@ pub record IsMade (contents : Contents) (table : List ℕ) (options : List (List
   pub name : string_bytes made.name ≡ table
   pub columns : map column_of made.columns.items ≡ map (made_column options) (made_columns names)
   pub sound : IsTrue made.sound
+
+-- the row change that makes a table
+abbrev pub table_change : TableInfo → Change
+table_change made = AddTable made.id (string_bytes made.name) (names_of (map column_of made.columns.items)) (skipped_from 0 (map column_of made.columns.items))
 
 -- What a Create makes: a table, or nothing where one of its name is there; or its fault.
 abbrev pub Makes : Contents → List ℕ → List ℕ → List (List ℕ × List ℕ) → List (List ℕ) → Bool → Result (Option TableInfo) Fault → Type 0

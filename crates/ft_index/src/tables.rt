@@ -1,17 +1,22 @@
 // Making and removing tables.
-ghost use Rattle.std.specs.Prelude.{◌≡◌, map, string_bytes, IfOk};
-ghost use Rattle.ft_store.specs.Store as store;
+ghost use Rattle.std.specs.Prelude.{◌≡◌, ◌⊎◌, ◌∷◌, [], cond, map, string_bytes, is_ok, IfOk, IfErr};
 ghost use Rattle.ft_store.specs.Changes.{shown_change};
 ghost use Rattle.ft_content.specs.Content.{names_of, skipped_from};
 ghost use Rattle.ft_content.specs.Command as plain;
 ghost use Rattle.ft_content.specs.Views.{known_info, option_of, column_of};
 ghost use Rattle.ft_content.specs.Deserved.{Contents};
 ghost use Rattle.ft_index.specs.Kept.{told_table};
-ghost use Rattle.ft_index.specs.Planned.{PlansOver, Makes};
+ghost use Rattle.ft_index.specs.Planned.{PlansOver, Makes, table_change};
+ghost use Rattle.ft_index.specs.Changed.{Changed};
+ghost use Rattle.ft_index.specs.Found.{with_told};
+ghost use Rattle.ft_content.specs.declared.fault.Fault.TheVariants as faults;
 
+use crate::change::change_rows;
 use crate::names::place_of;
+use crate::told::insert_table;
 use ft_content::{Column, Fault, TableInfo, create_fault, free_id, made_columns, made_names};
-use ft_store::RowChange;
+use ft_store::{RowChange, Store};
+use sqlite::Alter;
 use std::alloc::{AllocError, Global};
 
 /// The table that a Create makes, or None where one of its name may be there and is.
@@ -46,8 +51,7 @@ pub(crate) fn made_table(
 
 /// The row change that makes a table.
 pub(crate) fn adding(alloc: Global, table: &TableInfo) -> Result<RowChange, AllocError>
-    ensures { IfOk result (λ change. shown_change change
-        ≡ store.AddTable table.now.id (string_bytes table.now.name) (names_of (map column_of table.now.columns.items)) (skipped_from 0 (map column_of table.now.columns.items))) }
+    ensures { IfOk result (λ change. shown_change change ≡ table_change table.now) }
 {
     let name = table.name.clone()?;
     let names = column_names(alloc, table.columns.as_slice())?;
@@ -76,6 +80,27 @@ fn skipped(alloc: Global, columns: &[Column]) -> Result<Vec<i64>, AllocError>
         }
     }
     Ok(numbers)
+}
+
+/// Makes a table, in the store and in the list that is kept beside it, or does nothing.
+pub(crate) fn add_table<S: Alter>(
+    alloc: Global,
+    store: &mut Store<S>,
+    tables: &mut Vec<TableInfo>,
+    made: TableInfo,
+) -> Result<(), Fault>
+    ensures changed { Changed S.Store store.old store.new (table_change made ∷ []) (is_ok result) }
+    ensures told { map known_info tables.new.items ≡ cond (is_ok result) (with_told (known_info made) (map known_info tables.old.items)) (map known_info tables.old.items) }
+    ensures fault { IfErr result (λ fault. (fault ≡ faults.Store) ⊎ (fault ≡ faults.Memory)) }
+{
+    let mut changes = Vec::new(alloc);
+    changes.push(adding(alloc, &made)?)?;
+    let place = insert_table(tables, made)?;
+    let answer = change_rows(store, changes.as_slice());
+    if answer.is_err() {
+        tables.remove(place);
+    }
+    answer
 }
 
 /// The row changes of a Drop.

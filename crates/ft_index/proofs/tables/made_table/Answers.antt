@@ -31,7 +31,7 @@ returns c = λ contents told. (
     ∙ ap (λ ns. create_fault contents c.args.table.now c.args.module_name.now (map option_of c.args.options.now) (map string_bytes ns) c.args.if_new) c.as_slice.ensures.value),
     none_named contents c.args.table.now (ap (λ ts. known_named ts c.args.table.now) (sym told) ∙ unplaced known_info (λ (t : KnownTable). same_name t.name c.args.table.now) c.args.tables.now (sym c.place_of.ensures ∙ not_some c.place_of.result (sym c.is_some.ensures ∙ c.if-is_some.false))),
     record {
-      id = (let fits : FitsSigned w64 c.free_id.result = search rules in to_z-of_z fits) ∙ c.free_id.ensures contents (same_ids c.args.tables.now contents told);
+      id = (let fits : FitsSigned w64 c.free_id.result = search rules in to_z-of_z fits) ∙ c.free_id.ensures.id contents (same_ids c.args.tables.now contents told);
       name = search rules;
       columns = c.in_ok-columns.ensures ∙ ap (map (made_column (map option_of c.args.options.now))) c.in_ok-names.ensures;
       sound = refl;
