@@ -24,3 +24,4 @@ pub mod DocumentSteps
 pub mod KeyedRows
 pub mod IndexOf
 pub mod NearLemmas
+pub mod CreateLemmas

@@ -92,7 +92,7 @@ names_changed name change (t ∷ ts) =
 apart_changed : (name : List ℕ) (change : Held → Held) (ts : Contents) → repeats_name (table_names ts) ≡ false → repeats_name (table_names (on_table ts name change)) ≡ false
 apart_changed name change ts h = ap repeats_name (names_changed name change ts) ∙ h
 
-apart_after : (contents : Contents) (command : Command) → repeats_name (table_names contents) ≡ false → repeats_name (table_names (after contents command)) ≡ false
+pub apart_after : (contents : Contents) (command : Command) → repeats_name (table_names contents) ≡ false → repeats_name (table_names (after contents command)) ≡ false
 unfolding after
 apart_after contents (Create table module_name options columns if_new) h =
     let new = new_table table options (made_columns columns) in

@@ -1,0 +1,84 @@
+-- What a Create answers, and what it leaves.
+use Rattle.std.proofs.Common.{◌≡◌, ◌⊎◌, inl, inr, ℕ, Bool, true, false, cond, not, List, [], ◌∷◌, map, length, Option, Some, None, Result, Ok, Err, ℤ, pos, refl, sym, ap, subst, ◌∙◌, string_bytes, arith, lt-ltb}
+use Rattle.std.specs.Prelude.{IsTrue, is_some, is_ok, nat_lt}
+use Rattle.std.specs.List.{AllByRecursion}
+use Rattle.std.specs.declared.cmp.Ordering.{Ordering}
+use Rattle.std.specs.declared.cmp.Ordering.TheVariants.{Less, Equal, Greater}
+use Rattle.std.specs.Ordering.{int_cmp, int_eq, is_lt, is_eq}
+use Rattle.std.specs.FinMap.Entries.{put, by_order, is_sorted}
+use Rattle.sqlite.specs.Store.{Ghosts}
+use Rattle.ft_store.specs.Store.{StoreValue, AreInOrder, AddTable, applied}
+use Rattle.ft_store.specs.Kept.{StoreState, value_in}
+use Rattle.ft_content.specs.declared.fault.Fault.{Fault}
+use Rattle.ft_content.specs.declared.fault.Fault.TheVariants as faults
+use Rattle.ft_content.specs.declared.table.TableInfo.{TableInfo}
+use Rattle.ft_content.specs.Content.{Column, IsContent, names_of, skipped_from}
+use Rattle.ft_content.specs.Command.{Command, Create, Reply, Done}
+use Rattle.ft_content.specs.Views.{KnownTable, known_info, column_of}
+use Rattle.ft_content.specs.Deserved.{Held, Sound, Table, Contents, table_named, made_columns, create_fault, deserved}
+use Rattle.ft_content.specs.Step.{free_id_from, made_column, new_table, created, after, reply_to, step, step_by}
+use Rattle.ft_index.specs.Found.{with_told}
+use Rattle.ft_index.specs.Planned.{IsMade, Makes, table_change}
+use Rattle.ft_index.specs.Kept.{AreHeld, StoreHolds, Answers, is_outside, told_table}
+use Rattle.ft_index.proofs.OneTable.{ids_sorted}
+use Rattle.ft_index.proofs.AddLemmas.{bare}
+use Rattle.ft_index.proofs.TableChanges.{free_is_free, adds_one}
+use Rattle.ft_index.proofs.NameLemmas.{apart_after}
+use Rattle.ft_content.proofs.ContentLemmas.{create_makes_content}
+
+-- a table under a free id stands among those that are told as it stands among the contents
+told_put : (id : ℤ) (table : Table) (contents : Contents) → AllByRecursion (λ (c : ℤ × Table). int_eq id c.0 ≡ false) contents → map told_table (put int_cmp id table contents) ≡ with_told (told_table (id, table)) (map told_table contents)
+told_put id table [] free = refl
+told_put id table (c ∷ cs) free = go (int_cmp id c.0) refl free.0 (told_put id table cs free.1)
+  where
+    go : (o : Ordering) → int_cmp id c.0 ≡ o → int_eq id c.0 ≡ false → map told_table (put int_cmp id table cs) ≡ with_told (told_table (id, table)) (map told_table cs) →
+        map told_table (by_order (int_cmp id c.0) ((id, table) ∷ c ∷ cs) ((c.0, table) ∷ cs) (c ∷ put int_cmp id table cs)) ≡ cond (is_lt (int_cmp id c.0)) (told_table (id, table) ∷ told_table c ∷ map told_table cs) (told_table c ∷ with_told (told_table (id, table)) (map told_table cs))
+    go Less is apart rest = ap (λ o. map told_table (by_order o ((id, table) ∷ c ∷ cs) ((c.0, table) ∷ cs) (c ∷ put int_cmp id table cs))) is ∙ sym (ap (λ o. cond (is_lt o) (told_table (id, table) ∷ told_table c ∷ map told_table cs) (told_table c ∷ with_told (told_table (id, table)) (map told_table cs))) is)
+    go Equal is apart rest = absurd (let no = sym apart ∙ ap is_eq is in cc)
+    go Greater is apart rest = ap (λ o. map told_table (by_order o ((id, table) ∷ c ∷ cs) ((c.0, table) ∷ cs) (c ∷ put int_cmp id table cs))) is ∙ ap (λ l. told_table c ∷ l) rest ∙ sym (ap (λ o. cond (is_lt o) (told_table (id, table) ∷ told_table c ∷ map told_table cs) (told_table c ∷ with_told (told_table (id, table)) (map told_table cs))) is)
+
+some_columns : (names : List (List ℕ)) → nat_lt 0 (length (made_columns names)) ≡ true
+some_columns [] = refl
+some_columns (n ∷ ns) = lt-ltb 0 (length (n ∷ ns)) (omega arith)
+
+-- the columns that a Create without a fault makes are those of a content
+makes_content : (contents : Contents) (table module_name : List ℕ) (options : List (List ℕ × List ℕ)) (names : List (List ℕ)) (if_new : Bool) → deserved contents (Create table module_name options names if_new) ≡ None →
+    IsContent table (bare (map (made_column options) (made_columns names)))
+unfolding deserved
+makes_content contents table module_name options names if_new fine = create_makes_content contents table module_name options (made_columns names) if_new (some_columns names) fine
+
+-- ---- what is held after a table was made
+
+pub made_is_held : (contents : Contents) (table module_name : List ℕ) (options : List (List ℕ × List ℕ)) (names : List (List ℕ)) (if_new : Bool) (made : TableInfo) (store : StoreValue) (tables : List KnownTable) →
+    Makes contents table module_name options names if_new (Ok (Some made)) → AreInOrder store → AreHeld store tables contents →
+    AreHeld (applied (table_change made) store) (with_told (known_info made) tables) (after contents (Create table module_name options names if_new))
+unfolding after
+made_is_held contents table module_name options names if_new made store tables makes order held =
+    let m = makes.2 in
+    let id = pos (free_id_from 1 contents) in
+    let columns = map (made_column options) (made_columns names) in
+    let new = new_table table options (made_columns names) in
+    let free = free_is_free 1 contents (ids_sorted store store.tables contents held.held order.tables) in
+    let joined : created contents table options (made_columns names) ≡ put int_cmp id new contents = ap (λ found. cond (is_some found) contents (put int_cmp id new contents)) makes.1 in
+    let change : AddTable id table (names_of columns) (skipped_from 0 columns) ≡ table_change made = sym (λ i. AddTable (m.id i) (m.name i) (names_of (m.columns i)) (skipped_from 0 (m.columns i))) in
+    let told : told_table (id, new) ≡ known_info made = sym (λ i. record { id = m.id i; name = m.name i; columns = m.columns i; sound = m.sound i }) in
+    record {
+      named_once = apart_after contents (Create table module_name options names if_new) held.named_once;
+      held = subst (λ cs. StoreHolds (applied (table_change made) store) cs) (sym joined)
+          (subst (λ ch. StoreHolds (applied ch store) (put int_cmp id new contents)) change (adds_one id table columns store contents order (makes_content contents table module_name options names if_new makes.0) free held.held));
+      told = ap (with_told (known_info made)) held.told ∙ ap (λ k. with_told k (map told_table contents)) (sym told) ∙ sym (told_put id new contents free) ∙ ap (map told_table) (sym joined);
+    }
+
+pub create_answers : (contents : Contents) (table module_name : List ℕ) (options : List (List ℕ × List ℕ)) (names : List (List ℕ)) (if_new : Bool) → deserved contents (Create table module_name options names if_new) ≡ None →
+    step contents (Create table module_name options names if_new) ≡ (Ok Done, after contents (Create table module_name options names if_new))
+unfolding step reply_to
+create_answers contents table module_name options names if_new fine = ap (λ due. step_by due contents (Create table module_name options names if_new)) fine
+
+pub refused_answers : (contents : Contents) (command : Command) (fault : Fault) → deserved contents command ≡ Some fault → step contents command ≡ (Err fault, contents)
+unfolding step
+refused_answers contents command fault due = ap (λ d. step_by d contents command) due
+
+-- nothing is made where a table of the name may be there and is
+pub nothing_made : (contents : Contents) (table module_name : List ℕ) (options : List (List ℕ × List ℕ)) (names : List (List ℕ)) (if_new : Bool) → IsTrue (is_some (table_named contents table)) → after contents (Create table module_name options names if_new) ≡ contents
+unfolding after
+nothing_made contents table module_name options names if_new there = ap (λ b. cond b contents (put int_cmp (pos (free_id_from 1 contents)) (new_table table options (made_columns names)) contents)) there
