@@ -25,3 +25,4 @@ pub mod KeyedRows
 pub mod IndexOf
 pub mod NearLemmas
 pub mod CreateLemmas
+pub mod Executing

@@ -3,18 +3,18 @@ ghost use Rattle.std.specs.Prelude.{◌≡◌, ◌⊎◌, ◌∷◌, [], cond, m
 ghost use Rattle.ft_store.specs.Changes.{shown_change};
 ghost use Rattle.ft_content.specs.Content.{names_of, skipped_from};
 ghost use Rattle.ft_content.specs.Command as plain;
-ghost use Rattle.ft_content.specs.Views.{known_info, option_of, column_of};
+ghost use Rattle.ft_content.specs.Views.{known_info, option_of, column_of, answer_of};
 ghost use Rattle.ft_content.specs.Deserved.{Contents};
-ghost use Rattle.ft_index.specs.Kept.{told_table};
+ghost use Rattle.ft_index.specs.Kept.{told_table, Executes};
 ghost use Rattle.ft_index.specs.Planned.{PlansOver, Makes, table_change};
-ghost use Rattle.ft_index.specs.Changed.{Changed};
+ghost use Rattle.ft_index.specs.Changed.{Changed, with_tables};
 ghost use Rattle.ft_index.specs.Found.{with_told};
 ghost use Rattle.ft_content.specs.declared.fault.Fault.TheVariants as faults;
 
 use crate::change::change_rows;
 use crate::names::place_of;
 use crate::told::insert_table;
-use ft_content::{Column, Fault, TableInfo, create_fault, free_id, made_columns, made_names};
+use ft_content::{Column, Fault, Reply, TableInfo, create_fault, free_id, made_columns, made_names};
 use ft_store::{RowChange, Store};
 use sqlite::Alter;
 use std::alloc::{AllocError, Global};
@@ -80,6 +80,37 @@ fn skipped(alloc: Global, columns: &[Column]) -> Result<Vec<i64>, AllocError>
         }
     }
     Ok(numbers)
+}
+
+/// Answers a Create.
+pub(crate) fn create_table<S: Alter>(
+    alloc: Global,
+    store: &mut Store<S>,
+    tables: &mut Vec<TableInfo>,
+    table: &str,
+    module_name: &str,
+    options: &[(String, String)],
+    columns: &[String],
+    if_new: bool,
+) -> Result<Reply, Fault>
+    ensures { Executes S.Store (with_tables store.old (map known_info tables.old.items))
+        (plain.Create table.now module_name.now (map option_of options.now) (map string_bytes columns.now) if_new)
+        (answer_of result) (with_tables store.new (map known_info tables.new.items)) }
+{
+    store.is_in_order();
+    let made = made_table(
+        alloc,
+        tables.as_slice(),
+        table,
+        module_name,
+        options,
+        columns,
+        if_new,
+    )?;
+    if let Some(made) = made {
+        add_table(alloc, store, tables, made)?;
+    }
+    Ok(Reply::Done)
 }
 
 /// Makes a table, in the store and in the list that is kept beside it, or does nothing.

@@ -1,0 +1,78 @@
+-- Commands as they are executed.
+use Rattle.std.proofs.Common.{◌≡◌, ◌⊎◌, inl, inr, ℕ, Bool, true, false, cond, List, [], ◌∷◌, map, Option, Some, None, Result, Ok, Err, ℤ, refl, sym, ap, subst, ◌∙◌}
+use Rattle.std.specs.Prelude.{IsTrue}
+use Rattle.sqlite.specs.Store.{Ghosts}
+use Rattle.ft_store.specs.Store.{AreInOrder, Change, StoreValue}
+use Rattle.ft_store.specs.Kept.{StoreState, value_in}
+use Rattle.ft_content.specs.declared.fault.Fault.{Fault}
+use Rattle.ft_content.specs.declared.fault.Fault.TheVariants as faults
+use Rattle.ft_content.specs.declared.table.TableInfo.{TableInfo}
+use Rattle.ft_content.specs.Command.{Command, Create, Reply, Done}
+use Rattle.ft_content.specs.Views.{KnownTable, known_info}
+use Rattle.ft_content.specs.Deserved.{Contents, deserved}
+use Rattle.ft_content.specs.Step.{after, step}
+use Rattle.ft_index.specs.Found.{with_told}
+use Rattle.ft_index.specs.Planned.{Makes, table_change}
+use Rattle.ft_index.specs.Changed.{Changed, with_tables}
+use Rattle.ft_index.specs.Kept.{Known, IsUp, AreHeld, Holds, HoldsSome, Executes, Answers, is_outside, told_table}
+use Rattle.ft_index.proofs.CreateLemmas.{made_is_held, create_answers, refused_answers, nothing_made}
+
+-- what is executed leaves what it may hold
+pub still_holds : {S : Type 0} (g : Ghosts S) (old new : Known S) (command : Command) (answer : Result Reply Fault) → Executes g old command answer new → HoldsSome g old → HoldsSome g new
+still_holds g old new command answer executes some up =
+    let first = some (executes.was_up up) in
+    let last = executes.steps up first.0 first.1 in
+    (last.0, last.1)
+
+-- a command that leaves everything as it is
+pub executes_same : {S : Type 0} (g : Ghosts S) (known : Known S) (command : Command) (answer : Result Reply Fault) → ((first : Contents) → Holds g known first → Answers first command answer first) → Executes g known command answer known
+executes_same g known command answer answers = record {
+  was_up = λ up. up;
+  steps = λ up first holds. (first, holds, answers first holds);
+  noted = λ up. refl;
+}
+
+-- ---- Create
+
+module _ {S : Type 0} (g : Ghosts S) (table module_name : List ℕ) (options : List (List ℕ × List ℕ)) (names : List (List ℕ)) (if_new : Bool) where
+  abbrev command : Command
+  command = Create table module_name options names if_new
+
+  abbrev MakesAll : List KnownTable → Result (Option TableInfo) Fault → Type 0
+  MakesAll tables result = (contents : Contents) → tables ≡ map told_table contents → Makes contents table module_name options names if_new result
+
+  pub create_refused : (known : Known S) (fault : Fault) → MakesAll known.tables (Err fault) → Executes g known command (Err fault) known
+  create_refused known fault makes = executes_same g known command (Err fault) (λ first holds. due first (makes first holds.told))
+    where
+      due : (first : Contents) → (fault ≡ faults.Memory) ⊎ (deserved first command ≡ Some fault) → Answers first command (Err fault) first
+      due first (inl memory) = inl (ap (λ f. is_outside (Err f)) memory, refl)
+      due first (inr fault_is) = inr (refused_answers first command fault fault_is)
+
+  pub create_nothing : (known : Known S) → MakesAll known.tables (Ok None) → Executes g known command (Ok Done) known
+  create_nothing known makes = executes_same g known command (Ok Done) (λ first holds.
+      inr (create_answers first table module_name options names if_new (makes first holds.told).0 ∙ ap (λ cs. (Ok Done, cs)) (nothing_made first table module_name options names if_new (makes first holds.told).1)))
+
+  pub create_adds : (old new : StoreState S) (tables : List KnownTable) (made : TableInfo) → MakesAll tables (Ok (Some made)) → AreInOrder (value_in g old) → Changed g old new (table_change made ∷ []) true →
+      Executes g (with_tables old tables) command (Ok Done) (with_tables new (with_told (known_info made) tables))
+  create_adds old new tables made makes order changed = record {
+    was_up = λ up. changed.was_up (with_told (known_info made) tables) tables up;
+    steps = λ up first holds. (
+      after first command,
+      subst (λ v. AreHeld v (with_told (known_info made) tables) (after first command)) (sym (changed.value (with_told (known_info made) tables) up)) (made_is_held first table module_name options names if_new made (value_in g old) tables (makes first holds.told) order holds),
+      inr (create_answers first table module_name options names if_new (makes first holds.told).0),
+    );
+    noted = λ up. ap (λ v. v.noted) (changed.value (with_told (known_info made) tables) up);
+  }
+
+-- a change of rows that was refused, for want of memory or by the store
+pub executes_refused : {S : Type 0} (g : Ghosts S) (old new : StoreState S) (tables : List KnownTable) (changes : List Change) (command : Command) (fault : Fault) → (fault ≡ faults.Store) ⊎ (fault ≡ faults.Memory) → Changed g old new changes false →
+    Executes g (with_tables old tables) command (Err fault) (with_tables new tables)
+executes_refused g old new tables changes command fault outside changed = record {
+  was_up = λ up. changed.was_up tables tables up;
+  steps = λ up first holds. (first, subst (λ v. AreHeld v tables first) (sym (changed.value tables up)) holds, inl (is_out outside, refl));
+  noted = λ up. ap (λ v. v.noted) (changed.value tables up);
+}
+  where
+    is_out : (fault ≡ faults.Store) ⊎ (fault ≡ faults.Memory) → IsTrue (is_outside (Err fault))
+    is_out (inl e) = ap (λ f. is_outside (Err f)) e
+    is_out (inr e) = ap (λ f. is_outside (Err f)) e
