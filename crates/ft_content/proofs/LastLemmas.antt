@@ -12,6 +12,7 @@ use Rattle.std.proofs.lemmas.Int.{ints}
 use Rattle.std.specs.Prelude.{◌<ℤ◌, ◌≤ℤ◌, slice_get, unwrap_or}
 use Rattle.ft_store.specs.Store.{Cell}
 use Rattle.ft_content.specs.Content.{Documents}
+use Rattle.ft_content.specs.Laws.{DocidIsTaken}
 use Rattle.ft_content.specs.Views.{last_docid}
 
 less_is : (o : Ordering) → is_lt o ≡ true → o ≡ Less
@@ -91,7 +92,7 @@ or_once true c = refl
 or_once false c = refl
 
 -- after a document is put, its docid is taken and each that was
-pub has_docid_put : (q k : ℤ) (v : List Cell) (documents : Documents) → has_docid (put int_cmp k v documents) q ≡ (int_eq q k || has_docid documents q)
+has_docid_put : (q k : ℤ) (v : List Cell) (documents : Documents) → has_docid (put int_cmp k v documents) q ≡ (int_eq q k || has_docid documents q)
 has_docid_put q k v [] = elim (int_eq q k) as (λ b. is_some (cond b (Some v) None) ≡ (b || false)) [ true ↦ refl | false ↦ refl ]
 has_docid_put q k v (d ∷ ds) = by_first (has_docid_put q k v ds) (int_cmp k d.0) refl
   where
@@ -108,6 +109,9 @@ has_docid_put q k v (d ∷ ds) = by_first (has_docid_put q k v ds) (int_cmp k d.
     by_first rest Greater same =
         at (int_eq q d.0) d.1 (find int_cmp q (put int_cmp k v ds)) ∙ ap (λ b. int_eq q d.0 || b) rest
         ∙ or_again (int_eq q d.0) (int_eq q k) (is_some (find int_cmp q ds)) ∙ ap (λ b. int_eq q k || b) (sym (at (int_eq q d.0) d.1 (find int_cmp q ds)))
+
+pub docid_is_taken : DocidIsTaken
+docid_is_taken documents docid other cells = has_docid_put other docid cells documents
 
 -- ---- where an Update sets a docid
 

@@ -1,6 +1,7 @@
 // What a Select answers, and the tests of its names.
-ghost use Rattle.std.specs.Prelude.{◌≡◌, ◌∷◌, ◌++◌, ◌&&◌, ◌||◌, [], not, map, codes, slice_get, unwrap_or, string_bytes, IfOk, OnOk};
+ghost use Rattle.std.specs.Prelude.{◌≡◌, ◌∷◌, ◌++◌, ◌&&◌, ◌||◌, [], false, not, Option, map, codes, slice_get, unwrap_or, string_bytes, IfOk, OnOk};
 ghost use Rattle.std.specs.List.{list_any, flat_map};
+ghost use Rattle.ft_query.specs.Trees.{Tree};
 ghost use Rattle.ft_store.specs.Store as store;
 ghost use Rattle.ft_store.specs.Changes.{shown_value};
 ghost use Rattle.ft_content.specs.Content.{names_of};
@@ -253,7 +254,7 @@ fn push_item(
     Ok(())
 }
 
-/// The row of a document, where the offsets of the query in it are this text.
+/// The row of a document, where the offsets of the query in it are this text. They need not be where none are asked for.
 pub fn item_row(
     alloc: Global,
     columns: &[Column],
@@ -262,7 +263,10 @@ pub fn item_row(
     cells: &[Value],
     offsets: &str,
 ) -> Result<Vec<Value>, AllocError>
-    ensures { IfOk result (λ row. cells_of row ≡ flat_map (answer.cells_with (store.Text offsets.now) (bare_content columns.now) (docid, map shown_value cells.now)) (map item_of items.now)) }
+    ensures asked { (query : Option Tree) → answer.offsets_cell query (bare_content columns.now) (docid, map shown_value cells.now) ≡ store.Text offsets.now →
+        IfOk result (λ row. cells_of row ≡ flat_map (answer.item_cells query (bare_content columns.now) (docid, map shown_value cells.now)) (map item_of items.now)) }
+    ensures unasked { (query : Option Tree) → list_any deserved.is_offsets (map item_of items.now) ≡ false →
+        IfOk result (λ row. cells_of row ≡ flat_map (answer.item_cells query (bare_content columns.now) (docid, map shown_value cells.now)) (map item_of items.now)) }
 {
     let mut row = Vec::new(alloc);
     for item in items {
