@@ -1,9 +1,9 @@
 -- The last docid of documents, and those that are taken, after a document is put among them.
-use Rattle.std.proofs.Common.{◌≡◌, Bool, true, false, cond, ◌||◌, List, [], ◌∷◌, Option, Some, None, ℤ, is_some, refl, sym, ap, subst, ◌∙◌, arith}
+use Rattle.std.proofs.Common.{◌≡◌, Bool, true, false, cond, ◌||◌, List, [], ◌∷◌, Option, Some, None, ℤ, is_some, refl, sym, ap, ◌∙◌, arith}
 use Rattle.std.specs.declared.cmp.Ordering.{Ordering}
 use Rattle.std.specs.declared.cmp.Ordering.TheVariants.{Less, Equal, Greater}
-use Rattle.std.specs.Ordering.{int_cmp, int_eq, is_eq, is_lt, MatchOrdering}
-use Rattle.std.specs.Cmp.{int_cmp_is, int_cmp_total, int_ranks}
+use Rattle.std.specs.Ordering.{int_cmp, int_eq, is_eq, is_lt}
+use Rattle.std.specs.Cmp.{int_cmp_is, int_cmp_total}
 use Rattle.std.specs.FinMap.Entries.{by_order, put, find, below_all, is_sorted}
 use Rattle.std.proofs.lemmas.Bool.{and_parts}
 use Rattle.std.proofs.lemmas.Bool.Decides.{Decides-int_eq}
@@ -14,11 +14,7 @@ use Rattle.ft_store.specs.Store.{Cell}
 use Rattle.ft_content.specs.Content.{Documents}
 use Rattle.ft_content.specs.Laws.{DocidIsTaken}
 use Rattle.ft_content.specs.Views.{last_docid}
-
-less_is : (o : Ordering) → is_lt o ≡ true → o ≡ Less
-less_is Less h = refl
-less_is Equal h = absurd (let no = h in cc)
-less_is Greater h = absurd (let no = h in cc)
+use Rattle.ft_content.proofs.TableLemmas.{less_is, greater_means}
 
 -- the last docid of some documents
 abbrev last_from : ℤ × List Cell → Documents → ℤ
@@ -77,7 +73,7 @@ greater_not k n h = by_case (int_cmp k n) refl
     by_case : (o : Ordering) → int_cmp k n ≡ o → by_order o n n k ≡ n
     by_case Less e = refl
     by_case Equal e = refl
-    by_case Greater e = let above : n <ℤ k = subst (λ o. MatchOrdering o (k <ℤ n) (k ≡ n) (n <ℤ k)) e (int_ranks k n) in absurd (omega (arith, ints))
+    by_case Greater e = let above : n <ℤ k = greater_means k n e in absurd (omega (arith, ints))
 
 -- ---- docids that are taken
 

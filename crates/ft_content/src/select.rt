@@ -9,7 +9,7 @@ ghost use Rattle.ft_content.specs.Answer as answer;
 ghost use Rattle.ft_content.specs.Deserved as deserved;
 ghost use Rattle.ft_content.specs.Views.{bare_content, cells_of, names_in, rows_of, item_of, items_of, filter_of};
 
-use crate::columns::{column_place, has_column, names_unknown};
+use crate::columns::{column_place, has_column, names_unknown, push_names};
 use crate::command::{Filter, Item, Items};
 use crate::fault::Fault;
 use crate::names::{is_docid, same_name};
@@ -122,15 +122,6 @@ fn name_at(columns: &[Column], place: usize) -> &str
         Some(column) => column.name.as_str(),
         None => "",
     }
-}
-
-fn push_names(alloc: Global, names: &mut Vec<String>, columns: &[Column]) -> Result<(), AllocError>
-    ensures { OnOk result (names_in names.new ≡ names_in names.old ++ names_of (bare_content columns.now).columns) }
-{
-    for column in columns {
-        names.push(String::from_str(alloc, column.name.as_str())?)?;
-    }
-    Ok(())
 }
 
 fn offsets_header(alloc: Global, table: &str) -> Result<String, AllocError>
