@@ -1,5 +1,5 @@
 -- Rows of an answer.
-use Rattle.std.proofs.Common.{◌≡◌, ℕ, zero, suc, Bool, true, false, ◌||◌, List, [], ◌∷◌, ◌++◌, map, take, drop, Option, Some, None, ℤ, refl, ap, ◌∙◌}
+use Rattle.std.proofs.Common.{◌≡◌, ℕ, zero, suc, false, List, [], ◌∷◌, ◌++◌, map, take, drop, Option, Some, None, ℤ, refl, ap, ◌∙◌}
 use Rattle.std.specs.List.{list_any, flat_map}
 use Rattle.ft_query.specs.Trees.{Tree}
 use Rattle.ft_store.specs.Store.{Cell}
@@ -7,6 +7,7 @@ use Rattle.ft_content.specs.Content.{Content}
 use Rattle.ft_content.specs.Command.{Item, AllColumns, Named, OffsetsOf}
 use Rattle.ft_content.specs.Answer.{cells_with, item_cells, offsets_cell, cut}
 use Rattle.ft_content.specs.Deserved.{is_offsets}
+use Rattle.ft_content.specs.Laws.{RowsAreCutFirst}
 
 -- the cells of items are those with the offsets of the query
 pub item_cells_are : (query : Option Tree) (content : Content) (document : ℤ × List Cell) (items : List Item) →
@@ -34,7 +35,9 @@ take_of_map f zero xs = refl
 take_of_map f (suc n) [] = refl
 take_of_map f (suc n) (x ∷ xs) = ap (λ ys. f x ∷ ys) (take_of_map f n xs)
 
--- rows may be cut before they are made
-pub cut_of_map : {A B : Type 0} (f : A → B) (limit : Option ℕ) (offset : ℕ) (xs : List A) → cut limit offset (map f xs) ≡ map f (cut limit offset xs)
+cut_of_map : {A B : Type 0} (f : A → B) (limit : Option ℕ) (offset : ℕ) (xs : List A) → cut limit offset (map f xs) ≡ map f (cut limit offset xs)
 cut_of_map f None offset xs = drop_of_map f offset xs
 cut_of_map f (Some limit) offset xs = ap (take limit) (drop_of_map f offset xs) ∙ take_of_map f limit (drop offset xs)
+
+pub rows_are_cut_first : RowsAreCutFirst
+rows_are_cut_first row limit offset documents = cut_of_map row limit offset documents

@@ -22,6 +22,9 @@ filter_map_of_map p h (x ∷ xs) = ap (cons_option (p (h x))) (filter_map_of_map
 abbrev pub docid_given : List ℕ × Cell → Option ℤ
 docid_given v = slice_get (cond (is_docid v.0) (number_of v.1) []) 0
 
+abbrev pub gives_docid : List ℕ × Cell → Bool
+gives_docid v = is_some (docid_given v)
+
 number_first : (cell : Cell) (b : Bool) (rest : List ℤ) → cond b (number_of cell) [] ++ rest ≡ cons_option (slice_get (cond b (number_of cell) []) 0) rest
 number_first Null true rest = refl
 number_first (Int n) true rest = refl
@@ -33,6 +36,10 @@ docids_are [] = refl
 docids_are (v ∷ vs) = number_first v.1 (is_docid v.0) (docids_in vs) ∙ ap (cons_option (docid_given v)) (docids_are vs)
 
 -- ---- values of a row, borrowed
+
+-- what the places of a pair point to
+abbrev pub pointed : Bor (Bor (List ℕ)) × Bor Value → Bor (List ℕ) × Value
+pointed p = (p.0.now, p.1.now)
 
 -- a value under a name, as the definitions see it
 abbrev pub given : Bor (List ℕ) × Value → List ℕ × Cell

@@ -1,9 +1,9 @@
 -- The last docid of documents, and those that are taken, after a document is put among them.
-use Rattle.std.proofs.Common.{◌≡◌, ℕ, Bool, true, false, cond, ◌&&◌, ◌||◌, List, [], ◌∷◌, Option, Some, None, ℤ, is_some, refl, sym, ap, subst, ◌∙◌, arith}
+use Rattle.std.proofs.Common.{◌≡◌, Bool, true, false, cond, ◌||◌, List, [], ◌∷◌, Option, Some, None, ℤ, is_some, refl, sym, ap, ◌∙◌, arith}
 use Rattle.std.specs.declared.cmp.Ordering.{Ordering}
 use Rattle.std.specs.declared.cmp.Ordering.TheVariants.{Less, Equal, Greater}
-use Rattle.std.specs.Ordering.{int_cmp, int_eq, is_eq, is_lt, MatchOrdering}
-use Rattle.std.specs.Cmp.{int_cmp_is, int_cmp_total, int_ranks}
+use Rattle.std.specs.Ordering.{int_cmp, int_eq, is_eq, is_lt}
+use Rattle.std.specs.Cmp.{int_cmp_is, int_cmp_total}
 use Rattle.std.specs.FinMap.Entries.{by_order, put, find, below_all, is_sorted}
 use Rattle.std.proofs.lemmas.Bool.{and_parts}
 use Rattle.std.proofs.lemmas.Bool.Decides.{Decides-int_eq}
@@ -12,12 +12,9 @@ use Rattle.std.proofs.lemmas.Int.{ints}
 use Rattle.std.specs.Prelude.{◌<ℤ◌, ◌≤ℤ◌, slice_get, unwrap_or}
 use Rattle.ft_store.specs.Store.{Cell}
 use Rattle.ft_content.specs.Content.{Documents}
+use Rattle.ft_content.specs.Laws.{DocidIsTaken}
 use Rattle.ft_content.specs.Views.{last_docid}
-
-less_is : (o : Ordering) → is_lt o ≡ true → o ≡ Less
-less_is Less h = refl
-less_is Equal h = absurd (let no = h in cc)
-less_is Greater h = absurd (let no = h in cc)
+use Rattle.ft_content.proofs.TableLemmas.{less_is, greater_means}
 
 -- the last docid of some documents
 abbrev last_from : ℤ × List Cell → Documents → ℤ
@@ -76,7 +73,7 @@ greater_not k n h = by_case (int_cmp k n) refl
     by_case : (o : Ordering) → int_cmp k n ≡ o → by_order o n n k ≡ n
     by_case Less e = refl
     by_case Equal e = refl
-    by_case Greater e = let above : n <ℤ k = subst (λ o. MatchOrdering o (k <ℤ n) (k ≡ n) (n <ℤ k)) e (int_ranks k n) in absurd (omega (arith, ints))
+    by_case Greater e = let above : n <ℤ k = greater_means k n e in absurd (omega (arith, ints))
 
 -- ---- docids that are taken
 
@@ -91,7 +88,7 @@ or_once true c = refl
 or_once false c = refl
 
 -- after a document is put, its docid is taken and each that was
-pub has_docid_put : (q k : ℤ) (v : List Cell) (documents : Documents) → has_docid (put int_cmp k v documents) q ≡ (int_eq q k || has_docid documents q)
+has_docid_put : (q k : ℤ) (v : List Cell) (documents : Documents) → has_docid (put int_cmp k v documents) q ≡ (int_eq q k || has_docid documents q)
 has_docid_put q k v [] = elim (int_eq q k) as (λ b. is_some (cond b (Some v) None) ≡ (b || false)) [ true ↦ refl | false ↦ refl ]
 has_docid_put q k v (d ∷ ds) = by_first (has_docid_put q k v ds) (int_cmp k d.0) refl
   where
@@ -108,6 +105,9 @@ has_docid_put q k v (d ∷ ds) = by_first (has_docid_put q k v ds) (int_cmp k d.
     by_first rest Greater same =
         at (int_eq q d.0) d.1 (find int_cmp q (put int_cmp k v ds)) ∙ ap (λ b. int_eq q d.0 || b) rest
         ∙ or_again (int_eq q d.0) (int_eq q k) (is_some (find int_cmp q ds)) ∙ ap (λ b. int_eq q k || b) (sym (at (int_eq q d.0) d.1 (find int_cmp q ds)))
+
+pub docid_is_taken : DocidIsTaken
+docid_is_taken documents docid other cells = has_docid_put other docid cells documents
 
 -- ---- where an Update sets a docid
 

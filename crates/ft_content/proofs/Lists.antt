@@ -1,5 +1,5 @@
 -- Tests of mapped lists.
-use Rattle.std.proofs.Common.{◌≡◌, ◌+◌, Bool, cond, not, nat_lt, ◌&&◌, ◌||◌, List, [], ◌∷◌, map, length, None, Some, refl, ap}
+use Rattle.std.proofs.Common.{◌≡◌, ◌+◌, Bool, true, false, cond, not, nat_lt, ◌&&◌, ◌||◌, List, [], ◌∷◌, map, length, None, Some, refl, ap}
 use Rattle.std.specs.Prelude.{position}
 use Rattle.std.specs.List.{list_any, list_all, position_or_len}
 use Rattle.std.proofs.lemmas.List.{length-map}
@@ -25,3 +25,7 @@ length_of_map h xs = length-map xs h
 pub map_of_map : {X Y Z : Type 0} (g : Y → Z) (h : X → Y) (xs : List X) → map g (map h xs) ≡ map (λ x. g (h x)) xs
 map_of_map g h [] = refl
 map_of_map g h (x ∷ xs) = ap (λ zs. g (h x) ∷ zs) (map_of_map g h xs)
+
+pub neither : (x y : Bool) → (x || y) ≡ false → (x ≡ false) × (y ≡ false)
+neither true y h = absurd (let no = h in cc)
+neither false y h = (refl, h)

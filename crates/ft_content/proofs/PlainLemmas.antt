@@ -16,6 +16,7 @@ use Rattle.ft_content.specs.Content.{same_name, names_of, repeats_name}
 use Rattle.ft_content.specs.Deserved.{Held, Table, table_named}
 use Rattle.ft_content.specs.Step.{free_id_from, on_table}
 use Rattle.ft_content.specs.declared.plain.table.PlainTable.{PlainTable}
+use Rattle.ft_content.proofs.Lists.{neither}
 use Rattle.ft_content.specs.Plain.{plain_column, texts_of, text_cells, documents_from, table_of, contents_from}
 
 pub after_is : (a b : ℕ) → b < a → int_cmp (pos a) (pos b) ≡ Greater
@@ -84,10 +85,6 @@ same_like a b c h = ap (λ low. bytes_eq (str_to_ascii_lowercase a) low) (sym ((
 same_turned : (a b : List ℕ) → same_name a b ≡ same_name b a
 same_turned a b = same_from_decides (same_name a b) (same_name b a) (bytes_eq-Decides (str_to_ascii_lowercase a) (str_to_ascii_lowercase b))
     ((λ h. sym ((bytes_eq-Decides (str_to_ascii_lowercase b) (str_to_ascii_lowercase a)).0 h)), (λ e. (bytes_eq-Decides (str_to_ascii_lowercase b) (str_to_ascii_lowercase a)).1 (sym e)))
-
-neither : (x y : Bool) → (x || y) ≡ false → (x ≡ false) × (y ≡ false)
-neither true y h = absurd (let no = h in cc)
-neither false y h = (refl, h)
 
 -- the test by which a table is found
 abbrev pub is_named : List ℕ → PlainTable → Bool

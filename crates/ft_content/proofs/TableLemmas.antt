@@ -18,7 +18,7 @@ use Rattle.ft_content.specs.Deserved.{Contents, Table, table_named}
 use Rattle.ft_content.specs.Step.{free_id_from}
 use Rattle.ft_content.specs.declared.table.TableInfo.{TableInfo}
 use Rattle.ft_content.specs.Views.{table_names, table_ids, info_names, info_ids}
-use Rattle.ft_content.proofs.Lists.{length_of_map, position_of_map}
+use Rattle.ft_content.proofs.Lists.{length_of_map, position_of_map, neither}
 
 named : (contents : Contents) (name : List ℕ) → is_some (table_named contents name) ≡ list_any (λ n. same_name n name) (table_names contents)
 named [] name = refl
@@ -63,10 +63,6 @@ named_place contents name tables same =
 abbrev pub place_among : ℤ → List ℤ → ℕ
 place_among id [] = 0
 place_among id (other ∷ ids) = cond (is_lt (int_cmp id other)) 0 (1 + place_among id ids)
-
-neither : (x y : Bool) → (x || y) ≡ false → (x ≡ false) × (y ≡ false)
-neither true y h = absurd (let no = h in cc)
-neither false y h = (refl, h)
 
 insert_later : {X : Type 0} (x y : X) (xs : List X) (k : ℕ) → x ∷ insert xs k y ≡ insert (x ∷ xs) (1 + k) y
 insert_later x y xs k = let next : suc k ≡ 1 + k = omega arith in subst (λ n. x ∷ insert xs k y ≡ insert (x ∷ xs) n y) next refl
@@ -114,10 +110,10 @@ free_above n (t ∷ ts) = omega (arith, free_above (cond (int_eq t.0 (pos n)) (n
 less_means : (a b : ℤ) → int_cmp a b ≡ Less → a <ℤ b
 less_means a b e = subst (λ o. MatchOrdering o (a <ℤ b) (a ≡ b) (b <ℤ a)) e (int_ranks a b)
 
-greater_means : (a b : ℤ) → int_cmp a b ≡ Greater → b <ℤ a
+pub greater_means : (a b : ℤ) → int_cmp a b ≡ Greater → b <ℤ a
 greater_means a b e = subst (λ o. MatchOrdering o (a <ℤ b) (a ≡ b) (b <ℤ a)) e (int_ranks a b)
 
-less_is : (o : Ordering) → is_lt o ≡ true → o ≡ Less
+pub less_is : (o : Ordering) → is_lt o ≡ true → o ≡ Less
 less_is Less h = refl
 less_is Equal h = absurd (let no = h in cc)
 less_is Greater h = absurd (let no = h in cc)

@@ -1,11 +1,12 @@
--- How the index changes with one document.
-use Rattle.std.specs.Prelude.{◌≡◌, ℕ, Bool, cond, not, List, [], ◌∷◌, map, filter, Option, Some, None, ℤ, length, nat_lt, IsTrue}
+-- How the index changes with one document, and laws of commands.
+use Rattle.std.specs.Prelude.{◌≡◌, ℕ, Bool, cond, not, ◌||◌, List, [], ◌∷◌, map, filter, Option, Some, None, ℤ, length, nat_lt, IsTrue}
 use Rattle.std.specs.Ordering.{int_cmp, int_eq, eq_by_cmp}
 use Rattle.std.specs.FinMap.Entries.{put, find, where_key, is_sorted}
 use Rattle.ft_store.specs.Store.{Cell}
 use Rattle.ft_content.specs.Content.{Column, Documents, Content, IsContent}
 use Rattle.ft_content.specs.Command.{Filter}
-use Rattle.ft_content.specs.Deserved.{Contents, listed_columns, create_fault, insert_fault, update_fault}
+use Rattle.ft_content.specs.Deserved.{Contents, has_docid, listed_columns, create_fault, insert_fault, update_fault}
+use Rattle.ft_content.specs.Answer.{cut}
 use Rattle.ft_content.specs.Index.{Spot, Entry, Size, Key, key_cmp, key_of, SpotLists, spot_lists, document_entries, entries, document_sizes, sizes}
 use Rattle.ft_content.specs.Step.{without_docid, made_column, inserted, updated, deleted}
 
@@ -111,3 +112,13 @@ DeleteKeepsContent = (table : List ℕ) (content : Content) (f : Filter) → IsC
 abbrev pub CreateMakesContent : Type 0
 CreateMakesContent = (contents : Contents) (table module_name : List ℕ) (options : List (List ℕ × List ℕ)) (names : List (List ℕ)) (if_new : Bool) →
     IsTrue (nat_lt 0 (length names)) → create_fault contents table module_name options names if_new ≡ None → IsContent table (content_with (map (made_column options) names) [])
+
+-- ---- a command in pieces
+
+-- After a document is put its docid is taken, and so is each that was.
+abbrev pub DocidIsTaken : Type 0
+DocidIsTaken = (documents : Documents) (docid other : ℤ) (cells : List Cell) → has_docid (put int_cmp docid cells documents) other ≡ (int_eq other docid || has_docid documents other)
+
+-- Documents may be cut off before their rows are made.
+abbrev pub RowsAreCutFirst : Type 0
+RowsAreCutFirst = (row : ℤ × List Cell → List Cell) (limit : Option ℕ) (offset : ℕ) (documents : Documents) → cut limit offset (map row documents) ≡ map row (cut limit offset documents)

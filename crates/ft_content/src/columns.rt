@@ -1,14 +1,15 @@
 // The columns of a table by their names.
-ghost use Rattle.std.specs.Prelude.{◌≡◌, ◌||◌};
+ghost use Rattle.std.specs.Prelude.{◌≡◌, ◌||◌, ◌++◌, OnOk};
 ghost use Rattle.std.specs.List.{list_any};
 ghost use Rattle.ft_content.specs.Content as content;
 ghost use Rattle.ft_content.specs.Answer as answer;
 ghost use Rattle.ft_content.specs.Deserved as deserved;
-ghost use Rattle.ft_content.specs.Views.{bare_content, filter_of};
+ghost use Rattle.ft_content.specs.Views.{bare_content, filter_of, names_in};
 
 use crate::command::Filter;
 use crate::names::{is_docid, same_name};
 use crate::table::Column;
+use std::alloc::{AllocError, Global};
 
 /// The place of the column of this name, if there is one.
 pub fn column_place(columns: &[Column], name: &str) -> Option<usize>
@@ -50,4 +51,18 @@ fn is_searched(table: &str, columns: &[Column], name: &str) -> bool
     ensures { result ≡ (content.same_name table.now name.now || list_any (content.same_name name.now) (content.names_of (bare_content columns.now).columns)) }
 {
     same_name(table, name) || is_column(columns, name)
+}
+
+// Puts the columns' names behind these.
+pub(crate) fn push_names(
+    alloc: Global,
+    names: &mut Vec<String>,
+    columns: &[Column],
+) -> Result<(), AllocError>
+    ensures { OnOk result (names_in names.new ≡ names_in names.old ++ content.names_of (bare_content columns.now).columns) }
+{
+    for column in columns {
+        names.push(String::from_str(alloc, column.name.as_str())?)?;
+    }
+    Ok(())
 }

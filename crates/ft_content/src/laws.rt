@@ -2,6 +2,7 @@
 ghost use Rattle.ft_content.specs.Content.{RowsAreRead, ContentsAreOne};
 ghost use Rattle.ft_content.specs.Laws.{CreateMakesContent, InsertKeepsContent, UpdateKeepsContent, DeleteKeepsContent};
 ghost use Rattle.ft_content.specs.Laws.{PutsDocuments, DropsDocuments, ListsAreEntries, PutsLists, DropsLists, PlanIsRight, DropPlanIsRight};
+ghost use Rattle.ft_content.specs.Laws.{DocidIsTaken, RowsAreCutFirst};
 ghost use Rattle.ft_content.specs.Meaning.{ListsMeanDocuments, HitsAreChosen, TermsAreTheirLists, TermsAreCounted, DocumentsAreInOrder};
 
 /// What a command makes of a content is a content.
@@ -16,6 +17,12 @@ pub fn commands_keep_contents()
 pub fn rows_hold_one_content()
     ensures read { RowsAreRead }
     ensures one { ContentsAreOne }
+{}
+
+/// A command may be done in pieces: row by row, and with the documents cut off before their rows are made.
+pub fn commands_in_pieces()
+    ensures taken { DocidIsTaken }
+    ensures cut { RowsAreCutFirst }
 {}
 
 /// The index follows the content one document at a time.

@@ -27,7 +27,8 @@ pub use fault::Fault;
 pub use ft_store::Value;
 pub use insert::{insert_tests, listed_names, new_cells, row_docid};
 pub use laws::{
-    commands_keep_contents, index_by_document, lists_mean_documents, rows_hold_one_content,
+    commands_in_pieces, commands_keep_contents, index_by_document, lists_mean_documents,
+    rows_hold_one_content,
 };
 pub use limit::cut;
 pub use names::repeats_name;

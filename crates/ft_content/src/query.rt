@@ -7,7 +7,7 @@ ghost use Rattle.ft_content.specs.Answer.{reading};
 ghost use Rattle.ft_content.specs.Deserved.{query_fault};
 ghost use Rattle.ft_content.specs.Views.{bare_content};
 
-use crate::columns::column_place;
+use crate::columns::{column_place, push_names};
 use crate::fault::Fault;
 use crate::table::Column;
 use ft_query::{Query, parse};
@@ -17,9 +17,7 @@ fn named_columns(alloc: Global, columns: &[Column]) -> Result<Vec<String>, Alloc
     ensures { IfOk result (λ names. map string_bytes names.items ≡ names_of (bare_content columns.now).columns) }
 {
     let mut names = Vec::new(alloc);
-    for column in columns {
-        names.push(column.name.clone()?)?;
-    }
+    push_names(alloc, &mut names, columns)?;
     Ok(names)
 }
 

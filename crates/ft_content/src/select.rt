@@ -1,6 +1,7 @@
 // What a Select answers, and the tests of its names.
-ghost use Rattle.std.specs.Prelude.{◌≡◌, ◌∷◌, ◌++◌, ◌&&◌, ◌||◌, [], not, map, codes, slice_get, unwrap_or, string_bytes, IfOk, OnOk};
+ghost use Rattle.std.specs.Prelude.{◌≡◌, ◌∷◌, ◌++◌, ◌&&◌, ◌||◌, [], false, not, Option, map, codes, slice_get, unwrap_or, string_bytes, IfOk, OnOk};
 ghost use Rattle.std.specs.List.{list_any, flat_map};
+ghost use Rattle.ft_query.specs.Trees.{Tree};
 ghost use Rattle.ft_store.specs.Store as store;
 ghost use Rattle.ft_store.specs.Changes.{shown_value};
 ghost use Rattle.ft_content.specs.Content.{names_of};
@@ -8,7 +9,7 @@ ghost use Rattle.ft_content.specs.Answer as answer;
 ghost use Rattle.ft_content.specs.Deserved as deserved;
 ghost use Rattle.ft_content.specs.Views.{bare_content, cells_of, names_in, rows_of, item_of, items_of, filter_of};
 
-use crate::columns::{column_place, has_column, names_unknown};
+use crate::columns::{column_place, has_column, names_unknown, push_names};
 use crate::command::{Filter, Item, Items};
 use crate::fault::Fault;
 use crate::names::{is_docid, same_name};
@@ -121,15 +122,6 @@ fn name_at(columns: &[Column], place: usize) -> &str
         Some(column) => column.name.as_str(),
         None => "",
     }
-}
-
-fn push_names(alloc: Global, names: &mut Vec<String>, columns: &[Column]) -> Result<(), AllocError>
-    ensures { OnOk result (names_in names.new ≡ names_in names.old ++ names_of (bare_content columns.now).columns) }
-{
-    for column in columns {
-        names.push(String::from_str(alloc, column.name.as_str())?)?;
-    }
-    Ok(())
 }
 
 fn offsets_header(alloc: Global, table: &str) -> Result<String, AllocError>
@@ -253,7 +245,7 @@ fn push_item(
     Ok(())
 }
 
-/// The row of a document, where the offsets of the query in it are this text.
+/// The row of a document, where the offsets of the query in it are this text. They need not be where none are asked for.
 pub fn item_row(
     alloc: Global,
     columns: &[Column],
@@ -262,7 +254,10 @@ pub fn item_row(
     cells: &[Value],
     offsets: &str,
 ) -> Result<Vec<Value>, AllocError>
-    ensures { IfOk result (λ row. cells_of row ≡ flat_map (answer.cells_with (store.Text offsets.now) (bare_content columns.now) (docid, map shown_value cells.now)) (map item_of items.now)) }
+    ensures asked { (query : Option Tree) → answer.offsets_cell query (bare_content columns.now) (docid, map shown_value cells.now) ≡ store.Text offsets.now →
+        IfOk result (λ row. cells_of row ≡ flat_map (answer.item_cells query (bare_content columns.now) (docid, map shown_value cells.now)) (map item_of items.now)) }
+    ensures unasked { (query : Option Tree) → list_any deserved.is_offsets (map item_of items.now) ≡ false →
+        IfOk result (λ row. cells_of row ≡ flat_map (answer.item_cells query (bare_content columns.now) (docid, map shown_value cells.now)) (map item_of items.now)) }
 {
     let mut row = Vec::new(alloc);
     for item in items {

@@ -1,6 +1,6 @@
 -- before the first table with a greater id
 use mir.Val.{to_z, of_z}
-use Rattle.std.proofs.Common.{◌≡◌, ℕ, ℤ, ◌+◌, drop, ap, subst, ◌∙◌, rules, arith}
+use Rattle.std.proofs.Common.{◌≡◌, ℤ, ◌+◌, drop, ap, subst, ◌∙◌, rules, arith}
 use Rattle.std.specs.Prelude.{insert}
 use Rattle.std.specs.Int.{w64}
 use Rattle.std.proofs.lemmas.Int.{ints}

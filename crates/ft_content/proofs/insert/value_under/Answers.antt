@@ -6,11 +6,8 @@ use denote.Ref.{Bor}
 use Rattle.ft_store.specs.declared.rows.Value.{Value}
 use Rattle.ft_store.specs.Store.{Cell}
 use Rattle.ft_content.specs.Content.{same_name}
-use Rattle.ft_content.proofs.GivenLemmas.{given, find_given}
+use Rattle.ft_content.proofs.GivenLemmas.{given, find_given, pointed}
 use Rattle.ft_content.proofs.insert.value_under.Goals as goal
-
-abbrev pointed : Bor (Bor (List ℕ)) × Bor Value → Bor (List ℕ) × Value
-pointed p = (p.0.now, p.1.now)
 
 pub returns-in-Some : goal.returns-in-Some
 returns-in-Some c =

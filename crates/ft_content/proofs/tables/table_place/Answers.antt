@@ -1,5 +1,5 @@
 -- the tables by their names
-use Rattle.std.proofs.Common.{ℕ, List, string_bytes, sym, ap, ◌∙◌, rules, tests}
+use Rattle.std.proofs.Common.{string_bytes, sym, ap, ◌∙◌, rules, tests}
 use Rattle.std.specs.Prelude.{slice_get, option_and_then}
 use Rattle.std.proofs.lemmas.Iterator.{YieldsList-from_slice}
 use Rattle.std.proofs.lemmas.Iterator.Search.{position_from_yields_List}
