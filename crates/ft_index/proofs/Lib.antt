@@ -8,3 +8,4 @@ pub mod AskedLemmas
 pub mod WalkedLemmas
 pub mod ReadsLemmas
 pub mod TakenLemmas
+pub mod MatchedLemmas

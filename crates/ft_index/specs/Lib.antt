@@ -4,3 +4,4 @@ pub mod RowLaws
 pub mod RowsRead
 pub mod Walked
 pub mod Placed
+pub mod Matched

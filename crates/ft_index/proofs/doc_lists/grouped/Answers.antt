@@ -1,12 +1,10 @@
 -- one document's list at a time
-use Rattle.std.proofs.Common.{◌≡◌, ◌∙◌, ◌++◌, ◌≤◌, List, [], ◌∷◌, Some, map, length, sym, ap, subst, arith, rules, take, drop}
+use Rattle.std.proofs.Common.{◌≡◌, ◌∙◌, Some, arith, rules}
 use Rattle.std.specs.Prelude.{slice_get}
 use Rattle.std.proofs.lemmas.List.Sums.{prefix_len-le-length}
 use Rattle.std.specs.Ordering.{int_eq}
-use Rattle.ft_query.specs.Documents.{PlaceList, plain_list}
 use Rattle.ft_index.specs.declared.doc_lists.Placed.{Placed}
-use Rattle.ft_index.specs.Placed.{by_docid, list_with, run_with}
-use Rattle.ft_index.proofs.PlacedLemmas.{first_lists, no_lists, next_lists, last_lists, counted}
+use Rattle.ft_index.proofs.PlacedLemmas.{next_lists, last_lists}
 use Rattle.ft_index.proofs.doc_lists.grouped.Goals as goal
 
 pub split_at-requires : goal.split_at-requires
