@@ -1,10 +1,10 @@
 -- The rows that are asked for a content's terms are the lists that a walk wants.
 use Rattle.std.proofs.Common.{◌≡◌, ℕ, ℤ, ◌+◌, ◌≤◌, Bool, true, false, cond, ◌&&◌, T, inl, inr, List, [], ◌∷◌, ◌++◌, map, Some, None, Option, length, suc, refl, sym, ap, subst, ◌∙◌, arith, IsPermutation, IsSorted}
-use Rattle.std.specs.Prelude.{filter, is_some, nat_abs, AllPairs, All, ◌<ℤ◌}
+use Rattle.std.specs.Prelude.{filter, is_some, nat_abs, AllPairs, ◌<ℤ◌}
 use Rattle.std.specs.List.{flat_map, AllByRecursion}
 use Rattle.std.specs.declared.cmp.Ordering.{Ordering}
 use Rattle.std.specs.declared.cmp.Ordering.TheVariants.{Less, Equal, Greater}
-use Rattle.std.specs.Ordering.{nat_cmp, int_cmp, int_eq, is_eq, ordering_then}
+use Rattle.std.specs.Ordering.{nat_cmp, int_eq, is_eq, ordering_then}
 use Rattle.std.specs.Cmp.{IsTotalOrder, nat_cmp_total, int_cmp_total, nat_cmp_is, int_cmp_is, tied_itself}
 use Rattle.std.specs.FinMap.Entries.{by_order, put, find, length-put, where_key}
 use Rattle.std.proofs.lemmas.Cmp.{on_total, then_total}
@@ -13,19 +13,19 @@ use Rattle.std.proofs.lemmas.List.Elements.{recursion_from_All}
 use Rattle.std.proofs.lemmas.List.Sums.{sum_by-cons}
 use Rattle.std.proofs.lemmas.List.Sorted.{IsPermutation-refl, IsPermutation-cons, IsPermutation-trans, IsPermutation-sym, IsPermutation-middle, IsPermutation-map, length_permutation}
 use Rattle.sqlite_trees.specs.Tree.{IsAscending}
-use Rattle.sqlite_keyed.proofs.ListLemmas.{map-map, flat_map-map, flat_map-filter, all_of, all_weaker, all-map, all-flat_map, ascending-append, ascending-map, ascending_weaker, ascending-filter}
+use Rattle.sqlite_keyed.proofs.ListLemmas.{map-map, flat_map-map, flat_map-filter, all_weaker, all-map, all-flat_map, ascending-append, ascending-map, ascending_weaker, ascending-filter}
 use Rattle.sqlite_keyed.proofs.SortLemmas.{sorted_unique}
 use Rattle.ft_query.specs.declared.lists.Place.{Place}
 use Rattle.ft_query.specs.Documents.{Posting, Document, IsBefore, AreDocuments, PlaceList, is_filled, has_places, places_with, lists_with, place_count}
 use Rattle.ft_store.specs.Store.{ListKey, list_key_cmp}
 use Rattle.ft_store.specs.declared.rows.EntryRow.{EntryRow}
-use Rattle.ft_store.specs.Shown.{shown_entry, entries_of}
+use Rattle.ft_store.specs.Shown.{entries_of}
 use Rattle.ft_store.proofs.SelectLemmas.{filter_passes}
 use Rattle.ft_content.specs.Index.{Entry, Key, StoredSpot}
 use Rattle.ft_content.specs.Meaning.{plain_spot, entries_in, entry_cmp, entry_set, posting_of, with_entry, grouped, documents_in, lists_of_terms, all_places}
 use Rattle.ft_content.proofs.MeaningLemmas.{entry_total, sorted_set}
 use Rattle.ft_index.specs.declared.doc_lists.Placed.{Placed}
-use Rattle.ft_index.specs.Placed.{placed_at, place_in, placed_cmp, list_with, with_placed, by_docid, AreListsOf}
+use Rattle.ft_index.specs.Placed.{placed_at, placed_cmp, with_placed, by_docid, AreListsOf}
 use Rattle.ft_index.proofs.PlacedLemmas.{docids_same, counted}
 
 -- ---- rows as entries

@@ -26,3 +26,4 @@ pub mod IndexOf
 pub mod NearLemmas
 pub mod CreateLemmas
 pub mod Executing
+pub mod MatchedLemmas

@@ -1,5 +1,9 @@
 -- Places by document.
+<<<<<<< HEAD
 use Rattle.std.proofs.Common.{◌≡◌, ℕ, ℤ, ◌+◌, Bool, true, false, cond, Some, None, List, [], ◌∷◌, ◌++◌, map, length, refl, sym, ap, ◌∙◌, suc, arith, take, drop, subst, append_assoc, append-nil}
+=======
+use Rattle.std.proofs.Common.{◌≡◌, ℕ, ℤ, ◌+◌, Bool, true, false, cond, Some, None, List, [], ◌∷◌, ◌++◌, map, length, refl, sym, ap, ◌∙◌, suc, arith, take, drop, subst, append_assoc, append-nil, IsPermutation}
+>>>>>>> 24c3d98593e2296add1f7666dbfbca884893683c
 use Rattle.std.specs.Prelude.{slice_get}
 use Rattle.std.specs.List.{prefix_len}
 use Rattle.std.specs.declared.cmp.Ordering.{Ordering}
@@ -8,6 +12,7 @@ use Rattle.std.specs.Ordering.{int_eq, is_eq}
 use Rattle.std.specs.Cmp.{eq_by_cmp_equiv, int_cmp_total, tied_itself}
 use Rattle.std.proofs.lemmas.Map.Lookups.{exact_signed}
 use Rattle.std.proofs.lemmas.List.{map-append}
+use Rattle.std.proofs.lemmas.List.Sorted.{IsPermutation-refl}
 use Rattle.std.proofs.lemmas.List.Sums.{sum_by-cons}
 use Rattle.ft_query.specs.declared.lists.DocList.{DocList}
 use Rattle.ft_query.specs.Documents.{PlaceList, plain_list, place_count}
@@ -102,3 +107,6 @@ next_lists lists more ps own others p list n here longer shows count front back 
 pub last_lists : (lists : List DocList) (ps : List Placed) → slice_get ps 0 ≡ None → map plain_list lists ≡ map plain_list lists ++ by_docid ps
 last_lists lists [] none = sym (append-nil (map plain_list lists)) ∙ ap (λ ls. map plain_list lists ++ ls) (sym no_lists)
 last_lists lists (p ∷ ps) none = absurd (let no = none in cc)
+
+pub same_places : (ps : List Placed) → IsPermutation ps ps
+same_places ps = IsPermutation-refl ps

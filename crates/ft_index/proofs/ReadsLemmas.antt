@@ -1,11 +1,11 @@
 -- Reads one after another, as calls of lists.
-use Rattle.std.proofs.Common.{◌≡◌, ◌⊎◌, inl, inr, ℕ, ◌+◌, ◌-◌, ◌^◌, ◌<◌, Bool, true, false, min, refl, sym, ap, subst, ◌∙◌, arith, IsTrue, Result, Ok, Err}
+use Rattle.std.proofs.Common.{◌≡◌, ◌⊎◌, inl, inr, ℕ, ◌+◌, ◌-◌, ◌^◌, ◌<◌, Bool, true, false, min, refl, ◌∙◌, arith, IsTrue, Result, Ok, Err}
 use Rattle.std.specs.Prelude.{is_ok, OnOk}
 use Rattle.sqlite.specs.State.{State, HasCleanDisk, Survives}
 use Rattle.sqlite.specs.Store.{Ghosts}
 use Rattle.ft_query.specs.Lists.{Reaches, Stays, Goes, Ends}
 use Rattle.ft_store.specs.Calls.{Keeps}
-use Rattle.ft_store.specs.Kept.{StoreState, shows, more_rows}
+use Rattle.ft_store.specs.Kept.{StoreState, shows}
 use Rattle.ft_store.proofs.ChainLemmas.{kept_then, reads_then}
 use Rattle.ft_index.specs.Walked.{Reads}
 
@@ -18,6 +18,10 @@ grows_then : (r g r' g' r'' g'' n : ℕ) → r' ≡ min (r + n) (2 ^ 64 - 1) →
 grows_then r g r' g' r'' g'' n rows given (inl same) = inr (n, same.0 ∙ rows, same.1 ∙ given)
 grows_then r g r' g' r'' g'' n rows given (inr more) = inr (n + more.0, (let h = more.1 in omega arith), (let h = more.2 in omega arith))
 
+-- where nothing is done, nothing is committed
+pub nothing_done : (s : State) → Survives s s (λ _. IsTrue s.is_open → ⊥)
+nothing_done s = record { clean = omega arith; shield = λ h. h; counts = omega arith; limit = refl; closes = λ clean is_open. inl is_open; crash = λ clean db h. inl h }
+
 -- what reads do, perhaps none
 pub record Read {S : Type 0} (g : Ghosts S) (old : StoreState S) (given : ℕ) (all : Bool) (new : StoreState S) (given_now : ℕ) : Type 0 where
   pub kept : HasCleanDisk (shows g new) → Keeps (shows g old) (shows g new)
@@ -28,7 +32,7 @@ module _ {X S : Type 0} (g : Ghosts S) (Becomes : X → Bool → X → Type 0) (
   none_read : (x : X) (all : Bool) → Read g (store x) (given x) all (store x) (given x)
   none_read x all = record {
     kept = λ clean is_open. (refl, refl, is_open);
-    survives = record { clean = omega arith; shield = λ h. h; counts = omega arith; limit = refl; closes = λ clean is_open. inl is_open; crash = λ clean db h. inl h };
+    survives = nothing_done (shows g (store x));
     counted = λ all. inl (refl, refl);
   }
 

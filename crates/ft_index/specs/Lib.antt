@@ -9,3 +9,4 @@ pub mod Found
 pub mod Planned
 pub mod Placed
 pub mod Changed
+pub mod Matched

@@ -1,5 +1,5 @@
 // Index rows, as lists of places by document.
-ghost use Rattle.std.specs.Prelude.{◌≡◌, map, nat_abs, IfOk, IsPermutation, IsSorted};
+ghost use Rattle.std.specs.Prelude.{◌≡◌, map, nat_abs, IfOk, OnOk, IsPermutation, IsSorted};
 ghost use Rattle.ft_query.specs.Documents.{plain_list};
 ghost use Rattle.ft_index.specs.Placed.{placed_at, place_in, placed_cmp, run_with, list_with, by_docid, AreListsOf};
 
@@ -55,16 +55,16 @@ fn places_of(alloc: Global, rows: &[EntryRow]) -> Result<Vec<Placed>, AllocError
     rows.iter().map(|row| Placed::of_row(row)).collect(alloc)
 }
 
-/// The places of rows, in order. The rows of one term stand so already.
-fn in_order(alloc: Global, rows: &[EntryRow]) -> Result<Vec<Placed>, AllocError>
-    ensures same { IfOk result (λ places. IsPermutation (map placed_at rows.now) places.items) }
-    ensures sorted { IfOk result (λ places. IsSorted placed_cmp places.items) }
+#[tactic(auto, using(crate::proofs::PlacedLemmas::same_places))]
+/// Puts places in order. Those of one term's rows stand so already.
+fn put_in_order(places: &mut Vec<Placed>) -> Result<(), AllocError>
+    ensures same { IsPermutation places.old.items places.new.items }
+    ensures sorted { OnOk result (IsSorted placed_cmp places.new.items) }
 {
-    let mut places = places_of(alloc, rows)?;
     if !places.is_sorted() {
         places.sort()?;
     }
-    Ok(places)
+    Ok(())
 }
 
 /// How many of the first places are in the document of this one.
@@ -111,6 +111,7 @@ fn grouped(alloc: Global, places: &[Placed]) -> Result<Vec<DocList>, AllocError>
 pub(crate) fn doc_lists(alloc: Global, rows: &[EntryRow]) -> Result<Vec<DocList>, AllocError>
     ensures { IfOk result (λ lists. AreListsOf rows.now (map plain_list lists.items)) }
 {
-    let places = in_order(alloc, rows)?;
+    let mut places = places_of(alloc, rows)?;
+    put_in_order(&mut places)?;
     grouped(alloc, places.as_slice())
 }

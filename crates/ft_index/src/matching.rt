@@ -1,5 +1,5 @@
 // What a MATCH finds in a table's index.
-ghost use Rattle.std.specs.Prelude.{◌≡◌, ◌^◌, ◌<◌, ◌⊎◌, List, map, IsTrue, IfOk, IfErr, OnOk, MatchOption, ⊤, ◌↔◌};
+ghost use Rattle.std.specs.Prelude.{◌≡◌, ◌^◌, ◌<◌, ◌⊎◌, ℕ, List, map, option_map, Ok, IsTrue, IfOk, IfErr, OnOk, MatchOption, ⊤, ◌↔◌};
 ghost use Rattle.sqlite.specs.State.{HasCleanDisk, Survives};
 ghost use Rattle.ft_query.specs.Documents.{Document};
 ghost use Rattle.ft_query.specs.Trees.{tree_of};
@@ -11,8 +11,11 @@ ghost use Rattle.ft_store.specs.Kept.{shows, more_rows};
 ghost use Rattle.ft_content.specs.declared.fault.Fault.TheVariants as faults;
 ghost use Rattle.ft_content.specs.Content.{Content};
 ghost use Rattle.ft_content.specs.Meaning.{content_documents};
-ghost use Rattle.ft_content.specs.Answer.{cut};
+ghost use Rattle.ft_content.specs.Command.{Matching};
+ghost use Rattle.ft_content.specs.Answer.{reading, query_in, cut};
 ghost use Rattle.ft_index.specs.Walked.{IsIndexed};
+ghost use Rattle.ft_index.specs.Matched.{chosen_hits};
+ghost use Rattle.ft_index.specs.RowsRead.{entries_asked};
 
 use crate::table_lists::TableLists;
 use ft_content::Fault;
@@ -95,5 +98,28 @@ pub(crate) fn hits<S: Alter>(
     match opened(alloc, query, &mut lists) {
         Ok(mut walk) => Ok(taken(alloc, &mut walk, most)?),
         Err(fault) => Err(fault_of(fault)),
+    }
+}
+
+/// The documents that a MATCH chooses, as `hits` gives them, by its text's query. Without a query there are none, and nothing is read.
+pub(crate) fn matched<S: Alter>(
+    store: &mut Store<S>,
+    alloc: Global,
+    tab: i64,
+    query: Option<&Query>,
+    most: Option<u64>,
+) -> Result<Vec<Hit>, Fault>
+    ensures found { IfOk result (λ hits. (content : Content) (name text : List ℕ) → reading content name text ≡ Ok (option_map (λ q. tree_of q.now) query.entry)
+        → IsIndexed S.Store tab store.old store.new content → map plain_hit hits.items ≡ cut most 0 (chosen_hits content (Matching name text))) }
+    ensures counted { OnOk result ((content : Content) (name text : List ℕ) → reading content name text ≡ Ok (option_map (λ q. tree_of q.now) query.entry)
+        → IsIndexed S.Store tab store.old store.new content → store.new.rows_read ≡ more_rows (entries_asked content (query_in content (Matching name text))) store.old) }
+    ensures faults { IfErr result (λ fault. (fault ≡ faults.Store) ⊎ (fault ≡ faults.Memory)) }
+    ensures kept { HasCleanDisk (shows S.Store store.new) → Keeps (shows S.Store store.old) (shows S.Store store.new) }
+    ensures survives { Survives (shows S.Store store.old) (shows S.Store store.new) (λ _. IsTrue (shows S.Store store.old).is_open → ⊥) }
+{
+    let _read = store.rows_read();
+    match query {
+        Some(query) => hits(store, alloc, tab, query, most),
+        None => Ok(Vec::new(alloc)),
     }
 }

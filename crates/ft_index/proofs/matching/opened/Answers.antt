@@ -1,5 +1,5 @@
 -- the calls of the lists one after another
-use Rattle.std.proofs.Common.{ℕ, ◌≡◌, ◌+◌, ◌-◌, ◌^◌, min, ap, subst, ◌∙◌, arith}
+use Rattle.std.proofs.Common.{ℕ, ◌+◌, ◌-◌, ◌^◌, min, subst, ◌∙◌, arith}
 use Rattle.std.proofs.lemmas.Result.{IfOk-weaker}
 use Rattle.ft_query.specs.Trees.{tree_of}
 use Rattle.ft_query.specs.Work.{entry_count}

@@ -1,8 +1,7 @@
 -- the walk stops where enough hits are taken, or none is left
-use Rattle.std.proofs.Common.{◌≡◌, ◌<◌, ◌≤◌, ◌++◌, List, [], Option, None, map, length, sym, ap, subst, ◌∙◌, arith, append-nil, rules}
+use Rattle.std.proofs.Common.{◌≡◌, ◌<◌, ◌≤◌, ◌++◌, List, None, map, length, sym, ap, subst, ◌∙◌, append-nil, rules}
 use Rattle.std.specs.Prelude.{MatchOption, ⊤, vec_len}
 use Rattle.std.proofs.lemmas.List.{length-map}
-use Rattle.ft_query.specs.declared.walk.Hit.{Hit}
 use Rattle.ft_query.specs.Trees.{tree_of}
 use Rattle.ft_query.specs.Occurs.{PlainHit, plain_hit, hits_of}
 use Rattle.ft_content.specs.Answer.{cut}

@@ -1,4 +1,4 @@
-use Rattle.std.proofs.Common.{◌≡◌, ◌≤◌, ◌++◌, List, map, length}
+use Rattle.std.proofs.Common.{◌≡◌, ◌≤◌, ◌++◌, List, map}
 use Rattle.std.specs.Prelude.{MatchOption, ⊤, vec_len}
 use Rattle.ft_query.specs.Documents.{Document}
 use Rattle.ft_query.specs.Trees.{tree_of}

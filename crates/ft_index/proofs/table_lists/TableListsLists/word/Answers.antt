@@ -6,7 +6,7 @@ use Rattle.ft_query.specs.Documents.{plain_list, lists_with}
 use Rattle.ft_store.specs.declared.rows.EntryRow.{EntryRow}
 use Rattle.ft_store.specs.Store.{name_cmp}
 use Rattle.ft_index.specs.Placed.{AreListsOf}
-use Rattle.ft_index.specs.Walked.{table_documents, AreReliable}
+use Rattle.ft_index.specs.Walked.{table_documents}
 use Rattle.ft_index.proofs.AskedLemmas.{rows_count}
 use Rattle.ft_index.proofs.WalkedLemmas.{still_reliable, walk_answer, asks_term}
 use Rattle.ft_index.proofs.table_lists.TableListsLists.word.Goals as goal
