@@ -10,11 +10,12 @@ use Rattle.ft_content.specs.declared.table.TableInfo.{TableInfo}
 use Rattle.ft_content.specs.Command.{Command, Create, Reply, Done}
 use Rattle.ft_content.specs.Views.{KnownTable, known_info}
 use Rattle.ft_content.specs.Deserved.{Contents, deserved}
-use Rattle.ft_content.specs.Step.{after, step}
+use Rattle.ft_content.specs.Step.{after, reply_to, step, step_by}
 use Rattle.ft_index.specs.Found.{with_told}
 use Rattle.ft_index.specs.Planned.{Makes, table_change}
 use Rattle.ft_index.specs.Changed.{Changed, with_tables}
-use Rattle.ft_index.specs.Kept.{Known, IsUp, AreHeld, Holds, HoldsSome, Executes, Answers, is_outside, told_table}
+use Rattle.ft_index.specs.Kept.{Known, IsUp, PlansFrom, AreHeld, Holds, HoldsSome, Executes, Answers, is_outside, told_table}
+use Rattle.ft_index.proofs.NameLemmas.{apart_after}
 use Rattle.ft_index.proofs.CreateLemmas.{made_is_held, create_answers, refused_answers, nothing_made}
 
 -- what is executed leaves what it may hold
@@ -29,39 +30,39 @@ pub executes_same : {S : Type 0} (g : Ghosts S) (known : Known S) (command : Com
 executes_same g known command answer answers = record {
   was_up = λ up. up;
   steps = λ up first holds. (first, holds, answers first holds);
-  noted = λ up. refl;
+  noted = λ up first holds. refl;
 }
 
 -- ---- Create
 
 module _ {S : Type 0} (g : Ghosts S) (table module_name : List ℕ) (options : List (List ℕ × List ℕ)) (names : List (List ℕ)) (if_new : Bool) where
-  abbrev command : Command
-  command = Create table module_name options names if_new
+  abbrev create : Command
+  create = Create table module_name options names if_new
 
   abbrev MakesAll : List KnownTable → Result (Option TableInfo) Fault → Type 0
   MakesAll tables result = (contents : Contents) → tables ≡ map told_table contents → Makes contents table module_name options names if_new result
 
-  pub create_refused : (known : Known S) (fault : Fault) → MakesAll known.tables (Err fault) → Executes g known command (Err fault) known
-  create_refused known fault makes = executes_same g known command (Err fault) (λ first holds. due first (makes first holds.told))
+  pub create_refused : (known : Known S) (fault : Fault) → MakesAll known.tables (Err fault) → Executes g known create (Err fault) known
+  create_refused known fault makes = executes_same g known create (Err fault) (λ first holds. due first (makes first holds.told))
     where
-      due : (first : Contents) → (fault ≡ faults.Memory) ⊎ (deserved first command ≡ Some fault) → Answers first command (Err fault) first
+      due : (first : Contents) → (fault ≡ faults.Memory) ⊎ (deserved first create ≡ Some fault) → Answers first create (Err fault) first
       due first (inl memory) = inl (ap (λ f. is_outside (Err f)) memory, refl)
-      due first (inr fault_is) = inr (refused_answers first command fault fault_is)
+      due first (inr fault_is) = inr (refused_answers first create fault fault_is)
 
-  pub create_nothing : (known : Known S) → MakesAll known.tables (Ok None) → Executes g known command (Ok Done) known
-  create_nothing known makes = executes_same g known command (Ok Done) (λ first holds.
+  pub create_nothing : (known : Known S) → MakesAll known.tables (Ok None) → Executes g known create (Ok Done) known
+  create_nothing known makes = executes_same g known create (Ok Done) (λ first holds.
       inr (create_answers first table module_name options names if_new (makes first holds.told).0 ∙ ap (λ cs. (Ok Done, cs)) (nothing_made first table module_name options names if_new (makes first holds.told).1)))
 
   pub create_adds : (old new : StoreState S) (tables : List KnownTable) (made : TableInfo) → MakesAll tables (Ok (Some made)) → AreInOrder (value_in g old) → Changed g old new (table_change made ∷ []) true →
-      Executes g (with_tables old tables) command (Ok Done) (with_tables new (with_told (known_info made) tables))
+      Executes g (with_tables old tables) create (Ok Done) (with_tables new (with_told (known_info made) tables))
   create_adds old new tables made makes order changed = record {
     was_up = λ up. changed.was_up (with_told (known_info made) tables) tables up;
     steps = λ up first holds. (
-      after first command,
-      subst (λ v. AreHeld v (with_told (known_info made) tables) (after first command)) (sym (changed.value (with_told (known_info made) tables) up)) (made_is_held first table module_name options names if_new made (value_in g old) tables (makes first holds.told) order holds),
+      after first create,
+      subst (λ v. AreHeld v (with_told (known_info made) tables) (after first create)) (sym (changed.value (with_told (known_info made) tables) up)) (made_is_held first table module_name options names if_new made (value_in g old) tables (makes first holds.told) order holds),
       inr (create_answers first table module_name options names if_new (makes first holds.told).0),
     );
-    noted = λ up. ap (λ v. v.noted) (changed.value (with_told (known_info made) tables) up);
+    noted = λ up first holds. ap (λ v. v.noted) (changed.value (with_told (known_info made) tables) up);
   }
 
 -- a change of rows that was refused, for want of memory or by the store
@@ -70,9 +71,43 @@ pub executes_refused : {S : Type 0} (g : Ghosts S) (old new : StoreState S) (tab
 executes_refused g old new tables changes command fault outside changed = record {
   was_up = λ up. changed.was_up tables tables up;
   steps = λ up first holds. (first, subst (λ v. AreHeld v tables first) (sym (changed.value tables up)) holds, inl (is_out outside, refl));
-  noted = λ up. ap (λ v. v.noted) (changed.value tables up);
+  noted = λ up first holds. ap (λ v. v.noted) (changed.value tables up);
 }
   where
     is_out : (fault ≡ faults.Store) ⊎ (fault ≡ faults.Memory) → IsTrue (is_outside (Err fault))
     is_out (inl e) = ap (λ f. is_outside (Err f)) e
     is_out (inr e) = ap (λ f. is_outside (Err f)) e
+
+-- ---- a plan that is carried out
+
+pub done_answers : (contents : Contents) (command : Command) → deserved contents command ≡ None → reply_to contents command ≡ Done → step contents command ≡ (Ok Done, after contents command)
+unfolding step
+done_answers contents command fine done = ap (λ due. step_by due contents command) fine ∙ ap (λ r. (Ok r, after contents command)) done
+
+-- Row changes that a plan names, and the tables that are told as they are then.
+pub executes_planned : {S : Type 0} (g : Ghosts S) (old new : StoreState S) (tables after_tables : List KnownTable) (changes : List Change) (command : Command) →
+    ((contents : Contents) → AreHeld (value_in g old) tables contents → PlansFrom contents command (value_in g old) (Ok changes)) → Changed g old new changes true →
+    ((contents : Contents) → AreHeld (value_in g old) tables contents → (after_tables ≡ map told_table (after contents command)) × (reply_to contents command ≡ Done)) →
+    Executes g (with_tables old tables) command (Ok Done) (with_tables new after_tables)
+executes_planned g old new tables after_tables changes command plans changed told = record {
+  was_up = λ up. changed.was_up after_tables tables up;
+  steps = λ up first holds. (
+    after first command,
+    subst (λ v. AreHeld v after_tables (after first command)) (sym (changed.value after_tables up)) (record {
+      named_once = apart_after first command holds.named_once;
+      held = (plans first holds).1;
+      told = (told first holds).0;
+    }),
+    inr (done_answers first command (plans first holds).0 (told first holds).1),
+  );
+  noted = λ up first holds. ap (λ v. v.noted) (changed.value after_tables up) ∙ (plans first holds).2;
+}
+
+-- a plan that is refused
+pub executes_unplanned : {S : Type 0} (g : Ghosts S) (store : StoreState S) (tables : List KnownTable) (command : Command) (fault : Fault) →
+    ((contents : Contents) → AreHeld (value_in g store) tables contents → PlansFrom contents command (value_in g store) (Err fault)) → Executes g (with_tables store tables) command (Err fault) (with_tables store tables)
+executes_unplanned g store tables command fault plans = executes_same g (with_tables store tables) command (Err fault) (λ first holds. due first (plans first holds))
+  where
+    due : (first : Contents) → IsTrue (is_outside (Err fault)) ⊎ (deserved first command ≡ Some fault) → Answers first command (Err fault) first
+    due first (inl outside) = inl (outside, refl)
+    due first (inr is) = inr (refused_answers first command fault is)

@@ -1,16 +1,18 @@
 -- The plans of a Create and of a Drop.
-use Rattle.std.proofs.Common.{Ok, ◌≡◌, ℕ, Bool, true, false, cond, not, ◌&&◌, List, [], ◌∷◌, Option, Some, None, ℤ, refl, sym, ap, subst, ◌∙◌}
+use Rattle.std.proofs.Common.{Ok, ◌≡◌, ℕ, Bool, true, false, cond, not, ◌&&◌, List, map, [], ◌∷◌, Option, Some, None, ℤ, refl, sym, ap, subst, ◌∙◌}
 use Rattle.std.specs.Prelude.{is_none}
+use Rattle.std.specs.List.{AllByRecursion}
+use Rattle.std.specs.Ordering.{int_eq}
 use Rattle.ft_store.specs.Store.{StoreValue, AreInOrder, DropTable, applied}
 use Rattle.ft_content.specs.declared.fault.Fault.TheVariants as faults
 use Rattle.ft_content.specs.Content.{same_name}
-use Rattle.ft_content.specs.Command.{Drop}
+use Rattle.ft_content.specs.Command.{Drop, Done}
 use Rattle.ft_content.specs.Views.{KnownTable}
 use Rattle.ft_content.specs.Deserved.{Table, Contents, table_named, first_of, deserved}
-use Rattle.ft_content.specs.Step.{dropped, after}
-use Rattle.ft_index.specs.Found.{known_named}
-use Rattle.ft_index.specs.Kept.{AreHeld, StoreHolds, PlansFrom}
-use Rattle.ft_index.proofs.OneTable.{one_named, ids_sorted}
+use Rattle.ft_content.specs.Step.{dropped, after, reply_to}
+use Rattle.ft_index.specs.Found.{known_named, without_told}
+use Rattle.ft_index.specs.Kept.{AreHeld, StoreHolds, PlansFrom, told_table}
+use Rattle.ft_index.proofs.OneTable.{IsOne, one_named, ids_sorted}
 use Rattle.ft_index.proofs.TableChanges.{drop_spares, drops_one}
 use Rattle.ft_index.proofs.KnownLemmas.{none_named, some_named}
 
@@ -57,3 +59,31 @@ drop_planned store tables contents name if_there known order held named =
     subst (λ k. StoreHolds (applied (DropTable k) store) (dropped contents name)) id (drops_one name t store (applied (DropTable t.0) store) store.tables contents (drop_spares t.0 store) one held.held),
     refl,
     tt)
+
+-- ---- the tables that are told after a Drop
+
+told_without : (name : List ℕ) (t : ℤ × Table) (contents : Contents) → AllByRecursion (IsOne name t) contents → without_told t.0 (map told_table contents) ≡ map told_table (dropped contents name)
+told_without name t [] one = refl
+told_without name t (c ∷ cs) one = go (int_eq t.0 c.0) refl (told_without name t cs one.1)
+  where
+    go : (b : Bool) → int_eq t.0 c.0 ≡ b → without_told t.0 (map told_table cs) ≡ map told_table (dropped cs name) →
+        cond (not (int_eq t.0 c.0)) (told_table c ∷ without_told t.0 (map told_table cs)) (without_told t.0 (map told_table cs)) ≡ map told_table (cond (not (same_name c.1.name name)) (c ∷ dropped cs name) (dropped cs name))
+    go true is rest = ap (λ b. cond (not b) (told_table c ∷ without_told t.0 (map told_table cs)) (without_told t.0 (map told_table cs))) is ∙ rest ∙ sym (ap (λ b. map told_table (cond (not b) (c ∷ dropped cs name) (dropped cs name))) (one.0.agrees ∙ is))
+    go false is rest = ap (λ b. cond (not b) (told_table c ∷ without_told t.0 (map told_table cs)) (without_told t.0 (map told_table cs))) is ∙ ap (λ l. told_table c ∷ l) rest ∙ sym (ap (λ b. map told_table (cond (not b) (c ∷ dropped cs name) (dropped cs name))) (one.0.agrees ∙ is))
+
+pub told_dropped : (store : StoreValue) (tables : List KnownTable) (contents : Contents) (name : List ℕ) (if_there : Bool) (known : KnownTable) → AreInOrder store → AreHeld store tables contents → known_named tables name ≡ Some known →
+    without_told known.id tables ≡ map told_table (after contents (Drop name if_there))
+unfolding after
+told_dropped store tables contents name if_there known order held named =
+    let it = some_named contents name known (ap (λ ts. known_named ts name) (sym held.told) ∙ named) in
+    let one = one_named name it.0 contents (ids_sorted store store.tables contents held.held order.tables) held.named_once it.1 in
+    (λ i. without_told (ap (λ (k : KnownTable). k.id) (sym it.2) i) (held.told i)) ∙ told_without name it.0 contents one
+
+pub told_spared : (store : StoreValue) (tables : List KnownTable) (contents : Contents) (name : List ℕ) (if_there : Bool) → AreHeld store tables contents → known_named tables name ≡ None → tables ≡ map told_table (after contents (Drop name if_there))
+unfolding after
+told_spared store tables contents name if_there held none =
+    held.told ∙ ap (map told_table) (sym (none_dropped contents name (none_named contents name (ap (λ ts. known_named ts name) (sym held.told) ∙ none))))
+
+pub drop_done : (contents : Contents) (name : List ℕ) (if_there : Bool) → reply_to contents (Drop name if_there) ≡ Done
+unfolding reply_to
+drop_done contents name if_there = refl

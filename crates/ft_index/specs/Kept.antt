@@ -110,7 +110,7 @@ Answers old command answer new = (IsTrue (is_outside answer) × (new ≡ old)) �
 pub record Executes {S : Type 0} (g : Ghosts S) (old : Known S) (command : Command) (answer : Result Reply Fault) (new : Known S) : Type 0 where
   pub was_up : IsUp g new → IsUp g old
   pub steps : IsUp g new → (first : Contents) → Holds g old first → (last : Contents) × Holds g new last × Answers first command answer last
-  pub noted : IsUp g new → (value_of g new).noted ≡ (value_of g old).noted
+  pub noted : IsUp g new → (first : Contents) → Holds g old first → (value_of g new).noted ≡ (value_of g old).noted
 
 -- A change names rows of one table and of these documents alone: no change of whole tables.
 abbrev pub IsOfDocids : ℤ → List ℤ → Change → Type 0
@@ -144,9 +144,7 @@ StaysNear contents (Optimize table) changes = changes ≡ []
 -- What a plan is: row changes that lead to what the command leaves, or the fault that it deserves.
 abbrev pub PlansFrom : Contents → Command → StoreValue → Result (List Change) Fault → Type 0
 PlansFrom contents command store (Ok changes) = (deserved contents command ≡ None) × StoreHolds (all_applied changes store) (after contents command) × ((all_applied changes store).noted ≡ store.noted) × StaysNear contents command changes
-PlansFrom contents command store (Err faults.Store) = Unit {0}
-PlansFrom contents command store (Err faults.Memory) = Unit {0}
-PlansFrom contents command store (Err fault) = deserved contents command ≡ Some fault
+PlansFrom contents command store (Err fault) = IsTrue (is_outside (Err fault)) ⊎ (deserved contents command ≡ Some fault)
 
 abbrev pub Plans : {S : Type 0} → Ghosts S → Known S → Command → Result (List Change) Fault → Type 0
 Plans g known command answer = (contents : Contents) → Holds g known contents → PlansFrom contents command (value_of g known) answer

@@ -13,7 +13,7 @@ ghost use Rattle.ft_content.specs.declared.fault.Fault.TheVariants as faults;
 
 use crate::change::change_rows;
 use crate::names::place_of;
-use crate::told::insert_table;
+use crate::told::{insert_table, remove_table};
 use ft_content::{Column, Fault, Reply, TableInfo, create_fault, free_id, made_columns, made_names};
 use ft_store::{RowChange, Store};
 use sqlite::Alter;
@@ -150,4 +150,26 @@ pub(crate) fn drop_changes(
         None => {}
     }
     Ok(changes)
+}
+
+/// Answers a Drop.
+pub(crate) fn drop_table<S: Alter>(
+    alloc: Global,
+    store: &mut Store<S>,
+    tables: &mut Vec<TableInfo>,
+    table: &str,
+    if_there: bool,
+) -> Result<Reply, Fault>
+    ensures { Executes S.Store (with_tables store.old (map known_info tables.old.items)) (plain.Drop table.now if_there)
+        (answer_of result) (with_tables store.new (map known_info tables.new.items)) }
+{
+    store.is_in_order();
+    let changes = drop_changes(alloc, tables.as_slice(), table, if_there)?;
+    change_rows(store, changes.as_slice())?;
+    let known = tables.as_slice();
+    if let Some(place) = place_of(known, table) {
+        let id = known[place].id;
+        remove_table(tables, id);
+    }
+    Ok(Reply::Done)
 }

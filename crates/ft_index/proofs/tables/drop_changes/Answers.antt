@@ -1,5 +1,5 @@
 -- the table of the name is the one that goes
-use Rattle.std.proofs.Common.{◌≡◌, ◌∷◌, [], List, ◌++◌, Ok, refl, sym, ap, subst, ◌∙◌, map, rules, FitsSigned, w64, to_z, of_z, to_z-of_z, Vec, Global}
+use Rattle.std.proofs.Common.{inr, ◌≡◌, ◌∷◌, [], List, ◌++◌, Ok, refl, sym, ap, subst, ◌∙◌, map, rules, FitsSigned, w64, to_z, of_z, to_z-of_z, Vec, Global}
 use Rattle.std.specs.Prelude.{slice_index_or}
 use Rattle.ft_store.specs.Changes.{shown_change}
 use Rattle.ft_store.specs.Store.{Change, DropTable}
@@ -19,9 +19,9 @@ use Rattle.ft_index.proofs.tables.drop_changes.Goals as goal
 use Rattle.ft_index.proofs.tables.drop_changes.Goals.{in-Some+in_ok-push-in-Some, in-None+else-not-if_there}
 
 pub returns-in-None : goal.returns-in-None
-returns-in-None c = λ store contents order held. drop_missing contents c.args.table.now c.args.if_there
+returns-in-None c = λ store contents order held. inr (drop_missing contents c.args.table.now c.args.if_there
     (none_named contents c.args.table.now (ap (λ ts. known_named ts c.args.table.now) (sym held.told) ∙ unplaced known_info (λ (t : KnownTable). same_name t.name c.args.table.now) c.args.tables.now (sym c.place_of.ensures ∙ c.in-None.is)))
-    c.if-not-if_there.true
+    c.if-not-if_there.true)
 
 pub returns : goal.returns
 returns c = elim c.match-place_of.branch [
