@@ -9,3 +9,4 @@ pub mod WalkedLemmas
 pub mod ReadsLemmas
 pub mod TakenLemmas
 pub mod MatchedLemmas
+pub mod ReadingLemmas

@@ -4,6 +4,7 @@
 mod doc_lists;
 mod full_text;
 mod matching;
+mod reading;
 mod table_lists;
 
 pub use ft_content::{Column, Command, Fault, Filter, Grid, Item, Items, Reply, TableInfo, Value};
