@@ -68,7 +68,9 @@ fn opened<'q, S: Alter>(
 }
 
 fn fault_of(fault: ListFault) -> Fault
-    ensures { (result ≡ faults.Store) ⊎ (result ≡ faults.Memory) }
+    ensures failed { fault ≡ ListFault.Failed → result ≡ faults.Store }
+    ensures memory { fault ≡ ListFault.Memory → result ≡ faults.Memory }
+    ensures either { (result ≡ faults.Store) ⊎ (result ≡ faults.Memory) }
 {
     match fault {
         ListFault::Failed => Fault::Store,
@@ -93,6 +95,7 @@ pub(crate) fn hits<S: Alter>(
     ensures kept { HasCleanDisk (shows S.Store store.new) → Keeps (shows S.Store store.old) (shows S.Store store.new) }
     ensures survives { Survives (shows S.Store store.old) (shows S.Store store.new) (λ _. IsTrue (shows S.Store store.old).is_open → ⊥) }
 {
+    // So the count of rows is known to be of 64 bits.
     let _read = store.rows_read();
     let mut lists = TableLists::new(store, tab);
     match opened(alloc, query, &mut lists) {
@@ -117,6 +120,7 @@ pub(crate) fn matched<S: Alter>(
     ensures kept { HasCleanDisk (shows S.Store store.new) → Keeps (shows S.Store store.old) (shows S.Store store.new) }
     ensures survives { Survives (shows S.Store store.old) (shows S.Store store.new) (λ _. IsTrue (shows S.Store store.old).is_open → ⊥) }
 {
+    // So the count of rows is known to be of 64 bits.
     let _read = store.rows_read();
     match query {
         Some(query) => hits(store, alloc, tab, query, most),
