@@ -172,13 +172,13 @@ bare columns = record { columns = columns; documents = [] }
 pub added_rows : (id : ℤ) (name : List ℕ) (columns : List Column) (store : StoreValue) → AreInOrder store → table_rows id (applied (AddTable id name (names_of columns) (skipped_from 0 columns)) store) ≡ content_rows (bare columns)
 added_rows id name columns store order =
     let cs : map {B = ℤ × List ℕ} (λ (c : ColumnKey × List ℕ). (c.0.1, c.1)) (where_key column_key_cmp (λ k. int_eq id k.0) (with_columns id (enumerate_from 0 (names_of columns)) (without_rows id store).columns)) ≡ map {B = ℤ × List ℕ} (λ (c : ℕ × Column). (pos c.0, c.1.name)) (enumerate_from 0 columns) =
-        ap (λ rows. map {B = ℤ × List ℕ} (λ (c : ColumnKey × List ℕ). (c.0.1, c.1)) (where_key column_key_cmp (λ k. int_eq id k.0) rows)) (columns_put id (enumerate_from 0 (names_of columns)) (without_rows id store).columns)
-        ∙ ap (map {B = ℤ × List ℕ} (λ (c : ColumnKey × List ℕ). (c.0.1, c.1))) (own_new id (column_rows id 0 (names_of columns)) store.columns (columns_own id 0 (names_of columns)) (columns_sorted id 0 (names_of columns)) order.columns)
-        ∙ names_back id 0 columns in
+    ap (λ rows. map {B = ℤ × List ℕ} (λ (c : ColumnKey × List ℕ). (c.0.1, c.1)) (where_key column_key_cmp (λ k. int_eq id k.0) rows)) (columns_put id (enumerate_from 0 (names_of columns)) (without_rows id store).columns)
+    ∙ ap (map {B = ℤ × List ℕ} (λ (c : ColumnKey × List ℕ). (c.0.1, c.1))) (own_new id (column_rows id 0 (names_of columns)) store.columns (columns_own id 0 (names_of columns)) (columns_sorted id 0 (names_of columns)) order.columns)
+    ∙ names_back id 0 columns in
     let ss : map (λ (s : ColumnKey × Unit {0}). s.0.1) (where_key column_key_cmp (λ k. int_eq id k.0) (with_skipped id (skipped_from 0 columns) (without_rows id store).skipped)) ≡ skipped_from 0 columns =
-        ap (λ rows. map (λ (s : ColumnKey × Unit {0}). s.0.1) (where_key column_key_cmp (λ k. int_eq id k.0) rows)) (skipped_put id (skipped_from 0 columns) (without_rows id store).skipped)
-        ∙ ap (map (λ (s : ColumnKey × Unit {0}). s.0.1)) (own_new id (skip_rows id 0 columns) store.skipped (skips_own id (skipped_from 0 columns)) (skips_sorted id 0 columns) order.skipped)
-        ∙ skips_back id (skipped_from 0 columns) in
+    ap (λ rows. map (λ (s : ColumnKey × Unit {0}). s.0.1) (where_key column_key_cmp (λ k. int_eq id k.0) rows)) (skipped_put id (skipped_from 0 columns) (without_rows id store).skipped)
+    ∙ ap (map (λ (s : ColumnKey × Unit {0}). s.0.1)) (own_new id (skip_rows id 0 columns) store.skipped (skips_own id (skipped_from 0 columns)) (skips_sorted id 0 columns) order.skipped)
+    ∙ skips_back id (skipped_from 0 columns) in
     λ i. record { columns = cs i; skipped = ss i; cells = map (λ (c : CellKey × Cell). record { docid = c.0.1; column = c.0.2; value = c.1 }) (none_left (λ (k : CellKey). int_eq id k.0) store.cells i) }
 
 pub added_index : (id : ℤ) (name : List ℕ) (columns : List Column) (store : StoreValue) → table_index id (applied (AddTable id name (names_of columns) (skipped_from 0 columns)) store) ≡ index_rows (bare columns)

@@ -30,9 +30,11 @@ changed g old new changes (Err e) all none live clean = record {
 
 pub note_upheld : {S : Type 0} (g : Ghosts S) (old new : StoreState S) (tables : List KnownTable) (name : List ℕ) (is_done : Bool) → Changed g old new (Note name ∷ []) is_done → HoldsSome g (with_tables old tables) → HoldsSome g (with_tables new tables)
 note_upheld g old new tables name is_done change some up =
-    let before = some (change.was_up tables tables up) in
-    (before.0, record {
-      named_once = before.1.named_once;
-      held = subst (λ v. StoreHolds v before.0) (sym (change.value tables up)) (elim is_done as (λ b. StoreHolds (cond b (applied (Note name) (value_in g old)) (value_in g old)) before.0) [ true ↦ before.1.held | false ↦ before.1.held ]);
-      told = before.1.told;
-    })
+    let before = some (change.was_up tables tables up) in (
+      before.0,
+      record {
+        named_once = before.1.named_once;
+        held = subst (λ v. StoreHolds v before.0) (sym (change.value tables up)) (elim is_done as (λ b. StoreHolds (cond b (applied (Note name) (value_in g old)) (value_in g old)) before.0) [ true ↦ before.1.held | false ↦ before.1.held ]);
+        told = before.1.told;
+      },
+    )

@@ -40,11 +40,13 @@ others_from name t [] is below apart = tt
 others_from name t (x ∷ xs) is below apart =
     let b = and_parts (is_lt (int_cmp t.0 x.0)) (below_all int_cmp t.0 xs) below in
     let a = neither (same_name t.1.name x.1.name) (list_any (same_name t.1.name) (names_in xs)) apart in
-    let other : int_eq t.0 x.0 ≡ false = below_apart (int_cmp t.0 x.0) b.0 in
-    (record {
-      agrees = no_name (same_name x.1.name name) refl a.0 ∙ sym other;
-      is = λ same. absurd (let no = sym other ∙ same in cc);
-    }, others_from name t xs is b.1 a.1)
+    let other : int_eq t.0 x.0 ≡ false = below_apart (int_cmp t.0 x.0) b.0 in (
+      record {
+        agrees = no_name (same_name x.1.name name) refl a.0 ∙ sym other;
+        is = λ same. absurd (let no = sym other ∙ same in cc);
+      },
+      others_from name t xs is b.1 a.1,
+    )
   where
     no_name : (q : Bool) → same_name x.1.name name ≡ q → same_name t.1.name x.1.name ≡ false → q ≡ false
     no_name false e h = refl
@@ -67,17 +69,21 @@ one_named name t (x ∷ xs) sorted apart found =
   where
     go : (b : Bool) → same_name x.1.name name ≡ b → below_all int_cmp x.0 xs ≡ true → list_any (same_name x.1.name) (names_in xs) ≡ false → (table_named xs name ≡ Some t → AllByRecursion (IsOne name t) xs) → cond b (Some x) (table_named xs name) ≡ Some t → AllByRecursion (IsOne name t) (x ∷ xs)
     go true is below apart rest found =
-        let same : x ≡ t = ap (λ o. unwrap_or o x) found in
-        (record {
-          agrees = is ∙ sym (ap (λ (y : ℤ × Table). int_eq y.0 x.0) (sym same) ∙ ap is_eq (tied_itself int_cmp_total x.0));
-          is = λ _. same;
-        }, subst (λ y. AllByRecursion (IsOne name y) xs) same (others_from name x xs is below apart))
+        let same : x ≡ t = ap (λ o. unwrap_or o x) found in (
+          record {
+            agrees = is ∙ sym (ap (λ (y : ℤ × Table). int_eq y.0 x.0) (sym same) ∙ ap is_eq (tied_itself int_cmp_total x.0));
+            is = λ _. same;
+          },
+          subst (λ y. AllByRecursion (IsOne name y) xs) same (others_from name x xs is below apart),
+        )
     go false is below apart rest found =
-        let other : int_eq t.0 x.0 ≡ false = (eq_by_cmp_equiv int_cmp_total).symm t.0 x.0 ∙ below_apart (int_cmp x.0 t.0) (found_below x.0 name t xs below found) in
-        (record {
-          agrees = is ∙ sym other;
-          is = λ same. absurd (let no = sym other ∙ same in cc);
-        }, rest found)
+        let other : int_eq t.0 x.0 ≡ false = (eq_by_cmp_equiv int_cmp_total).symm t.0 x.0 ∙ below_apart (int_cmp x.0 t.0) (found_below x.0 name t xs below found) in (
+          record {
+            agrees = is ∙ sym other;
+            is = λ same. absurd (let no = sym other ∙ same in cc);
+          },
+          rest found,
+        )
 
 -- ids as the store has them
 pub ids_sorted : (store : StoreValue) (tables : List (ℤ × List ℕ)) (contents : Contents) → AllZip (λ (named : ℤ × List ℕ) (table : ℤ × Table). HoldsTable named (table_rows named.0 store) (table_index named.0 store) table) tables contents → is_sorted int_cmp tables ≡ true → is_sorted int_cmp contents ≡ true
@@ -119,9 +125,10 @@ pub changes_one : (name : List ℕ) (t : ℤ × Table) (old new : StoreValue) (c
 changes_one name t old new change [] [] spares stands one h = tt
 changes_one name t old new change [] (x ∷ xs) spares stands one h = absurd h
 changes_one name t old new change (n ∷ ns) [] spares stands one h = absurd h
-changes_one name t old new change (n ∷ ns) (x ∷ xs) spares stands one h =
-    (subst (λ b. HoldsTable n (table_rows n.0 new) (table_index n.0 new) (cond b (x.0, record { name = x.1.name; held = change x.1.held }) x)) (sym one.0.agrees) (go (int_eq t.0 x.0) refl h.0),
-    changes_one name t old new change ns xs spares stands one.1 h.1)
+changes_one name t old new change (n ∷ ns) (x ∷ xs) spares stands one h = (
+  subst (λ b. HoldsTable n (table_rows n.0 new) (table_index n.0 new) (cond b (x.0, record { name = x.1.name; held = change x.1.held }) x)) (sym one.0.agrees) (go (int_eq t.0 x.0) refl h.0),
+  changes_one name t old new change ns xs spares stands one.1 h.1,
+)
   where
     go : (b : Bool) → int_eq t.0 x.0 ≡ b → HoldsTable n (table_rows n.0 old) (table_index n.0 old) x → HoldsTable n (table_rows n.0 new) (table_index n.0 new) (cond b (x.0, record { name = x.1.name; held = change x.1.held }) x)
     go true e h =

@@ -97,15 +97,17 @@ free_is_free n (c ∷ cs) h =
 
     go : (o : Ordering) → int_cmp c.0 (pos n) ≡ o → below_all int_cmp c.0 cs ≡ true → ((m : ℕ) → AllByRecursion (λ (x : ℤ × Table). int_eq (pos (free_id_from m cs)) x.0 ≡ false) cs) → AreFree (int_eq c.0 (pos n))
     go Less is below rest = subst AreFree (sym (ap is_eq is)) (apart_above (free_id_from n cs) (free_from n cs) is, rest n)
-    go Equal is below rest = subst AreFree (sym (ap is_eq is))
-        ((let le = free_from (n + 1) cs in
+    go Equal is below rest = subst AreFree (sym (ap is_eq is)) (
+      (let le = free_from (n + 1) cs in
           let up : int_cmp (pos n) (pos (free_id_from (n + 1) cs)) ≡ Less = sym (int_cmp_is (pos n) (pos (free_id_from (n + 1) cs)) Less (omega (arith, ints, le))) in
           (eq_by_cmp_equiv int_cmp_total).symm (pos (free_id_from (n + 1) cs)) c.0 ∙ ap is_eq (ap (λ x. int_cmp x (pos (free_id_from (n + 1) cs))) (exact_signed c.0 (pos n) is) ∙ up)),
-        rest (n + 1))
-    go Greater is below rest = subst AreFree (sym (ap is_eq is))
-        ((let before : int_cmp (pos n) c.0 ≡ Less = int_cmp_total.antisymm (pos n) c.0 ∙ ap ordering_reverse is in
+      rest (n + 1),
+    )
+    go Greater is below rest = subst AreFree (sym (ap is_eq is)) (
+      (let before : int_cmp (pos n) c.0 ≡ Less = int_cmp_total.antisymm (pos n) c.0 ∙ ap ordering_reverse is in
           ap (λ m. int_eq (pos m) c.0) (free_stays n cs (below_later (pos n) c.0 cs before below)) ∙ ap is_eq before),
-        rest n)
+      rest n,
+    )
 
 abbrev pub AreNot : ℤ → List (ℤ × List ℕ) → Type 0
 AreNot id tables = AllByRecursion (λ (n : ℤ × List ℕ). int_eq id n.0 ≡ false) tables
@@ -157,5 +159,5 @@ adds_one id name columns old contents order is free h =
     let apart = not_in_store id old old.tables contents free h in
     subst (λ tables. AreHeldIn new (put int_cmp id name tables) (put int_cmp id (record { name = name; held = Sound (bare columns) }) contents)) (sym (none_without id old.tables apart))
     (joins id name (record { name = name; held = Sound (bare columns) }) new old.tables contents
-        (record { id = refl; name = refl; stands = (is, added_rows id name columns old order, added_index id name columns old) })
-        apart (all_spared id old new old.tables contents (add_spares id name (names_of columns) (skipped_from 0 columns) old) apart h))
+    (record { id = refl; name = refl; stands = (is, added_rows id name columns old order, added_index id name columns old) })
+    apart (all_spared id old new old.tables contents (add_spares id name (names_of columns) (skipped_from 0 columns) old) apart h))

@@ -38,11 +38,12 @@ spared_due (Some t) = refl
 pub drop_spared : (store : StoreValue) (tables : List KnownTable) (contents : Contents) (name : List ℕ) (if_there : Bool) → if_there ≡ true → AreHeld store tables contents → known_named tables name ≡ None → PlansFrom contents (Drop name if_there) store (Ok [])
 unfolding deserved after
 drop_spared store tables contents name if_there may held none =
-    let none_here : table_named contents name ≡ None = none_named contents name (ap (λ ts. known_named ts name) (sym held.told) ∙ none) in
-    (ap (λ b. first_of ((is_none (table_named contents name) && not b, faults.NoSuchTable) ∷ [])) may ∙ spared_due (table_named contents name),
-    subst (StoreHolds store) (sym (none_dropped contents name none_here)) held.held,
-    refl,
-    tt)
+    let none_here : table_named contents name ≡ None = none_named contents name (ap (λ ts. known_named ts name) (sym held.told) ∙ none) in (
+      ap (λ b. first_of ((is_none (table_named contents name) && not b, faults.NoSuchTable) ∷ [])) may ∙ spared_due (table_named contents name),
+      subst (StoreHolds store) (sym (none_dropped contents name none_here)) held.held,
+      refl,
+      tt,
+    )
 
 found_due : (found : Option (ℤ × Table)) (t : ℤ × Table) (if_there : Bool) → found ≡ Some t → first_of ((is_none found && not if_there, faults.NoSuchTable) ∷ []) ≡ None
 found_due found t if_there is = ap (λ f. first_of ((is_none f && not if_there, faults.NoSuchTable) ∷ [])) is
@@ -54,11 +55,12 @@ drop_planned store tables contents name if_there known order held named =
     let it = some_named contents name known (ap (λ ts. known_named ts name) (sym held.told) ∙ named) in
     let t = it.0 in
     let one = one_named name t contents (ids_sorted store store.tables contents held.held order.tables) held.named_once it.1 in
-    let id : t.0 ≡ known.id = ap (λ (k : KnownTable). k.id) it.2 in
-    (found_due (table_named contents name) t if_there it.1,
-    subst (λ k. StoreHolds (applied (DropTable k) store) (dropped contents name)) id (drops_one name t store (applied (DropTable t.0) store) store.tables contents (drop_spares t.0 store) one held.held),
-    refl,
-    tt)
+    let id : t.0 ≡ known.id = ap (λ (k : KnownTable). k.id) it.2 in (
+      found_due (table_named contents name) t if_there it.1,
+      subst (λ k. StoreHolds (applied (DropTable k) store) (dropped contents name)) id (drops_one name t store (applied (DropTable t.0) store) store.tables contents (drop_spares t.0 store) one held.held),
+      refl,
+      tt,
+    )
 
 -- ---- the tables that are told after a Drop
 

@@ -14,7 +14,9 @@ ghost use Rattle.ft_content.specs.declared.fault.Fault.TheVariants as faults;
 use crate::change::change_rows;
 use crate::names::place_of;
 use crate::told::{insert_table, remove_table};
-use ft_content::{Column, Fault, Reply, TableInfo, create_fault, free_id, made_columns, made_names};
+use ft_content::{
+    Column, Fault, Reply, TableInfo, create_fault, free_id, made_columns, made_names,
+};
 use ft_store::{RowChange, Store};
 use sqlite::Alter;
 use std::alloc::{AllocError, Global};
@@ -33,7 +35,14 @@ pub(crate) fn made_table(
         Makes contents table.now module_name.now (map option_of options.now) (map string_bytes columns.now) if_new result }
 {
     let names = made_names(alloc, columns)?;
-    if let Some(fault) = create_fault(tables, table, module_name, options, names.as_slice(), if_new) {
+    if let Some(fault) = create_fault(
+        tables,
+        table,
+        module_name,
+        options,
+        names.as_slice(),
+        if_new,
+    ) {
         return Err(fault);
     }
     if place_of(tables, table).is_some() {

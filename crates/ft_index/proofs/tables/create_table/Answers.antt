@@ -27,7 +27,7 @@ returns-in_err-made g c =
     let names = map string_bytes c.args.columns.now in
     subst (λ (a : Result Reply Fault). Executes g.S.Store old (plain.Create c.args.table.now c.args.module_name.now options names c.args.if_new) (answer_of a) old) (sym is)
     (create_refused g.S.Store c.args.table.now c.args.module_name.now options names c.args.if_new old fault
-        (λ contents told. subst (Makes contents c.args.table.now c.args.module_name.now options names c.args.if_new) made (c.made_table.ensures contents (ap (map known_info) c.as_slice.ensures.value ∙ told))))
+    (λ contents told. subst (Makes contents c.args.table.now c.args.module_name.now options names c.args.if_new) made (c.made_table.ensures contents (ap (map known_info) c.as_slice.ensures.value ∙ told))))
 
 pub returns-in_err-add_table : goal.returns-in_err-add_table
 returns-in_err-add_table g c =
@@ -41,7 +41,7 @@ returns-in_err-add_table g c =
     let outside : (fault ≡ faults.Store) ⊎ (fault ≡ faults.Memory) = search rules in
     subst (λ ts. Executes g.S.Store (with_tables c.args.store.now tables) command (answer_of c.from_residual-in_err-add_table.result) (with_tables c.add_table.new.store ts)) (sym told)
     (subst (λ (a : Result Reply Fault). Executes g.S.Store (with_tables c.args.store.now tables) command (answer_of a) (with_tables c.add_table.new.store tables)) (sym is)
-        (executes_refused g.S.Store c.args.store.now c.add_table.new.store tables (table_change c.in-Some.made ∷ []) command fault outside changed))
+    (executes_refused g.S.Store c.args.store.now c.add_table.new.store tables (table_change c.in-Some.made ∷ []) command fault outside changed))
 
 pub returns : goal.returns
 returns g c =
@@ -51,19 +51,19 @@ returns g c =
     let command = plain.Create c.args.table.now c.args.module_name.now options names c.args.if_new in
     let made : c.made_table.result ≡ Ok c.in_ok-made.made = search rules in
     let makes : (contents : Contents) → tables ≡ map told_table contents → Makes contents c.args.table.now c.args.module_name.now options names c.args.if_new (Ok c.in_ok-made.made) =
-        λ contents told. subst (Makes contents c.args.table.now c.args.module_name.now options names c.args.if_new) made (c.made_table.ensures contents (ap (map known_info) c.as_slice.ensures.value ∙ told)) in
+    λ contents told. subst (Makes contents c.args.table.now c.args.module_name.now options names c.args.if_new) made (c.made_table.ensures contents (ap (map known_info) c.as_slice.ensures.value ∙ told)) in
     elim c.match-made.branch [
       | in-Some+in_ok-add_table w ↦
           let added : w.add_table.result ≡ Ok tt = search rules in
           let changed = subst (λ (r : Result (Unit {0}) Fault). Changed g.S.Store c.args.store.now w.add_table.new.store (table_change w.in-Some.made ∷ []) (is_ok r)) added w.add_table.ensures.changed in
           let told : map known_info w.add_table.new.tables.items ≡ with_told (known_info w.in-Some.made) tables = w.add_table.ensures.told ∙ ap (λ (r : Result (Unit {0}) Fault). cond (is_ok r) (with_told (known_info w.in-Some.made) tables) tables) added in
           let here = subst (λ (k : Known g.row.S.Denot). Executes g.S.Store (with_tables c.args.store.now tables) command (Ok plain.Done) k) (sym (λ i. with_tables (w.store-is i) ((ap (λ (v : Vec TableInfo Global). map known_info v.items) w.tables-is ∙ told) i)))
-              (create_adds g.S.Store c.args.table.now c.args.module_name.now options names c.args.if_new c.args.store.now w.add_table.new.store tables w.in-Some.made
-                  (λ contents is. subst (λ o. Makes contents c.args.table.now c.args.module_name.now options names c.args.if_new (Ok o)) w.in-Some.is (makes contents is)) c.is_in_order.ensures.order changed) in
+          (create_adds g.S.Store c.args.table.now c.args.module_name.now options names c.args.if_new c.args.store.now w.add_table.new.store tables w.in-Some.made
+          (λ contents is. subst (λ o. Makes contents c.args.table.now c.args.module_name.now options names c.args.if_new (Ok o)) w.in-Some.is (makes contents is)) c.is_in_order.ensures.order changed) in
           here
       | in_default w ↦
           let none : c.in_ok-made.made ≡ None = search rules in
           subst (λ (k : Known g.row.S.Denot). Executes g.S.Store (with_tables c.args.store.now tables) command (Ok plain.Done) k) (sym (λ i. with_tables (w.store-is i) (ap (λ (v : Vec TableInfo Global). map known_info v.items) w.tables-is i)))
-              (create_nothing g.S.Store c.args.table.now c.args.module_name.now options names c.args.if_new (with_tables c.args.store.now tables)
-                  (λ contents is. subst (λ o. Makes contents c.args.table.now c.args.module_name.now options names c.args.if_new (Ok o)) none (makes contents is)))
+          (create_nothing g.S.Store c.args.table.now c.args.module_name.now options names c.args.if_new (with_tables c.args.store.now tables)
+          (λ contents is. subst (λ o. Makes contents c.args.table.now c.args.module_name.now options names c.args.if_new (Ok o)) none (makes contents is)))
     ]

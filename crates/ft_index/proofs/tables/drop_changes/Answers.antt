@@ -29,10 +29,10 @@ returns c = elim c.match-place_of.branch [
       let fits : FitsSigned w64 w.index-tables-place.result.id = search rules in
       let s = placed known_info (λ (t : KnownTable). same_name t.name c.args.table.now) c.args.tables.now w.in-Some.place (sym c.place_of.ensures ∙ w.in-Some.is) in
       let same : map shown_change c.match-place_of.changes.items ≡ DropTable s.item.id ∷ [] =
-          ap (λ (v : Vec RowChange Global). map shown_change v.items) w.changes-is
-          ∙ ap (map shown_change) (w.in_ok-push-in-Some.ensures.items ∙ ap (λ l. l ++ changes.DropTable (to_z w64 (of_z w64 (slice_index_or c.args.tables.now w.in-Some.place w.index-tables-place.result).id)) ∷ []) c.new-changes.ensures.items)
-          ∙ ap (λ (t : TableInfo). DropTable (to_z w64 (of_z w64 t.id)) ∷ []) (sym w.index-tables-place.is)
-          ∙ ap (λ k. DropTable k ∷ []) (to_z-of_z fits ∙ ap (λ (t : TableInfo). t.id) (sym (same_Some s.item w.index-tables-place.result (sym s.is ∙ slice_get_read c.args.tables.now _ w.in-Some.place w.index-tables-place.result refl (slice_get_within c.args.tables.now w.in-Some.place s.item s.is) w.index-tables-place.is)))) in
+      ap (λ (v : Vec RowChange Global). map shown_change v.items) w.changes-is
+      ∙ ap (map shown_change) (w.in_ok-push-in-Some.ensures.items ∙ ap (λ l. l ++ changes.DropTable (to_z w64 (of_z w64 (slice_index_or c.args.tables.now w.in-Some.place w.index-tables-place.result).id)) ∷ []) c.new-changes.ensures.items)
+      ∙ ap (λ (t : TableInfo). DropTable (to_z w64 (of_z w64 t.id)) ∷ []) (sym w.index-tables-place.is)
+      ∙ ap (λ k. DropTable k ∷ []) (to_z-of_z fits ∙ ap (λ (t : TableInfo). t.id) (sym (same_Some s.item w.index-tables-place.result (sym s.is ∙ slice_get_read c.args.tables.now _ w.in-Some.place w.index-tables-place.result refl (slice_get_within c.args.tables.now w.in-Some.place s.item s.is) w.index-tables-place.is)))) in
       subst (λ (cs : List Change). PlansFrom contents (Drop c.args.table.now c.args.if_there) store (Ok cs)) (sym same) (drop_planned store (map known_info c.args.tables.now) contents c.args.table.now c.args.if_there (known_info s.item) order held s.found)
   | in-None+else-not-if_there w ↦ λ store contents order held.
       let same : map shown_change c.match-place_of.changes.items ≡ [] = ap (λ (v : Vec RowChange Global). map shown_change v.items) w.changes-is ∙ ap (map shown_change) c.new-changes.ensures.items in

@@ -34,8 +34,8 @@ returns-in_err-changes g c =
     let value = value_in g.S.Store c.args.store.now in
     subst (λ (a : Result Reply Fault). Executes g.S.Store (with_tables c.args.store.now tables) command (answer_of a) (with_tables c.args.store.now tables)) (sym is)
     (executes_unplanned g.S.Store c.args.store.now tables command fault
-        (λ contents held. subst (λ (r : Result (Vec RowChange Global) Fault). PlansFrom contents command value (changes_of r)) planned
-            (c.drop_changes.ensures value contents c.is_in_order.ensures.order (subst (λ ts. AreHeld value (map known_info ts) contents) (sym c.as_slice.ensures.value) held))))
+    (λ contents held. subst (λ (r : Result (Vec RowChange Global) Fault). PlansFrom contents command value (changes_of r)) planned
+    (c.drop_changes.ensures value contents c.is_in_order.ensures.order (subst (λ ts. AreHeld value (map known_info ts) contents) (sym c.as_slice.ensures.value) held))))
 
 pub returns-in_err-change_rows : goal.returns-in_err-change_rows
 returns-in_err-change_rows g c =
@@ -58,11 +58,11 @@ returns g c =
     let planned : c.drop_changes.result ≡ Ok c.in_ok-changes.changes = search rules in
     let done : c.change_rows.result ≡ Ok tt = search rules in
     let changed : Changed g.S.Store c.args.store.now c.change_rows.new.store changes true =
-        subst (λ (cs : List RowChange). Changed g.S.Store c.args.store.now c.change_rows.new.store (map shown_change cs) true) c.as_slice-2.ensures.value
-        (subst (λ (r : Result (Unit {0}) Fault). Changed g.S.Store c.args.store.now c.change_rows.new.store (map shown_change c.as_slice-2.result.now) (is_ok r)) done c.change_rows.ensures.changed) in
+    subst (λ (cs : List RowChange). Changed g.S.Store c.args.store.now c.change_rows.new.store (map shown_change cs) true) c.as_slice-2.ensures.value
+    (subst (λ (r : Result (Unit {0}) Fault). Changed g.S.Store c.args.store.now c.change_rows.new.store (map shown_change c.as_slice-2.result.now) (is_ok r)) done c.change_rows.ensures.changed) in
     let plans : (contents : Contents) → AreHeld value tables contents → PlansFrom contents command value (Ok changes) =
-        λ contents held. subst (λ (r : Result (Vec RowChange Global) Fault). PlansFrom contents command value (changes_of r)) planned
-            (c.drop_changes.ensures value contents c.is_in_order.ensures.order (subst (λ ts. AreHeld value (map known_info ts) contents) (sym c.as_slice.ensures.value) held)) in
+    λ contents held. subst (λ (r : Result (Vec RowChange Global) Fault). PlansFrom contents command value (changes_of r)) planned
+    (c.drop_changes.ensures value contents c.is_in_order.ensures.order (subst (λ ts. AreHeld value (map known_info ts) contents) (sym c.as_slice.ensures.value) held)) in
     elim c.match-place_of.branch [
       | in-Some w ↦
           let here : c.as_slice-known.result.now ≡ c.args.tables.now.items = c.as_slice-known.ensures.value in
@@ -70,13 +70,13 @@ returns g c =
           let named = ap (λ ts. known_named (map known_info ts) c.args.table.now) (sym here) ∙ s.found in
           let fits : FitsSigned w64 w.index-known-place.result.id = search rules in
           let told : map known_info c.match-place_of.tables.items ≡ without_told s.item.id tables =
-              ap (λ (v : Vec TableInfo Global). map known_info v.items) w.tables-is ∙ w.remove_table.ensures
-              ∙ ap (λ (t : TableInfo). without_told (to_z w64 (of_z w64 t.id)) tables) (sym w.index-known-place.is)
-              ∙ ap (λ k. without_told k tables) (to_z-of_z fits)
-              ∙ ap (λ (t : TableInfo). without_told t.id tables) (same_Some w.index-known-place.result s.item (sym (slice_get_read c.as_slice-known.result.now _ w.in-Some.place w.index-known-place.result refl (slice_get_within c.as_slice-known.result.now w.in-Some.place s.item s.is) w.index-known-place.is) ∙ s.is)) in
+          ap (λ (v : Vec TableInfo Global). map known_info v.items) w.tables-is ∙ w.remove_table.ensures
+          ∙ ap (λ (t : TableInfo). without_told (to_z w64 (of_z w64 t.id)) tables) (sym w.index-known-place.is)
+          ∙ ap (λ k. without_told k tables) (to_z-of_z fits)
+          ∙ ap (λ (t : TableInfo). without_told t.id tables) (same_Some w.index-known-place.result s.item (sym (slice_get_read c.as_slice-known.result.now _ w.in-Some.place w.index-known-place.result refl (slice_get_within c.as_slice-known.result.now w.in-Some.place s.item s.is) w.index-known-place.is) ∙ s.is)) in
           subst (λ (ts : List KnownTable). Executes g.S.Store (with_tables c.args.store.now tables) command (Ok plain.Done) (with_tables c.change_rows.new.store ts)) (sym told)
           (executes_planned g.S.Store c.args.store.now c.change_rows.new.store tables (without_told s.item.id tables) changes command plans changed
-              (λ contents held. (told_dropped value tables contents c.args.table.now c.args.if_there (known_info s.item) c.is_in_order.ensures.order held named, drop_done contents c.args.table.now c.args.if_there)))
+          (λ contents held. (told_dropped value tables contents c.args.table.now c.args.if_there (known_info s.item) c.is_in_order.ensures.order held named, drop_done contents c.args.table.now c.args.if_there)))
       | in_default w ↦
           let here : c.as_slice-known.result.now ≡ c.args.tables.now.items = c.as_slice-known.ensures.value in
           let none : c.place_of.result ≡ None = search rules in
@@ -84,5 +84,5 @@ returns g c =
           let told : map known_info c.match-place_of.tables.items ≡ tables = ap (λ (v : Vec TableInfo Global). map known_info v.items) w.tables-is in
           subst (λ (ts : List KnownTable). Executes g.S.Store (with_tables c.args.store.now tables) command (Ok plain.Done) (with_tables c.change_rows.new.store ts)) (sym told)
           (executes_planned g.S.Store c.args.store.now c.change_rows.new.store tables tables changes command plans changed
-              (λ contents held. (told_spared value tables contents c.args.table.now c.args.if_there held named, drop_done contents c.args.table.now c.args.if_there)))
+          (λ contents held. (told_spared value tables contents c.args.table.now c.args.if_there held named, drop_done contents c.args.table.now c.args.if_there)))
     ]

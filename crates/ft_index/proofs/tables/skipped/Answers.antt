@@ -16,10 +16,10 @@ loop-number-preserved c =
     let column : Column = c.index-columns-number.result in
     let long : length (map column_of front) ≡ n = length-map front column_of ∙ (let h : n < length c.args.columns.now = c.loop-number-test.true in length-take-le n c.args.columns.now (omega (arith, h))) in
     let more : skipped_from 0 (map column_of (take (n + 1) c.args.columns.now)) ≡ skipped_from 0 (map column_of front) ++ cond column.indexed [] (pos n ∷ []) =
-        ap (λ l. skipped_from 0 (map column_of l)) (take_more c.args.columns.now n column c.loop-number-test.true ∙ ap (λ x. front ++ x ∷ []) (sym c.index-columns-number.is))
-        ∙ ap (skipped_from 0) (map-append column_of front (column ∷ []))
-        ∙ one_more_skipped 0 (map column_of front) (column_of column)
-        ∙ ap (λ k. skipped_from 0 (map column_of front) ++ cond column.indexed [] (pos k ∷ [])) (let e : 0 + length (map column_of front) ≡ n = omega (arith, long) in e) in
+    ap (λ l. skipped_from 0 (map column_of l)) (take_more c.args.columns.now n column c.loop-number-test.true ∙ ap (λ x. front ++ x ∷ []) (sym c.index-columns-number.is))
+    ∙ ap (skipped_from 0) (map-append column_of front (column ∷ []))
+    ∙ one_more_skipped 0 (map column_of front) (column_of column)
+    ∙ ap (λ k. skipped_from 0 (map column_of front) ++ cond column.indexed [] (pos k ∷ [])) (let e : 0 + length (map column_of front) ≡ n = omega (arith, long) in e) in
     let at : to_z w64 n ≡ pos n = search rules in
     elim c.if-not-column.branch [
       | then-not-column+in_ok-push w ↦ ap (λ (v : Vec ℤ Global). v.items) w.numbers-is ∙ w.in_ok-push.ensures.items

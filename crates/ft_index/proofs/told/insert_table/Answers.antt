@@ -22,6 +22,7 @@ pub returns-clause-back : goal.returns-clause-back
 returns-clause-back c =
     let place = c.place_for-place.result in
     let within : place ≤ length c.args.tables.now.items = subst (λ ts. place ≤ length ts) c.as_slice.ensures.value c.place_for-place.ensures.within in
-    let room : place ≤ vec_len c.args.tables.now = subst (λ n. place ≤ n) c.as_slice.ensures.len c.place_for-place.ensures.within in
-    (subst (λ n. place < n) (sym c.in_ok-insert.ensures.len) (omega (arith, room)),
-    ap (λ ts. remove ts place) c.in_ok-insert.ensures.items ∙ taken_out c.args.tables.now.items place c.args.table within)
+    let room : place ≤ vec_len c.args.tables.now = subst (λ n. place ≤ n) c.as_slice.ensures.len c.place_for-place.ensures.within in (
+      subst (λ n. place < n) (sym c.in_ok-insert.ensures.len) (omega (arith, room)),
+      ap (λ ts. remove ts place) c.in_ok-insert.ensures.items ∙ taken_out c.args.tables.now.items place c.args.table within,
+    )
