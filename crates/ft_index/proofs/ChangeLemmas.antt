@@ -38,13 +38,13 @@ both_equal Less b e = absurd (let no = ap is_lt e in cc)
 both_equal Equal b e = (refl, e)
 both_equal Greater b e = absurd (let no = ap is_eq e in cc)
 
-column_exact : CmpEqualImpliesEq column_key_cmp
+pub column_exact : CmpEqualImpliesEq column_key_cmp
 column_exact x y e = let k = both_equal _ _ e in λ i. (exact_signed x.0 y.0 k.0 i, exact_signed x.1 y.1 k.1 i)
 
-cell_exact : CmpEqualImpliesEq cell_key_cmp
+pub cell_exact : CmpEqualImpliesEq cell_key_cmp
 cell_exact x y e = let k = both_equal _ _ e in let l = both_equal _ _ k.1 in λ i. (exact_signed x.0 y.0 k.0 i, exact_signed x.1 y.1 l.0 i, exact_signed x.2 y.2 l.1 i)
 
-list_exact : CmpEqualImpliesEq list_key_cmp
+pub list_exact : CmpEqualImpliesEq list_key_cmp
 list_exact x y e = let k = both_equal _ _ e in let l = both_equal _ _ k.1 in λ i. (exact_signed x.0 y.0 k.0 i, exact_bytes x.1 y.1 l.0 i, exact_signed x.2 y.2 l.1 i)
 
 tie : (o : Ordering) → is_eq o ≡ true → o ≡ Equal
@@ -137,7 +137,7 @@ spares_others (Note name) other store h = (refl, refl)
 
 -- ---- a table's own lists
 
-list_total : IsTotalOrder list_key_cmp
+pub list_total : IsTotalOrder list_key_cmp
 list_total = then_total (on_total (λ (k : ListKey). k.0) int_cmp_total) (then_total (on_total (λ (k : ListKey). k.1) nat_list_cmp_total) (on_total (λ (k : ListKey). k.2) int_cmp_total))
 
 abbrev own_lists : ℤ → List (ListKey × List StoredSpot) → List (Key × List StoredSpot)
@@ -224,10 +224,10 @@ drops_entries tab docid term store = dropped store.lists
 
 -- ---- order
 
-column_total : IsTotalOrder column_key_cmp
+pub column_total : IsTotalOrder column_key_cmp
 column_total = then_total (on_total (λ (k : ℤ × ℤ). k.0) int_cmp_total) (on_total (λ (k : ℤ × ℤ). k.1) int_cmp_total)
 
-cell_total : IsTotalOrder cell_key_cmp
+pub cell_total : IsTotalOrder cell_key_cmp
 cell_total = then_total (on_total (λ (k : CellKey). k.0) int_cmp_total) (then_total (on_total (λ (k : CellKey). k.1) int_cmp_total) (on_total (λ (k : CellKey). k.2) int_cmp_total))
 
 put_order : {K V : Type 0} (R : K → K → Ordering) → IsTotalOrder R → (k : K) (v : V) (rows : List (K × V)) → IsTrue (is_sorted R rows) → IsTrue (is_sorted R (put R k v rows))

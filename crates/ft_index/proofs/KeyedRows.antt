@@ -159,7 +159,7 @@ module _ {K V : Type 0} (R : K → K → Ordering) (o : IsTotalOrder R) (exact :
   replaced old None there = cond (is_some old) None there
   replaced old (Some v) there = Some v
 
-  abbrev fresh : (V → V → Bool) → Option V → Option V → Option V
+  abbrev pub fresh : (V → V → Bool) → Option V → Option V → Option V
   fresh same old None = None
   fresh same old (Some v) = cond (not (was_there same old v)) (Some v) None
 
@@ -173,13 +173,19 @@ module _ {K V : Type 0} (R : K → K → Ordering) (o : IsTotalOrder R) (exact :
         | false ↦ λ _. refl
       ] refl
 
+  fresh_kept : (same : V → V → Bool) (q : K) (old : List (K × V)) (x : Option V) → kept (λ e. not (was_there same (find R e.0 old) e.1)) q x ≡ fresh same (find R q old) x
+  fresh_kept same q old None = refl
+  fresh_kept same q old (Some v) = refl
+
+  pub changed_found : (same : V → V → Bool) (q : K) (old new : List (K × V)) → is_sorted R new ≡ true → find R q (changed R same old new) ≡ fresh same (find R q old) (find R q new)
+  changed_found same q old new h = find-filter (λ e. not (was_there same (find R e.0 old) e.1)) q new h ∙ fresh_kept same q old (find R q new)
+
   -- What is found after the gone rows are dropped and the changed ones are put, where the old ones were there.
   pub find_replaced : (same : V → V → Bool) → ((v w : V) → same v w ≡ true → v ≡ w) → (q : K) (old new rows : List (K × V)) → is_sorted R old ≡ true → is_sorted R new ≡ true → ((v : V) → find R q old ≡ Some v → find R q rows ≡ Some v) →
       find R q (all_put R (changed R same old new) (all_dropped (gone R old new) rows)) ≡ replaced (find R q old) (find R q new) (find R q rows)
   find_replaced same sound q old new rows g h there =
       let p : K × V → Bool = λ (e : K × V). not (was_there same (find R e.0 old) e.1) in
-      let put_found : find R q (changed R same old new) ≡ fresh same (find R q old) (find R q new) = find-filter p q new h ∙ elim (find R q new) as (λ x. kept p q x ≡ fresh same (find R q old) x) [ None ↦ refl | Some v ↦ refl ] in
       let left : find R q (all_dropped (gone R old new) rows) ≡ unless_some (of_gone (find R q old) (find R q new)) (find R q rows) = find_all_dropped q (gone R old new) rows ∙ ap (λ x. unless_some x (find R q rows)) (gone_found q old new g) in
       find_all_put q (changed R same old new) (all_dropped (gone R old new) rows) (sorted-filter p new h)
-      ∙ (λ i. or_else (put_found i) (left i))
+      ∙ (λ i. or_else (changed_found same q old new h i) (left i))
       ∙ by_cases same sound (find R q old) (find R q new) (find R q rows) there

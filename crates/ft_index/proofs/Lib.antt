@@ -11,3 +11,10 @@ pub mod DocumentSteps
 pub mod KeyedRows
 pub mod IndexOf
 pub mod NearLemmas
+pub mod RewriteLemmas
+pub mod DocumentRows
+pub mod OwnRows
+pub mod AppliedLemmas
+pub mod RowKinds
+pub mod CellsRight
+pub mod RightLemmas
