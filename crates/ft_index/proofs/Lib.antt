@@ -18,3 +18,4 @@ pub mod AppliedLemmas
 pub mod RowKinds
 pub mod CellsRight
 pub mod RightLemmas
+pub mod NewLemmas

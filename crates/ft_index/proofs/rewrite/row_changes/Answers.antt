@@ -3,10 +3,11 @@ use Rattle.std.proofs.lemmas.List.Elements.{All-same}
 use Rattle.ft_store.specs.Changes.{shown_change}
 use Rattle.ft_content.specs.Views.{column_of}
 use Rattle.ft_index.specs.Kept.{IsOfDocids}
-use Rattle.ft_index.specs.Rewrite.{shown_rewrite, docids_of, AreRight}
+use Rattle.ft_index.specs.Rewrite.{shown_rewrite, docids_of, AreRight, AreNew}
 use Rattle.ft_index.specs.RewriteRows.{rewrite_changes}
 use Rattle.ft_index.proofs.NearLemmas.{near}
 use Rattle.ft_index.proofs.RightLemmas.{are_right}
+use Rattle.ft_index.proofs.NewLemmas.{are_new}
 use Rattle.ft_index.proofs.rewrite.row_changes.Goals as goal
 
 pub returns-clause-right : goal.returns-clause-right
@@ -15,6 +16,13 @@ returns-clause-right c =
     let rewrites = map shown_rewrite c.args.rewrites.now in
     let is = c.in_ok-changes.ensures ∙ ap (λ t. rewrite_changes t columns rewrites) (to_z-of_z c.ranges.tab) in
     subst (AreRight c.args.tab columns rewrites) (sym is) (are_right c.args.tab columns rewrites)
+
+pub returns-clause-new : goal.returns-clause-new
+returns-clause-new c =
+    let columns = map column_of c.args.columns.now in
+    let rewrites = map shown_rewrite c.args.rewrites.now in
+    let is = c.in_ok-changes.ensures ∙ ap (λ t. rewrite_changes t columns rewrites) (to_z-of_z c.ranges.tab) in
+    subst (AreNew c.args.tab columns rewrites) (sym is) (are_new c.args.tab columns rewrites)
 
 pub returns-clause-near : goal.returns-clause-near
 returns-clause-near c =
