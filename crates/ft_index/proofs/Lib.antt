@@ -19,3 +19,5 @@ pub mod RowKinds
 pub mod CellsRight
 pub mod RightLemmas
 pub mod NewLemmas
+pub mod PackLemmas
+pub mod PackedChanges

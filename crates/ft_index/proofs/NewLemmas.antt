@@ -55,7 +55,7 @@ module _ {K V : Type 0} (S : K → K → Ordering) (o : IsTotalOrder S) where
       let parts = and_parts (is_lt (S k e.0)) (below_all S k es) h in
       All-cons (λ (x : K × V). eq_by_cmp S x.0 k ≡ false) e es ((eq_by_cmp_equiv o).symm e.0 k ∙ less_apart _ parts.0) (all_apart k es parts.1)
 
-  all_found : (es : List (K × V)) → is_sorted S es ≡ true → All (λ (e : K × V). find S e.0 es ≡ Some e.1) es
+  pub all_found : (es : List (K × V)) → is_sorted S es ≡ true → All (λ (e : K × V). find S e.0 es ≡ Some e.1) es
   all_found [] h = All-nil (λ (e : K × V). find S e.0 [] ≡ Some e.1)
   all_found (e ∷ es) h =
       let parts = and_parts (below_all S e.0 es) (is_sorted S es) h in

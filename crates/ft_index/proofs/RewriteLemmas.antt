@@ -23,7 +23,7 @@ Cells = Option (List Cell)
 
 -- ---- documents as they were and as they are to be
 
-abbrev held_in : (Rewrite → Cells) → List Rewrite → Documents
+abbrev pub held_in : (Rewrite → Cells) → List Rewrite → Documents
 held_in held rewrites = flat_map (λ (r : Rewrite). document_if r.docid (held r)) rewrites
 
 below_held : (held : Rewrite → Cells) (docid : ℤ) (rewrites : List Rewrite) → below_all int_cmp docid (by_docid rewrites) ≡ true → below_all int_cmp docid (held_in held rewrites) ≡ true
@@ -33,7 +33,7 @@ below_held held docid (r ∷ rs) h =
     let rest = below_held held docid rs parts.1 in
     elim (held r) as (λ cells. below_all int_cmp docid (document_if r.docid cells ++ held_in held rs) ≡ true) [ None ↦ rest | Some cells ↦ and_from (is_lt (int_cmp docid r.docid)) (below_all int_cmp docid (held_in held rs)) parts.0 rest ]
 
-sorted_held : (held : Rewrite → Cells) (rewrites : List Rewrite) → is_sorted int_cmp (by_docid rewrites) ≡ true → is_sorted int_cmp (held_in held rewrites) ≡ true
+pub sorted_held : (held : Rewrite → Cells) (rewrites : List Rewrite) → is_sorted int_cmp (by_docid rewrites) ≡ true → is_sorted int_cmp (held_in held rewrites) ≡ true
 sorted_held held [] h = refl
 sorted_held held (r ∷ rs) h =
     let parts = and_parts (below_all int_cmp r.docid (by_docid rs)) (is_sorted int_cmp (by_docid rs)) h in

@@ -1,11 +1,11 @@
 //! Documents that are written anew, as row changes.
-ghost use Rattle.std.specs.Prelude.{◌≡◌, ◌++◌, ◌<◌, ◌^◌, [], map, option_map, unwrap_or, length, pos, All, IfOk, OnOk};
+ghost use Rattle.std.specs.Prelude.{◌≡◌, ◌++◌, ◌≤◌, [], map, option_map, unwrap_or, length, pos, All, IsTrue, IfOk, OnOk};
 ghost use Rattle.std.specs.Ordering.{int_cmp};
-ghost use Rattle.std.specs.FinMap.Entries.{find};
-ghost use Rattle.ft_store.specs.Changes.{shown_value, shown_change};
+ghost use Rattle.std.specs.FinMap.Entries.{find, is_sorted};
+ghost use Rattle.ft_store.specs.Changes.{shown_value, shown_change, CanApply};
 ghost use Rattle.ft_content.specs.Views.{cells_of, column_of};
 ghost use Rattle.ft_index.specs.Kept.{IsOfDocids};
-ghost use Rattle.ft_index.specs.Rewrite.{shown_rewrite, docids_of, befores, afters, AreRight, AreNew};
+ghost use Rattle.ft_index.specs.Rewrite.{shown_rewrite, docids_of, befores, afters, by_docid, AreRight, AreNew, IsShort};
 ghost use Rattle.ft_index.specs.RewriteRows as rows;
 
 use crate::document_index::DocumentIndex;
@@ -42,6 +42,7 @@ pub(crate) fn row_changes(
     rewrites: &[Rewrite],
 ) -> Result<Vec<RowChange>, AllocError>
     ensures right { IfOk result (λ changes. AreRight tab (map column_of columns.now) (map shown_rewrite rewrites.now) (map shown_change changes.items)) }
+    ensures packable { IfOk result (λ changes. length columns.now ≤ 100 → IsTrue (is_sorted int_cmp (by_docid (map shown_rewrite rewrites.now))) → All IsShort (map shown_rewrite rewrites.now) → All CanApply changes.items) }
     ensures new { IfOk result (λ changes. AreNew tab (map column_of columns.now) (map shown_rewrite rewrites.now) (map shown_change changes.items)) }
     ensures near { IfOk result (λ changes. All (IsOfDocids tab (docids_of (map shown_rewrite rewrites.now))) (map shown_change changes.items)) }
 {

@@ -1,4 +1,5 @@
 use Rattle.std.proofs.Common.{map, sym, subst, ap, ◌∙◌, to_z-of_z}
+use Rattle.std.proofs.lemmas.List.{length-map}
 use Rattle.std.proofs.lemmas.List.Elements.{All-same}
 use Rattle.ft_store.specs.Changes.{shown_change}
 use Rattle.ft_content.specs.Views.{column_of}
@@ -8,6 +9,7 @@ use Rattle.ft_index.specs.RewriteRows.{rewrite_changes}
 use Rattle.ft_index.proofs.NearLemmas.{near}
 use Rattle.ft_index.proofs.RightLemmas.{are_right}
 use Rattle.ft_index.proofs.NewLemmas.{are_new}
+use Rattle.ft_index.proofs.PackedChanges.{are_packable}
 use Rattle.ft_index.proofs.rewrite.row_changes.Goals as goal
 
 pub returns-clause-right : goal.returns-clause-right
@@ -23,6 +25,13 @@ returns-clause-new c =
     let rewrites = map shown_rewrite c.args.rewrites.now in
     let is = c.in_ok-changes.ensures ∙ ap (λ t. rewrite_changes t columns rewrites) (to_z-of_z c.ranges.tab) in
     subst (AreNew c.args.tab columns rewrites) (sym is) (are_new c.args.tab columns rewrites)
+
+pub returns-clause-packable : goal.returns-clause-packable
+returns-clause-packable c = λ few rising short.
+    let columns = map column_of c.args.columns.now in
+    let rewrites = map shown_rewrite c.args.rewrites.now in
+    let is = c.in_ok-changes.ensures ∙ ap (λ t. rewrite_changes t columns rewrites) (to_z-of_z c.ranges.tab) in
+    are_packable c.args.tab columns rewrites c.in_ok-changes.changes.items is (rw (length-map c.args.columns.now column_of) few) rising short
 
 pub returns-clause-near : goal.returns-clause-near
 returns-clause-near c =
