@@ -21,3 +21,4 @@ pub mod RightLemmas
 pub mod NewLemmas
 pub mod PackLemmas
 pub mod PackedChanges
+pub mod RebuildLemmas

@@ -37,9 +37,11 @@ all_low n [] numbered apart low = tt
 all_low n (t ∷ ts) numbered apart low =
     let first : t.pos ≡ n = cc in
     let rest : map (λ (u : PlainToken). u.pos) ts ≡ range_with_len (n + 1) (length ts) = cc in
-    let here = low.0 in
-    (omega (arith, first, here), all_low (n + 1) ts rest (pairs_tail (λ a b. a.start + a.size < b.start) t ts apart)
-    (later_starts n t ts here (recursion_from_All (λ u. t.start + t.size < u.start) ts (pairs_head (λ a b. a.start + a.size < b.start) t ts apart))))
+    let here = low.0 in (
+      omega (arith, first, here),
+      all_low (n + 1) ts rest (pairs_tail (λ a b. a.start + a.size < b.start) t ts apart)
+          (later_starts n t ts here (recursion_from_All (λ u. t.start + t.size < u.start) ts (pairs_head (λ a b. a.start + a.size < b.start) t ts apart))),
+    )
 
 from_zero : (ts : List PlainToken) → AllByRecursion (λ (t : PlainToken). 0 ≤ t.start) ts
 from_zero [] = tt

@@ -128,7 +128,7 @@ all_wide width documents (r ∷ rs) h known fits =
 shown_cells : (tab : ℤ) (store : StoreValue) → (table_rows tab store).cells ≡ map cell_row (own cell_keys tab store.cells)
 shown_cells tab store = sym (map-map cell_row (λ (e : CellKey × Cell). ((e.0.1, e.0.2), e.1)) (filter (λ (e : CellKey × Cell). int_eq tab e.0.0) store.cells))
 
-shown_sizes : (tab : ℤ) (store : StoreValue) → (table_index tab store).sizes ≡ map size_of (own cell_keys tab store.sizes)
+pub shown_sizes : (tab : ℤ) (store : StoreValue) → (table_index tab store).sizes ≡ map size_of (own cell_keys tab store.sizes)
 shown_sizes tab store = sym (map-map size_of (λ (e : CellKey × ℤ). ((e.0.1, e.0.2), e.1)) (filter (λ (e : CellKey × ℤ). int_eq tab e.0.0) store.sizes))
 
 module _ (name : List ℕ) (content : Content) (tab : ℤ) (store : StoreValue) (has : HasContent name content tab store) where

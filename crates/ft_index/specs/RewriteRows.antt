@@ -5,7 +5,7 @@ use Rattle.std.specs.declared.cmp.Ordering.{Ordering}
 use Rattle.std.specs.Ordering.{int_cmp, int_eq}
 use Rattle.std.specs.Cmp.Lexicographic.{pointwise}
 use Rattle.std.specs.FinMap.Entries.{put, find}
-use Rattle.ft_store.specs.Store.{Cell, Null, Int, Text, column_key_cmp, Change, PutCell, DropCells, PutEntries, DropEntries, PutSize, DropSize}
+use Rattle.ft_store.specs.Store.{Cell, Null, Int, Text, column_key_cmp, Change, PutCell, DropCells, PutEntries, DropEntries, PutSize, DropSize, ClearIndex}
 use Rattle.std.specs.declared.alloc.Global.{Global}
 use Rattle.ft_query.specs.Tokens.{PlainToken}
 use Rattle.ft_query.specs.Documents.{posting}
@@ -128,6 +128,10 @@ list_changes tab old new = dropped_lists tab (gone key_cmp old new) ++ put_lists
 
 abbrev pub size_changes : ℤ → List ((ℤ × ℤ) × ℤ) → List ((ℤ × ℤ) × ℤ) → List Change
 size_changes tab old new = dropped_sizes tab (gone column_key_cmp old new) ++ put_sizes tab (changed column_key_cmp int_eq old new)
+
+-- The row changes that make an index again: no index row of before, and then all lists and sizes.
+abbrev pub rebuild_changes : ℤ → List (Key × List StoredSpot) → List ((ℤ × ℤ) × ℤ) → List Change
+rebuild_changes tab lists sizes = ClearIndex tab ∷ (put_lists tab lists ++ put_sizes tab sizes)
 
 -- The row changes of rewrites.
 unfoldable pub rewrite_changes : ℤ → List Column → List Rewrite → List Change
