@@ -1,7 +1,7 @@
 -- The lists of documents can be packed.
-use Rattle.std.proofs.Common.{◌≡◌, ℕ, ◌+◌, ◌<◌, ◌≤◌, Bool, true, false, cond, ◌&&◌, ◌||◌, List, [], ◌∷◌, ◌++◌, map, length, Option, Some, None, ℤ, pos, refl, sym, ap, subst, ◌∙◌, arith, inl, inr, nat_lt}
+use Rattle.std.proofs.Common.{◌≡◌, ℕ, ◌+◌, ◌<◌, ◌≤◌, Bool, true, false, cond, not, ◌&&◌, ◌||◌, List, [], ◌∷◌, ◌++◌, map, length, Option, Some, None, ℤ, pos, refl, sym, ap, subst, ◌∙◌, arith, inl, inr, nat_lt}
 use Rattle.std.specs.Prelude.{◌==◌, nat_le, filter, All, AllPairs, option_map, unwrap_or, IsTrue, IfSome, ◌⊎◌}
-use Rattle.std.specs.List.{flat_map, range_with_len, AllByRecursion}
+use Rattle.std.specs.List.{flat_map, list_all, range_with_len, AllByRecursion}
 use Rattle.std.specs.Ordering.{int_cmp, int_eq, eq_by_cmp}
 use Rattle.std.specs.FinMap.Entries.{find, is_sorted}
 use Rattle.std.proofs.lemmas.Bool.{and_parts, and_from}
@@ -14,13 +14,13 @@ use Rattle.ft_query.proofs.TokenLaw.{computed_tokens}
 use Rattle.ft_query.proofs.TokenOnce.{pairs_head, pairs_tail}
 use Rattle.ft_query.proofs.Bridge.{from_column, postings_rise}
 use Rattle.ft_store.specs.Packed as packing
-use Rattle.ft_store.specs.Store.{Cell}
-use Rattle.ft_content.specs.Content.{Column, Documents, cell_text}
+use Rattle.ft_store.specs.Store.{Cell, Null, Int, Text}
+use Rattle.ft_content.specs.Content.{Column, Documents, cell_text, is_cell, has_nul}
 use Rattle.ft_content.specs.Index.{Spot, Entry, entry_at, Key, key_cmp, key_of, StoredSpot, stored_spot, indexed_text, cell_tokens, document_tokens, document_postings, document_entries, spot_lists}
 use Rattle.ft_content.specs.Laws.{spots_in, some_if_any, document_lists}
 use Rattle.ft_content.proofs.IndexLemmas.{lists_are_entries}
 use Rattle.ft_content.proofs.MeaningLemmas.{document_texts, tokens_are}
-use Rattle.ft_index.specs.Rewrite.{AreShort}
+use Rattle.ft_index.specs.RewriteRows.{IsShortNumber, AreShortNumbers}
 use Rattle.ft_index.proofs.RowKinds.{one_list}
 
 -- ---- tokens stand within their text
@@ -70,18 +70,39 @@ column_places : (c : ℕ) (ts : List PlainToken) → c ≤ 99 → AllByRecursion
 column_places c [] few are = All-nil IsPlace
 column_places c (t ∷ ts) few are = All-cons IsPlace (posting c t) (map (posting c) ts) (few, are.0.0, are.0.1, are.0.2, are.0.3) (column_places c ts few are.1)
 
-text_short : (column : Column) (cell : Cell) → length (cell_text cell) ≤ 1000000 → length (indexed_text column cell) ≤ 1000000
-text_short column cell short = elim column.indexed as (λ b. length (cond b (cell_text cell) []) ≤ 1000000) [ true ↦ short | false ↦ omega arith ]
+-- indexed texts of at most 1,000,000 bytes, as documents have
+abbrev pub AreShortTexts : List Column → List Cell → Type 0
+AreShortTexts [] cells = Unit {0}
+AreShortTexts (column ∷ columns) [] = Unit {0}
+AreShortTexts (column ∷ columns) (cell ∷ cells) = (length (indexed_text column cell) ≤ 1000000) × AreShortTexts columns cells
 
-places : (c : ℕ) (columns : List Column) (cells : List Cell) → c + length columns ≤ 100 → AreShort cells → All IsPlace (from_column c (document_tokens columns cells))
+cell_short : (cell : Cell) → is_cell cell ≡ true → IsShortNumber cell → length (cell_text cell) ≤ 1000000
+cell_short Null is number = omega arith
+cell_short (Int n) is number = omega (arith, number)
+cell_short (Text t) is number = let short = (and_parts (not (nat_lt 1000000 (length t))) (not (has_nul (Text t))) is).0 in not_less (length t) short
+  where
+    not_less : (n : ℕ) → not (nat_lt 1000000 n) ≡ true → n ≤ 1000000
+    not_less n h = grind (arith, nat_tests)
+
+text_short : (column : Column) (cell : Cell) → is_cell cell ≡ true → (column.indexed ≡ true → IsShortNumber cell) → length (indexed_text column cell) ≤ 1000000
+text_short column cell is number = elim column.indexed as (λ b. column.indexed ≡ b → length (cond b (cell_text cell) []) ≤ 1000000) [ true ↦ λ indexed. cell_short cell is (number indexed) | false ↦ λ _. omega arith ] refl
+
+pub short_texts : (columns : List Column) (cells : List Cell) → list_all is_cell cells ≡ true → AreShortNumbers columns cells → AreShortTexts columns cells
+short_texts [] cells is numbers = tt
+short_texts (column ∷ columns) [] is numbers = tt
+short_texts (column ∷ columns) (cell ∷ cells) is numbers =
+    let parts = and_parts (is_cell cell) (list_all is_cell cells) is in
+    (text_short column cell parts.0 numbers.0, short_texts columns cells parts.1 numbers.1)
+
+places : (c : ℕ) (columns : List Column) (cells : List Cell) → c + length columns ≤ 100 → AreShortTexts columns cells → All IsPlace (from_column c (document_tokens columns cells))
 places c [] cells few short = All-nil IsPlace
 places c (column ∷ columns) [] few short = All-nil IsPlace
 places c (column ∷ columns) (cell ∷ cells) few short =
     let here : c ≤ 99 = omega (arith, few) in
     let more : (c + 1) + length columns ≤ 100 = omega (arith, few) in
     All-append IsPlace (map (posting c) (cell_tokens column cell)) (from_column (c + 1) (document_tokens columns cells))
-    (column_places c (cell_tokens column cell) here (small_tokens (indexed_text column cell) (text_short column cell (All-head (λ (x : Cell). length (cell_text x) ≤ 1000000) cell cells short))))
-    (places (c + 1) columns cells more (All-tail (λ (x : Cell). length (cell_text x) ≤ 1000000) cell cells short))
+    (column_places c (cell_tokens column cell) here (small_tokens (indexed_text column cell) short.0))
+    (places (c + 1) columns cells more short.1)
 
 in_order : (columns : List Column) (cells : List Cell) → AllPairs IsBefore (document_postings columns cells)
 in_order columns cells = subst (λ ts. AllPairs IsBefore (postings_of ts)) (tokens_are columns cells) (postings_rise (document_texts columns cells))
@@ -159,7 +180,7 @@ some_packed [] (s ∷ spots) ss same are rise is = absurd (let no = same in cc)
 some_packed (p ∷ ps) (s ∷ spots) ss same are rise is = subst packing.CanPack (sym same ∙ ap (λ o. unwrap_or o []) is) (can_pack p ps are rise)
 
 -- Each list of a document can be packed.
-pub list_packed : (columns : List Column) (q : Key) (held : Option (List Cell)) (ss : List StoredSpot) → length columns ≤ 100 → IfSome held AreShort → one_list columns q held ≡ Some ss → packing.CanPack ss
+pub list_packed : (columns : List Column) (q : Key) (held : Option (List Cell)) (ss : List StoredSpot) → length columns ≤ 100 → IfSome held (AreShortTexts columns) → one_list columns q held ≡ Some ss → packing.CanPack ss
 list_packed columns q None ss few short is = absurd (let no = is in cc)
 list_packed columns q (Some cells) ss few short is =
     let ps = document_postings columns cells in

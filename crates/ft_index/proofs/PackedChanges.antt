@@ -1,6 +1,8 @@
 -- The row changes of documents put lists that can be packed.
 use Rattle.std.proofs.Common.{◌≡◌, ℕ, ◌≤◌, Bool, true, false, cond, List, [], ◌∷◌, ◌++◌, map, length, get_or, Option, Some, None, ℤ, refl, sym, ap, subst, ◌∙◌}
-use Rattle.std.specs.Prelude.{filter, All, IfSome, IsTrue, unwrap_or}
+use Rattle.std.specs.List.{list_all}
+use Rattle.std.proofs.lemmas.Bool.{and_parts}
+use Rattle.std.specs.Prelude.{◌==◌, filter, All, IfSome, IsTrue, unwrap_or}
 use Rattle.std.specs.Ordering.{int_cmp, int_eq}
 use Rattle.std.specs.FinMap.Entries.{find, is_sorted}
 use Rattle.std.proofs.lemmas.List.Elements.{All-nil, All-cons, All-head, All-tail, All-append, All-map, All-filter, All-weaker}
@@ -9,46 +11,52 @@ use Rattle.ft_store.specs.declared.rows.RowChange.TheVariants as row
 use Rattle.ft_store.specs.Changes.{shown_change, CanApply}
 use Rattle.ft_store.specs.Packed.{CanPack}
 use Rattle.ft_store.specs.Store.{Cell, column_key_cmp, PutCell, DropCells, PutEntries, DropEntries, PutSize, DropSize}
-use Rattle.ft_content.specs.Content.{Column, Documents}
+use Rattle.ft_content.specs.Content.{Column, Documents, is_cell, is_document}
 use Rattle.ft_content.specs.Index.{Key, key_cmp, StoredSpot}
 use Rattle.ft_content.proofs.IndexLemmas.{key_cmp_total}
-use Rattle.ft_index.specs.Rewrite.{Rewrite, befores, afters, document_if, by_docid, AreShort, IsShort, IsPackable}
-use Rattle.ft_index.specs.RewriteRows.{same_cell, same_spots, gone, changed, numbered, goes, dropped_documents, put_cells, put_documents, dropped_lists, put_lists, dropped_sizes, put_sizes, lists_of, sizes_of, list_changes, size_changes, rewrite_changes}
+use Rattle.ft_index.specs.Rewrite.{Rewrite, befores, afters, document_if, by_docid, FitIfAny, IsPackable}
+use Rattle.ft_index.specs.RewriteRows.{same_cell, same_spots, gone, changed, numbered, goes, dropped_documents, put_cells, put_documents, dropped_lists, put_lists, dropped_sizes, put_sizes, lists_of, sizes_of, list_changes, size_changes, rewrite_changes, AreShortNumbers, HasShortNumbers}
 use Rattle.ft_index.proofs.NearLemmas.{All-flat_map}
 use Rattle.ft_index.proofs.NewLemmas.{all_found}
 use Rattle.ft_index.proofs.RewriteLemmas.{sorted_held}
 use Rattle.ft_index.proofs.RowKinds.{lists_are}
-use Rattle.ft_index.proofs.PackLemmas.{list_packed}
+use Rattle.ft_index.proofs.PackLemmas.{list_packed, AreShortTexts, short_texts}
 
-abbrev ShortDocument : ℤ × List Cell → Type 0
-ShortDocument d = AreShort d.1
+module _ (columns : List Column) where
+  abbrev pub ShortDocument : ℤ × List Cell → Type 0
+  ShortDocument d = AreShortTexts columns d.1
 
-found_short : (docid : ℤ) (documents : Documents) → All ShortDocument documents → IfSome (find int_cmp docid documents) AreShort
-found_short docid [] h = tt
-found_short docid (d ∷ ds) h = elim (int_eq docid d.0) as (λ b. IfSome (cond b (Some d.1) (find int_cmp docid ds)) AreShort) [ true ↦ All-head ShortDocument d ds h | false ↦ found_short docid ds (All-tail ShortDocument d ds h) ]
+  found_short : (docid : ℤ) (documents : Documents) → All ShortDocument documents → IfSome (find int_cmp docid documents) (AreShortTexts columns)
+  found_short docid [] h = tt
+  found_short docid (d ∷ ds) h = elim (int_eq docid d.0) as (λ b. IfSome (cond b (Some d.1) (find int_cmp docid ds)) (AreShortTexts columns)) [ true ↦ All-head ShortDocument d ds h | false ↦ found_short docid ds (All-tail ShortDocument d ds h) ]
 
-pub lists_packed : (columns : List Column) (documents : Documents) → length columns ≤ 100 → is_sorted int_cmp documents ≡ true → All ShortDocument documents → All (λ (l : Key × List StoredSpot). CanPack l.1) (lists_of columns documents)
-lists_packed columns documents few rising short =
-    let rows = lists_of columns documents in
-    All-weaker (λ (l : Key × List StoredSpot). find key_cmp l.0 rows ≡ Some l.1) (λ (l : Key × List StoredSpot). CanPack l.1)
-    (λ l is. list_packed columns l.0 (find int_cmp l.0.1 documents) l.1 few (found_short l.0.1 documents short) (sym ((lists_are columns).found l.0 documents rising) ∙ is)) rows
-    (all_found key_cmp key_cmp_total rows ((lists_are columns).sorted documents rising))
+  pub lists_packed : (documents : Documents) → length columns ≤ 100 → is_sorted int_cmp documents ≡ true → All ShortDocument documents → All (λ (l : Key × List StoredSpot). CanPack l.1) (lists_of columns documents)
+  lists_packed documents few rising short =
+      let rows = lists_of columns documents in
+      All-weaker (λ (l : Key × List StoredSpot). find key_cmp l.0 rows ≡ Some l.1) (λ (l : Key × List StoredSpot). CanPack l.1)
+      (λ l is. list_packed columns l.0 (find int_cmp l.0.1 documents) l.1 few (found_short l.0.1 documents short) (sym ((lists_are columns).found l.0 documents rising) ∙ is)) rows
+      (all_found key_cmp key_cmp_total rows ((lists_are columns).sorted documents rising))
 
-short_if : (docid : ℤ) (cells : Option (List Cell)) → IfSome cells AreShort → All ShortDocument (document_if docid cells)
-short_if docid None is = All-nil ShortDocument
-short_if docid (Some cells) is = All-cons ShortDocument (docid, cells) [] is (All-nil ShortDocument)
+  -- documents of a table have short texts
+  pub document_short : (d : ℤ × List Cell) → is_document (length columns) d ≡ true → AreShortNumbers columns d.1 → ShortDocument d
+  document_short d is numbers = short_texts columns d.1 (and_parts (length d.1 == length columns) (list_all is_cell d.1) is).1 numbers
 
-afters_short : (rewrites : List Rewrite) → All IsShort rewrites → All ShortDocument (afters rewrites)
-afters_short rewrites h = All-flat_map ShortDocument (λ (r : Rewrite). document_if r.docid r.after) rewrites (All-weaker IsShort (λ r. All ShortDocument (document_if r.docid r.after)) (λ r is. short_if r.docid r.after is) rewrites h)
+  short_if : (docid : ℤ) (before after : Option (List Cell)) → FitIfAny (length columns) (record { docid = docid; before = before; after = after }) → IfSome after (AreShortNumbers columns) → All ShortDocument (document_if docid after)
+  short_if docid before None fits numbers = All-nil ShortDocument
+  short_if docid before (Some cells) fits numbers = All-cons ShortDocument (docid, cells) [] (document_short (docid, cells) fits numbers) (All-nil ShortDocument)
 
-all_packable : (tab : ℤ) (columns : List Column) (rewrites : List Rewrite) → length columns ≤ 100 → is_sorted int_cmp (by_docid rewrites) ≡ true → All IsShort rewrites → All IsPackable (rewrite_changes tab columns rewrites)
+  afters_short : (rewrites : List Rewrite) → All (FitIfAny (length columns)) rewrites → All (HasShortNumbers columns) rewrites → All ShortDocument (afters rewrites)
+  afters_short rewrites fits numbers = All-flat_map ShortDocument (λ (r : Rewrite). document_if r.docid r.after) rewrites
+      (All-weaker (λ (r : Rewrite). FitIfAny (length columns) r × HasShortNumbers columns r) (λ r. All ShortDocument (document_if r.docid r.after)) (λ r is. short_if r.docid r.before r.after is.0 is.1) rewrites (λ k d within. (fits k d within, numbers k d within)))
+
+all_packable : (tab : ℤ) (columns : List Column) (rewrites : List Rewrite) → length columns ≤ 100 → is_sorted int_cmp (by_docid rewrites) ≡ true → All (FitIfAny (length columns)) rewrites → All (HasShortNumbers columns) rewrites → All IsPackable (rewrite_changes tab columns rewrites)
 unfolding rewrite_changes
-all_packable tab columns rewrites few rising short =
+all_packable tab columns rewrites few rising fits numbers =
     let old = lists_of columns (befores rewrites) in
     let new = lists_of columns (afters rewrites) in
     let olds = sizes_of columns (befores rewrites) in
     let news = sizes_of columns (afters rewrites) in
-    let packed = lists_packed columns (afters rewrites) few (sorted_held (λ (r : Rewrite). r.after) rewrites rising) (afters_short rewrites short) in
+    let packed = lists_packed columns (afters rewrites) few (sorted_held (λ (r : Rewrite). r.after) rewrites rising) (afters_short columns rewrites fits numbers) in
     All-append IsPackable (dropped_documents tab rewrites) _ (All-map IsPackable (λ (r : Rewrite). DropCells tab r.docid) (filter goes rewrites) (λ _ _ _. tt))
     (All-append IsPackable (put_documents tab rewrites) _
     (All-flat_map IsPackable (λ (r : Rewrite). put_cells tab r.docid (unwrap_or r.before []) (unwrap_or r.after [])) rewrites
@@ -80,5 +88,5 @@ pub all_apply : (changes : List RowChange) → All IsPackable (map shown_change 
 all_apply [] h = All-nil CanApply
 all_apply (c ∷ cs) h = All-cons CanApply c cs (can_apply c (All-head IsPackable (shown_change c) (map shown_change cs) h)) (all_apply cs (All-tail IsPackable (shown_change c) (map shown_change cs) h))
 
-pub are_packable : (tab : ℤ) (columns : List Column) (rewrites : List Rewrite) (changes : List RowChange) → map shown_change changes ≡ rewrite_changes tab columns rewrites → length columns ≤ 100 → is_sorted int_cmp (by_docid rewrites) ≡ true → All IsShort rewrites → All CanApply changes
-are_packable tab columns rewrites changes is few rising short = all_apply changes (subst (All IsPackable) (sym is) (all_packable tab columns rewrites few rising short))
+pub are_packable : (tab : ℤ) (columns : List Column) (rewrites : List Rewrite) (changes : List RowChange) → map shown_change changes ≡ rewrite_changes tab columns rewrites → length columns ≤ 100 → is_sorted int_cmp (by_docid rewrites) ≡ true → All (FitIfAny (length columns)) rewrites → All (HasShortNumbers columns) rewrites → All CanApply changes
+are_packable tab columns rewrites changes is few rising fits numbers = all_apply changes (subst (All IsPackable) (sym is) (all_packable tab columns rewrites few rising fits numbers))

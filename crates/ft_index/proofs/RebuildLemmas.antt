@@ -5,19 +5,19 @@ use Rattle.std.specs.declared.cmp.Ordering.{Ordering}
 use Rattle.std.specs.Ordering.{int_cmp, int_eq}
 use Rattle.std.specs.Cmp.{IsTotalOrder}
 use Rattle.std.specs.FinMap.Entries.{find, where_key, is_sorted, is_sorted-where_key, same_entries}
-use Rattle.std.proofs.lemmas.List.Elements.{All-nil, All-cons, All-head, All-tail, All-append, All-map}
+use Rattle.std.proofs.lemmas.List.Elements.{All-nil, All-cons, All-head, All-tail, All-append, All-map, All-weaker}
 use Rattle.std.proofs.lemmas.Map.Lookups.{CmpEqualImpliesEq}
 use Rattle.std.proofs.lemmas.Simd.{map-map}
 use Rattle.ft_store.specs.declared.rows.RowChange.{RowChange}
 use Rattle.ft_store.specs.Changes.{shown_change, CanApply}
 use Rattle.ft_store.specs.Store.{Cell, StoreValue, AreInOrder, CellKey, ListKey, cell_key_cmp, list_key_cmp, column_key_cmp, without_index, Change, PutEntries, PutSize, ClearIndex, applied, all_applied}
-use Rattle.ft_content.specs.Content.{Column, Documents, Content, IsContent, content_rows}
+use Rattle.ft_content.specs.Content.{Column, Documents, Content, IsContent, content_rows, is_document}
 use Rattle.ft_content.specs.Index.{Key, key_cmp, StoredSpot, index_rows}
 use Rattle.ft_content.proofs.IndexLemmas.{key_cmp_total, key_cmp_exact}
 use Rattle.ft_index.specs.RowLaws.{table_of}
 use Rattle.ft_index.specs.Rewrite.{IsPackable}
-use Rattle.ft_index.specs.Rebuild.{MakesIndex, LeavesOthers, IsShortDocument}
-use Rattle.ft_index.specs.RewriteRows.{all_put, changed, put_lists, put_sizes, lists_of, sizes_of, rebuild_changes}
+use Rattle.ft_index.specs.Rebuild.{MakesIndex, LeavesOthers}
+use Rattle.ft_index.specs.RewriteRows.{all_put, changed, put_lists, put_sizes, lists_of, sizes_of, rebuild_changes, AreShortNumbers}
 use Rattle.ft_index.specs.Tables.{table_rows, table_index}
 use Rattle.ft_index.proofs.ChangeLemmas.{column_exact, column_total, spares_others}
 use Rattle.ft_index.proofs.KeyedRows.{true_of, of_true, sorted_put, find_all_put, or_else}
@@ -25,7 +25,7 @@ use Rattle.ft_index.proofs.OwnRows.{TableKeys, own, joined, own_all_put}
 use Rattle.ft_index.proofs.AppliedLemmas.{list_keys, cell_keys, applied_append, put_lists_applied, put_sizes_applied}
 use Rattle.ft_index.proofs.RowKinds.{lists_are, sizes_are, size_of, sizes_again, stored_sizes}
 use Rattle.ft_index.proofs.RightLemmas.{shown_sizes}
-use Rattle.ft_index.proofs.PackedChanges.{lists_packed, all_apply}
+use Rattle.ft_index.proofs.PackedChanges.{ShortDocument, document_short, lists_packed, all_apply}
 
 -- where nothing was there all is new
 pub all_changed : {K V : Type 0} (R : K → K → Ordering) (same : V → V → Bool) (new : List (K × V)) → changed R same [] new ≡ new
@@ -117,10 +117,11 @@ leaves_others tab lists sizes other store apart =
 
 -- ---- packed lists
 
-pub rebuild_packable : (tab : ℤ) (columns : List Column) (documents : Documents) (changes : List RowChange) → map shown_change changes ≡ rebuild_changes tab (lists_of columns documents) (sizes_of columns documents) → length columns ≤ 100 → is_sorted int_cmp documents ≡ true → All IsShortDocument documents → All CanApply changes
-rebuild_packable tab columns documents changes is few rising short =
+pub rebuild_packable : (tab : ℤ) (columns : List Column) (documents : Documents) (changes : List RowChange) → map shown_change changes ≡ rebuild_changes tab (lists_of columns documents) (sizes_of columns documents) → length columns ≤ 100 → is_sorted int_cmp documents ≡ true → All (λ (d : ℤ × List Cell). is_document (length columns) d ≡ true) documents → All (λ (d : ℤ × List Cell). AreShortNumbers columns d.1) documents → All CanApply changes
+rebuild_packable tab columns documents changes is few rising fits numbers =
     let lists = lists_of columns documents in
     let sizes = sizes_of columns documents in
+    let short = All-weaker (λ (d : ℤ × List Cell). (is_document (length columns) d ≡ true) × AreShortNumbers columns d.1) (ShortDocument columns) (λ d is. document_short columns d is.0 is.1) documents (λ k d within. (fits k d within, numbers k d within)) in
     all_apply changes (subst (All IsPackable) (sym is)
     (All-cons IsPackable (ClearIndex tab) (put_lists tab lists ++ put_sizes tab sizes) tt
     (All-append IsPackable (put_lists tab lists) (put_sizes tab sizes)

@@ -6,14 +6,10 @@ use Rattle.ft_content.specs.Content.{Column, Documents, Content, IsContent, cont
 use Rattle.ft_content.specs.Index.{index_rows}
 use Rattle.ft_content.specs.Views.{cells_of}
 use Rattle.ft_index.specs.declared.document.Document.{Document}
-use Rattle.ft_index.specs.Rewrite.{AreShort}
 use Rattle.ft_index.specs.Tables.{table_rows, table_index}
 
 abbrev pub shown_document : Document → ℤ × List Cell
 shown_document d = (d.docid, cells_of d.cells)
-
-abbrev pub IsShortDocument : ℤ × List Cell → Type 0
-IsShortDocument d = AreShort d.1
 
 -- Whatever index rows a table has that holds these documents: its rows stay, and its index rows are those made from scratch.
 abbrev pub MakesIndex : ℤ → List Column → Documents → List Change → Type 0

@@ -1,11 +1,11 @@
 -- Documents that are written anew, and what row changes of them do. All of it is our own choice.
-use Rattle.std.specs.Prelude.{◌≡◌, ◌≢◌, ◌≤◌, ℕ, List, [], ◌∷◌, map, length, Option, Some, None, option_map, ℤ, IsTrue, IsSome, IfSome, All}
+use Rattle.std.specs.Prelude.{◌≡◌, ◌≢◌, ℕ, List, [], ◌∷◌, map, length, Option, Some, None, option_map, ℤ, IsTrue, IsSome, IfSome, All}
 use Rattle.std.specs.List.{flat_map}
 use Rattle.std.specs.Ordering.{int_cmp}
 use Rattle.std.specs.FinMap.Entries.{put, find, is_sorted}
 use Rattle.ft_store.specs.Packed.{CanPack}
 use Rattle.ft_store.specs.Store.{Cell, StoreValue, AreInOrder, cell_key_cmp, list_key_cmp, Change, AddTable, DropTable, PutCell, DropCells, PutEntries, DropEntries, PutSize, DropSize, ClearIndex, Note, all_applied}
-use Rattle.ft_content.specs.Content.{Column, Documents, Content, IsContent, cell_text, content_rows, is_document}
+use Rattle.ft_content.specs.Content.{Column, Documents, Content, IsContent, content_rows, is_document}
 use Rattle.ft_content.specs.Index.{index_rows}
 use Rattle.ft_content.specs.Step.{without_docid}
 use Rattle.ft_content.specs.Views.{cells_of}
@@ -94,10 +94,3 @@ AreNew tab columns rewrites changes = (name : List ℕ) (content : Content) (sto
 abbrev pub IsPackable : Change → Type 0
 IsPackable (PutEntries tab term docid spots) = CanPack spots
 IsPackable _ = Unit {0}
-
--- cells with texts of at most 1,000,000 bytes, as documents have
-abbrev pub AreShort : List Cell → Type 0
-AreShort cells = All (λ (cell : Cell). length (cell_text cell) ≤ 1000000) cells
-
-abbrev pub IsShort : Rewrite → Type 0
-IsShort r = IfSome r.after AreShort

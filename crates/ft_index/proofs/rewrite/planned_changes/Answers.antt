@@ -9,9 +9,9 @@ use Rattle.ft_index.specs.RewriteRows.{rewrite_changes, dropped_documents, put_d
 use Rattle.ft_index.proofs.Steps.{six_pieces}
 use Rattle.ft_index.proofs.rewrite.planned_changes.Goals as goal
 
-pub returns : goal.returns
+pub returns-clause-plan : goal.returns-clause-plan
 unfolding rewrite_changes
-returns c =
+returns-clause-plan c =
     let t = to_z-of_z c.ranges.tab in
     let made = c.in_ok-old.ensures in
     let rewrites = map shown_rewrite c.args.rewrites.now in
