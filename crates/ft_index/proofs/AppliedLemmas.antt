@@ -1,32 +1,18 @@
 -- What the row changes of rewrites make of a store, kind by kind.
-use Rattle.std.proofs.Common.{◌≡◌, ℕ, Bool, true, false, cond, not, ◌&&◌, ◌||◌, List, [], ◌∷◌, ◌++◌, map, Option, Some, None, ℤ, refl, sym, ap, ◌∙◌}
+use Rattle.std.proofs.Common.{◌≡◌, true, false, cond, not, ◌&&◌, List, [], ◌∷◌, ◌++◌, map, ℤ, refl, sym, ap, ◌∙◌}
 use Rattle.std.specs.Prelude.{filter, unwrap_or}
-use Rattle.std.specs.List.{flat_map, list_any}
 use Rattle.std.specs.Ordering.{int_cmp, int_eq}
-use Rattle.std.specs.FinMap.Entries.{put, find, where_key, is_sorted, is_sorted-where_key}
+use Rattle.std.specs.FinMap.Entries.{put, where_key, is_sorted, is_sorted-where_key}
 use Rattle.std.proofs.lemmas.List.{map-append}
 use Rattle.std.proofs.lemmas.Simd.{map-map}
-use Rattle.ft_store.specs.Store.{Cell, StoreValue, CellKey, ListKey, cell_key_cmp, list_key_cmp, column_key_cmp, without_key, Change, PutCell, DropCells, PutEntries, DropEntries, PutSize, DropSize, all_applied}
-use Rattle.ft_content.specs.Index.{Key, key_cmp, StoredSpot}
-use Rattle.ft_content.proofs.IndexLemmas.{key_cmp_total, key_cmp_exact}
+use Rattle.ft_store.specs.Store.{Cell, StoreValue, CellKey, cell_key_cmp, list_key_cmp, column_key_cmp, without_key, Change, PutCell, DropCells, all_applied}
+use Rattle.ft_content.specs.Index.{Key, StoredSpot}
 use Rattle.ft_index.specs.Rewrite.{Rewrite, by_docid}
-use Rattle.ft_index.specs.RewriteRows.{all_put, same_cell, changed, numbered, goes, dropped_documents, put_cells, put_documents, dropped_lists, put_lists, dropped_sizes, put_sizes}
-use Rattle.ft_index.proofs.ChangeLemmas.{list_exact, list_total, cell_exact, cell_total, column_exact, column_total}
+use Rattle.ft_index.specs.RewriteRows.{all_put, same_cell, changed, numbered, goes, dropped_documents, put_documents, dropped_lists, put_lists, dropped_sizes, put_sizes}
+use Rattle.ft_index.proofs.StoreKeys.{list_exact, list_total, cell_exact, cell_total, list_keys, cell_keys}
 use Rattle.ft_index.proofs.KeyedRows.{true_of, of_true, all_dropped}
 use Rattle.ft_index.proofs.DocumentRows.{under, rows_by}
-use Rattle.ft_index.proofs.OwnRows.{TableKeys, own, joined}
-
-abbrev pub list_join : ℤ → Key → ListKey
-list_join tab q = (tab, q.0, q.1)
-
-abbrev pub cell_join : ℤ → ℤ × ℤ → CellKey
-cell_join tab q = (tab, q.0, q.1)
-
-abbrev pub list_keys : TableKeys list_key_cmp key_cmp (λ (k : ListKey). k.0) (λ (k : ListKey). (k.1, k.2)) list_join
-list_keys = record { splits = λ x y. refl; total = list_total; rest_total = key_cmp_total; exact = list_exact; rest_exact = key_cmp_exact; joined_tab = λ tab q. refl; joined_rest = λ tab q. refl }
-
-abbrev pub cell_keys : TableKeys cell_key_cmp column_key_cmp (λ (k : CellKey). k.0) (λ (k : CellKey). (k.1, k.2)) cell_join
-cell_keys = record { splits = λ x y. refl; total = cell_total; rest_total = column_total; exact = cell_exact; rest_exact = column_exact; joined_tab = λ tab q. refl; joined_rest = λ tab q. refl }
+use Rattle.ft_index.proofs.OwnRows.{own, joined}
 
 pub applied_append : (xs ys : List Change) (store : StoreValue) → all_applied (xs ++ ys) store ≡ all_applied ys (all_applied xs store)
 applied_append [] ys store = refl

@@ -1,10 +1,9 @@
 -- The cells after rewrites.
-use Rattle.std.proofs.Common.{◌≡◌, ℕ, ◌+◌, ◌≤◌, Bool, true, false, cond, not, ◌&&◌, ◌||◌, List, [], ◌∷◌, ◌++◌, map, length, Option, Some, None, ℤ, pos, refl, sym, ap, subst, ◌∙◌, arith}
+use Rattle.std.proofs.Common.{◌≡◌, ℕ, ◌+◌, ◌≤◌, Bool, true, false, cond, not, ◌&&◌, ◌||◌, List, [], ◌∷◌, length, Option, Some, None, ℤ, pos, refl, sym, ap, subst, ◌∙◌, arith}
 use Rattle.std.specs.Prelude.{filter, unwrap_or, is_some, All}
 use Rattle.std.specs.List.{list_any}
-use Rattle.std.specs.Option.{option_and_then}
-use Rattle.std.specs.Ordering.{int_cmp, int_eq, is_lt}
-use Rattle.std.specs.Cmp.{eq_by_cmp_equiv, int_cmp_total}
+use Rattle.std.specs.Ordering.{int_cmp, int_eq}
+use Rattle.std.specs.Cmp.{int_cmp_total}
 use Rattle.std.specs.FinMap.{int_cmp-IsAntisymmetric}
 use Rattle.std.specs.FinMap.Entries.{find, where_key, below_all, is_sorted, is_sorted-where_key, find-where_key, same_entries}
 use Rattle.std.proofs.lemmas.Bool.{and_parts}
@@ -15,18 +14,15 @@ use Rattle.ft_store.specs.Store.{Cell, Null, Int, Text, column_key_cmp}
 use Rattle.ft_content.specs.Content.{Documents}
 use Rattle.ft_index.specs.Rewrite.{Rewrite, by_docid, rewritten}
 use Rattle.ft_index.specs.RewriteRows.{all_put, same_cell, was_there, changed, numbered, goes}
-use Rattle.ft_index.proofs.ChangeLemmas.{column_total, column_exact}
+use Rattle.ft_index.proofs.StoreKeys.{column_total, column_exact}
 use Rattle.ft_index.proofs.KeyedRows.{true_of, of_true, tie, none_below, sorted_put, find_all_put, or_else, fresh, changed_found, sorted-filter}
 use Rattle.ft_index.proofs.CellSteps.{numbered_from}
 use Rattle.ft_index.proofs.DocumentRows.{rows_by, one_by, sorted_by, find_by, sorted_numbered}
-use Rattle.ft_index.proofs.RewriteLemmas.{Cells, written, before_found, sorted_rewritten, last_rows}
+use Rattle.ft_index.proofs.RewriteLemmas.{Cells, turned, written, before_found, sorted_rewritten, last_rows}
 use Rattle.ft_index.proofs.RowKinds.{cells_are}
 use Rattle.ft_index.proofs.AppliedLemmas.{new_cells, documents_dropped}
 
 -- ---- documents that go
-
-turned : (x y : ℤ) → int_eq x y ≡ int_eq y x
-turned x y = (eq_by_cmp_equiv int_cmp_total).symm x y
 
 either : {V : Type 0} (a b : Bool) (o : Option V) → cond a None (cond (not b) o None) ≡ cond (b || a) None o
 either true true o = refl

@@ -1,19 +1,17 @@
 -- Rows under docid and column that come of documents.
-use Rattle.std.proofs.Common.{◌≡◌, ℕ, suc, ◌+◌, ◌<◌, Bool, true, false, cond, ◌&&◌, List, [], ◌∷◌, ◌++◌, map, length, Option, Some, None, ℤ, pos, refl, sym, ap, ◌∙◌, arith, nat_lt, append-nil}
+use Rattle.std.proofs.Common.{◌≡◌, ℕ, ◌+◌, ◌<◌, Bool, true, false, cond, List, [], ◌∷◌, ◌++◌, map, Option, Some, None, ℤ, pos, refl, ap, ◌∙◌, arith}
 use Rattle.std.specs.Prelude.{filter}
 use Rattle.std.specs.List.{flat_map, enumerate_from}
 use Rattle.std.specs.Option.{option_and_then}
 use Rattle.std.specs.declared.cmp.Ordering.{Ordering}
 use Rattle.std.specs.declared.cmp.Ordering.TheVariants.{Less, Equal, Greater}
-use Rattle.std.specs.Ordering.{int_cmp, int_eq, eq_by_cmp, is_eq, is_lt, ordering_then}
+use Rattle.std.specs.Ordering.{int_cmp, int_eq, is_eq, is_lt, ordering_then}
 use Rattle.std.specs.Cmp.{int_cmp_total, tied_itself}
 use Rattle.std.specs.FinMap.{int_cmp-IsAntisymmetric}
 use Rattle.std.specs.FinMap.Entries.{find, below_all, is_sorted}
 use Rattle.std.proofs.lemmas.Bool.{and_parts, and_from}
-use Rattle.std.proofs.lemmas.List.{map-append}
-use Rattle.std.proofs.lemmas.Simd.{map-map}
 use Rattle.ft_store.specs.Store.{column_key_cmp}
-use Rattle.ft_index.proofs.KeyedRows.{tie, none_below}
+use Rattle.ft_index.proofs.KeyedRows.{then_equal, then_apart, none_below}
 use Rattle.ft_index.proofs.CellSteps.{numbered_from, pos_less}
 
 -- rows under the numbers of columns, under a docid too
@@ -22,16 +20,6 @@ under docid rows = map (λ c. ((docid, c.0), c.1)) rows
 
 abbrev pub rows_by : {X V : Type 0} → (X → List (ℤ × V)) → List (ℤ × X) → List ((ℤ × ℤ) × V)
 rows_by rows_in es = flat_map (λ e. under e.0 (rows_in e.1)) es
-
-then_equal : (o r : Ordering) → is_eq o ≡ true → ordering_then o r ≡ r
-then_equal Less r h = absurd (let no = h in cc)
-then_equal Equal r h = refl
-then_equal Greater r h = absurd (let no = h in cc)
-
-then_apart : (o r : Ordering) → is_eq o ≡ false → is_eq (ordering_then o r) ≡ false
-then_apart Less r h = refl
-then_apart Equal r h = absurd (let no = h in cc)
-then_apart Greater r h = refl
 
 then_less : (o r : Ordering) → is_lt o ≡ true → is_lt (ordering_then o r) ≡ true
 then_less Less r h = refl

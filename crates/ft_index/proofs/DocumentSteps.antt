@@ -1,16 +1,16 @@
 -- The entries and sizes of a document, cell by cell.
-use Rattle.std.proofs.Common.{◌≡◌, ℕ, zero, suc, ◌+◌, ◌≤◌, Bool, true, false, cond, List, [], ◌∷◌, ◌++◌, map, length, drop, min, ℤ, refl, sym, ap, ◌∙◌, arith, nat_lt}
+use Rattle.std.proofs.Common.{◌≡◌, ℕ, zero, suc, ◌+◌, ◌≤◌, true, cond, List, [], ◌∷◌, ◌++◌, map, length, drop, min, ℤ, refl, sym, ap, ◌∙◌, arith, nat_lt}
 use Rattle.std.specs.Prelude.{filter, unwrap_or}
 use Rattle.std.specs.List.{flat_map, enumerate_from}
 use Rattle.std.specs.FinMap.Entries.{put, find}
-use Rattle.std.proofs.lemmas.List.{map-append, drop_all}
+use Rattle.std.proofs.lemmas.List.{map-append}
 use Rattle.std.proofs.lemmas.Simd.{map-map}
 use Rattle.std.proofs.lemmas.Bool.Decides.{nat_tests}
 use Rattle.ft_query.specs.Tokens.{PlainToken}
 use Rattle.ft_query.specs.Documents.{posting}
 use Rattle.ft_store.specs.Store.{Cell, column_key_cmp}
 use Rattle.ft_content.specs.Content.{Column}
-use Rattle.ft_content.specs.Index.{Entry, entry_at, Key, key_cmp, key_of, StoredSpot, stored_spot, Size, SizeRow, size_row, cell_tokens, document_tokens}
+use Rattle.ft_content.specs.Index.{Entry, entry_at, Key, key_cmp, key_of, StoredSpot, stored_spot, Size, size_row, document_tokens}
 use Rattle.ft_index.specs.RewriteRows.{with_entries, all_put, sized, cell_entries, cell_sizes, AreShortNumbers}
 
 -- entries and sizes of the columns from one on

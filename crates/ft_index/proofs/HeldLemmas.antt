@@ -1,12 +1,12 @@
 -- What a store holds is settled.
-use Rattle.std.proofs.Common.{◌≡◌, ℕ, List, [], ◌∷◌, ◌⊎◌, inl, inr, ℤ, refl, sym, ap, subst, ◌∙◌}
+use Rattle.std.proofs.Common.{◌≡◌, ℕ, List, [], ◌∷◌, ℤ, refl, sym, ap, ◌∙◌}
 use Rattle.std.specs.List.{AllZip}
 use Rattle.ft_content.specs.Content.{TableRows}
 use Rattle.ft_content.specs.Index.{IndexRows, index_rows}
 use Rattle.ft_content.specs.Deserved.{Held, Sound, Stale, Loose, Table, Contents}
-use Rattle.ft_store.specs.Store.{StoreValue, Change, all_applied}
+use Rattle.ft_store.specs.Store.{StoreValue}
 use Rattle.ft_index.specs.Tables.{table_rows, table_index}
-use Rattle.ft_index.specs.Kept.{Stands, HoldsTable, StoreHolds, HoldsOneContents}
+use Rattle.ft_index.specs.Kept.{Stands, HoldsTable, HoldsOneContents}
 use Rattle.ft_content.proofs.RowLemmas.{contents_are_one}
 
 held_once : (name : List ℕ) (rows : TableRows) (index : IndexRows) (a b : Held) → Stands name rows index a → Stands name rows index b → a ≡ b

@@ -1,12 +1,11 @@
 -- Rows under keys: what is found in them after they are mapped, filtered and put.
-use Rattle.std.proofs.Common.{◌≡◌, ℕ, Bool, true, false, cond, not, T, ◌&&◌, List, [], ◌∷◌, ◌++◌, map, Option, Some, None, refl, sym, ap, subst, ◌∙◌}
+use Rattle.std.proofs.Common.{◌≡◌, Bool, true, false, cond, not, T, ◌&&◌, List, [], ◌∷◌, map, Option, Some, None, refl, sym, ap, subst, ◌∙◌}
 use Rattle.std.specs.Prelude.{filter, option_map, is_some}
-use Rattle.std.specs.List.{list_any}
 use Rattle.std.specs.declared.cmp.Ordering.{Ordering}
 use Rattle.std.specs.declared.cmp.Ordering.TheVariants.{Less, Equal, Greater}
-use Rattle.std.specs.Ordering.{eq_by_cmp, is_eq, is_lt}
+use Rattle.std.specs.Ordering.{eq_by_cmp, is_eq, is_lt, ordering_then}
 use Rattle.std.specs.Cmp.{IsTotalOrder, eq_by_cmp_equiv}
-use Rattle.std.specs.FinMap.Entries.{by_order, put, find, where_key, below_all, is_sorted, is_some-find, is_sorted-put, is_sorted-where_key, find-put, find-where_key}
+use Rattle.std.specs.FinMap.Entries.{put, find, below_all, is_sorted, is_sorted-put, is_sorted-where_key, find-put, find-where_key, same_entries}
 use Rattle.std.proofs.lemmas.Bool.{and_parts, and_from}
 use Rattle.std.proofs.lemmas.Map.Lookups.{CmpEqualImpliesEq}
 use Rattle.ft_store.specs.Store.{without_key}
@@ -28,6 +27,16 @@ less : (o : Ordering) → is_lt o ≡ true → o ≡ Less
 less Less h = refl
 less Equal h = absurd (let no = h in cc)
 less Greater h = absurd (let no = h in cc)
+
+pub then_equal : (o r : Ordering) → is_eq o ≡ true → ordering_then o r ≡ r
+then_equal Less r h = absurd (let no = h in cc)
+then_equal Equal r h = refl
+then_equal Greater r h = absurd (let no = h in cc)
+
+pub then_apart : (o r : Ordering) → is_eq o ≡ false → is_eq (ordering_then o r) ≡ false
+then_apart Less r h = refl
+then_apart Equal r h = absurd (let no = h in cc)
+then_apart Greater r h = refl
 
 -- ---- values that are mapped
 
@@ -71,6 +80,14 @@ module _ {K V : Type 0} (R : K → K → Ordering) (o : IsTotalOrder R) (exact :
         | true ↦ λ same. ap (λ x. or_else x (Some e.1)) (none_below q e.0 es same parts.0)
         | false ↦ λ _. refl
       ] refl
+
+  or_none : (x : Option V) → or_else x None ≡ x
+  or_none None = refl
+  or_none (Some v) = refl
+
+  -- rows in order that are put one after another
+  pub put_in_order : (es : List (K × V)) → is_sorted R es ≡ true → all_put R es [] ≡ es
+  put_in_order es h = same_entries R o exact (all_put R es []) es (of_true _ (sorted_put es [] refl)) (of_true _ h) (λ q. find_all_put q es [] h ∙ or_none (find R q es))
 
   -- ---- rows that pass a test of key and value
 

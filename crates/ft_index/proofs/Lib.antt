@@ -22,3 +22,4 @@ pub mod NewLemmas
 pub mod PackLemmas
 pub mod PackedChanges
 pub mod RebuildLemmas
+pub mod StoreKeys

@@ -1,29 +1,26 @@
 -- The row changes of rewrites name what is new.
-use Rattle.std.proofs.Common.{◌≡◌, ℕ, Bool, true, false, cond, not, ◌&&◌, List, [], ◌∷◌, ◌++◌, map, Option, Some, None, ℤ, refl, sym, ap, subst, ◌∙◌}
+use Rattle.std.proofs.Common.{◌≡◌, ℕ, Bool, true, false, cond, not, ◌&&◌, List, [], ◌∷◌, Option, Some, None, ℤ, refl, sym, ap, subst, ◌∙◌}
 use Rattle.std.specs.Prelude.{◌≢◌, filter, All, IsSome, is_some, unwrap_or}
-use Rattle.std.specs.List.{flat_map}
 use Rattle.std.specs.declared.cmp.Ordering.{Ordering}
 use Rattle.std.specs.declared.cmp.Ordering.TheVariants.{Less, Equal, Greater}
 use Rattle.std.specs.Ordering.{int_cmp, int_eq, eq_by_cmp, is_eq, is_lt}
 use Rattle.std.specs.Cmp.{IsTotalOrder, eq_by_cmp_equiv, int_cmp_total, tied_itself}
 use Rattle.std.specs.FinMap.Entries.{find, below_all, is_sorted}
 use Rattle.std.proofs.lemmas.Bool.{and_parts, and_from}
-use Rattle.std.proofs.lemmas.List.Elements.{All-nil, All-cons, All-head, All-tail, All-append, All-map, All-filter, All-weaker}
+use Rattle.std.proofs.lemmas.List.Elements.{All-nil, All-cons, All-append, All-map, All-filter, All-weaker}
 use Rattle.std.proofs.lemmas.Map.Lookups.{CmpEqualImpliesEq}
 use Rattle.std.proofs.lemmas.Slice.Eq.{bytes_eq-Decides}
-use Rattle.ft_store.specs.Store.{Cell, Null, Int, Text, StoreValue, CellKey, ListKey, cell_key_cmp, list_key_cmp, column_key_cmp, Change, PutCell, DropCells, PutEntries, DropEntries, PutSize, DropSize}
+use Rattle.ft_store.specs.Store.{Cell, Null, Int, Text, StoreValue, cell_key_cmp, list_key_cmp, column_key_cmp, PutCell, DropCells, PutEntries, DropEntries, PutSize, DropSize}
 use Rattle.ft_content.specs.Content.{Column, Documents, Content}
 use Rattle.ft_content.specs.Index.{Key, key_cmp, StoredSpot}
 use Rattle.ft_content.proofs.IndexLemmas.{key_cmp_total, key_cmp_exact}
 use Rattle.ft_index.specs.Rewrite.{Rewrite, befores, afters, by_docid, AreOf, HasContent, IsNew, AreNew}
-use Rattle.ft_index.specs.RewriteRows.{same_cell, same_spot, same_spots, was_there, gone, changed, numbered, goes, dropped_documents, put_cells, put_documents, dropped_lists, put_lists, dropped_sizes, put_sizes, lists_of, sizes_of, list_changes, size_changes, rewrite_changes}
-use Rattle.ft_index.proofs.ChangeLemmas.{column_exact, column_total}
-use Rattle.ft_index.proofs.KeyedRows.{tie}
-use Rattle.ft_index.proofs.DocumentRows.{rows_by, one_by}
+use Rattle.ft_index.specs.RewriteRows.{same_cell, same_spot, same_spots, was_there, gone, changed, numbered, goes, dropped_documents, put_cells, put_documents, dropped_lists, put_lists, dropped_sizes, put_sizes, lists_of, sizes_of, list_changes, rewrite_changes}
+use Rattle.ft_index.proofs.StoreKeys.{column_exact, column_total, list_keys, cell_keys}
+use Rattle.ft_index.proofs.DocumentRows.{one_by}
 use Rattle.ft_index.proofs.RewriteLemmas.{AreRowsOf, old_there, new_there, sorted_befores, sorted_afters}
 use Rattle.ft_index.proofs.RowKinds.{one_list, lists_are, counts, sizes_are, cells_are}
-use Rattle.ft_index.proofs.OwnRows.{own, find_joined}
-use Rattle.ft_index.proofs.AppliedLemmas.{list_keys, cell_keys}
+use Rattle.ft_index.proofs.OwnRows.{find_joined}
 use Rattle.ft_index.proofs.NearLemmas.{All-flat_map}
 use Rattle.ft_index.proofs.RightLemmas.{own_cells, own_lists, own_sizes}
 

@@ -1,26 +1,15 @@
 -- The rows of one table, under keys without the table.
-use Rattle.std.proofs.Common.{◌≡◌, ℕ, Bool, true, false, cond, not, ◌&&◌, List, [], ◌∷◌, map, Some, ℤ, refl, sym, ap, ◌∙◌}
+use Rattle.std.proofs.Common.{◌≡◌, true, false, cond, not, List, [], ◌∷◌, map, Some, ℤ, refl, sym, ap, ◌∙◌}
 use Rattle.std.specs.Prelude.{filter}
 use Rattle.std.specs.declared.cmp.Ordering.{Ordering}
-use Rattle.std.specs.declared.cmp.Ordering.TheVariants.{Less, Equal, Greater}
 use Rattle.std.specs.Ordering.{int_cmp, int_eq, eq_by_cmp, is_eq, is_lt, ordering_then}
 use Rattle.std.specs.Cmp.{IsTotalOrder, int_cmp_total, tied_itself}
-use Rattle.std.specs.FinMap.Entries.{put, find, below_all, is_sorted, is_sorted-put, is_sorted-where_key, find-put, same_entries}
+use Rattle.std.specs.FinMap.Entries.{put, find, below_all, is_sorted, is_sorted-put, find-put, same_entries}
 use Rattle.std.proofs.lemmas.Bool.{and_parts, and_from}
 use Rattle.std.proofs.lemmas.Map.Lookups.{CmpEqualImpliesEq, exact_signed}
 use Rattle.ft_store.specs.Store.{without_key}
 use Rattle.ft_index.specs.RewriteRows.{all_put}
-use Rattle.ft_index.proofs.KeyedRows.{true_of, of_true, tie, all_dropped}
-
-then_equal : (o r : Ordering) → is_eq o ≡ true → ordering_then o r ≡ r
-then_equal Less r h = absurd (let no = h in cc)
-then_equal Equal r h = refl
-then_equal Greater r h = absurd (let no = h in cc)
-
-then_apart : (o r : Ordering) → is_eq o ≡ false → is_eq (ordering_then o r) ≡ false
-then_apart Less r h = refl
-then_apart Equal r h = absurd (let no = h in cc)
-then_apart Greater r h = refl
+use Rattle.ft_index.proofs.KeyedRows.{true_of, of_true, tie, then_equal, then_apart, all_dropped}
 
 -- Keys are ordered by their table and then by the rest.
 pub record TableKeys {K Q : Type 0} (R : K → K → Ordering) (S : Q → Q → Ordering) (tab_of : K → ℤ) (rest_of : K → Q) (join : ℤ → Q → K) : Type 0 where

@@ -1,23 +1,22 @@
 -- The lists of documents can be packed.
-use Rattle.std.proofs.Common.{◌≡◌, ℕ, ◌+◌, ◌<◌, ◌≤◌, Bool, true, false, cond, not, ◌&&◌, ◌||◌, List, [], ◌∷◌, ◌++◌, map, length, Option, Some, None, ℤ, pos, refl, sym, ap, subst, ◌∙◌, arith, inl, inr, nat_lt}
-use Rattle.std.specs.Prelude.{◌==◌, nat_le, filter, All, AllPairs, option_map, unwrap_or, IsTrue, IfSome, ◌⊎◌}
-use Rattle.std.specs.List.{flat_map, list_all, range_with_len, AllByRecursion}
-use Rattle.std.specs.Ordering.{int_cmp, int_eq, eq_by_cmp}
-use Rattle.std.specs.FinMap.Entries.{find, is_sorted}
+use Rattle.std.proofs.Common.{◌≡◌, ℕ, ◌+◌, ◌<◌, ◌≤◌, Bool, true, false, cond, not, ◌&&◌, ◌||◌, List, [], ◌∷◌, map, length, Option, Some, None, ℤ, refl, sym, ap, subst, ◌∙◌, arith, inl, inr, nat_lt}
+use Rattle.std.specs.Prelude.{◌==◌, nat_le, filter, All, AllPairs, option_map, unwrap_or, IfSome}
+use Rattle.std.specs.List.{list_all, range_with_len, AllByRecursion}
+use Rattle.std.specs.Ordering.{eq_by_cmp}
 use Rattle.std.proofs.lemmas.Bool.{and_parts, and_from}
 use Rattle.std.proofs.lemmas.Bool.Decides.{nat_tests}
-use Rattle.std.proofs.lemmas.List.Elements.{All-nil, All-cons, All-head, All-tail, All-append, All-map, All-filter, All-weaker, All-from_recursion, recursion_from_All}
+use Rattle.std.proofs.lemmas.List.Elements.{All-nil, All-cons, All-head, All-tail, All-append, All-filter, recursion_from_All}
 use Rattle.std.proofs.lemmas.List.Kept.{AllPairs-filter}
-use Rattle.ft_query.specs.Tokens.{PlainToken, AreTokens, tokens_of}
+use Rattle.ft_query.specs.Tokens.{PlainToken, tokens_of}
 use Rattle.ft_query.specs.Documents.{Posting, posting, IsBefore, postings_of}
 use Rattle.ft_query.proofs.TokenLaw.{computed_tokens}
 use Rattle.ft_query.proofs.TokenOnce.{pairs_head, pairs_tail}
 use Rattle.ft_query.proofs.Bridge.{from_column, postings_rise}
 use Rattle.ft_store.specs.Packed as packing
 use Rattle.ft_store.specs.Store.{Cell, Null, Int, Text}
-use Rattle.ft_content.specs.Content.{Column, Documents, cell_text, is_cell, has_nul}
-use Rattle.ft_content.specs.Index.{Spot, Entry, entry_at, Key, key_cmp, key_of, StoredSpot, stored_spot, indexed_text, cell_tokens, document_tokens, document_postings, document_entries, spot_lists}
-use Rattle.ft_content.specs.Laws.{spots_in, some_if_any, document_lists}
+use Rattle.ft_content.specs.Content.{Column, cell_text, is_cell, has_nul}
+use Rattle.ft_content.specs.Index.{Spot, Entry, entry_at, Key, key_cmp, key_of, StoredSpot, stored_spot, indexed_text, cell_tokens, document_tokens, document_postings, document_entries}
+use Rattle.ft_content.specs.Laws.{spots_in, some_if_any}
 use Rattle.ft_content.proofs.IndexLemmas.{lists_are_entries}
 use Rattle.ft_content.proofs.MeaningLemmas.{document_texts, tokens_are}
 use Rattle.ft_index.specs.RewriteRows.{IsShortNumber, AreShortNumbers}

@@ -1,8 +1,8 @@
 -- The row changes of documents put lists that can be packed.
-use Rattle.std.proofs.Common.{◌≡◌, ℕ, ◌≤◌, Bool, true, false, cond, List, [], ◌∷◌, ◌++◌, map, length, get_or, Option, Some, None, ℤ, refl, sym, ap, subst, ◌∙◌}
+use Rattle.std.proofs.Common.{◌≡◌, ℕ, ◌≤◌, true, false, cond, List, [], ◌∷◌, map, length, get_or, Option, Some, None, ℤ, sym, subst, ◌∙◌}
 use Rattle.std.specs.List.{list_all}
 use Rattle.std.proofs.lemmas.Bool.{and_parts}
-use Rattle.std.specs.Prelude.{◌==◌, filter, All, IfSome, IsTrue, unwrap_or}
+use Rattle.std.specs.Prelude.{◌==◌, filter, All, IfSome, unwrap_or}
 use Rattle.std.specs.Ordering.{int_cmp, int_eq}
 use Rattle.std.specs.FinMap.Entries.{find, is_sorted}
 use Rattle.std.proofs.lemmas.List.Elements.{All-nil, All-cons, All-head, All-tail, All-append, All-map, All-filter, All-weaker}
@@ -15,7 +15,7 @@ use Rattle.ft_content.specs.Content.{Column, Documents, is_cell, is_document}
 use Rattle.ft_content.specs.Index.{Key, key_cmp, StoredSpot}
 use Rattle.ft_content.proofs.IndexLemmas.{key_cmp_total}
 use Rattle.ft_index.specs.Rewrite.{Rewrite, befores, afters, document_if, by_docid, FitIfAny, IsPackable}
-use Rattle.ft_index.specs.RewriteRows.{same_cell, same_spots, gone, changed, numbered, goes, dropped_documents, put_cells, put_documents, dropped_lists, put_lists, dropped_sizes, put_sizes, lists_of, sizes_of, list_changes, size_changes, rewrite_changes, AreShortNumbers, HasShortNumbers}
+use Rattle.ft_index.specs.RewriteRows.{same_cell, same_spots, gone, changed, numbered, goes, dropped_documents, put_cells, put_documents, dropped_lists, put_lists, dropped_sizes, put_sizes, lists_of, sizes_of, list_changes, rewrite_changes, AreShortNumbers, HasShortNumbers}
 use Rattle.ft_index.proofs.NearLemmas.{All-flat_map}
 use Rattle.ft_index.proofs.NewLemmas.{all_found}
 use Rattle.ft_index.proofs.RewriteLemmas.{sorted_held}

@@ -3,11 +3,8 @@ use Rattle.std.proofs.Common.{◌≡◌, ℕ, ◌≤◌, Bool, true, false, cond
 use Rattle.std.specs.Prelude.{filter, All}
 use Rattle.std.specs.declared.cmp.Ordering.{Ordering}
 use Rattle.std.specs.Ordering.{int_cmp, int_eq}
-use Rattle.std.specs.Cmp.{IsTotalOrder}
-use Rattle.std.specs.FinMap.Entries.{find, where_key, is_sorted, is_sorted-where_key, same_entries}
-use Rattle.std.proofs.lemmas.List.Elements.{All-nil, All-cons, All-head, All-tail, All-append, All-map, All-weaker}
-use Rattle.std.proofs.lemmas.Map.Lookups.{CmpEqualImpliesEq}
-use Rattle.std.proofs.lemmas.Simd.{map-map}
+use Rattle.std.specs.FinMap.Entries.{is_sorted, is_sorted-where_key}
+use Rattle.std.proofs.lemmas.List.Elements.{All-cons, All-head, All-tail, All-append, All-map, All-weaker}
 use Rattle.ft_store.specs.declared.rows.RowChange.{RowChange}
 use Rattle.ft_store.specs.Changes.{shown_change, CanApply}
 use Rattle.ft_store.specs.Store.{Cell, StoreValue, AreInOrder, CellKey, ListKey, cell_key_cmp, list_key_cmp, column_key_cmp, without_index, Change, PutEntries, PutSize, ClearIndex, applied, all_applied}
@@ -19,10 +16,11 @@ use Rattle.ft_index.specs.Rewrite.{IsPackable}
 use Rattle.ft_index.specs.Rebuild.{MakesIndex, LeavesOthers}
 use Rattle.ft_index.specs.RewriteRows.{all_put, changed, put_lists, put_sizes, lists_of, sizes_of, rebuild_changes, AreShortNumbers}
 use Rattle.ft_index.specs.Tables.{table_rows, table_index}
-use Rattle.ft_index.proofs.ChangeLemmas.{column_exact, column_total, spares_others}
-use Rattle.ft_index.proofs.KeyedRows.{true_of, of_true, sorted_put, find_all_put, or_else}
-use Rattle.ft_index.proofs.OwnRows.{TableKeys, own, joined, own_all_put}
-use Rattle.ft_index.proofs.AppliedLemmas.{list_keys, cell_keys, applied_append, put_lists_applied, put_sizes_applied}
+use Rattle.ft_index.proofs.StoreKeys.{column_exact, column_total, list_keys, cell_keys}
+use Rattle.ft_index.proofs.ChangeLemmas.{spares_others}
+use Rattle.ft_index.proofs.KeyedRows.{true_of, of_true, put_in_order}
+use Rattle.ft_index.proofs.OwnRows.{own, joined, own_all_put}
+use Rattle.ft_index.proofs.AppliedLemmas.{applied_append, put_lists_applied, put_sizes_applied}
 use Rattle.ft_index.proofs.RowKinds.{lists_are, sizes_are, size_of, sizes_again, stored_sizes}
 use Rattle.ft_index.proofs.RightLemmas.{shown_sizes}
 use Rattle.ft_index.proofs.PackedChanges.{ShortDocument, document_short, lists_packed, all_apply}
@@ -31,14 +29,6 @@ use Rattle.ft_index.proofs.PackedChanges.{ShortDocument, document_short, lists_p
 pub all_changed : {K V : Type 0} (R : K → K → Ordering) (same : V → V → Bool) (new : List (K × V)) → changed R same [] new ≡ new
 all_changed R same [] = refl
 all_changed R same (e ∷ es) = ap (λ xs. e ∷ xs) (all_changed R same es)
-
-or_none : {K V : Type 0} (S : K → K → Ordering) (o : IsTotalOrder S) (exact : CmpEqualImpliesEq S) (x : Option V) → or_else S o exact x None ≡ x
-or_none S o exact None = refl
-or_none S o exact (Some v) = refl
-
--- rows in order that are put one after another
-put_all : {K V : Type 0} (S : K → K → Ordering) (o : IsTotalOrder S) (exact : CmpEqualImpliesEq S) (es : List (K × V)) → is_sorted S es ≡ true → all_put S es [] ≡ es
-put_all S o exact es h = same_entries S o exact (all_put S es []) es (of_true _ (sorted_put S o exact es [] refl)) (of_true _ h) (λ q. find_all_put S o exact q es [] h ∙ or_none S o exact (find S q es))
 
 none_left : {X : Type 0} (p : X → Bool) (xs : List X) → filter p (filter (λ x. not (p x)) xs) ≡ []
 none_left p [] = refl
@@ -65,14 +55,14 @@ module _ (tab : ℤ) (lists : List (Key × List StoredSpot)) (sizes : List ((ℤ
       let mine : ListKey × List StoredSpot → Bool = λ e. int_eq tab e.0.0 in
       own_all_put list_keys tab lists (without_index tab store).lists (true_of _ (is_sorted-where_key list_key_cmp (λ k. not (int_eq tab k.0)) store.lists (of_true _ order.lists)))
       ∙ ap (λ es. all_put key_cmp lists (map (λ (e : ListKey × List StoredSpot). ((e.0.1, e.0.2), e.1)) es)) (none_left mine store.lists)
-      ∙ put_all key_cmp key_cmp_total key_cmp_exact lists sorted
+      ∙ put_in_order key_cmp key_cmp_total key_cmp_exact lists sorted
 
   sizes_last : (store : StoreValue) → AreInOrder store → is_sorted column_key_cmp sizes ≡ true → own cell_keys tab (sizes_after store) ≡ sizes
   sizes_last store order sorted =
       let mine : CellKey × ℤ → Bool = λ e. int_eq tab e.0.0 in
       own_all_put cell_keys tab sizes (without_index tab store).sizes (true_of _ (is_sorted-where_key cell_key_cmp (λ k. not (int_eq tab k.0)) store.sizes (of_true _ order.sizes)))
       ∙ ap (λ es. all_put column_key_cmp sizes (map (λ (e : CellKey × ℤ). ((e.0.1, e.0.2), e.1)) es)) (none_left mine store.sizes)
-      ∙ put_all column_key_cmp column_total column_exact sizes sorted
+      ∙ put_in_order column_key_cmp column_total column_exact sizes sorted
 
 made_at : (name : List ℕ) (content : Content) (tab : ℤ) (store : StoreValue) → AreInOrder store → IsContent name content → table_rows tab store ≡ content_rows content →
     let changes = rebuild_changes tab (lists_of content.columns content.documents) (sizes_of content.columns content.documents) in

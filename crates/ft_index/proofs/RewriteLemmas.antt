@@ -1,5 +1,5 @@
 -- Documents after rewrites, found by their docids.
-use Rattle.std.proofs.Common.{◌≡◌, ℕ, Bool, true, false, cond, not, ◌&&◌, List, [], ◌∷◌, ◌++◌, map, Option, Some, None, ℤ, refl, sym, ap, ◌∙◌}
+use Rattle.std.proofs.Common.{◌≡◌, Bool, true, false, cond, not, List, [], ◌∷◌, ◌++◌, Option, Some, None, ℤ, refl, sym, ap, ◌∙◌}
 use Rattle.std.specs.Prelude.{All, unwrap_or}
 use Rattle.std.specs.List.{flat_map}
 use Rattle.std.specs.Option.{option_and_then}
@@ -13,7 +13,6 @@ use Rattle.std.proofs.lemmas.List.Elements.{All-head, All-tail}
 use Rattle.std.proofs.lemmas.Map.Lookups.{CmpEqualImpliesEq}
 use Rattle.ft_store.specs.Store.{Cell}
 use Rattle.ft_content.specs.Content.{Documents}
-use Rattle.ft_content.specs.Step.{without_docid}
 use Rattle.ft_index.specs.Rewrite.{Rewrite, with_cells, rewritten, document_if, befores, afters, by_docid}
 use Rattle.ft_index.specs.RewriteRows.{all_put, gone, changed}
 use Rattle.ft_index.proofs.KeyedRows.{true_of, of_true, tie, none_below, sorted_put, sorted_dropped, all_dropped, replaced, find_replaced}
@@ -62,7 +61,7 @@ find_held held docid (r ∷ rs) h =
 
 -- ---- documents after rewrites
 
-turned : (x y : ℤ) → int_eq x y ≡ int_eq y x
+pub turned : (x y : ℤ) → int_eq x y ≡ int_eq y x
 turned x y = (eq_by_cmp_equiv int_cmp_total).symm x y
 
 find_with : (docid : ℤ) (other : ℤ) (cells : Cells) (documents : Documents) → find int_cmp docid (with_cells other cells documents) ≡ cond (int_eq docid other) cells (find int_cmp docid documents)

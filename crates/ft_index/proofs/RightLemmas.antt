@@ -1,29 +1,29 @@
 -- The row changes of rewrites lead to the rows and the index rows of the documents as they are to be.
-use Rattle.std.proofs.Common.{◌≡◌, ℕ, ◌≤◌, Bool, true, false, cond, not, ◌&&◌, List, [], ◌∷◌, ◌++◌, map, length, Option, Some, None, ℤ, refl, sym, ap, subst, ◌∙◌, arith}
+use Rattle.std.proofs.Common.{◌≡◌, ℕ, true, false, cond, ◌&&◌, List, [], ◌∷◌, ◌++◌, map, length, Option, Some, None, ℤ, refl, sym, ap, subst, ◌∙◌, arith}
 use Rattle.std.specs.Prelude.{filter, All, ◌==◌}
 use Rattle.std.specs.List.{flat_map, list_all}
 use Rattle.std.specs.Ordering.{int_cmp, int_eq}
-use Rattle.std.specs.FinMap.Entries.{find, is_sorted}
+use Rattle.std.specs.FinMap.Entries.{find}
 use Rattle.std.proofs.lemmas.Bool.{and_parts}
 use Rattle.std.proofs.lemmas.Bool.Decides.{nat_tests}
 use Rattle.std.proofs.lemmas.List.Elements.{All-nil, All-cons, All-head, All-tail}
 use Rattle.std.proofs.lemmas.Map.Lookups.{exact_signed}
 use Rattle.std.proofs.lemmas.Simd.{map-map}
 use Rattle.ft_store.specs.Store.{Cell, StoreValue, CellKey, ListKey, cell_key_cmp, list_key_cmp, column_key_cmp, all_applied}
-use Rattle.ft_content.specs.Content.{Column, Documents, Content, CellRow, IsContent, is_cell, is_document, content_rows, document_rows}
-use Rattle.ft_content.specs.Index.{Key, key_cmp, StoredSpot, SizeRow, index_rows}
+use Rattle.ft_content.specs.Content.{Column, Documents, Content, is_cell, is_document, content_rows, document_rows}
+use Rattle.ft_content.specs.Index.{Key, key_cmp, StoredSpot, index_rows}
 use Rattle.ft_content.proofs.IndexLemmas.{key_cmp_total, key_cmp_exact}
 use Rattle.ft_index.specs.Tables.{table_rows, table_index}
 use Rattle.ft_index.specs.Rewrite.{Rewrite, befores, afters, by_docid, rewritten, rewritten_content, FitIfAny, AreOf, HasContent, AreRight}
 use Rattle.ft_index.specs.RewriteRows.{all_put, same_spot, same_spots, gone, changed, numbered, goes, dropped_documents, put_documents, dropped_lists, put_lists, dropped_sizes, put_sizes, sized, lists_of, sizes_of, list_changes, size_changes, rewrite_changes}
-use Rattle.ft_index.proofs.ChangeLemmas.{list_exact, list_total, cell_exact, cell_total, column_exact, column_total}
+use Rattle.ft_index.proofs.StoreKeys.{list_exact, list_total, cell_exact, cell_total, column_exact, column_total, list_keys, cell_keys}
 use Rattle.ft_index.proofs.KeyedRows.{tie, all_dropped, sorted_dropped}
 use Rattle.ft_index.proofs.DocumentRows.{rows_by}
 use Rattle.ft_index.proofs.RewriteLemmas.{sorted_rewritten, rows_replaced}
 use Rattle.ft_index.proofs.RowKinds.{cell_row, keyed_cell, content_cells, keyed_again, one_list, lists_are, size_of, sized_again, sizes_again, counts, stored_sizes, sizes_are}
 use Rattle.ft_index.proofs.DocumentRows.{one_by}
 use Rattle.ft_index.proofs.OwnRows.{own, joined, own_all_put, own_all_dropped}
-use Rattle.ft_index.proofs.AppliedLemmas.{list_keys, cell_keys, applied_append, put_lists_applied, dropped_lists_applied, put_sizes_applied, dropped_sizes_applied, new_cells, put_documents_applied, cells_dropped, documents_dropped, dropped_documents_applied, sorted_cells_dropped, own_dropped}
+use Rattle.ft_index.proofs.AppliedLemmas.{applied_append, put_lists_applied, dropped_lists_applied, put_sizes_applied, dropped_sizes_applied, new_cells, put_documents_applied, cells_dropped, documents_dropped, dropped_documents_applied, sorted_cells_dropped, own_dropped}
 use Rattle.ft_index.proofs.CellsRight.{wide, cells_right}
 
 -- ---- the store after all changes
@@ -88,6 +88,9 @@ int_sound m n h = exact_signed m n (tie _ h)
 
 -- ---- documents keep their columns
 
+equal : (m n : ℕ) → (m == n) ≡ true → m ≡ n
+equal m n h = grind (arith, nat_tests)
+
 found_width : (width : ℕ) (docid : ℤ) (cells : List Cell) (documents : Documents) → list_all (is_document width) documents ≡ true → find int_cmp docid documents ≡ Some cells → length cells ≡ width
 found_width width docid cells [] h = λ is. absurd (let no = is in cc)
 found_width width docid cells (d ∷ ds) h =
@@ -103,9 +106,6 @@ found_width width docid cells (d ∷ ds) h =
     or_this c None = c
     or_this c (Some x) = x
 
-    equal : (m n : ℕ) → (m == n) ≡ true → m ≡ n
-    equal m n h = grind (arith, nat_tests)
-
 wide_at : (width : ℕ) (documents : Documents) (docid : ℤ) (before after : Option (List Cell)) → list_all (is_document width) documents ≡ true → before ≡ find int_cmp docid documents → FitIfAny width (record { docid = docid; before = before; after = after }) → wide before after
 wide_at width documents docid None after h is fits = tt
 wide_at width documents docid (Some b) None h is fits = tt
@@ -113,9 +113,6 @@ wide_at width documents docid (Some b) (Some a) h is fits =
     let one : length b ≡ width = found_width width docid b documents h (sym is) in
     let other : length a ≡ width = equal (length a) width (and_parts (length a == width) (list_all is_cell a) fits).0 in
     omega (arith, one, other)
-  where
-    equal : (m n : ℕ) → (m == n) ≡ true → m ≡ n
-    equal m n h = grind (arith, nat_tests)
 
 all_wide : (width : ℕ) (documents : Documents) (rewrites : List Rewrite) → list_all (is_document width) documents ≡ true → All (λ (r : Rewrite). r.before ≡ find int_cmp r.docid documents) rewrites → All (FitIfAny width) rewrites → All (λ (r : Rewrite). wide r.before r.after) rewrites
 all_wide width documents [] h known fits = All-nil (λ (r : Rewrite). wide r.before r.after)

@@ -1,24 +1,20 @@
 -- The cells, lists and sizes of documents as rows under keys.
-use Rattle.std.proofs.Common.{◌≡◌, ℕ, ◌≤◌, Bool, true, false, cond, not, ◌&&◌, ◌||◌, T, List, [], ◌∷◌, ◌++◌, map, length, Option, Some, None, ℤ, pos, refl, sym, ap, ◌∙◌, arith, nat_lt}
-use Rattle.std.specs.Prelude.{filter, option_map, unwrap_or, is_some}
-use Rattle.std.specs.List.{flat_map, enumerate_from, list_any}
-use Rattle.std.specs.Option.{option_and_then}
-use Rattle.std.specs.Ordering.{int_cmp, int_eq}
-use Rattle.std.specs.Cmp.{eq_by_cmp_equiv, int_cmp_total}
-use Rattle.std.specs.FinMap.{int_cmp-IsAntisymmetric}
-use Rattle.std.specs.FinMap.Entries.{find, where_key, is_sorted, is_sorted-where_key, find-where_key, same_entries}
-use Rattle.std.proofs.lemmas.Bool.{and_parts}
+use Rattle.std.proofs.Common.{◌≡◌, ℕ, Bool, true, false, cond, List, [], ◌∷◌, ◌++◌, map, length, Option, ℤ, pos, refl, sym, ap, ◌∙◌, nat_lt}
+use Rattle.std.specs.Prelude.{filter, option_map}
+use Rattle.std.specs.List.{flat_map, enumerate_from}
+use Rattle.std.specs.Ordering.{int_cmp}
+use Rattle.std.specs.FinMap.Entries.{find, is_sorted}
 use Rattle.std.proofs.lemmas.List.{map-append}
 use Rattle.std.proofs.lemmas.Simd.{map-map}
 use Rattle.ft_query.specs.Tokens.{PlainToken}
 use Rattle.ft_store.specs.Store.{Cell, column_key_cmp}
 use Rattle.ft_content.specs.Content.{Column, Documents, CellRow, document_rows}
-use Rattle.ft_content.specs.Index.{Key, key_cmp, Spot, StoredSpot, stored_spot, spot_lists, Size, SizeRow, size_row, document_tokens, document_sizes, entries, sizes, index_rows}
+use Rattle.ft_content.specs.Index.{Key, key_cmp, StoredSpot, stored_spot, spot_lists, Size, SizeRow, size_row, document_tokens, document_sizes, entries, sizes, index_rows}
 use Rattle.ft_content.specs.Laws.{content_with, document_lists}
 use Rattle.ft_content.proofs.PlanLemmas.{sorted_lists, old_found}
 use Rattle.ft_index.specs.RewriteRows.{sized, numbered, all_put, lists_of, sizes_of}
-use Rattle.ft_index.proofs.ChangeLemmas.{column_total, column_exact}
-use Rattle.ft_index.proofs.KeyedRows.{true_of, of_true, find-values, sorted-values, sorted_put, find_all_put, or_else}
+use Rattle.ft_index.proofs.StoreKeys.{column_total, column_exact}
+use Rattle.ft_index.proofs.KeyedRows.{true_of, of_true, find-values, sorted-values, put_in_order}
 use Rattle.ft_index.proofs.DocumentRows.{under, rows_by, one_by, sorted_by, find_by, passed_from, sorted_passed, sorted_numbered}
 use Rattle.ft_index.proofs.RewriteLemmas.{AreRowsOf}
 
@@ -108,10 +104,6 @@ sizes_keyed columns (d ∷ ds) =
     ap sized (map-append size_row here more) ∙ map-append keyed_size (map size_row here) (map size_row more)
     ∙ (λ i. kept_sizes d.0 (enumerate_from 0 (document_tokens columns d.1)) i ++ sizes_keyed columns ds i)
 
-or_none : {V : Type 0} (o : Option V) → or_else column_key_cmp column_total column_exact o None ≡ o
-or_none None = refl
-or_none (Some v) = refl
-
 -- by rising docids the sizes stand in order already
 pub sizes_ordered : (columns : List Column) (documents : Documents) → is_sorted int_cmp documents ≡ true → sizes_of columns documents ≡ rows_by (counts columns) documents
 unfolding index_rows sizes
@@ -119,8 +111,7 @@ sizes_ordered columns documents h =
     let rows = rows_by (counts columns) documents in
     let sorted = sorted_by (counts columns) documents h (λ cells. sorted_passed has_tokens token_count 0 (document_tokens columns cells)) in
     ap (λ rs. all_put column_key_cmp rs []) (sizes_keyed columns documents)
-    ∙ same_entries column_key_cmp column_total column_exact (all_put column_key_cmp rows []) rows (of_true _ (sorted_put column_key_cmp column_total column_exact rows [] refl)) (of_true _ sorted)
-    (λ q. find_all_put column_key_cmp column_total column_exact q rows [] sorted ∙ or_none (find column_key_cmp q rows))
+    ∙ put_in_order column_key_cmp column_total column_exact rows sorted
 
 pub stored_sizes : (columns : List Column) (documents : Documents) → is_sorted int_cmp documents ≡ true → sized (index_rows (content_with columns documents)).sizes ≡ sizes_of columns documents
 unfolding index_rows sizes

@@ -1,5 +1,5 @@
 -- The row changes that make the index of a table again ("The "rebuild" command"); their rows are an own choice.
-use Rattle.std.specs.Prelude.{◌≡◌, ℕ, false, List, Some, ℤ, IsTrue, All}
+use Rattle.std.specs.Prelude.{◌≡◌, ℕ, false, List, ℤ}
 use Rattle.std.specs.Ordering.{int_eq}
 use Rattle.ft_store.specs.Store.{Cell, StoreValue, AreInOrder, Change, all_applied}
 use Rattle.ft_content.specs.Content.{Column, Documents, Content, IsContent, content_rows}

@@ -1,5 +1,5 @@
 -- How many rows a Select with MATCH reads (own choice).
-use Rattle.std.specs.Prelude.{◌≡◌, ℕ, ◌+◌, ◌*◌, Bool, true, false, cond, not, length, Option, Some, None, Result, Ok, ℤ, IsTrue}
+use Rattle.std.specs.Prelude.{◌≡◌, ℕ, ◌+◌, ◌*◌, Bool, true, false, cond, not, length, Option, Some, None, Result, Ok, ℤ}
 use Rattle.std.specs.List.{list_any}
 use Rattle.ft_query.specs.Trees.{Tree}
 use Rattle.ft_query.specs.Work.{entry_count}

@@ -1,4 +1,4 @@
-use Rattle.std.proofs.Common.{map, sym, subst, ap, ◌∙◌, to_z-of_z}
+use Rattle.std.proofs.Common.{map, sym, subst, ◌∙◌, to_z-of_z}
 use Rattle.std.proofs.lemmas.List.{length-map}
 use Rattle.ft_content.specs.Views.{column_of}
 use Rattle.ft_index.specs.Rebuild.{shown_document, MakesIndex, LeavesOthers}

@@ -1,9 +1,9 @@
-use Rattle.std.proofs.Common.{◌≡◌, ◌++◌, ◌∷◌, [], List, map, ℤ, sym, ap, ◌∙◌, to_z-of_z, append_assoc}
+use Rattle.std.proofs.Common.{◌≡◌, ◌++◌, ◌∷◌, [], map, ap, ◌∙◌, to_z-of_z}
 use Rattle.std.specs.Ordering.{int_eq}
 use Rattle.ft_store.specs.Changes.{shown_change}
 use Rattle.ft_store.specs.Store.{ClearIndex, column_key_cmp}
 use Rattle.ft_content.specs.Index.{key_cmp}
-use Rattle.ft_index.specs.RewriteRows.{lists_in, sizes_in, same_spots, changed, put_lists, put_sizes, rebuild_changes}
+use Rattle.ft_index.specs.RewriteRows.{lists_in, sizes_in, same_spots, changed, put_lists, put_sizes}
 use Rattle.ft_index.proofs.Steps.{change_more}
 use Rattle.ft_index.proofs.RebuildLemmas.{all_changed}
 use Rattle.ft_index.proofs.rebuild.rebuilt.Goals as goal

@@ -1,9 +1,8 @@
-use Rattle.std.proofs.Common.{◌≡◌, ◌+◌, [], ◌∷◌, map, drop, subst, length, sym, ap, ◌∙◌, to_z-of_z, to_z, of_z, w64, rules}
-use Rattle.std.specs.Prelude.{option_map}
+use Rattle.std.proofs.Common.{◌≡◌, ◌+◌, [], ◌∷◌, map, drop, subst, sym, ap, ◌∙◌, to_z, of_z, w64, rules}
 use Rattle.std.specs.Prelude.{All}
 use Rattle.std.proofs.lemmas.List.{drop_all}
 use Rattle.std.proofs.lemmas.List.Elements.{All-nil, All-cons}
-use Rattle.ft_content.specs.Views.{cells_of, column_of}
+use Rattle.ft_content.specs.Views.{column_of}
 use Rattle.ft_index.specs.Rewrite.{shown_rewrite, befores, afters, document_if}
 use Rattle.ft_index.specs.RewriteRows.{lists_in, sizes_in, lists_with, sizes_with, HasShortNumbers}
 use Rattle.ft_index.proofs.Steps.{taken_more}

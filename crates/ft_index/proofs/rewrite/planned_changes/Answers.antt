@@ -1,9 +1,8 @@
-use Rattle.std.proofs.Common.{◌≡◌, ◌++◌, map, sym, ap, ◌∙◌, to_z-of_z}
+use Rattle.std.proofs.Common.{◌++◌, map, ap, ◌∙◌, to_z-of_z}
 use Rattle.std.specs.Ordering.{int_eq}
 use Rattle.ft_store.specs.Changes.{shown_change}
 use Rattle.ft_store.specs.Store.{column_key_cmp}
 use Rattle.ft_content.specs.Index.{key_cmp}
-use Rattle.ft_content.specs.Views.{column_of}
 use Rattle.ft_index.specs.Rewrite.{shown_rewrite}
 use Rattle.ft_index.specs.RewriteRows.{rewrite_changes, dropped_documents, put_documents, dropped_lists, put_lists, dropped_sizes, put_sizes, gone, changed, same_spots}
 use Rattle.ft_index.proofs.Steps.{six_pieces}
