@@ -93,7 +93,7 @@ held_entries : (columns : List Column) (docid : ℤ) (held : Option (List Cell))
 held_entries columns docid None term = refl
 held_entries columns docid (Some cells) term = ap (λ es. some_if_any (spots_in (term, docid) es)) (append-nil (document_entries columns (docid, cells))) ∙ sym (own_found columns docid cells term)
 
-old_found : (columns : List Column) (documents : Documents) (docid : ℤ) (term : List ℕ) → T (is_sorted int_cmp documents) → find key_cmp (term, docid) (spot_lists (entries (content_with columns documents))) ≡ find key_cmp (term, docid) (document_lists columns docid (find int_cmp docid documents))
+pub old_found : (columns : List Column) (documents : Documents) (docid : ℤ) (term : List ℕ) → T (is_sorted int_cmp documents) → find key_cmp (term, docid) (spot_lists (entries (content_with columns documents))) ≡ find key_cmp (term, docid) (document_lists columns docid (find int_cmp docid documents))
 unfolding entries
 old_found columns documents docid term sorted =
     let es = flat_map (document_entries columns) documents in

@@ -14,7 +14,8 @@ use Rattle.ft_store.specs.Store.{StoreValue, AreInOrder, Cell, CellKey, ListKey,
 use Rattle.ft_content.specs.Content.{Column, Content, names_of, skipped_from, content_rows}
 use Rattle.ft_content.specs.Index.{StoredSpot, index_rows, entries, sizes, spot_lists}
 use Rattle.ft_index.specs.Tables.{table_rows, table_index}
-use Rattle.ft_index.proofs.ChangeLemmas.{column_total, column_exact, tie, true_of, of_true}
+use Rattle.ft_index.proofs.KeyedRows.{tie, true_of, of_true}
+use Rattle.ft_index.proofs.StoreKeys.{column_total, column_exact}
 
 -- ---- rows put at the end
 

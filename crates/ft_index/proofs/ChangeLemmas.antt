@@ -1,23 +1,24 @@
 -- What row changes do to the rows of one table.
-use Rattle.std.proofs.Common.{◌≡◌, ℕ, Bool, true, false, cond, not, T, ◌&&◌, List, [], ◌∷◌, map, Some, ℤ, pos, refl, sym, ap, subst, ◌∙◌}
+use Rattle.std.proofs.Common.{◌≡◌, ℕ, Bool, true, false, cond, not, ◌&&◌, List, [], ◌∷◌, map, ℤ, pos, refl, sym, ap, ◌∙◌}
 use Rattle.std.specs.Prelude.{filter, IsTrue}
 use Rattle.std.specs.List.{enumerate_from}
 use Rattle.sqlite_value.specs.Keys.{without_case}
 use Rattle.std.specs.declared.cmp.Ordering.{Ordering}
 use Rattle.std.specs.declared.cmp.Ordering.TheVariants.{Less, Equal, Greater}
-use Rattle.std.specs.Ordering.{int_cmp, int_eq, eq_by_cmp, is_eq, is_lt, ordering_then, nat_cmp}
-use Rattle.std.specs.Cmp.{IsTotalOrder, eq_by_cmp_equiv, int_cmp_total, tied_itself}
+use Rattle.std.specs.Ordering.{int_cmp, int_eq, eq_by_cmp, nat_cmp}
+use Rattle.std.specs.Cmp.{IsTotalOrder, eq_by_cmp_equiv, int_cmp_total}
 use Rattle.std.specs.Cmp.Lexicographic.{slice_cmp, nat_list_cmp_total}
-use Rattle.std.specs.FinMap.Entries.{by_order, put, find, below_all, is_sorted, is_sorted-put, is_sorted-where_key, find-put, same_entries, where_key}
-use Rattle.std.proofs.lemmas.Bool.{and_parts, and_from}
-use Rattle.std.proofs.lemmas.Cmp.{on_total, then_total}
-use Rattle.std.proofs.lemmas.Map.Lookups.{CmpEqualImpliesEq, exact_signed, exact_bytes}
+use Rattle.std.specs.FinMap.Entries.{by_order, put, is_sorted, is_sorted-put, is_sorted-where_key, where_key}
+use Rattle.std.proofs.lemmas.Map.Lookups.{CmpEqualImpliesEq, exact_signed}
 use Rattle.ft_store.specs.Store.{Cell}
 use Rattle.ft_content.specs.Content.{TableRows}
-use Rattle.ft_content.specs.Index.{Key, key_cmp, StoredSpot, IndexRows}
+use Rattle.ft_content.specs.Index.{StoredSpot, IndexRows}
 use Rattle.ft_store.specs.Store.{AreInOrder, CellKey, ListKey, cell_key_cmp, list_key_cmp, column_key_cmp, with_columns, with_skipped, without_key, without_rows, AddTable, DropTable, PutCell, DropCells, PutEntries, DropEntries, PutSize, DropSize, ClearIndex, Note, StoreValue}
 use Rattle.ft_index.specs.RowLaws.{PutsEntries, DropsEntries, KeepsOrder, SparesOthers}
-use Rattle.ft_content.proofs.IndexLemmas.{key_cmp_total, key_cmp_exact, filter-within}
+use Rattle.ft_content.proofs.IndexLemmas.{filter-within}
+use Rattle.ft_index.proofs.KeyedRows.{true_of, of_true, tie}
+use Rattle.ft_index.proofs.OwnRows.{own_put, own_drop}
+use Rattle.ft_index.proofs.StoreKeys.{column_exact, cell_exact, list_exact, column_total, cell_total, list_total, list_keys}
 
 -- ---- other tables' rows
 
@@ -32,25 +33,6 @@ spares_put {K} {V} R exact tab_of other k v (e ∷ es) apart =
           ap (λ b. cond b ((e.0, v) ∷ filter mine es) (filter mine es)) same ∙ sym (ap (λ b. cond b (e ∷ filter mine es) (filter mine es)) same)
       | Greater ↦ λ is. ap (λ es. cond (mine e) (e ∷ es) es) (spares_put R exact tab_of other k v es apart)
     ] refl
-
-both_equal : (a b : Ordering) → ordering_then a b ≡ Equal → (a ≡ Equal) × (b ≡ Equal)
-both_equal Less b e = absurd (let no = ap is_lt e in cc)
-both_equal Equal b e = (refl, e)
-both_equal Greater b e = absurd (let no = ap is_eq e in cc)
-
-pub column_exact : CmpEqualImpliesEq column_key_cmp
-column_exact x y e = let k = both_equal _ _ e in λ i. (exact_signed x.0 y.0 k.0 i, exact_signed x.1 y.1 k.1 i)
-
-cell_exact : CmpEqualImpliesEq cell_key_cmp
-cell_exact x y e = let k = both_equal _ _ e in let l = both_equal _ _ k.1 in λ i. (exact_signed x.0 y.0 k.0 i, exact_signed x.1 y.1 l.0 i, exact_signed x.2 y.2 l.1 i)
-
-list_exact : CmpEqualImpliesEq list_key_cmp
-list_exact x y e = let k = both_equal _ _ e in let l = both_equal _ _ k.1 in λ i. (exact_signed x.0 y.0 k.0 i, exact_bytes x.1 y.1 l.0 i, exact_signed x.2 y.2 l.1 i)
-
-pub tie : (o : Ordering) → is_eq o ≡ true → o ≡ Equal
-tie Less h = absurd (let no = h in cc)
-tie Equal h = refl
-tie Greater h = absurd (let no = h in cc)
 
 -- a row of the other table is not of this one
 not_this : (tab other t : ℤ) → int_eq other tab ≡ false → int_eq other t ≡ true → int_eq tab t ≡ false
@@ -137,98 +119,13 @@ spares_others (Note name) other store h = (refl, refl)
 
 -- ---- a table's own lists
 
-list_total : IsTotalOrder list_key_cmp
-list_total = then_total (on_total (λ (k : ListKey). k.0) int_cmp_total) (then_total (on_total (λ (k : ListKey). k.1) nat_list_cmp_total) (on_total (λ (k : ListKey). k.2) int_cmp_total))
-
-abbrev own_lists : ℤ → List (ListKey × List StoredSpot) → List (Key × List StoredSpot)
-own_lists tab rows = map (λ (l : ListKey × List StoredSpot). ((l.0.1, l.0.2), l.1)) (of_table (λ (k : ListKey). k.0) tab rows)
-
-then_equal : (o r : Ordering) → is_eq o ≡ true → ordering_then o r ≡ r
-then_equal Less r h = absurd (let no = h in cc)
-then_equal Equal r h = refl
-then_equal Greater r h = absurd (let no = h in cc)
-
-then_apart : (o r : Ordering) → is_eq o ≡ false → is_eq (ordering_then o r) ≡ false
-then_apart Less r h = refl
-then_apart Equal r h = absurd (let no = h in cc)
-then_apart Greater r h = refl
-
-find_own : (tab : ℤ) (q : Key) (rows : List (ListKey × List StoredSpot)) → find key_cmp q (own_lists tab rows) ≡ find list_key_cmp (tab, q.0, q.1) rows
-find_own tab q [] = refl
-find_own tab q (e ∷ es) =
-    let rest = find_own tab q es in
-    elim (int_eq tab e.0.0) as (λ b. int_eq tab e.0.0 ≡ b → find key_cmp q (map (λ (l : ListKey × List StoredSpot). ((l.0.1, l.0.2), l.1)) (cond b (e ∷ of_table (λ (k : ListKey). k.0) tab es) (of_table (λ (k : ListKey). k.0) tab es))) ≡ find list_key_cmp (tab, q.0, q.1) (e ∷ es)) [
-      | true ↦ λ same. ap (cond (eq_by_cmp key_cmp q (e.0.1, e.0.2)) (Some e.1)) rest
-          ∙ ap (λ o. cond (is_eq o) (Some e.1) (find list_key_cmp (tab, q.0, q.1) es)) (sym (then_equal (int_cmp tab e.0.0) (key_cmp q (e.0.1, e.0.2)) same))
-      | false ↦ λ apart. rest ∙ ap (λ b. cond b (Some e.1) (find list_key_cmp (tab, q.0, q.1) es)) (sym (then_apart (int_cmp tab e.0.0) (key_cmp q (e.0.1, e.0.2)) apart))
-    ] refl
-
-below_own : (tab : ℤ) (x : ListKey) (rows : List (ListKey × List StoredSpot)) → int_eq tab x.0 ≡ true → below_all list_key_cmp x rows ≡ true → below_all key_cmp (x.1, x.2) (own_lists tab rows) ≡ true
-below_own tab x [] is h = refl
-below_own tab x (e ∷ es) is h =
-    let parts = and_parts (is_lt (list_key_cmp x e.0)) (below_all list_key_cmp x es) h in
-    let rest = below_own tab x es is parts.1 in
-    elim (int_eq tab e.0.0) as (λ b. int_eq tab e.0.0 ≡ b → below_all key_cmp (x.1, x.2) (map (λ (l : ListKey × List StoredSpot). ((l.0.1, l.0.2), l.1)) (cond b (e ∷ of_table (λ (k : ListKey). k.0) tab es) (of_table (λ (k : ListKey). k.0) tab es))) ≡ true) [
-      | true ↦ λ same. and_from (is_lt (key_cmp (x.1, x.2) (e.0.1, e.0.2))) (below_all key_cmp (x.1, x.2) (own_lists tab es))
-          (ap is_lt (sym (then_equal (int_cmp x.0 e.0.0) (key_cmp (x.1, x.2) (e.0.1, e.0.2)) (ap (λ t. int_eq t e.0.0) (sym (exact_signed tab x.0 (tie _ is))) ∙ same))) ∙ parts.0) rest
-      | false ↦ λ _. rest
-    ] refl
-
-sorted_own : (tab : ℤ) (rows : List (ListKey × List StoredSpot)) → is_sorted list_key_cmp rows ≡ true → is_sorted key_cmp (own_lists tab rows) ≡ true
-sorted_own tab [] h = refl
-sorted_own tab (e ∷ es) h =
-    let parts = and_parts (below_all list_key_cmp e.0 es) (is_sorted list_key_cmp es) h in
-    let rest = sorted_own tab es parts.1 in
-    elim (int_eq tab e.0.0) as (λ b. int_eq tab e.0.0 ≡ b → is_sorted key_cmp (map (λ (l : ListKey × List StoredSpot). ((l.0.1, l.0.2), l.1)) (cond b (e ∷ of_table (λ (k : ListKey). k.0) tab es) (of_table (λ (k : ListKey). k.0) tab es))) ≡ true) [
-      | true ↦ λ same. and_from (below_all key_cmp (e.0.1, e.0.2) (own_lists tab es)) (is_sorted key_cmp (own_lists tab es)) (below_own tab e.0 es same parts.0) rest
-      | false ↦ λ _. rest
-    ] refl
-
-pub true_of : (b : Bool) → T b → b ≡ true
-true_of true h = refl
-true_of false h = absurd h
-
-pub of_true : (b : Bool) → b ≡ true → T b
-of_true b h = subst T (sym h) tt
-
 pub puts_entries : PutsEntries
-puts_entries tab docid term spots store h =
-    let rows = store.lists in
-    let k : ListKey = (tab, term, docid) in
-    same_entries key_cmp key_cmp_total key_cmp_exact (own_lists tab (put list_key_cmp k spots rows)) (put key_cmp (term, docid) spots (own_lists tab rows))
-    (of_true _ (sorted_own tab (put list_key_cmp k spots rows) (true_of _ (is_sorted-put list_key_cmp list_total k spots rows (of_true _ h)))))
-    (is_sorted-put key_cmp key_cmp_total (term, docid) spots (own_lists tab rows) (of_true _ (sorted_own tab rows h)))
-    (λ q. find_own tab q (put list_key_cmp k spots rows)
-    ∙ find-put list_key_cmp list_total (tab, q.0, q.1) k spots rows
-    ∙ ap (λ o. cond (is_eq (ordering_then o (key_cmp q (term, docid)))) (Some spots) (find list_key_cmp (tab, q.0, q.1) rows)) (tied_itself int_cmp_total tab)
-    ∙ ap (cond (eq_by_cmp key_cmp q (term, docid)) (Some spots)) (sym (find_own tab q rows))
-    ∙ sym (find-put key_cmp key_cmp_total q (term, docid) spots (own_lists tab rows)))
+puts_entries tab docid term spots store h = own_put list_keys tab (term, docid) spots store.lists h
 
 pub drops_entries : DropsEntries
-drops_entries tab docid term store = dropped store.lists
-  where
-    dropped : (rows : List (ListKey × List StoredSpot)) → own_lists tab (without_key list_key_cmp (tab, term, docid) rows) ≡ without_key key_cmp (term, docid) (own_lists tab rows)
-    dropped [] = refl
-    dropped (e ∷ es) =
-        let left = without_key list_key_cmp (tab, term, docid) es in
-        let here = eq_by_cmp key_cmp (term, docid) (e.0.1, e.0.2) in
-        elim (int_eq tab e.0.0) as (λ b. int_eq tab e.0.0 ≡ b → own_lists tab (cond (not (eq_by_cmp list_key_cmp (tab, term, docid) e.0)) (e ∷ left) left) ≡ without_key key_cmp (term, docid) (map (λ (l : ListKey × List StoredSpot). ((l.0.1, l.0.2), l.1)) (cond b (e ∷ of_table (λ (k : ListKey). k.0) tab es) (of_table (λ (k : ListKey). k.0) tab es)))) [
-          | true ↦ λ same. ap (λ o. own_lists tab (cond (not (is_eq o)) (e ∷ left) left)) (then_equal (int_cmp tab e.0.0) (key_cmp (term, docid) (e.0.1, e.0.2)) same)
-              ∙ elim here as (λ c. own_lists tab (cond (not c) (e ∷ left) left) ≡ cond (not c) (((e.0.1, e.0.2), e.1) ∷ without_key key_cmp (term, docid) (own_lists tab es)) (without_key key_cmp (term, docid) (own_lists tab es))) [
-                | true ↦ dropped es
-                | false ↦ ap (λ b. map (λ (l : ListKey × List StoredSpot). ((l.0.1, l.0.2), l.1)) (cond b (e ∷ of_table (λ (k : ListKey). k.0) tab left) (of_table (λ (k : ListKey). k.0) tab left))) same ∙ ap (λ ls. ((e.0.1, e.0.2), e.1) ∷ ls) (dropped es)
-              ]
-          | false ↦ λ apart. ap (λ b. own_lists tab (cond (not b) (e ∷ left) left)) (then_apart (int_cmp tab e.0.0) (key_cmp (term, docid) (e.0.1, e.0.2)) apart)
-              ∙ ap (λ b. map (λ (l : ListKey × List StoredSpot). ((l.0.1, l.0.2), l.1)) (cond b (e ∷ of_table (λ (k : ListKey). k.0) tab left) (of_table (λ (k : ListKey). k.0) tab left))) apart ∙ dropped es
-        ] refl
+drops_entries tab docid term store = own_drop list_keys tab (term, docid) store.lists
 
 -- ---- order
-
-pub column_total : IsTotalOrder column_key_cmp
-column_total = then_total (on_total (λ (k : ℤ × ℤ). k.0) int_cmp_total) (on_total (λ (k : ℤ × ℤ). k.1) int_cmp_total)
-
-cell_total : IsTotalOrder cell_key_cmp
-cell_total = then_total (on_total (λ (k : CellKey). k.0) int_cmp_total) (then_total (on_total (λ (k : CellKey). k.1) int_cmp_total) (on_total (λ (k : CellKey). k.2) int_cmp_total))
 
 put_order : {K V : Type 0} (R : K → K → Ordering) → IsTotalOrder R → (k : K) (v : V) (rows : List (K × V)) → IsTrue (is_sorted R rows) → IsTrue (is_sorted R (put R k v rows))
 put_order R total k v rows h = true_of _ (is_sorted-put R total k v rows (of_true _ h))

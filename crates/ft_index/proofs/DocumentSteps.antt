@@ -1,17 +1,17 @@
 -- The entries and sizes of a document, cell by cell.
-use Rattle.std.proofs.Common.{◌≡◌, ℕ, zero, suc, ◌+◌, ◌≤◌, Bool, true, false, cond, List, [], ◌∷◌, ◌++◌, map, length, drop, min, ℤ, refl, sym, ap, ◌∙◌, arith, nat_lt}
+use Rattle.std.proofs.Common.{◌≡◌, ℕ, zero, suc, ◌+◌, ◌≤◌, true, cond, List, [], ◌∷◌, ◌++◌, map, length, drop, min, ℤ, refl, sym, ap, ◌∙◌, arith, nat_lt}
 use Rattle.std.specs.Prelude.{filter, unwrap_or}
 use Rattle.std.specs.List.{flat_map, enumerate_from}
 use Rattle.std.specs.FinMap.Entries.{put, find}
-use Rattle.std.proofs.lemmas.List.{map-append, drop_all}
+use Rattle.std.proofs.lemmas.List.{map-append}
 use Rattle.std.proofs.lemmas.Simd.{map-map}
 use Rattle.std.proofs.lemmas.Bool.Decides.{nat_tests}
 use Rattle.ft_query.specs.Tokens.{PlainToken}
 use Rattle.ft_query.specs.Documents.{posting}
 use Rattle.ft_store.specs.Store.{Cell, column_key_cmp}
 use Rattle.ft_content.specs.Content.{Column}
-use Rattle.ft_content.specs.Index.{Entry, entry_at, Key, key_cmp, key_of, StoredSpot, stored_spot, Size, SizeRow, size_row, cell_tokens, document_tokens}
-use Rattle.ft_index.specs.RewriteRows.{with_entries, all_put, sized, cell_entries, cell_sizes}
+use Rattle.ft_content.specs.Index.{Entry, entry_at, Key, key_cmp, key_of, StoredSpot, stored_spot, Size, size_row, document_tokens}
+use Rattle.ft_index.specs.RewriteRows.{with_entries, all_put, sized, cell_entries, cell_sizes, AreShortNumbers}
 
 -- entries and sizes of the columns from one on
 abbrev pub entries_from : ℤ → ℕ → List (List PlainToken) → List Entry
@@ -64,3 +64,15 @@ none_left (suc k) (column ∷ columns) [] past = nothing (drop k columns)
     nothing [] = refl
     nothing (c ∷ cs) = refl
 none_left (suc k) (column ∷ columns) (cell ∷ cells) past = none_left k columns cells (omega arith)
+
+pub no_numbers : (k : ℕ) (columns : List Column) (cells : List Cell) → min (length columns) (length cells) ≤ k → AreShortNumbers (drop k columns) (drop k cells)
+no_numbers zero [] cells past = tt
+no_numbers zero (column ∷ columns) [] past = tt
+no_numbers zero (column ∷ columns) (cell ∷ cells) past = absurd (omega arith)
+no_numbers (suc k) [] cells past = tt
+no_numbers (suc k) (column ∷ columns) [] past = nothing (drop k columns)
+  where
+    nothing : (cs : List Column) → AreShortNumbers cs []
+    nothing [] = tt
+    nothing (c ∷ cs) = tt
+no_numbers (suc k) (column ∷ columns) (cell ∷ cells) past = no_numbers k columns cells (omega arith)

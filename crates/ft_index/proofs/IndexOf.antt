@@ -1,17 +1,16 @@
 -- The lists and sizes of documents that join one after another are those made from scratch.
-use Rattle.std.proofs.Common.{◌≡◌, ℕ, Bool, true, false, cond, List, [], ◌∷◌, ◌++◌, map, Option, Some, None, ℤ, refl, sym, ap, ◌∙◌, append_assoc}
+use Rattle.std.proofs.Common.{◌≡◌, true, false, cond, List, [], ◌∷◌, ◌++◌, map, Option, Some, None, ℤ, refl, sym, ap, ◌∙◌, append_assoc}
 use Rattle.std.specs.Prelude.{filter, unwrap_or, option_map}
 use Rattle.std.specs.List.{flat_map}
 use Rattle.std.specs.declared.cmp.Ordering.{Ordering}
 use Rattle.std.specs.Ordering.{eq_by_cmp}
-use Rattle.std.specs.Cmp.{tied_itself}
 use Rattle.std.specs.FinMap.Entries.{put, find, is_sorted, is_sorted-put, find-put, same_entries}
 use Rattle.std.proofs.lemmas.List.{map-append}
 use Rattle.std.proofs.lemmas.List.Concat.{flat_map-append}
 use Rattle.ft_store.specs.Store.{column_key_cmp}
 use Rattle.ft_content.specs.Content.{Column, Documents}
 use Rattle.ft_content.specs.Index.{Spot, Entry, Key, key_cmp, key_of, StoredSpot, stored_spot, spot_lists, SizeRow, size_row, document_entries, document_sizes, entries, sizes, index_rows}
-use Rattle.ft_content.specs.Laws.{content_with, spots_in, some_if_any}
+use Rattle.ft_content.specs.Laws.{spots_in, some_if_any}
 use Rattle.ft_content.proofs.IndexLemmas.{key_cmp_total, key_cmp_exact, lists_are_entries}
 use Rattle.ft_content.proofs.PlanLemmas.{sorted_lists}
 use Rattle.ft_index.specs.RewriteRows.{with_entries, all_put, sized, lists_with, sizes_with, lists_of, sizes_of}

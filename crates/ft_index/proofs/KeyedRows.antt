@@ -1,12 +1,11 @@
 -- Rows under keys: what is found in them after they are mapped, filtered and put.
-use Rattle.std.proofs.Common.{◌≡◌, ℕ, Bool, true, false, cond, not, T, ◌&&◌, List, [], ◌∷◌, ◌++◌, map, Option, Some, None, refl, sym, ap, subst, ◌∙◌}
+use Rattle.std.proofs.Common.{◌≡◌, Bool, true, false, cond, not, T, ◌&&◌, List, [], ◌∷◌, map, Option, Some, None, refl, sym, ap, subst, ◌∙◌}
 use Rattle.std.specs.Prelude.{filter, option_map, is_some}
-use Rattle.std.specs.List.{list_any}
 use Rattle.std.specs.declared.cmp.Ordering.{Ordering}
 use Rattle.std.specs.declared.cmp.Ordering.TheVariants.{Less, Equal, Greater}
-use Rattle.std.specs.Ordering.{eq_by_cmp, is_eq, is_lt}
+use Rattle.std.specs.Ordering.{eq_by_cmp, is_eq, is_lt, ordering_then}
 use Rattle.std.specs.Cmp.{IsTotalOrder, eq_by_cmp_equiv}
-use Rattle.std.specs.FinMap.Entries.{by_order, put, find, where_key, below_all, is_sorted, is_some-find, is_sorted-put, is_sorted-where_key, find-put, find-where_key}
+use Rattle.std.specs.FinMap.Entries.{put, find, below_all, is_sorted, is_sorted-put, is_sorted-where_key, find-put, find-where_key, same_entries}
 use Rattle.std.proofs.lemmas.Bool.{and_parts, and_from}
 use Rattle.std.proofs.lemmas.Map.Lookups.{CmpEqualImpliesEq}
 use Rattle.ft_store.specs.Store.{without_key}
@@ -28,6 +27,16 @@ less : (o : Ordering) → is_lt o ≡ true → o ≡ Less
 less Less h = refl
 less Equal h = absurd (let no = h in cc)
 less Greater h = absurd (let no = h in cc)
+
+pub then_equal : (o r : Ordering) → is_eq o ≡ true → ordering_then o r ≡ r
+then_equal Less r h = absurd (let no = h in cc)
+then_equal Equal r h = refl
+then_equal Greater r h = absurd (let no = h in cc)
+
+pub then_apart : (o r : Ordering) → is_eq o ≡ false → is_eq (ordering_then o r) ≡ false
+then_apart Less r h = refl
+then_apart Equal r h = absurd (let no = h in cc)
+then_apart Greater r h = refl
 
 -- ---- values that are mapped
 
@@ -71,6 +80,14 @@ module _ {K V : Type 0} (R : K → K → Ordering) (o : IsTotalOrder R) (exact :
         | true ↦ λ same. ap (λ x. or_else x (Some e.1)) (none_below q e.0 es same parts.0)
         | false ↦ λ _. refl
       ] refl
+
+  or_none : (x : Option V) → or_else x None ≡ x
+  or_none None = refl
+  or_none (Some v) = refl
+
+  -- rows in order that are put one after another
+  pub put_in_order : (es : List (K × V)) → is_sorted R es ≡ true → all_put R es [] ≡ es
+  put_in_order es h = same_entries R o exact (all_put R es []) es (of_true _ (sorted_put es [] refl)) (of_true _ h) (λ q. find_all_put q es [] h ∙ or_none (find R q es))
 
   -- ---- rows that pass a test of key and value
 
@@ -159,7 +176,7 @@ module _ {K V : Type 0} (R : K → K → Ordering) (o : IsTotalOrder R) (exact :
   replaced old None there = cond (is_some old) None there
   replaced old (Some v) there = Some v
 
-  abbrev fresh : (V → V → Bool) → Option V → Option V → Option V
+  abbrev pub fresh : (V → V → Bool) → Option V → Option V → Option V
   fresh same old None = None
   fresh same old (Some v) = cond (not (was_there same old v)) (Some v) None
 
@@ -173,13 +190,19 @@ module _ {K V : Type 0} (R : K → K → Ordering) (o : IsTotalOrder R) (exact :
         | false ↦ λ _. refl
       ] refl
 
+  fresh_kept : (same : V → V → Bool) (q : K) (old : List (K × V)) (x : Option V) → kept (λ e. not (was_there same (find R e.0 old) e.1)) q x ≡ fresh same (find R q old) x
+  fresh_kept same q old None = refl
+  fresh_kept same q old (Some v) = refl
+
+  pub changed_found : (same : V → V → Bool) (q : K) (old new : List (K × V)) → is_sorted R new ≡ true → find R q (changed R same old new) ≡ fresh same (find R q old) (find R q new)
+  changed_found same q old new h = find-filter (λ e. not (was_there same (find R e.0 old) e.1)) q new h ∙ fresh_kept same q old (find R q new)
+
   -- What is found after the gone rows are dropped and the changed ones are put, where the old ones were there.
   pub find_replaced : (same : V → V → Bool) → ((v w : V) → same v w ≡ true → v ≡ w) → (q : K) (old new rows : List (K × V)) → is_sorted R old ≡ true → is_sorted R new ≡ true → ((v : V) → find R q old ≡ Some v → find R q rows ≡ Some v) →
       find R q (all_put R (changed R same old new) (all_dropped (gone R old new) rows)) ≡ replaced (find R q old) (find R q new) (find R q rows)
   find_replaced same sound q old new rows g h there =
       let p : K × V → Bool = λ (e : K × V). not (was_there same (find R e.0 old) e.1) in
-      let put_found : find R q (changed R same old new) ≡ fresh same (find R q old) (find R q new) = find-filter p q new h ∙ elim (find R q new) as (λ x. kept p q x ≡ fresh same (find R q old) x) [ None ↦ refl | Some v ↦ refl ] in
       let left : find R q (all_dropped (gone R old new) rows) ≡ unless_some (of_gone (find R q old) (find R q new)) (find R q rows) = find_all_dropped q (gone R old new) rows ∙ ap (λ x. unless_some x (find R q rows)) (gone_found q old new g) in
       find_all_put q (changed R same old new) (all_dropped (gone R old new) rows) (sorted-filter p new h)
-      ∙ (λ i. or_else (put_found i) (left i))
+      ∙ (λ i. or_else (changed_found same q old new h i) (left i))
       ∙ by_cases same sound (find R q old) (find R q new) (find R q rows) there

@@ -27,3 +27,15 @@ pub mod NearLemmas
 pub mod CreateLemmas
 pub mod Executing
 pub mod MatchedLemmas
+pub mod RewriteLemmas
+pub mod DocumentRows
+pub mod OwnRows
+pub mod AppliedLemmas
+pub mod RowKinds
+pub mod CellsRight
+pub mod RightLemmas
+pub mod NewLemmas
+pub mod PackLemmas
+pub mod PackedChanges
+pub mod RebuildLemmas
+pub mod StoreKeys

@@ -1,5 +1,5 @@
 -- The row changes of rewrites name their documents alone.
-use Rattle.std.proofs.Common.{◌≡◌, ℕ, Bool, List, [], ◌∷◌, ◌++◌, map, Option, Some, None, ℤ, refl, sym, ap, subst}
+use Rattle.std.proofs.Common.{ℕ, List, [], ◌∷◌, ◌++◌, map, Option, Some, None, ℤ, refl, sym}
 use Rattle.std.specs.Prelude.{filter, length, All, Contains, unwrap_or, nat_lt}
 use Rattle.std.specs.List.{flat_map, enumerate_from}
 use Rattle.std.specs.declared.cmp.Ordering.{Ordering}
@@ -8,14 +8,12 @@ use Rattle.std.specs.Ordering.{int_cmp, int_eq}
 use Rattle.std.specs.FinMap.Entries.{by_order, put, find}
 use Rattle.std.proofs.lemmas.List.Elements.{All-nil, All-cons, All-head, All-tail, All-append, All-map, All-filter, All-weaker, All-same, All-contains_itself}
 use Rattle.ft_query.specs.Tokens.{PlainToken}
-use Rattle.ft_query.specs.Documents.{Posting}
 use Rattle.ft_store.specs.Store.{Cell, column_key_cmp, Change, PutCell, DropCells, PutEntries, DropEntries, PutSize, DropSize}
 use Rattle.ft_content.specs.Content.{Column, Documents}
 use Rattle.ft_content.specs.Index.{Entry, Key, key_cmp, key_of, StoredSpot, stored_spot, Size, SizeRow, size_row, document_tokens, document_postings, entry_at, document_entries, document_sizes, sizes, index_rows}
-use Rattle.ft_content.specs.Laws.{content_with}
 use Rattle.ft_index.specs.Kept.{IsOfDocids}
 use Rattle.ft_index.specs.Rewrite.{Rewrite, befores, afters, document_if, docids_of}
-use Rattle.ft_index.specs.RewriteRows.{with_entries, all_put, sized, same_cell, same_spots, was_there, gone, changed, numbered, goes, dropped_documents, put_cells, put_documents, dropped_lists, put_lists, dropped_sizes, put_sizes, lists_with, lists_of, sizes_of, list_changes, size_changes, rewrite_changes}
+use Rattle.ft_index.specs.RewriteRows.{with_entries, all_put, sized, same_cell, same_spots, gone, changed, numbered, goes, dropped_documents, put_cells, put_documents, dropped_lists, put_lists, dropped_sizes, put_sizes, lists_with, lists_of, sizes_of, list_changes, rewrite_changes}
 use Rattle.ft_index.proofs.IndexOf.{lists_made}
 
 pub All-flat_map : {X Y : Type 0} (P : Y → Type 0) (f : X → List Y) (xs : List X) → All (λ x. All P (f x)) xs → All P (flat_map f xs)

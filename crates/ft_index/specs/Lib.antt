@@ -3,6 +3,7 @@ pub mod Kept
 pub mod RowLaws
 pub mod Rewrite
 pub mod RewriteRows
+pub mod Rebuild
 pub mod RowsRead
 pub mod Walked
 pub mod Found

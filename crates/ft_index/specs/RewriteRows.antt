@@ -1,11 +1,12 @@
 -- The row changes that follow from documents which are written anew. All of it is our own choice.
-use Rattle.std.specs.Prelude.{ℕ, zero, suc, Bool, true, false, not, ◌&&◌, List, [], ◌∷◌, ◌++◌, map, filter, Option, Some, None, ℤ, pos, is_some, unwrap_or, bytes_eq, string_bytes, String, Vec}
+use Rattle.std.specs.Prelude.{◌≡◌, ◌≤◌, length, ℕ, zero, suc, Bool, true, false, not, ◌&&◌, List, [], ◌∷◌, ◌++◌, map, filter, Option, Some, None, ℤ, pos, is_some, unwrap_or, IfSome, bytes_eq, string_bytes, String, Vec}
 use Rattle.std.specs.List.{flat_map, enumerate_from}
 use Rattle.std.specs.declared.cmp.Ordering.{Ordering}
+use Rattle.std.specs.Fmt.{signed_decimal}
 use Rattle.std.specs.Ordering.{int_cmp, int_eq}
 use Rattle.std.specs.Cmp.Lexicographic.{pointwise}
 use Rattle.std.specs.FinMap.Entries.{put, find}
-use Rattle.ft_store.specs.Store.{Cell, Null, Int, Text, column_key_cmp, Change, PutCell, DropCells, PutEntries, DropEntries, PutSize, DropSize}
+use Rattle.ft_store.specs.Store.{Cell, Null, Int, Text, column_key_cmp, Change, PutCell, DropCells, PutEntries, DropEntries, PutSize, DropSize, ClearIndex}
 use Rattle.std.specs.declared.alloc.Global.{Global}
 use Rattle.ft_query.specs.Tokens.{PlainToken}
 use Rattle.ft_query.specs.Documents.{posting}
@@ -81,6 +82,20 @@ dropped_sizes tab sizes = map (λ (s : (ℤ × ℤ) × ℤ). DropSize tab s.0.0 
 abbrev pub put_sizes : ℤ → List ((ℤ × ℤ) × ℤ) → List Change
 put_sizes tab sizes = map (λ (s : (ℤ × ℤ) × ℤ). PutSize tab s.0.0 s.0.1 s.1) sizes
 
+-- Numbers are of 64 bits, so their texts are short. It is said of the cells that are indexed.
+abbrev pub IsShortNumber : Cell → Type 0
+IsShortNumber Null = Unit {0}
+IsShortNumber (Int n) = length (signed_decimal n) ≤ 40
+IsShortNumber (Text t) = Unit {0}
+
+abbrev pub AreShortNumbers : List Column → List Cell → Type 0
+AreShortNumbers [] cells = Unit {0}
+AreShortNumbers (column ∷ columns) [] = Unit {0}
+AreShortNumbers (column ∷ columns) (cell ∷ cells) = (column.indexed ≡ true → IsShortNumber cell) × AreShortNumbers columns cells
+
+abbrev pub HasShortNumbers : List Column → Rewrite → Type 0
+HasShortNumbers columns r = IfSome r.after (AreShortNumbers columns)
+
 -- Lists with entries that join them one after another, and rows that are put one after another.
 abbrev pub with_entries : List Entry → List (Key × List StoredSpot) → List (Key × List StoredSpot)
 with_entries [] lists = lists
@@ -128,6 +143,10 @@ list_changes tab old new = dropped_lists tab (gone key_cmp old new) ++ put_lists
 
 abbrev pub size_changes : ℤ → List ((ℤ × ℤ) × ℤ) → List ((ℤ × ℤ) × ℤ) → List Change
 size_changes tab old new = dropped_sizes tab (gone column_key_cmp old new) ++ put_sizes tab (changed column_key_cmp int_eq old new)
+
+-- The row changes that make an index again: no index row of before, and then all lists and sizes.
+abbrev pub rebuild_changes : ℤ → List (Key × List StoredSpot) → List ((ℤ × ℤ) × ℤ) → List Change
+rebuild_changes tab lists sizes = ClearIndex tab ∷ (put_lists tab lists ++ put_sizes tab sizes)
 
 -- The row changes of rewrites.
 unfoldable pub rewrite_changes : ℤ → List Column → List Rewrite → List Change

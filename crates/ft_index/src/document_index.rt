@@ -2,6 +2,7 @@
 ghost use Rattle.std.specs.Prelude.{◌≡◌, ◌<◌, ◌^◌, pos, length};
 ghost use Rattle.ft_store.specs.Changes.{shown_value};
 ghost use Rattle.ft_content.specs.Content as content;
+ghost use Rattle.ft_index.specs.RewriteRows.{IsShortNumber};
 
 use ft_content::{Column, Value};
 use ft_query::{Token, tokens};
@@ -19,7 +20,7 @@ pub(crate) struct DocumentIndex {
 }
 
 impl DocumentIndex {
-    ghost use Rattle.std.specs.Prelude.{◌++◌, ◌∷◌, [], map, option_map, unwrap_or, string_bytes, OnOk};
+    ghost use Rattle.std.specs.Prelude.{◌++◌, ◌∷◌, [], map, option_map, unwrap_or, string_bytes, IfSome, OnOk};
     ghost use Rattle.std.specs.FinMap.Entries.{put, find};
     ghost use Rattle.ft_query.specs.Tokens.{plain_token, tokens_of};
     ghost use Rattle.ft_store.specs.Store.{column_key_cmp};
@@ -49,6 +50,7 @@ impl DocumentIndex {
     ) -> Result<(), AllocError>
         ensures lists { OnOk result (rows.lists_in self.new ≡ rows.lists_with (map column_of columns.now) ((docid, map shown_value cells.now) ∷ []) (rows.lists_in self.old)) }
         ensures sizes { OnOk result (rows.sizes_in self.new ≡ rows.sizes_with (map column_of columns.now) ((docid, map shown_value cells.now) ∷ []) (rows.sizes_in self.old)) }
+        ensures numbers { OnOk result (rows.AreShortNumbers (map column_of columns.now) (map shown_value cells.now)) }
     {
         for place in 0..columns.len().min(cells.len()) {
             let value = &cells[place];
@@ -68,6 +70,7 @@ impl DocumentIndex {
     ) -> Result<(), AllocError>
         ensures lists { OnOk result (rows.lists_in self.new ≡ rows.lists_with (map column_of columns.now) (document_if docid (option_map cells_of cells.now)) (rows.lists_in self.old)) }
         ensures sizes { OnOk result (rows.sizes_in self.new ≡ rows.sizes_with (map column_of columns.now) (document_if docid (option_map cells_of cells.now)) (rows.sizes_in self.old)) }
+        ensures numbers { OnOk result (IfSome (option_map cells_of cells.now) (rows.AreShortNumbers (map column_of columns.now))) }
     {
         match cells {
             Some(cells) => self.add(columns, docid, cells.as_slice()),
@@ -80,6 +83,7 @@ impl DocumentIndex {
         requires { place < 2 ^ 63 }
         ensures lists { OnOk result (rows.lists_in self.new ≡ rows.with_entries (rows.cell_entries docid place (tokens_of (content.cell_text (shown_value value.now)))) (rows.lists_in self.old)) }
         ensures sizes { OnOk result (rows.sizes_in self.new ≡ rows.all_put column_key_cmp (rows.sized (rows.cell_sizes docid place (length (tokens_of (content.cell_text (shown_value value.now)))))) (rows.sizes_in self.old)) }
+        ensures number { OnOk result (IsShortNumber (shown_value value.now)) }
     {
         let mut buffer = Buffer::new();
         let text = text_of(value, &mut buffer);
@@ -142,6 +146,7 @@ impl DocumentIndex {
 fn text_of<'a>(value: &'a Value, buffer: &'a mut Buffer) -> &'a str
     ensures text { result.now ≡ content.cell_text (shown_value value.now) }
     ensures short { length result.now < 2 ^ 63 }
+    ensures number { IsShortNumber (shown_value value.now) }
 {
     match value {
         Value::Null => "",

@@ -3,10 +3,12 @@
 
 mod change;
 mod doc_lists;
+mod document;
 mod document_index;
 mod full_text;
 mod matching;
 mod names;
+mod rebuild;
 mod rewrite;
 mod table_lists;
 mod tables;

@@ -1,11 +1,11 @@
 //! Documents that are written anew, as row changes.
-ghost use Rattle.std.specs.Prelude.{◌≡◌, ◌++◌, ◌<◌, ◌^◌, [], map, option_map, unwrap_or, length, pos, All, IfOk, OnOk};
+ghost use Rattle.std.specs.Prelude.{◌≡◌, ◌++◌, ◌≤◌, [], map, option_map, unwrap_or, length, pos, All, IsTrue, IfOk, OnOk};
 ghost use Rattle.std.specs.Ordering.{int_cmp};
-ghost use Rattle.std.specs.FinMap.Entries.{find};
-ghost use Rattle.ft_store.specs.Changes.{shown_value, shown_change};
+ghost use Rattle.std.specs.FinMap.Entries.{find, is_sorted};
+ghost use Rattle.ft_store.specs.Changes.{shown_value, shown_change, CanApply};
 ghost use Rattle.ft_content.specs.Views.{cells_of, column_of};
 ghost use Rattle.ft_index.specs.Kept.{IsOfDocids};
-ghost use Rattle.ft_index.specs.Rewrite.{shown_rewrite, docids_of, befores, afters};
+ghost use Rattle.ft_index.specs.Rewrite.{shown_rewrite, docids_of, befores, afters, by_docid, AreRight, AreNew, FitIfAny};
 ghost use Rattle.ft_index.specs.RewriteRows as rows;
 
 use crate::document_index::DocumentIndex;
@@ -41,7 +41,9 @@ pub(crate) fn row_changes(
     columns: &[Column],
     rewrites: &[Rewrite],
 ) -> Result<Vec<RowChange>, AllocError>
-    ensures plan { IfOk result (λ changes. map shown_change changes.items ≡ rows.rewrite_changes tab (map column_of columns.now) (map shown_rewrite rewrites.now)) }
+    ensures right { IfOk result (λ changes. AreRight tab (map column_of columns.now) (map shown_rewrite rewrites.now) (map shown_change changes.items)) }
+    ensures packable { IfOk result (λ changes. length columns.now ≤ 100 → IsTrue (is_sorted int_cmp (by_docid (map shown_rewrite rewrites.now))) → All (FitIfAny (length columns.now)) (map shown_rewrite rewrites.now) → All CanApply changes.items) }
+    ensures new { IfOk result (λ changes. AreNew tab (map column_of columns.now) (map shown_rewrite rewrites.now) (map shown_change changes.items)) }
     ensures near { IfOk result (λ changes. All (IsOfDocids tab (docids_of (map shown_rewrite rewrites.now))) (map shown_change changes.items)) }
 {
     let changes = planned_changes(alloc, tab, columns, rewrites)?;
@@ -55,7 +57,8 @@ fn planned_changes(
     columns: &[Column],
     rewrites: &[Rewrite],
 ) -> Result<Vec<RowChange>, AllocError>
-    ensures { IfOk result (λ changes. map shown_change changes.items ≡ rows.rewrite_changes tab (map column_of columns.now) (map shown_rewrite rewrites.now)) }
+    ensures plan { IfOk result (λ changes. map shown_change changes.items ≡ rows.rewrite_changes tab (map column_of columns.now) (map shown_rewrite rewrites.now)) }
+    ensures numbers { OnOk result (All (rows.HasShortNumbers (map column_of columns.now)) (map shown_rewrite rewrites.now)) }
 {
     let mut changes = Vec::new(alloc);
     drop_documents(&mut changes, tab, rewrites)?;
@@ -177,6 +180,7 @@ fn indexes(
     ensures old_sizes { IfOk result (λ made. rows.sizes_in made.0 ≡ rows.sizes_of (map column_of columns.now) (befores (map shown_rewrite rewrites.now))) }
     ensures new_lists { IfOk result (λ made. rows.lists_in made.1 ≡ rows.lists_of (map column_of columns.now) (afters (map shown_rewrite rewrites.now))) }
     ensures new_sizes { IfOk result (λ made. rows.sizes_in made.1 ≡ rows.sizes_of (map column_of columns.now) (afters (map shown_rewrite rewrites.now))) }
+    ensures numbers { OnOk result (All (rows.HasShortNumbers (map column_of columns.now)) (map shown_rewrite rewrites.now)) }
 {
     let mut old = DocumentIndex::new(alloc);
     let mut new = DocumentIndex::new(alloc);

@@ -1,9 +1,10 @@
-use Rattle.std.proofs.Common.{◌≡◌, ◌+◌, [], ◌∷◌, map, drop, length, sym, ap, ◌∙◌, to_z-of_z, to_z, of_z, w64, rules}
-use Rattle.std.specs.Prelude.{option_map}
+use Rattle.std.proofs.Common.{◌≡◌, ◌+◌, [], ◌∷◌, map, drop, subst, sym, ap, ◌∙◌, to_z, of_z, w64, rules}
+use Rattle.std.specs.Prelude.{All}
 use Rattle.std.proofs.lemmas.List.{drop_all}
-use Rattle.ft_content.specs.Views.{cells_of, column_of}
+use Rattle.std.proofs.lemmas.List.Elements.{All-nil, All-cons}
+use Rattle.ft_content.specs.Views.{column_of}
 use Rattle.ft_index.specs.Rewrite.{shown_rewrite, befores, afters, document_if}
-use Rattle.ft_index.specs.RewriteRows.{lists_in, sizes_in, lists_with, sizes_with}
+use Rattle.ft_index.specs.RewriteRows.{lists_in, sizes_in, lists_with, sizes_with, HasShortNumbers}
 use Rattle.ft_index.proofs.Steps.{taken_more}
 use Rattle.ft_index.proofs.IndexOf.{lists_with-append, sizes_with-append, lists_made, sizes_made}
 use Rattle.ft_index.proofs.rewrite.indexes.Goals as goal
@@ -25,6 +26,7 @@ loop-rewrite-preserved c =
       ap (sizes_with columns (befores rest)) (old.sizes ∙ ap (λ z. sizes_with columns (document_if z r.before) (sizes_in c.loop-rewrite.old)) d) ∙ sym (sizes_with-append columns before (befores rest) (sizes_in c.loop-rewrite.old)) ∙ ap (λ xs. sizes_with columns (befores xs) (sizes_in c.loop-rewrite.old)) (sym left) ∙ so_far.1,
       ap (lists_with columns (afters rest)) (new.lists ∙ ap (λ z. lists_with columns (document_if z r.after) (lists_in c.loop-rewrite.new)) d) ∙ sym (lists_with-append columns after (afters rest) (lists_in c.loop-rewrite.new)) ∙ ap (λ xs. lists_with columns (afters xs) (lists_in c.loop-rewrite.new)) (sym left) ∙ so_far.2,
       ap (sizes_with columns (afters rest)) (new.sizes ∙ ap (λ z. sizes_with columns (document_if z r.after) (sizes_in c.loop-rewrite.new)) d) ∙ sym (sizes_with-append columns after (afters rest) (sizes_in c.loop-rewrite.new)) ∙ ap (λ xs. sizes_with columns (afters xs) (sizes_in c.loop-rewrite.new)) (sym left) ∙ so_far.3,
+      (λ more. so_far.4 (subst (All (HasShortNumbers columns)) (sym left) (All-cons (HasShortNumbers columns) r rest new.numbers more))),
     )
 
 pub returns : goal.returns
@@ -37,5 +39,6 @@ returns c =
       old_lists = ap (λ xs. lists_with columns (befores xs) (lists_in c.loop-rewrite.old)) (sym none) ∙ so_far.0 ∙ lists_made columns (befores all);
       old_sizes = ap (λ xs. sizes_with columns (befores xs) (sizes_in c.loop-rewrite.old)) (sym none) ∙ so_far.1 ∙ sizes_made columns (befores all);
       new_lists = ap (λ xs. lists_with columns (afters xs) (lists_in c.loop-rewrite.new)) (sym none) ∙ so_far.2 ∙ lists_made columns (afters all);
+      numbers = so_far.4 (subst (All (HasShortNumbers columns)) (sym none) (All-nil (HasShortNumbers columns)));
       new_sizes = ap (λ xs. sizes_with columns (afters xs) (sizes_in c.loop-rewrite.new)) (sym none) ∙ so_far.3 ∙ sizes_made columns (afters all);
     }

@@ -1,4 +1,4 @@
-use Rattle.std.proofs.Common.{sym, ap, ◌∙◌, map, pos, Some, true, ◌<◌, ◌≤◌, length, arith, get_or, ◌≡◌}
+use Rattle.std.proofs.Common.{sym, ap, ◌∙◌, map, ◌<◌, ◌≤◌, length}
 use Rattle.std.proofs.lemmas.List.{length-map, get_or-map}
 use Rattle.ft_store.specs.Changes.{shown_value}
 use Rattle.ft_index.specs.RewriteRows.{same_cell, was_there}

@@ -1,17 +1,16 @@
-use Rattle.std.proofs.Common.{◌≡◌, ◌++◌, map, sym, ap, ◌∙◌, to_z-of_z}
+use Rattle.std.proofs.Common.{◌++◌, map, ap, ◌∙◌, to_z-of_z}
 use Rattle.std.specs.Ordering.{int_eq}
 use Rattle.ft_store.specs.Changes.{shown_change}
 use Rattle.ft_store.specs.Store.{column_key_cmp}
 use Rattle.ft_content.specs.Index.{key_cmp}
-use Rattle.ft_content.specs.Views.{column_of}
 use Rattle.ft_index.specs.Rewrite.{shown_rewrite}
 use Rattle.ft_index.specs.RewriteRows.{rewrite_changes, dropped_documents, put_documents, dropped_lists, put_lists, dropped_sizes, put_sizes, gone, changed, same_spots}
 use Rattle.ft_index.proofs.Steps.{six_pieces}
 use Rattle.ft_index.proofs.rewrite.planned_changes.Goals as goal
 
-pub returns : goal.returns
+pub returns-clause-plan : goal.returns-clause-plan
 unfolding rewrite_changes
-returns c =
+returns-clause-plan c =
     let t = to_z-of_z c.ranges.tab in
     let made = c.in_ok-old.ensures in
     let rewrites = map shown_rewrite c.args.rewrites.now in

@@ -1,9 +1,9 @@
-use Rattle.std.proofs.Common.{◌≡◌, ◌<◌, ◌^◌, map, length, ap, ◌∙◌, sym, to_z-of_z, arith, rules}
+use Rattle.std.proofs.Common.{◌≡◌, ◌<◌, ◌^◌, length, ap, ◌∙◌, sym, to_z-of_z, rules}
 use Rattle.std.specs.Vec.Iter.{into_iter_items}
 use Rattle.std.proofs.lemmas.List.{length-map}
 use Rattle.ft_query.specs.Tokens.{plain_token, tokens_of}
 use Rattle.ft_store.specs.Store.{column_key_cmp}
-use Rattle.ft_index.specs.RewriteRows.{lists_in, sizes_in, with_entries, cell_entries, cell_sizes, sized, all_put}
+use Rattle.ft_index.specs.RewriteRows.{sizes_in, with_entries, cell_entries, cell_sizes, sized, all_put}
 use Rattle.ft_index.proofs.TokenSteps.{small_tokens}
 use Rattle.ft_index.proofs.document_index.DocumentIndex.add_cell.Goals as goal
 

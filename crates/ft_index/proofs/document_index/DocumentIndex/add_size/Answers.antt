@@ -1,4 +1,4 @@
-use Rattle.std.proofs.Common.{◌≡◌, pos, ap, ◌∙◌, to_z-of_z, to_z, of_z, w64, rules}
+use Rattle.std.proofs.Common.{◌≡◌, pos, ◌∙◌, to_z-of_z, to_z, of_z, w64, rules}
 use Rattle.std.specs.FinMap.Entries.{put}
 use Rattle.ft_store.specs.Store.{column_key_cmp}
 use Rattle.ft_index.proofs.TokenSteps.{insert_put, size_some}

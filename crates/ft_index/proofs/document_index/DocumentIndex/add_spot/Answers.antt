@@ -1,8 +1,8 @@
-use Rattle.std.proofs.Common.{◌≡◌, ◌++◌, ◌∷◌, [], map, sym, ap, ◌∙◌, string_bytes}
+use Rattle.std.proofs.Common.{◌++◌, ◌∷◌, [], map, sym, ap, ◌∙◌, string_bytes}
 use Rattle.std.specs.Prelude.{option_map, unwrap_or}
 use Rattle.std.specs.FinMap.Entries.{put}
 use Rattle.ft_content.specs.Index.{key_cmp}
-use Rattle.ft_index.specs.RewriteRows.{shown_list, lists_in}
+use Rattle.ft_index.specs.RewriteRows.{shown_list}
 use Rattle.ft_index.proofs.MapSteps.{find_shown, insert_shown, set_shown}
 use Rattle.ft_index.proofs.document_index.DocumentIndex.add_spot.Goals as goal
 

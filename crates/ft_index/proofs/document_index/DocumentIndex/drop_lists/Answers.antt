@@ -1,4 +1,4 @@
-use Rattle.std.proofs.Common.{◌≡◌, List, ◌++◌, ◌∷◌, [], cond, not, map, sym, ap, ◌∙◌, to_z-of_z, to_z, of_z, w64, rules, refl, string_bytes}
+use Rattle.std.proofs.Common.{◌≡◌, List, ◌++◌, ◌∷◌, [], cond, not, map, sym, ap, ◌∙◌, to_z-of_z, to_z, of_z, w64, rules}
 use Rattle.std.specs.Prelude.{is_some}
 use Rattle.std.specs.FinMap.Entries.{find}
 use Rattle.ft_store.specs.Store.{DropEntries}
