@@ -1,25 +1,22 @@
 -- What a Create answers, and what it leaves.
-use Rattle.std.proofs.Common.{◌≡◌, ◌⊎◌, inl, inr, ℕ, Bool, true, false, cond, not, List, [], ◌∷◌, map, length, Option, Some, None, Result, Ok, Err, ℤ, pos, refl, sym, ap, subst, ◌∙◌, string_bytes, arith, lt-ltb}
-use Rattle.std.specs.Prelude.{IsTrue, is_some, is_ok, nat_lt}
+use Rattle.std.proofs.Common.{◌≡◌, ℕ, Bool, true, false, cond, List, [], ◌∷◌, map, length, Some, None, Ok, Err, ℤ, pos, refl, sym, ap, subst, ◌∙◌, arith, lt-ltb}
+use Rattle.std.specs.Prelude.{IsTrue, is_some, nat_lt}
 use Rattle.std.specs.List.{AllByRecursion}
 use Rattle.std.specs.declared.cmp.Ordering.{Ordering}
 use Rattle.std.specs.declared.cmp.Ordering.TheVariants.{Less, Equal, Greater}
 use Rattle.std.specs.Ordering.{int_cmp, int_eq, is_lt, is_eq}
-use Rattle.std.specs.FinMap.Entries.{put, by_order, is_sorted}
-use Rattle.sqlite.specs.Store.{Ghosts}
+use Rattle.std.specs.FinMap.Entries.{put, by_order}
 use Rattle.ft_store.specs.Store.{StoreValue, AreInOrder, AddTable, applied}
-use Rattle.ft_store.specs.Kept.{StoreState, value_in}
 use Rattle.ft_content.specs.declared.fault.Fault.{Fault}
-use Rattle.ft_content.specs.declared.fault.Fault.TheVariants as faults
 use Rattle.ft_content.specs.declared.table.TableInfo.{TableInfo}
-use Rattle.ft_content.specs.Content.{Column, IsContent, names_of, skipped_from}
-use Rattle.ft_content.specs.Command.{Command, Create, Reply, Done}
-use Rattle.ft_content.specs.Views.{KnownTable, known_info, column_of}
-use Rattle.ft_content.specs.Deserved.{Held, Sound, Table, Contents, table_named, made_columns, create_fault, deserved}
+use Rattle.ft_content.specs.Content.{IsContent, names_of, skipped_from}
+use Rattle.ft_content.specs.Command.{Command, Create, Done}
+use Rattle.ft_content.specs.Views.{KnownTable, known_info}
+use Rattle.ft_content.specs.Deserved.{Table, Contents, table_named, made_columns, deserved}
 use Rattle.ft_content.specs.Step.{free_id_from, made_column, new_table, created, after, reply_to, step, step_by}
 use Rattle.ft_index.specs.Found.{with_told}
-use Rattle.ft_index.specs.Planned.{IsMade, Makes, table_change}
-use Rattle.ft_index.specs.Kept.{AreHeld, StoreHolds, Answers, is_outside, told_table}
+use Rattle.ft_index.specs.Planned.{Makes, table_change}
+use Rattle.ft_index.specs.Kept.{AreHeld, StoreHolds, told_table}
 use Rattle.ft_index.proofs.OneTable.{ids_sorted}
 use Rattle.ft_index.proofs.AddLemmas.{bare}
 use Rattle.ft_index.proofs.TableChanges.{free_is_free, adds_one}

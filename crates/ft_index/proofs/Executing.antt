@@ -1,8 +1,8 @@
 -- Commands as they are executed.
-use Rattle.std.proofs.Common.{◌≡◌, ◌⊎◌, inl, inr, ℕ, Bool, true, false, cond, List, [], ◌∷◌, map, Option, Some, None, Result, Ok, Err, ℤ, refl, sym, ap, subst, ◌∙◌}
+use Rattle.std.proofs.Common.{◌≡◌, ◌⊎◌, inl, inr, ℕ, Bool, true, false, List, [], ◌∷◌, map, Option, Some, None, Result, Ok, Err, refl, sym, ap, subst, ◌∙◌}
 use Rattle.std.specs.Prelude.{IsTrue}
 use Rattle.sqlite.specs.Store.{Ghosts}
-use Rattle.ft_store.specs.Store.{AreInOrder, Change, StoreValue}
+use Rattle.ft_store.specs.Store.{AreInOrder, Change}
 use Rattle.ft_store.specs.Kept.{StoreState, value_in}
 use Rattle.ft_content.specs.declared.fault.Fault.{Fault}
 use Rattle.ft_content.specs.declared.fault.Fault.TheVariants as faults
@@ -14,7 +14,7 @@ use Rattle.ft_content.specs.Step.{after, reply_to, step, step_by}
 use Rattle.ft_index.specs.Found.{with_told}
 use Rattle.ft_index.specs.Planned.{Makes, table_change}
 use Rattle.ft_index.specs.Changed.{Changed, with_tables}
-use Rattle.ft_index.specs.Kept.{Known, IsUp, PlansFrom, AreHeld, Holds, HoldsSome, Executes, Answers, is_outside, told_table}
+use Rattle.ft_index.specs.Kept.{Known, PlansFrom, AreHeld, Holds, HoldsSome, Executes, Answers, is_outside, told_table}
 use Rattle.ft_index.proofs.NameLemmas.{apart_after}
 use Rattle.ft_index.proofs.CreateLemmas.{made_is_held, create_answers, refused_answers, nothing_made}
 

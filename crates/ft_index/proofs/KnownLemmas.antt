@@ -1,5 +1,5 @@
 -- The tables that are told of contents, by their names.
-use Rattle.std.proofs.Common.{inl, inr, ◌≡◌, ℕ, Bool, true, false, cond, List, [], ◌∷◌, map, Option, Some, None, ℤ, refl, sym, ap, ◌∙◌}
+use Rattle.std.proofs.Common.{Ok, inl, inr, ◌≡◌, ℕ, Bool, true, false, cond, List, [], ◌∷◌, map, Option, Some, None, ℤ, refl, sym, ap, subst, ◌∙◌}
 use Rattle.std.specs.Prelude.{option_map, IsTrue, is_some}
 use Rattle.ft_content.specs.declared.fault.Fault.{Fault}
 use Rattle.ft_content.specs.declared.fault.Fault.TheVariants as faults
@@ -7,7 +7,8 @@ use Rattle.ft_content.specs.declared.table.TableInfo.{TableInfo}
 use Rattle.ft_content.specs.Content.{Content, same_name}
 use Rattle.ft_content.specs.Views.{KnownTable, known_info, table_names, table_ids, info_names, info_ids}
 use Rattle.ft_content.specs.Deserved.{Held, Sound, Stale, Loose, Table, Contents, table_named, on_sound, on_found, on_held, made_columns, create_fault, deserved}
-use Rattle.ft_content.specs.Command.{Create}
+use Rattle.ft_content.specs.Command.{Create, Optimize, Done}
+use Rattle.ft_content.specs.Step.{after, reply_to, step, step_by}
 use Rattle.ft_index.specs.Kept.{told_table, is_sound}
 use Rattle.ft_index.specs.Found.{known_named, IsUnfit}
 
@@ -126,3 +127,18 @@ some_named contents name known named = go (table_named contents name) refl (sym 
     go : (found : Option (ℤ × Table)) → table_named contents name ≡ found → option_map told_table found ≡ Some known → (t : ℤ × Table) × (table_named contents name ≡ Some t) × (told_table t ≡ known)
     go None is h = absurd (let no = h in cc)
     go (Some t) is h = (t, is, ap known_of h)
+
+-- ---- Optimize
+
+pub optimize_fine : (contents : Contents) (tables : List KnownTable) (name : List ℕ) (known : KnownTable) → tables ≡ map told_table contents → known_named tables name ≡ Some known → IsTrue known.sound → deserved contents (Optimize name) ≡ None
+unfolding deserved
+optimize_fine contents tables name known told named sound =
+    sound_is contents name known (sound_table contents name known (ap (λ ts. known_named ts name) (sym told) ∙ named) sound) (λ table content. None)
+
+pub optimize_unfit : (contents : Contents) (tables : List KnownTable) (name : List ℕ) (fault : Fault) → tables ≡ map told_table contents → IsUnfit tables name fault → deserved contents (Optimize name) ≡ Some fault
+unfolding deserved
+optimize_unfit contents tables name fault told unfit = unfit_is contents name fault (λ table content. None) (subst (λ ts. IsUnfit ts name fault) told unfit)
+
+pub optimize_keeps : (contents : Contents) (name : List ℕ) → deserved contents (Optimize name) ≡ None → step contents (Optimize name) ≡ (Ok Done, contents)
+unfolding step reply_to after
+optimize_keeps contents name fine = ap (λ due. step_by due contents (Optimize name)) fine

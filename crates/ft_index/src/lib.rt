@@ -8,6 +8,7 @@ mod document_index;
 mod full_text;
 mod matching;
 mod names;
+mod optimize;
 mod rebuild;
 mod rewrite;
 mod table_lists;

@@ -1,12 +1,11 @@
 -- by what is made, and what the store does
-use Rattle.std.proofs.Common.{rules, ◌≡◌, ◌⊎◌, ◌∷◌, [], List, map, string_bytes, true, false, cond, Ok, Err, Some, None, Result, Vec, Global, refl, sym, ap, subst, ◌∙◌}
+use Rattle.std.proofs.Common.{rules, ◌≡◌, ◌⊎◌, ◌∷◌, [], map, string_bytes, cond, Ok, Err, None, Result, Vec, Global, sym, ap, subst, ◌∙◌}
 use Rattle.std.specs.Prelude.{is_ok}
-use Rattle.ft_store.specs.declared.rows.RowChange.{RowChange}
 use Rattle.ft_content.specs.declared.fault.Fault.{Fault}
 use Rattle.ft_content.specs.declared.command.Reply.{Reply}
 use Rattle.ft_content.specs.declared.table.TableInfo.{TableInfo}
 use Rattle.ft_content.specs.Command as plain
-use Rattle.ft_content.specs.Views.{KnownTable, known_info, option_of, answer_of}
+use Rattle.ft_content.specs.Views.{known_info, option_of, answer_of}
 use Rattle.ft_index.specs.Kept.{Known, Executes, told_table}
 use Rattle.ft_content.specs.Deserved.{Contents}
 use Rattle.ft_index.specs.Planned.{Makes, table_change}

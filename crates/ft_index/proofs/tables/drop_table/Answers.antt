@@ -1,8 +1,7 @@
 -- by the plan, and what the store does
-use Rattle.std.proofs.Common.{rules, ◌≡◌, ◌⊎◌, ◌∷◌, [], List, map, string_bytes, true, false, Ok, Err, Some, None, Result, Vec, Global, refl, sym, ap, subst, ◌∙◌, ℤ, FitsSigned, w64, to_z, of_z, to_z-of_z}
+use Rattle.std.proofs.Common.{rules, ◌≡◌, ◌⊎◌, List, map, true, Ok, Err, None, Result, Vec, Global, refl, sym, ap, subst, ◌∙◌, FitsSigned, w64, to_z, of_z, to_z-of_z}
 use Rattle.std.specs.Prelude.{is_ok}
 use Rattle.std.proofs.lemmas.Option.{slice_get_read, slice_get_within, same_Some}
-use Rattle.ft_store.specs.Store.{StoreValue, Change}
 use Rattle.ft_store.specs.Changes.{shown_change}
 use Rattle.ft_store.specs.Kept.{value_in}
 use Rattle.ft_store.specs.declared.rows.RowChange.{RowChange}
@@ -15,7 +14,7 @@ use Rattle.ft_content.specs.Command as plain
 use Rattle.ft_content.specs.Deserved.{Contents}
 use Rattle.ft_content.specs.Views.{KnownTable, known_info, answer_of}
 use Rattle.ft_index.specs.Found.{known_named, without_told}
-use Rattle.ft_index.specs.Kept.{Known, AreHeld, Executes, PlansFrom}
+use Rattle.ft_index.specs.Kept.{AreHeld, Executes, PlansFrom}
 use Rattle.ft_index.specs.Planned.{changes_of}
 use Rattle.ft_index.specs.Changed.{Changed, with_tables}
 use Rattle.ft_index.proofs.FoundLemmas.{placed, unplaced}

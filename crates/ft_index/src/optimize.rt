@@ -1,0 +1,20 @@
+// Optimize, which changes nothing.
+ghost use Rattle.std.specs.Prelude.{◌≡◌, map};
+ghost use Rattle.ft_content.specs.Command as plain;
+ghost use Rattle.ft_content.specs.Views.{known_info, answer_of};
+ghost use Rattle.ft_content.specs.Deserved.{Contents};
+ghost use Rattle.ft_index.specs.Kept.{Answers, told_table};
+
+use crate::names::sound_place;
+use ft_content::{Fault, Reply, TableInfo};
+
+/// Answers an Optimize.
+pub(crate) fn optimize(tables: &[TableInfo], table: &str) -> Result<Reply, Fault>
+    ensures { (contents : Contents) → map known_info tables.now ≡ map told_table contents →
+        Answers contents (plain.Optimize table.now) (answer_of result) contents }
+{
+    match sound_place(tables, table) {
+        Ok(_) => Ok(Reply::Done),
+        Err(fault) => Err(fault),
+    }
+}
