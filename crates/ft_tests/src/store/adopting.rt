@@ -79,6 +79,14 @@ fn other_versions_are_told(rt: HostRuntime) -> Result<(), Fail> {
     Ok(())
 }
 
+// Takes the file of a test away, and the one beside it.
+fn remove_files(rt: &HostRuntime, name: &str) -> Result<(), Fail> {
+    let _ = std::fs::remove_file(rt, name);
+    let beside = format!(in rt.alloc(); "{name}-wal")?;
+    let _ = std::fs::remove_file(rt, beside.as_str());
+    Ok(())
+}
+
 #[test]
 fn file_is_opened_again(rt: HostRuntime) -> Result<(), Fail> {
     let alloc = rt.alloc();
@@ -87,7 +95,7 @@ fn file_is_opened_again(rt: HostRuntime) -> Result<(), Fail> {
     let Some(name) = path.to_str() else {
         return Err(Fail::new("the path is no text"));
     };
-    let _ = std::fs::remove_file(&rt, name);
+    remove_files(&rt, name)?;
     let mut store = Store::open_file(&rt, name)?;
     store.change(&[table_d(alloc)?, put_text(alloc, 7, "p")?])?;
     drop(store);
@@ -95,6 +103,5 @@ fn file_is_opened_again(rt: HostRuntime) -> Result<(), Fail> {
     assert_eq!(&rt; store.cells(1)?.len(), 1);
     assert_eq!(&rt; store.last_docid(1)?, Some(7));
     drop(store);
-    std::fs::remove_file(&rt, name)?;
-    Ok(())
+    remove_files(&rt, name)
 }
