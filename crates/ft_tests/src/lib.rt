@@ -7,3 +7,5 @@ mod query;
 mod ram;
 #[cfg(test)]
 mod shell;
+#[cfg(test)]
+mod store;

@@ -1,0 +1,79 @@
+//! Packed lists as they stand in the database.
+
+use super::{entries, put_term, table_d};
+use ft_store::{RowChange, Spot, Store, StoreFault};
+use std::alloc::Global;
+use std::test::Fail;
+
+// What the entries of a store are read as whose one posting row has this list.
+fn read_list(alloc: Global, list: &str) -> Result<Result<String, StoreFault>, Fail> {
+    let mut store = Store::open_memory(alloc)?;
+    store.change(&[table_d(alloc)?, put_term(alloc, "a", 1, 0, 0, 1)?])?;
+    let mut conn = store.into_connection();
+    conn.execute_batch(format!(in alloc; "UPDATE posting SET list = x'{list}'")?.as_str())?;
+    match Store::adopt(alloc, conn) {
+        Ok(mut store) => Ok(entries(&mut store, alloc)),
+        Err(_) => Err(Fail::new("refused")),
+    }
+}
+
+#[test]
+fn lists_are_read(rt: HostRuntime) -> Result<(), Fail> {
+    for (list, found) in [
+        ("0001060501051805", "a 1 0 1 6 5;a 1 1 5 24 5;"),
+        (
+            "000000010001020100010201",
+            "a 1 0 0 0 1;a 1 0 1 2 1;a 1 0 2 4 1;",
+        ),
+        ("63000001", "a 1 99 0 0 1;"),
+    ] {
+        match read_list(rt.alloc(), list)? {
+            Ok(read) => assert_eq!(&rt; read.as_str(), found),
+            Err(_) => return Err(Fail::new(list)),
+        }
+    }
+    Ok(())
+}
+
+#[test]
+fn other_bytes_are_damaged(rt: HostRuntime) -> Result<(), Fail> {
+    for list in [
+        "",
+        "000106",
+        "800001060501051805",
+        "00010600",
+        "0001060500000105",
+        "64000001",
+    ] {
+        let damaged = matches!(read_list(rt.alloc(), list)?, Err(StoreFault::Damaged));
+        assert!(&rt; damaged, "{list}");
+    }
+    Ok(())
+}
+
+// The list of a term at these places, as hexadecimal digits.
+fn list_of(alloc: Global, spots: Vec<Spot>) -> Result<String, Fail> {
+    let mut store = Store::open_memory(alloc)?;
+    let term = String::from_str(alloc, "a")?;
+    store.change(&[table_d(alloc)?, RowChange::PutEntries(1, term, 1, spots)])?;
+    let mut conn = store.into_connection();
+    let digits: String = conn
+        .query_row("SELECT hex(list) FROM posting", &[])?
+        .get(0)?;
+    Ok(digits)
+}
+
+#[test]
+fn lists_are_packed(rt: HostRuntime) -> Result<(), Fail> {
+    let mut spots = Vec::new(rt.alloc());
+    for (column, pos, place, size) in [(0, 1, 6, 5), (1, 5, 24, 5)] {
+        spots.push(Spot {
+            column,
+            pos,
+            place,
+            size,
+        })?;
+    }
+    assert_eq!(&rt; list_of(rt.alloc(), spots)?.as_str(), "0001060501051805");
+    Ok(())
+}
