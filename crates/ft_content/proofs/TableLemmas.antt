@@ -1,24 +1,21 @@
 -- Tables that are there, by their names and ids.
-use Rattle.std.proofs.Common.{◌≡◌, ◌≤◌, ℕ, ◌+◌, ◌&&◌, ◌||◌, Bool, true, false, cond, List, [], ◌∷◌, length, Some, ℤ, pos, is_some, string_bytes, None, nat_lt, ltb-false, refl, sym, ap, subst, ◌∙◌, arith, suc, ◌<◌, drop, get_or, add-one, drop-cons}
-use Rattle.std.specs.List.{list_any, position_or_len}
+use Rattle.std.proofs.Common.{◌≡◌, ◌≤◌, ℕ, ◌+◌, ◌&&◌, ◌||◌, Bool, true, false, cond, List, [], ◌∷◌, length, Some, ℤ, pos, is_some, string_bytes, refl, sym, ap, subst, ◌∙◌, arith}
+use Rattle.std.specs.List.{list_any}
 use Rattle.std.specs.declared.cmp.Ordering.{Ordering}
 use Rattle.std.specs.declared.cmp.Ordering.TheVariants.{Less, Equal, Greater}
 use Rattle.std.specs.Ordering.{int_cmp, int_eq, is_eq, is_lt, MatchOrdering}
 use Rattle.std.specs.Cmp.{int_cmp_is, int_cmp_total, int_ranks}
-use Rattle.std.specs.FinMap.Entries.{by_order, put, below_all, is_sorted}
+use Rattle.std.specs.FinMap.Entries.{below_all, is_sorted}
 use Rattle.std.proofs.lemmas.Bool.{and_parts, false_from_ne_true}
 use Rattle.std.proofs.lemmas.Bool.Decides.{Decides-int_eq}
 use Rattle.std.proofs.lemmas.Int.{ints}
-use Rattle.std.proofs.lemmas.List.{drop_all}
-use Rattle.std.specs.Prelude.{◌<ℤ◌, slice_get, option_and_then, position, insert}
-use Rattle.std.proofs.lemmas.Option.{slice_get_past}
-use Rattle.std.proofs.lemmas.List.Folds.{find_at}
+use Rattle.std.specs.Prelude.{◌<ℤ◌}
 use Rattle.ft_content.specs.Content.{same_name}
 use Rattle.ft_content.specs.Deserved.{Contents, Table, table_named}
 use Rattle.ft_content.specs.Step.{free_id_from}
 use Rattle.ft_content.specs.declared.table.TableInfo.{TableInfo}
 use Rattle.ft_content.specs.Views.{table_names, table_ids, info_names, info_ids}
-use Rattle.ft_content.proofs.Lists.{length_of_map, position_of_map, neither}
+use Rattle.ft_content.proofs.Lists.{length_of_map}
 
 named : (contents : Contents) (name : List ℕ) → is_some (table_named contents name) ≡ list_any (λ n. same_name n name) (table_names contents)
 named [] name = refl
@@ -42,60 +39,6 @@ free_is n (t ∷ ts) = free_is (cond (int_eq t.0 (pos n)) (n + 1) n) ts
 
 pub free_among : (contents : Contents) (tables : List TableInfo) → table_ids contents ≡ info_ids tables → free_id_from 1 contents ≡ free_from 1 (info_ids tables)
 free_among contents tables same = free_is 1 contents ∙ ap (free_from 1) same
-
-place_within : {X : Type 0} (xs : List X) (k : ℕ) → option_and_then (slice_get xs) (cond (nat_lt k (length xs)) (Some k) None) ≡ slice_get xs k
-place_within xs k = by_test (nat_lt k (length xs)) refl
-  where
-    by_test : (b : Bool) → nat_lt k (length xs) ≡ b → option_and_then (slice_get xs) (cond b (Some k) None) ≡ slice_get xs k
-    by_test true e = refl
-    by_test false e = sym (slice_get_past xs k (ltb-false k (length xs) e))
-
--- the table of a name stands at the place of the name
-pub named_place : (contents : Contents) (name : List ℕ) (tables : List TableInfo) → table_names contents ≡ info_names tables →
-    table_named contents name ≡ option_and_then (slice_get contents) (position (λ n. same_name n name) (info_names tables))
-named_place contents name tables same =
-    find_at (λ (t : ℤ × Table). same_name t.1.name name) contents ∙ sym (place_within contents (position_or_len (λ (t : ℤ × Table). same_name t.1.name name) contents))
-    ∙ ap (option_and_then (slice_get contents)) (sym (position_of_map (λ n. same_name n name) (λ (t : ℤ × Table). t.1.name) contents) ∙ ap (position (λ n. same_name n name)) same)
-
--- ---- where a new table goes
-
--- the place of an id among ids that rise
-abbrev pub place_among : ℤ → List ℤ → ℕ
-place_among id [] = 0
-place_among id (other ∷ ids) = cond (is_lt (int_cmp id other)) 0 (1 + place_among id ids)
-
-insert_later : {X : Type 0} (x y : X) (xs : List X) (k : ℕ) → x ∷ insert xs k y ≡ insert (x ∷ xs) (1 + k) y
-insert_later x y xs k = let next : suc k ≡ 1 + k = omega arith in subst (λ n. x ∷ insert xs k y ≡ insert (x ∷ xs) n y) next refl
-
-put_among : (id : ℤ) (table : Table) (contents : Contents) → list_any (int_eq id) (table_ids contents) ≡ false → put int_cmp id table contents ≡ insert contents (place_among id (table_ids contents)) (id, table)
-put_among id table [] h = refl
-put_among id table (t ∷ ts) h = by_first (put_among id table ts (neither (int_eq id t.0) (list_any (int_eq id) (table_ids ts)) h).1) (int_cmp id t.0) refl
-  where
-    by_first : put int_cmp id table ts ≡ insert ts (place_among id (table_ids ts)) (id, table) → (o : Ordering) → int_cmp id t.0 ≡ o →
-        by_order o ((id, table) ∷ t ∷ ts) ((t.0, table) ∷ ts) (t ∷ put int_cmp id table ts) ≡ insert (t ∷ ts) (cond (is_lt o) 0 (1 + place_among id (table_ids ts))) (id, table)
-    by_first rest Less same = refl
-    by_first rest Equal same = absurd (let apart : int_eq id t.0 ≡ false = (neither (int_eq id t.0) (list_any (int_eq id) (table_ids ts)) h).0 in let tied : int_eq id t.0 ≡ true = ap is_eq same in cc)
-    by_first rest Greater same = ap (λ (xs : Contents). t ∷ xs) rest ∙ insert_later t (id, table) ts (place_among id (table_ids ts))
-
-pub put_place : (id : ℤ) (table : Table) (contents : Contents) (tables : List TableInfo) → table_ids contents ≡ info_ids tables → list_any (int_eq id) (info_ids tables) ≡ false →
-    put int_cmp id table contents ≡ insert contents (place_among id (info_ids tables)) (id, table)
-put_place id table contents tables same free =
-    put_among id table contents (ap (list_any (int_eq id)) same ∙ free) ∙ ap (λ ids. insert contents (place_among id ids) (id, table)) same
-
--- the place of the first table with a greater id, and the end where there is none
-pub stands_here : (id : ℤ) (tables : List TableInfo) (k : ℕ) (t : TableInfo) → k < length tables → t ≡ get_or tables k t → id <ℤ t.id →
-    k + place_among id (info_ids (drop k tables)) ≡ place_among id (info_ids tables) → place_among id (info_ids tables) ≡ k
-stands_here id tables k t within read lower so_far =
-    let front : drop k tables ≡ t ∷ drop (k + 1) tables = rw (add-one, drop-cons tables k t within) (ap (λ (x : TableInfo). x ∷ drop (suc k) tables) (sym read)) in
-    let none : place_among id (info_ids (drop k tables)) ≡ 0 =
-    ap (λ ts. place_among id (info_ids ts)) front ∙ ap (λ (o : Ordering). cond (is_lt o) 0 (1 + place_among id (info_ids (drop (k + 1) tables)))) (sym (int_cmp_is id t.id Less lower)) in
-    omega arith
-
-pub stands_last : (id : ℤ) (tables : List TableInfo) (k : ℕ) → length tables ≤ k → k ≤ length tables → k + place_among id (info_ids (drop k tables)) ≡ place_among id (info_ids tables) →
-    place_among id (info_ids tables) ≡ length tables
-stands_last id tables k past within so_far =
-    let none : place_among id (info_ids (drop k tables)) ≡ 0 = ap (λ ts. place_among id (info_ids ts)) (drop_all k tables past) in
-    omega arith
 
 -- ---- the least free id is free
 

@@ -175,17 +175,3 @@ pub fn free_id(tables: &[TableInfo]) -> i64
     }
     id
 }
-
-/// Where a table goes among these, which stand by rising id, if its id is none of theirs.
-pub fn place_of_id(tables: &[TableInfo], id: i64) -> usize
-    ensures within { result ≤ length tables.now }
-    ensures place { (contents : Contents) (table : Table) → table_ids contents ≡ info_ids tables.now → list_any (int_eq id) (info_ids tables.now) ≡ false →
-        put int_cmp id table contents ≡ insert contents result (id, table) }
-{
-    for (place, table) in tables.iter().enumerate() {
-        if id < table.id {
-            return place;
-        }
-    }
-    tables.len()
-}

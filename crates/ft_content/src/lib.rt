@@ -21,7 +21,7 @@ mod word;
 
 pub use columns::{column_place, has_column, names_unknown};
 pub use command::{Command, Filter, Grid, Item, Items, Reply};
-pub use create::{create_fault, free_id, made_columns, made_names, place_of_id};
+pub use create::{create_fault, free_id, made_columns, made_names};
 pub use docid::{docid_for_row, last_docid_after, moves_fault, next_docid};
 pub use fault::Fault;
 pub use ft_store::Value;
@@ -36,7 +36,6 @@ pub use plain::PlainTables;
 pub use query::read_query;
 pub use select::{answer_names, asks_offsets, count_rows, delete_tests, item_row, select_tests};
 pub use table::{Column, TableInfo};
-pub use tables::table_place;
 pub use update::{repeats_set, set_docid, update_tests, with_values};
 pub use value::copied_value;
 pub use word::SearchWord;

@@ -17,14 +17,3 @@ pub(crate) fn has_table(tables: &[TableInfo], name: &str) -> bool
         .iter()
         .any(|table| same_name(table.name.as_str(), name))
 }
-
-/// The place of the table of this name, if there is one.
-pub fn table_place(tables: &[TableInfo], name: &str) -> Option<usize>
-    ensures within { IfSome result (λ place. place < length tables.now) }
-    ensures found { (contents : Contents) → table_names contents ≡ info_names tables.now →
-        deserved.table_named contents name.now ≡ option_and_then (slice_get contents) result }
-{
-    tables
-        .iter()
-        .position(|table| same_name(table.name.as_str(), name))
-}
