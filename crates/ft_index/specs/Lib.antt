@@ -5,6 +5,7 @@ pub mod Rewrite
 pub mod RewriteRows
 pub mod RowsRead
 pub mod Walked
+pub mod DocumentsRead
 pub mod Found
 pub mod Planned
 pub mod Placed

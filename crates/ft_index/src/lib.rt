@@ -3,7 +3,9 @@
 
 mod change;
 mod doc_lists;
+mod document;
 mod document_index;
+mod documents;
 mod full_text;
 mod matching;
 mod names;
