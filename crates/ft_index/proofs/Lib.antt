@@ -29,3 +29,4 @@ pub mod Executing
 pub mod MatchedLemmas
 pub mod ReadRows
 pub mod GatheredRows
+pub mod NewLemmas

@@ -6,6 +6,7 @@ pub mod RewriteRows
 pub mod RowsRead
 pub mod Walked
 pub mod DocumentsRead
+pub mod NewDocuments
 pub mod Found
 pub mod Planned
 pub mod Placed

@@ -9,6 +9,7 @@ mod documents;
 mod full_text;
 mod matching;
 mod names;
+mod new_documents;
 mod rewrite;
 mod table_lists;
 mod tables;
