@@ -30,3 +30,4 @@ pub mod MatchedLemmas
 pub mod ReadRows
 pub mod GatheredRows
 pub mod NewLemmas
+pub mod InsertRows

@@ -7,6 +7,7 @@ pub mod RowsRead
 pub mod Walked
 pub mod DocumentsRead
 pub mod NewDocuments
+pub mod Inserted
 pub mod Found
 pub mod Planned
 pub mod Placed

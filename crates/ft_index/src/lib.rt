@@ -7,6 +7,7 @@ mod document;
 mod document_index;
 mod documents;
 mod full_text;
+mod insert;
 mod matching;
 mod names;
 mod new_documents;

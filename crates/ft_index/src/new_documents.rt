@@ -14,9 +14,9 @@ pub(crate) struct NewDocuments {
 }
 
 impl NewDocuments {
-    ghost use Rattle.std.specs.Prelude.{None, ◌||◌, map, zip, slice_get, is_some, option_map, IfSome, IsTrue, OnOk, MatchOption};
+    ghost use Rattle.std.specs.Prelude.{None, [], map, zip, slice_get, is_some, IfSome, IsTrue};
     ghost use Rattle.std.specs.Ordering.{int_cmp};
-    ghost use Rattle.std.specs.FinMap.Entries.{put, find, is_sorted};
+    ghost use Rattle.std.specs.FinMap.Entries.{find, is_sorted};
     ghost use Rattle.ft_store.specs.Changes.{shown_value};
     ghost use Rattle.ft_content.specs.Content.{Documents};
     ghost use Rattle.ft_content.specs.Deserved as deserved;
@@ -25,7 +25,8 @@ impl NewDocuments {
 
     /// None yet, for a table with this last docid.
     pub(crate) fn new(alloc: Global, last: Option<i64>) -> NewDocuments
-        ensures { (documents : Documents) → IsTrue (is_sorted int_cmp documents) → last_docid documents ≡ last → AreBeside documents result }
+        ensures none { documents_in result ≡ [] }
+        ensures beside { (documents : Documents) → IsTrue (is_sorted int_cmp documents) → last_docid documents ≡ last → AreBeside documents result }
     {
         NewDocuments {
             alloc,
