@@ -1,5 +1,5 @@
 -- Documents that rows of an Insert make, beside those that a table has. All of it is our own choice.
-use Rattle.std.specs.Prelude.{◌≡◌, ◌⊎◌, ℤ, List, map, Option, None, IsTrue}
+use Rattle.std.specs.Prelude.{◌≡◌, ◌⊎◌, ℤ, List, map, Option, Some, None, IsTrue}
 use Rattle.std.specs.List.{AllByRecursion}
 use Rattle.std.specs.Ordering.{int_cmp}
 use Rattle.std.specs.FinMap.Entries.{find, is_sorted}
@@ -12,6 +12,7 @@ use Rattle.ft_content.specs.declared.fault.Fault.TheVariants as faults
 use Rattle.ft_content.specs.Content.{Documents}
 use Rattle.ft_content.specs.Views.{cells_of, last_docid}
 use Rattle.ft_index.specs.declared.new_documents.NewDocuments.{NewDocuments}
+use Rattle.ft_index.specs.Rewrite.{Rewrite}
 use Rattle.ft_index.specs.RewriteRows.{all_put}
 
 abbrev pub shown_entry : ℤ × Vec Value Global → ℤ × List Cell
@@ -36,3 +37,7 @@ pub record AreBeside (documents : Documents) (new : NewDocuments) : Type 0 where
 abbrev pub Places : Documents → Result Documents Fault → NewDocuments → Result (Unit {0}) Fault → Type 0
 Places documents placed new (Ok u) = AreBeside documents new × (placed ≡ Ok (with_new new documents))
 Places documents placed new (Err fault) = (fault ≡ faults.Memory) ⊎ (placed ≡ Err fault)
+
+-- the rewrite that makes a document which was not there
+abbrev pub new_rewrite : ℤ × List Cell → Rewrite
+new_rewrite d = record { docid = d.0; before = None; after = Some d.1 }

@@ -10,7 +10,7 @@ ghost use Rattle.ft_content.specs.declared.fault.Fault.TheVariants as faults;
 ghost use Rattle.ft_content.specs.Content as content;
 ghost use Rattle.ft_content.specs.Content.{Content};
 ghost use Rattle.ft_content.specs.Views as views;
-ghost use Rattle.ft_index.specs.DocumentsRead.{HasRows, shown_document, shown_row, with_last};
+ghost use Rattle.ft_index.specs.DocumentsRead.{HasRows, shown_document, shown_row, with_last, has_given};
 
 use crate::document::Document;
 use ft_content::{Fault, Value};
@@ -23,6 +23,7 @@ pub(crate) fn last_docid<S: Alter>(store: &mut Store<S>, tab: i64) -> Result<Opt
     ensures last { IfOk result (λ last. (content : Content) → HasRows S.Store tab store.old store.new content → views.last_docid content.documents ≡ last) }
     ensures faults { IfErr result (λ fault. (fault ≡ faults.Store) ⊎ (fault ≡ faults.Memory)) }
     ensures kept { HasCleanDisk (shows S.Store store.new) → Keeps (shows S.Store store.old) (shows S.Store store.new) }
+    ensures live { HasCleanDisk (shows S.Store store.new) → OnOk result (IsTrue (shows S.Store store.new).is_open) }
     ensures survives { Survives (shows S.Store store.old) (shows S.Store store.new) (λ _. IsTrue (shows S.Store store.old).is_open → ⊥) }
 {
     let last = store.last_docid(tab)?;
@@ -39,6 +40,7 @@ pub(crate) fn document<S: Alter>(
     ensures found { IfOk result (λ found. (content : Content) → HasRows S.Store tab store.old store.new content → option_map views.cells_of found ≡ find int_cmp docid content.documents) }
     ensures faults { IfErr result (λ fault. (fault ≡ faults.Store) ⊎ (fault ≡ faults.Memory)) }
     ensures kept { HasCleanDisk (shows S.Store store.new) → Keeps (shows S.Store store.old) (shows S.Store store.new) }
+    ensures live { HasCleanDisk (shows S.Store store.new) → OnOk result (IsTrue (shows S.Store store.new).is_open) }
     ensures survives { Survives (shows S.Store store.old) (shows S.Store store.new) (λ _. IsTrue (shows S.Store store.old).is_open → ⊥) }
 {
     let rows = store.document(tab, docid)?;
@@ -58,11 +60,34 @@ pub(crate) fn all_documents<S: Alter>(
     ensures found { IfOk result (λ found. (content : Content) → HasRows S.Store tab store.old store.new content → map shown_document found.items ≡ content.documents) }
     ensures faults { IfErr result (λ fault. (fault ≡ faults.Store) ⊎ (fault ≡ faults.Memory)) }
     ensures kept { HasCleanDisk (shows S.Store store.new) → Keeps (shows S.Store store.old) (shows S.Store store.new) }
+    ensures live { HasCleanDisk (shows S.Store store.new) → OnOk result (IsTrue (shows S.Store store.new).is_open) }
     ensures survives { Survives (shows S.Store store.old) (shows S.Store store.new) (λ _. IsTrue (shows S.Store store.old).is_open → ⊥) }
 {
     let rows = store.cells(tab)?;
     let documents = gathered(alloc, rows)?;
     Ok(documents)
+}
+
+/// Whether the table has a document of the docid that is given. The store is only read, whatever is answered.
+pub(crate) fn has_document<S: Alter>(
+    alloc: Global,
+    store: &mut Store<S>,
+    tab: i64,
+    given: Option<i64>,
+) -> Result<bool, Fault>
+    ensures found { IfOk result (λ found. (content : Content) → HasRows S.Store tab store.old store.new content → found ≡ has_given content.documents given) }
+    ensures faults { IfErr result (λ fault. (fault ≡ faults.Store) ⊎ (fault ≡ faults.Memory)) }
+    ensures kept { HasCleanDisk (shows S.Store store.new) → Keeps (shows S.Store store.old) (shows S.Store store.new) }
+    ensures live { (HasCleanDisk (shows S.Store store.old) → IsTrue (shows S.Store store.old).is_open) → HasCleanDisk (shows S.Store store.new) → OnOk result (IsTrue (shows S.Store store.new).is_open) }
+    ensures survives { Survives (shows S.Store store.old) (shows S.Store store.new) (λ _. IsTrue (shows S.Store store.old).is_open → ⊥) }
+{
+    match given {
+        Some(docid) => {
+            let found = document(alloc, store, tab, docid)?;
+            Ok(found.is_some())
+        }
+        None => Ok(false),
+    }
 }
 
 // The documents that rows of cells are of.

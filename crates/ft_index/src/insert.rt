@@ -1,14 +1,21 @@
 //! The documents of an Insert.
-ghost use Rattle.std.specs.Prelude.{◌≡◌, false, map, zip, slice_get, unwrap_or, IsTrue};
+ghost use Rattle.std.specs.Prelude.{◌≡◌, false, map, zip, slice_get, unwrap_or, ◌⊎◌, IfOk, IfErr, IsTrue};
+ghost use Rattle.sqlite.specs.State.{HasCleanDisk, Survives};
+ghost use Rattle.ft_store.specs.Kept.{shows};
+ghost use Rattle.ft_content.specs.declared.fault.Fault.TheVariants as faults;
 ghost use Rattle.std.specs.Ordering.{int_cmp};
 ghost use Rattle.std.specs.FinMap.Entries.{is_sorted};
-ghost use Rattle.ft_content.specs.Content.{Documents};
-ghost use Rattle.ft_content.specs.Deserved.{insert_rows};
+ghost use Rattle.ft_content.specs.Content.{Documents, Content};
+ghost use Rattle.ft_content.specs.Deserved.{insert_rows, docids_in};
 ghost use Rattle.ft_content.specs.Views.{last_docid, cells_of, column_of};
+ghost use Rattle.ft_index.specs.DocumentsRead.{HasRows, Looks, has_given};
 ghost use Rattle.ft_index.specs.Inserted.{AreKnown, Makes};
 
+use crate::documents::has_document;
 use crate::new_documents::NewDocuments;
-use ft_content::{Column, Fault, Value};
+use ft_content::{Column, Fault, Value, row_docid};
+use ft_store::Store;
+use sqlite::Alter;
 use std::alloc::Global;
 
 /// The documents that rows make in a table with this last docid, or the fault of the first row that fails. At the place of each row
@@ -30,6 +37,28 @@ pub(crate) fn made_documents(
         new.add(columns, names, row.as_slice(), is_stored(stored, place))?;
     }
     Ok(new)
+}
+
+/// Of each row, whether the table has a document with the docid that the row gives. The store, which is open if it is clean, is only
+/// read, whatever is answered.
+fn stored_docids<S: Alter>(
+    alloc: Global,
+    store: &mut Store<S>,
+    tab: i64,
+    names: &[&str],
+    rows: &[Vec<Value>],
+) -> Result<Vec<bool>, Fault>
+    ensures found { IfOk result (λ stored. (HasCleanDisk (shows S.Store store.old) → IsTrue (shows S.Store store.old).is_open) → (content : Content) → HasRows S.Store tab store.old store.new content
+        → stored.items ≡ map (λ row. has_given content.documents (slice_get (docids_in (zip (map (λ n. n.now) names.now) (cells_of row))) 0)) rows.now) }
+    ensures faults { IfErr result (λ fault. (fault ≡ faults.Store) ⊎ (fault ≡ faults.Memory)) }
+    ensures looks { (HasCleanDisk (shows S.Store store.old) → IsTrue (shows S.Store store.old).is_open) → Looks S.Store store.old store.new }
+{
+    let mut stored = Vec::new(alloc);
+    for row in rows {
+        let given = row_docid(names, row.as_slice());
+        stored.push(has_document(alloc, store, tab, given)?)?;
+    }
+    Ok(stored)
 }
 
 fn is_stored(stored: &[bool], place: usize) -> bool

@@ -1,8 +1,9 @@
 //! The documents that rows of an Insert make.
 ghost use Rattle.std.specs.Prelude.{◌≡◌};
 
+use crate::rewrite::Rewrite;
 use ft_content::{Column, Fault, Value, docid_for_row, last_docid_after, new_cells, row_docid};
-use std::alloc::Global;
+use std::alloc::{AllocError, Global};
 use std::collections::BTreeMap;
 
 /// New documents by rising docid, and the last docid of a table with them.
@@ -14,14 +15,15 @@ pub(crate) struct NewDocuments {
 }
 
 impl NewDocuments {
-    ghost use Rattle.std.specs.Prelude.{None, [], map, zip, slice_get, is_some, IfSome, IsTrue};
+    ghost use Rattle.std.specs.Prelude.{None, [], map, zip, slice_get, is_some, IfSome, IfOk, IsTrue};
     ghost use Rattle.std.specs.Ordering.{int_cmp};
     ghost use Rattle.std.specs.FinMap.Entries.{find, is_sorted};
     ghost use Rattle.ft_store.specs.Changes.{shown_value};
     ghost use Rattle.ft_content.specs.Content.{Documents};
     ghost use Rattle.ft_content.specs.Deserved as deserved;
     ghost use Rattle.ft_content.specs.Views.{last_docid, cells_of, column_of};
-    ghost use Rattle.ft_index.specs.NewDocuments.{documents_in, with_new, AreBeside, Places};
+    ghost use Rattle.ft_index.specs.NewDocuments.{documents_in, with_new, new_rewrite, AreBeside, Places};
+    ghost use Rattle.ft_index.specs.Rewrite.{shown_rewrite};
 
     /// None yet, for a table with this last docid.
     pub(crate) fn new(alloc: Global, last: Option<i64>) -> NewDocuments
@@ -73,5 +75,20 @@ impl NewDocuments {
         self.documents.insert(docid, cells)?;
         self.last = Some(last_docid_after(self.last, docid));
         Ok(())
+    }
+
+    /// The rewrites that make these documents.
+    pub(crate) fn into_rewrites(self) -> Result<Vec<Rewrite>, AllocError>
+        ensures { IfOk result (λ rewrites. map shown_rewrite rewrites.items ≡ map new_rewrite (documents_in self)) }
+    {
+        let mut rewrites = Vec::new(self.alloc);
+        for (docid, cells) in self.documents {
+            rewrites.push(Rewrite {
+                docid,
+                before: None,
+                after: Some(cells),
+            })?;
+        }
+        Ok(rewrites)
     }
 }
