@@ -7,16 +7,39 @@ ghost use Rattle.std.specs.Ordering.{int_cmp};
 ghost use Rattle.std.specs.FinMap.Entries.{is_sorted};
 ghost use Rattle.ft_content.specs.Content.{Documents, Content};
 ghost use Rattle.ft_content.specs.Deserved.{insert_rows, docids_in};
-ghost use Rattle.ft_content.specs.Views.{last_docid, cells_of, column_of};
+ghost use Rattle.ft_content.specs.Views as views;
+ghost use Rattle.ft_content.specs.Views.{cells_of, column_of};
 ghost use Rattle.ft_index.specs.DocumentsRead.{HasRows, Looks, has_given};
-ghost use Rattle.ft_index.specs.Inserted.{AreKnown, Makes};
+ghost use Rattle.ft_index.specs.Inserted.{AreKnown, Makes, Inserts};
 
-use crate::documents::has_document;
+use crate::documents::{has_document, last_docid};
 use crate::new_documents::NewDocuments;
+use crate::rewrite::Rewrite;
 use ft_content::{Column, Fault, Value, row_docid};
 use ft_store::Store;
 use sqlite::Alter;
 use std::alloc::Global;
+
+/// The rewrites of the documents that rows make in a table, by rising docid, or the fault of the first row that fails. The store is
+/// only read, whatever is answered.
+pub(crate) fn insert_rewrites<S: Alter>(
+    alloc: Global,
+    store: &mut Store<S>,
+    tab: i64,
+    columns: &[Column],
+    names: &[&str],
+    rows: &[Vec<Value>],
+) -> Result<Vec<Rewrite>, Fault>
+    ensures rewrites { (content : Content) → HasRows S.Store tab store.old store.new content
+        → Inserts content.documents (insert_rows (map column_of columns.now) (map (zip (map (λ n. n.now) names.now)) (map cells_of rows.now)) content.documents) result }
+    ensures looks { Looks S.Store store.old store.new }
+{
+    let last = last_docid(store, tab)?;
+    let stored = stored_docids(alloc, store, tab, names, rows)?;
+    let new = made_documents(alloc, last, columns, names, rows, stored.as_slice())?;
+    let rewrites = new.into_rewrites()?;
+    Ok(rewrites)
+}
 
 /// The documents that rows make in a table with this last docid, or the fault of the first row that fails. At the place of each row
 /// stands whether the table has a document with the docid that the row gives.
@@ -28,7 +51,7 @@ pub(crate) fn made_documents(
     rows: &[Vec<Value>],
     stored: &[bool],
 ) -> Result<NewDocuments, Fault>
-    ensures { (documents : Documents) → IsTrue (is_sorted int_cmp documents) → last_docid documents ≡ last
+    ensures { (documents : Documents) → IsTrue (is_sorted int_cmp documents) → views.last_docid documents ≡ last
         → AreKnown documents (map (zip (map (λ n. n.now) names.now)) (map cells_of rows.now)) stored.now
         → Makes documents (insert_rows (map column_of columns.now) (map (zip (map (λ n. n.now) names.now)) (map cells_of rows.now)) documents) result }
 {
