@@ -1,6 +1,6 @@
 -- New documents beside those of a table.
 use Rattle.std.proofs.Common.{◌≡◌, ◌^◌, ◌-◌, Bool, true, false, cond, ◌||◌, List, [], ◌∷◌, map, Option, Some, None, Result, Ok, Err, ℤ, pos, refl, sym, ap, ◌∙◌, arith, inl, inr}
-use Rattle.std.specs.Prelude.{◌+ℤ◌, unwrap_or, option_map, is_some, IfSome, ◌⊎◌, Vec}
+use Rattle.std.specs.Prelude.{◌+ℤ◌, unwrap_or, is_some, IfSome, ◌⊎◌, Vec}
 use Rattle.std.specs.List.{AllByRecursion}
 use Rattle.std.specs.declared.alloc.Global.{Global}
 use Rattle.std.specs.declared.cmp.Ordering.{Ordering}

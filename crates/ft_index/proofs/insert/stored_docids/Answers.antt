@@ -1,5 +1,5 @@
 -- a row more
-use Rattle.std.proofs.Common.{◌≡◌, ◌+◌, ◌++◌, [], ◌∷◌, ℤ, Bool, List, map, zip, take, Vec, Global, sym, ap, subst, ◌∙◌, arith, to_z-of_z, to_z, of_z, w64}
+use Rattle.std.proofs.Common.{◌≡◌, ◌++◌, [], ◌∷◌, ℤ, Bool, map, zip, take, Vec, Global, sym, ap, subst, ◌∙◌, arith, to_z-of_z, to_z, of_z, w64}
 use Rattle.std.specs.Prelude.{slice_get}
 use Rattle.std.proofs.lemmas.List.{take_more, take_all, map-append}
 use Rattle.sqlite.specs.State.{HasCleanDisk}
@@ -8,7 +8,6 @@ use Rattle.ft_store.specs.declared.rows.Value.{Value}
 use Rattle.ft_store.specs.Changes.{shown_value}
 use Rattle.ft_store.specs.Kept.{shows, value_in}
 use Rattle.ft_store.specs.Rows.{value_of}
-use Rattle.ft_store.specs.Store.{StoreValue}
 use Rattle.ft_store.proofs.ChainLemmas.{kept_then, reads_then}
 use Rattle.ft_content.specs.Deserved.{docids_in}
 use Rattle.ft_content.specs.Views.{cells_of}

@@ -1,5 +1,5 @@
 -- the docid of the row is new, or refused
-use Rattle.std.proofs.Common.{◌≡◌, ◌⊎◌, inl, inr, ℤ, List, Ok, Err, map, zip, Option, Result, FitsSigned, w64, to_z, of_z, to_z-of_z, sym, ap, subst, ◌∙◌, rules}
+use Rattle.std.proofs.Common.{◌≡◌, inl, inr, ℤ, List, Ok, Err, map, zip, Option, Result, FitsSigned, w64, to_z, of_z, to_z-of_z, sym, ap, subst, ◌∙◌, rules}
 use Rattle.std.specs.Prelude.{slice_get, is_some, IfSome}
 use Rattle.std.specs.Ordering.{int_cmp}
 use Rattle.std.specs.Cmp.{int_cmp_total}
