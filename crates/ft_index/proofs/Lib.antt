@@ -39,3 +39,7 @@ pub mod PackLemmas
 pub mod PackedChanges
 pub mod RebuildLemmas
 pub mod StoreKeys
+pub mod ReadRows
+pub mod GatheredRows
+pub mod InsertRows
+pub mod NewRows

@@ -6,6 +6,9 @@ pub mod RewriteRows
 pub mod Rebuild
 pub mod RowsRead
 pub mod Walked
+pub mod DocumentsRead
+pub mod NewDocuments
+pub mod Inserted
 pub mod Found
 pub mod Planned
 pub mod Placed

@@ -1,0 +1,94 @@
+//! The documents of an Insert.
+ghost use Rattle.std.specs.Prelude.{◌≡◌, false, map, zip, slice_get, unwrap_or, ◌⊎◌, IfOk, IfErr, IsTrue};
+ghost use Rattle.sqlite.specs.State.{HasCleanDisk, Survives};
+ghost use Rattle.ft_store.specs.Kept.{shows};
+ghost use Rattle.ft_content.specs.declared.fault.Fault.TheVariants as faults;
+ghost use Rattle.std.specs.Ordering.{int_cmp};
+ghost use Rattle.std.specs.FinMap.Entries.{is_sorted};
+ghost use Rattle.ft_content.specs.Content.{Documents, Content};
+ghost use Rattle.ft_content.specs.Deserved.{insert_rows, docids_in};
+ghost use Rattle.ft_content.specs.Views as views;
+ghost use Rattle.ft_content.specs.Views.{cells_of, column_of};
+ghost use Rattle.ft_index.specs.DocumentsRead.{HasRows, Looks, has_given};
+ghost use Rattle.ft_index.specs.Inserted.{AreKnown, Makes, Inserts};
+
+use crate::documents::{has_document, last_docid};
+use crate::new_documents::NewDocuments;
+use crate::rewrite::Rewrite;
+use ft_content::{Column, Fault, Value, row_docid};
+use ft_store::Store;
+use sqlite::Alter;
+use std::alloc::Global;
+
+/// The rewrites of the documents that rows make in a table, by rising docid, or the fault of the first row that fails. The store is
+/// only read, whatever is answered.
+pub(crate) fn insert_rewrites<S: Alter>(
+    alloc: Global,
+    store: &mut Store<S>,
+    tab: i64,
+    columns: &[Column],
+    names: &[&str],
+    rows: &[Vec<Value>],
+) -> Result<Vec<Rewrite>, Fault>
+    ensures rewrites { (content : Content) → HasRows S.Store tab store.old store.new content
+        → Inserts content.documents (insert_rows (map column_of columns.now) (map (zip (map (λ n. n.now) names.now)) (map cells_of rows.now)) content.documents) result }
+    ensures looks { Looks S.Store store.old store.new }
+{
+    let last = last_docid(store, tab)?;
+    let stored = stored_docids(alloc, store, tab, names, rows)?;
+    let new = made_documents(alloc, last, columns, names, rows, stored.as_slice())?;
+    let rewrites = new.into_rewrites()?;
+    Ok(rewrites)
+}
+
+/// The documents that rows make in a table with this last docid, or the fault of the first row that fails. At the place of each row
+/// stands whether the table has a document with the docid that the row gives.
+pub(crate) fn made_documents(
+    alloc: Global,
+    last: Option<i64>,
+    columns: &[Column],
+    names: &[&str],
+    rows: &[Vec<Value>],
+    stored: &[bool],
+) -> Result<NewDocuments, Fault>
+    ensures { (documents : Documents) → IsTrue (is_sorted int_cmp documents) → views.last_docid documents ≡ last
+        → AreKnown documents (map (zip (map (λ n. n.now) names.now)) (map cells_of rows.now)) stored.now
+        → Makes documents (insert_rows (map column_of columns.now) (map (zip (map (λ n. n.now) names.now)) (map cells_of rows.now)) documents) result }
+{
+    let mut new = NewDocuments::new(alloc, last);
+    for (place, row) in rows.iter().enumerate() {
+        new.add(columns, names, row.as_slice(), is_stored(stored, place))?;
+    }
+    Ok(new)
+}
+
+/// Of each row, whether the table has a document with the docid that the row gives. The store, which is open if it is clean, is only
+/// read, whatever is answered.
+fn stored_docids<S: Alter>(
+    alloc: Global,
+    store: &mut Store<S>,
+    tab: i64,
+    names: &[&str],
+    rows: &[Vec<Value>],
+) -> Result<Vec<bool>, Fault>
+    ensures found { IfOk result (λ stored. (HasCleanDisk (shows S.Store store.old) → IsTrue (shows S.Store store.old).is_open) → (content : Content) → HasRows S.Store tab store.old store.new content
+        → stored.items ≡ map (λ row. has_given content.documents (slice_get (docids_in (zip (map (λ n. n.now) names.now) (cells_of row))) 0)) rows.now) }
+    ensures faults { IfErr result (λ fault. (fault ≡ faults.Store) ⊎ (fault ≡ faults.Memory)) }
+    ensures looks { (HasCleanDisk (shows S.Store store.old) → IsTrue (shows S.Store store.old).is_open) → Looks S.Store store.old store.new }
+{
+    let mut stored = Vec::new(alloc);
+    for row in rows {
+        let given = row_docid(names, row.as_slice());
+        stored.push(has_document(alloc, store, tab, given)?)?;
+    }
+    Ok(stored)
+}
+
+fn is_stored(stored: &[bool], place: usize) -> bool
+    ensures { result ≡ unwrap_or (slice_get stored.now place) false }
+{
+    match stored.get(place) {
+        Some(is_stored) => *is_stored,
+        None => false,
+    }
+}
