@@ -27,3 +27,5 @@ pub mod NearLemmas
 pub mod CreateLemmas
 pub mod Executing
 pub mod MatchedLemmas
+pub mod StandingCells
+pub mod StandingContent

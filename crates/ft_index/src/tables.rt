@@ -14,7 +14,9 @@ ghost use Rattle.ft_content.specs.declared.fault.Fault.TheVariants as faults;
 use crate::change::change_rows;
 use crate::names::place_of;
 use crate::told::insert_table;
-use ft_content::{Column, Fault, Reply, TableInfo, create_fault, free_id, made_columns, made_names};
+use ft_content::{
+    Column, Fault, Reply, TableInfo, create_fault, free_id, made_columns, made_names,
+};
 use ft_store::{RowChange, Store};
 use sqlite::Alter;
 use std::alloc::{AllocError, Global};
@@ -33,7 +35,14 @@ pub(crate) fn made_table(
         Makes contents table.now module_name.now (map option_of options.now) (map string_bytes columns.now) if_new result }
 {
     let names = made_names(alloc, columns)?;
-    if let Some(fault) = create_fault(tables, table, module_name, options, names.as_slice(), if_new) {
+    if let Some(fault) = create_fault(
+        tables,
+        table,
+        module_name,
+        options,
+        names.as_slice(),
+        if_new,
+    ) {
         return Err(fault);
     }
     if place_of(tables, table).is_some() {
@@ -59,7 +68,8 @@ pub(crate) fn adding(alloc: Global, table: &TableInfo) -> Result<RowChange, Allo
     Ok(RowChange::AddTable(table.id, name, names, skipped))
 }
 
-fn column_names(alloc: Global, columns: &[Column]) -> Result<Vec<String>, AllocError>
+/// The names of columns.
+pub(crate) fn column_names(alloc: Global, columns: &[Column]) -> Result<Vec<String>, AllocError>
     ensures { IfOk result (λ names. map string_bytes names.items ≡ names_of (map column_of columns.now)) }
 {
     let mut names = Vec::new(alloc);
@@ -69,8 +79,8 @@ fn column_names(alloc: Global, columns: &[Column]) -> Result<Vec<String>, AllocE
     Ok(names)
 }
 
-// The numbers of the columns that aren't indexed.
-fn skipped(alloc: Global, columns: &[Column]) -> Result<Vec<i64>, AllocError>
+/// The numbers of the columns that aren't indexed.
+pub(crate) fn skipped(alloc: Global, columns: &[Column]) -> Result<Vec<i64>, AllocError>
     ensures { IfOk result (λ numbers. numbers.items ≡ skipped_from 0 (map column_of columns.now)) }
 {
     let mut numbers = Vec::new(alloc);
