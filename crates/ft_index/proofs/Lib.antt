@@ -29,3 +29,5 @@ pub mod Executing
 pub mod MatchedLemmas
 pub mod StandingCells
 pub mod StandingContent
+pub mod FirstLemmas
+pub mod StandingIndex

@@ -8,6 +8,7 @@ mod full_text;
 mod matching;
 mod names;
 mod rewrite;
+mod standing_index;
 mod standing_rows;
 mod table_lists;
 mod tables;
