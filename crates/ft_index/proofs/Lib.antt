@@ -31,3 +31,4 @@ pub mod StandingCells
 pub mod StandingContent
 pub mod FirstLemmas
 pub mod StandingIndex
+pub mod StandingSizes

@@ -10,8 +10,8 @@ use Rattle.ft_store.specs.declared.rows.SizeRow as sizes
 use Rattle.ft_store.specs.declared.rows.TabRow.{TabRow}
 use Rattle.ft_store.specs.Changes.{shown_value}
 use Rattle.ft_content.specs.Content.{Cell, CellRow, Column, TableRows, Documents, Content, IsContent, content_rows, document_rows, is_cell, is_document}
-use Rattle.ft_content.specs.Index.{EntryRow, entry_rows, Key, StoredSpot}
-use Rattle.ft_index.specs.RewriteRows.{same_spot, sizes_of, lists_of}
+use Rattle.ft_content.specs.Index.{EntryRow, entry_rows, Key, StoredSpot, index_rows}
+use Rattle.ft_index.specs.RewriteRows.{same_spot, sized, sizes_of, lists_of}
 
 -- a cell as a table's rows have it
 abbrev pub shown_row : stored.CellRow → CellRow
@@ -110,3 +110,15 @@ are_of_documents columns (d ∷ ds) sizes entries = rests_pass (after_first same
 pub record HaveCells (width : ℕ) (rows : List CellRow) (documents : Documents) : Type 0 where
   pub each : IsTrue (list_all (is_document width) documents)
   pub are : rows ≡ flat_map document_rows documents
+
+-- the rows of a content
+pub record HaveContent (columns : List Column) (rows : List CellRow) (content : Content) : Type 0 where
+  pub name : List ℕ
+  pub is_content : IsContent name content
+  pub columns_are : content.columns ≡ columns
+  pub cells_are : rows ≡ (content_rows content).cells
+
+-- Sizes and entries by docid are those of a content: the sizes made from scratch, and the entries of one document after another.
+pub record AreTheirs (content : Content) (sizes : List ((ℤ × ℤ) × ℤ)) (entries : List EntryRow) : Type 0 where
+  pub sizes_are : sizes ≡ sized (index_rows content).sizes
+  pub entries_are : entries ≡ flat_map (own_entries content.columns) content.documents

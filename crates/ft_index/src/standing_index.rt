@@ -1,6 +1,8 @@
 //! Whether the index rows of a table are those made from scratch out of its documents.
-ghost use Rattle.std.specs.Prelude.{◌≡◌, ◌<◌, ◌∷◌, [], map, length, IfOk};
-ghost use Rattle.ft_content.specs.Content.{Documents};
+ghost use Rattle.std.specs.Prelude.{◌≡◌, ◌<◌, ◌↔◌, ◌∷◌, [], map, length, IsTrue, IfOk, OnOk};
+ghost use Rattle.std.specs.Ordering.{int_cmp};
+ghost use Rattle.std.specs.List.Sorted.{IsSortedByKey, IsStableByKey};
+ghost use Rattle.ft_content.specs.Content.{Content, Documents};
 ghost use Rattle.ft_content.specs.Views.{column_of};
 ghost use Rattle.ft_index.specs.RewriteRows as rows;
 ghost use Rattle.ft_index.specs.Standing as standing;
@@ -60,4 +62,31 @@ pub(crate) fn are_of_documents(
         cells = others;
     }
     Ok(sizes.is_empty() && entries.is_empty())
+}
+
+// Puts entries in order by their docids. Those of one docid stay in theirs.
+fn sort_by_docid(entries: &mut Vec<EntryRow>) -> Result<(), AllocError>
+    ensures sorted { OnOk result (IsSortedByKey (λ e. e.docid) int_cmp entries.new.items) }
+    ensures stable { IsStableByKey (λ e. e.docid) int_cmp entries.old.items entries.new.items }
+{
+    entries.sort_by_key(|entry| entry.docid)
+}
+
+/// Whether these sizes and entries are those of a content that has these cells. The entries are put in order by docid
+/// first, those of one docid as they were.
+pub(crate) fn are_theirs(
+    alloc: Global,
+    columns: &[Column],
+    cells: &[CellRow],
+    sizes: &[SizeRow],
+    entries: &mut Vec<EntryRow>,
+) -> Result<bool, AllocError>
+    requires { 0 < length columns.now }
+    ensures theirs { (content : Content) → standing.HaveContent (map column_of columns.now) (map standing.shown_row cells.now) content →
+        IfOk result (λ b. IsTrue b ↔ standing.AreTheirs content (map standing.shown_size sizes.now) (map standing.shown_entry entries.new.items)) }
+    ensures sorted { OnOk result (IsSortedByKey (λ e. e.docid) int_cmp entries.new.items) }
+    ensures stable { IsStableByKey (λ e. e.docid) int_cmp entries.old.items entries.new.items }
+{
+    sort_by_docid(entries)?;
+    are_of_documents(alloc, columns, cells, sizes, entries.as_slice())
 }
