@@ -32,3 +32,4 @@ pub mod StandingContent
 pub mod FirstLemmas
 pub mod StandingIndex
 pub mod StandingSizes
+pub mod StandingEntries

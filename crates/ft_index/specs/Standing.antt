@@ -1,7 +1,7 @@
 -- How the rows of a table stand that the store lists. All of it is our own choice.
-use Rattle.std.specs.Prelude.{◌≡◌, ℕ, ◌+◌, ◌==◌, Bool, true, false, cond, not, ◌&&◌, List, [], ◌∷◌, map, length, Option, Some, None, String, string_bytes, bytes_eq, ℤ, pos, IsTrue}
+use Rattle.std.specs.Prelude.{◌≡◌, ◌≢◌, ℕ, ◌+◌, ◌==◌, Bool, true, false, cond, not, ◌&&◌, List, [], ◌∷◌, map, length, Option, Some, None, String, string_bytes, bytes_eq, ℤ, pos, IsTrue}
 use Rattle.std.specs.declared.alloc.Global.{Global}
-use Rattle.std.specs.List.{list_all, list_any, flat_map}
+use Rattle.std.specs.List.{AllByRecursion, list_all, list_any, flat_map}
 use Rattle.std.specs.Ordering.{int_cmp, int_eq, is_lt}
 use Rattle.std.specs.FinMap.Entries.{is_sorted}
 use Rattle.ft_store.specs.declared.rows.CellRow as stored
@@ -10,7 +10,7 @@ use Rattle.ft_store.specs.declared.rows.SizeRow as sizes
 use Rattle.ft_store.specs.declared.rows.TabRow.{TabRow}
 use Rattle.ft_store.specs.Changes.{shown_value}
 use Rattle.ft_content.specs.Content.{Cell, CellRow, Column, TableRows, Documents, Content, IsContent, content_rows, document_rows, is_cell, is_document}
-use Rattle.ft_content.specs.Index.{EntryRow, entry_rows, Key, StoredSpot, index_rows}
+use Rattle.ft_content.specs.Index.{EntryRow, entry_rows, Key, StoredSpot, key_cmp, IndexRows, index_rows}
 use Rattle.ft_index.specs.RewriteRows.{same_spot, sized, sizes_of, lists_of}
 
 -- a cell as a table's rows have it
@@ -122,3 +122,10 @@ pub record HaveContent (columns : List Column) (rows : List CellRow) (content : 
 pub record AreTheirs (content : Content) (sizes : List ((ℤ × ℤ) × ℤ)) (entries : List EntryRow) : Type 0 where
   pub sizes_are : sizes ≡ sized (index_rows content).sizes
   pub entries_are : entries ≡ flat_map (own_entries content.columns) content.documents
+
+-- the sizes and entries of index rows of which no list is empty
+pub record AreOfRows (rows : IndexRows) (sizes : List ((ℤ × ℤ) × ℤ)) (entries : List EntryRow) : Type 0 where
+  pub sizes_are : sizes ≡ sized rows.sizes
+  pub entries_are : entries ≡ entry_rows rows.lists
+  pub rising : IsTrue (is_sorted key_cmp rows.lists)
+  pub whole : AllByRecursion (λ (l : Key × List StoredSpot). l.1 ≢ []) rows.lists

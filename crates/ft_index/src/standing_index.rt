@@ -3,6 +3,7 @@ ghost use Rattle.std.specs.Prelude.{◌≡◌, ◌<◌, ◌↔◌, ◌∷◌, []
 ghost use Rattle.std.specs.Ordering.{int_cmp};
 ghost use Rattle.std.specs.List.Sorted.{IsSortedByKey, IsStableByKey};
 ghost use Rattle.ft_content.specs.Content.{Content, Documents};
+ghost use Rattle.ft_content.specs.Index.{IndexRows, index_rows};
 ghost use Rattle.ft_content.specs.Views.{column_of};
 ghost use Rattle.ft_index.specs.RewriteRows as rows;
 ghost use Rattle.ft_index.specs.Standing as standing;
@@ -86,6 +87,10 @@ pub(crate) fn are_theirs(
         IfOk result (λ b. IsTrue b ↔ standing.AreTheirs content (map standing.shown_size sizes.now) (map standing.shown_entry entries.new.items)) }
     ensures sorted { OnOk result (IsSortedByKey (λ e. e.docid) int_cmp entries.new.items) }
     ensures stable { IsStableByKey (λ e. e.docid) int_cmp entries.old.items entries.new.items }
+
+    // Then they are of the index rows made from scratch.
+    ensures right { (content : Content) (rows : IndexRows) → standing.HaveContent (map column_of columns.now) (map standing.shown_row cells.now) content →
+        standing.AreOfRows rows (map standing.shown_size sizes.now) (map standing.shown_entry entries.old.items) → IfOk result (λ b. IsTrue b → rows ≡ index_rows content) }
 {
     sort_by_docid(entries)?;
     are_of_documents(alloc, columns, cells, sizes, entries.as_slice())
