@@ -1,13 +1,13 @@
 -- Rows are a content where their columns, the numbers of those that aren't indexed, and their cells are those of one.
-use Rattle.std.proofs.Common.{◌≡◌, ℕ, ◌+◌, ◌<◌, ◌≤◌, Bool, true, false, not, ◌&&◌, ◌||◌, List, [], ◌∷◌, map, length, ℤ, pos, refl, sym, ap, subst, ◌∙◌, ltb-true, lt-ltb, le-leb, nat_lt, nat_le}
+use Rattle.std.proofs.Common.{◌≡◌, ℕ, ◌+◌, ◌<◌, ◌≤◌, Bool, true, not, ◌&&◌, ◌||◌, List, [], ◌∷◌, map, length, ℤ, pos, refl, sym, ap, subst, ◌∙◌, ltb-true, lt-ltb, le-leb, nat_lt, nat_le}
 use Rattle.std.specs.Prelude.{IsTrue}
 use Rattle.std.specs.List.{list_any, list_all, enumerate_from}
-use Rattle.std.specs.Ordering.{int_eq, int_cmp, is_eq}
+use Rattle.std.specs.Ordering.{int_eq, is_eq}
 use Rattle.std.specs.Cmp.{int_cmp_total, tied_itself, eq_by_cmp_equiv}
 use Rattle.std.specs.Cmp.Lexicographic.{pointwise}
 use Rattle.std.specs.FinMap.{int_cmp-IsAntisymmetric}
 use Rattle.std.proofs.lemmas.Bool.{and_parts, and_from}
-use Rattle.ft_content.specs.Content.{Column, Content, TableRows, content_in, content_rows, are_columns, skipped_from, is_name, names_of, names_clash}
+use Rattle.ft_content.specs.Content.{Column, Content, TableRows, content_in, are_columns, skipped_from, is_name, names_of, names_clash}
 use Rattle.ft_content.proofs.RowLemmas.{rows_are_read}
 use Rattle.ft_index.specs.Standing.{AreContent, AreDocuments, numbered_from, columns_in}
 use Rattle.ft_index.proofs.KeyedRows.{tie}

@@ -1,5 +1,5 @@
 -- Lists are those made from scratch where their entries by docid are those of one document after another.
-use Rattle.std.proofs.Common.{◌≡◌, ◌≢◌, Bool, true, false, cond, not, T, ◌&&◌, List, [], ◌∷◌, ◌++◌, map, Option, Some, None, ℤ, refl, sym, ap, subst, ◌∙◌, append-nil}
+use Rattle.std.proofs.Common.{◌≡◌, ◌≢◌, Bool, true, false, cond, not, ◌&&◌, List, [], ◌∷◌, ◌++◌, map, Option, Some, None, ℤ, refl, sym, ap, ◌∙◌, append-nil}
 use Rattle.std.specs.Prelude.{filter, unwrap_or, option_map}
 use Rattle.std.specs.List.{AllByRecursion, flat_map}
 use Rattle.std.specs.declared.cmp.Ordering.{Ordering}
@@ -15,7 +15,7 @@ use Rattle.std.proofs.lemmas.List.Elements.{filter-append}
 use Rattle.ft_store.specs.declared.rows.EntryRow as stored
 use Rattle.ft_content.specs.Content.{Column, Documents, Content}
 use Rattle.ft_content.specs.Index.{EntryRow, entry_rows, Entry, Spot, Key, key_cmp, key_of, StoredSpot, stored_spot, spot_lists, document_entries, entries, index_rows, IndexRows}
-use Rattle.ft_content.specs.Laws.{content_with, spots_in, some_if_any}
+use Rattle.ft_content.specs.Laws.{spots_in, some_if_any}
 use Rattle.ft_content.proofs.IndexLemmas.{key_cmp_total, key_cmp_exact, lists_are_entries, filter-within}
 use Rattle.ft_content.proofs.PlanLemmas.{sorted_lists}
 use Rattle.ft_index.specs.RewriteRows.{lists_of}

@@ -1,12 +1,12 @@
 -- One document after another.
-use Rattle.std.proofs.Common.{◌≡◌, ℕ, ◌+◌, ◌<◌, ◌≤◌, ◌==◌, Bool, true, false, cond, ◌&&◌, List, [], ◌∷◌, ◌++◌, map, length, take, drop, Option, Some, None, ℤ, pos, refl, sym, ap, subst, ◌∙◌, arith, eqb-true, length-append}
-use Rattle.std.specs.Prelude.{IsTrue, slice_get}
+use Rattle.std.proofs.Common.{◌≡◌, ℕ, ◌+◌, ◌<◌, ◌≤◌, ◌==◌, Bool, true, false, ◌&&◌, List, [], ◌∷◌, ◌++◌, map, length, take, drop, Option, Some, None, ℤ, pos, refl, sym, ap, subst, ◌∙◌, arith, eqb-true, length-append}
+use Rattle.std.specs.Prelude.{slice_get}
 use Rattle.std.specs.List.{list_all, flat_map, enumerate_from, take-map, drop-map}
 use Rattle.std.proofs.Math.Seq.{take-append_seam, drop-append_seam}
 use Rattle.std.proofs.lemmas.List.{length-map}
 use Rattle.std.proofs.lemmas.List.FromFn.{length-enumerate_from}
 use Rattle.std.proofs.lemmas.Simd.{map-map}
-use Rattle.std.proofs.lemmas.Bool.{and_parts, and_from}
+use Rattle.std.proofs.lemmas.Bool.{and_parts}
 use Rattle.ft_store.specs.declared.rows.CellRow as stored
 use Rattle.ft_store.specs.Store.{Cell}
 use Rattle.ft_content.specs.Content.{Column, CellRow, Documents, document_rows, is_cell, is_document}

@@ -1,8 +1,7 @@
 -- Sizes and entries that follow one another, document by document.
-use Rattle.std.proofs.Common.{◌≡◌, ℕ, suc, ◌+◌, ◌<◌, ◌==◌, Bool, true, false, cond, T, ◌&&◌, List, [], ◌∷◌, ◌++◌, map, length, Option, Some, None, ℤ, pos, refl, sym, ap, subst, ◌∙◌, arith, eqb-true, append-nil, nat_lt}
+use Rattle.std.proofs.Common.{◌≡◌, ℕ, suc, ◌+◌, ◌<◌, ◌==◌, Bool, true, false, cond, ◌&&◌, List, [], ◌∷◌, ◌++◌, map, length, Option, Some, None, ℤ, pos, refl, sym, ap, ◌∙◌, arith, eqb-true, append-nil, nat_lt}
 use Rattle.std.specs.Prelude.{filter, bytes_eq, IsTrue}
 use Rattle.std.specs.List.{flat_map, enumerate_from}
-use Rattle.std.specs.declared.cmp.Ordering.TheVariants.{Less, Equal, Greater}
 use Rattle.std.specs.Ordering.{int_cmp, int_eq, is_eq, is_lt, ordering_then}
 use Rattle.std.specs.Cmp.{int_cmp_total, tied_itself}
 use Rattle.std.specs.FinMap.{int_cmp-IsAntisymmetric}
@@ -15,9 +14,9 @@ use Rattle.ft_store.specs.Store.{Cell, column_key_cmp}
 use Rattle.ft_content.specs.Content.{Column, Documents, Content}
 use Rattle.ft_content.specs.Index.{EntryRow, StoredSpot, Size, SizeRow, size_row, document_tokens, document_sizes, sizes, index_rows}
 use Rattle.ft_content.specs.Laws.{content_with}
-use Rattle.ft_index.specs.RewriteRows.{same_spot, all_put, sized, sizes_of}
+use Rattle.ft_index.specs.RewriteRows.{same_spot, all_put, sized}
 use Rattle.ft_index.specs.Standing.{same_size, same_entry, after_first, own_sizes, own_entries, rests_pass, are_of_documents, AreTheirs}
-use Rattle.ft_index.proofs.KeyedRows.{true_of, of_true, tie, sorted_put, find_all_put, or_else}
+use Rattle.ft_index.proofs.KeyedRows.{of_true, tie, sorted_put, find_all_put, or_else}
 use Rattle.ft_index.proofs.ChangeLemmas.{column_total, column_exact}
 use Rattle.ft_index.proofs.CellSteps.{pos_less}
 use Rattle.ft_index.proofs.DocumentSteps.{size_at, sizes_from}

@@ -1,5 +1,5 @@
 -- one spot more
-use Rattle.std.proofs.Common.{◌≡◌, ◌+◌, ◌≤◌, ◌∷◌, true, map, drop, length, get_or, pos, string_bytes, sym, ap, ◌∙◌, arith}
+use Rattle.std.proofs.Common.{◌≡◌, ◌+◌, true, map, drop, get_or, pos, string_bytes, sym, ◌∙◌, arith}
 use Rattle.std.proofs.lemmas.List.{at_drop_more}
 use Rattle.ft_content.specs.Index.{EntryRow, StoredSpot}
 use Rattle.ft_index.specs.Standing.{shown_entry, same_entry, is_first, after_first, list_rows}

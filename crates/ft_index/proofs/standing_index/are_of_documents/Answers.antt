@@ -1,12 +1,12 @@
 -- one document more
-use Rattle.std.proofs.Common.{◌≡◌, ◌<◌, ◌≤◌, ◌==◌, ◌&&◌, false, List, [], ◌∷◌, Some, None, map, length, drop, sym, ap, ◌∙◌, arith, rules, to_z, of_z, w64}
+use Rattle.std.proofs.Common.{◌≡◌, ◌==◌, ◌&&◌, [], ◌∷◌, Some, None, map, length, sym, ap, ◌∙◌, arith, rules, to_z, of_z, w64}
 use Rattle.std.specs.Prelude.{slice_get}
 use Rattle.std.proofs.lemmas.List.{length-map}
 use Rattle.ft_content.specs.Views.{column_of}
 use Rattle.ft_content.specs.Index.{entry_rows}
 use Rattle.ft_index.specs.RewriteRows.{lists_in, sizes_in, lists_of, sizes_of}
-use Rattle.ft_index.specs.Standing.{HaveCells, shown_row, shown_size, shown_entry, cell_in, same_size, same_entry, after_first, own_sizes, own_entries, rests_pass, are_of_documents}
-use Rattle.ft_index.proofs.StandingIndex.{Left, Head, head, none_left, no_rest}
+use Rattle.ft_index.specs.Standing.{shown_row, shown_size, shown_entry, cell_in, same_size, same_entry, after_first, own_sizes, own_entries, rests_pass, are_of_documents}
+use Rattle.ft_index.proofs.StandingIndex.{head, none_left, no_rest}
 use Rattle.ft_index.proofs.standing_index.are_of_documents.Goals as goal
 
 pub returns-then-cells-columns : goal.returns-then-cells-columns

@@ -1,5 +1,5 @@
 -- what is left is of the documents that are left as all is of all
-use Rattle.std.proofs.Common.{◌≡◌, map, length}
+use Rattle.std.proofs.Common.{map, length}
 use Rattle.ft_content.specs.Content.{Documents}
 use Rattle.ft_content.specs.Views.{column_of}
 use Rattle.ft_index.specs.Standing.{HaveCells, shown_row, shown_size, shown_entry, are_of_documents}

@@ -1,11 +1,11 @@
-use Rattle.std.proofs.Common.{◌≡◌, ℕ, Bool, map, length, sym, ap, subst, ◌∙◌}
-use Rattle.std.specs.Prelude.{IsTrue, IfOk}
+use Rattle.std.proofs.Common.{◌≡◌, map, length, ap, subst, ◌∙◌}
+use Rattle.std.specs.Prelude.{IsTrue}
 use Rattle.std.proofs.lemmas.List.{length-map}
 use Rattle.std.proofs.lemmas.Result.{IfOk-weaker}
 use Rattle.std.specs.List.{list_all}
-use Rattle.ft_content.specs.Content.{Content, is_document}
+use Rattle.ft_content.specs.Content.{is_document}
 use Rattle.ft_content.specs.Views.{column_of}
-use Rattle.ft_index.specs.Standing.{HaveCells, AreTheirs, shown_row, shown_size, shown_entry, are_of_documents}
+use Rattle.ft_index.specs.Standing.{HaveCells, shown_row, shown_size, shown_entry, are_of_documents}
 use Rattle.ft_index.proofs.StandingSizes.{they_are}
 use Rattle.ft_index.proofs.StandingEntries.{rows_right}
 use Rattle.ft_index.proofs.standing_index.are_theirs.Goals as goal

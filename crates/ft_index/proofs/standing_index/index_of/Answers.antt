@@ -1,7 +1,6 @@
-use Rattle.std.proofs.Common.{◌≡◌, ℤ, List, [], ◌∷◌, map, ap, ◌∙◌, to_z-of_z}
-use Rattle.ft_store.specs.Store.{Cell}
+use Rattle.std.proofs.Common.{[], ◌∷◌, map, ◌∙◌, to_z-of_z}
 use Rattle.ft_content.specs.Views.{column_of}
-use Rattle.ft_index.specs.RewriteRows.{lists_in, sizes_in, lists_with, sizes_with}
+use Rattle.ft_index.specs.RewriteRows.{lists_with, sizes_with}
 use Rattle.ft_index.specs.Standing.{cell_in}
 use Rattle.ft_index.proofs.IndexOf.{lists_made, sizes_made}
 use Rattle.ft_index.proofs.standing_index.index_of.Goals as goal

@@ -1,4 +1,4 @@
-use Rattle.std.proofs.Common.{◌≡◌, ◌<◌, ◌≤◌, ◌+◌, ◌==◌, ◌∷◌, cond, map, drop, true, false, Some, None, refl, sym, ap, subst, ◌∙◌, arith, rules, eq-eqb, FitsSigned, w64, to_z-of_z}
+use Rattle.std.proofs.Common.{◌≡◌, ◌<◌, ◌+◌, ◌==◌, cond, map, drop, false, Some, None, sym, ap, subst, ◌∙◌, arith, rules, eq-eqb, FitsSigned, w64, to_z-of_z}
 use Rattle.std.proofs.lemmas.List.{drop_all}
 use Rattle.ft_index.specs.Standing.{shown_row}
 use Rattle.ft_index.proofs.Steps.{taken_more}

@@ -1,9 +1,8 @@
-use Rattle.std.proofs.Common.{◌≡◌, ℕ, Bool, false, true, map, length, string_bytes, sym, ap, subst, ◌∙◌}
-use Rattle.std.specs.Prelude.{IsTrue}
+use Rattle.std.proofs.Common.{◌≡◌, ℕ, false, true, map, string_bytes, sym, ap, subst, ◌∙◌}
 use Rattle.std.proofs.lemmas.List.{length-map}
 use Rattle.ft_content.specs.Content.{are_columns}
 use Rattle.ft_content.specs.Views.{column_of}
-use Rattle.ft_index.specs.Standing.{AreContent, AreDocuments, listed_rows, shown_row, shown_column, numbered_from}
+use Rattle.ft_index.specs.Standing.{AreDocuments, listed_rows, shown_row, shown_column, numbered_from}
 use Rattle.ft_index.proofs.StandingContent.{content_of, parts_of}
 use Rattle.ft_index.proofs.standing_rows.is_content.Goals as goal
 

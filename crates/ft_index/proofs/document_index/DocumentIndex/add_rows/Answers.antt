@@ -1,4 +1,4 @@
-use Rattle.std.proofs.Common.{◌≡◌, ◌<◌, ◌≤◌, ◌+◌, ◌∷◌, [], cond, map, drop, length, sym, ap, ◌∙◌, to_z-of_z, arith}
+use Rattle.std.proofs.Common.{◌≡◌, ◌<◌, ◌+◌, ◌∷◌, [], cond, map, drop, length, sym, ap, ◌∙◌, to_z-of_z, arith}
 use Rattle.std.proofs.lemmas.List.{length-map}
 use Rattle.ft_query.specs.Tokens.{tokens_of}
 use Rattle.ft_store.specs.Changes.{shown_value}

@@ -1,5 +1,5 @@
 -- one list more
-use Rattle.std.proofs.Common.{◌≡◌, ◌+◌, ◌≤◌, ◌++◌, ◌∷◌, List, Some, None, map, drop, length, string_bytes, sym, ap, ◌∙◌, arith}
+use Rattle.std.proofs.Common.{map, drop, string_bytes, sym, ap, ◌∙◌}
 use Rattle.ft_content.specs.Index.{Key, entry_rows}
 use Rattle.ft_index.specs.RewriteRows.{shown_list}
 use Rattle.ft_index.specs.Standing.{shown_entry, same_entry, after_first, list_rows}

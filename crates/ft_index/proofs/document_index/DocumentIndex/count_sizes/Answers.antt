@@ -1,5 +1,5 @@
 -- one size more
-use Rattle.std.proofs.Common.{◌≡◌, ◌+◌, ◌≤◌, ◌∷◌, true, map, drop, length, ℤ, sym, ap, ◌∙◌, arith, rules, to_z, of_z, w64}
+use Rattle.std.proofs.Common.{◌≡◌, true, map, drop, ℤ, sym, ap, ◌∙◌, arith, rules, to_z, of_z, w64}
 use Rattle.ft_index.specs.Standing.{shown_size, same_size, is_first, after_first}
 use Rattle.ft_index.proofs.FirstLemmas.{first_within, one_more}
 use Rattle.ft_index.proofs.document_index.DocumentIndex.count_sizes.Goals as goal
