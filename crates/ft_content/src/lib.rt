@@ -31,11 +31,11 @@ pub use laws::{
     rows_hold_one_content,
 };
 pub use limit::cut;
-pub use names::repeats_name;
+pub use names::{are_names, names_clash, repeats_name};
 pub use plain::PlainTables;
 pub use query::read_query;
 pub use select::{answer_names, asks_offsets, count_rows, delete_tests, item_row, select_tests};
 pub use table::{Column, TableInfo};
 pub use update::{repeats_set, set_docid, update_tests, with_values};
-pub use value::copied_value;
+pub use value::{copied_value, has_nul, is_too_long};
 pub use word::SearchWord;

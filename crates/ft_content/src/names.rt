@@ -25,7 +25,7 @@ pub(crate) fn is_name(name: &str) -> bool
 }
 
 /// Whether each of these names may be given.
-pub(crate) fn are_names(names: &[String]) -> bool
+pub fn are_names(names: &[String]) -> bool
     ensures { result ≡ list_all (λ n. content.is_name (string_bytes n)) names.now }
 {
     names.iter().all(|name| is_name(name.as_str()))
@@ -60,7 +60,7 @@ pub fn repeats_name(names: &[String]) -> bool
 
 /// Whether the columns of a table clash with one another, with docid or with the table.
 #[tactic(auto, using(crate::proofs::Lists::any_of_map))]
-pub(crate) fn names_clash(table: &str, columns: &[String]) -> bool
+pub fn names_clash(table: &str, columns: &[String]) -> bool
     ensures { result ≡ content.names_clash table.now (map string_bytes columns.now) }
 {
     repeats_name(columns) || has_docid(columns) || has_name(columns, table)

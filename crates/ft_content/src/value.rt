@@ -32,7 +32,7 @@ pub(crate) fn is_null(value: &Value) -> bool
 }
 
 /// Whether a value is a text over 1,000,000 bytes.
-pub(crate) fn is_too_long(value: &Value) -> bool
+pub fn is_too_long(value: &Value) -> bool
     ensures { result ≡ content.is_too_long (shown_value value.now) }
 {
     match value {
@@ -42,7 +42,7 @@ pub(crate) fn is_too_long(value: &Value) -> bool
 }
 
 /// Whether U+0000 stands in a value.
-pub(crate) fn has_nul(value: &Value) -> bool
+pub fn has_nul(value: &Value) -> bool
     ensures { result ≡ content.has_nul (shown_value value.now) }
 {
     match value {

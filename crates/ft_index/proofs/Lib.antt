@@ -43,3 +43,9 @@ pub mod ReadRows
 pub mod GatheredRows
 pub mod InsertRows
 pub mod NewRows
+pub mod StandingCells
+pub mod StandingContent
+pub mod FirstLemmas
+pub mod StandingIndex
+pub mod StandingSizes
+pub mod StandingEntries

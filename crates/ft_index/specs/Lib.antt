@@ -14,3 +14,4 @@ pub mod Planned
 pub mod Placed
 pub mod Changed
 pub mod Matched
+pub mod Standing

@@ -1,12 +1,13 @@
 //! The index of some documents, made from scratch, and the row changes from one to another.
-ghost use Rattle.std.specs.Prelude.{◌≡◌, ◌<◌, ◌^◌, pos, length};
+ghost use Rattle.std.specs.Prelude.{◌≡◌, ◌<◌, ◌≤◌, ◌^◌, pos, length, map, drop, option_map, string_bytes, IfSome};
 ghost use Rattle.ft_store.specs.Changes.{shown_value};
 ghost use Rattle.ft_content.specs.Content as content;
 ghost use Rattle.ft_index.specs.RewriteRows.{IsShortNumber};
+ghost use Rattle.ft_index.specs.Standing as standing;
 
 use ft_content::{Column, Value};
 use ft_query::{Token, tokens};
-use ft_store::{RowChange, Spot};
+use ft_store::{CellRow, EntryRow, RowChange, SizeRow, Spot};
 use itoa::Buffer;
 use std::alloc::{AllocError, Global};
 use std::collections::BTreeMap;
@@ -54,6 +55,25 @@ impl DocumentIndex {
     {
         for place in 0..columns.len().min(cells.len()) {
             let value = &cells[place];
+            if columns[place].indexed {
+                self.add_cell(docid, place, value)?;
+            }
+        }
+        Ok(())
+    }
+
+    /// Adds the tokens of a document, whose cells are in rows.
+    pub(crate) fn add_rows(
+        &mut self,
+        columns: &[Column],
+        docid: i64,
+        cells: &[CellRow],
+    ) -> Result<(), AllocError>
+        ensures lists { OnOk result (rows.lists_in self.new ≡ rows.lists_with (map column_of columns.now) ((docid, map standing.cell_in cells.now) ∷ []) (rows.lists_in self.old)) }
+        ensures sizes { OnOk result (rows.sizes_in self.new ≡ rows.sizes_with (map column_of columns.now) ((docid, map standing.cell_in cells.now) ∷ []) (rows.sizes_in self.old)) }
+    {
+        for place in 0..columns.len().min(cells.len()) {
+            let value = &cells[place].value;
             if columns[place].indexed {
                 self.add_cell(docid, place, value)?;
             }
@@ -257,4 +277,83 @@ impl DocumentIndex {
             None => false,
         }
     }
+}
+
+impl DocumentIndex {
+    ghost use Rattle.ft_content.specs.Index as index;
+    ghost use Rattle.ft_index.specs.RewriteRows as rows;
+
+    /// How many sizes it has, where they are the first of these.
+    pub(crate) fn count_sizes(&self, sizes: &[SizeRow]) -> Option<usize>
+        ensures rest { option_map (λ n. map standing.shown_size (drop n sizes.now)) result ≡ standing.after_first standing.same_size (rows.sizes_in self.now) (map standing.shown_size sizes.now) }
+        ensures within { IfSome result (λ n. n ≤ length sizes.now) }
+    {
+        let mut place = 0;
+        for (key, n) in self.sizes.iter() {
+            let n = *n;
+            if !is_size(sizes, place, key, n) {
+                return None;
+            }
+            place += 1;
+        }
+        Some(place)
+    }
+
+    /// How many entries it has, where they are the first of these.
+    pub(crate) fn count_entries(&self, entries: &[EntryRow]) -> Option<usize>
+        ensures rest { option_map (λ n. map standing.shown_entry (drop n entries.now)) result ≡ standing.after_first standing.same_entry (index.entry_rows (rows.lists_in self.now)) (map standing.shown_entry entries.now) }
+        ensures within { IfSome result (λ n. n ≤ length entries.now) }
+    {
+        let mut place = 0;
+        for (key, spots) in self.lists.iter() {
+            match end_of_list(entries, place, key, spots.as_slice()) {
+                Some(end) => place = end,
+                None => return None,
+            }
+        }
+        Some(place)
+    }
+}
+
+// Whether this size stands at a place.
+fn is_size(sizes: &[SizeRow], place: usize, key: &(i64, i64), n: i64) -> bool
+    ensures { result ≡ standing.is_first standing.same_size (key.now, n) (map standing.shown_size (drop place sizes.now)) }
+{
+    match sizes.get(place) {
+        Some(size) => key.0 == size.docid && key.1 == size.column && n == size.n,
+        None => false,
+    }
+}
+
+// Whether this spot of a key stands at a place.
+fn is_entry(entries: &[EntryRow], place: usize, key: &(String, i64), spot: &Spot) -> bool
+    ensures { result ≡ standing.is_first standing.same_entry (record { term = string_bytes key.now.0; docid = key.now.1; spot = spot.now }) (map standing.shown_entry (drop place entries.now)) }
+{
+    match entries.get(place) {
+        Some(entry) => {
+            key.0.as_str() == entry.term.as_str() && key.1 == entry.docid && *spot == entry.spot
+        }
+        None => false,
+    }
+}
+
+// Where a list ends among entries, where it begins at a place.
+fn end_of_list(
+    entries: &[EntryRow],
+    start: usize,
+    key: &(String, i64),
+    spots: &[Spot],
+) -> Option<usize>
+    requires { start ≤ length entries.now }
+    ensures rest { option_map (λ n. map standing.shown_entry (drop n entries.now)) result ≡ standing.after_first standing.same_entry (standing.list_rows ((string_bytes key.now.0, key.now.1), spots.now)) (map standing.shown_entry (drop start entries.now)) }
+    ensures within { IfSome result (λ n. n ≤ length entries.now) }
+{
+    let mut place = start;
+    for spot in spots {
+        if !is_entry(entries, place, key, spot) {
+            return None;
+        }
+        place += 1;
+    }
+    Some(place)
 }

@@ -14,6 +14,8 @@ mod new_documents;
 mod optimize;
 mod rebuild;
 mod rewrite;
+mod standing_index;
+mod standing_rows;
 mod table_lists;
 mod tables;
 mod told;

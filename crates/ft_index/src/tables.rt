@@ -68,7 +68,8 @@ pub(crate) fn adding(alloc: Global, table: &TableInfo) -> Result<RowChange, Allo
     Ok(RowChange::AddTable(table.id, name, names, skipped))
 }
 
-fn column_names(alloc: Global, columns: &[Column]) -> Result<Vec<String>, AllocError>
+/// The names of columns.
+pub(crate) fn column_names(alloc: Global, columns: &[Column]) -> Result<Vec<String>, AllocError>
     ensures { IfOk result (λ names. map string_bytes names.items ≡ names_of (map column_of columns.now)) }
 {
     let mut names = Vec::new(alloc);
@@ -78,8 +79,8 @@ fn column_names(alloc: Global, columns: &[Column]) -> Result<Vec<String>, AllocE
     Ok(names)
 }
 
-// The numbers of the columns that aren't indexed.
-fn skipped(alloc: Global, columns: &[Column]) -> Result<Vec<i64>, AllocError>
+/// The numbers of the columns that aren't indexed.
+pub(crate) fn skipped(alloc: Global, columns: &[Column]) -> Result<Vec<i64>, AllocError>
     ensures { IfOk result (λ numbers. numbers.items ≡ skipped_from 0 (map column_of columns.now)) }
 {
     let mut numbers = Vec::new(alloc);
