@@ -49,3 +49,4 @@ pub mod FirstLemmas
 pub mod StandingIndex
 pub mod StandingSizes
 pub mod StandingEntries
+pub mod Lifting

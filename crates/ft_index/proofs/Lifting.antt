@@ -1,0 +1,81 @@
+-- From the rows of one table to the contents of all.
+use Rattle.std.proofs.Common.{◌≡◌, ℕ, false, List, [], ◌∷◌, Some, ℤ, refl, sym, ap, subst, ◌∙◌}
+use Rattle.std.specs.Prelude.{unwrap_or}
+use Rattle.std.specs.List.{AllByRecursion}
+use Rattle.std.specs.Ordering.{int_eq}
+use Rattle.std.specs.Cmp.{int_cmp_total, eq_by_cmp_equiv}
+use Rattle.ft_store.specs.Store.{StoreValue, AreInOrder, Change, AddTable, DropTable, PutCell, DropCells, PutEntries, DropEntries, PutSize, DropSize, ClearIndex, Note, applied, all_applied}
+use Rattle.ft_content.specs.Content.{Content, Documents, IsContent, content_rows}
+use Rattle.ft_content.specs.Index.{index_rows}
+use Rattle.ft_content.specs.Views.{KnownTable}
+use Rattle.ft_content.specs.Deserved.{Contents}
+use Rattle.ft_content.specs.Step.{with_documents, on_table}
+use Rattle.ft_index.specs.Tables.{table_rows, table_index}
+use Rattle.ft_index.specs.RowLaws.{table_of}
+use Rattle.ft_index.specs.Kept.{AreHeld, StoreHolds, IsOfDocids, Stands}
+use Rattle.ft_index.proofs.ChangeLemmas.{spares_others}
+use Rattle.ft_index.proofs.OneTable.{SparesAllBut, one_named, ids_sorted, changes_one, AreHeldIn}
+use Rattle.ft_index.proofs.KnownLemmas.{IsSoundTable}
+
+-- what changes of documents of one table leave alone
+pub record LeavesRest (id : ℤ) (old new : StoreValue) : Type 0 where
+  pub others : SparesAllBut id old new
+  pub tables : new.tables ≡ old.tables
+  pub noted : new.noted ≡ old.noted
+
+of_table : (id : ℤ) (docids : List ℤ) (change : Change) → IsOfDocids id docids change → table_of change ≡ Some id
+of_table id docids (AddTable tab name columns skipped) h = absurd h
+of_table id docids (DropTable tab) h = absurd h
+of_table id docids (PutCell tab docid column value) h = ap Some h.0
+of_table id docids (DropCells tab docid) h = ap Some h.0
+of_table id docids (PutEntries tab term docid spots) h = ap Some h.0
+of_table id docids (DropEntries tab term docid) h = ap Some h.0
+of_table id docids (PutSize tab docid column n) h = ap Some h.0
+of_table id docids (DropSize tab docid column) h = ap Some h.0
+of_table id docids (ClearIndex tab) h = absurd h
+of_table id docids (Note name) h = absurd h
+
+one_spares : (id : ℤ) (change : Change) (store : StoreValue) → table_of change ≡ Some id → SparesAllBut id store (applied change store)
+one_spares id change store is = record { rows = λ other apart. (others other apart).0; index = λ other apart. (others other apart).1 }
+  where
+    others : (other : ℤ) → int_eq id other ≡ false → (table_rows other (applied change store) ≡ table_rows other store) × (table_index other (applied change store) ≡ table_index other store)
+    others other apart = spares_others change other store (λ tab here. ap (λ o. int_eq other (unwrap_or o tab)) (sym here ∙ is) ∙ (eq_by_cmp_equiv int_cmp_total).symm other id ∙ apart)
+
+one_leaves : (id : ℤ) (docids : List ℤ) (change : Change) (store : StoreValue) → IsOfDocids id docids change → ((applied change store).tables ≡ store.tables) × ((applied change store).noted ≡ store.noted)
+one_leaves id docids (AddTable tab name columns skipped) store h = absurd h
+one_leaves id docids (DropTable tab) store h = absurd h
+one_leaves id docids (PutCell tab docid column value) store h = (refl, refl)
+one_leaves id docids (DropCells tab docid) store h = (refl, refl)
+one_leaves id docids (PutEntries tab term docid spots) store h = (refl, refl)
+one_leaves id docids (DropEntries tab term docid) store h = (refl, refl)
+one_leaves id docids (PutSize tab docid column n) store h = (refl, refl)
+one_leaves id docids (DropSize tab docid column) store h = (refl, refl)
+one_leaves id docids (ClearIndex tab) store h = absurd h
+one_leaves id docids (Note name) store h = absurd h
+
+pub leaves_rest : (id : ℤ) (docids : List ℤ) (changes : List Change) (store : StoreValue) → AllByRecursion (IsOfDocids id docids) changes → LeavesRest id store (all_applied changes store)
+leaves_rest id docids [] store near = record { others = record { rows = λ other apart. refl; index = λ other apart. refl }; tables = refl; noted = refl }
+leaves_rest id docids (change ∷ changes) store near =
+    let one = one_spares id change store (of_table id docids change near.0) in
+    let kept = one_leaves id docids change store near.0 in
+    let rest = leaves_rest id docids changes (applied change store) near.1 in
+    record {
+      others = record {
+        rows = λ other apart. rest.others.rows other apart ∙ one.rows other apart;
+        index = λ other apart. rest.others.index other apart ∙ one.index other apart;
+      };
+      tables = rest.tables ∙ kept.0;
+      noted = rest.noted ∙ kept.1;
+    }
+
+-- So where the rows of a sound table become those of other documents, the store holds the contents with these documents.
+pub lifts : (store new : StoreValue) (tables : List KnownTable) (contents : Contents) (name : List ℕ) (known : KnownTable) (t : IsSoundTable contents name known) (change : Content → Documents) →
+    AreInOrder store → AreHeld store tables contents → LeavesRest t.table.0 store new →
+    IsContent t.table.1.name (record t.content { documents = change t.content }) →
+    table_rows t.table.0 new ≡ content_rows (record t.content { documents = change t.content }) → table_index t.table.0 new ≡ index_rows (record t.content { documents = change t.content }) →
+    StoreHolds new (on_table contents name (with_documents change))
+lifts store new tables contents name known t change order held leaves is rows index =
+    let one = one_named name t.table contents (ids_sorted store store.tables contents held.held order.tables) held.named_once t.found in
+    subst (λ ts. AreHeldIn new ts (on_table contents name (with_documents change))) (sym leaves.tables)
+    (changes_one name t.table store new (with_documents change) store.tables contents leaves.others
+    (subst (λ h. Stands t.table.1.name (table_rows t.table.0 new) (table_index t.table.0 new) (with_documents change h)) (sym t.held) (is, rows, index)) one held.held)
