@@ -50,3 +50,4 @@ pub mod StandingIndex
 pub mod StandingSizes
 pub mod StandingEntries
 pub mod Lifting
+pub mod InsertDue
