@@ -51,3 +51,4 @@ pub mod StandingSizes
 pub mod StandingEntries
 pub mod Lifting
 pub mod InsertDue
+pub mod InsertHolds

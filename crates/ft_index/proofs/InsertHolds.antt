@@ -1,0 +1,51 @@
+-- What the store holds after the row changes of an Insert.
+use Rattle.std.proofs.Common.{◌≡◌, ℕ, Bool, true, false, cond, List, [], ◌∷◌, Option, Some, None, ℤ, refl, sym, ap, subst, ◌∙◌}
+use Rattle.std.specs.Prelude.{unwrap_or, IsTrue}
+use Rattle.std.specs.List.{AllZip, AllByRecursion}
+use Rattle.ft_store.specs.Store.{Cell, StoreValue, AreInOrder, Change, all_applied}
+use Rattle.ft_content.specs.Content.{Content, TableRows, IsContent, content_rows, same_name}
+use Rattle.ft_content.specs.Index.{IndexRows, index_rows}
+use Rattle.ft_content.specs.Views.{KnownTable}
+use Rattle.ft_content.specs.Deserved.{Held, Sound, Table, Contents, table_named, listed_columns, insert_fault}
+use Rattle.ft_content.specs.Step.{inserted, with_documents, on_table}
+use Rattle.ft_content.proofs.ContentLemmas.{insert_keeps_content}
+use Rattle.ft_index.specs.Tables.{table_rows, table_index}
+use Rattle.ft_index.specs.Kept.{AreHeld, StoreHolds, HoldsTable, Stands, IsOfDocids}
+use Rattle.ft_index.specs.Rewrite.{Rewrite, AreOf, HasContent, AreRight, rewritten, rewritten_content}
+use Rattle.ft_index.proofs.OneTable.{AreHeldIn}
+use Rattle.ft_index.proofs.KnownLemmas.{IsSoundTable}
+use Rattle.ft_index.proofs.Lifting.{LeavesRest, leaves_rest, lifts}
+
+-- a table that is found among the contents stands so in the store
+found_stands : (store : StoreValue) (name : List ℕ) (t : ℤ × Table) (tables : List (ℤ × List ℕ)) (contents : Contents) → AreHeldIn store tables contents → table_named contents name ≡ Some t →
+    Stands t.1.name (table_rows t.0 store) (table_index t.0 store) t.1.held
+found_stands store name t [] [] held found = absurd (let no = found in cc)
+found_stands store name t [] (c ∷ cs) held found = absurd held
+found_stands store name t (n ∷ ns) [] held found = absurd held
+found_stands store name t (n ∷ ns) (c ∷ cs) held found = go (same_name c.1.name name) found (found_stands store name t ns cs held.1)
+  where
+    here : HoldsTable n (table_rows n.0 store) (table_index n.0 store) c → Stands c.1.name (table_rows c.0 store) (table_index c.0 store) c.1.held
+    here h = subst (λ m. Stands m (table_rows c.0 store) (table_index c.0 store) c.1.held) (sym h.name) (subst (λ k. Stands n.1 (table_rows k store) (table_index k store) c.1.held) (sym h.id) h.stands)
+
+    go : (b : Bool) → cond b (Some c) (table_named cs name) ≡ Some t → (table_named cs name ≡ Some t → Stands t.1.name (table_rows t.0 store) (table_index t.0 store) t.1.held) → Stands t.1.name (table_rows t.0 store) (table_index t.0 store) t.1.held
+    go true is rest = subst (λ (x : ℤ × Table). Stands x.1.name (table_rows x.0 store) (table_index x.0 store) x.1.held) (ap (λ o. unwrap_or o c) is) (here held.0)
+    go false is rest = rest is
+
+-- a sound table's rows are its content's, with exactly the index rows made from scratch
+pub sound_rows : (store : StoreValue) (tables : List KnownTable) (contents : Contents) (name : List ℕ) (known : KnownTable) (t : IsSoundTable contents name known) → AreInOrder store → AreHeld store tables contents → HasContent t.table.1.name t.content t.table.0 store
+sound_rows store tables contents name known t order held =
+    let stands = subst (λ h. Stands t.table.1.name (table_rows t.table.0 store) (table_index t.table.0 store) h) t.held (found_stands store name t.table store.tables contents held.held t.found) in
+    record { order = order; is_content = stands.0; rows = stands.1; index = stands.2 }
+
+-- So row changes that are right for the rewrites of an Insert lead to the contents after it.
+pub insert_holds : (store : StoreValue) (tables : List KnownTable) (contents : Contents) (name : List ℕ) (columns : Option (List (List ℕ))) (rows : List (List Cell)) (known : KnownTable) (t : IsSoundTable contents name known) (rewrites : List Rewrite) (changes : List Change) (docids : List ℤ) →
+    AreInOrder store → AreHeld store tables contents → insert_fault t.content (listed_columns t.content columns) rows ≡ None → AreOf t.content rewrites → rewritten rewrites t.content.documents ≡ inserted t.content columns rows →
+    AllByRecursion (IsOfDocids t.table.0 docids) changes → AreRight t.table.0 t.content.columns rewrites changes →
+    StoreHolds (all_applied changes store) (on_table contents name (with_documents (λ content. inserted content columns rows)))
+insert_holds store tables contents name columns rows known t rewrites changes docids order held fine are made near right =
+    let has = sound_rows store tables contents name known t order held in
+    let done = right t.table.1.name t.content store has refl are in
+    let same : rewritten_content rewrites t.content ≡ record t.content { documents = inserted t.content columns rows } = λ i. record t.content { documents = made i } in
+    lifts store (all_applied changes store) tables contents name known t (λ content. inserted content columns rows) order held (leaves_rest t.table.0 docids changes store near)
+    (insert_keeps_content t.table.1.name t.content columns rows has.is_content fine)
+    (done.0 ∙ ap content_rows same) (done.1 ∙ ap index_rows same)
