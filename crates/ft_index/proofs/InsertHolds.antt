@@ -1,12 +1,12 @@
 -- What the store holds after the row changes of an Insert.
 use Rattle.std.proofs.Common.{◌≡◌, ℕ, Bool, true, false, cond, List, [], ◌∷◌, Option, Some, None, ℤ, refl, sym, ap, subst, ◌∙◌}
-use Rattle.std.specs.Prelude.{unwrap_or, IsTrue}
-use Rattle.std.specs.List.{AllZip, AllByRecursion}
+use Rattle.std.specs.Prelude.{unwrap_or}
+use Rattle.std.specs.List.{AllByRecursion}
 use Rattle.ft_store.specs.Store.{Cell, StoreValue, AreInOrder, Change, all_applied}
-use Rattle.ft_content.specs.Content.{Content, TableRows, IsContent, content_rows, same_name}
-use Rattle.ft_content.specs.Index.{IndexRows, index_rows}
+use Rattle.ft_content.specs.Content.{content_rows, same_name}
+use Rattle.ft_content.specs.Index.{index_rows}
 use Rattle.ft_content.specs.Views.{KnownTable}
-use Rattle.ft_content.specs.Deserved.{Held, Sound, Table, Contents, table_named, listed_columns, insert_fault}
+use Rattle.ft_content.specs.Deserved.{Table, Contents, table_named, listed_columns, insert_fault}
 use Rattle.ft_content.specs.Step.{inserted, with_documents, on_table}
 use Rattle.ft_content.proofs.ContentLemmas.{insert_keeps_content}
 use Rattle.ft_index.specs.Tables.{table_rows, table_index}
@@ -14,7 +14,7 @@ use Rattle.ft_index.specs.Kept.{AreHeld, StoreHolds, HoldsTable, Stands, IsOfDoc
 use Rattle.ft_index.specs.Rewrite.{Rewrite, AreOf, HasContent, AreRight, rewritten, rewritten_content}
 use Rattle.ft_index.proofs.OneTable.{AreHeldIn}
 use Rattle.ft_index.proofs.KnownLemmas.{IsSoundTable}
-use Rattle.ft_index.proofs.Lifting.{LeavesRest, leaves_rest, lifts}
+use Rattle.ft_index.proofs.Lifting.{leaves_rest, lifts}
 
 -- a table that is found among the contents stands so in the store
 found_stands : (store : StoreValue) (name : List ℕ) (t : ℤ × Table) (tables : List (ℤ × List ℕ)) (contents : Contents) → AreHeldIn store tables contents → table_named contents name ≡ Some t →

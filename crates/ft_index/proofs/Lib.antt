@@ -52,3 +52,4 @@ pub mod StandingEntries
 pub mod Lifting
 pub mod InsertDue
 pub mod InsertHolds
+pub mod InsertOf

@@ -85,7 +85,7 @@ abbrev pub written : Option Rewrite → Cells → Cells
 written None before = before
 written (Some r) before = r.after
 
-find_rewritten : (docid : ℤ) (rewrites : List Rewrite) (documents : Documents) → is_sorted int_cmp (by_docid rewrites) ≡ true → find int_cmp docid (rewritten rewrites documents) ≡ written (find int_cmp docid (by_docid rewrites)) (find int_cmp docid documents)
+pub find_rewritten : (docid : ℤ) (rewrites : List Rewrite) (documents : Documents) → is_sorted int_cmp (by_docid rewrites) ≡ true → find int_cmp docid (rewritten rewrites documents) ≡ written (find int_cmp docid (by_docid rewrites)) (find int_cmp docid documents)
 find_rewritten docid [] documents h = refl
 find_rewritten docid (r ∷ rs) documents h =
     let parts = and_parts (below_all int_cmp r.docid (by_docid rs)) (is_sorted int_cmp (by_docid rs)) h in
