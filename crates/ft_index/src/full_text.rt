@@ -1,7 +1,7 @@
 // Full-text tables over a store.
 use crate::change::change_rows;
 use ft_content::{Fault, TableInfo};
-use ft_store::{RowChange, Store, StoreFault};
+use ft_store::{RowChange, Store};
 use sqlite::Alter;
 use std::alloc::Global;
 use std::marker::Model;
@@ -30,13 +30,6 @@ impl<S: Alter> Model for FullText<S> {
     ghost view = { λ f. record { store = f.store; tables = map known_info f.tables.items } };
 
     ghost invariant = { λ f. HoldsSome S.Store (record { store = f.store; tables = map known_info f.tables.items }) };
-}
-
-/// A store that was not taken, as it was, with the cause.
-#[derive(Drop)]
-pub struct NewFault<S: Alter> {
-    pub store: Store<S>,
-    pub cause: StoreFault,
 }
 
 impl<S: Alter> FullText<S> {

@@ -21,4 +21,4 @@ mod tables;
 mod told;
 
 pub use ft_content::{Column, Command, Fault, Filter, Grid, Item, Items, Reply, TableInfo, Value};
-pub use full_text::{FullText, NewFault};
+pub use full_text::FullText;
