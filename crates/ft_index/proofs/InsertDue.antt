@@ -19,7 +19,7 @@ pub insert_repeats : (contents : Contents) (name : List ℕ) (columns : Option (
 unfolding deserved
 insert_repeats contents name columns rows twice = ap (λ b. or_else (first_of ((b, faults.DuplicateColumn) ∷ [])) (on_sound contents name (λ table content. insert_fault content (listed_columns content columns) rows))) twice
 
-once : (contents : Contents) (name : List ℕ) (columns : Option (List (List ℕ))) (rows : List (List Cell)) → repeats_name (unwrap_or columns []) ≡ false →
+pub once : (contents : Contents) (name : List ℕ) (columns : Option (List (List ℕ))) (rows : List (List Cell)) → repeats_name (unwrap_or columns []) ≡ false →
     deserved contents (Insert name columns rows) ≡ on_sound contents name (λ table content. insert_fault content (listed_columns content columns) rows)
 unfolding deserved
 once contents name columns rows apart = ap (λ b. or_else (first_of ((b, faults.DuplicateColumn) ∷ [])) (on_sound contents name (λ table content. insert_fault content (listed_columns content columns) rows))) apart

@@ -35,7 +35,7 @@ found_behind first (r ∷ rs) all below found =
     let other : int_eq r.docid first.docid ≡ false = (eq_by_cmp_equiv int_cmp_total).symm r.docid first.docid ∙ less_apart _ parts.0 in
     (ap (λ b. cond b (Some first) (find int_cmp r.docid (by_docid all))) other ∙ found.0, found_behind first rs all parts.1 found.1)
 
-each_found : (rs : List Rewrite) → is_sorted int_cmp (by_docid rs) ≡ true → AllByRecursion (λ (r : Rewrite). find int_cmp r.docid (by_docid rs) ≡ Some r) rs
+pub each_found : (rs : List Rewrite) → is_sorted int_cmp (by_docid rs) ≡ true → AllByRecursion (λ (r : Rewrite). find int_cmp r.docid (by_docid rs) ≡ Some r) rs
 each_found [] sorted = tt
 each_found (r ∷ rs) sorted =
     let parts = and_parts (below_all int_cmp r.docid (by_docid rs)) (is_sorted int_cmp (by_docid rs)) sorted in

@@ -14,7 +14,7 @@ use Rattle.ft_index.specs.Rewrite.{Rewrite, by_docid, rewritten}
 use Rattle.ft_index.specs.RewriteRows.{all_put}
 use Rattle.ft_index.specs.DocumentsRead.{has_given}
 use Rattle.ft_index.specs.NewDocuments.{documents_in, with_new, new_rewrite, AreBeside}
-use Rattle.ft_index.specs.Inserted.{AreKnown, AreInserts}
+use Rattle.ft_index.specs.Inserted.{AreKnown, IsNewIn, AreInserts}
 
 pub rows_step : (columns : List Column) (values : List (List ℕ × Cell)) (rows : List (List (List ℕ × Cell))) (documents after : Documents) → insert_row documents (docids_in values) (new_cells values columns) ≡ Ok after →
     insert_rows columns (values ∷ rows) documents ≡ insert_rows columns rows after
@@ -64,9 +64,14 @@ befores_new : (documents new : Documents) → AllByRecursion (λ (d : ℤ × Lis
 befores_new documents [] h = tt
 befores_new documents (d ∷ ds) h = (sym h.0, befores_new documents ds h.1)
 
+news_new : (documents new : Documents) → AllByRecursion (λ (d : ℤ × List Cell). find int_cmp d.0 documents ≡ None) new → AllByRecursion (IsNewIn documents) (map new_rewrite new)
+news_new documents [] h = tt
+news_new documents (d ∷ ds) h = ((h.0, (d.1, refl)), news_new documents ds h.1)
+
 pub new_are_inserts : (documents : Documents) (new : NewDocuments) (rewrites : List Rewrite) (inserted : Result Documents Fault) → rewrites ≡ map new_rewrite (documents_in new) → AreBeside documents new → inserted ≡ Ok (with_new new documents) → AreInserts documents rewrites inserted
 new_are_inserts documents new rewrites inserted are beside made = subst (λ (rs : List Rewrite). AreInserts documents rs inserted) (sym are) (record {
   rising = sorted_new (documents_in new) ∙ beside.rising;
   befores = befores_new documents (documents_in new) beside.apart;
+  news = news_new documents (documents_in new) beside.apart;
   made = made ∙ ap Ok (sym (rewritten_new (documents_in new) documents));
 })

@@ -53,3 +53,7 @@ pub mod Lifting
 pub mod InsertDue
 pub mod InsertHolds
 pub mod InsertOf
+pub mod Writing
+pub mod Acting
+pub mod InsertWrites
+pub mod Planning

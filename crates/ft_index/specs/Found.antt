@@ -17,6 +17,10 @@ pub record IsSoundAt (tables : List KnownTable) (name : List ℕ) (place : ℕ) 
   pub named : known_named tables name ≡ Some table
   pub sound : IsTrue table.sound
 
+-- it is told so, and is sound
+abbrev pub IsSoundNamed : List KnownTable → List ℕ → KnownTable → Type 0
+IsSoundNamed tables name known = (known_named tables name ≡ Some known) × IsTrue known.sound
+
 -- there is none, or it isn't sound
 abbrev pub IsUnfit : List KnownTable → List ℕ → Fault → Type 0
 IsUnfit tables name fault =

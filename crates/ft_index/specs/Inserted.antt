@@ -1,5 +1,5 @@
 -- The rows of an Insert, as documents beside those that a table has. All of it is our own choice.
-use Rattle.std.specs.Prelude.{◌≡◌, ◌⊎◌, ℕ, Bool, false, List, map, slice_get, unwrap_or, IfSome, Some, Result, Ok, Err, IsTrue, Vec}
+use Rattle.std.specs.Prelude.{◌≡◌, ◌⊎◌, ℕ, Bool, false, List, map, slice_get, unwrap_or, IfSome, Some, None, Result, Ok, Err, IsTrue, Vec}
 use Rattle.std.specs.declared.alloc.Global.{Global}
 use Rattle.std.specs.List.{AllByRecursion}
 use Rattle.std.specs.Ordering.{int_cmp}
@@ -23,10 +23,15 @@ abbrev pub Makes : Documents → Result Documents Fault → Result NewDocuments 
 Makes documents inserted (Ok new) = AreBeside documents new × (inserted ≡ Ok (with_new new documents))
 Makes documents inserted (Err fault) = (fault ≡ faults.Memory) ⊎ (inserted ≡ Err fault)
 
+-- a rewrite makes a document where none was
+abbrev pub IsNewIn : Documents → Rewrite → Type 0
+IsNewIn documents r = (find int_cmp r.docid documents ≡ None) × ((cells : List Cell) × (r.after ≡ Some cells))
+
 -- The rewrites of an Insert: by rising docid, each of a document that was not there, and together they make the documents of its rows.
 pub record AreInserts (documents : Documents) (rewrites : List Rewrite) (inserted : Result Documents Fault) : Type 0 where
   pub rising : IsTrue (is_sorted int_cmp (by_docid rewrites))
   pub befores : AllByRecursion (λ (r : Rewrite). r.before ≡ find int_cmp r.docid documents) rewrites
+  pub news : AllByRecursion (IsNewIn documents) rewrites
   pub made : inserted ≡ Ok (rewritten rewrites documents)
 
 -- So it is, or the fault of the first row that fails, but for a fault from outside.

@@ -1,24 +1,117 @@
 //! The documents of an Insert.
-ghost use Rattle.std.specs.Prelude.{◌≡◌, false, map, zip, slice_get, unwrap_or, ◌⊎◌, IfOk, IfErr, IsTrue};
+ghost use Rattle.std.specs.Prelude.{◌≡◌, false, [], ℕ, List, map, option_map, zip, slice_get, unwrap_or, string_bytes, ◌⊎◌, IfOk, IfErr, IsTrue};
+ghost use Rattle.ft_content.specs.Content as content;
 ghost use Rattle.sqlite.specs.State.{HasCleanDisk, Survives};
 ghost use Rattle.ft_store.specs.Kept.{shows};
 ghost use Rattle.ft_content.specs.declared.fault.Fault.TheVariants as faults;
 ghost use Rattle.std.specs.Ordering.{int_cmp};
 ghost use Rattle.std.specs.FinMap.Entries.{is_sorted};
 ghost use Rattle.ft_content.specs.Content.{Documents, Content};
-ghost use Rattle.ft_content.specs.Deserved.{insert_rows, docids_in};
+ghost use Rattle.ft_content.specs.Command as plain;
+ghost use Rattle.ft_content.specs.Deserved.{insert_rows, insert_fault, listed_columns, docids_in};
+ghost use Rattle.ft_content.specs.Step.{inserted, new_docids};
 ghost use Rattle.ft_content.specs.Views as views;
-ghost use Rattle.ft_content.specs.Views.{cells_of, column_of};
+ghost use Rattle.ft_content.specs.Views.{cells_of, column_of, known_info};
+ghost use Rattle.ft_index.specs.Kept.{Executes};
+ghost use Rattle.ft_index.specs.Changed.{with_tables};
 ghost use Rattle.ft_index.specs.DocumentsRead.{HasRows, Looks, has_given};
 ghost use Rattle.ft_index.specs.Inserted.{AreKnown, Makes, Inserts};
+ghost use Rattle.ft_index.specs.Written.{HasAll, Writes, PlansIn};
 
+use crate::change::change_rows;
 use crate::documents::{has_document, last_docid};
+use crate::names::sound_table;
 use crate::new_documents::NewDocuments;
-use crate::rewrite::Rewrite;
-use ft_content::{Column, Fault, Value, row_docid};
-use ft_store::Store;
+use crate::rewrite::{Rewrite, row_changes};
+use ft_content::{
+    Column, Fault, Reply, TableInfo, Value, insert_tests, listed_names, repeats_name, row_docid,
+};
+use ft_store::{RowChange, Store};
 use sqlite::Alter;
 use std::alloc::Global;
+
+/// Answers an Insert.
+pub(crate) fn insert_into<S: Alter>(
+    alloc: Global,
+    store: &mut Store<S>,
+    tables: &[TableInfo],
+    table: &str,
+    columns: Option<&[String]>,
+    rows: &[Vec<Value>],
+) -> Result<Reply, Fault>
+    ensures { Executes S.Store (with_tables store.old (map known_info tables.now))
+        (plain.Insert table.now (option_map (λ n. map string_bytes n.now) columns.entry) (map cells_of rows.now))
+        (views.answer_of result) (with_tables store.new (map known_info tables.now)) }
+{
+    let changes = insert_changes(alloc, store, tables, table, columns, rows)?;
+    change_rows(store, changes.as_slice())?;
+    Ok(Reply::Done)
+}
+
+/// The row changes of an Insert, or its fault. The store is only read, whatever is answered.
+pub(crate) fn insert_changes<S: Alter>(
+    alloc: Global,
+    store: &mut Store<S>,
+    tables: &[TableInfo],
+    table: &str,
+    columns: Option<&[String]>,
+    rows: &[Vec<Value>],
+) -> Result<Vec<RowChange>, Fault>
+    ensures plans { PlansIn S.Store (map known_info tables.now) store.old store.new (plain.Insert table.now (option_map (λ n. map string_bytes n.now) columns.entry) (map cells_of rows.now)) result }
+    ensures looks { Looks S.Store store.old store.new }
+{
+    store.is_in_order();
+    if lists_twice(columns) {
+        return Err(Fault::DuplicateColumn);
+    }
+    let known = sound_table(tables, table)?;
+    let rewrites = written_by_insert(alloc, store, known, columns, rows)?;
+    let changes = row_changes(
+        alloc,
+        known.id,
+        known.columns.as_slice(),
+        rewrites.as_slice(),
+    )?;
+    Ok(changes)
+}
+
+// Whether a column is listed twice.
+fn lists_twice(columns: Option<&[String]>) -> bool
+    ensures { result ≡ content.repeats_name (unwrap_or (option_map (λ n. map string_bytes n.now) columns.entry) []) }
+{
+    match columns {
+        Some(names) => repeats_name(names),
+        None => false,
+    }
+}
+
+// The rewrites of an Insert into a sound table, or its fault. The store is only read, whatever is answered.
+fn written_by_insert<S: Alter>(
+    alloc: Global,
+    store: &mut Store<S>,
+    known: &TableInfo,
+    columns: Option<&[String]>,
+    rows: &[Vec<Value>],
+) -> Result<Vec<Rewrite>, Fault>
+    ensures written { (name : List ℕ) (content : Content) → HasAll S.Store known.now.id name (map column_of known.now.columns.items) store.old store.new content
+        → Writes content (insert_fault content (listed_columns content (option_map (λ n. map string_bytes n.now) columns.entry)) (map cells_of rows.now)) (inserted content (option_map (λ n. map string_bytes n.now) columns.entry) (map cells_of rows.now))
+        (new_docids content.documents (inserted content (option_map (λ n. map string_bytes n.now) columns.entry) (map cells_of rows.now))) result }
+    ensures looks { Looks S.Store store.old store.new }
+{
+    let names = listed_names(alloc, known.columns.as_slice(), columns)?;
+    if let Some(fault) = insert_tests(known.columns.as_slice(), names.as_slice(), rows) {
+        return Err(fault);
+    }
+    let rewrites = insert_rewrites(
+        alloc,
+        store,
+        known.id,
+        known.columns.as_slice(),
+        names.as_slice(),
+        rows,
+    )?;
+    Ok(rewrites)
+}
 
 /// The rewrites of the documents that rows make in a table, by rising docid, or the fault of the first row that fails. The store is
 /// only read, whatever is answered.

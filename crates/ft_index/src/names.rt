@@ -2,7 +2,7 @@
 ghost use Rattle.std.specs.Prelude.{◌≡◌, MatchResult, map, position, string_bytes};
 ghost use Rattle.ft_content.specs.Content as content;
 ghost use Rattle.ft_content.specs.Views.{known_info};
-ghost use Rattle.ft_index.specs.Found.{IsSoundAt, IsUnfit};
+ghost use Rattle.ft_index.specs.Found.{IsSoundAt, IsSoundNamed, IsUnfit};
 
 use ft_content::{Fault, TableInfo};
 
@@ -27,4 +27,12 @@ pub(crate) fn sound_place(tables: &[TableInfo], name: &str) -> Result<usize, Fau
     } else {
         Err(Fault::Unsound)
     }
+}
+
+/// The table of this name, which has to be sound.
+pub(crate) fn sound_table<'a>(tables: &'a [TableInfo], name: &str) -> Result<&'a TableInfo, Fault>
+    ensures { MatchResult result (λ table. IsSoundNamed (map known_info tables.now) name.now (known_info table.now)) (λ fault. IsUnfit (map known_info tables.now) name.now fault) }
+{
+    let place = sound_place(tables, name)?;
+    Ok(&tables[place])
 }

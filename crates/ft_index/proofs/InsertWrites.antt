@@ -1,0 +1,129 @@
+-- What an Insert writes.
+use Rattle.std.proofs.Common.{◌≡◌, ◌⊎◌, inl, inr, ℕ, Bool, true, false, cond, not, List, [], ◌∷◌, map, filter, zip, Option, Some, None, Result, Ok, Err, ℤ, refl, sym, ap, subst, ◌∙◌}
+use Rattle.std.specs.Prelude.{Contains, Vec, unwrap_or, is_some}
+use Rattle.std.specs.declared.alloc.Global.{Global}
+use Rattle.std.specs.List.{AllByRecursion}
+use Rattle.std.specs.Ordering.{int_cmp, int_eq}
+use Rattle.std.specs.FinMap.Entries.{find, is_sorted}
+use Rattle.std.proofs.lemmas.Map.Lookups.{exact_signed}
+use Rattle.ft_query.proofs.OffsetOrder.{contains_head, contains_tail}
+use Rattle.ft_store.specs.Store.{Cell}
+use Rattle.ft_content.specs.declared.fault.Fault.{Fault}
+use Rattle.ft_content.specs.declared.fault.Fault.TheVariants as faults
+use Rattle.ft_content.specs.Content.{Content, Documents, IsContent, names_of, repeats_name}
+use Rattle.ft_content.specs.Command.{Insert, Done}
+use Rattle.ft_content.specs.declared.table.Column.{Column}
+use Rattle.ft_content.specs.Views.{bare_content, column_of}
+use Rattle.ft_content.specs.Deserved.{Contents, or_else, listed_columns, insert_tests, insert_rows, insert_fault, fault_of, has_docid, deserved}
+use Rattle.ft_content.specs.Step.{inserted, new_docids, with_documents, on_table, after, touched, reply_to}
+use Rattle.ft_content.proofs.ContentLemmas.{insert_keeps_content}
+use Rattle.ft_index.specs.declared.rewrite.Rewrite as source
+use Rattle.ft_index.specs.Rewrite.{Rewrite, shown_rewrite, by_docid, rewritten}
+use Rattle.ft_index.specs.Inserted.{IsNewIn, AreInserts, Inserts}
+use Rattle.ft_index.specs.Written.{LeadsTo, Writes}
+use Rattle.ft_index.proofs.KeyedRows.{tie}
+use Rattle.ft_index.proofs.RewriteLemmas.{written, find_rewritten}
+use Rattle.ft_index.proofs.InsertDue.{once, inserted_is}
+use Rattle.ft_index.proofs.InsertOf.{each_found, are_of}
+use Rattle.ft_index.proofs.Writing.{IsWrite}
+
+-- a document that was not there has a new docid
+new_in : (old new : Documents) (docid : ℤ) (cells : List Cell) → find int_cmp docid new ≡ Some cells → has_docid old docid ≡ false → Contains (new_docids old new) docid
+new_in old [] docid cells found apart = absurd (let no = found in cc)
+new_in old (d ∷ ds) docid cells found apart = go (int_eq docid d.0) refl found (λ behind. new_in old ds docid cells behind apart)
+  where
+    rest : Documents
+    rest = filter (λ (x : ℤ × List Cell). not (has_docid old x.0)) ds
+
+    docid_of : ℤ × List Cell → ℤ
+    docid_of x = x.0
+
+    more : (b : Bool) → Contains (map docid_of rest) docid → Contains (map docid_of (cond b (d ∷ rest) rest)) docid
+    more true h = contains_tail d.0 docid (map docid_of rest) h
+    more false h = h
+
+    go : (b : Bool) → int_eq docid d.0 ≡ b → cond b (Some d.1) (find int_cmp docid ds) ≡ Some cells → (find int_cmp docid ds ≡ Some cells → Contains (map docid_of rest) docid) → Contains (map docid_of (cond (not (has_docid old d.0)) (d ∷ rest) rest)) docid
+    go true is h behind =
+        let same : docid ≡ d.0 = exact_signed docid d.0 (tie _ is) in
+        let fresh : not (has_docid old d.0) ≡ true = ap (λ x. not (has_docid old x)) (sym same) ∙ ap not apart in
+        subst (λ b. Contains (map docid_of (cond b (d ∷ rest) rest)) docid) (sym fresh) (subst (Contains (d.0 ∷ map docid_of rest)) (sym same) (contains_head d.0 (map docid_of rest)))
+    go false is h behind = more (not (has_docid old d.0)) (behind h)
+
+all_new : (documents after : Documents) (all rs : List Rewrite) → is_sorted int_cmp (by_docid all) ≡ true → rewritten all documents ≡ after → AllByRecursion (λ (r : Rewrite). find int_cmp r.docid (by_docid all) ≡ Some r) rs → AllByRecursion (IsNewIn documents) rs →
+    AllByRecursion (λ (r : Rewrite). Contains (new_docids documents after) r.docid) rs
+all_new documents after all [] sorted made found new = tt
+all_new documents after all (r ∷ rs) sorted made found new = (
+  new_in documents after r.docid new.0.1.0
+  (ap (find int_cmp r.docid) (sym made) ∙ find_rewritten r.docid all documents sorted ∙ ap (λ o. written o (find int_cmp r.docid documents)) found.0 ∙ new.0.1.1)
+  (ap is_some new.0.0),
+  all_new documents after all rs sorted made found.1 new.1,
+)
+
+module _ (columns : Option (List (List ℕ))) (rows : List (List Cell)) where
+  abbrev pub due : Content → Option Fault
+  due content = insert_fault content (listed_columns content columns) rows
+
+  abbrev pub made : Content → Documents
+  made content = inserted content columns rows
+
+  abbrev pub news : Content → List ℤ
+  news content = new_docids content.documents (inserted content columns rows)
+
+  pub leaves : (name : List ℕ) (contents : Contents) → after contents (Insert name columns rows) ≡ on_table contents name (with_documents made)
+  unfolding after
+  leaves name contents = refl
+
+  pub replies : (name : List ℕ) (contents : Contents) → reply_to contents (Insert name columns rows) ≡ Done
+  unfolding reply_to
+  replies name contents = refl
+
+  pub is_write : (name : List ℕ) → repeats_name (unwrap_or columns []) ≡ false → IsWrite (Insert name columns rows) name (λ table content. due content) made news
+  unfolding touched
+  is_write name apart = record {
+    deserves = λ contents. once contents name columns rows apart;
+    leaves = leaves name;
+    touches = λ contents. refl;
+    near = λ contents changes h. h;
+    keeps = λ table content is fine. insert_keeps_content table content columns rows is fine;
+    replies = replies name;
+  }
+
+  abbrev Made : Content → Result Documents Fault
+  Made content = insert_rows content.columns (map (zip (listed_columns content columns)) rows) content.documents
+
+  -- the rewrites that its rows make
+  pub writes : (name : List ℕ) (content : Content) (result : Result (Vec source.Rewrite Global) Fault) → IsContent name content → insert_tests content (listed_columns content columns) rows ≡ None → Inserts content.documents (Made content) result →
+      Writes content (due content) (made content) (news content) result
+  writes name content (Ok rewrites) is tested h =
+      let rs = map shown_rewrite rewrites.items in
+      let fine : due content ≡ None = ap (λ o. or_else o (fault_of (Made content))) tested ∙ ap fault_of h.made in
+      let leads : rewritten rs content.documents ≡ made content = sym (inserted_is content columns rows (rewritten rs content.documents) h.made) in (
+        fine,
+        record {
+          are_of = are_of name content rs h.rising h.befores (subst (λ ds. IsContent name (record content { documents = ds })) (sym leads) (insert_keeps_content name content columns rows is fine));
+          made = leads;
+          near = all_new content.documents (made content) rs rs h.rising leads (each_found rs h.rising) h.news;
+        },
+      )
+  writes name content (Err fault) is tested (inl outside) = inl outside
+  writes name content (Err fault) is tested (inr fails) = inr (ap (λ o. or_else o (fault_of (Made content))) tested ∙ ap fault_of fails)
+
+  -- a test that refuses it
+  pub tested_writes : (content : Content) (fault : Fault) → insert_tests content (listed_columns content columns) rows ≡ Some fault → due content ≡ Some fault
+  tested_writes content fault tested = ap (λ o. or_else o (fault_of (Made content))) tested
+
+  -- tests of the columns alone are tests of the content
+  pub names_are : (content : Content) (cols : List Column) (names : List (List ℕ)) → content.columns ≡ map column_of cols → names ≡ listed_columns (bare_content cols) columns → names ≡ listed_columns content columns
+  names_are content cols names columns_are is = is ∙ ap (λ cs. unwrap_or columns (names_of cs)) (sym columns_are)
+
+  pub tests_are : (content : Content) (cols : List Column) (names : List (List ℕ)) (result : Option Fault) → content.columns ≡ map column_of cols → names ≡ listed_columns (bare_content cols) columns → result ≡ insert_tests (bare_content cols) names rows →
+      insert_tests content (listed_columns content columns) rows ≡ result
+  tests_are content cols names result columns_are named is =
+      ap (λ ns. insert_tests content ns rows) (sym (names_are content cols names columns_are named)) ∙ ap (λ cs. insert_tests (record { columns = cs; documents = [] }) names rows) columns_are ∙ sym is
+
+  -- and what the rows make is so by the content's columns
+  pub rows_are : (content : Content) (cols : List Column) (names : List (List ℕ)) (result : Result (Vec source.Rewrite Global) Fault) → content.columns ≡ map column_of cols → names ≡ listed_columns (bare_content cols) columns →
+      Inserts content.documents (insert_rows (map column_of cols) (map (zip names) rows) content.documents) result → Inserts content.documents (Made content) result
+  rows_are content cols names result columns_are named h =
+      subst (λ ns. Inserts content.documents (insert_rows content.columns (map (zip ns) rows) content.documents) result) (names_are content cols names columns_are named)
+      (subst (λ cs. Inserts content.documents (insert_rows cs (map (zip names) rows) content.documents) result) (sym columns_are) h)
