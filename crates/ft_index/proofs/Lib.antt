@@ -53,3 +53,5 @@ pub mod Lifting
 pub mod InsertDue
 pub mod InsertHolds
 pub mod InsertOf
+pub mod LookLemmas
+pub mod ChosenLemmas
