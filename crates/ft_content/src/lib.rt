@@ -31,7 +31,7 @@ pub use laws::{
     rows_hold_one_content,
 };
 pub use limit::cut;
-pub use names::{are_names, names_clash, repeats_name};
+pub use names::{are_names, is_docid, names_clash, repeats_name};
 pub use plain::PlainTables;
 pub use query::read_query;
 pub use select::{answer_names, asks_offsets, count_rows, delete_tests, item_row, select_tests};

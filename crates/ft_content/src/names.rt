@@ -11,7 +11,7 @@ pub(crate) fn same_name(name: &str, other: &str) -> bool
 }
 
 /// Whether a name is one of the two of the docid.
-pub(crate) fn is_docid(name: &str) -> bool
+pub fn is_docid(name: &str) -> bool
     ensures { result ≡ content.is_docid name.now }
 {
     same_name(name, "docid") || same_name(name, "rowid")

@@ -258,6 +258,7 @@ pub fn item_row(
         IfOk result (λ row. cells_of row ≡ flat_map (answer.item_cells query (bare_content columns.now) (docid, map shown_value cells.now)) (map item_of items.now)) }
     ensures unasked { (query : Option Tree) → list_any deserved.is_offsets (map item_of items.now) ≡ false →
         IfOk result (λ row. cells_of row ≡ flat_map (answer.item_cells query (bare_content columns.now) (docid, map shown_value cells.now)) (map item_of items.now)) }
+    ensures given { IfOk result (λ row. cells_of row ≡ flat_map (answer.cells_with (store.Text offsets.now) (bare_content columns.now) (docid, map shown_value cells.now)) (map item_of items.now)) }
 {
     let mut row = Vec::new(alloc);
     for item in items {

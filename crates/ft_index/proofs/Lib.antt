@@ -57,3 +57,5 @@ pub mod Writing
 pub mod Acting
 pub mod InsertWrites
 pub mod Planning
+pub mod LookLemmas
+pub mod ChosenLemmas

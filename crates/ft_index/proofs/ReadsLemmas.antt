@@ -26,6 +26,7 @@ nothing_done s = record { clean = omega arith; shield = λ h. h; counts = omega 
 pub record Read {S : Type 0} (g : Ghosts S) (old : StoreState S) (given : ℕ) (all : Bool) (new : StoreState S) (given_now : ℕ) : Type 0 where
   pub kept : HasCleanDisk (shows g new) → Keeps (shows g old) (shows g new)
   pub survives : Survives (shows g old) (shows g new) (λ _. IsTrue (shows g old).is_open → ⊥)
+  pub live : HasCleanDisk (shows g new) → IsTrue all → IsTrue (shows g old).is_open → IsTrue (shows g new).is_open
   pub counted : IsTrue all → Grows old.rows_read given new.rows_read given_now
 
 module _ {X S : Type 0} (g : Ghosts S) (Becomes : X → Bool → X → Type 0) (store : X → StoreState S) (given : X → ℕ) (reads : (x : X) (all : Bool) (y : X) → Becomes x all y → Reads g (store x) (given x) all (store y) (given y)) where
@@ -33,6 +34,7 @@ module _ {X S : Type 0} (g : Ghosts S) (Becomes : X → Bool → X → Type 0) (
   none_read x all = record {
     kept = λ clean is_open. (refl, refl, is_open);
     survives = nothing_done (shows g (store x));
+    live = λ clean whole is_open. is_open;
     counted = λ all. inl (refl, refl);
   }
 
@@ -47,11 +49,12 @@ module _ {X S : Type 0} (g : Ghosts S) (Becomes : X → Bool → X → Type 0) (
       record {
         kept = λ clean. kept_then first middle last (one.kept (omega (arith, more.survives.clean, clean))) (more.kept clean);
         survives = reads_then first middle last (λ clean. one.live clean refl) one.survives more.survives;
+        live = λ clean whole _. more.live clean whole (one.live (omega (arith, more.survives.clean, clean)) refl);
         counted = λ whole. (let n = one.counted refl in grows_then (store a).rows_read (given a) (store b).rows_read (given b) (store d).rows_read (given d) n.0 n.1 n.2 (more.counted whole));
       }
   all_read x all y (Ends a b step) =
       let one = reads a false b step in
-      record { kept = one.kept; survives = one.survives; counted = λ whole. absurd (let no = whole in cc) }
+      record { kept = one.kept; survives = one.survives; live = λ clean whole. absurd (let no = whole in cc); counted = λ whole. absurd (let no = whole in cc) }
 
   -- what no call changes
   pub all_same : {A : Type 0} (f : X → A) → ((x : X) (all : Bool) (y : X) → Becomes x all y → f y ≡ f x) → (x : X) (all : Bool) (y : X) → Reaches Becomes x all y → f y ≡ f x
@@ -67,3 +70,7 @@ rows_of_walk rows rows_now given_now n fits (inr more) given = let h = more.1 in
 pub on_ok_from : {T E : Type 0} (r : Result T E) (P Q : Type 0) → (IsTrue (is_ok r) → P → Q) → OnOk r P → OnOk r Q
 on_ok_from (Ok x) P Q f h = f refl h
 on_ok_from (Err e) P Q f h = tt
+
+pub on_ok_if : {T E : Type 0} (r : Result T E) (P : Type 0) → (IsTrue (is_ok r) → P) → OnOk r P
+on_ok_if (Ok x) P f = f refl
+on_ok_if (Err e) P f = tt

@@ -16,3 +16,4 @@ pub mod Changed
 pub mod Matched
 pub mod Standing
 pub mod Written
+pub mod Chosen

@@ -1,11 +1,12 @@
 //! The documents of a table, read from a store.
-ghost use Rattle.std.specs.Prelude.{◌≡◌, ◌⊎◌, map, option_map, IsTrue, IfOk, IfErr, OnOk};
+ghost use Rattle.std.specs.Prelude.{◌≡◌, ◌⊎◌, map, option_map, vec_len, IsTrue, IfOk, IfErr, OnOk};
+ghost use Rattle.std.specs.Option.{option_map_or};
 ghost use Rattle.std.specs.Ordering.{int_cmp};
 ghost use Rattle.std.specs.FinMap.Entries.{find};
 ghost use Rattle.sqlite.specs.State.{HasCleanDisk, Survives};
 ghost use Rattle.ft_store.specs.Calls.{Keeps};
 ghost use Rattle.ft_store.specs.Changes.{shown_value};
-ghost use Rattle.ft_store.specs.Kept.{shows};
+ghost use Rattle.ft_store.specs.Kept.{shows, more_rows};
 ghost use Rattle.ft_content.specs.declared.fault.Fault.TheVariants as faults;
 ghost use Rattle.ft_content.specs.Content as content;
 ghost use Rattle.ft_content.specs.Content.{Content};
@@ -38,6 +39,7 @@ pub(crate) fn document<S: Alter>(
     docid: i64,
 ) -> Result<Option<Vec<Value>>, Fault>
     ensures found { IfOk result (λ found. (content : Content) → HasRows S.Store tab store.old store.new content → option_map views.cells_of found ≡ find int_cmp docid content.documents) }
+    ensures counted { IfOk result (λ found. store.new.rows_read ≡ more_rows (option_map_or vec_len found 0) store.old) }
     ensures faults { IfErr result (λ fault. (fault ≡ faults.Store) ⊎ (fault ≡ faults.Memory)) }
     ensures kept { HasCleanDisk (shows S.Store store.new) → Keeps (shows S.Store store.old) (shows S.Store store.new) }
     ensures live { HasCleanDisk (shows S.Store store.new) → OnOk result (IsTrue (shows S.Store store.new).is_open) }

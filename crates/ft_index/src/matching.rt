@@ -61,6 +61,7 @@ fn opened<'q, S: Alter>(
     ensures counted { OnOk result ((content : Content) → IsIndexed S.Store lists.old.tab lists.old.store.now lists.new.store.now content
         → lists.old.given ≡ 0 → lists.old.store.now.rows_read < 2 ^ 64
         → lists.new.store.now.rows_read ≡ more_rows (entry_count (tree_of query.now) (content_documents content)) lists.old.store.now) }
+    ensures live { HasCleanDisk (shows S.Store lists.new.store.now) → OnOk result (IsTrue (shows S.Store lists.old.store.now).is_open → IsTrue (shows S.Store lists.new.store.now).is_open) }
     ensures kept { HasCleanDisk (shows S.Store lists.new.store.now) → Keeps (shows S.Store lists.old.store.now) (shows S.Store lists.new.store.now) }
     ensures survives { Survives (shows S.Store lists.old.store.now) (shows S.Store lists.new.store.now) (λ _. IsTrue (shows S.Store lists.old.store.now).is_open → ⊥) }
 {
@@ -92,6 +93,7 @@ pub(crate) fn hits<S: Alter>(
     ensures counted { OnOk result ((content : Content) → IsIndexed S.Store tab store.old store.new content
         → store.new.rows_read ≡ more_rows (entry_count (tree_of query.now) (content_documents content)) store.old) }
     ensures faults { IfErr result (λ fault. (fault ≡ faults.Store) ⊎ (fault ≡ faults.Memory)) }
+    ensures live { HasCleanDisk (shows S.Store store.new) → OnOk result (IsTrue (shows S.Store store.old).is_open → IsTrue (shows S.Store store.new).is_open) }
     ensures kept { HasCleanDisk (shows S.Store store.new) → Keeps (shows S.Store store.old) (shows S.Store store.new) }
     ensures survives { Survives (shows S.Store store.old) (shows S.Store store.new) (λ _. IsTrue (shows S.Store store.old).is_open → ⊥) }
 {
@@ -117,6 +119,7 @@ pub(crate) fn matched<S: Alter>(
     ensures counted { OnOk result ((content : Content) (name text : List ℕ) → reading content name text ≡ Ok (option_map (λ q. tree_of q.now) query.entry)
         → IsIndexed S.Store tab store.old store.new content → store.new.rows_read ≡ more_rows (entries_asked content (query_in content (Matching name text))) store.old) }
     ensures faults { IfErr result (λ fault. (fault ≡ faults.Store) ⊎ (fault ≡ faults.Memory)) }
+    ensures live { HasCleanDisk (shows S.Store store.new) → OnOk result (IsTrue (shows S.Store store.old).is_open → IsTrue (shows S.Store store.new).is_open) }
     ensures kept { HasCleanDisk (shows S.Store store.new) → Keeps (shows S.Store store.old) (shows S.Store store.new) }
     ensures survives { Survives (shows S.Store store.old) (shows S.Store store.new) (λ _. IsTrue (shows S.Store store.old).is_open → ⊥) }
 {

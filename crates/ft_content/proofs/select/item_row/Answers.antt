@@ -21,6 +21,9 @@ whole c =
     ∙ ap (λ (items : List Item). flat_map (cells (to_z w64 (of_z w64 c.args.docid))) (map item_of items)) (take_all c.loop-item.item-index c.args.items.now c.loop-item-test.false)
     ∙ ap (λ (docid : ℤ). flat_map (cells docid) (map item_of c.args.items.now)) back
 
+pub returns-clause-given : goal.returns-clause-given
+returns-clause-given c = whole c
+
 pub returns-clause-asked : goal.returns-clause-asked
 returns-clause-asked c = λ query same.
     let content = bare_content c.args.columns.now in

@@ -5,7 +5,7 @@ use Rattle.ft_query.specs.Trees.{tree_of}
 use Rattle.ft_query.specs.Work.{entry_count}
 use Rattle.ft_query.specs.Walk.{StandsBefore}
 use Rattle.ft_content.specs.Meaning.{content_documents}
-use Rattle.ft_index.proofs.ReadsLemmas.{Grows, all_read, all_same, rows_of_walk, on_ok_from}
+use Rattle.ft_index.proofs.ReadsLemmas.{Grows, all_read, all_same, rows_of_walk, on_ok_from, on_ok_if}
 use Rattle.ft_index.proofs.WalkedLemmas.{now_reliable}
 use Rattle.ft_index.proofs.matching.opened.Goals as goal
 
@@ -37,3 +37,6 @@ returns-clause-counted g c =
     rows_of_walk rows rows_now c.open.new.lists.given (entry_count (tree_of c.args.query.now) (content_documents content)) fits
     (subst (λ (n : ℕ). Grows rows n rows_now c.open.new.lists.given) none (reads.counted whole))
     (given here.0 (omega (arith, none)) ∙ (λ i. min (none i + entry_count (tree_of c.args.query.now) (here.1 i)) (2 ^ 64 - 1)))) c.open.ensures.given
+
+pub returns-clause-live : goal.returns-clause-live
+returns-clause-live g c = λ clean. on_ok_if c.open.result _ (λ whole is_open. (all_read g.S.Store _ (λ l. l.store.now) (λ l. l.given) (λ x all y h. h.2) _ _ _ c.open.ensures.becomes).live clean whole is_open)

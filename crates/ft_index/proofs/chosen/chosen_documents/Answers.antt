@@ -1,0 +1,44 @@
+-- by the kind of the filter
+use Rattle.std.proofs.Common.{◌≡◌, ◌∙◌, ℤ, Option, map, option_map, string_bytes, Bor, refl, sym, ap, subst, to_z-of_z, to_z, of_z, w64}
+use Rattle.std.proofs.lemmas.Result.{IfOk-weaker}
+use Rattle.ft_query.specs.declared.walk.Hit.{Hit}
+use Rattle.ft_query.specs.Trees.{Tree, tree_of}
+use Rattle.ft_query.specs.Occurs.{plain_hit}
+use Rattle.ft_content.specs.declared.command.Filter.{Filter}
+use Rattle.ft_content.specs.Command.{Matching}
+use Rattle.ft_content.specs.Answer.{chosen}
+use Rattle.ft_content.specs.Views.{filter_of}
+use Rattle.ft_index.specs.DocumentsRead.{HasRows, Looks}
+use Rattle.ft_index.specs.Walked.{IsIndexed}
+use Rattle.ft_index.specs.Chosen.{ReadsAs, document_at}
+use Rattle.ft_index.specs.Matched.{chosen_hits}
+use Rattle.ft_index.proofs.ChosenLemmas.{chosen_all, of_hits}
+use Rattle.ft_index.proofs.LookLemmas.{rows_then, index_first}
+use Rattle.ft_index.proofs.chosen.chosen_documents.Goals as goal
+
+pub returns-in-All-clause-chosen : goal.returns-in-All-clause-chosen
+returns-in-All-clause-chosen g c = IfOk-weaker c.all_documents.result _ _ (λ found read content rows indexed reads.
+    read content (subst (λ (k : ℤ). HasRows g.S.Store k c.args.store.now c.all_documents.new.store content) (sym (to_z-of_z c.ranges.tab)) rows)
+    ∙ sym (ap (λ (f : Filter). chosen content (filter_of f)) c.in-All.is ∙ chosen_all content)) c.all_documents.ensures.found
+
+pub returns-in_ok-hits-in-Match-clause-chosen : goal.returns-in_ok-hits-in-Match-clause-chosen
+returns-in_ok-hits-in-Match-clause-chosen g c = IfOk-weaker c.documents_of_hits.result _ _ (λ found read content rows indexed reads.
+    let first = c.args.store.now in
+    let middle = c.matched.new.store in
+    let last = c.documents_of_hits.new.store in
+    let one : Looks g.S.Store first middle = record { kept = c.matched.ensures.kept; survives = c.matched.ensures.survives } in
+    let two = c.documents_of_hits.ensures.looks in
+    let t = sym (to_z-of_z c.ranges.tab) in
+    let tab : ℤ = to_z w64 (of_z w64 c.args.tab) in
+    let name = string_bytes c.in-Match.name in
+    let text = string_bytes c.in-Match.query in
+    let here = subst (λ (k : ℤ). HasRows g.S.Store k first last content) t rows in
+    let at = subst (λ (k : ℤ). IsIndexed g.S.Store k first last content) t indexed in
+    let query : Option Tree = option_map {T = Bor _} (λ q. tree_of q.now) c.args.query in
+    let as_read = subst (λ (f : Filter). ReadsAs content (filter_of f) query) c.in-Match.is reads in
+    let hits : map plain_hit c.in_ok-hits-in-Match.hits.items ≡ chosen_hits content (Matching name text) =
+    c.in_ok-hits-in-Match.ensures.found content name text as_read (index_first g.S.Store first middle last one two tab content at) in
+    read content (rows_then g.S.Store first middle last one two tab content here)
+    ∙ ap (map (λ (h : Hit). document_at content h.docid)) c.as_slice.ensures.value
+    ∙ of_hits (λ (h : Hit). h.docid) plain_hit (λ h. refl) rows.name content (Matching name text) c.in_ok-hits-in-Match.hits.items rows.is_content hits
+    ∙ sym (ap (λ (f : Filter). chosen content (filter_of f)) c.in-Match.is)) c.documents_of_hits.ensures.found

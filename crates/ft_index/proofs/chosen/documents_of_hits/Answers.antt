@@ -1,0 +1,43 @@
+-- a document more
+use Rattle.std.proofs.Common.{◌≡◌, ℤ, List, [], ◌∷◌, ◌++◌, Some, map, take, sym, ap, subst, ◌∙◌, to_z, of_z, w64, to_z-of_z, FitsSigned, rules}
+use Rattle.std.specs.Prelude.{unwrap_or}
+use Rattle.std.specs.Ordering.{int_cmp}
+use Rattle.std.specs.FinMap.Entries.{find}
+use Rattle.std.proofs.lemmas.List.{take_more, take_all, map-append}
+use Rattle.ft_query.specs.declared.walk.Hit.{Hit}
+use Rattle.ft_store.specs.Store.{Cell}
+use Rattle.ft_content.specs.Views.{cells_of}
+use Rattle.ft_index.specs.DocumentsRead.{HasRows, shown_document}
+use Rattle.ft_index.specs.Chosen.{document_at}
+use Rattle.ft_index.proofs.LookLemmas.{looks_then, rows_first, rows_then}
+use Rattle.ft_index.proofs.chosen.documents_of_hits.Goals as goal
+
+pub loop-hit-preserved : goal.loop-hit-preserved
+loop-hit-preserved g c =
+    let so_far = c.loop-hit.invariant in
+    let read = c.in_ok-cells.ensures in
+    let first = c.args.store.now in
+    let middle = c.loop-hit.store in
+    let last = c.found_cells.new.store in
+    record {
+      looks = looks_then g.S.Store first middle last so_far.looks read.looks so_far.live;
+      live = λ clean _. read.live clean;
+      found = λ content rows.
+          let tab : ℤ = to_z w64 (of_z w64 c.args.tab) in
+          let fits : FitsSigned w64 c.hit-item.result.docid = search rules in
+          let docid : ℤ = c.hit-item.result.docid in
+          let back : to_z w64 (of_z w64 c.hit-item.result.docid) ≡ c.hit-item.result.docid = to_z-of_z fits in
+          let before = so_far.found content (rows_first g.S.Store first middle last so_far.looks read.looks tab content rows) in
+          let here : find int_cmp docid content.documents ≡ Some (cells_of c.in_ok-cells.cells) = ap (λ (k : ℤ). find int_cmp k content.documents) (sym back) ∙ read.found content (rows_then g.S.Store first middle last so_far.looks read.looks tab content rows) in
+          let f : Hit → ℤ × List Cell = λ h. document_at content h.docid in
+          let more = take_more c.args.hits.now c.loop-hit.hit-index c.hit-item.result c.loop-hit-test.true ∙ ap (λ hit. take c.loop-hit.hit-index c.args.hits.now ++ hit ∷ []) (sym c.hit-item.is) in
+          ap (map shown_document) c.in_ok-push.ensures.items ∙ map-append shown_document c.loop-hit.documents.items (record { docid = to_z w64 (of_z w64 c.hit-item.result.docid); cells = c.in_ok-cells.cells } ∷ [])
+          ∙ (λ i. before i ++ (back i, unwrap_or (sym here i) []) ∷ [])
+          ∙ sym (ap (map f) more ∙ map-append f (take c.loop-hit.hit-index c.args.hits.now) (c.hit-item.result ∷ []));
+    }
+
+pub returns-clause-found : goal.returns-clause-found
+returns-clause-found g c content rows =
+    let f : Hit → ℤ × List Cell = λ h. document_at content h.docid in
+    c.loop-hit.invariant.found content (subst (λ (k : ℤ). HasRows g.S.Store k c.args.store.now c.loop-hit.store content) (sym (to_z-of_z c.ranges.tab)) rows)
+    ∙ ap (map f) (take_all c.loop-hit.hit-index c.args.hits.now c.loop-hit-test.false)

@@ -1,0 +1,19 @@
+-- The documents that a filter chooses, as they are read. All of it is our own choice.
+use Rattle.std.specs.Prelude.{◌≡◌, ℤ, List, [], Option, Ok, unwrap_or}
+use Rattle.std.specs.Ordering.{int_cmp}
+use Rattle.std.specs.FinMap.Entries.{find}
+use Rattle.ft_query.specs.Trees.{Tree}
+use Rattle.ft_store.specs.Store.{Cell}
+use Rattle.ft_content.specs.Content.{Content}
+use Rattle.ft_content.specs.Command.{Filter, Everything, OfDocid, Matching}
+use Rattle.ft_content.specs.Answer.{reading}
+
+-- the text of a MATCH reads as this query, where the filter is one
+abbrev pub ReadsAs : Content → Filter → Option Tree → Type 0
+ReadsAs content Everything query = Unit {0}
+ReadsAs content (OfDocid docid) query = Unit {0}
+ReadsAs content (Matching name text) query = reading content name text ≡ Ok query
+
+-- the document of a docid
+abbrev pub document_at : Content → ℤ → ℤ × List Cell
+document_at content docid = (docid, unwrap_or (find int_cmp docid content.documents) [])

@@ -1,0 +1,111 @@
+//! The documents that a filter chooses, read from a store.
+ghost use Rattle.std.specs.Prelude.{◌≡◌, ◌⊎◌, map, option_map, vec_len, Some, IsTrue, IfOk, IfErr, OnOk};
+ghost use Rattle.std.specs.Ordering.{int_cmp};
+ghost use Rattle.std.specs.FinMap.Entries.{find};
+ghost use Rattle.sqlite.specs.State.{HasCleanDisk};
+ghost use Rattle.ft_query.specs.Trees.{tree_of};
+ghost use Rattle.ft_store.specs.Kept.{shows, more_rows};
+ghost use Rattle.ft_content.specs.declared.fault.Fault.TheVariants as faults;
+ghost use Rattle.ft_content.specs.Content.{Content};
+ghost use Rattle.ft_content.specs.Command.{OfDocid};
+ghost use Rattle.ft_content.specs.Answer.{chosen};
+ghost use Rattle.ft_content.specs.Views.{cells_of, filter_of};
+ghost use Rattle.ft_index.specs.DocumentsRead.{HasRows, Looks, shown_document};
+ghost use Rattle.ft_index.specs.Walked.{IsIndexed};
+ghost use Rattle.ft_index.specs.Chosen.{ReadsAs, document_at};
+
+use crate::document::Document;
+use crate::documents::{all_documents, document};
+use crate::matching::matched;
+use ft_content::{Fault, Filter, Value};
+use ft_query::{Hit, Query};
+use ft_store::Store;
+use sqlite::Alter;
+use std::alloc::Global;
+
+/// The documents that a filter chooses, by rising docid, where the text of a MATCH reads as this query. The table is read once for all
+/// documents, and otherwise each chosen document is. The store is only read, whatever is answered.
+pub(crate) fn chosen_documents<S: Alter>(
+    alloc: Global,
+    store: &mut Store<S>,
+    tab: i64,
+    filter: &Filter,
+    query: Option<&Query>,
+) -> Result<Vec<Document>, Fault>
+    ensures chosen { IfOk result (λ found. (content : Content) → HasRows S.Store tab store.old store.new content → IsIndexed S.Store tab store.old store.new content
+        → ReadsAs content (filter_of filter.now) (option_map (λ q. tree_of q.now) query.entry) → map shown_document found.items ≡ chosen content (filter_of filter.now)) }
+    ensures faults { IfErr result (λ fault. (fault ≡ faults.Store) ⊎ (fault ≡ faults.Memory)) }
+    ensures looks { Looks S.Store store.old store.new }
+    ensures live { HasCleanDisk (shows S.Store store.new) → OnOk result (IsTrue (shows S.Store store.old).is_open → IsTrue (shows S.Store store.new).is_open) }
+{
+    match filter {
+        Filter::All => all_documents(alloc, store, tab),
+        Filter::Docid(docid) => one_document(alloc, store, tab, *docid),
+        Filter::Match { .. } => {
+            let hits = matched(store, alloc, tab, query, None)?;
+            documents_of_hits(alloc, store, tab, hits.as_slice())
+        }
+    }
+}
+
+// The document of a docid, if there is one.
+fn one_document<S: Alter>(
+    alloc: Global,
+    store: &mut Store<S>,
+    tab: i64,
+    docid: i64,
+) -> Result<Vec<Document>, Fault>
+    ensures found { IfOk result (λ found. (content : Content) → HasRows S.Store tab store.old store.new content → map shown_document found.items ≡ chosen content (OfDocid docid)) }
+    ensures faults { IfErr result (λ fault. (fault ≡ faults.Store) ⊎ (fault ≡ faults.Memory)) }
+    ensures looks { Looks S.Store store.old store.new }
+    ensures live { HasCleanDisk (shows S.Store store.new) → OnOk result (IsTrue (shows S.Store store.new).is_open) }
+{
+    let found = document(alloc, store, tab, docid)?;
+    let mut documents = Vec::new(alloc);
+    if let Some(cells) = found {
+        documents.push(Document { docid, cells })?;
+    }
+    Ok(documents)
+}
+
+// The documents of hits. One that isn't there is a refusal by the store.
+fn documents_of_hits<S: Alter>(
+    alloc: Global,
+    store: &mut Store<S>,
+    tab: i64,
+    hits: &[Hit],
+) -> Result<Vec<Document>, Fault>
+    ensures found { IfOk result (λ found. (content : Content) → HasRows S.Store tab store.old store.new content → map shown_document found.items ≡ map (λ h. document_at content h.docid) hits.now) }
+    ensures faults { IfErr result (λ fault. (fault ≡ faults.Store) ⊎ (fault ≡ faults.Memory)) }
+    ensures looks { Looks S.Store store.old store.new }
+    ensures live { HasCleanDisk (shows S.Store store.new) → OnOk result (IsTrue (shows S.Store store.old).is_open → IsTrue (shows S.Store store.new).is_open) }
+{
+    let mut documents = Vec::new(alloc);
+    for hit in hits {
+        let cells = found_cells(alloc, store, tab, hit.docid)?;
+        documents.push(Document {
+            docid: hit.docid,
+            cells,
+        })?;
+    }
+    Ok(documents)
+}
+
+/// The cells of a document that a walk found. Where it isn't there, the store is taken to refuse.
+pub(crate) fn found_cells<S: Alter>(
+    alloc: Global,
+    store: &mut Store<S>,
+    tab: i64,
+    docid: i64,
+) -> Result<Vec<Value>, Fault>
+    ensures found { IfOk result (λ cells. (content : Content) → HasRows S.Store tab store.old store.new content → find int_cmp docid content.documents ≡ Some (cells_of cells)) }
+    ensures counted { IfOk result (λ cells. store.new.rows_read ≡ more_rows (vec_len cells) store.old) }
+    ensures faults { IfErr result (λ fault. (fault ≡ faults.Store) ⊎ (fault ≡ faults.Memory)) }
+    ensures looks { Looks S.Store store.old store.new }
+    ensures live { HasCleanDisk (shows S.Store store.new) → OnOk result (IsTrue (shows S.Store store.new).is_open) }
+{
+    let Some(cells) = document(alloc, store, tab, docid)? else {
+        return Err(Fault::Store);
+    };
+    Ok(cells)
+}
