@@ -57,7 +57,7 @@ put_all_end R total (e ∷ es) acc h =
 
 -- ---- of the rows that pass, those that are put
 
-own_put : {K V : Type 0} (R : K → K → Ordering) → IsTotalOrder R → CmpEqualImpliesEq R → (p : K → Bool) (k : K) (v : V) (rows : List (K × V)) → p k ≡ true → IsTrue (is_sorted R rows) →
+pub own_put : {K V : Type 0} (R : K → K → Ordering) → IsTotalOrder R → CmpEqualImpliesEq R → (p : K → Bool) (k : K) (v : V) (rows : List (K × V)) → p k ≡ true → IsTrue (is_sorted R rows) →
     where_key R p (put R k v rows) ≡ put R k v (where_key R p rows)
 own_put {K} {V} R total exact p k v rows passes sorted =
     same_entries R total exact (where_key R p (put R k v rows)) (put R k v (where_key R p rows))

@@ -21,10 +21,10 @@ use Rattle.ft_index.specs.Rewrite.{document_if}
 use Rattle.ft_index.proofs.KeyedRows.{tie, none_below, sorted-filter}
 
 -- a document is found under its docid
-abbrev AreFound : (ℤ → Option (List Cell)) → Documents → Type 0
+abbrev pub AreFound : (ℤ → Option (List Cell)) → Documents → Type 0
 AreFound look documents = AllByRecursion (λ (d : ℤ × List Cell). look d.0 ≡ Some d.1) documents
 
-less_apart : (a b : ℤ) → is_lt (int_cmp a b) ≡ true → int_eq b a ≡ false
+pub less_apart : (a b : ℤ) → is_lt (int_cmp a b) ≡ true → int_eq b a ≡ false
 less_apart a b less = (eq_by_cmp_equiv int_cmp_total).symm b a ∙ apart (int_cmp a b) less
   where
     apart : (o : Ordering) → is_lt o ≡ true → is_eq o ≡ false
@@ -38,7 +38,7 @@ found_behind e look (d ∷ ds) below found =
     let parts = and_parts (is_lt (int_cmp e.0 d.0)) (below_all int_cmp e.0 ds) below in
     (ap (λ b. cond b (Some e.1) (look d.0)) (less_apart e.0 d.0 parts.0) ∙ found.0, found_behind e look ds parts.1 found.1)
 
-all_found : (ds : Documents) → is_sorted int_cmp ds ≡ true → AreFound (λ k. find int_cmp k ds) ds
+pub all_found : (ds : Documents) → is_sorted int_cmp ds ≡ true → AreFound (λ k. find int_cmp k ds) ds
 all_found [] rising = tt
 all_found (d ∷ ds) rising =
     let parts = and_parts (below_all int_cmp d.0 ds) (is_sorted int_cmp ds) rising in

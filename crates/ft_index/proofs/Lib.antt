@@ -59,3 +59,7 @@ pub mod InsertWrites
 pub mod Planning
 pub mod LookLemmas
 pub mod ChosenLemmas
+pub mod ChosenWrites
+pub mod BareLemmas
+pub mod DeleteWrites
+pub mod WholeReads

@@ -21,6 +21,10 @@ pub record Rewrite : Type 0 where
 abbrev pub shown_rewrite : source.Rewrite → Rewrite
 shown_rewrite r = record { docid = r.docid; before = option_map cells_of r.before; after = option_map cells_of r.after }
 
+-- the rewrite that removes a document
+abbrev pub removal : ℤ × List Cell → Rewrite
+removal d = record { docid = d.0; before = Some d.1; after = None }
+
 abbrev pub with_cells : ℤ → Option (List Cell) → Documents → Documents
 with_cells docid None documents = without_docid docid documents
 with_cells docid (Some cells) documents = put int_cmp docid cells documents

@@ -3,6 +3,7 @@
 
 mod change;
 mod chosen;
+mod delete;
 mod doc_lists;
 mod document;
 mod document_index;
@@ -13,6 +14,7 @@ mod matching;
 mod names;
 mod new_documents;
 mod optimize;
+mod query;
 mod rebuild;
 mod rewrite;
 mod standing_index;

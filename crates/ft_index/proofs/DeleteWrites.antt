@@ -1,0 +1,77 @@
+-- What a Delete writes.
+use Rattle.std.proofs.Common.{◌≡◌, ◌⊎◌, inl, inr, ℕ, Bool, true, false, cond, not, List, [], ◌∷◌, ◌++◌, map, filter, Option, Some, None, Result, Ok, Err, ℤ, refl, sym, ap, subst, ◌∙◌}
+use Rattle.std.specs.Prelude.{◌≢◌}
+use Rattle.ft_store.specs.Store.{Cell}
+use Rattle.ft_content.specs.declared.fault.Fault.{Fault}
+use Rattle.ft_content.specs.declared.fault.Fault.TheVariants as faults
+use Rattle.ft_content.specs.declared.table.Column as source
+use Rattle.ft_content.specs.Content.{Content, Documents, IsContent}
+use Rattle.ft_content.specs.Command.{Filter, Delete, Done}
+use Rattle.ft_content.specs.Answer.{is_chosen, chosen}
+use Rattle.ft_content.specs.Views.{bare_content, column_of}
+use Rattle.ft_content.specs.Deserved.{Contents, first_of, or_else, delete_tests, delete_fault, query_fault, deserved}
+use Rattle.ft_content.specs.Step.{deleted, docids_of, with_documents, on_table, after, touched, reply_to}
+use Rattle.ft_content.proofs.ContentLemmas.{delete_keeps_content}
+use Rattle.ft_index.specs.Rewrite.{Rewrite, removal}
+use Rattle.ft_index.specs.Written.{LeadsTo}
+use Rattle.ft_index.proofs.BareLemmas.{unknown_bare, fault_bare, memory_or}
+use Rattle.ft_index.proofs.ChosenWrites.{each_rewritten, chosen_lead, own_docids}
+use Rattle.ft_index.proofs.Writing.{IsWrite}
+
+abbrev none_after : ℤ × List Cell → Option (List Cell)
+none_after d = None
+
+each_removed : (p : ℤ × List Cell → Bool) (ds : Documents) → each_rewritten none_after p ds ≡ filter (λ (d : ℤ × List Cell). not (p d)) ds
+each_removed p [] = refl
+each_removed p (d ∷ ds) = elim (p d) as (λ b. cond b [] (d ∷ []) ++ each_rewritten none_after p ds ≡ cond (not b) (d ∷ filter (λ (d : ℤ × List Cell). not (p d)) ds) (filter (λ (d : ℤ × List Cell). not (p d)) ds)) [ true ↦ each_removed p ds | false ↦ ap (λ l. d ∷ l) (each_removed p ds) ]
+
+module _ (f : Filter) where
+  abbrev pub due : List ℕ → Content → Option Fault
+  due table content = delete_fault table content f
+
+  abbrev pub made : Content → Documents
+  made content = deleted content f
+
+  abbrev pub gone : Content → List ℤ
+  gone content = docids_of (chosen content f)
+
+  pub leaves : (name : List ℕ) (contents : Contents) → after contents (Delete name f) ≡ on_table contents name (with_documents made)
+  unfolding after
+  leaves name contents = refl
+
+  pub replies : (name : List ℕ) (contents : Contents) → reply_to contents (Delete name f) ≡ Done
+  unfolding reply_to
+  replies name contents = refl
+
+  pub is_write : (name : List ℕ) → IsWrite (Delete name f) name due made gone
+  unfolding deserved touched
+  is_write name = record {
+    deserves = λ contents. refl;
+    leaves = leaves name;
+    touches = λ contents. refl;
+    near = λ contents changes h. h;
+    keeps = λ table content is fine. delete_keeps_content table content f is;
+    replies = replies name;
+  }
+
+  -- removals of the chosen documents
+  pub leads : (name : List ℕ) (content : Content) → IsContent name content → LeadsTo content (made content) (gone content) (map removal (chosen content f))
+  leads name content is = chosen_lead none_after name content f (made content) (gone content) is (each_removed (is_chosen content f) content.documents) (delete_keeps_content name content f is) (own_docids (chosen content f))
+
+  module _ (content : Content) (cols : List source.Column) (columns_are : content.columns ≡ map column_of cols) (table : List ℕ) where
+    tests_are : delete_tests table content f ≡ delete_tests table (bare_content cols) f
+    tests_are = ap (λ b. first_of ((b, faults.NoSuchColumn) ∷ [])) (unknown_bare content cols columns_are f table)
+
+    -- a test that refuses it, and a text that does
+    pub tested_due : (fault : Fault) → delete_tests table (bare_content cols) f ≡ Some fault → due table content ≡ Some fault
+    tested_due fault tested = ap (λ o. or_else o (query_fault content f)) (tests_are ∙ tested)
+
+    pub text_due : (fault : Fault) → delete_tests table (bare_content cols) f ≡ None → (fault ≢ faults.Memory → query_fault (bare_content cols) f ≡ Some fault) → ((fault ≡ faults.Store) ⊎ (fault ≡ faults.Memory)) ⊎ (due table content ≡ Some fault)
+    text_due fault tested refused = go (memory_or fault)
+      where
+        go : (fault ≡ faults.Memory) ⊎ (fault ≢ faults.Memory) → ((fault ≡ faults.Store) ⊎ (fault ≡ faults.Memory)) ⊎ (due table content ≡ Some fault)
+        go (inl memory) = inl (inr memory)
+        go (inr other) = inr (ap (λ o. or_else o (query_fault content f)) (tests_are ∙ tested) ∙ fault_bare content cols columns_are f ∙ refused other)
+
+    pub none_due : delete_tests table (bare_content cols) f ≡ None → query_fault (bare_content cols) f ≡ None → due table content ≡ None
+    none_due tested fine = ap (λ o. or_else o (query_fault content f)) (tests_are ∙ tested) ∙ fault_bare content cols columns_are f ∙ fine

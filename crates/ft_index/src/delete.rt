@@ -1,0 +1,99 @@
+//! Documents that a Delete removes.
+ghost use Rattle.std.specs.Prelude.{◌≡◌, map, string_bytes, IfOk};
+ghost use Rattle.ft_content.specs.Command as plain;
+ghost use Rattle.ft_content.specs.Content.{Content};
+ghost use Rattle.ft_content.specs.Answer.{chosen};
+ghost use Rattle.ft_content.specs.Deserved.{delete_fault};
+ghost use Rattle.ft_content.specs.Step.{deleted, docids_of};
+ghost use Rattle.ft_content.specs.Views.{column_of, filter_of, known_info, answer_of};
+ghost use Rattle.ft_index.specs.Kept.{Executes};
+ghost use Rattle.ft_index.specs.Changed.{with_tables};
+ghost use Rattle.ft_index.specs.DocumentsRead.{Looks, shown_document};
+ghost use Rattle.ft_index.specs.Rewrite.{shown_rewrite, removal};
+ghost use Rattle.ft_index.specs.Written.{HasAll, Writes, PlansIn};
+
+use crate::change::change_rows;
+use crate::chosen::chosen_documents;
+use crate::document::Document;
+use crate::names::sound_table;
+use crate::query::filter_query;
+use crate::rewrite::{Rewrite, row_changes};
+use ft_content::{Fault, Filter, Reply, TableInfo, delete_tests};
+use ft_store::{RowChange, Store};
+use sqlite::Alter;
+use std::alloc::{AllocError, Global};
+
+/// Answers a Delete.
+pub(crate) fn delete_from<S: Alter>(
+    alloc: Global,
+    store: &mut Store<S>,
+    tables: &[TableInfo],
+    table: &str,
+    filter: &Filter,
+) -> Result<Reply, Fault>
+    ensures { Executes S.Store (with_tables store.old (map known_info tables.now)) (plain.Delete table.now (filter_of filter.now))
+        (answer_of result) (with_tables store.new (map known_info tables.now)) }
+{
+    let changes = delete_changes(alloc, store, tables, table, filter)?;
+    change_rows(store, changes.as_slice())?;
+    Ok(Reply::Done)
+}
+
+/// The row changes of a Delete, or its fault. The store is only read, whatever is answered.
+pub(crate) fn delete_changes<S: Alter>(
+    alloc: Global,
+    store: &mut Store<S>,
+    tables: &[TableInfo],
+    table: &str,
+    filter: &Filter,
+) -> Result<Vec<RowChange>, Fault>
+    ensures plans { PlansIn S.Store (map known_info tables.now) store.old store.new (plain.Delete table.now (filter_of filter.now)) result }
+    ensures looks { Looks S.Store store.old store.new }
+{
+    store.is_in_order();
+    let known = sound_table(tables, table)?;
+    let rewrites = written_by_delete(alloc, store, known, filter)?;
+    let changes = row_changes(
+        alloc,
+        known.id,
+        known.columns.as_slice(),
+        rewrites.as_slice(),
+    )?;
+    Ok(changes)
+}
+
+// The rewrites of a Delete from a sound table, or its fault. The store is only read, whatever is answered.
+fn written_by_delete<S: Alter>(
+    alloc: Global,
+    store: &mut Store<S>,
+    known: &TableInfo,
+    filter: &Filter,
+) -> Result<Vec<Rewrite>, Fault>
+    ensures written { (content : Content) → HasAll S.Store known.now.id (string_bytes known.now.name) (map column_of known.now.columns.items) store.old store.new content
+        → Writes content (delete_fault (string_bytes known.now.name) content (filter_of filter.now)) (deleted content (filter_of filter.now)) (docids_of (chosen content (filter_of filter.now))) result }
+    ensures looks { Looks S.Store store.old store.new }
+{
+    if let Some(fault) = delete_tests(known.name.as_str(), known.columns.as_slice(), filter) {
+        return Err(fault);
+    }
+    let query = filter_query(alloc, known.columns.as_slice(), filter)?;
+    let documents = chosen_documents(alloc, store, known.id, filter, query.as_ref())?;
+    let rewrites = removals(alloc, documents)?;
+    Ok(rewrites)
+}
+
+// The rewrites that remove documents.
+fn removals(alloc: Global, documents: Vec<Document>) -> Result<Vec<Rewrite>, AllocError>
+    ensures { IfOk result (λ rewrites. map shown_rewrite rewrites.items ≡ map removal (map shown_document documents.items)) }
+{
+    let mut rewrites = Vec::new(alloc);
+    for document in documents {
+        let Document { docid, cells } = document;
+        rewrites.push(Rewrite {
+            docid,
+            before: Some(cells),
+            after: None,
+        })?;
+    }
+    Ok(rewrites)
+}
