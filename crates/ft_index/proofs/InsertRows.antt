@@ -35,7 +35,7 @@ row_at names f rows k row is = slice_get-map (zip names) (map f rows) k ∙ ap (
 
 -- ---- what is known of docids that are given
 
-given_is : (documents : Documents) (given : Option ℤ) → IfSome given (λ docid. has_docid documents docid ≡ has_given documents given)
+pub given_is : (documents : Documents) (given : Option ℤ) → IfSome given (λ docid. has_docid documents docid ≡ has_given documents given)
 given_is documents None = tt
 given_is documents (Some docid) = refl
 

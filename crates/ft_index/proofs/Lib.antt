@@ -63,3 +63,5 @@ pub mod ChosenWrites
 pub mod BareLemmas
 pub mod DeleteWrites
 pub mod WholeReads
+pub mod UpdateWrites
+pub mod UpdateDue

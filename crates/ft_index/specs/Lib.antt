@@ -17,3 +17,4 @@ pub mod Matched
 pub mod Standing
 pub mod Written
 pub mod Chosen
+pub mod Updated

@@ -22,6 +22,7 @@ mod standing_rows;
 mod table_lists;
 mod tables;
 mod told;
+mod update;
 
 pub use ft_content::{Column, Command, Fault, Filter, Grid, Item, Items, Reply, TableInfo, Value};
 pub use full_text::FullText;

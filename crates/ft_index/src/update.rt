@@ -1,0 +1,216 @@
+//! Documents that an Update changes.
+ghost use Rattle.std.specs.Prelude.{◌≡◌, ◌⊎◌, ◌∷◌, [], ℕ, List, Option, None, Some, ℤ, map, slice_get, string_bytes, MatchResult, IfOk, OnOk};
+ghost use Rattle.ft_content.specs.declared.fault.Fault.TheVariants as faults;
+ghost use Rattle.ft_content.specs.Command as plain;
+ghost use Rattle.ft_content.specs.Content.{Content};
+ghost use Rattle.ft_content.specs.Answer.{chosen};
+ghost use Rattle.ft_content.specs.Deserved as deserved;
+ghost use Rattle.ft_content.specs.Step.{updated, docids_of};
+ghost use Rattle.ft_content.specs.Views.{column_of, set_of, filter_of, known_info, answer_of};
+ghost use Rattle.ft_index.specs.Kept.{Executes};
+ghost use Rattle.ft_index.specs.Changed.{with_tables};
+ghost use Rattle.ft_index.specs.DocumentsRead.{HasRows, Looks, shown_document};
+ghost use Rattle.ft_index.specs.Rewrite.{Rewrite as Shown, shown_rewrite};
+ghost use Rattle.ft_index.specs.Updated.{changing, leaving, coming, moved_from, MayMove, update_touches};
+ghost use Rattle.ft_index.specs.Written.{HasAll, Writes, PlansIn};
+
+use crate::change::change_rows;
+use crate::chosen::chosen_documents;
+use crate::document::Document;
+use crate::documents::has_document;
+use crate::names::sound_table;
+use crate::query::filter_query;
+use crate::rewrite::{Rewrite, row_changes};
+use ft_content::{
+    Column, Fault, Filter, Reply, TableInfo, Value, moves_fault, repeats_set, set_docid,
+    update_tests, with_values,
+};
+use ft_store::{RowChange, Store};
+use sqlite::Alter;
+use std::alloc::{AllocError, Global};
+
+/// Answers an Update.
+pub(crate) fn update_documents<S: Alter>(
+    alloc: Global,
+    store: &mut Store<S>,
+    tables: &[TableInfo],
+    table: &str,
+    sets: &[(String, Value)],
+    filter: &Filter,
+) -> Result<Reply, Fault>
+    ensures { Executes S.Store (with_tables store.old (map known_info tables.now)) (plain.Update table.now (map set_of sets.now) (filter_of filter.now))
+        (answer_of result) (with_tables store.new (map known_info tables.now)) }
+{
+    let changes = update_changes(alloc, store, tables, table, sets, filter)?;
+    change_rows(store, changes.as_slice())?;
+    Ok(Reply::Done)
+}
+
+/// The row changes of an Update, or its fault. The store is only read, whatever is answered.
+pub(crate) fn update_changes<S: Alter>(
+    alloc: Global,
+    store: &mut Store<S>,
+    tables: &[TableInfo],
+    table: &str,
+    sets: &[(String, Value)],
+    filter: &Filter,
+) -> Result<Vec<RowChange>, Fault>
+    ensures plans { PlansIn S.Store (map known_info tables.now) store.old store.new (plain.Update table.now (map set_of sets.now) (filter_of filter.now)) result }
+    ensures looks { Looks S.Store store.old store.new }
+{
+    store.is_in_order();
+    if repeats_set(sets) {
+        return Err(Fault::DuplicateColumn);
+    }
+    let known = sound_table(tables, table)?;
+    let rewrites = written_by_update(alloc, store, known, sets, filter)?;
+    let changes = row_changes(
+        alloc,
+        known.id,
+        known.columns.as_slice(),
+        rewrites.as_slice(),
+    )?;
+    Ok(changes)
+}
+
+// The rewrites of an Update of a sound table, or its fault. The store is only read, whatever is answered.
+fn written_by_update<S: Alter>(
+    alloc: Global,
+    store: &mut Store<S>,
+    known: &TableInfo,
+    sets: &[(String, Value)],
+    filter: &Filter,
+) -> Result<Vec<Rewrite>, Fault>
+    ensures written { (content : Content) → HasAll S.Store known.now.id (string_bytes known.now.name) (map column_of known.now.columns.items) store.old store.new content
+        → Writes content (deserved.update_fault (string_bytes known.now.name) content (map set_of sets.now) (filter_of filter.now)) (updated content (map set_of sets.now) (filter_of filter.now))
+        (update_touches content (map set_of sets.now) (filter_of filter.now)) result }
+    ensures looks { Looks S.Store store.old store.new }
+{
+    let columns = known.columns.as_slice();
+    if let Some(fault) = update_tests(known.name.as_str(), columns, sets, filter) {
+        return Err(fault);
+    }
+    let query = filter_query(alloc, columns, filter)?;
+    let documents = chosen_documents(alloc, store, known.id, filter, query.as_ref())?;
+    let given = set_docid(sets);
+    test_move(alloc, store, known.id, documents.as_slice(), given)?;
+    let rewrites = update_rewrites(alloc, columns, sets, documents, given)?;
+    Ok(rewrites)
+}
+
+// Whether chosen documents may get the docid that is given. The store is only read, whatever is answered.
+fn test_move<S: Alter>(
+    alloc: Global,
+    store: &mut Store<S>,
+    tab: i64,
+    documents: &[Document],
+    given: Option<i64>,
+) -> Result<(), Fault>
+    ensures moves { (content : Content) (docids : List ℤ) → HasRows S.Store tab store.old store.new content → slice_get docids 0 ≡ given
+        → MatchResult result (λ _. deserved.moves_fault content.documents (map shown_document documents.now) docids ≡ None)
+        (λ fault. ((fault ≡ faults.Store) ⊎ (fault ≡ faults.Memory)) ⊎ (deserved.moves_fault content.documents (map shown_document documents.now) docids ≡ Some fault)) }
+    ensures looks { Looks S.Store store.old store.new }
+{
+    let docids = numbers(alloc, documents)?;
+    let is_taken = has_document(alloc, store, tab, given)?;
+    match moves_fault(docids.as_slice(), given, is_taken) {
+        Some(fault) => Err(fault),
+        None => Ok(()),
+    }
+}
+
+// The docids of documents.
+fn numbers(alloc: Global, documents: &[Document]) -> Result<Vec<i64>, AllocError>
+    ensures { IfOk result (λ docids. docids.items ≡ map (λ d. d.docid) documents.now) }
+{
+    documents
+        .iter()
+        .map(|document| document.docid)
+        .collect(alloc)
+}
+
+// The rewrites of chosen documents, of which one may get another docid.
+fn update_rewrites(
+    alloc: Global,
+    columns: &[Column],
+    sets: &[(String, Value)],
+    documents: Vec<Document>,
+    given: Option<i64>,
+) -> Result<Vec<Rewrite>, AllocError>
+    ensures { IfOk result (λ rewrites. MayMove given (map (changing (map set_of sets.now) (map column_of columns.now)) (map shown_document documents.items)) (map shown_rewrite rewrites.items)) }
+{
+    let mut rewrites = change_rewrites(alloc, columns, sets, documents)?;
+    if let Some(docid) = given {
+        move_only(&mut rewrites, docid)?;
+    }
+    Ok(rewrites)
+}
+
+// The rewrites that set values of documents.
+fn change_rewrites(
+    alloc: Global,
+    columns: &[Column],
+    sets: &[(String, Value)],
+    documents: Vec<Document>,
+) -> Result<Vec<Rewrite>, AllocError>
+    ensures { IfOk result (λ rewrites. map shown_rewrite rewrites.items ≡ map (changing (map set_of sets.now) (map column_of columns.now)) (map shown_document documents.items)) }
+{
+    let mut rewrites = Vec::new(alloc);
+    for document in documents {
+        let Document { docid, cells } = document;
+        let after = with_values(alloc, columns, sets, cells.as_slice())?;
+        rewrites.push(Rewrite {
+            docid,
+            before: Some(cells),
+            after: Some(after),
+        })?;
+    }
+    Ok(rewrites)
+}
+
+// Where this is the only rewrite, its document gets this docid.
+fn move_only(rewrites: &mut Vec<Rewrite>, docid: i64) -> Result<(), AllocError>
+    ensures none { map shown_rewrite rewrites.old.items ≡ [] → OnOk result (map shown_rewrite rewrites.new.items ≡ []) }
+    ensures only { (r : Shown) → map shown_rewrite rewrites.old.items ≡ r ∷ [] → OnOk result (map shown_rewrite rewrites.new.items ≡ moved_from r docid) }
+{
+    let Some(only) = rewrites.pop() else {
+        return Ok(());
+    };
+    if only.docid == docid {
+        rewrites.push(only)?;
+        return Ok(());
+    }
+    let is_behind = only.docid < docid;
+    let (leaves, comes) = parted(only, docid);
+    if is_behind {
+        rewrites.push(leaves)?;
+        rewrites.push(comes)?;
+    } else {
+        rewrites.push(comes)?;
+        rewrites.push(leaves)?;
+    }
+    Ok(())
+}
+
+// What leaves the docid that a document had, and what comes under this one.
+fn parted(only: Rewrite, docid: i64) -> (Rewrite, Rewrite)
+    ensures leaves { shown_rewrite result.0 ≡ leaving (shown_rewrite only) }
+    ensures comes { shown_rewrite result.1 ≡ coming (shown_rewrite only) docid }
+{
+    let Rewrite {
+        docid: old,
+        before,
+        after,
+    } = only;
+    let leaves = Rewrite {
+        docid: old,
+        before,
+        after: None,
+    };
+    let comes = Rewrite {
+        docid,
+        before: None,
+        after,
+    };
+    (leaves, comes)
+}
