@@ -55,3 +55,6 @@ pub mod InsertHolds
 pub mod InsertOf
 pub mod LookLemmas
 pub mod ChosenLemmas
+pub mod SelectRows
+pub mod FaultLemmas
+pub mod SelectAnswers

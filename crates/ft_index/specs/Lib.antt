@@ -16,3 +16,4 @@ pub mod Changed
 pub mod Matched
 pub mod Standing
 pub mod Chosen
+pub mod Selected

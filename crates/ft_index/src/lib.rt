@@ -15,6 +15,7 @@ mod new_documents;
 mod optimize;
 mod rebuild;
 mod rewrite;
+mod select;
 mod standing_index;
 mod standing_rows;
 mod table_lists;
