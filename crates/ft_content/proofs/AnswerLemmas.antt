@@ -35,7 +35,7 @@ take_of_map f zero xs = refl
 take_of_map f (suc n) [] = refl
 take_of_map f (suc n) (x ∷ xs) = ap (λ ys. f x ∷ ys) (take_of_map f n xs)
 
-cut_of_map : {A B : Type 0} (f : A → B) (limit : Option ℕ) (offset : ℕ) (xs : List A) → cut limit offset (map f xs) ≡ map f (cut limit offset xs)
+pub cut_of_map : {A B : Type 0} (f : A → B) (limit : Option ℕ) (offset : ℕ) (xs : List A) → cut limit offset (map f xs) ≡ map f (cut limit offset xs)
 cut_of_map f None offset xs = drop_of_map f offset xs
 cut_of_map f (Some limit) offset xs = ap (take limit) (drop_of_map f offset xs) ∙ take_of_map f limit (drop offset xs)
 

@@ -65,3 +65,6 @@ pub mod DeleteWrites
 pub mod WholeReads
 pub mod UpdateWrites
 pub mod UpdateDue
+pub mod SelectRows
+pub mod FaultLemmas
+pub mod SelectAnswers

@@ -14,6 +14,9 @@ ReadsAs content Everything query = Unit {0}
 ReadsAs content (OfDocid docid) query = Unit {0}
 ReadsAs content (Matching name text) query = reading content name text ≡ Ok query
 
--- the document of a docid
+-- the cells of the document of a docid
+abbrev pub cells_at : Content → ℤ → List Cell
+cells_at content docid = unwrap_or (find int_cmp docid content.documents) []
+
 abbrev pub document_at : Content → ℤ → ℤ × List Cell
-document_at content docid = (docid, unwrap_or (find int_cmp docid content.documents) [])
+document_at content docid = (docid, cells_at content docid)

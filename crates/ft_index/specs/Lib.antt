@@ -18,3 +18,4 @@ pub mod Standing
 pub mod Written
 pub mod Chosen
 pub mod Updated
+pub mod Selected

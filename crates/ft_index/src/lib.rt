@@ -17,6 +17,7 @@ mod optimize;
 mod query;
 mod rebuild;
 mod rewrite;
+mod select;
 mod standing_index;
 mod standing_rows;
 mod table_lists;

@@ -1,0 +1,36 @@
+-- Want of memory, or another fault.
+use Rattle.std.proofs.Common.{◌≡◌, ◌⊎◌, inl, inr, Result, Ok, Err, refl}
+use Rattle.std.specs.Prelude.{◌≢◌, IfErr}
+use Rattle.ft_content.specs.declared.fault.Fault.{Fault}
+use Rattle.ft_content.specs.declared.fault.Fault.TheVariants as faults
+
+pub memory_or : (fault : Fault) → (fault ≡ faults.Memory) ⊎ (fault ≢ faults.Memory)
+memory_or faults.Memory = inl refl
+memory_or faults.Module = inr (λ e. let no = e in cc)
+memory_or faults.Tokenizer = inr (λ e. let no = e in cc)
+memory_or faults.Parameter = inr (λ e. let no = e in cc)
+memory_or faults.Name = inr (λ e. let no = e in cc)
+memory_or faults.DuplicateColumn = inr (λ e. let no = e in cc)
+memory_or faults.TooManyColumns = inr (λ e. let no = e in cc)
+memory_or faults.TableExists = inr (λ e. let no = e in cc)
+memory_or faults.TooManyTables = inr (λ e. let no = e in cc)
+memory_or faults.NoSuchTable = inr (λ e. let no = e in cc)
+memory_or faults.Unsound = inr (λ e. let no = e in cc)
+memory_or faults.NoSuchColumn = inr (λ e. let no = e in cc)
+memory_or faults.Count = inr (λ e. let no = e in cc)
+memory_or faults.DocidKind = inr (λ e. let no = e in cc)
+memory_or faults.DocidTwice = inr (λ e. let no = e in cc)
+memory_or faults.TooLong = inr (λ e. let no = e in cc)
+memory_or faults.HasNul = inr (λ e. let no = e in cc)
+memory_or faults.Context = inr (λ e. let no = e in cc)
+memory_or faults.Malformed = inr (λ e. let no = e in cc)
+memory_or faults.TooLarge = inr (λ e. let no = e in cc)
+memory_or (faults.DocidTaken docid) = inr (λ e. let no = e in cc)
+memory_or faults.DocidFull = inr (λ e. let no = e in cc)
+memory_or faults.Corrupt = inr (λ e. let no = e in cc)
+memory_or faults.Store = inr (λ e. let no = e in cc)
+
+-- a fault that is told but for want of memory
+pub if_err_memory : {X : Type 0} (r : Result X Fault) (P Q : Fault → Type 0) → ((fault : Fault) → P fault → Q fault) → IfErr r (λ fault. fault ≢ faults.Memory → P fault) → IfErr r (λ fault. (fault ≡ faults.Memory) ⊎ Q fault)
+if_err_memory (Ok x) P Q f h = tt
+if_err_memory (Err fault) P Q f h = elim (memory_or fault) [ inl is ↦ inl is | inr other ↦ inr (f fault (h other)) ]

@@ -1,0 +1,183 @@
+-- What a Select deserves and is answered, out of what was read.
+use Rattle.std.proofs.Common.{◌≡◌, ◌⊎◌, inl, inr, ℕ, Bool, true, false, cond, not, ◌&&◌, ◌||◌, List, [], ◌∷◌, ◌++◌, Option, Some, None, Result, Ok, Err, ℤ, refl, sym, ap, subst, ◌∙◌, arith, IsTrue}
+use Rattle.std.specs.List.{list_any, flat_map}
+use Rattle.sqlite.specs.Effect.{Database}
+use Rattle.sqlite.specs.Store.{Ghosts}
+use Rattle.ft_query.specs.Trees.{Tree}
+use Rattle.ft_store.specs.Store.{StoreValue, AreInOrder}
+use Rattle.ft_store.specs.Rows.{value_of as value_of_trees}
+use Rattle.ft_store.specs.Kept.{StoreState, value_in, more_rows}
+use Rattle.ft_content.specs.declared.fault.Fault.{Fault}
+use Rattle.ft_content.specs.declared.fault.Fault.TheVariants as faults
+use Rattle.ft_content.specs.Content.{Column, Content, content_rows, names_of, same_name}
+use Rattle.ft_content.specs.Command.{Filter, Everything, OfDocid, Matching, Item, AllColumns, Named, OffsetsOf, Items, Counted, Listed, Command, Select, Reply, Rows, Grid}
+use Rattle.ft_content.specs.Answer.{reading, column_place, item_headers, answer_names, answer}
+use Rattle.ft_content.specs.Deserved.{Held, Sound, Table, Contents, table_named, first_of, or_else, has_column, item_unknown, names_unknown, items_in, is_offsets, is_match, reading_fault, query_fault, select_fault, deserved}
+use Rattle.ft_content.specs.Step.{answer_of_held, answer_of_found, after, reply_to, step, step_by}
+use Rattle.ft_content.specs.Views.{KnownTable}
+use Rattle.ft_query.specs.Reads.{query_of}
+use Rattle.ft_content.specs.Index.{index_rows}
+use Rattle.ft_index.specs.Tables.{table_rows, table_index}
+use Rattle.ft_index.specs.Found.{known_named, IsUnfit}
+use Rattle.ft_index.specs.Kept.{Known, IsUp, AreHeld, Executes, OnlyLooks, Answers, is_outside, held_columns}
+use Rattle.ft_index.specs.Changed.{with_tables}
+use Rattle.ft_index.specs.DocumentsRead.{Looks}
+use Rattle.ft_index.specs.Chosen.{ReadsAs}
+use Rattle.ft_index.specs.Selected.{IsAsked}
+use Rattle.ft_index.specs.RowsRead.{rows_asked, CountsHeld, CountsFound, CountsRows, CountsCommand}
+use Rattle.ft_index.proofs.KnownLemmas.{IsSoundTable, sound_table, sound_is, unfit_is}
+use Rattle.ft_index.proofs.CreateLemmas.{refused_answers}
+use Rattle.ft_index.proofs.InsertHolds.{sound_rows}
+
+-- ---- only the columns of a content matter before it is read
+
+abbrev bare : List Column → Content
+bare columns = record { columns = columns; documents = [] }
+
+pub names_bare : (table : List ℕ) (columns : List Column) (content : Content) (items : Items) → content.columns ≡ columns → answer_names table (bare columns) items ≡ answer_names table content items
+names_bare table columns content Counted same = refl
+names_bare table columns content (Listed items) same = go items
+  where
+    go : (is : List Item) → flat_map (item_headers table (bare columns)) is ≡ flat_map (item_headers table content) is
+    go [] = refl
+    go (AllColumns ∷ is) = λ i. names_of (sym same i) ++ go is i
+    go (Named name ∷ is) = λ i. item_headers table (bare (sym same i)) (Named name) ++ go is i
+    go (OffsetsOf name ∷ is) = ap (λ l. item_headers table content (OffsetsOf name) ++ l) (go is)
+
+unknown_bare : (table : List ℕ) (columns : List Column) (content : Content) (items : List Item) → content.columns ≡ columns → list_any (item_unknown table (bare columns)) items ≡ list_any (item_unknown table content) items
+unknown_bare table columns content [] same = refl
+unknown_bare table columns content (AllColumns ∷ items) same = unknown_bare table columns content items same
+unknown_bare table columns content (Named name ∷ items) same = λ i. not (has_column (bare (sym same i)) name) || unknown_bare table columns content items same i
+unknown_bare table columns content (OffsetsOf name ∷ items) same = ap (λ b. not (same_name table name) || b) (unknown_bare table columns content items same)
+
+unnamed_bare : (table : List ℕ) (columns : List Column) (content : Content) (f : Filter) → content.columns ≡ columns → names_unknown table (bare columns) f ≡ names_unknown table content f
+unnamed_bare table columns content Everything same = refl
+unnamed_bare table columns content (OfDocid docid) same = refl
+unnamed_bare table columns content (Matching name text) same = λ i. not (same_name table name || list_any (same_name name) (names_of (sym same i)))
+
+reading_bare : (columns : List Column) (content : Content) (name text : List ℕ) → content.columns ≡ columns → reading (bare columns) name text ≡ reading content name text
+unfolding reading
+reading_bare columns content name text same = λ i. query_of (names_of (sym same i)) (column_place (bare (sym same i)) name) text
+
+reads_bare : (columns : List Column) (content : Content) (f : Filter) (query : Option Tree) → content.columns ≡ columns → ReadsAs (bare columns) f query → ReadsAs content f query
+reads_bare columns content Everything query same h = tt
+reads_bare columns content (OfDocid docid) query same h = tt
+reads_bare columns content (Matching name text) query same h = sym (reading_bare columns content name text same) ∙ h
+
+query_bare : (columns : List Column) (content : Content) (f : Filter) → content.columns ≡ columns → query_fault (bare columns) f ≡ query_fault content f
+query_bare columns content Everything same = refl
+query_bare columns content (OfDocid docid) same = refl
+query_bare columns content (Matching name text) same = ap reading_fault (reading_bare columns content name text same)
+
+fault_bare : (table : List ℕ) (columns : List Column) (content : Content) (items : Items) (f : Filter) → content.columns ≡ columns → select_fault table (bare columns) items f ≡ select_fault table content items f
+fault_bare table columns content items f same =
+    λ i. or_else (first_of ((unknown_bare table columns content (items_in items) same i || unnamed_bare table columns content f same i, faults.NoSuchColumn) ∷ (list_any is_offsets (items_in items) && not (is_match f), faults.Context) ∷ [])) (query_bare columns content f same i)
+
+-- no test applies: so offsets are asked for with a MATCH alone
+fine_offsets : (table : List ℕ) (content : Content) (items : Items) (f : Filter) → select_fault table content items f ≡ None → (list_any is_offsets (items_in items) && not (is_match f)) ≡ false
+fine_offsets table content items f fine = go (list_any (item_unknown table content) (items_in items) || names_unknown table content f) (list_any is_offsets (items_in items) && not (is_match f)) fine
+  where
+    go : (a b : Bool) → or_else (cond a (Some faults.NoSuchColumn) (cond b (Some faults.Context) None)) (query_fault content f) ≡ None → b ≡ false
+    go true b h = absurd (let no = h in cc)
+    go false true h = absurd (let no = h in cc)
+    go false false h = refl
+
+-- ---- a sound table that is told
+
+told_columns : (contents : Contents) (name : List ℕ) (known : KnownTable) (t : IsSoundTable contents name known) → t.content.columns ≡ known.columns
+told_columns contents name known t = sym (ap held_columns t.held) ∙ ap (λ (k : KnownTable). k.columns) t.told
+
+-- the rows that a MATCH reads
+counted : {S : Type 0} (old new : StoreState S) (tables : List KnownTable) (name : List ℕ) (items : Items) (f : Filter) (limit : Option ℕ) (offset : ℕ) (first : Contents) (t : ℤ × Table) (content : Content) → table_named first name ≡ Some t → t.1.held ≡ Sound content →
+    (IsTrue (is_match f) → new.rows_read ≡ more_rows (rows_asked content items f limit offset) old) → CountsCommand first (with_tables old tables) (with_tables new tables) (Select name items f limit offset)
+counted old new tables name items Everything limit offset first t content found held counts = tt
+counted old new tables name items (OfDocid docid) limit offset first t content found held counts = tt
+counted {S} old new tables name items (Matching column text) limit offset first t content found held counts =
+    let before : Known S = with_tables old tables in
+    let later : Known S = with_tables new tables in
+    subst (λ (o : Option (ℤ × Table)). CountsFound offset before later items (Matching column text) limit o) (sym found)
+    (subst (λ (h : Held). CountsHeld offset before later items (Matching column text) limit h) (sym held) (counts refl))
+
+module _ {S : Type 0} (g : Ghosts S) (old new : StoreState S) (tables : List KnownTable) (name : List ℕ) (items : Items) (f : Filter) (limit : Option ℕ) (offset : ℕ) (looks : Looks g old new) where
+  abbrev command : Command
+  command = Select name items f limit offset
+
+  was_up : IsUp g (with_tables new tables) → IsUp g (with_tables old tables)
+  was_up up = record { clean = omega (arith, looks.survives.clean, up.clean); is_open = (looks.kept up.clean up.is_open).2 }
+
+  same_value : IsUp g (with_tables new tables) → value_in g new ≡ value_in g old
+  same_value up = ap (λ (d : Database). value_of_trees d.trees) (looks.kept up.clean up.is_open).0
+
+  pub only_looks : OnlyLooks g (with_tables old tables) (with_tables new tables)
+  only_looks = record { was_up = was_up; value = same_value; survives = looks.survives; tables = refl }
+
+  abbrev Does : Result Reply Fault → Type 0
+  Does result = Executes g (with_tables old tables) command result (with_tables new tables)
+
+  does : (result : Result Reply Fault) → (IsUp g (with_tables new tables) → (first : Contents) → AreHeld (value_in g old) tables first → Answers first command result first) → Does result
+  does result answers = record {
+    was_up = was_up;
+    steps = λ up first holds. (first, subst (λ v. AreHeld v tables first) (sym (same_value up)) holds, answers up first holds);
+    noted = λ up first holds. ap (λ (v : StoreValue). v.noted) (same_value up);
+  }
+
+  pub select_unfit : (fault : Fault) → IsUnfit tables name fault → Does (Err fault)
+  unfolding deserved
+  select_unfit fault unfit = does (Err fault) (λ up first holds.
+      inr (refused_answers first command fault (unfit_is first name fault (λ table content. select_fault table content items f) (subst (λ ts. IsUnfit ts name fault) holds.told unfit))))
+
+  pub select_refused : (fault : Fault) → (fault ≡ faults.Store) ⊎ (fault ≡ faults.Memory) → Does (Err fault)
+  select_refused fault outside = does (Err fault) (λ up first holds. inl (is_out outside, refl))
+    where
+      is_out : (fault ≡ faults.Store) ⊎ (fault ≡ faults.Memory) → IsTrue (is_outside (Err fault))
+      is_out (inl e) = ap (λ f. is_outside (Err f)) e
+      is_out (inr e) = ap (λ f. is_outside (Err f)) e
+
+  module _ (known : KnownTable) (named : known_named tables name ≡ Some known) (sound : IsTrue known.sound) where
+    table_of : (first : Contents) → AreHeld (value_in g old) tables first → IsSoundTable first name known
+    table_of first holds = sound_table first name known (ap (λ ts. known_named ts name) (sym holds.told) ∙ named) sound
+
+    due : (first : Contents) (holds : AreHeld (value_in g old) tables first) → deserved first command ≡ select_fault known.name (bare known.columns) items f
+    unfolding deserved
+    due first holds =
+        let t = table_of first holds in
+        sound_is first name known t (λ table content. select_fault table content items f)
+        ∙ ap (λ (k : KnownTable). select_fault k.name t.content items f) t.told
+        ∙ sym (fault_bare known.name known.columns t.content items f (told_columns first name known t))
+
+    stepped : (grid : Grid) (first : Contents) (t : IsSoundTable first name known) → deserved first command ≡ None → grid ≡ answer known.name t.content items f limit offset → step first command ≡ (Ok (Rows grid), first)
+    unfolding step reply_to after
+    stepped grid first t none is =
+        ap (λ due. step_by due first command) none
+        ∙ ap (λ (found : Option (ℤ × Table)). (Ok (answer_of_found found items f limit offset), first)) t.found
+        ∙ ap (λ (held : Held). (Ok (answer_of_held t.table.1.name held items f limit offset), first)) t.held
+        ∙ ap (λ (k : KnownTable). (Ok (Rows (answer k.name t.content items f limit offset)), first)) t.told
+        ∙ ap (λ grid. (Ok (Rows grid), first)) (sym is)
+
+    pub select_undone : (fault : Fault) → (fault ≡ faults.Memory) ⊎ (select_fault known.name (bare known.columns) items f ≡ Some fault) → Does (Err fault)
+    select_undone fault (inl memory) = select_refused fault (inr memory)
+    select_undone fault (inr is) = does (Err fault) (λ up first holds. inr (refused_answers first command fault (due first holds ∙ is)))
+
+    module _ (order : AreInOrder (value_in g old)) (query : Option Tree) (grid : Grid) (fine : select_fault known.name (bare known.columns) items f ≡ None) (reads : ReadsAs (bare known.columns) f query) where
+      asked : (up : IsUp g (with_tables new tables)) (first : Contents) (holds : AreHeld (value_in g old) tables first) → IsAsked g known.id known.columns items f query old new (table_of first holds).content
+      asked up first holds =
+          let t = table_of first holds in
+          let has = sound_rows (value_in g old) tables first name known t order holds in
+          let id : t.table.0 ≡ known.id = ap (λ (k : KnownTable). k.id) t.told in
+          record {
+            held = record {
+              rows = record { clean = up.clean; is_open = up.is_open; name = t.table.1.name; is_content = has.is_content; rows = subst (λ (k : ℤ). table_rows k (value_in g old) ≡ content_rows t.content) id has.rows };
+              index = record { clean = up.clean; is_open = up.is_open; name = t.table.1.name; is_content = has.is_content; index = subst (λ (k : ℤ). table_index k (value_in g old) ≡ index_rows t.content) id has.index };
+            };
+            columns = told_columns first name known t;
+            reads = reads_bare known.columns t.content f query (told_columns first name known t) reads;
+            offsets = fine_offsets known.name (bare known.columns) items f fine;
+          }
+
+      pub select_done : ((content : Content) → IsAsked g known.id known.columns items f query old new content → grid ≡ answer known.name content items f limit offset) → Does (Ok (Rows grid))
+      select_done answers = does (Ok (Rows grid)) (λ up first holds. inr (stepped grid first (table_of first holds) (due first holds ∙ fine) (answers (table_of first holds).content (asked up first holds))))
+
+      pub select_counts : ((content : Content) → IsAsked g known.id known.columns items f query old new content → IsTrue (is_match f) → new.rows_read ≡ more_rows (rows_asked content items f limit offset) old) → CountsRows g (with_tables old tables) command (Ok (Rows grid)) (with_tables new tables)
+      select_counts counts = λ up first holds.
+          let t = table_of first holds in
+          counted old new tables name items f limit offset first t.table t.content t.found t.held (counts t.content (asked up first holds))

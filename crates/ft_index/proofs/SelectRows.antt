@@ -1,0 +1,211 @@
+-- Rows of hits, and of the documents that they are of.
+use Rattle.std.proofs.Common.{◌≡◌, ℕ, ◌+◌, ◌-◌, ◌*◌, ◌^◌, ◌<◌, Bool, true, false, cond, not, ◌&&◌, ◌||◌, ◌==◌, List, [], ◌∷◌, ◌++◌, map, length, take, drop, min, Option, Some, None, ℤ, refl, sym, ap, ◌∙◌, arith, eqb-true}
+use Rattle.std.specs.Prelude.{unwrap_or, slice_get, SomeIff}
+use Rattle.std.specs.List.{list_any, list_all, flat_map}
+use Rattle.std.specs.Ordering.{int_cmp, int_eq}
+use Rattle.std.specs.FinMap.Entries.{find}
+use Rattle.std.specs.Option.{option_and_then}
+use Rattle.std.proofs.Math.Nat.{mul-add}
+use Rattle.std.proofs.lemmas.Bool.{and_parts}
+use Rattle.std.proofs.lemmas.List.{drop-take, take_all, length-take, length-map}
+use Rattle.ft_query.specs.declared.walk.Hit.{Hit}
+use Rattle.ft_query.specs.Trees.{Tree}
+use Rattle.ft_query.specs.Occurs.{PlainHit, plain_hit, offsets_text}
+use Rattle.ft_store.specs.Store.{Cell, Null, Int, Text}
+use Rattle.ft_content.specs.Content.{Column, Content, Documents, IsContent, is_docid, is_cell, is_document}
+use Rattle.ft_content.specs.Command.{Filter, Everything, OfDocid, Matching, Item, AllColumns, Named, OffsetsOf, Items, Listed}
+use Rattle.ft_content.specs.Answer.{cells_with, item_cells, offsets_cell, item_rows, column_place, cut, query_in, chosen}
+use Rattle.ft_content.specs.Deserved.{is_match, is_offsets}
+use Rattle.ft_content.proofs.AnswerLemmas.{item_cells_are, cut_of_map}
+use Rattle.ft_index.specs.declared.document.Document.{Document}
+use Rattle.ft_index.specs.DocumentsRead.{shown_document}
+use Rattle.ft_index.specs.Chosen.{cells_at, document_at}
+use Rattle.ft_index.specs.Matched.{hit_read, chosen_hits}
+use Rattle.ft_index.specs.RowsRead.{is_column, has_column_item, entries_asked, rows_asked}
+use Rattle.ft_index.specs.Selected.{hit_cells}
+use Rattle.ft_index.proofs.ChosenLemmas.{chosen_again}
+
+-- ---- enough hits
+
+take_less : {A : Type 0} (l : ℕ) (xs : List A) → take l (take l xs) ≡ take l xs
+take_less l xs = let n = length-take l xs in take_all l (take l xs) (omega (arith, n))
+
+pub enough_taken : {A : Type 0} (l offset : ℕ) (most : Option ℕ) (xs : List A) → SomeIff most (offset + l < 2 ^ 64) (offset + l) → cut (Some l) offset (cut most 0 xs) ≡ cut (Some l) offset xs
+enough_taken l offset None xs h = refl
+enough_taken l offset (Some m) xs h = ap (λ k. take l (drop offset (take k xs))) h.1 ∙ ap (take l) (drop-take offset l xs) ∙ take_less l (drop offset xs)
+
+-- ---- cells of items
+
+-- only the columns of a content matter
+pub cells_bare : (offsets : Cell) (columns : List Column) (content : Content) (document : ℤ × List Cell) (items : List Item) → content.columns ≡ columns →
+    flat_map (cells_with offsets (record { columns = columns; documents = [] }) document) items ≡ flat_map (cells_with offsets content document) items
+cells_bare offsets columns content document [] same = refl
+cells_bare offsets columns content document (AllColumns ∷ items) same = ap (λ cells. document.1 ++ cells) (cells_bare offsets columns content document items same)
+cells_bare offsets columns content document (Named name ∷ items) same =
+    λ i. cells_with offsets (record { columns = sym same i; documents = [] }) document (Named name) ++ cells_bare offsets columns content document items same i
+cells_bare offsets columns content document (OffsetsOf name ∷ items) same = ap (λ cells. offsets ∷ cells) (cells_bare offsets columns content document items same)
+
+-- without columns the cells of the document don't matter
+cells_unread : (offsets : Cell) (content : Content) (docid : ℤ) (one other : List Cell) (items : List Item) → list_any is_column items ≡ false →
+    flat_map (cells_with offsets content (docid, one)) items ≡ flat_map (cells_with offsets content (docid, other)) items
+cells_unread offsets content docid one other [] none = refl
+cells_unread offsets content docid one other (AllColumns ∷ items) none = absurd (let no = none in cc)
+cells_unread offsets content docid one other (Named name ∷ items) none = go (is_docid name) refl none (cells_unread offsets content docid one other items)
+  where
+    go : (b : Bool) → is_docid name ≡ b → (not b || list_any is_column items) ≡ false →
+        (list_any is_column items ≡ false → flat_map (cells_with offsets content (docid, one)) items ≡ flat_map (cells_with offsets content (docid, other)) items) →
+        flat_map (cells_with offsets content (docid, one)) (Named name ∷ items) ≡ flat_map (cells_with offsets content (docid, other)) (Named name ∷ items)
+    go true is none rest =
+        let cell : List Cell → Cell = λ cells. unwrap_or (option_and_then (slice_get cells) (column_place content name)) Null in
+        λ i. (ap (λ b. cond b (Int docid) (cell one)) is ∙ sym (ap (λ b. cond b (Int docid) (cell other)) is)) i ∷ rest none i
+    go false is none rest = absurd (let no = none in cc)
+cells_unread offsets content docid one other (OffsetsOf name ∷ items) none = ap (λ cells. offsets ∷ cells) (cells_unread offsets content docid one other items none)
+
+-- ---- rows of hits
+
+same_each : {D X : Type 0} (again : D → D) (F : D → D → X) (ds : List D) → map again ds ≡ ds → map (λ d. F d (again d)) ds ≡ map (λ d. F d d) ds
+same_each again F [] h = refl
+same_each {D} again F (d ∷ ds) h =
+    let one : again d ≡ d = ap first h in
+    let more : map again ds ≡ ds = ap rest h in
+    λ i. F d (one i) ∷ same_each again F ds more i
+  where
+    first : List D → D
+    first [] = d
+    first (x ∷ xs) = x
+
+    rest : List D → List D
+    rest [] = []
+    rest (x ∷ xs) = xs
+
+-- the row of a hit whose document has these cells
+abbrev row_with : Content → List Item → (ℤ → List Cell) → PlainHit → List Cell
+row_with content items cells h = flat_map (cells_with (Text (offsets_text h.offsets)) content (h.docid, cells h.docid)) items
+
+plain_rows : (columns : List Column) (content : Content) (items : List Item) (cells : ℤ → List Cell) (hits : List Hit) → content.columns ≡ columns → map (hit_cells columns items cells) hits ≡ map (row_with content items cells) (map plain_hit hits)
+plain_rows columns content items cells [] same = refl
+plain_rows columns content items cells (h ∷ hs) same = λ i. cells_bare (Text (offsets_text h.offsets.items)) columns content (h.docid, cells h.docid) items same i ∷ plain_rows columns content items cells hs same i
+
+-- the rows of the documents that hits are of
+module _ (name : List ℕ) (content : Content) (f : Filter) (columns : List Column) (items : List Item) (limit : Option ℕ) (offset : ℕ) (is : IsContent name content) (same : content.columns ≡ columns) where
+  abbrev query : Option Tree
+  query = query_in content f
+
+  abbrev answered_here : Documents
+  answered_here = cut limit offset (chosen content f)
+
+  again : map (λ (d : ℤ × List Cell). document_at content d.0) answered_here ≡ answered_here
+  again = sym (cut_of_map (λ (d : ℤ × List Cell). document_at content d.0) limit offset (chosen content f)) ∙ ap (cut limit offset) (chosen_again name content f is)
+
+  abbrev row_of : ℤ × List Cell → ℤ × List Cell → List Cell
+  row_of d e = flat_map (cells_with (offsets_cell query content d) content e) items
+
+  by_documents : (ds : Documents) → map (row_with content items (cells_at content)) (map (hit_read content query) ds) ≡ map (λ d. row_of d (document_at content d.0)) ds
+  by_documents [] = refl
+  by_documents (d ∷ ds) = ap (λ l. row_of d (document_at content d.0) ∷ l) (by_documents ds)
+
+  rows_are : (ds : Documents) → map (λ d. row_of d d) ds ≡ item_rows query content items ds
+  rows_are [] = refl
+  rows_are (d ∷ ds) = λ i. sym (item_cells_are query content d items) i ∷ rows_are ds i
+
+  pub hit_rows : (hits : List Hit) → map plain_hit hits ≡ cut limit offset (chosen_hits content f) → map (hit_cells columns items (cells_at content)) hits ≡ cut limit offset (item_rows query content items (chosen content f))
+  hit_rows hits are =
+      plain_rows columns content items (cells_at content) hits same
+      ∙ ap (map (row_with content items (cells_at content))) (are ∙ cut_of_map (hit_read content query) limit offset (chosen content f))
+      ∙ by_documents answered_here ∙ same_each (λ (d : ℤ × List Cell). document_at content d.0) row_of answered_here again ∙ rows_are answered_here
+      ∙ sym (cut_of_map (λ (d : ℤ × List Cell). flat_map (item_cells query content d) items) limit offset (chosen content f))
+
+  -- no cell is needed where no item is a column
+  pub hit_rows_unread : (hits : List Hit) → list_any is_column items ≡ false → map plain_hit hits ≡ cut limit offset (chosen_hits content f) → map (hit_cells columns items (λ docid. [])) hits ≡ cut limit offset (item_rows query content items (chosen content f))
+  hit_rows_unread hits none are = each hits ∙ hit_rows hits are
+    where
+      each : (hs : List Hit) → map (hit_cells columns items (λ docid. [])) hs ≡ map (hit_cells columns items (cells_at content)) hs
+      each [] = refl
+      each (h ∷ hs) = λ i. cells_unread (Text (offsets_text h.offsets.items)) (record { columns = columns; documents = [] }) h.docid [] (cells_at content h.docid) items none i ∷ each hs i
+
+  pub as_many : (hits : List Hit) → map plain_hit hits ≡ cut limit offset (chosen_hits content f) → length hits ≡ length answered_here
+  as_many hits are = sym (length-map hits plain_hit) ∙ ap length (are ∙ cut_of_map (hit_read content query) limit offset (chosen content f)) ∙ length-map answered_here (hit_read content query)
+
+-- ---- as many cells as columns
+
+find_wide : (width : ℕ) (docid : ℤ) (cells : List Cell) (ds : Documents) → list_all (is_document width) ds ≡ true → find int_cmp docid ds ≡ Some cells → length cells ≡ width
+find_wide width docid cells [] wide found = absurd (let no = found in cc)
+find_wide width docid cells (d ∷ ds) wide found =
+    let parts = and_parts (is_document width d) (list_all (is_document width) ds) wide in
+    let here = eqb-true (length d.1) width (and_parts (length d.1 == width) (list_all is_cell d.1) parts.0).0 in
+    go (int_eq docid d.0) found here (find_wide width docid cells ds parts.1)
+  where
+    go : (b : Bool) → cond b (Some d.1) (find int_cmp docid ds) ≡ Some cells → length d.1 ≡ width → (find int_cmp docid ds ≡ Some cells → length cells ≡ width) → length cells ≡ width
+    go true is here rest = ap (λ o. length (unwrap_or o d.1)) (sym is) ∙ here
+    go false is here rest = rest is
+
+pub found_wide : (name : List ℕ) (content : Content) (docid : ℤ) (cells : List Cell) → IsContent name content → find int_cmp docid content.documents ≡ Some cells → length cells ≡ length content.columns
+found_wide name content docid cells is found = find_wide (length content.columns) docid cells content.documents is.documents found
+
+-- rows that are counted one document after another
+pub counted_more : (rows middle last width k n : ℕ) → n ≡ width → middle ≡ min (rows + width * k) (2 ^ 64 - 1) → last ≡ min (middle + n) (2 ^ 64 - 1) → last ≡ min (rows + width * (k + 1)) (2 ^ 64 - 1)
+counted_more rows middle last width k n same before here = added rows middle last (width * k) width (width * (k + 1)) n same before here (mul-add width k 1 ∙ ap (λ w. width * k + w) (mul-one width))
+  where
+    mul-one : (w : ℕ) → w * 1 ≡ w
+    mul-one w = grind arith
+
+    added : (rows middle last m w all n : ℕ) → n ≡ w → middle ≡ min (rows + m) (2 ^ 64 - 1) → last ≡ min (middle + n) (2 ^ 64 - 1) → all ≡ m + w → last ≡ min (rows + all) (2 ^ 64 - 1)
+    added rows middle last m w all n same before here more = omega arith
+
+-- two counts one after another
+pub counted_both : (rows middle last m n : ℕ) → middle ≡ min (rows + m) (2 ^ 64 - 1) → last ≡ min (middle + n) (2 ^ 64 - 1) → last ≡ min (rows + (m + n)) (2 ^ 64 - 1)
+counted_both rows middle last m n before here = omega arith
+
+-- ---- the rows that are asked for
+
+-- the hits that are answered, of those that a walk found
+pub hits_answered : (limit most : Option ℕ) (offset : ℕ) (hits answered : List Hit) (all : List PlainHit) → answered ≡ cut limit offset hits → map plain_hit hits ≡ cut most 0 all → cut limit offset (cut most 0 all) ≡ cut limit offset all → map plain_hit answered ≡ cut limit offset all
+hits_answered limit most offset hits answered all is found enough = ap (map plain_hit) is ∙ sym (cut_of_map plain_hit limit offset hits) ∙ ap (cut limit offset) found ∙ enough
+
+pub asked_with : (content : Content) (items : List Item) (f : Filter) (limit : Option ℕ) (offset : ℕ) (n : ℕ) → list_any is_column items ≡ true → n ≡ length (cut limit offset (chosen content f)) →
+    entries_asked content (query_in content f) + length content.columns * n ≡ rows_asked content (Listed items) f limit offset
+unfolding rows_asked
+asked_with content items f limit offset n has many =
+    let entries = entries_asked content (query_in content f) in
+    ap (λ m. entries + length content.columns * m) many ∙ sym (ap (λ b. entries + cond b (length content.columns * length (cut limit offset (chosen content f))) 0) has)
+
+none_more : (n : ℕ) → n ≡ n + 0
+none_more n = omega arith
+
+pub asked_without : (content : Content) (items : Items) (f : Filter) (limit : Option ℕ) (offset : ℕ) → has_column_item items ≡ false → entries_asked content (query_in content f) ≡ rows_asked content items f limit offset
+unfolding rows_asked
+asked_without content items f limit offset none =
+    let entries = entries_asked content (query_in content f) in
+    none_more entries ∙ sym (ap (λ b. entries + cond b (length content.columns * length (cut limit offset (chosen content f))) 0) none)
+
+-- ---- rows of documents
+
+-- without MATCH no offsets may be asked for
+pub no_offsets : (f : Filter) (items : List Item) → is_match f ≡ false → (list_any is_offsets items && not (is_match f)) ≡ false → list_any is_offsets items ≡ false
+no_offsets f items plainly asked = go (list_any is_offsets items) (ap (λ b. list_any is_offsets items && not b) (sym plainly) ∙ asked)
+  where
+    go : (b : Bool) → (b && true) ≡ false → b ≡ false
+    go true h = absurd (let no = h in cc)
+    go false h = refl
+
+pub no_query : (content : Content) (f : Filter) → is_match f ≡ false → query_in content f ≡ None
+no_query content Everything h = refl
+no_query content (OfDocid docid) h = refl
+no_query content (Matching name text) h = absurd (let no = h in cc)
+
+item_cells_bare : (columns : List Column) (content : Content) (document : ℤ × List Cell) (items : List Item) → content.columns ≡ columns →
+    flat_map (item_cells None (record { columns = columns; documents = [] }) document) items ≡ flat_map (item_cells None content document) items
+item_cells_bare columns content document items same =
+    item_cells_are None (record { columns = columns; documents = [] }) document items ∙ cells_bare (Text (offsets_text [])) columns content document items same ∙ sym (item_cells_are None content document items)
+
+rows_bare : (columns : List Column) (content : Content) (items : List Item) (ds : Documents) → content.columns ≡ columns → item_rows None (record { columns = columns; documents = [] }) items ds ≡ item_rows None content items ds
+rows_bare columns content items [] same = refl
+rows_bare columns content items (d ∷ ds) same = λ i. item_cells_bare columns content d items same i ∷ rows_bare columns content items ds same i
+
+pub document_rows_are : (content : Content) (f : Filter) (columns : List Column) (items : List Item) (limit : Option ℕ) (offset : ℕ) → is_match f ≡ false → content.columns ≡ columns → (documents answered : List Document) → map shown_document documents ≡ chosen content f → answered ≡ cut limit offset documents →
+    item_rows None (record { columns = columns; documents = [] }) items (map shown_document answered) ≡ cut limit offset (item_rows (query_in content f) content items (chosen content f))
+document_rows_are content f columns items limit offset plainly same documents answered found is =
+    ap (item_rows None (record { columns = columns; documents = [] }) items) (ap (map shown_document) is ∙ sym (cut_of_map shown_document limit offset documents) ∙ ap (cut limit offset) found)
+    ∙ rows_bare columns content items (cut limit offset (chosen content f)) same
+    ∙ sym (cut_of_map (λ (d : ℤ × List Cell). flat_map (item_cells None content d) items) limit offset (chosen content f))
+    ∙ ap (λ q. cut limit offset (item_rows q content items (chosen content f))) (sym (no_query content f plainly))

@@ -1,0 +1,332 @@
+//! Answers of a Select.
+ghost use Rattle.std.specs.Prelude.{◌≡◌, ◌⊎◌, ◌+◌, ◌*◌, ◌<◌, ◌^◌, ℕ, List, [], None, Some, map, option_map, length, pos, false, string_bytes, IsTrue, IfOk, IfErr, OnOk};
+ghost use Rattle.std.specs.List.{list_any};
+ghost use Rattle.sqlite.specs.State.{HasCleanDisk};
+ghost use Rattle.ft_query.specs.Trees.{Tree, tree_of};
+ghost use Rattle.ft_query.specs.Occurs.{PlainHit};
+ghost use Rattle.ft_store.specs.Changes.{shown_value};
+ghost use Rattle.ft_store.specs.Kept.{shows, more_rows};
+ghost use Rattle.ft_content.specs.declared.fault.Fault.TheVariants as faults;
+ghost use Rattle.ft_content.specs.Content.{Content};
+ghost use Rattle.ft_content.specs.Command as plain;
+ghost use Rattle.ft_content.specs.Command.{Matching};
+ghost use Rattle.ft_content.specs.Answer as answer;
+ghost use Rattle.ft_content.specs.Answer.{chosen, query_in};
+ghost use Rattle.ft_content.specs.Deserved as deserved;
+ghost use Rattle.ft_content.specs.Views.{bare_content, cells_of, rows_of, column_of, item_of, items_of, filter_of, known_info, grid_of, answer_of};
+ghost use Rattle.ft_index.specs.Kept.{Executes, OnlyLooks};
+ghost use Rattle.ft_index.specs.Changed.{with_tables};
+ghost use Rattle.ft_index.specs.DocumentsRead.{HasRows, Looks, shown_document};
+ghost use Rattle.ft_index.specs.RowsRead as rows;
+ghost use Rattle.ft_index.specs.RowsRead.{rows_asked, CountsRows};
+ghost use Rattle.ft_index.specs.Chosen.{ReadsAs, cells_at};
+ghost use Rattle.ft_index.specs.Selected.{hit_cells, IsOf, IsAsked};
+
+use crate::chosen::{chosen_documents, found_cells};
+use crate::document::Document;
+use crate::matching::matched;
+use crate::names::sound_place;
+use ft_content::{
+    Column, Fault, Filter, Grid, Item, Items, Reply, TableInfo, Value, answer_names, count_rows,
+    cut, is_docid, item_row, read_query, select_tests,
+};
+use ft_query::{Hit, Query, offsets_text};
+use ft_store::Store;
+use sqlite::Alter;
+use std::alloc::{AllocError, Global};
+
+/// Answers a Select: the tests of its names, its query, and then the reads that it asks for.
+pub(crate) fn select_from<S: Alter>(
+    alloc: Global,
+    store: &mut Store<S>,
+    tables: &[TableInfo],
+    table: &str,
+    items: &Items,
+    filter: &Filter,
+    limit: Option<u64>,
+    offset: u64,
+) -> Result<Reply, Fault>
+    ensures executes { Executes S.Store (with_tables store.old (map known_info tables.now)) (plain.Select table.now (items_of items.now) (filter_of filter.now) limit offset)
+        (answer_of result) (with_tables store.new (map known_info tables.now)) }
+    ensures counts { CountsRows S.Store (with_tables store.old (map known_info tables.now)) (plain.Select table.now (items_of items.now) (filter_of filter.now) limit offset)
+        (answer_of result) (with_tables store.new (map known_info tables.now)) }
+    ensures looks { OnlyLooks S.Store (with_tables store.old (map known_info tables.now)) (with_tables store.new (map known_info tables.now)) }
+{
+    store.is_in_order();
+    let place = sound_place(tables, table)?;
+    let info = &tables[place];
+    let query = select_query(alloc, info, items, filter)?;
+    let grid = select_grid(
+        alloc,
+        store,
+        info,
+        items,
+        filter,
+        query.as_ref(),
+        limit,
+        offset,
+    )?;
+    Ok(Reply::Rows(grid))
+}
+
+/// The query of a Select over a table, after the tests of its names, or the fault that it deserves.
+fn select_query(
+    alloc: Global,
+    info: &TableInfo,
+    items: &Items,
+    filter: &Filter,
+) -> Result<Option<Query>, Fault>
+    ensures query { IfOk result (λ query. ReadsAs (bare_content info.now.columns.items) (filter_of filter.now) (option_map tree_of query)) }
+    ensures fine { OnOk result (deserved.select_fault (string_bytes info.now.name) (bare_content info.now.columns.items) (items_of items.now) (filter_of filter.now) ≡ None) }
+    ensures fault { IfErr result (λ fault. (fault ≡ faults.Memory) ⊎ (deserved.select_fault (string_bytes info.now.name) (bare_content info.now.columns.items) (items_of items.now) (filter_of filter.now) ≡ Some fault)) }
+{
+    let columns = info.columns.as_slice();
+    if let Some(fault) = select_tests(info.name.as_str(), columns, items, filter) {
+        return Err(fault);
+    }
+    match filter {
+        Filter::Match { name, query } => read_query(alloc, columns, name.as_str(), query.as_str()),
+        Filter::All | Filter::Docid(_) => Ok(None),
+    }
+}
+
+/// What a table and its content answer.
+fn select_grid<S: Alter>(
+    alloc: Global,
+    store: &mut Store<S>,
+    info: &TableInfo,
+    items: &Items,
+    filter: &Filter,
+    query: Option<&Query>,
+    limit: Option<u64>,
+    offset: u64,
+) -> Result<Grid, Fault>
+    ensures answer { IfOk result (λ grid. (content : Content) → IsAsked S.Store info.now.id (map column_of info.now.columns.items) (items_of items.now) (filter_of filter.now) (option_map (λ q. tree_of q.now) query.entry) store.old store.new content
+        → grid_of grid ≡ answer.answer (string_bytes info.now.name) content (items_of items.now) (filter_of filter.now) limit offset) }
+    ensures counted { OnOk result ((content : Content) → IsAsked S.Store info.now.id (map column_of info.now.columns.items) (items_of items.now) (filter_of filter.now) (option_map (λ q. tree_of q.now) query.entry) store.old store.new content
+        → IsTrue (deserved.is_match (filter_of filter.now)) → store.new.rows_read ≡ more_rows (rows_asked content (items_of items.now) (filter_of filter.now) limit offset) store.old) }
+    ensures faults { IfErr result (λ fault. (fault ≡ faults.Store) ⊎ (fault ≡ faults.Memory)) }
+    ensures looks { Looks S.Store store.old store.new }
+{
+    let columns = info.columns.as_slice();
+    let rows = selected_rows(
+        alloc, store, info.id, columns, items, filter, query, limit, offset,
+    )?;
+    let names = answer_names(alloc, info.name.as_str(), columns, items)?;
+    Ok(Grid { names, rows })
+}
+
+/// The rows of an answer.
+fn selected_rows<S: Alter>(
+    alloc: Global,
+    store: &mut Store<S>,
+    tab: i64,
+    columns: &[Column],
+    items: &Items,
+    filter: &Filter,
+    query: Option<&Query>,
+    limit: Option<u64>,
+    offset: u64,
+) -> Result<Vec<Vec<Value>>, Fault>
+    ensures found { IfOk result (λ found. (content : Content) → IsAsked S.Store tab (map column_of columns.now) (items_of items.now) (filter_of filter.now) (option_map (λ q. tree_of q.now) query.entry) store.old store.new content
+        → rows_of found ≡ answer.cut limit offset (answer.answer_rows content (items_of items.now) (filter_of filter.now))) }
+    ensures counted { OnOk result ((content : Content) → IsAsked S.Store tab (map column_of columns.now) (items_of items.now) (filter_of filter.now) (option_map (λ q. tree_of q.now) query.entry) store.old store.new content
+        → IsTrue (deserved.is_match (filter_of filter.now)) → store.new.rows_read ≡ more_rows (rows_asked content (items_of items.now) (filter_of filter.now) limit offset) store.old) }
+    ensures faults { IfErr result (λ fault. (fault ≡ faults.Store) ⊎ (fault ≡ faults.Memory)) }
+    ensures looks { Looks S.Store store.old store.new }
+{
+    match items {
+        Items::Count => {
+            let count = chosen_count(alloc, store, tab, filter, query)?;
+            Ok(count_rows(alloc, count, limit, offset)?)
+        }
+        Items::List(list) => {
+            let list = list.as_slice();
+            match filter {
+                Filter::Match { .. } => matched_rows(
+                    alloc, store, tab, columns, list, query, limit, offset,
+                ),
+                Filter::All | Filter::Docid(_) => {
+                    read_rows(alloc, store, tab, columns, list, filter, limit, offset)
+                }
+            }
+        }
+    }
+}
+
+// How many documents a filter chooses. Those of a MATCH are not read.
+fn chosen_count<S: Alter>(
+    alloc: Global,
+    store: &mut Store<S>,
+    tab: i64,
+    filter: &Filter,
+    query: Option<&Query>,
+) -> Result<i64, Fault>
+    ensures count { IfOk result (λ count. (content : Content) → IsOf S.Store tab store.old store.new content → ReadsAs content (filter_of filter.now) (option_map (λ q. tree_of q.now) query.entry)
+        → count ≡ pos (length (chosen content (filter_of filter.now)))) }
+    ensures counted { OnOk result ((content : Content) → IsOf S.Store tab store.old store.new content → ReadsAs content (filter_of filter.now) (option_map (λ q. tree_of q.now) query.entry)
+        → IsTrue (deserved.is_match (filter_of filter.now)) → store.new.rows_read ≡ more_rows (rows.entries_asked content (query_in content (filter_of filter.now))) store.old) }
+    ensures faults { IfErr result (λ fault. (fault ≡ faults.Store) ⊎ (fault ≡ faults.Memory)) }
+    ensures looks { Looks S.Store store.old store.new }
+{
+    match filter {
+        Filter::Match { .. } => {
+            let hits = matched(store, alloc, tab, query, None)?;
+            Ok(hits.len() as i64)
+        }
+        Filter::All | Filter::Docid(_) => {
+            let documents = chosen_documents(alloc, store, tab, filter, None)?;
+            Ok(documents.len() as i64)
+        }
+    }
+}
+
+/// The rows of the documents that a filter without MATCH chooses.
+fn read_rows<S: Alter>(
+    alloc: Global,
+    store: &mut Store<S>,
+    tab: i64,
+    columns: &[Column],
+    items: &[Item],
+    filter: &Filter,
+    limit: Option<u64>,
+    offset: u64,
+) -> Result<Vec<Vec<Value>>, Fault>
+    ensures found { IfOk result (λ found. (content : Content) → IsAsked S.Store tab (map column_of columns.now) (plain.Listed (map item_of items.now)) (filter_of filter.now) None store.old store.new content
+        → deserved.is_match (filter_of filter.now) ≡ false → rows_of found ≡ answer.cut limit offset (answer.answer_rows content (plain.Listed (map item_of items.now)) (filter_of filter.now))) }
+    ensures faults { IfErr result (λ fault. (fault ≡ faults.Store) ⊎ (fault ≡ faults.Memory)) }
+    ensures looks { Looks S.Store store.old store.new }
+{
+    let documents = chosen_documents(alloc, store, tab, filter, None)?;
+    let answered = cut(documents.as_slice(), limit, offset);
+    Ok(document_rows(alloc, columns, items, answered)?)
+}
+
+// A row for each document, without offsets.
+fn document_rows(
+    alloc: Global,
+    columns: &[Column],
+    items: &[Item],
+    documents: &[Document],
+) -> Result<Vec<Vec<Value>>, AllocError>
+    ensures { IfOk result (λ found. list_any deserved.is_offsets (map item_of items.now) ≡ false
+        → rows_of found ≡ answer.item_rows None (bare_content columns.now) (map item_of items.now) (map shown_document documents.now)) }
+{
+    let mut rows = Vec::new(alloc);
+    for document in documents {
+        let cells = document.cells.as_slice();
+        rows.push(item_row(alloc, columns, items, document.docid, cells, "")?)?;
+    }
+    Ok(rows)
+}
+
+/// The rows of the documents that a MATCH chooses. The walk stops where no more hits are answered, and a document is read only where an
+/// item is a column and its row is answered.
+fn matched_rows<S: Alter>(
+    alloc: Global,
+    store: &mut Store<S>,
+    tab: i64,
+    columns: &[Column],
+    items: &[Item],
+    query: Option<&Query>,
+    limit: Option<u64>,
+    offset: u64,
+) -> Result<Vec<Vec<Value>>, Fault>
+    ensures found { IfOk result (λ found. (content : Content) (name text : List ℕ) → IsAsked S.Store tab (map column_of columns.now) (plain.Listed (map item_of items.now)) (Matching name text) (option_map (λ q. tree_of q.now) query.entry) store.old store.new content
+        → rows_of found ≡ answer.cut limit offset (answer.answer_rows content (plain.Listed (map item_of items.now)) (Matching name text))) }
+    ensures counted { OnOk result ((content : Content) (name text : List ℕ) → IsAsked S.Store tab (map column_of columns.now) (plain.Listed (map item_of items.now)) (Matching name text) (option_map (λ q. tree_of q.now) query.entry) store.old store.new content
+        → store.new.rows_read ≡ more_rows (rows_asked content (plain.Listed (map item_of items.now)) (Matching name text) limit offset) store.old) }
+    ensures faults { IfErr result (λ fault. (fault ≡ faults.Store) ⊎ (fault ≡ faults.Memory)) }
+    ensures looks { Looks S.Store store.old store.new }
+{
+    let hits = matched(store, alloc, tab, query, most_hits(limit, offset))?;
+    let answered = cut(hits.as_slice(), limit, offset);
+    if has_column(items) {
+        cell_rows(alloc, store, tab, columns, items, answered)
+    } else {
+        Ok(bare_rows(alloc, columns, items, answered)?)
+    }
+}
+
+// How many hits a walk has to find: all of them where it says none.
+fn most_hits(limit: Option<u64>, offset: u64) -> Option<u64>
+    ensures none { limit ≡ None → result ≡ None }
+    ensures sum { (n : ℕ) → limit ≡ Some n → offset + n < 2 ^ 64 → result ≡ Some (offset + n) }
+    ensures enough { (hits : List PlainHit) → answer.cut limit offset (answer.cut result 0 hits) ≡ answer.cut limit offset hits }
+{
+    match limit {
+        Some(limit) => offset.checked_add(limit),
+        None => None,
+    }
+}
+
+fn is_column(item: &Item) -> bool
+    ensures { result ≡ rows.is_column (item_of item.now) }
+{
+    match item {
+        Item::All => true,
+        Item::Name(name) => !is_docid(name.as_str()),
+        Item::Offsets(_) => false,
+    }
+}
+
+// Whether cells of documents are asked for.
+fn has_column(items: &[Item]) -> bool
+    ensures { result ≡ list_any rows.is_column (map item_of items.now) }
+{
+    items.iter().any(|item| is_column(item))
+}
+
+// A row for each hit, without cells.
+fn bare_rows(
+    alloc: Global,
+    columns: &[Column],
+    items: &[Item],
+    hits: &[Hit],
+) -> Result<Vec<Vec<Value>>, AllocError>
+    ensures { IfOk result (λ found. rows_of found ≡ map (hit_cells (map column_of columns.now) (map item_of items.now) (λ docid. [])) hits.now) }
+{
+    let mut rows = Vec::new(alloc);
+    for hit in hits {
+        rows.push(hit_row(alloc, columns, items, hit, &[])?)?;
+    }
+    Ok(rows)
+}
+
+// A row for each hit, with the cells of its document, which is read.
+fn cell_rows<S: Alter>(
+    alloc: Global,
+    store: &mut Store<S>,
+    tab: i64,
+    columns: &[Column],
+    items: &[Item],
+    hits: &[Hit],
+) -> Result<Vec<Vec<Value>>, Fault>
+    ensures found { IfOk result (λ found. (content : Content) → HasRows S.Store tab store.old store.new content → rows_of found ≡ map (hit_cells (map column_of columns.now) (map item_of items.now) (cells_at content)) hits.now) }
+    ensures counted { OnOk result ((content : Content) → HasRows S.Store tab store.old store.new content → store.new.rows_read ≡ more_rows (length content.columns * length hits.now) store.old) }
+    ensures faults { IfErr result (λ fault. (fault ≡ faults.Store) ⊎ (fault ≡ faults.Memory)) }
+    ensures looks { Looks S.Store store.old store.new }
+{
+    // So the count of rows is known to be of 64 bits.
+    let _read = store.rows_read();
+    let mut rows = Vec::new(alloc);
+    for hit in hits {
+        let cells = found_cells(alloc, store, tab, hit.docid)?;
+        rows.push(hit_row(alloc, columns, items, hit, cells.as_slice())?)?;
+    }
+    Ok(rows)
+}
+
+// The row of a hit with the cells of its document.
+fn hit_row(
+    alloc: Global,
+    columns: &[Column],
+    items: &[Item],
+    hit: &Hit,
+    cells: &[Value],
+) -> Result<Vec<Value>, AllocError>
+    ensures { IfOk result (λ row. cells_of row ≡ hit_cells (map column_of columns.now) (map item_of items.now) (λ docid. map shown_value cells.now) hit.now) }
+{
+    let offsets = offsets_text(alloc, hit.offsets.as_slice())?;
+    item_row(alloc, columns, items, hit.docid, cells, offsets.as_str())
+}
