@@ -49,6 +49,8 @@ pub mod FirstLemmas
 pub mod StandingIndex
 pub mod StandingSizes
 pub mod StandingEntries
+pub mod DocidOrder
+pub mod StandingBack
 pub mod Lifting
 pub mod InsertDue
 pub mod InsertHolds
