@@ -51,6 +51,7 @@ pub mod StandingSizes
 pub mod StandingEntries
 pub mod DocidOrder
 pub mod StandingBack
+pub mod StandingReads
 pub mod Lifting
 pub mod InsertDue
 pub mod InsertHolds

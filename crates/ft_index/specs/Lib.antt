@@ -15,3 +15,4 @@ pub mod Placed
 pub mod Changed
 pub mod Matched
 pub mod Standing
+pub mod Opened

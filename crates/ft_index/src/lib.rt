@@ -14,6 +14,7 @@ mod new_documents;
 mod optimize;
 mod rebuild;
 mod rewrite;
+mod standing;
 mod standing_index;
 mod standing_rows;
 mod table_lists;

@@ -1,0 +1,39 @@
+-- How the tables of a store stand, as they are read. All of it is our own choice.
+use Rattle.std.specs.Prelude.{◌≡◌, ℕ, ℤ, List}
+use Rattle.std.specs.List.{AllZip}
+use Rattle.ft_store.specs.declared.rows.TabRow.{TabRow}
+use Rattle.ft_store.specs.Store.{StoreValue}
+use Rattle.ft_store.specs.Shown.{shown_table, table_listed}
+use Rattle.ft_content.specs.Content.{TableRows}
+use Rattle.ft_content.specs.Index.{IndexRows}
+use Rattle.ft_content.specs.Views.{KnownTable}
+use Rattle.ft_content.specs.Deserved.{Held, Sound, Stale, Loose}
+use Rattle.ft_index.specs.declared.standing.Standing.{Standing}
+use Rattle.ft_index.specs.declared.standing.Standing.TheVariants as standings
+use Rattle.ft_index.specs.Kept.{Stands, told_table}
+use Rattle.ft_index.specs.Tables.{table_rows, table_index}
+
+abbrev pub standing_of : Held → Standing
+standing_of (Sound content) = standings.Sound
+standing_of (Stale content) = standings.Stale
+standing_of (Loose rows) = standings.Loose
+
+-- rows of a table stand so
+pub record StandsSo (name : List ℕ) (rows : TableRows) (index : IndexRows) (standing : Standing) : Type 0 where
+  pub held : Held
+  pub stands : Stands name rows index held
+  pub is : standing ≡ standing_of held
+
+-- a table is listed as one that the store names
+abbrev pub IsListed : StoreValue → ℤ × List ℕ → TabRow → Type 0
+IsListed store named table = shown_table table ≡ table_listed store named
+
+-- what is told of a table that the store names is how its rows stand
+pub record IsMarked (store : StoreValue) (named : ℤ × List ℕ) (known : KnownTable) : Type 0 where
+  pub held : Held
+  pub stands : Stands named.1 (table_rows named.0 store) (table_index named.0 store) held
+  pub told : known ≡ told_table (named.0, record { name = named.1; held = held })
+
+-- so it is of all tables that it names
+abbrev pub AreMarked : StoreValue → List (ℤ × List ℕ) → List KnownTable → Type 0
+AreMarked store named known = AllZip (IsMarked store) named known
