@@ -52,6 +52,7 @@ pub mod StandingEntries
 pub mod DocidOrder
 pub mod StandingBack
 pub mod StandingReads
+pub mod OpenedTables
 pub mod Lifting
 pub mod InsertDue
 pub mod InsertHolds

@@ -1,5 +1,5 @@
 -- How the tables of a store stand, as they are read. All of it is our own choice.
-use Rattle.std.specs.Prelude.{◌≡◌, ℕ, ℤ, List}
+use Rattle.std.specs.Prelude.{◌≡◌, ℕ, ℤ, Bool, true, false, List}
 use Rattle.std.specs.List.{AllZip}
 use Rattle.ft_store.specs.declared.rows.TabRow.{TabRow}
 use Rattle.ft_store.specs.Store.{StoreValue}
@@ -17,6 +17,12 @@ abbrev pub standing_of : Held → Standing
 standing_of (Sound content) = standings.Sound
 standing_of (Stale content) = standings.Stale
 standing_of (Loose rows) = standings.Loose
+
+-- the mark of rows that stand so
+abbrev pub mark_of : Standing → Bool
+mark_of standings.Sound = true
+mark_of standings.Stale = false
+mark_of standings.Loose = false
 
 -- rows of a table stand so
 pub record StandsSo (name : List ℕ) (rows : TableRows) (index : IndexRows) (standing : Standing) : Type 0 where

@@ -11,6 +11,7 @@ mod insert;
 mod matching;
 mod names;
 mod new_documents;
+mod open;
 mod optimize;
 mod rebuild;
 mod rewrite;

@@ -6,7 +6,7 @@ ghost use Rattle.ft_content.specs.Content.{Content};
 ghost use Rattle.ft_content.specs.Index.{index_rows};
 ghost use Rattle.ft_content.specs.Views.{column_of};
 ghost use Rattle.ft_index.specs.DocumentsRead.{Looks};
-ghost use Rattle.ft_index.specs.Opened.{StandsSo, IsListed};
+ghost use Rattle.ft_index.specs.Opened.{mark_of, StandsSo, IsListed};
 ghost use Rattle.ft_index.specs.Standing as standing;
 ghost use Rattle.ft_index.specs.Tables.{table_rows, table_index};
 
@@ -19,11 +19,20 @@ use std::alloc::Global;
 
 /// How the rows of a table stand: they are a content with exactly the index rows made from scratch, a content with others,
 /// or no content.
-#[derive(Clone, Copy, Debug, PartialEq, Eq)]
+#[derive(Clone, Copy, Debug)]
 pub(crate) enum Standing {
     Sound,
     Stale,
     Loose,
+}
+
+impl Standing {
+    /// The mark of a table whose rows stand so.
+    pub(crate) fn is_sound(self) -> bool
+        ensures { result ≡ mark_of self }
+    {
+        matches!(self, Standing::Sound)
+    }
 }
 
 /// How the rows of a table that is listed stand. The store is only read, whatever is answered.
