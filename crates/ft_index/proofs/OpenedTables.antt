@@ -1,14 +1,23 @@
 -- Tables that are told as they are read.
-use Rattle.std.proofs.Common.{◌≡◌, ℕ, Bool, false, List, [], ◌∷◌, ◌++◌, map, ℤ, refl, sym, ap, subst, ◌∙◌}
+use Rattle.std.proofs.Common.{◌≡◌, ℕ, List, [], ◌∷◌, ◌++◌, map, ℤ, refl, sym, ap, subst, ◌∙◌, arith}
+use Rattle.std.specs.Prelude.{IsTrue}
 use Rattle.std.specs.List.{AllZip}
+use Rattle.sqlite.specs.State.{HasCleanDisk}
+use Rattle.sqlite.specs.Effect.{Database}
+use Rattle.sqlite.specs.Store.{Ghosts}
+use Rattle.ft_store.specs.Rows.{value_of}
+use Rattle.ft_store.specs.Kept.{StoreState, shows, value_in}
 use Rattle.ft_store.specs.declared.rows.TabRow.{TabRow}
 use Rattle.ft_store.specs.Store.{StoreValue}
 use Rattle.ft_store.specs.Shown.{shown_table, table_listed, tables_listed, AreNamedApart}
 use Rattle.ft_content.specs.Content.{repeats_name}
 use Rattle.ft_content.specs.Views.{KnownTable}
 use Rattle.ft_content.specs.Deserved.{Table, Contents}
-use Rattle.ft_index.specs.Kept.{AreHeld, StoreHolds, HoldsTable, told_table}
-use Rattle.ft_index.specs.Opened.{IsListed, IsMarked, AreMarked}
+use Rattle.ft_index.specs.Changed.{with_tables}
+use Rattle.ft_index.specs.DocumentsRead.{Looks}
+use Rattle.ft_index.specs.Kept.{AreHeld, StoreHolds, HoldsTable, HoldsSome, told_table}
+use Rattle.ft_index.specs.Opened.{IsListed, IsMarked, AreMarked, Opens}
+use Rattle.ft_index.proofs.HeldLemmas.{holds_one_contents}
 use Rattle.ft_index.specs.Tables.{table_rows, table_index}
 
 -- what is told of each table that is listed
@@ -65,3 +74,27 @@ marked_holds store known apart all =
   where
     same_repeats : (names : List (List ℕ)) → repeats_name names ≡ Rattle.ft_store.specs.Shown.repeats_name names
     same_repeats names = refl
+
+-- ---- a store that is taken
+
+module _ {S : Type 0} (g : Ghosts S) (old new : StoreState S) (known : List KnownTable) (looks : Looks g old new) (live : HasCleanDisk (shows g new) → IsTrue (shows g new).is_open)
+    (marked : HasCleanDisk (shows g new) → AreMarked (value_in g old) (value_in g old).tables known)
+    (apart : HasCleanDisk (shows g old) → IsTrue (shows g old).is_open → AreNamedApart (value_in g old)) where
+  same_value : HasCleanDisk (shows g new) → value_in g new ≡ value_in g old
+  same_value clean = ap (λ (d : Database). value_of d.trees) (looks.kept clean (live clean)).0
+
+  pub opened_holds : HoldsSome g (with_tables new known)
+  opened_holds up =
+      let found = marked_holds (value_in g old) known (apart (omega (arith, looks.survives.clean, up.clean)) (looks.kept up.clean up.is_open).2) (marked up.clean) in
+      (found.0, subst (λ v. AreHeld v known found.0) (sym (same_value up.clean)) found.1)
+
+  pub opens : Opens g old (with_tables new known)
+  opens = record {
+    looks = looks;
+    live = live;
+    some = opened_holds;
+    marks = λ up contents held.
+        let found = opened_holds up in
+        let same : found.0 ≡ contents = holds_one_contents (value_in g new) found.0 contents found.1.held (subst (λ v. StoreHolds v contents) (sym (same_value up.clean)) held) in
+        subst (λ cs. AreHeld (value_in g new) known cs) same found.1;
+  }

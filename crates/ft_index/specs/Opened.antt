@@ -1,16 +1,20 @@
 -- How the tables of a store stand, as they are read. All of it is our own choice.
-use Rattle.std.specs.Prelude.{◌≡◌, ℕ, ℤ, Bool, true, false, List}
+use Rattle.std.specs.Prelude.{◌≡◌, ℕ, ℤ, Bool, true, false, List, IsTrue}
 use Rattle.std.specs.List.{AllZip}
+use Rattle.sqlite.specs.State.{HasCleanDisk}
+use Rattle.sqlite.specs.Store.{Ghosts}
 use Rattle.ft_store.specs.declared.rows.TabRow.{TabRow}
+use Rattle.ft_store.specs.Kept.{StoreState, shows, value_in}
 use Rattle.ft_store.specs.Store.{StoreValue}
 use Rattle.ft_store.specs.Shown.{shown_table, table_listed}
 use Rattle.ft_content.specs.Content.{TableRows}
 use Rattle.ft_content.specs.Index.{IndexRows}
 use Rattle.ft_content.specs.Views.{KnownTable}
-use Rattle.ft_content.specs.Deserved.{Held, Sound, Stale, Loose}
+use Rattle.ft_content.specs.Deserved.{Held, Sound, Stale, Loose, Contents}
 use Rattle.ft_index.specs.declared.standing.Standing.{Standing}
 use Rattle.ft_index.specs.declared.standing.Standing.TheVariants as standings
-use Rattle.ft_index.specs.Kept.{Stands, told_table}
+use Rattle.ft_index.specs.DocumentsRead.{Looks}
+use Rattle.ft_index.specs.Kept.{Known, IsUp, Stands, StoreHolds, Holds, told_table}
 use Rattle.ft_index.specs.Tables.{table_rows, table_index}
 
 abbrev pub standing_of : Held → Standing
@@ -43,3 +47,11 @@ pub record IsMarked (store : StoreValue) (named : ℤ × List ℕ) (known : Know
 -- so it is of all tables that it names
 abbrev pub AreMarked : StoreValue → List (ℤ × List ℕ) → List KnownTable → Type 0
 AreMarked store named known = AllZip (IsMarked store) named known
+
+-- A store is taken as it is. Where it is up, what it holds are some contents, and each table has the mark that it has in them; they are
+-- the only ones.
+pub record Opens {S : Type 0} (g : Ghosts S) (old : StoreState S) (made : Known S) : Type 0 where
+  pub looks : Looks g old made.store
+  pub live : HasCleanDisk (shows g made.store) → IsTrue (shows g made.store).is_open
+  pub some : IsUp g made → (contents : Contents) × Holds g made contents
+  pub marks : IsUp g made → (contents : Contents) → StoreHolds (value_in g old) contents → Holds g made contents

@@ -23,4 +23,4 @@ mod tables;
 mod told;
 
 pub use ft_content::{Column, Command, Fault, Filter, Grid, Item, Items, Reply, TableInfo, Value};
-pub use full_text::FullText;
+pub use full_text::{FullText, NewFault};
