@@ -53,6 +53,7 @@ pub mod DocidOrder
 pub mod StandingBack
 pub mod StandingReads
 pub mod OpenedTables
+pub mod CheckLemmas
 pub mod Lifting
 pub mod InsertDue
 pub mod InsertHolds

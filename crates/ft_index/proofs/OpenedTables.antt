@@ -1,7 +1,8 @@
 -- Tables that are told as they are read.
-use Rattle.std.proofs.Common.{◌≡◌, ℕ, List, [], ◌∷◌, ◌++◌, map, ℤ, refl, sym, ap, subst, ◌∙◌, arith}
-use Rattle.std.specs.Prelude.{IsTrue}
-use Rattle.std.specs.List.{AllZip}
+use Rattle.std.proofs.Common.{◌≡◌, ℕ, Bool, true, false, cond, Some, List, [], ◌∷◌, ◌++◌, map, ℤ, refl, sym, ap, subst, ◌∙◌, arith}
+use Rattle.std.specs.Prelude.{IsTrue, unwrap_or}
+use Rattle.std.specs.List.{AllZip, find}
+use Rattle.std.specs.Ordering.{int_eq}
 use Rattle.sqlite.specs.State.{HasCleanDisk}
 use Rattle.sqlite.specs.Effect.{Database}
 use Rattle.sqlite.specs.Store.{Ghosts}
@@ -9,14 +10,14 @@ use Rattle.ft_store.specs.Rows.{value_of}
 use Rattle.ft_store.specs.Kept.{StoreState, shows, value_in}
 use Rattle.ft_store.specs.declared.rows.TabRow.{TabRow}
 use Rattle.ft_store.specs.Store.{StoreValue}
-use Rattle.ft_store.specs.Shown.{shown_table, table_listed, tables_listed, AreNamedApart}
+use Rattle.ft_store.specs.Shown.{Listed, shown_table, table_listed, AreNamedApart}
 use Rattle.ft_content.specs.Content.{repeats_name}
 use Rattle.ft_content.specs.Views.{KnownTable}
 use Rattle.ft_content.specs.Deserved.{Table, Contents}
 use Rattle.ft_index.specs.Changed.{with_tables}
 use Rattle.ft_index.specs.DocumentsRead.{Looks}
 use Rattle.ft_index.specs.Kept.{AreHeld, StoreHolds, HoldsTable, HoldsSome, told_table}
-use Rattle.ft_index.specs.Opened.{IsListed, IsMarked, AreMarked, Opens}
+use Rattle.ft_index.specs.Opened.{IsListed, IsFound, IsMarked, AreMarked, Opens}
 use Rattle.ft_index.proofs.HeldLemmas.{holds_one_contents}
 use Rattle.ft_index.specs.Tables.{table_rows, table_index}
 
@@ -46,13 +47,13 @@ are_marked store (r ∷ rs) (t ∷ ts) (x ∷ xs) all same =
 
 -- ---- contents out of what is told
 
-record Found (store : StoreValue) (tables : List (ℤ × List ℕ)) (known : List KnownTable) : Type 0 where
-  contents : Contents
-  held : AllZip (λ (named : ℤ × List ℕ) (table : ℤ × Table). HoldsTable named (table_rows named.0 store) (table_index named.0 store) table) tables contents
-  told : known ≡ map told_table contents
-  names : map (λ (t : ℤ × Table). t.1.name) contents ≡ map (λ (t : ℤ × List ℕ). t.1) tables
+pub record FoundIn (store : StoreValue) (tables : List (ℤ × List ℕ)) (known : List KnownTable) : Type 0 where
+  pub contents : Contents
+  pub held : AllZip (λ (named : ℤ × List ℕ) (table : ℤ × Table). HoldsTable named (table_rows named.0 store) (table_index named.0 store) table) tables contents
+  pub told : known ≡ map told_table contents
+  pub names : map (λ (t : ℤ × Table). t.1.name) contents ≡ map (λ (t : ℤ × List ℕ). t.1) tables
 
-found : (store : StoreValue) (tables : List (ℤ × List ℕ)) (known : List KnownTable) → AreMarked store tables known → Found store tables known
+found : (store : StoreValue) (tables : List (ℤ × List ℕ)) (known : List KnownTable) → AreMarked store tables known → FoundIn store tables known
 found store [] [] all = record { contents = []; held = tt; told = refl; names = refl }
 found store [] (x ∷ xs) all = absurd all
 found store (t ∷ ts) [] all = absurd all
@@ -65,6 +66,9 @@ found store (t ∷ ts) (x ∷ xs) all =
       told = λ i. one.told i ∷ rest.told i;
       names = ap (λ ns. t.1 ∷ ns) rest.names;
     }
+
+pub marked_contents : (store : StoreValue) (known : List KnownTable) → AreMarked store store.tables known → FoundIn store store.tables known
+marked_contents store known all = found store store.tables known all
 
 -- Where no two tables have one name, what is told of them is of contents that the store holds.
 pub marked_holds : (store : StoreValue) (known : List KnownTable) → AreNamedApart store → AreMarked store store.tables known → (contents : Contents) × AreHeld store known contents
@@ -98,3 +102,20 @@ module _ {S : Type 0} (g : Ghosts S) (old new : StoreState S) (known : List Know
         let same : found.0 ≡ contents = holds_one_contents (value_in g new) found.0 contents found.1.held (subst (λ v. StoreHolds v contents) (sym (same_value up.clean)) held) in
         subst (λ cs. AreHeld (value_in g new) known cs) same found.1;
   }
+
+-- ---- the table of an id
+
+pub found_listed : (store : StoreValue) (id : ℤ) (named : ℤ × List ℕ) (rows : List TabRow) (tables : List (ℤ × List ℕ)) → map shown_table rows ≡ map (table_listed store) tables →
+    find (λ (n : ℤ × List ℕ). int_eq id n.0) tables ≡ Some named → IsFound store named (find (λ (t : TabRow). int_eq id t.id) rows)
+found_listed store id named [] [] same is = absurd (let none = is in cc)
+found_listed store id named [] (t ∷ ts) same is = absurd (let none = same in cc)
+found_listed store id named (r ∷ rs) [] same is = absurd (let none = same in cc)
+found_listed store id named (r ∷ rs) (t ∷ ts) same is =
+    let first : IsListed store t r = cc in
+    let rest : map shown_table rs ≡ map (table_listed store) ts = cc in
+    go (int_eq id t.0) refl (ap (λ (l : Listed). int_eq id l.id) first) first (found_listed store id named rs ts rest) is
+  where
+    go : (b : Bool) → int_eq id t.0 ≡ b → int_eq id r.id ≡ int_eq id t.0 → IsListed store t r → (find (λ (n : ℤ × List ℕ). int_eq id n.0) ts ≡ Some named → IsFound store named (find (λ (t : TabRow). int_eq id t.id) rs)) →
+        cond b (Some t) (find (λ (n : ℤ × List ℕ). int_eq id n.0) ts) ≡ Some named → IsFound store named (cond (int_eq id r.id) (Some r) (find (λ (t : TabRow). int_eq id t.id) rs))
+    go true here same first rest is = subst (λ c. IsFound store named (cond c (Some r) (find (λ (t : TabRow). int_eq id t.id) rs))) (sym (same ∙ here)) (subst (λ n. IsListed store n r) (ap (λ o. unwrap_or o t) is) first)
+    go false here same first rest is = subst (λ c. IsFound store named (cond c (Some r) (find (λ (t : TabRow). int_eq id t.id) rs))) (sym (same ∙ here)) (rest is)

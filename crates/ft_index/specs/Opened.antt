@@ -1,6 +1,7 @@
 -- How the tables of a store stand, as they are read. All of it is our own choice.
-use Rattle.std.specs.Prelude.{◌≡◌, ℕ, ℤ, Bool, true, false, List, IsTrue}
-use Rattle.std.specs.List.{AllZip}
+use Rattle.std.specs.Prelude.{◌≡◌, ℕ, ℤ, Bool, true, false, List, Option, Some, None, IsTrue}
+use Rattle.std.specs.List.{AllZip, find}
+use Rattle.std.specs.Ordering.{int_eq}
 use Rattle.sqlite.specs.State.{HasCleanDisk}
 use Rattle.sqlite.specs.Store.{Ghosts}
 use Rattle.ft_store.specs.declared.rows.TabRow.{TabRow}
@@ -37,6 +38,15 @@ pub record StandsSo (name : List ℕ) (rows : TableRows) (index : IndexRows) (st
 -- a table is listed as one that the store names
 abbrev pub IsListed : StoreValue → ℤ × List ℕ → TabRow → Type 0
 IsListed store named table = shown_table table ≡ table_listed store named
+
+-- the table that the store names under an id
+abbrev pub IsNamed : StoreValue → ℤ → ℤ × List ℕ → Type 0
+IsNamed store id named = find (λ (n : ℤ × List ℕ). int_eq id n.0) store.tables ≡ Some named
+
+-- and it is found as it is listed
+abbrev pub IsFound : StoreValue → ℤ × List ℕ → Option TabRow → Type 0
+IsFound store named None = ⊥
+IsFound store named (Some table) = IsListed store named table
 
 -- what is told of a table that the store names is how its rows stand
 pub record IsMarked (store : StoreValue) (named : ℤ × List ℕ) (known : KnownTable) : Type 0 where

@@ -2,6 +2,7 @@
 #![tactic(auto)]
 
 mod change;
+mod check;
 mod doc_lists;
 mod document;
 mod document_index;

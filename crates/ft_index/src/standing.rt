@@ -1,12 +1,15 @@
 //! How the rows of a table stand.
 ghost use Rattle.std.specs.Prelude.{◌≡◌, ◌<◌, ◌↔◌, ℤ, ℕ, List, map, length, IsTrue, IfOk, OnOk};
+ghost use Rattle.std.specs.List.{find};
+ghost use Rattle.std.specs.Ordering.{int_eq};
 ghost use Rattle.sqlite.specs.State.{HasCleanDisk};
+ghost use Rattle.ft_store.specs.declared.rows.TabRow as rows;
 ghost use Rattle.ft_store.specs.Kept.{shows, value_in};
 ghost use Rattle.ft_content.specs.Content.{Content};
 ghost use Rattle.ft_content.specs.Index.{index_rows};
 ghost use Rattle.ft_content.specs.Views.{column_of};
 ghost use Rattle.ft_index.specs.DocumentsRead.{Looks};
-ghost use Rattle.ft_index.specs.Opened.{mark_of, StandsSo, IsListed};
+ghost use Rattle.ft_index.specs.Opened.{mark_of, StandsSo, IsListed, IsNamed, IsFound};
 ghost use Rattle.ft_index.specs.Standing as standing;
 ghost use Rattle.ft_index.specs.Tables.{table_rows, table_index};
 
@@ -33,6 +36,27 @@ impl Standing {
     {
         matches!(self, Standing::Sound)
     }
+}
+
+// The table of an id, if it is listed.
+fn table_under(tables: Vec<TabRow>, id: i64) -> Option<TabRow>
+    ensures { result ≡ find (λ (t : rows.TabRow). int_eq id t.id) tables.items }
+{
+    tables.into_iter().find(|table| table.id == id)
+}
+
+/// The table of an id as the store lists it, if it does. The store is only read, whatever is answered.
+pub(crate) fn listed_table<S: Alter>(
+    store: &mut Store<S>,
+    id: i64,
+) -> Result<Option<TabRow>, StoreFault>
+    ensures found { (named : ℤ × List ℕ) → HasCleanDisk (shows S.Store store.new) → IsNamed (value_in S.Store store.old) id named
+        → IfOk result (λ found. IsFound (value_in S.Store store.old) named found) }
+    ensures live { HasCleanDisk (shows S.Store store.new) → OnOk result (IsTrue (shows S.Store store.new).is_open) }
+    ensures looks { Looks S.Store store.old store.new }
+{
+    let tables = store.tables()?;
+    Ok(table_under(tables, id))
 }
 
 /// How the rows of a table that is listed stand. The store is only read, whatever is answered.
