@@ -9,7 +9,7 @@ use Rattle.ft_index.specs.Tables.{table_rows, table_index}
 use Rattle.ft_index.specs.Kept.{Stands, HoldsTable, HoldsOneContents}
 use Rattle.ft_content.proofs.RowLemmas.{contents_are_one}
 
-held_once : (name : List ℕ) (rows : TableRows) (index : IndexRows) (a b : Held) → Stands name rows index a → Stands name rows index b → a ≡ b
+pub held_once : (name : List ℕ) (rows : TableRows) (index : IndexRows) (a b : Held) → Stands name rows index a → Stands name rows index b → a ≡ b
 held_once name rows index (Sound a) (Sound b) h g = ap Sound (contents_are_one name a b h.0 g.0 (sym h.1 ∙ g.1))
 held_once name rows index (Sound a) (Stale b) h g = absurd (g.2 (h.2 ∙ ap index_rows (contents_are_one name a b h.0 g.0 (sym h.1 ∙ g.1))))
 held_once name rows index (Sound a) (Loose b) h g = absurd (g.1 a h.0 h.1)

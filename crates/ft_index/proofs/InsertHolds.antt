@@ -17,7 +17,7 @@ use Rattle.ft_index.proofs.KnownLemmas.{IsSoundTable}
 use Rattle.ft_index.proofs.Lifting.{leaves_rest, lifts}
 
 -- a table that is found among the contents stands so in the store
-found_stands : (store : StoreValue) (name : List ℕ) (t : ℤ × Table) (tables : List (ℤ × List ℕ)) (contents : Contents) → AreHeldIn store tables contents → table_named contents name ≡ Some t →
+pub found_stands : (store : StoreValue) (name : List ℕ) (t : ℤ × Table) (tables : List (ℤ × List ℕ)) (contents : Contents) → AreHeldIn store tables contents → table_named contents name ≡ Some t →
     Stands t.1.name (table_rows t.0 store) (table_index t.0 store) t.1.held
 found_stands store name t [] [] held found = absurd (let no = found in cc)
 found_stands store name t [] (c ∷ cs) held found = absurd held

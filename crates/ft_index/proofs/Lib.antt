@@ -49,6 +49,11 @@ pub mod FirstLemmas
 pub mod StandingIndex
 pub mod StandingSizes
 pub mod StandingEntries
+pub mod DocidOrder
+pub mod StandingBack
+pub mod StandingReads
+pub mod OpenedTables
+pub mod CheckLemmas
 pub mod Lifting
 pub mod InsertDue
 pub mod InsertHolds

@@ -80,17 +80,17 @@ found_made key columns documents =
     let es = flat_map (document_entries columns) documents in
     find-values key_cmp (map stored_spot) key (spot_lists es) ∙ ap (option_map (map stored_spot)) (lists_are_entries es key.0 key.1) ∙ mapped_if (spots_in key es)
 
-made_sorted : (columns : List Column) (documents : Documents) → is_sorted key_cmp (lists_of columns documents) ≡ true
+pub made_sorted : (columns : List Column) (documents : Documents) → is_sorted key_cmp (lists_of columns documents) ≡ true
 unfolding index_rows entries
 made_sorted columns documents = sorted-values key_cmp (map stored_spot) (spot_lists (flat_map (document_entries columns) documents)) ∙ true_of _ (sorted_lists (flat_map (document_entries columns) documents))
 
 -- so lists with the spots of a content's entries are those made from scratch
-lists_same : (columns : List Column) (documents : Documents) (lists : List (Key × List StoredSpot)) → is_sorted key_cmp lists ≡ true → AllByRecursion (λ (l : Key × List StoredSpot). l.1 ≢ []) lists →
+pub lists_same : (columns : List Column) (documents : Documents) (lists : List (Key × List StoredSpot)) → is_sorted key_cmp lists ≡ true → AllByRecursion (λ (l : Key × List StoredSpot). l.1 ≢ []) lists →
     ((key : Key) → spots_of key (entry_rows lists) ≡ map stored_spot (spots_in key (flat_map (document_entries columns) documents))) → lists ≡ lists_of columns documents
 lists_same columns documents lists sorted whole spots = same_entries key_cmp key_cmp_total key_cmp_exact lists (lists_of columns documents) (of_true _ sorted) (of_true _ (made_sorted columns documents))
     (λ key. found_whole key lists whole ∙ ap list_if (sym (spots_flat key lists sorted) ∙ spots key) ∙ sym (found_made key columns documents))
 
-made_spots : (key : Key) (columns : List Column) (documents : Documents) → spots_of key (entry_rows (lists_of columns documents)) ≡ map stored_spot (spots_in key (flat_map (document_entries columns) documents))
+pub made_spots : (key : Key) (columns : List Column) (documents : Documents) → spots_of key (entry_rows (lists_of columns documents)) ≡ map stored_spot (spots_in key (flat_map (document_entries columns) documents))
 made_spots key columns documents =
     let ss = map stored_spot (spots_in key (flat_map (document_entries columns) documents)) in
     spots_flat key (lists_of columns documents) (made_sorted columns documents) ∙ ap (λ o. unwrap_or o []) (found_made key columns documents) ∙ unwrapped ss
@@ -117,7 +117,7 @@ second_tie Greater b h = absurd (let no = h in cc)
 abbrev pub of_docid : ℤ → List EntryRow → List EntryRow
 of_docid docid es = filter (λ (e : EntryRow). int_eq docid e.docid) es
 
-spots_of_docid : (key : Key) (es : List EntryRow) → spots_of key (of_docid key.1 es) ≡ spots_of key es
+pub spots_of_docid : (key : Key) (es : List EntryRow) → spots_of key (of_docid key.1 es) ≡ spots_of key es
 spots_of_docid key es = ap (map (λ (e : EntryRow). e.spot)) (filter-within (has_key key) (λ (e : EntryRow). int_eq key.1 e.docid) (λ e h. second_tie (slice_cmp nat_cmp key.0 e.term) (int_cmp key.1 e.docid) h) es)
 
 -- Where entries by docid are a document's after another, the lists are those made from scratch.
@@ -138,7 +138,7 @@ shown_of_docid docid (e ∷ es) = elim (int_eq docid e.docid) as (λ b. cond b (
   | false ↦ shown_of_docid docid es
 ]
 
-neither_less : (a b : ℤ) → (not (is_lt (int_cmp a b)) && not (is_lt (int_cmp b a))) ≡ int_eq a b
+pub neither_less : (a b : ℤ) → (not (is_lt (int_cmp a b)) && not (is_lt (int_cmp b a))) ≡ int_eq a b
 neither_less a b = ap (λ o. not (is_lt (int_cmp a b)) && not (is_lt o)) (int_cmp_total.antisymm b a)
     ∙ elim (int_cmp a b) as (λ o. (not (is_lt o) && not (is_lt (ordering_reverse o))) ≡ is_eq o) [ Less ↦ refl | Equal ↦ refl | Greater ↦ refl ]
 

@@ -19,3 +19,4 @@ pub mod Written
 pub mod Chosen
 pub mod Updated
 pub mod Selected
+pub mod Opened

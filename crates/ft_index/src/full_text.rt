@@ -1,7 +1,8 @@
 // Full-text tables over a store.
 use crate::change::change_rows;
+use crate::open::opened_tables;
 use ft_content::{Fault, TableInfo};
-use ft_store::{RowChange, Store};
+use ft_store::{RowChange, Store, StoreFault};
 use sqlite::Alter;
 use std::alloc::Global;
 use std::marker::Model;
@@ -16,6 +17,13 @@ pub struct FullText<S: Alter> {
     alloc: Global,
     // By rising id.
     tables: Vec<TableInfo>,
+}
+
+/// A store that was not taken, as it stands, with the cause.
+#[derive(Drop)]
+pub struct NewFault<S: Alter> {
+    pub store: Store<S>,
+    pub cause: StoreFault,
 }
 
 impl<S: Alter> Model for FullText<S> {
@@ -33,9 +41,29 @@ impl<S: Alter> Model for FullText<S> {
 }
 
 impl<S: Alter> FullText<S> {
-    ghost use Rattle.std.specs.Prelude.{◌≡◌, map, string_bytes, is_ok, IfOk};
+    ghost use Rattle.std.specs.Prelude.{◌≡◌, map, string_bytes, is_ok, IfOk, IfErr};
     ghost use Rattle.ft_content.specs.Views.{known_info};
+    ghost use Rattle.ft_index.specs.DocumentsRead.{Looks};
+    ghost use Rattle.ft_index.specs.Opened.{Opens};
     ghost use Rattle.ft_index.specs.Kept.{IsUp, value_of, OnlyLooks, Notes, KeptByCalls, NoneGetsUnsound, NamesStayApart};
+
+    /// Takes a store, and marks each table whose rows aren't documents with exactly the index rows made from scratch. The
+    /// store is only read; where a read is refused it is handed back.
+    pub fn new(alloc: Global, store: Store<S>) -> Result<FullText<S>, NewFault<S>>
+        ensures opened { IfOk result (λ made. Opens S.Store store made) }
+        ensures refused { IfErr result (λ fault. Looks S.Store store fault.store) }
+    {
+        let mut store = store;
+        store.is_in_order();
+        match opened_tables(alloc, &mut store) {
+            Ok(tables) => Ok(FullText {
+                store,
+                alloc,
+                tables,
+            }),
+            Err(cause) => Err(NewFault { store, cause }),
+        }
+    }
 
     /// The tables by rising id, each with its mark.
     pub fn tables(&self) -> &[TableInfo]

@@ -2,6 +2,7 @@
 #![tactic(auto)]
 
 mod change;
+mod check;
 mod chosen;
 mod delete;
 mod doc_lists;
@@ -13,11 +14,13 @@ mod insert;
 mod matching;
 mod names;
 mod new_documents;
+mod open;
 mod optimize;
 mod query;
 mod rebuild;
 mod rewrite;
 mod select;
+mod standing;
 mod standing_index;
 mod standing_rows;
 mod table_lists;
@@ -26,4 +29,4 @@ mod told;
 mod update;
 
 pub use ft_content::{Column, Command, Fault, Filter, Grid, Item, Items, Reply, TableInfo, Value};
-pub use full_text::FullText;
+pub use full_text::{FullText, NewFault};

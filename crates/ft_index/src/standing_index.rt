@@ -88,9 +88,9 @@ pub(crate) fn are_theirs(
     ensures sorted { OnOk result (IsSortedByKey (λ e. e.docid) int_cmp entries.new.items) }
     ensures stable { IsStableByKey (λ e. e.docid) int_cmp entries.old.items entries.new.items }
 
-    // Then they are of the index rows made from scratch.
+    // So they are exactly where the index rows are those made from scratch.
     ensures right { (content : Content) (rows : IndexRows) → standing.HaveContent (map column_of columns.now) (map standing.shown_row cells.now) content →
-        standing.AreOfRows rows (map standing.shown_size sizes.now) (map standing.shown_entry entries.old.items) → IfOk result (λ b. IsTrue b → rows ≡ index_rows content) }
+        standing.AreOfRows rows (map standing.shown_size sizes.now) (map standing.shown_entry entries.old.items) → IfOk result (λ b. IsTrue b ↔ (rows ≡ index_rows content)) }
 {
     sort_by_docid(entries)?;
     are_of_documents(alloc, columns, cells, sizes, entries.as_slice())

@@ -120,6 +120,7 @@ impl<S: Alter> Store<S> {
     pub fn tables(&mut self) -> Result<Vec<TabRow>, StoreFault>
         ensures rows { HasCleanDisk (shows S.Store self.new) → IfOk result (λ found. map shown_table found.items ≡ tables_listed (value_in S.Store self.old)) }
         ensures kept { HasCleanDisk (shows S.Store self.new) → Keeps (shows S.Store self.old) (shows S.Store self.new) }
+        ensures live { HasCleanDisk (shows S.Store self.new) → OnOk result (IsTrue (shows S.Store self.new).is_open) }
         ensures survives { Survives (shows S.Store self.old) (shows S.Store self.new) (λ _. IsTrue (shows S.Store self.old).is_open → ⊥) }
         ensures counted { IfOk result (λ found. self.new.rows_read ≡ more_rows (vec_len found) self.old) }
         ensures uncounted { OnErr result (self.new.rows_read ≡ self.old.rows_read) }
@@ -211,6 +212,7 @@ impl<S: Alter> Store<S> {
         ensures counted { IfOk result (λ found. self.new.rows_read ≡ more_rows (vec_len found) self.old) }
         ensures uncounted { OnErr result (self.new.rows_read ≡ self.old.rows_read) }
         ensures live { HasCleanDisk (shows S.Store self.new) → OnOk result (IsTrue (shows S.Store self.new).is_open) }
+        ensures stays { HasCleanDisk (shows S.Store self.new) → result ≡ Err StoreFault.Damaged → IsTrue (shows S.Store self.new).is_open }
     {
         let found = lists::entries(&mut self.conn, self.alloc, tab)?;
         self.rows_read = self.rows_read.saturating_add(found.len() as u64);

@@ -1,4 +1,4 @@
-use Rattle.std.proofs.Common.{◌≡◌, map, length, ap, subst, ◌∙◌}
+use Rattle.std.proofs.Common.{◌≡◌, map, length, ap, subst, ◌∙◌, rules}
 use Rattle.std.specs.Prelude.{IsTrue}
 use Rattle.std.proofs.lemmas.List.{length-map}
 use Rattle.std.proofs.lemmas.Result.{IfOk-weaker}
@@ -8,6 +8,7 @@ use Rattle.ft_content.specs.Views.{column_of}
 use Rattle.ft_index.specs.Standing.{HaveCells, shown_row, shown_size, shown_entry, are_of_documents}
 use Rattle.ft_index.proofs.StandingSizes.{they_are}
 use Rattle.ft_index.proofs.StandingEntries.{rows_right}
+use Rattle.ft_index.proofs.StandingBack.{theirs_back}
 use Rattle.ft_index.proofs.standing_index.are_theirs.Goals as goal
 
 -- what is answered, over the entries as they are put in order
@@ -22,4 +23,11 @@ returns-clause-theirs c = λ content have.
 
 pub returns-clause-right : goal.returns-clause-right
 returns-clause-right c = λ content rows have of.
-    IfOk-weaker c.are_of_documents.result _ _ (λ b is h. rows_right content rows (map shown_size c.args.sizes.now) c.args.entries.now.items c.sort_by_docid.new.entries.items c.sort_by_docid.ensures.stable of (is.0 h)) (returns-clause-theirs c content have)
+    let ss = map shown_size c.args.sizes.now in
+    let stable = c.sort_by_docid.ensures.stable in
+    IfOk-weaker c.are_of_documents.result _ _
+    (λ b is. (
+      (λ h. rows_right content rows ss c.args.entries.now.items c.sort_by_docid.new.entries.items stable of (is.0 h)),
+      (λ same. is.1 (theirs_back have.name content rows ss c.args.entries.now.items c.sort_by_docid.new.entries.items have.is_content stable (search rules) of same)),
+    ))
+    (returns-clause-theirs c content have)

@@ -31,3 +31,6 @@ returns-clause-damaged g c clean = λ is.
 
 pub returns-in_err-rows-clause-damaged : goal.returns-in_err-rows-clause-damaged
 returns-in_err-rows-clause-damaged g c = λ clean is. absurd (c.in_err-rows.ensures.whole (search rules))
+
+pub returns-in_err-rows-clause-stays : goal.returns-in_err-rows-clause-stays
+returns-in_err-rows-clause-stays g c = λ clean is. absurd (c.in_err-rows.ensures.whole (search rules))

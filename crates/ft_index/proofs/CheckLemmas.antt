@@ -1,0 +1,135 @@
+-- What is answered to a Check, and whether all tables are sound.
+use Rattle.std.proofs.Common.{◌≡◌, inl, inr, ◌⊎◌, ℕ, Bool, true, false, cond, List, [], ◌∷◌, map, Option, Some, None, Result, Ok, Err, ℤ, refl, sym, ap, subst, ◌∙◌, arith}
+use Rattle.std.specs.Prelude.{IsTrue, unwrap_or, option_map}
+use Rattle.std.specs.List.{AllByRecursion, find, list_all}
+use Rattle.std.specs.Ordering.{int_eq}
+use Rattle.std.proofs.lemmas.List.Sums.{AllPass-from_list_all, list_all-from_AllPass}
+use Rattle.std.proofs.lemmas.List.Folds.{list_all-map}
+use Rattle.std.specs.Cmp.{int_cmp_total, eq_by_cmp_equiv}
+use Rattle.sqlite.specs.State.{HasCleanDisk}
+use Rattle.sqlite.specs.Effect.{Database}
+use Rattle.sqlite.specs.Store.{Ghosts}
+use Rattle.ft_store.specs.Rows.{value_of}
+use Rattle.ft_store.specs.Store.{StoreValue, AreInOrder}
+use Rattle.ft_store.specs.Kept.{StoreState, shows, value_in}
+use Rattle.ft_content.specs.declared.fault.Fault.{Fault}
+use Rattle.ft_content.specs.declared.fault.Fault.TheVariants as faults
+use Rattle.ft_content.specs.declared.table.TableInfo.{TableInfo}
+use Rattle.ft_content.specs.Content.{same_name}
+use Rattle.ft_content.specs.Command.{Command, Check, Reply, Done}
+use Rattle.ft_content.specs.Views.{KnownTable, known_info}
+use Rattle.ft_content.specs.Deserved.{Held, Sound, Stale, Loose, Table, Contents, table_named, on_found, check_fault, deserved}
+use Rattle.ft_content.specs.Step.{step, step_by, reply_to, after}
+use Rattle.ft_index.specs.Changed.{with_tables}
+use Rattle.ft_index.specs.DocumentsRead.{Looks}
+use Rattle.ft_index.specs.Found.{known_named}
+use Rattle.ft_index.specs.Kept.{IsUp, AreHeld, StoreHolds, Stands, AreSound, Holds, Executes, Answers, HoldsTable, is_outside, is_sound, told_table}
+use Rattle.ft_index.specs.Opened.{IsNamed, AreMarked}
+use Rattle.ft_index.specs.Tables.{table_rows, table_index}
+use Rattle.ft_index.proofs.HeldLemmas.{holds_one_contents}
+use Rattle.ft_index.proofs.InsertHolds.{found_stands}
+use Rattle.ft_index.proofs.KnownLemmas.{none_named, some_named}
+use Rattle.ft_index.proofs.OneTable.{IsOne, one_named, ids_sorted, AreHeldIn}
+use Rattle.ft_index.proofs.OpenedTables.{marked_contents}
+
+-- ---- a call that only reads
+
+pub executes_read : {S : Type 0} (g : Ghosts S) (old new : StoreState S) (tables : List KnownTable) (command : Command) (answer : Result Reply Fault) → Looks g old new →
+    (IsUp g (with_tables new tables) → (first : Contents) → Holds g (with_tables old tables) first → Answers first command answer first) → Executes g (with_tables old tables) command answer (with_tables new tables)
+executes_read g old new tables command answer looks answers = record {
+  was_up = λ up. record { clean = (let c = up.clean in omega (arith, looks.survives.clean, c)); is_open = (looks.kept up.clean up.is_open).2 };
+  steps = λ up first holds. (first, subst (λ v. AreHeld v tables first) (sym (same up)) holds, answers up first holds);
+  noted = λ up first holds. ap (λ v. v.noted) (same up);
+}
+  where
+    same : IsUp g (with_tables new tables) → value_in g new ≡ value_in g old
+    same up = ap (λ (d : Database). value_of d.trees) (looks.kept up.clean up.is_open).0
+
+-- ---- the table of a name
+
+-- it stands under its id among those that the store names
+named_under : (store : StoreValue) (name : List ℕ) (t : ℤ × Table) (tables : List (ℤ × List ℕ)) (contents : Contents) → AllByRecursion (IsOne name t) contents → AreHeldIn store tables contents → table_named contents name ≡ Some t →
+    find (λ (n : ℤ × List ℕ). int_eq t.0 n.0) tables ≡ Some (t.0, t.1.name)
+named_under store name t [] [] one held found = absurd (let no = found in cc)
+named_under store name t [] (c ∷ cs) one held found = absurd held
+named_under store name t (n ∷ ns) [] one held found = absurd held
+named_under store name t (n ∷ ns) (c ∷ cs) one held found = go (int_eq t.0 c.0) refl (named_under store name t ns cs one.1 held.1)
+  where
+    go : (b : Bool) → int_eq t.0 c.0 ≡ b → (table_named cs name ≡ Some t → find (λ (n : ℤ × List ℕ). int_eq t.0 n.0) ns ≡ Some (t.0, t.1.name)) → cond (int_eq t.0 n.0) (Some n) (find (λ (n : ℤ × List ℕ). int_eq t.0 n.0) ns) ≡ Some (t.0, t.1.name)
+    go true is rest =
+        let same : c ≡ t = one.0.is is in
+        let here : n ≡ (t.0, t.1.name) = (λ i. (sym held.0.id i, sym held.0.name i)) ∙ (λ i. ((same i).0, (same i).1.name)) in
+        ap (λ b. cond b (Some n) (find (λ (n : ℤ × List ℕ). int_eq t.0 n.0) ns)) (ap (int_eq t.0) (sym held.0.id) ∙ is) ∙ ap Some here
+    go false is rest =
+        ap (λ b. cond b (Some n) (find (λ (n : ℤ × List ℕ). int_eq t.0 n.0) ns)) (ap (int_eq t.0) (sym held.0.id) ∙ is)
+        ∙ rest (sym (ap (λ b. cond b (Some c) (table_named cs name)) (one.0.agrees ∙ is)) ∙ found)
+
+-- what is known of a table that is told under a name
+pub record IsTold (store : StoreValue) (contents : Contents) (name : List ℕ) (known : KnownTable) : Type 0 where
+  pub table : ℤ × Table
+  pub found : table_named contents name ≡ Some table
+  pub told : told_table table ≡ known
+  pub one : AllByRecursion (IsOne name table) contents
+  pub named : IsNamed store known.id (table.0, table.1.name)
+  pub stands : Stands table.1.name (table_rows table.0 store) (table_index table.0 store) table.1.held
+
+pub told_here : (store : StoreValue) (tables : List KnownTable) (contents : Contents) (name : List ℕ) (known : KnownTable) → AreInOrder store → AreHeld store tables contents → known_named tables name ≡ Some known → IsTold store contents name known
+told_here store tables contents name known order held named =
+    let it = some_named contents name known (ap (λ ts. known_named ts name) (sym held.told) ∙ named) in
+    let one = one_named name it.0 contents (ids_sorted store store.tables contents held.held order.tables) held.named_once it.1 in
+    record {
+      table = it.0;
+      found = it.1;
+      told = it.2;
+      one = one;
+      named = ap (λ (k : KnownTable). find (λ (n : ℤ × List ℕ). int_eq k.id n.0) store.tables) (sym it.2) ∙ named_under store name it.0 store.tables contents one held.held it.1;
+      stands = found_stands store name it.0 store.tables contents held.held it.1;
+    }
+
+-- ---- what a Check is answered
+
+check_due : (contents : Contents) (name : List ℕ) (found : Option (ℤ × Table)) → table_named contents name ≡ found → deserved contents (Check name) ≡ on_found found check_fault
+unfolding deserved
+check_due contents name found is = ap (λ f. on_found f check_fault) is
+
+checked : (contents : Contents) (name : List ℕ) (due : Option Fault) → deserved contents (Check name) ≡ due → step contents (Check name) ≡ step_by due contents (Check name)
+unfolding step
+checked contents name due is = ap (λ d. step_by d contents (Check name)) is
+
+check_done : (contents : Contents) (name : List ℕ) → step_by None contents (Check name) ≡ (Ok Done, contents)
+unfolding reply_to after
+check_done contents name = refl
+
+sound_due : (name : List ℕ) (held : Held) → is_sound held ≡ true → check_fault name held ≡ None
+sound_due name (Sound content) h = refl
+sound_due name (Stale content) h = absurd (let no = h in cc)
+sound_due name (Loose rows) h = absurd (let no = h in cc)
+
+unsound_due : (name : List ℕ) (held : Held) → is_sound held ≡ false → check_fault name held ≡ Some faults.Corrupt
+unsound_due name (Sound content) h = absurd (let no = h in cc)
+unsound_due name (Stale content) h = refl
+unsound_due name (Loose rows) h = refl
+
+pub check_missing : (contents : Contents) (tables : List KnownTable) (name : List ℕ) → tables ≡ map told_table contents → known_named tables name ≡ None → step contents (Check name) ≡ (Err faults.NoSuchTable, contents)
+check_missing contents tables name told none = checked contents name (Some faults.NoSuchTable) (check_due contents name None (none_named contents name (ap (λ ts. known_named ts name) (sym told) ∙ none)))
+
+pub check_right : (contents : Contents) (name : List ℕ) (t : ℤ × Table) → table_named contents name ≡ Some t → is_sound t.1.held ≡ true → step contents (Check name) ≡ (Ok Done, contents)
+check_right contents name t found sound = checked contents name None (check_due contents name (Some t) found ∙ sound_due t.1.name t.1.held sound) ∙ check_done contents name
+
+pub check_wrong : (contents : Contents) (name : List ℕ) (t : ℤ × Table) → table_named contents name ≡ Some t → is_sound t.1.held ≡ false → step contents (Check name) ≡ (Err faults.Corrupt, contents)
+check_wrong contents name t found unsound = checked contents name (Some faults.Corrupt) (check_due contents name (Some t) found ∙ unsound_due t.1.name t.1.held unsound)
+
+-- ---- whether all tables are sound
+
+sound_marks : (contents : Contents) → list_all (λ (k : KnownTable). k.sound) (map told_table contents) ≡ list_all (λ (t : ℤ × Table). is_sound t.1.held) contents
+sound_marks contents = list_all-map (λ (k : KnownTable). k.sound) told_table contents
+
+pub all_are_sound : (store : StoreValue) (infos : List TableInfo) (contents : Contents) (all : Bool) → AreMarked store store.tables (map known_info infos) → StoreHolds store contents → all ≡ list_all (λ (t : TableInfo). t.sound) infos →
+    (IsTrue all → AreSound contents) × (AreSound contents → IsTrue all)
+all_are_sound store infos contents all marked held is =
+    let found = marked_contents store (map known_info infos) marked in
+    let told : map known_info infos ≡ map told_table contents = found.told ∙ ap (map told_table) (holds_one_contents store found.contents contents found.held held) in
+    let same : all ≡ list_all (λ (t : ℤ × Table). is_sound t.1.held) contents = is ∙ sym (list_all-map (λ (k : KnownTable). k.sound) known_info infos) ∙ ap (list_all (λ (k : KnownTable). k.sound)) told ∙ sound_marks contents in (
+      (λ h. AllPass-from_list_all (λ (t : ℤ × Table). is_sound t.1.held) contents (sym same ∙ h)),
+      (λ h. same ∙ list_all-from_AllPass (λ (t : ℤ × Table). is_sound t.1.held) contents h),
+    )

@@ -1,0 +1,185 @@
+-- Rows of a table as they are read, and how they stand.
+use Rattle.std.proofs.Common.{◌≡◌, ◌≢◌, ℕ, ◌<◌, List, [], ◌∷◌, ◌++◌, map, length, ℤ, String, Global, string_bytes, refl, sym, ap, subst, ◌∙◌, arith}
+use Rattle.std.specs.Prelude.{IsTrue}
+use Rattle.std.specs.List.{AllByRecursion, flat_map}
+use Rattle.std.specs.Ordering.{int_eq}
+use Rattle.std.specs.FinMap.Entries.{where_key}
+use Rattle.std.proofs.lemmas.List.{map-append}
+use Rattle.sqlite_keyed.proofs.ListLemmas.{map-map}
+use Rattle.sqlite.specs.State.{HasCleanDisk}
+use Rattle.sqlite.specs.Effect.{Database}
+use Rattle.sqlite.specs.Store.{Ghosts}
+use Rattle.ft_store.specs.Kept.{StoreState, shows, value_in}
+use Rattle.ft_store.specs.Rows.{value_of}
+use Rattle.ft_store.proofs.ChainLemmas.{kept_then, reads_then}
+use Rattle.ft_index.specs.DocumentsRead.{Looks}
+use Rattle.ft_store.specs.declared.rows.CellRow as stored_cell
+use Rattle.ft_store.specs.declared.rows.SizeRow as stored_size
+use Rattle.ft_store.specs.declared.rows.EntryRow as stored_entry
+use Rattle.ft_store.specs.declared.rows.TabRow.{TabRow}
+use Rattle.ft_store.specs.Store.{Cell, StoreValue, AreInOrder, CellKey, ListKey, cell_key_cmp, list_key_cmp}
+use Rattle.ft_store.specs.Shown as shown
+use Rattle.ft_content.specs.Content.{CellRow, Column, Content, IsContent, TableRows, content_rows, content_in}
+use Rattle.ft_content.specs.Index.{EntryRow, entry_rows, Key, StoredSpot, SizeRow, IndexRows, index_rows}
+use Rattle.ft_content.specs.Views.{KnownTable}
+use Rattle.ft_content.specs.Deserved.{Held, Sound, Stale, Loose}
+use Rattle.ft_content.proofs.RowLemmas.{rows_are_read}
+use Rattle.ft_index.specs.declared.standing.Standing.TheVariants as standings
+use Rattle.ft_index.specs.declared.standing.Standing.{Standing}
+use Rattle.ft_index.specs.Kept.{Stands, held_columns, is_sound}
+use Rattle.ft_index.specs.Opened.{standing_of, mark_of, StandsSo, IsListed, IsMarked}
+use Rattle.ft_index.specs.RewriteRows.{sized}
+use Rattle.ft_index.specs.Standing.{shown_size, shown_entry, shown_row, listed_rows, columns_in, list_rows, AreOfRows, AreContent, HaveContent}
+use Rattle.ft_index.specs.Tables.{table_rows, table_index}
+use Rattle.ft_index.proofs.KeyedRows.{true_of, of_true}
+use Rattle.ft_index.proofs.OwnRows.{sorted_own}
+use Rattle.ft_index.proofs.StoreKeys.{list_keys}
+use Rattle.ft_index.proofs.StandingBack.{made_whole}
+use Rattle.ft_index.proofs.StandingContent.{some_columns, parts_of}
+
+abbrev lists_asked : ℤ → StoreValue → List (ListKey × List StoredSpot)
+lists_asked tab store = where_key list_key_cmp (λ k. int_eq tab k.0) store.lists
+
+abbrev own_list : ListKey × List StoredSpot → Key × List StoredSpot
+own_list l = ((l.0.1, l.0.2), l.1)
+
+abbrev own_size : CellKey × ℤ → SizeRow
+own_size z = record { docid = z.0.1; column = z.0.2; n = z.1 }
+
+abbrev entry_of : shown.Entry → EntryRow
+entry_of e = record { term = e.0; docid = e.1; spot = e.2 }
+
+sizes_read : (tab : ℤ) (store : StoreValue) (found : List stored_size.SizeRow) → map (shown.shown_size tab) found ≡ where_key cell_key_cmp (λ k. int_eq tab k.0) store.sizes → map shown_size found ≡ sized (table_index tab store).sizes
+sizes_read tab store found is =
+    sym (ap (λ zs. sized (map own_size zs)) (sym is)
+    ∙ ap sized (map-map own_size (shown.shown_size tab) found)
+    ∙ map-map (λ (s : SizeRow). ((s.docid, s.column), s.n)) (λ (s : stored_size.SizeRow). own_size (shown.shown_size tab s)) found)
+
+rows_of_list : (term : List ℕ) (docid : ℤ) (spots : List StoredSpot) → map entry_of (map (λ s. (term, docid, s)) spots) ≡ list_rows ((term, docid), spots)
+rows_of_list term docid [] = refl
+rows_of_list term docid (s ∷ ss) = ap (λ xs. record { term = term; docid = docid; spot = s } ∷ xs) (rows_of_list term docid ss)
+
+rows_of_lists : (lists : List (ListKey × List StoredSpot)) → map entry_of (shown.entries_of lists) ≡ entry_rows (map own_list lists)
+rows_of_lists [] = refl
+rows_of_lists (l ∷ ls) = map-append entry_of (shown.list_entries l) (shown.entries_of ls) ∙ (λ i. rows_of_list l.0.1 l.0.2 l.1 i ++ rows_of_lists ls i)
+
+entries_read : (tab : ℤ) (store : StoreValue) (found : List stored_entry.EntryRow) → map shown.shown_entry found ≡ shown.entries_of (lists_asked tab store) → map shown_entry found ≡ entry_rows (table_index tab store).lists
+entries_read tab store found is = sym (map-map entry_of shown.shown_entry found) ∙ ap (map entry_of) is ∙ rows_of_lists (lists_asked tab store)
+
+whole_own : (lists : List (ListKey × List StoredSpot)) → shown.AreWhole lists → AllByRecursion (λ (l : Key × List StoredSpot). l.1 ≢ []) (map own_list lists)
+whole_own [] whole = tt
+whole_own (l ∷ ls) whole = (whole.0, whole_own ls whole.1)
+
+own_whole : (lists : List (ListKey × List StoredSpot)) → AllByRecursion (λ (l : Key × List StoredSpot). l.1 ≢ []) (map own_list lists) → shown.AreWhole lists
+own_whole [] whole = tt
+own_whole (l ∷ ls) whole = (whole.0, own_whole ls whole.1)
+
+abbrev pub SizesRead : ℤ → StoreValue → List stored_size.SizeRow → Type 0
+SizesRead tab store ss = map (shown.shown_size tab) ss ≡ where_key cell_key_cmp (λ k. int_eq tab k.0) store.sizes
+
+abbrev pub EntriesRead : ℤ → StoreValue → List stored_entry.EntryRow → Type 0
+EntriesRead tab store es = (map shown.shown_entry es ≡ shown.entries_of (lists_asked tab store)) × shown.AreWhole (lists_asked tab store)
+
+-- sizes and entries as they are read are those of a table's index rows
+pub of_rows : (tab : ℤ) (store : StoreValue) (ss : List stored_size.SizeRow) (es : List stored_entry.EntryRow) → AreInOrder store → SizesRead tab store ss → EntriesRead tab store es →
+    AreOfRows (table_index tab store) (map shown_size ss) (map shown_entry es)
+of_rows tab store ss es order sizes entries = record {
+  sizes_are = sizes_read tab store ss sizes;
+  entries_are = entries_read tab store es entries.0;
+  rising = sorted_own list_keys tab store.lists order.lists;
+  whole = whole_own (lists_asked tab store) entries.1;
+}
+
+-- a damaged list is none of those made from scratch
+pub damaged_others : (tab : ℤ) (store : StoreValue) (content : Content) → shown.SomeDamaged (lists_asked tab store) → table_index tab store ≢ index_rows content
+damaged_others tab store content damaged same =
+    damaged (own_whole (lists_asked tab store) (subst (AllByRecursion (λ (l : Key × List StoredSpot). l.1 ≢ [])) (sym (ap (λ (r : IndexRows). r.lists) same)) (made_whole content.columns content.documents)))
+
+-- ---- reads one after another
+
+module _ {S : Type 0} (g : Ghosts S) (a b : StoreState S) (first : Looks g a b) (live : HasCleanDisk (shows g b) → IsTrue (shows g b).is_open) where
+  pub looked : HasCleanDisk (shows g b) → value_in g b ≡ value_in g a
+  looked clean = ap (λ (d : Database). value_of d.trees) (first.kept clean (live clean)).0
+
+  pub looks_then : (c : StoreState S) → Looks g b c → Looks g a c
+  looks_then c next = record {
+    kept = λ clean. kept_then (shows g a) (shows g b) (shows g c) (first.kept (omega (arith, next.survives.clean, clean))) (next.kept clean);
+    survives = reads_then (shows g a) (shows g b) (shows g c) live first.survives next.survives;
+  }
+
+-- ---- a table that is listed
+
+-- the rows of a table as they are read
+pub record Listed (store : StoreValue) (named : ℤ × List ℕ) (table : TabRow) (cells : List stored_cell.CellRow) : Type 0 where
+  pub id : table.id ≡ named.0
+  pub name : string_bytes table.name ≡ named.1
+  pub rows : listed_rows table cells ≡ table_rows named.0 store
+
+abbrev pub CellsRead : ℤ → StoreValue → List stored_cell.CellRow → Type 0
+CellsRead tab store cells = map (shown.shown_cell tab) cells ≡ where_key cell_key_cmp (λ k. int_eq tab k.0) store.cells
+
+cells_are : (tab : ℤ) (store : StoreValue) (cells : List stored_cell.CellRow) → CellsRead tab store cells → map shown_row cells ≡ (table_rows tab store).cells
+cells_are tab store cells is = sym (map-map (λ (c : CellKey × Cell). record { docid = c.0.1; column = c.0.2; value = c.1 }) (shown.shown_cell tab) cells) ∙ ap (map (λ (c : CellKey × Cell). record { docid = c.0.1; column = c.0.2; value = c.1 })) is
+
+pub listed : (store : StoreValue) (named : ℤ × List ℕ) (table : TabRow) (cells : List stored_cell.CellRow) → IsListed store named table → CellsRead table.id store cells → Listed store named table cells
+listed store named table cells is read =
+    let id : table.id ≡ named.0 = ap (λ (l : shown.Listed). l.id) is in
+    let columns = ap (λ (l : shown.Listed). l.columns) is in
+    let skipped = ap (λ (l : shown.Listed). l.skipped) is in
+    let own : map shown_row cells ≡ (table_rows named.0 store).cells = cells_are table.id store cells read ∙ ap (λ k. (table_rows k store).cells) id in
+    record { id = id; name = ap (λ (l : shown.Listed). l.name) is; rows = λ i. record { columns = columns i; skipped = skipped i; cells = own i } }
+
+-- ---- how rows stand
+
+pub stands_loose : (name : List ℕ) (rows : TableRows) (index : IndexRows) → ¬ AreContent name rows → StandsSo name rows index standings.Loose
+stands_loose name rows index none = record { held = Loose rows; stands = (refl, λ content is same. none (record { content = content; is_content = is; is = same })); is = refl }
+
+pub stands_sound : (name : List ℕ) (rows : TableRows) (index : IndexRows) (content : Content) → IsContent name content × (rows ≡ content_rows content) → index ≡ index_rows content → StandsSo name rows index standings.Sound
+stands_sound name rows index content are right = record { held = Sound content; stands = (are.0, are.1, right); is = refl }
+
+pub stands_stale : (name : List ℕ) (rows : TableRows) (index : IndexRows) (content : Content) → IsContent name content × (rows ≡ content_rows content) → index ≢ index_rows content → StandsSo name rows index standings.Stale
+stands_stale name rows index content are wrong = record { held = Stale content; stands = (are.0, are.1, wrong); is = refl }
+
+-- the columns of a content are those that its rows say
+pub said_columns : (name : List ℕ) (rows : TableRows) (content : Content) → IsContent name content → rows ≡ content_rows content → columns_in rows ≡ content.columns
+said_columns name rows content is same = ap (λ (r : TableRows). (content_in r).columns) same ∙ ap (λ (x : Content). x.columns) (rows_are_read name content is)
+
+pub have_content : (name : List ℕ) (rows : TableRows) (columns : List Column) → columns ≡ columns_in rows → (are : AreContent name rows) → HaveContent columns rows.cells are.content
+have_content name rows columns are h = record {
+  name = name;
+  is_content = h.is_content;
+  columns_are = sym (are ∙ said_columns name rows h.content h.is_content h.is);
+  cells_are = ap (λ (r : TableRows). r.cells) h.is;
+}
+
+pub have_columns : (name : List ℕ) (rows : TableRows) (columns : List Column) → columns ≡ columns_in rows → AreContent name rows → 0 < length columns
+have_columns name rows columns are h = some_columns name columns (parts_of name rows columns are h).columns
+
+-- what is said of a table that is listed is said of the one that the store names
+pub are_listed : (store : StoreValue) (named : ℤ × List ℕ) (table : TabRow) (cells : List stored_cell.CellRow) → Listed store named table cells → AreContent named.1 (table_rows named.0 store) → AreContent (string_bytes table.name) (listed_rows table cells)
+are_listed store named table cells l are = record { content = are.content; is_content = subst (λ n. IsContent n are.content) (sym l.name) are.is_content; is = l.rows ∙ are.is }
+
+pub are_named : (store : StoreValue) (named : ℤ × List ℕ) (table : TabRow) (cells : List stored_cell.CellRow) → Listed store named table cells → (are : AreContent (string_bytes table.name) (listed_rows table cells)) → IsContent named.1 are.content × (table_rows named.0 store ≡ content_rows are.content)
+are_named store named table cells l are = (subst (λ n. IsContent n are.content) l.name are.is_content, sym l.rows ∙ are.is)
+
+-- ---- what is told of a table
+
+pub marked_so : (held : Held) (standing : Standing) → standing ≡ standing_of held → mark_of standing ≡ is_sound held
+marked_so (Sound content) standing is = ap mark_of is
+marked_so (Stale content) standing is = ap mark_of is
+marked_so (Loose rows) standing is = ap mark_of is
+
+-- the columns of a table are those that its rows say
+pub told_columns : (name : List ℕ) (rows : TableRows) (index : IndexRows) (held : Held) → Stands name rows index held → columns_in rows ≡ held_columns held
+told_columns name rows index (Sound content) stands = said_columns name rows content stands.0 stands.1
+told_columns name rows index (Stale content) stands = said_columns name rows content stands.0 stands.1
+told_columns name rows index (Loose loose) stands = ap (λ (r : TableRows). (content_in r).columns) (sym stands.0)
+
+pub marked : (store : StoreValue) (named : ℤ × List ℕ) (table : TabRow) (known : KnownTable) (standing : Standing) → IsListed store named table → StandsSo named.1 (table_rows named.0 store) (table_index named.0 store) standing →
+    known.id ≡ table.id → known.name ≡ string_bytes table.name → known.columns ≡ columns_in (listed_rows table []) → known.sound ≡ mark_of standing → IsMarked store named known
+marked store named table known standing is so id name columns sound =
+    let same_id = id ∙ ap (λ (l : shown.Listed). l.id) is in
+    let same_name = name ∙ ap (λ (l : shown.Listed). l.name) is in
+    let same_columns : known.columns ≡ held_columns so.held = columns ∙ (λ i. columns_in (record { columns = (is i).columns; skipped = (is i).skipped; cells = [] })) ∙ told_columns named.1 (table_rows named.0 store) (table_index named.0 store) so.held so.stands in
+    let same_mark : known.sound ≡ is_sound so.held = sound ∙ marked_so so.held standing so.is in
+    record { held = so.held; stands = so.stands; told = λ i. record { id = same_id i; name = same_name i; columns = same_columns i; sound = same_mark i } }

@@ -1,0 +1,75 @@
+//! Comparing the rows of tables with those that they should have.
+ghost use Rattle.std.specs.Prelude.{◌≡◌, ◌↔◌, ℤ, ℕ, List, map, IsTrue, IfOk, OnOk, IfErr};
+ghost use Rattle.std.specs.List.{list_all};
+ghost use Rattle.sqlite.specs.State.{HasCleanDisk};
+ghost use Rattle.ft_store.specs.Kept.{shows, value_in};
+ghost use Rattle.ft_content.specs.Command as plain;
+ghost use Rattle.ft_content.specs.Views.{known_info, answer_of};
+ghost use Rattle.ft_content.specs.Deserved.{Held, Contents};
+ghost use Rattle.ft_index.specs.Changed.{with_tables};
+ghost use Rattle.ft_index.specs.DocumentsRead.{Looks};
+ghost use Rattle.ft_index.specs.Kept.{Stands, StoreHolds, AreSound, Executes, is_sound};
+ghost use Rattle.ft_index.specs.Opened.{IsNamed};
+ghost use Rattle.ft_index.specs.Tables.{table_rows, table_index};
+
+use crate::names::place_of;
+use crate::open::opened_tables;
+use crate::standing::{listed_table, read_standing};
+use ft_content::{Fault, Reply, TableInfo};
+use ft_store::{Store, StoreFault};
+use sqlite::Alter;
+use std::alloc::Global;
+
+// Whether the rows of the table of an id are documents with exactly the index rows made from scratch. The store is only read, whatever
+// is answered.
+fn is_right<S: Alter>(alloc: Global, store: &mut Store<S>, id: i64) -> Result<bool, StoreFault>
+    ensures right { (named : ℤ × List ℕ) (held : Held) → HasCleanDisk (shows S.Store store.new) → IsNamed (value_in S.Store store.old) id named
+        → Stands named.1 (table_rows named.0 (value_in S.Store store.old)) (table_index named.0 (value_in S.Store store.old)) held → IfOk result (λ b. b ≡ is_sound held) }
+    ensures looks { Looks S.Store store.old store.new }
+{
+    match listed_table(store, id)? {
+        Some(table) => {
+            let standing = read_standing(alloc, store, &table)?;
+            Ok(standing.is_sound())
+        }
+        None => Ok(false),
+    }
+}
+
+/// Answers a Check, by the rows as they are read.
+pub(crate) fn check_table<S: Alter>(
+    alloc: Global,
+    store: &mut Store<S>,
+    tables: &[TableInfo],
+    table: &str,
+) -> Result<Reply, Fault>
+    ensures checks { Executes S.Store (with_tables store.old (map known_info tables.now)) (plain.Check table.now) (answer_of result) (with_tables store.new (map known_info tables.now)) }
+    ensures looks { Looks S.Store store.old store.new }
+{
+    store.is_in_order();
+    let Some(place) = place_of(tables, table) else {
+        return Err(Fault::NoSuchTable);
+    };
+    let id = tables[place].id;
+    if is_right(alloc, store, id)? {
+        Ok(Reply::Done)
+    } else {
+        Err(Fault::Corrupt)
+    }
+}
+
+// Whether all tables are marked sound.
+fn are_sound(tables: &[TableInfo]) -> bool
+    ensures { result ≡ list_all (λ t. t.sound) tables.now }
+{
+    tables.iter().all(|table| table.sound)
+}
+
+/// Whether every table is sound, by the rows as they are read. The store is only read, whatever is answered.
+pub(crate) fn check_all<S: Alter>(alloc: Global, store: &mut Store<S>) -> Result<bool, Fault>
+    ensures all { HasCleanDisk (shows S.Store store.new) → IfOk result (λ all. (contents : Contents) → StoreHolds (value_in S.Store store.old) contents → IsTrue all ↔ AreSound contents) }
+    ensures looks { Looks S.Store store.old store.new }
+{
+    let tables = opened_tables(alloc, store)?;
+    Ok(are_sound(tables.as_slice()))
+}

@@ -1,0 +1,109 @@
+//! How the rows of a table stand.
+ghost use Rattle.std.specs.Prelude.{◌≡◌, ◌<◌, ◌↔◌, ℤ, ℕ, List, map, length, IsTrue, IfOk, OnOk};
+ghost use Rattle.std.specs.List.{find};
+ghost use Rattle.std.specs.Ordering.{int_eq};
+ghost use Rattle.sqlite.specs.State.{HasCleanDisk};
+ghost use Rattle.ft_store.specs.declared.rows.TabRow as rows;
+ghost use Rattle.ft_store.specs.Kept.{shows, value_in};
+ghost use Rattle.ft_content.specs.Content.{Content};
+ghost use Rattle.ft_content.specs.Index.{index_rows};
+ghost use Rattle.ft_content.specs.Views.{column_of};
+ghost use Rattle.ft_index.specs.DocumentsRead.{Looks};
+ghost use Rattle.ft_index.specs.Opened.{mark_of, StandsSo, IsListed, IsNamed, IsFound};
+ghost use Rattle.ft_index.specs.Standing as standing;
+ghost use Rattle.ft_index.specs.Tables.{table_rows, table_index};
+
+use crate::standing_index::are_theirs;
+use crate::standing_rows::{is_content, listed_columns};
+use ft_content::Column;
+use ft_store::{CellRow, Store, StoreFault, TabRow};
+use sqlite::Alter;
+use std::alloc::Global;
+
+/// How the rows of a table stand: they are a content with exactly the index rows made from scratch, a content with others,
+/// or no content.
+#[derive(Clone, Copy, Debug)]
+pub(crate) enum Standing {
+    Sound,
+    Stale,
+    Loose,
+}
+
+impl Standing {
+    /// The mark of a table whose rows stand so.
+    pub(crate) fn is_sound(self) -> bool
+        ensures { result ≡ mark_of self }
+    {
+        matches!(self, Standing::Sound)
+    }
+}
+
+// The table of an id, if it is listed.
+fn table_under(tables: Vec<TabRow>, id: i64) -> Option<TabRow>
+    ensures { result ≡ find (λ (t : rows.TabRow). int_eq id t.id) tables.items }
+{
+    tables.into_iter().find(|table| table.id == id)
+}
+
+/// The table of an id as the store lists it, if it does. The store is only read, whatever is answered.
+pub(crate) fn listed_table<S: Alter>(
+    store: &mut Store<S>,
+    id: i64,
+) -> Result<Option<TabRow>, StoreFault>
+    ensures found { (named : ℤ × List ℕ) → HasCleanDisk (shows S.Store store.new) → IsNamed (value_in S.Store store.old) id named
+        → IfOk result (λ found. IsFound (value_in S.Store store.old) named found) }
+    ensures live { HasCleanDisk (shows S.Store store.new) → OnOk result (IsTrue (shows S.Store store.new).is_open) }
+    ensures looks { Looks S.Store store.old store.new }
+{
+    let tables = store.tables()?;
+    Ok(table_under(tables, id))
+}
+
+/// How the rows of a table that is listed stand. The store is only read, whatever is answered.
+pub(crate) fn read_standing<S: Alter>(
+    alloc: Global,
+    store: &mut Store<S>,
+    table: &TabRow,
+) -> Result<Standing, StoreFault>
+    ensures stands { (named : ℤ × List ℕ) → HasCleanDisk (shows S.Store store.new) → IsListed (value_in S.Store store.old) named table.now
+        → IfOk result (λ s. StandsSo named.1 (table_rows named.0 (value_in S.Store store.old)) (table_index named.0 (value_in S.Store store.old)) s) }
+    ensures live { HasCleanDisk (shows S.Store store.new) → OnOk result (IsTrue (shows S.Store store.new).is_open) }
+    ensures looks { Looks S.Store store.old store.new }
+{
+    let columns = listed_columns(alloc, table)?;
+    let cells = store.cells(table.id)?;
+    if !is_content(alloc, table, columns.as_slice(), cells.as_slice())? {
+        return Ok(Standing::Loose);
+    }
+    if has_right_index(alloc, store, table.id, columns.as_slice(), cells.as_slice())? {
+        Ok(Standing::Sound)
+    } else {
+        Ok(Standing::Stale)
+    }
+}
+
+// Whether the index rows of a table are those made from scratch out of the content that has these cells. A posting list that can't be
+// read is none of them. The store is only read, whatever is answered.
+fn has_right_index<S: Alter>(
+    alloc: Global,
+    store: &mut Store<S>,
+    tab: i64,
+    columns: &[Column],
+    cells: &[CellRow],
+) -> Result<bool, StoreFault>
+    requires { 0 < length columns.now }
+    ensures right { (content : Content) → HasCleanDisk (shows S.Store store.new) → standing.HaveContent (map column_of columns.now) (map standing.shown_row cells.now) content
+        → IfOk result (λ b. IsTrue b ↔ (table_index tab (value_in S.Store store.old) ≡ index_rows content)) }
+    ensures live { HasCleanDisk (shows S.Store store.new) → OnOk result (IsTrue (shows S.Store store.new).is_open) }
+    ensures looks { Looks S.Store store.old store.new }
+{
+    store.is_in_order();
+    let sizes = store.sizes(tab)?;
+    let mut entries = match store.entries(tab) {
+        Ok(entries) => entries,
+        Err(StoreFault::Damaged) => return Ok(false),
+        Err(fault) => return Err(fault),
+    };
+    let right = are_theirs(alloc, columns, cells, sizes.as_slice(), &mut entries)?;
+    Ok(right)
+}
