@@ -73,3 +73,4 @@ pub mod UpdateDue
 pub mod SelectRows
 pub mod FaultLemmas
 pub mod SelectAnswers
+pub mod Crashing

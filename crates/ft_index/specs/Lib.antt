@@ -20,3 +20,4 @@ pub mod Chosen
 pub mod Updated
 pub mod Selected
 pub mod Opened
+pub mod Crashes

@@ -1,5 +1,7 @@
 //! Documents that a Delete removes.
-ghost use Rattle.std.specs.Prelude.{◌≡◌, map, string_bytes, IfOk};
+ghost use Rattle.std.specs.Prelude.{◌≡◌, map, string_bytes, IfOk, OnOk, IsTrue};
+ghost use Rattle.sqlite.specs.State.{HasCleanDisk};
+ghost use Rattle.ft_store.specs.Kept.{shows};
 ghost use Rattle.ft_content.specs.Command as plain;
 ghost use Rattle.ft_content.specs.Content.{Content};
 ghost use Rattle.ft_content.specs.Answer.{chosen};
@@ -8,6 +10,7 @@ ghost use Rattle.ft_content.specs.Step.{deleted, docids_of};
 ghost use Rattle.ft_content.specs.Views.{column_of, filter_of, known_info, answer_of};
 ghost use Rattle.ft_index.specs.Kept.{Executes};
 ghost use Rattle.ft_index.specs.Changed.{with_tables};
+ghost use Rattle.ft_index.specs.Crashes.{CommandSurvives};
 ghost use Rattle.ft_index.specs.DocumentsRead.{Looks, shown_document};
 ghost use Rattle.ft_index.specs.Rewrite.{shown_rewrite, removal};
 ghost use Rattle.ft_index.specs.Written.{HasAll, Writes, PlansIn};
@@ -31,8 +34,10 @@ pub(crate) fn delete_from<S: Alter>(
     table: &str,
     filter: &Filter,
 ) -> Result<Reply, Fault>
-    ensures { Executes S.Store (with_tables store.old (map known_info tables.now)) (plain.Delete table.now (filter_of filter.now))
+    ensures executes { Executes S.Store (with_tables store.old (map known_info tables.now)) (plain.Delete table.now (filter_of filter.now))
         (answer_of result) (with_tables store.new (map known_info tables.now)) }
+    ensures crash { CommandSurvives S.Store (with_tables store.old (map known_info tables.now)) (plain.Delete table.now (filter_of filter.now))
+        (with_tables store.new (map known_info tables.now)) }
 {
     let changes = delete_changes(alloc, store, tables, table, filter)?;
     change_rows(store, changes.as_slice())?;
@@ -49,6 +54,7 @@ pub(crate) fn delete_changes<S: Alter>(
 ) -> Result<Vec<RowChange>, Fault>
     ensures plans { PlansIn S.Store (map known_info tables.now) store.old store.new (plain.Delete table.now (filter_of filter.now)) result }
     ensures looks { Looks S.Store store.old store.new }
+    ensures live { HasCleanDisk (shows S.Store store.new) → OnOk result (IsTrue (shows S.Store store.old).is_open → IsTrue (shows S.Store store.new).is_open) }
 {
     store.is_in_order();
     let known = sound_table(tables, table)?;
@@ -72,6 +78,7 @@ fn written_by_delete<S: Alter>(
     ensures written { (content : Content) → HasAll S.Store known.now.id (string_bytes known.now.name) (map column_of known.now.columns.items) store.old store.new content
         → Writes content (delete_fault (string_bytes known.now.name) content (filter_of filter.now)) (deleted content (filter_of filter.now)) (docids_of (chosen content (filter_of filter.now))) result }
     ensures looks { Looks S.Store store.old store.new }
+    ensures live { HasCleanDisk (shows S.Store store.new) → OnOk result (IsTrue (shows S.Store store.old).is_open → IsTrue (shows S.Store store.new).is_open) }
 {
     if let Some(fault) = delete_tests(known.name.as_str(), known.columns.as_slice(), filter) {
         return Err(fault);

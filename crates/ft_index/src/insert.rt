@@ -1,5 +1,5 @@
 //! The documents of an Insert.
-ghost use Rattle.std.specs.Prelude.{◌≡◌, false, [], ℕ, List, map, option_map, zip, slice_get, unwrap_or, string_bytes, ◌⊎◌, IfOk, IfErr, IsTrue};
+ghost use Rattle.std.specs.Prelude.{◌≡◌, false, [], ℕ, List, map, option_map, zip, slice_get, unwrap_or, string_bytes, ◌⊎◌, IfOk, IfErr, OnOk, IsTrue};
 ghost use Rattle.ft_content.specs.Content as content;
 ghost use Rattle.sqlite.specs.State.{HasCleanDisk, Survives};
 ghost use Rattle.ft_store.specs.Kept.{shows};
@@ -14,6 +14,7 @@ ghost use Rattle.ft_content.specs.Views as views;
 ghost use Rattle.ft_content.specs.Views.{cells_of, column_of, known_info};
 ghost use Rattle.ft_index.specs.Kept.{Executes};
 ghost use Rattle.ft_index.specs.Changed.{with_tables};
+ghost use Rattle.ft_index.specs.Crashes.{CommandSurvives};
 ghost use Rattle.ft_index.specs.DocumentsRead.{HasRows, Looks, has_given};
 ghost use Rattle.ft_index.specs.Inserted.{AreKnown, Makes, Inserts};
 ghost use Rattle.ft_index.specs.Written.{HasAll, Writes, PlansIn};
@@ -39,9 +40,12 @@ pub(crate) fn insert_into<S: Alter>(
     columns: Option<&[String]>,
     rows: &[Vec<Value>],
 ) -> Result<Reply, Fault>
-    ensures { Executes S.Store (with_tables store.old (map known_info tables.now))
+    ensures executes { Executes S.Store (with_tables store.old (map known_info tables.now))
         (plain.Insert table.now (option_map (λ n. map string_bytes n.now) columns.entry) (map cells_of rows.now))
         (views.answer_of result) (with_tables store.new (map known_info tables.now)) }
+    ensures crash { CommandSurvives S.Store (with_tables store.old (map known_info tables.now))
+        (plain.Insert table.now (option_map (λ n. map string_bytes n.now) columns.entry) (map cells_of rows.now))
+        (with_tables store.new (map known_info tables.now)) }
 {
     let changes = insert_changes(alloc, store, tables, table, columns, rows)?;
     change_rows(store, changes.as_slice())?;
@@ -59,6 +63,7 @@ pub(crate) fn insert_changes<S: Alter>(
 ) -> Result<Vec<RowChange>, Fault>
     ensures plans { PlansIn S.Store (map known_info tables.now) store.old store.new (plain.Insert table.now (option_map (λ n. map string_bytes n.now) columns.entry) (map cells_of rows.now)) result }
     ensures looks { Looks S.Store store.old store.new }
+    ensures live { HasCleanDisk (shows S.Store store.new) → OnOk result (IsTrue (shows S.Store store.old).is_open → IsTrue (shows S.Store store.new).is_open) }
 {
     store.is_in_order();
     if lists_twice(columns) {
@@ -97,6 +102,7 @@ fn written_by_insert<S: Alter>(
         → Writes content (insert_fault content (listed_columns content (option_map (λ n. map string_bytes n.now) columns.entry)) (map cells_of rows.now)) (inserted content (option_map (λ n. map string_bytes n.now) columns.entry) (map cells_of rows.now))
         (new_docids content.documents (inserted content (option_map (λ n. map string_bytes n.now) columns.entry) (map cells_of rows.now))) result }
     ensures looks { Looks S.Store store.old store.new }
+    ensures live { HasCleanDisk (shows S.Store store.new) → OnOk result (IsTrue (shows S.Store store.old).is_open → IsTrue (shows S.Store store.new).is_open) }
 {
     let names = listed_names(alloc, known.columns.as_slice(), columns)?;
     if let Some(fault) = insert_tests(known.columns.as_slice(), names.as_slice(), rows) {
@@ -126,6 +132,7 @@ pub(crate) fn insert_rewrites<S: Alter>(
     ensures rewrites { (content : Content) → HasRows S.Store tab store.old store.new content
         → Inserts content.documents (insert_rows (map column_of columns.now) (map (zip (map (λ n. n.now) names.now)) (map cells_of rows.now)) content.documents) result }
     ensures looks { Looks S.Store store.old store.new }
+    ensures live { HasCleanDisk (shows S.Store store.new) → OnOk result (IsTrue (shows S.Store store.old).is_open → IsTrue (shows S.Store store.new).is_open) }
 {
     let last = last_docid(store, tab)?;
     let stored = stored_docids(alloc, store, tab, names, rows)?;
@@ -168,6 +175,7 @@ fn stored_docids<S: Alter>(
         → stored.items ≡ map (λ row. has_given content.documents (slice_get (docids_in (zip (map (λ n. n.now) names.now) (cells_of row))) 0)) rows.now) }
     ensures faults { IfErr result (λ fault. (fault ≡ faults.Store) ⊎ (fault ≡ faults.Memory)) }
     ensures looks { (HasCleanDisk (shows S.Store store.old) → IsTrue (shows S.Store store.old).is_open) → Looks S.Store store.old store.new }
+    ensures live { HasCleanDisk (shows S.Store store.new) → OnOk result (IsTrue (shows S.Store store.old).is_open → IsTrue (shows S.Store store.new).is_open) }
 {
     let mut stored = Vec::new(alloc);
     for row in rows {

@@ -1,5 +1,7 @@
 //! Documents that an Update changes.
-ghost use Rattle.std.specs.Prelude.{◌≡◌, ◌⊎◌, ◌∷◌, [], ℕ, List, Option, None, Some, ℤ, map, slice_get, string_bytes, MatchResult, IfOk, OnOk};
+ghost use Rattle.std.specs.Prelude.{◌≡◌, ◌⊎◌, ◌∷◌, [], ℕ, List, Option, None, Some, ℤ, map, slice_get, string_bytes, MatchResult, IfOk, OnOk, IsTrue};
+ghost use Rattle.sqlite.specs.State.{HasCleanDisk};
+ghost use Rattle.ft_store.specs.Kept.{shows};
 ghost use Rattle.ft_content.specs.declared.fault.Fault.TheVariants as faults;
 ghost use Rattle.ft_content.specs.Command as plain;
 ghost use Rattle.ft_content.specs.Content.{Content};
@@ -9,6 +11,7 @@ ghost use Rattle.ft_content.specs.Step.{updated, docids_of};
 ghost use Rattle.ft_content.specs.Views.{column_of, set_of, filter_of, known_info, answer_of};
 ghost use Rattle.ft_index.specs.Kept.{Executes};
 ghost use Rattle.ft_index.specs.Changed.{with_tables};
+ghost use Rattle.ft_index.specs.Crashes.{CommandSurvives};
 ghost use Rattle.ft_index.specs.DocumentsRead.{HasRows, Looks, shown_document};
 ghost use Rattle.ft_index.specs.Rewrite.{Rewrite as Shown, shown_rewrite};
 ghost use Rattle.ft_index.specs.Updated.{changing, leaving, coming, moved_from, MayMove, update_touches};
@@ -38,8 +41,10 @@ pub(crate) fn update_documents<S: Alter>(
     sets: &[(String, Value)],
     filter: &Filter,
 ) -> Result<Reply, Fault>
-    ensures { Executes S.Store (with_tables store.old (map known_info tables.now)) (plain.Update table.now (map set_of sets.now) (filter_of filter.now))
+    ensures executes { Executes S.Store (with_tables store.old (map known_info tables.now)) (plain.Update table.now (map set_of sets.now) (filter_of filter.now))
         (answer_of result) (with_tables store.new (map known_info tables.now)) }
+    ensures crash { CommandSurvives S.Store (with_tables store.old (map known_info tables.now)) (plain.Update table.now (map set_of sets.now) (filter_of filter.now))
+        (with_tables store.new (map known_info tables.now)) }
 {
     let changes = update_changes(alloc, store, tables, table, sets, filter)?;
     change_rows(store, changes.as_slice())?;
@@ -57,6 +62,7 @@ pub(crate) fn update_changes<S: Alter>(
 ) -> Result<Vec<RowChange>, Fault>
     ensures plans { PlansIn S.Store (map known_info tables.now) store.old store.new (plain.Update table.now (map set_of sets.now) (filter_of filter.now)) result }
     ensures looks { Looks S.Store store.old store.new }
+    ensures live { HasCleanDisk (shows S.Store store.new) → OnOk result (IsTrue (shows S.Store store.old).is_open → IsTrue (shows S.Store store.new).is_open) }
 {
     store.is_in_order();
     if repeats_set(sets) {
@@ -85,6 +91,7 @@ fn written_by_update<S: Alter>(
         → Writes content (deserved.update_fault (string_bytes known.now.name) content (map set_of sets.now) (filter_of filter.now)) (updated content (map set_of sets.now) (filter_of filter.now))
         (update_touches content (map set_of sets.now) (filter_of filter.now)) result }
     ensures looks { Looks S.Store store.old store.new }
+    ensures live { HasCleanDisk (shows S.Store store.new) → OnOk result (IsTrue (shows S.Store store.old).is_open → IsTrue (shows S.Store store.new).is_open) }
 {
     let columns = known.columns.as_slice();
     if let Some(fault) = update_tests(known.name.as_str(), columns, sets, filter) {
@@ -110,6 +117,7 @@ fn test_move<S: Alter>(
         → MatchResult result (λ _. deserved.moves_fault content.documents (map shown_document documents.now) docids ≡ None)
         (λ fault. ((fault ≡ faults.Store) ⊎ (fault ≡ faults.Memory)) ⊎ (deserved.moves_fault content.documents (map shown_document documents.now) docids ≡ Some fault)) }
     ensures looks { Looks S.Store store.old store.new }
+    ensures live { HasCleanDisk (shows S.Store store.new) → OnOk result (IsTrue (shows S.Store store.old).is_open → IsTrue (shows S.Store store.new).is_open) }
 {
     let docids = numbers(alloc, documents)?;
     let is_taken = has_document(alloc, store, tab, given)?;

@@ -8,15 +8,18 @@ use Rattle.ft_content.specs.declared.fault.Fault.TheVariants as faults
 use Rattle.ft_content.specs.declared.command.Reply.{Reply}
 use Rattle.ft_content.specs.Command as plain
 use Rattle.ft_content.specs.Views.{cells_of, known_info, answer_of}
+use Rattle.sqlite.specs.State.{Survives}
+use Rattle.ft_store.specs.Kept.{shows}
 use Rattle.ft_index.specs.Kept.{Executes}
 use Rattle.ft_index.specs.Changed.{Changed, with_tables}
 use Rattle.ft_index.specs.Written.{PlansIn}
 use Rattle.ft_index.proofs.InsertWrites.{made, leaves, replies}
+use Rattle.ft_index.proofs.Crashing.{CommitsRows, crash_read, crash_written}
 use Rattle.ft_index.proofs.Acting.{executes_failed, executes_undone, executes_written}
 use Rattle.ft_index.proofs.insert.insert_into.Goals as goal
 
-pub returns-in_err-changes : goal.returns-in_err-changes
-returns-in_err-changes g c =
+pub returns-in_err-changes-clause-executes : goal.returns-in_err-changes-clause-executes
+returns-in_err-changes-clause-executes g c =
     let columns = option_map (λ n. map string_bytes n.now) c.args.columns in
     let command = plain.Insert c.args.table.now columns (map cells_of c.args.rows.now) in
     let tables = map known_info c.args.tables.now in
@@ -27,8 +30,8 @@ returns-in_err-changes g c =
     (executes_failed g.S.Store c.args.store.now c.insert_changes.new.store tables command fault c.insert_changes.ensures.looks
     (subst (λ (r : Result (Vec RowChange Global) Fault). PlansIn g.S.Store tables c.args.store.now c.insert_changes.new.store command r) planned c.insert_changes.ensures.plans))
 
-pub returns-in_err-change_rows : goal.returns-in_err-change_rows
-returns-in_err-change_rows g c =
+pub returns-in_err-change_rows-clause-executes : goal.returns-in_err-change_rows-clause-executes
+returns-in_err-change_rows-clause-executes g c =
     let columns = option_map (λ n. map string_bytes n.now) c.args.columns in
     let command = plain.Insert c.args.table.now columns (map cells_of c.args.rows.now) in
     let tables = map known_info c.args.tables.now in
@@ -40,8 +43,8 @@ returns-in_err-change_rows g c =
     subst (λ (a : Result Reply Fault). Executes g.S.Store (with_tables c.args.store.now tables) command (answer_of a) (with_tables c.change_rows.new.store tables)) (sym is)
     (executes_undone g.S.Store c.args.store.now c.insert_changes.new.store c.change_rows.new.store tables (map shown_change c.as_slice.result.now) command fault outside c.insert_changes.ensures.looks changed)
 
-pub returns : goal.returns
-returns g c =
+pub returns-clause-executes : goal.returns-clause-executes
+returns-clause-executes g c =
     let columns = option_map (λ n. map string_bytes n.now) c.args.columns in
     let rows = map cells_of c.args.rows.now in
     let command = plain.Insert c.args.table.now columns rows in
@@ -54,3 +57,32 @@ returns g c =
     (subst (λ (r : Result (Unit {0}) Fault). Changed g.S.Store c.insert_changes.new.store c.change_rows.new.store (map shown_change c.as_slice.result.now) (is_ok r)) done c.change_rows.ensures.changed) in
     executes_written g.S.Store c.args.store.now c.insert_changes.new.store c.change_rows.new.store tables changes command c.args.table.now (made columns rows) (leaves columns rows c.args.table.now) (replies columns rows c.args.table.now) c.insert_changes.ensures.looks
     (subst (λ (r : Result (Vec RowChange Global) Fault). PlansIn g.S.Store tables c.args.store.now c.insert_changes.new.store command r) planned c.insert_changes.ensures.plans) changed
+
+pub returns-in_err-changes-clause-crash : goal.returns-in_err-changes-clause-crash
+returns-in_err-changes-clause-crash g c =
+    let columns = option_map (λ n. map string_bytes n.now) c.args.columns in
+    let command = plain.Insert c.args.table.now columns (map cells_of c.args.rows.now) in
+    let tables = map known_info c.args.tables.now in
+    crash_read g.S.Store c.args.store.now c.insert_changes.new.store tables tables command c.insert_changes.ensures.looks
+
+pub returns-in_err-change_rows-clause-crash : goal.returns-in_err-change_rows-clause-crash
+returns-in_err-change_rows-clause-crash g c =
+    let columns = option_map (λ n. map string_bytes n.now) c.args.columns in
+    let command = plain.Insert c.args.table.now columns (map cells_of c.args.rows.now) in
+    let tables = map known_info c.args.tables.now in
+    let changes = c.in_ok-changes.changes in
+    let planned : c.insert_changes.result ≡ Ok changes = search rules in
+    crash_written g.S.Store c.args.store.now c.insert_changes.new.store c.change_rows.new.store tables tables command changes c.insert_changes.ensures.looks c.in_ok-changes.ensures.live
+    (subst (λ (r : Result (Vec RowChange Global) Fault). PlansIn g.S.Store tables c.args.store.now c.insert_changes.new.store command r) planned c.insert_changes.ensures.plans)
+    (subst (λ (cs : List RowChange). Survives (shows g.S.Store c.insert_changes.new.store) (shows g.S.Store c.change_rows.new.store) (CommitsRows g.S.Store c.insert_changes.new.store (map shown_change cs))) c.as_slice.ensures.value c.change_rows.ensures.crash)
+
+pub returns-clause-crash : goal.returns-clause-crash
+returns-clause-crash g c =
+    let columns = option_map (λ n. map string_bytes n.now) c.args.columns in
+    let command = plain.Insert c.args.table.now columns (map cells_of c.args.rows.now) in
+    let tables = map known_info c.args.tables.now in
+    let changes = c.in_ok-changes.changes in
+    let planned : c.insert_changes.result ≡ Ok changes = search rules in
+    crash_written g.S.Store c.args.store.now c.insert_changes.new.store c.change_rows.new.store tables tables command changes c.insert_changes.ensures.looks c.in_ok-changes.ensures.live
+    (subst (λ (r : Result (Vec RowChange Global) Fault). PlansIn g.S.Store tables c.args.store.now c.insert_changes.new.store command r) planned c.insert_changes.ensures.plans)
+    (subst (λ (cs : List RowChange). Survives (shows g.S.Store c.insert_changes.new.store) (shows g.S.Store c.change_rows.new.store) (CommitsRows g.S.Store c.insert_changes.new.store (map shown_change cs))) c.as_slice.ensures.value c.change_rows.ensures.crash)

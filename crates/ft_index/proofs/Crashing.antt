@@ -1,0 +1,72 @@
+-- What a crash leaves of commands.
+use Rattle.std.proofs.Common.{◌≡◌, ◌⊎◌, inl, inr, ℕ, Bool, true, List, [], ◌∷◌, map, Option, Some, None, Result, Ok, Err, ℤ, refl, sym, ap, subst, ◌∙◌, arith}
+use Rattle.std.specs.Prelude.{IsTrue, Vec, is_ok}
+use Rattle.std.specs.declared.alloc.Global.{Global}
+use Rattle.sqlite_trees.specs.View.{doubt}
+use Rattle.sqlite.specs.Tree.{Trees}
+use Rattle.sqlite.specs.State.{State, HasCleanDisk, Survives}
+use Rattle.sqlite.specs.Store.{Ghosts}
+use Rattle.sqlite.proofs.StateLemmas.{survives_then}
+use Rattle.ft_store.specs.Calls.{IsStored}
+use Rattle.ft_store.specs.Store.{Change, StoreValue, all_applied}
+use Rattle.ft_store.specs.Changes.{shown_change}
+use Rattle.ft_store.specs.Kept.{StoreState, shows, value_in}
+use Rattle.ft_store.specs.declared.rows.RowChange.{RowChange}
+use Rattle.ft_content.specs.Command.{Command}
+use Rattle.ft_content.specs.Views.{KnownTable}
+use Rattle.ft_content.specs.Deserved.{Contents}
+use Rattle.ft_content.specs.Step.{after}
+use Rattle.ft_index.specs.DocumentsRead.{Looks}
+use Rattle.ft_index.specs.Kept.{IsUp, AreHeld, StoreHolds, PlansFrom}
+use Rattle.ft_index.specs.Changed.{with_tables}
+use Rattle.ft_index.specs.Written.{PlansIn}
+use Rattle.ft_index.specs.Crashes.{HoldsAfter, CommitsCommand, CommandSurvives}
+use Rattle.ft_index.proofs.Acting.{looks_same}
+use Rattle.ft_index.proofs.ReadsLemmas.{nothing_done}
+
+-- what may be committed may be said otherwise
+pub survives_as : (a b : State) (P Q : Trees → Type 0) → (HasCleanDisk b → (db : Trees) → P db → Q db) → Survives a b P → Survives a b Q
+survives_as a b P Q f one = survives_then a b b P (λ _. ⊥) Q f (λ clean db none. absurd none) one (record {
+  clean = omega arith;
+  shield = λ h. h;
+  counts = omega arith;
+  limit = refl;
+  closes = λ clean is_open. inl is_open;
+  crash = λ clean db h. inl h;
+})
+
+module _ {S : Type 0} (g : Ghosts S) where
+  -- row changes that are committed, whole
+  abbrev pub CommitsRows : StoreState S → List Change → Trees → Type 0
+  CommitsRows store changes db = IsTrue (shows g store).is_open → IsStored db (all_applied changes (value_in g store))
+
+  -- a command that only reads
+  pub crash_read : (old new : StoreState S) (tables others : List KnownTable) (command : Command) → Looks g old new → CommandSurvives g (with_tables old tables) command (with_tables new others)
+  crash_read old new tables others command looks = survives_as (shows g old) (shows g new) _ _ (λ clean db none up first holds. absurd (none up.is_open)) looks.survives
+
+  -- one that does nothing
+  pub crash_same : (store : StoreState S) (tables others : List KnownTable) (command : Command) → CommandSurvives g (with_tables store tables) command (with_tables store others)
+  crash_same store tables others command = survives_as (shows g store) (shows g store) _ _ (λ clean db none up first holds. absurd (none up.is_open)) (nothing_done (shows g store))
+
+  -- row changes that lead to what the command leaves
+  pub crash_changed : (old new : StoreState S) (tables others : List KnownTable) (command : Command) (changes : List Change) →
+      (IsUp g (with_tables old tables) → (first : Contents) → AreHeld (value_in g old) tables first → StoreHolds (all_applied changes (value_in g old)) (after first command) × ((all_applied changes (value_in g old)).noted ≡ (value_in g old).noted)) →
+      Survives (shows g old) (shows g new) (CommitsRows old changes) → CommandSurvives g (with_tables old tables) command (with_tables new others)
+  crash_changed old new tables others command changes leads survives = survives_as (shows g old) (shows g new) _ _ (λ clean db commits up first holds.
+      record { left = all_applied changes (value_in g old); stored = commits up.is_open; held = (leads up first holds).0; noted = (leads up first holds).1 }) survives
+
+  -- a plan that was made by reads, and is carried out
+  pub crash_written : (old mid new : StoreState S) (tables others : List KnownTable) (command : Command) (changes : Vec RowChange Global) → Looks g old mid → (HasCleanDisk (shows g mid) → IsTrue (shows g old).is_open → IsTrue (shows g mid).is_open) →
+      PlansIn g tables old mid command (Ok changes) → Survives (shows g mid) (shows g new) (CommitsRows mid (map shown_change changes.items)) → CommandSurvives g (with_tables old tables) command (with_tables new others)
+  crash_written old mid new tables others command changes looks live plans survives =
+      survives_then (shows g old) (shows g mid) (shows g new) _ _ _ (λ clean db none up first holds. absurd (none up.is_open)) (λ clean db commits up first holds.
+      let c : doubt (shows g new).is_clean ≡ 0 = clean in
+      let mid_clean : HasCleanDisk (shows g mid) = omega (arith, c, survives.clean) in
+      let mid_up : IsUp g (with_tables mid tables) = record { clean = mid_clean; is_open = live mid_clean up.is_open } in
+      let planned = plans mid_up first holds in
+      record {
+        left = all_applied (map shown_change changes.items) (value_in g old);
+        stored = subst (λ (v : StoreValue). IsStored db (all_applied (map shown_change changes.items) v)) (looks_same g old mid tables looks mid_up) (commits mid_up.is_open);
+        held = planned.1;
+        noted = planned.2;
+      }) looks.survives survives
