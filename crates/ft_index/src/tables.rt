@@ -1,5 +1,10 @@
 // Making and removing tables.
-ghost use Rattle.std.specs.Prelude.{◌≡◌, ◌⊎◌, ◌∷◌, [], cond, map, string_bytes, is_ok, IfOk, IfErr};
+ghost use Rattle.std.specs.Prelude.{◌≡◌, ◌⊎◌, ◌∷◌, [], cond, map, string_bytes, is_ok, IfOk, IfErr, IsTrue};
+ghost use Rattle.sqlite.specs.State.{Survives};
+ghost use Rattle.ft_store.specs.Calls.{IsStored};
+ghost use Rattle.ft_store.specs.Kept.{shows, value_in};
+ghost use Rattle.ft_store.specs.Store.{all_applied};
+ghost use Rattle.ft_index.specs.Crashes.{CommandSurvives};
 ghost use Rattle.ft_store.specs.Changes.{shown_change};
 ghost use Rattle.ft_content.specs.Content.{names_of, skipped_from};
 ghost use Rattle.ft_content.specs.Command as plain;
@@ -103,9 +108,12 @@ pub(crate) fn create_table<S: Alter>(
     columns: &[String],
     if_new: bool,
 ) -> Result<Reply, Fault>
-    ensures { Executes S.Store (with_tables store.old (map known_info tables.old.items))
+    ensures executes { Executes S.Store (with_tables store.old (map known_info tables.old.items))
         (plain.Create table.now module_name.now (map option_of options.now) (map string_bytes columns.now) if_new)
         (answer_of result) (with_tables store.new (map known_info tables.new.items)) }
+    ensures crash { CommandSurvives S.Store (with_tables store.old (map known_info tables.old.items))
+        (plain.Create table.now module_name.now (map option_of options.now) (map string_bytes columns.now) if_new)
+        (with_tables store.new (map known_info tables.new.items)) }
 {
     store.is_in_order();
     let made = made_table(
@@ -133,6 +141,8 @@ pub(crate) fn add_table<S: Alter>(
     ensures changed { Changed S.Store store.old store.new (table_change made ∷ []) (is_ok result) }
     ensures told { map known_info tables.new.items ≡ cond (is_ok result) (with_told (known_info made) (map known_info tables.old.items)) (map known_info tables.old.items) }
     ensures fault { IfErr result (λ fault. (fault ≡ faults.Store) ⊎ (fault ≡ faults.Memory)) }
+    ensures crash { Survives (shows S.Store store.old) (shows S.Store store.new)
+        (λ db. IsTrue (shows S.Store store.old).is_open → IsStored db (all_applied (table_change made ∷ []) (value_in S.Store store.old))) }
 {
     let mut changes = Vec::new(alloc);
     changes.push(adding(alloc, &made)?)?;
@@ -170,8 +180,10 @@ pub(crate) fn drop_table<S: Alter>(
     table: &str,
     if_there: bool,
 ) -> Result<Reply, Fault>
-    ensures { Executes S.Store (with_tables store.old (map known_info tables.old.items)) (plain.Drop table.now if_there)
+    ensures executes { Executes S.Store (with_tables store.old (map known_info tables.old.items)) (plain.Drop table.now if_there)
         (answer_of result) (with_tables store.new (map known_info tables.new.items)) }
+    ensures crash { CommandSurvives S.Store (with_tables store.old (map known_info tables.old.items)) (plain.Drop table.now if_there)
+        (with_tables store.new (map known_info tables.new.items)) }
 {
     store.is_in_order();
     let changes = drop_changes(alloc, tables.as_slice(), table, if_there)?;

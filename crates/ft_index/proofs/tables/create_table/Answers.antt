@@ -1,5 +1,5 @@
 -- by what is made, and what the store does
-use Rattle.std.proofs.Common.{rules, ◌≡◌, ◌⊎◌, ◌∷◌, [], map, string_bytes, cond, Ok, Err, None, Result, Vec, Global, sym, ap, subst, ◌∙◌}
+use Rattle.std.proofs.Common.{rules, ◌≡◌, ◌⊎◌, ◌∷◌, [], map, string_bytes, cond, Ok, Err, None, Some, Result, Vec, Global, refl, sym, ap, subst, ◌∙◌}
 use Rattle.std.specs.Prelude.{is_ok}
 use Rattle.ft_content.specs.declared.fault.Fault.{Fault}
 use Rattle.ft_content.specs.declared.command.Reply.{Reply}
@@ -13,11 +13,16 @@ use Rattle.ft_index.specs.Found.{with_told}
 use Rattle.ft_content.specs.declared.fault.Fault.TheVariants as faults
 use Rattle.ft_index.specs.Changed.{Changed, with_tables}
 use Rattle.ft_index.proofs.Executing.{create_refused, create_nothing, create_adds, executes_refused}
+use Rattle.sqlite.specs.State.{Survives}
+use Rattle.ft_store.specs.Kept.{StoreState, shows, value_in}
+use Rattle.ft_index.specs.Crashes.{CommandSurvives}
+use Rattle.ft_index.proofs.CreateLemmas.{made_is_held}
+use Rattle.ft_index.proofs.Crashing.{crash_same, crash_changed}
 use Rattle.ft_index.proofs.tables.create_table.Goals as goal
 use Rattle.ft_index.proofs.tables.create_table.Goals.{in-Some+in_ok-add_table, in_default}
 
-pub returns-in_err-made : goal.returns-in_err-made
-returns-in_err-made g c =
+pub returns-in_err-made-clause-executes : goal.returns-in_err-made-clause-executes
+returns-in_err-made-clause-executes g c =
     let fault : Fault = c.in_err-made.field-0.0 in
     let is : c.from_residual.result ≡ Err fault = search rules in
     let made : c.made_table.result ≡ Err fault = search rules in
@@ -28,8 +33,8 @@ returns-in_err-made g c =
     (create_refused g.S.Store c.args.table.now c.args.module_name.now options names c.args.if_new old fault
     (λ contents told. subst (Makes contents c.args.table.now c.args.module_name.now options names c.args.if_new) made (c.made_table.ensures contents (ap (map known_info) c.as_slice.ensures.value ∙ told))))
 
-pub returns-in_err-add_table : goal.returns-in_err-add_table
-returns-in_err-add_table g c =
+pub returns-in_err-add_table-clause-executes : goal.returns-in_err-add_table-clause-executes
+returns-in_err-add_table-clause-executes g c =
     let fault : Fault = c.in_err-add_table.field-0.0 in
     let is : c.from_residual-in_err-add_table.result ≡ Err fault = search rules in
     let refused : c.add_table.result ≡ Err fault = search rules in
@@ -42,8 +47,8 @@ returns-in_err-add_table g c =
     (subst (λ (a : Result Reply Fault). Executes g.S.Store (with_tables c.args.store.now tables) command (answer_of a) (with_tables c.add_table.new.store tables)) (sym is)
     (executes_refused g.S.Store c.args.store.now c.add_table.new.store tables (table_change c.in-Some.made ∷ []) command fault outside changed))
 
-pub returns : goal.returns
-returns g c =
+pub returns-clause-executes : goal.returns-clause-executes
+returns-clause-executes g c =
     let tables = map known_info c.args.tables.now.items in
     let options = map option_of c.args.options.now in
     let names = map string_bytes c.args.columns.now in
@@ -65,4 +70,40 @@ returns g c =
           subst (λ (k : Known g.row.S.Denot). Executes g.S.Store (with_tables c.args.store.now tables) command (Ok plain.Done) k) (sym (λ i. with_tables (w.store-is i) (ap (λ (v : Vec TableInfo Global). map known_info v.items) w.tables-is i)))
           (create_nothing g.S.Store c.args.table.now c.args.module_name.now options names c.args.if_new (with_tables c.args.store.now tables)
           (λ contents is. subst (λ o. Makes contents c.args.table.now c.args.module_name.now options names c.args.if_new (Ok o)) none (makes contents is)))
+    ]
+
+pub returns-in_err-add_table-clause-crash : goal.returns-in_err-add_table-clause-crash
+returns-in_err-add_table-clause-crash g c =
+    let tables = map known_info c.args.tables.now.items in
+    let options = map option_of c.args.options.now in
+    let names = map string_bytes c.args.columns.now in
+    let command = plain.Create c.args.table.now c.args.module_name.now options names c.args.if_new in
+    let made : c.made_table.result ≡ Ok c.in_ok-made.made = search rules in
+    let makes : (contents : Contents) → tables ≡ map told_table contents → Makes contents c.args.table.now c.args.module_name.now options names c.args.if_new (Ok (Some c.in-Some.made)) =
+    λ contents told. subst (λ o. Makes contents c.args.table.now c.args.module_name.now options names c.args.if_new (Ok o)) c.in-Some.is
+    (subst (Makes contents c.args.table.now c.args.module_name.now options names c.args.if_new) made (c.made_table.ensures contents (ap (map known_info) c.as_slice.ensures.value ∙ told))) in
+    crash_changed g.S.Store c.args.store.now c.add_table.new.store tables (map known_info c.add_table.new.tables.items) command (table_change c.in-Some.made ∷ [])
+    (λ up first holds. ((made_is_held first c.args.table.now c.args.module_name.now options names c.args.if_new c.in-Some.made (value_in g.S.Store c.args.store.now) tables (makes first holds.told) c.is_in_order.ensures.order holds).held, refl))
+    c.add_table.ensures.crash
+
+pub returns-clause-crash : goal.returns-clause-crash
+returns-clause-crash g c =
+    let tables = map known_info c.args.tables.now.items in
+    let options = map option_of c.args.options.now in
+    let names = map string_bytes c.args.columns.now in
+    let command = plain.Create c.args.table.now c.args.module_name.now options names c.args.if_new in
+    let made : c.made_table.result ≡ Ok c.in_ok-made.made = search rules in
+    let after = map known_info c.match-made.tables.items in
+    elim c.match-made.branch [
+      | in-Some+in_ok-add_table w ↦
+          let makes : (contents : Contents) → tables ≡ map told_table contents → Makes contents c.args.table.now c.args.module_name.now options names c.args.if_new (Ok (Some w.in-Some.made)) =
+          λ contents told. subst (λ o. Makes contents c.args.table.now c.args.module_name.now options names c.args.if_new (Ok o)) w.in-Some.is
+          (subst (Makes contents c.args.table.now c.args.module_name.now options names c.args.if_new) made (c.made_table.ensures contents (ap (map known_info) c.as_slice.ensures.value ∙ told))) in
+          subst (λ (s : StoreState g.row.S.Denot). CommandSurvives g.S.Store (with_tables c.args.store.now tables) command (with_tables s after)) (sym w.store-is)
+          (crash_changed g.S.Store c.args.store.now w.add_table.new.store tables after command (table_change w.in-Some.made ∷ [])
+          (λ up first holds. ((made_is_held first c.args.table.now c.args.module_name.now options names c.args.if_new w.in-Some.made (value_in g.S.Store c.args.store.now) tables (makes first holds.told) c.is_in_order.ensures.order holds).held, refl))
+          w.add_table.ensures.crash)
+      | in_default w ↦
+          subst (λ (s : StoreState g.row.S.Denot). CommandSurvives g.S.Store (with_tables c.args.store.now tables) command (with_tables s after)) (sym w.store-is)
+          (crash_same g.S.Store c.args.store.now tables after command)
     ]

@@ -20,11 +20,14 @@ use Rattle.ft_index.specs.Changed.{Changed, with_tables}
 use Rattle.ft_index.proofs.FoundLemmas.{placed, unplaced}
 use Rattle.ft_index.proofs.TablePlans.{told_dropped, told_spared, drop_done}
 use Rattle.ft_index.proofs.Executing.{executes_unplanned, executes_refused, executes_planned}
+use Rattle.sqlite.specs.State.{Survives}
+use Rattle.ft_store.specs.Kept.{shows}
+use Rattle.ft_index.proofs.Crashing.{CommitsRows, crash_changed}
 use Rattle.ft_index.proofs.tables.drop_table.Goals as goal
 use Rattle.ft_index.proofs.tables.drop_table.Goals.{in-Some, in_default}
 
-pub returns-in_err-changes : goal.returns-in_err-changes
-returns-in_err-changes g c =
+pub returns-in_err-changes-clause-executes : goal.returns-in_err-changes-clause-executes
+returns-in_err-changes-clause-executes g c =
     let fault : Fault = c.in_err-changes.field-0.0 in
     let is : c.from_residual.result ≡ Err fault = search rules in
     let planned : c.drop_changes.result ≡ Err fault = search rules in
@@ -36,8 +39,8 @@ returns-in_err-changes g c =
     (λ contents held. subst (λ (r : Result (Vec RowChange Global) Fault). PlansFrom contents command value (changes_of r)) planned
     (c.drop_changes.ensures value contents c.is_in_order.ensures.order (subst (λ ts. AreHeld value (map known_info ts) contents) (sym c.as_slice.ensures.value) held))))
 
-pub returns-in_err-change_rows : goal.returns-in_err-change_rows
-returns-in_err-change_rows g c =
+pub returns-in_err-change_rows-clause-executes : goal.returns-in_err-change_rows-clause-executes
+returns-in_err-change_rows-clause-executes g c =
     let fault : Fault = c.in_err-change_rows.field-0.0 in
     let is : c.from_residual-in_err-change_rows.result ≡ Err fault = search rules in
     let refused : c.change_rows.result ≡ Err fault = search rules in
@@ -48,8 +51,8 @@ returns-in_err-change_rows g c =
     subst (λ (a : Result Reply Fault). Executes g.S.Store (with_tables c.args.store.now tables) command (answer_of a) (with_tables c.change_rows.new.store tables)) (sym is)
     (executes_refused g.S.Store c.args.store.now c.change_rows.new.store tables (map shown_change c.as_slice-2.result.now) command fault outside changed)
 
-pub returns : goal.returns
-returns g c =
+pub returns-clause-executes : goal.returns-clause-executes
+returns-clause-executes g c =
     let tables = map known_info c.args.tables.now.items in
     let command = plain.Drop c.args.table.now c.args.if_there in
     let value = value_in g.S.Store c.args.store.now in
@@ -85,3 +88,29 @@ returns g c =
           (executes_planned g.S.Store c.args.store.now c.change_rows.new.store tables tables changes command plans changed
           (λ contents held. (told_spared value tables contents c.args.table.now c.args.if_there held named, drop_done contents c.args.table.now c.args.if_there)))
     ]
+
+pub returns-in_err-change_rows-clause-crash : goal.returns-in_err-change_rows-clause-crash
+returns-in_err-change_rows-clause-crash g c =
+    let tables = map known_info c.args.tables.now.items in
+    let command = plain.Drop c.args.table.now c.args.if_there in
+    let value = value_in g.S.Store c.args.store.now in
+    let changes = map shown_change c.in_ok-changes.changes.items in
+    let planned : c.drop_changes.result ≡ Ok c.in_ok-changes.changes = search rules in
+    let plans : (contents : Contents) → AreHeld value tables contents → PlansFrom contents command value (Ok changes) =
+    λ contents held. subst (λ (r : Result (Vec RowChange Global) Fault). PlansFrom contents command value (changes_of r)) planned
+    (c.drop_changes.ensures value contents c.is_in_order.ensures.order (subst (λ ts. AreHeld value (map known_info ts) contents) (sym c.as_slice.ensures.value) held)) in
+    crash_changed g.S.Store c.args.store.now c.change_rows.new.store tables tables command changes (λ up first holds. ((plans first holds).1, (plans first holds).2))
+    (subst (λ (cs : List RowChange). Survives (shows g.S.Store c.args.store.now) (shows g.S.Store c.change_rows.new.store) (CommitsRows g.S.Store c.args.store.now (map shown_change cs))) c.as_slice-2.ensures.value c.change_rows.ensures.crash)
+
+pub returns-clause-crash : goal.returns-clause-crash
+returns-clause-crash g c =
+    let tables = map known_info c.args.tables.now.items in
+    let command = plain.Drop c.args.table.now c.args.if_there in
+    let value = value_in g.S.Store c.args.store.now in
+    let changes = map shown_change c.in_ok-changes.changes.items in
+    let planned : c.drop_changes.result ≡ Ok c.in_ok-changes.changes = search rules in
+    let plans : (contents : Contents) → AreHeld value tables contents → PlansFrom contents command value (Ok changes) =
+    λ contents held. subst (λ (r : Result (Vec RowChange Global) Fault). PlansFrom contents command value (changes_of r)) planned
+    (c.drop_changes.ensures value contents c.is_in_order.ensures.order (subst (λ ts. AreHeld value (map known_info ts) contents) (sym c.as_slice.ensures.value) held)) in
+    crash_changed g.S.Store c.args.store.now c.change_rows.new.store tables tables command changes (λ up first holds. ((plans first holds).1, (plans first holds).2))
+    (subst (λ (cs : List RowChange). Survives (shows g.S.Store c.args.store.now) (shows g.S.Store c.change_rows.new.store) (CommitsRows g.S.Store c.args.store.now (map shown_change cs))) c.as_slice-2.ensures.value c.change_rows.ensures.crash)
