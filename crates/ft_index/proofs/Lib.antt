@@ -58,3 +58,4 @@ pub mod ChosenLemmas
 pub mod SelectRows
 pub mod FaultLemmas
 pub mod SelectAnswers
+pub mod AskedRows
