@@ -74,3 +74,4 @@ pub mod SelectRows
 pub mod FaultLemmas
 pub mod SelectAnswers
 pub mod Crashing
+pub mod AskedRows
