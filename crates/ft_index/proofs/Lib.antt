@@ -75,3 +75,4 @@ pub mod FaultLemmas
 pub mod SelectAnswers
 pub mod Crashing
 pub mod AskedRows
+pub mod PlanAnswers

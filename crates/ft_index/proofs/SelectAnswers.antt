@@ -31,7 +31,7 @@ use Rattle.ft_index.proofs.InsertHolds.{sound_rows}
 
 -- ---- only the columns of a content matter before it is read
 
-abbrev bare : List Column → Content
+abbrev pub bare : List Column → Content
 bare columns = record { columns = columns; documents = [] }
 
 pub names_bare : (table : List ℕ) (columns : List Column) (content : Content) (items : Items) → content.columns ≡ columns → answer_names table (bare columns) items ≡ answer_names table content items
@@ -69,7 +69,7 @@ query_bare columns content Everything same = refl
 query_bare columns content (OfDocid docid) same = refl
 query_bare columns content (Matching name text) same = ap reading_fault (reading_bare columns content name text same)
 
-fault_bare : (table : List ℕ) (columns : List Column) (content : Content) (items : Items) (f : Filter) → content.columns ≡ columns → select_fault table (bare columns) items f ≡ select_fault table content items f
+pub fault_bare : (table : List ℕ) (columns : List Column) (content : Content) (items : Items) (f : Filter) → content.columns ≡ columns → select_fault table (bare columns) items f ≡ select_fault table content items f
 fault_bare table columns content items f same =
     λ i. or_else (first_of ((unknown_bare table columns content (items_in items) same i || unnamed_bare table columns content f same i, faults.NoSuchColumn) ∷ (list_any is_offsets (items_in items) && not (is_match f), faults.Context) ∷ [])) (query_bare columns content f same i)
 
@@ -84,7 +84,7 @@ fine_offsets table content items f fine = go (list_any (item_unknown table conte
 
 -- ---- a sound table that is told
 
-told_columns : (contents : Contents) (name : List ℕ) (known : KnownTable) (t : IsSoundTable contents name known) → t.content.columns ≡ known.columns
+pub told_columns : (contents : Contents) (name : List ℕ) (known : KnownTable) (t : IsSoundTable contents name known) → t.content.columns ≡ known.columns
 told_columns contents name known t = sym (ap held_columns t.held) ∙ ap (λ (k : KnownTable). k.columns) t.told
 
 -- the rows that a MATCH reads

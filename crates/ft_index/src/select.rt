@@ -1,5 +1,5 @@
 //! Answers of a Select.
-ghost use Rattle.std.specs.Prelude.{◌≡◌, ◌⊎◌, ◌+◌, ◌*◌, ◌<◌, ◌^◌, ℕ, List, [], None, Some, map, option_map, length, pos, false, string_bytes, IsTrue, IfOk, IfErr, OnOk};
+ghost use Rattle.std.specs.Prelude.{◌≡◌, ◌⊎◌, ◌+◌, ◌*◌, ◌<◌, ◌^◌, ℕ, List, [], Option, None, Some, map, option_map, length, pos, false, string_bytes, IsTrue, IfOk, IfErr, OnOk};
 ghost use Rattle.std.specs.List.{list_any};
 ghost use Rattle.sqlite.specs.State.{HasCleanDisk};
 ghost use Rattle.ft_query.specs.Trees.{Tree, tree_of};
@@ -16,6 +16,7 @@ ghost use Rattle.ft_content.specs.Deserved as deserved;
 ghost use Rattle.ft_content.specs.Views.{bare_content, cells_of, rows_of, column_of, item_of, items_of, filter_of, known_info, grid_of, answer_of};
 ghost use Rattle.ft_index.specs.Kept.{Executes, OnlyLooks};
 ghost use Rattle.ft_index.specs.Changed.{with_tables};
+ghost use Rattle.ft_index.specs.Planned.{PlansOver};
 ghost use Rattle.ft_index.specs.DocumentsRead.{HasRows, Looks, shown_document};
 ghost use Rattle.ft_index.specs.RowsRead as rows;
 ghost use Rattle.ft_index.specs.RowsRead.{rows_asked, CountsRows};
@@ -25,13 +26,13 @@ ghost use Rattle.ft_index.specs.Selected.{hit_cells, IsOf, IsAsked};
 use crate::chosen::{chosen_documents, found_cells};
 use crate::document::Document;
 use crate::matching::matched;
-use crate::names::sound_place;
+use crate::names::{sound_place, sound_table};
 use ft_content::{
     Column, Fault, Filter, Grid, Item, Items, Reply, TableInfo, Value, answer_names, count_rows,
     cut, is_docid, item_row, read_query, select_tests,
 };
 use ft_query::{Hit, Query, offsets_text};
-use ft_store::Store;
+use ft_store::{RowChange, Store};
 use sqlite::Alter;
 use std::alloc::{AllocError, Global};
 
@@ -67,6 +68,21 @@ pub(crate) fn select_from<S: Alter>(
         offset,
     )?;
     Ok(Reply::Rows(grid))
+}
+
+/// The row changes of a Select, which are none, or its fault.
+pub(crate) fn select_changes(
+    alloc: Global,
+    tables: &[TableInfo],
+    table: &str,
+    items: &Items,
+    filter: &Filter,
+) -> Result<Vec<RowChange>, Fault>
+    ensures { (limit : Option ℕ) (offset : ℕ) → PlansOver tables.now (plain.Select table.now (items_of items.now) (filter_of filter.now) limit offset) result }
+{
+    let info = sound_table(tables, table)?;
+    select_query(alloc, info, items, filter)?;
+    Ok(Vec::new(alloc))
 }
 
 /// The query of a Select over a table, after the tests of its names, or the fault that it deserves.

@@ -97,6 +97,26 @@ pub(crate) fn skipped(alloc: Global, columns: &[Column]) -> Result<Vec<i64>, All
     Ok(numbers)
 }
 
+/// The row changes of a Create, or its fault.
+pub(crate) fn create_changes(
+    alloc: Global,
+    tables: &[TableInfo],
+    table: &str,
+    module_name: &str,
+    options: &[(String, String)],
+    columns: &[String],
+    if_new: bool,
+) -> Result<Vec<RowChange>, Fault>
+    ensures { PlansOver tables.now (plain.Create table.now module_name.now (map option_of options.now) (map string_bytes columns.now) if_new) result }
+{
+    let made = made_table(alloc, tables, table, module_name, options, columns, if_new)?;
+    let mut changes = Vec::new(alloc);
+    if let Some(made) = made {
+        changes.push(adding(alloc, &made)?)?;
+    }
+    Ok(changes)
+}
+
 /// Answers a Create.
 pub(crate) fn create_table<S: Alter>(
     alloc: Global,
