@@ -41,3 +41,9 @@ returns-clause-found g c content rows =
     let f : Hit → ℤ × List Cell = λ h. document_at content h.docid in
     c.loop-hit.invariant.found content (subst (λ (k : ℤ). HasRows g.S.Store k c.args.store.now c.loop-hit.store content) (sym (to_z-of_z c.ranges.tab)) rows)
     ∙ ap (map f) (take_all c.loop-hit.hit-index c.args.hits.now c.loop-hit-test.false)
+
+pub returns-in_err-cells-clause-looks : goal.returns-in_err-cells-clause-looks
+returns-in_err-cells-clause-looks g c = looks_then g.S.Store c.args.store.now c.loop-hit.store c.found_cells.new.store c.loop-hit.invariant.looks c.found_cells.ensures.looks c.loop-hit.invariant.live
+
+pub returns-in_err-push-clause-looks : goal.returns-in_err-push-clause-looks
+returns-in_err-push-clause-looks g c = looks_then g.S.Store c.args.store.now c.loop-hit.store c.found_cells.new.store c.loop-hit.invariant.looks c.found_cells.ensures.looks c.loop-hit.invariant.live

@@ -1,6 +1,8 @@
 -- the cells of the rows, where there are rows
-use Rattle.std.proofs.Common.{◌==◌, Some, arith, sym, ap, ◌∙◌, to_z-of_z}
-use Rattle.ft_store.specs.Kept.{value_in}
+use Rattle.std.proofs.Common.{◌≡◌, ◌==◌, ℕ, Some, length, vec_len, arith, sym, ap, ◌∙◌, to_z-of_z}
+use Rattle.std.proofs.lemmas.List.{length-map}
+use Rattle.ft_store.specs.Changes.{shown_value}
+use Rattle.ft_store.specs.Kept.{value_in, more_rows}
 use Rattle.ft_index.proofs.ReadRows.{none_read, some_read}
 use Rattle.ft_index.proofs.documents.document.Goals as goal
 
@@ -14,3 +16,9 @@ returns-clause-found g c content rows =
     ap Some c.in_ok-cells.ensures
     ∙ some_read c.args.tab c.args.docid (value_in g.S.Store c.args.store.now) rows.name content c.in_ok-rows.rows.items rows.is_content rows.rows
     ((simp (to_z-of_z, c.ranges.tab, c.ranges.docid) at c.in_ok-rows.ensures.rows) rows.clean) (ap (λ n. n == 0) (omega (arith, c.in_ok-rows.rows.ok.0)) ∙ sym c.is_empty.ensures ∙ c.if-is_empty.false)
+
+pub returns-clause-counted : goal.returns-clause-counted
+returns-clause-counted g c =
+    let same : vec_len c.in_ok-rows.rows ≡ vec_len c.in_ok-cells.cells =
+    c.in_ok-rows.rows.ok.0 ∙ sym (length-map c.in_ok-rows.rows.items (λ row. shown_value row.value)) ∙ ap length (sym c.in_ok-cells.ensures) ∙ length-map c.in_ok-cells.cells.items shown_value ∙ sym c.in_ok-cells.cells.ok.0 in
+    c.in_ok-rows.ensures.counted ∙ ap (λ (n : ℕ). more_rows n c.args.store.now) same

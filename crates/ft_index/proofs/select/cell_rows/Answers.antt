@@ -56,3 +56,6 @@ returns-clause-found g c content rows =
     let row : Hit → List Cell = hit_cells (map column_of c.args.columns.now) (map item_of c.args.items.now) (cells_at content) in
     c.loop-hit.invariant.found content (subst (λ (k : ℤ). HasRows g.S.Store k c.args.store.now c.loop-hit.store content) (sym (to_z-of_z c.ranges.tab)) rows)
     ∙ ap (map row) (take_all c.loop-hit.hit-index c.args.hits.now c.loop-hit-test.false)
+
+pub returns-in_err-cells-clause-looks : goal.returns-in_err-cells-clause-looks
+returns-in_err-cells-clause-looks g c = looks_then g.S.Store c.args.store.now c.loop-hit.store c.found_cells.new.store c.loop-hit.invariant.looks c.found_cells.ensures.looks c.loop-hit.invariant.live
