@@ -31,7 +31,7 @@ use Rattle.ft_index.specs.Standing.{AreContent, shown_row, listed_rows, columns_
 use Rattle.ft_index.specs.Tables.{table_rows, table_index}
 use Rattle.ft_index.proofs.CheckLemmas.{IsTold, executes_read}
 use Rattle.ft_index.proofs.CreateLemmas.{refused_answers}
-use Rattle.ft_index.proofs.Executing.{done_answers}
+use Rattle.ft_index.proofs.Executing.{done_answers, executes_refused}
 use Rattle.ft_index.proofs.KnownLemmas.{none_named}
 use Rattle.ft_index.proofs.NameLemmas.{apart_after}
 use Rattle.ft_index.proofs.OneTable.{IsOne, SparesAllBut, AreHeldIn, changes_one}
@@ -107,3 +107,80 @@ rebuild_planned store tables contents name known t read changes order held has m
       (names store).1,
       tt,
     )
+
+-- ---- the tables that are told after it
+
+told_sound : (id : ℤ) (name : List ℕ) (held : Held) → rebuild_fault name held ≡ None → record (told_table (id, record { name = name; held = held })) { sound = true } ≡ told_table (id, record { name = name; held = rebuilt held })
+told_sound id name (Sound content) fine = refl
+told_sound id name (Stale content) fine = refl
+told_sound id name (Loose rows) fine = absurd (let no = fine in cc)
+
+told_rebuilt : (name : List ℕ) (t : ℤ × Table) (contents : Contents) → AllByRecursion (IsOne name t) contents → rebuild_fault t.1.name t.1.held ≡ None → with_sound t.0 (map told_table contents) ≡ map told_table (on_table contents name rebuilt)
+told_rebuilt name t [] one fine = refl
+told_rebuilt name t (c ∷ cs) one fine = go (int_eq t.0 c.0) refl (told_rebuilt name t cs one.1 fine)
+  where
+    new : ℤ × Table
+    new = (c.0, record { name = c.1.name; held = rebuilt c.1.held })
+
+    go : (b : Bool) → int_eq t.0 c.0 ≡ b → with_sound t.0 (map told_table cs) ≡ map told_table (on_table cs name rebuilt) →
+        cond (int_eq t.0 c.0) (record (told_table c) { sound = true }) (told_table c) ∷ with_sound t.0 (map told_table cs) ≡ told_table (cond (same_name c.1.name name) new c) ∷ map told_table (on_table cs name rebuilt)
+    go true is rest =
+        let fine_here : rebuild_fault c.1.name c.1.held ≡ None = ap (λ (x : ℤ × Table). rebuild_fault x.1.name x.1.held) (one.0.is is) ∙ fine in
+        let first = ap (λ b. cond b (record (told_table c) { sound = true }) (told_table c)) is ∙ told_sound c.0 c.1.name c.1.held fine_here ∙ sym (ap (λ b. told_table (cond b new c)) (one.0.agrees ∙ is)) in
+        λ i. first i ∷ rest i
+    go false is rest =
+        let first = ap (λ b. cond b (record (told_table c) { sound = true }) (told_table c)) is ∙ sym (ap (λ b. told_table (cond b new c)) (one.0.agrees ∙ is)) in
+        λ i. first i ∷ rest i
+
+pub told_after : (store : StoreValue) (tables : List KnownTable) (contents : Contents) (name : List ℕ) (known : KnownTable) (t : IsTold store contents name known) → tables ≡ map told_table contents → deserved contents (Rebuild name) ≡ None → with_sound known.id tables ≡ map told_table (after contents (Rebuild name))
+told_after store tables contents name known t told fine =
+    let fault = sym (rebuild_due contents name (Some t.table) t.found) ∙ fine in
+    (λ i. with_sound (ap (λ (k : KnownTable). k.id) (sym t.told) i) (told i)) ∙ told_rebuilt name t.table contents t.one fault ∙ ap (map told_table) (sym (rebuild_after contents name))
+
+pub rebuild_reply : (contents : Contents) (name : List ℕ) → reply_to contents (Rebuild name) ≡ Done
+unfolding reply_to
+rebuild_reply contents name = refl
+
+-- ---- a plan that is made by reading, and then carried out
+
+module _ {S : Type 0} (g : Ghosts S) (old mid new : StoreState S) (tables : List KnownTable) (changes : List Change) (command : Command) (looks : Looks g old mid) where
+  changed_after : (is_done : Bool) → Changed g mid new changes is_done → Changed g old new changes is_done
+  changed_after is_done changed = record {
+    was_up = λ some others up. let before = changed.was_up some others up in record { clean = (let c = before.clean in omega (arith, looks.survives.clean, c)); is_open = (looks.kept before.clean before.is_open).2 };
+    value = λ some up.
+        let before = changed.was_up some some up in
+        let same : value_in g mid ≡ value_in g old = ap (λ (d : Database). value_of d.trees) (looks.kept before.clean before.is_open).0 in
+        changed.value some up ∙ ap (λ v. cond is_done (all_applied changes v) v) same;
+  }
+
+  pub refused_after : (fault : Fault) → (fault ≡ faults.Store) ⊎ (fault ≡ faults.Memory) → Changed g mid new changes false → Executes g (with_tables old tables) command (Err fault) (with_tables new tables)
+  refused_after fault outside changed = executes_refused g old new tables changes command fault outside (changed_after false changed)
+
+  pub executes_after : (after_tables : List KnownTable) → (HasCleanDisk (shows g mid) → (contents : Contents) → AreHeld (value_in g old) tables contents → PlansFrom contents command (value_in g old) (Ok changes)) → Changed g mid new changes true →
+      ((contents : Contents) → AreHeld (value_in g old) tables contents → deserved contents command ≡ None → after_tables ≡ map told_table (after contents command)) → ((contents : Contents) → reply_to contents command ≡ Done) →
+      Executes g (with_tables old tables) command (Ok Done) (with_tables new after_tables)
+  executes_after after_tables plans changed told done =
+      let whole = changed_after true changed in
+      let planned : IsUp g (with_tables new after_tables) → (first : Contents) → AreHeld (value_in g old) tables first → PlansFrom first command (value_in g old) (Ok changes) = λ up. plans (changed.was_up after_tables tables up).clean in
+      record {
+        was_up = λ up. whole.was_up after_tables tables up;
+        steps = λ up first holds. (
+          after first command,
+          subst (λ v. AreHeld v after_tables (after first command)) (sym (whole.value after_tables up)) (record {
+            named_once = apart_after first command holds.named_once;
+            held = (planned up first holds).1;
+            told = told first holds (planned up first holds).0;
+          }),
+          inr (done_answers first command (planned up first holds).0 (done first)),
+        );
+        noted = λ up first holds. ap (λ v. v.noted) (whole.value after_tables up) ∙ (planned up first holds).2;
+      }
+
+-- a plan that is refused
+pub refused_plan : {S : Type 0} (g : Ghosts S) (old new : StoreState S) (tables : List KnownTable) (command : Command) (fault : Fault) → Looks g old new →
+    (HasCleanDisk (shows g new) → (contents : Contents) → AreHeld (value_in g old) tables contents → PlansFrom contents command (value_in g old) (Err fault)) → Executes g (with_tables old tables) command (Err fault) (with_tables new tables)
+refused_plan g old new tables command fault looks plans = executes_read g old new tables command (Err fault) looks (λ up first holds. due first (plans up.clean first holds))
+  where
+    due : (first : Contents) → IsTrue (is_outside (Err fault)) ⊎ (deserved first command ≡ Some fault) → Answers first command (Err fault) first
+    due first (inl outside) = inl (outside, refl)
+    due first (inr is) = inr (refused_answers first command fault is)

@@ -158,12 +158,13 @@ pub(crate) fn rebuild_table<S: Alter>(
 ) -> Result<Reply, Fault>
     ensures { Executes S.Store (with_tables store.old (map known_info tables.old.items)) (plain.Rebuild table.now) (answer_of result) (with_tables store.new (map known_info tables.new.items)) }
 {
+    store.is_in_order();
     let changes = rebuild_changes(alloc, store, tables.as_slice(), table)?;
     change_rows(store, changes.as_slice())?;
     let known = tables.as_slice();
     if let Some(place) = place_of(known, table) {
         let id = known[place].id;
-        mark_sound(tables.as_mut_slice(), id);
+        mark_sound(tables, id);
     }
     Ok(Reply::Done)
 }

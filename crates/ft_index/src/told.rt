@@ -51,11 +51,18 @@ fn mark_if(table: &mut TableInfo, id: i64)
     }
 }
 
-/// Marks the table of an id sound.
-pub(crate) fn mark_sound(tables: &mut [TableInfo], id: i64)
+// Marks the table of an id sound.
+fn mark_among(tables: &mut [TableInfo], id: i64)
     ensures { map known_info tables.new ≡ with_sound id (map known_info tables.old) }
 {
     for table in tables.iter_mut() {
         mark_if(table, id);
     }
+}
+
+/// Marks the table of an id sound.
+pub(crate) fn mark_sound(tables: &mut Vec<TableInfo>, id: i64)
+    ensures { map known_info tables.new.items ≡ with_sound id (map known_info tables.old.items) }
+{
+    mark_among(tables.as_mut_slice(), id);
 }

@@ -3,7 +3,7 @@ use Rattle.std.proofs.Common.{map, ap, ◌∙◌, rules, w64, to_z, of_z, to_z-o
 use Rattle.ft_query.proofs.Sweeps.{sweep_next, sweep_end}
 use Rattle.ft_content.specs.Views.{known_info}
 use Rattle.ft_index.specs.Rebuild.{sound_if, with_sound}
-use Rattle.ft_index.proofs.told.mark_sound.Goals as goal
+use Rattle.ft_index.proofs.told.mark_among.Goals as goal
 
 pub loop-table-preserved : goal.loop-table-preserved
 loop-table-preserved c =
