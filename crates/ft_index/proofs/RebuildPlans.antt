@@ -1,5 +1,5 @@
 -- What a Rebuild does to a store, and what it is answered.
-use Rattle.std.proofs.Common.{◌≡◌, ◌≢◌, inl, inr, ◌⊎◌, ℕ, Bool, true, false, cond, List, [], ◌∷◌, map, Option, Some, None, Result, Ok, Err, ℤ, string_bytes, refl, sym, ap, subst, ◌∙◌, arith}
+use Rattle.std.proofs.Common.{◌≡◌, inl, inr, ◌⊎◌, ℕ, Bool, true, false, cond, List, [], ◌∷◌, map, Option, Some, None, Ok, Err, ℤ, string_bytes, refl, sym, ap, subst, ◌∙◌, arith}
 use Rattle.std.specs.Prelude.{IsTrue}
 use Rattle.std.specs.List.{AllByRecursion}
 use Rattle.std.specs.Ordering.{int_eq}
@@ -16,17 +16,17 @@ use Rattle.ft_content.specs.declared.fault.Fault.{Fault}
 use Rattle.ft_content.specs.declared.fault.Fault.TheVariants as faults
 use Rattle.ft_content.specs.Content.{Content, TableRows, IsContent, content_rows, content_in, gathered, same_name}
 use Rattle.ft_content.specs.Index.{IndexRows, index_rows}
-use Rattle.ft_content.specs.Command.{Command, Rebuild, Reply, Done}
+use Rattle.ft_content.specs.Command.{Command, Rebuild, Done}
 use Rattle.ft_content.specs.Views.{KnownTable, column_of}
 use Rattle.ft_content.specs.Deserved.{Held, Sound, Stale, Loose, Table, Contents, table_named, on_found, rebuild_fault, deserved}
-use Rattle.ft_content.specs.Step.{step, rebuilt, on_table, after, reply_to}
+use Rattle.ft_content.specs.Step.{rebuilt, on_table, after, reply_to}
 use Rattle.ft_content.proofs.RowLemmas.{contents_are_one, rows_are_read}
 use Rattle.ft_index.specs.declared.rebuild.TableContent.{TableContent}
 use Rattle.ft_index.specs.Changed.{Changed, with_tables}
 use Rattle.ft_index.specs.DocumentsRead.{Looks}
 use Rattle.ft_index.specs.Found.{known_named}
-use Rattle.ft_index.specs.Kept.{IsUp, AreHeld, StoreHolds, Stands, Holds, Executes, Answers, PlansFrom, is_outside, is_sound, told_table}
-use Rattle.ft_index.specs.Rebuild.{shown_document, MakesIndex, LeavesOthers, LeavesNames, HoldsContent, HoldsIfAny, sound_if, with_sound}
+use Rattle.ft_index.specs.Kept.{IsUp, AreHeld, StoreHolds, Stands, Executes, Answers, PlansFrom, is_outside, told_table}
+use Rattle.ft_index.specs.Rebuild.{shown_document, MakesIndex, LeavesOthers, LeavesNames, HoldsContent, HoldsIfAny, with_sound}
 use Rattle.ft_index.specs.Standing.{AreContent, shown_row, listed_rows, columns_in}
 use Rattle.ft_index.specs.Tables.{table_rows, table_index}
 use Rattle.ft_index.proofs.CheckLemmas.{IsTold, executes_read}

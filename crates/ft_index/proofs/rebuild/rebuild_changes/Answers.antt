@@ -2,7 +2,6 @@
 use Rattle.std.proofs.Common.{◌≡◌, inr, List, map, Some, None, refl, sym, ap, subst, ◌∙◌, rules, FitsSigned, w64, to_z, of_z, to_z-of_z}
 use Rattle.std.proofs.lemmas.Option.{slice_get_read, slice_get_within, same_Some}
 use Rattle.ft_store.specs.Kept.{value_in}
-use Rattle.ft_store.specs.Store.{Change}
 use Rattle.ft_store.specs.Changes.{shown_change}
 use Rattle.ft_content.specs.declared.table.TableInfo.{TableInfo}
 use Rattle.ft_content.specs.Content.{Column, Documents, same_name}
