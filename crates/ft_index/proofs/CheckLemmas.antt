@@ -1,21 +1,18 @@
 -- What is answered to a Check, and whether all tables are sound.
-use Rattle.std.proofs.Common.{◌≡◌, inl, inr, ◌⊎◌, ℕ, Bool, true, false, cond, List, [], ◌∷◌, map, Option, Some, None, Result, Ok, Err, ℤ, refl, sym, ap, subst, ◌∙◌, arith}
-use Rattle.std.specs.Prelude.{IsTrue, unwrap_or, option_map}
+use Rattle.std.proofs.Common.{◌≡◌, ℕ, Bool, true, false, cond, List, [], ◌∷◌, map, Option, Some, None, Result, Ok, Err, ℤ, refl, sym, ap, subst, ◌∙◌, arith}
+use Rattle.std.specs.Prelude.{IsTrue}
 use Rattle.std.specs.List.{AllByRecursion, find, list_all}
 use Rattle.std.specs.Ordering.{int_eq}
 use Rattle.std.proofs.lemmas.List.Sums.{AllPass-from_list_all, list_all-from_AllPass}
 use Rattle.std.proofs.lemmas.List.Folds.{list_all-map}
-use Rattle.std.specs.Cmp.{int_cmp_total, eq_by_cmp_equiv}
-use Rattle.sqlite.specs.State.{HasCleanDisk}
 use Rattle.sqlite.specs.Effect.{Database}
 use Rattle.sqlite.specs.Store.{Ghosts}
 use Rattle.ft_store.specs.Rows.{value_of}
 use Rattle.ft_store.specs.Store.{StoreValue, AreInOrder}
-use Rattle.ft_store.specs.Kept.{StoreState, shows, value_in}
+use Rattle.ft_store.specs.Kept.{StoreState, value_in}
 use Rattle.ft_content.specs.declared.fault.Fault.{Fault}
 use Rattle.ft_content.specs.declared.fault.Fault.TheVariants as faults
 use Rattle.ft_content.specs.declared.table.TableInfo.{TableInfo}
-use Rattle.ft_content.specs.Content.{same_name}
 use Rattle.ft_content.specs.Command.{Command, Check, Reply, Done}
 use Rattle.ft_content.specs.Views.{KnownTable, known_info}
 use Rattle.ft_content.specs.Deserved.{Held, Sound, Stale, Loose, Table, Contents, table_named, on_found, check_fault, deserved}
@@ -23,7 +20,7 @@ use Rattle.ft_content.specs.Step.{step, step_by, reply_to, after}
 use Rattle.ft_index.specs.Changed.{with_tables}
 use Rattle.ft_index.specs.DocumentsRead.{Looks}
 use Rattle.ft_index.specs.Found.{known_named}
-use Rattle.ft_index.specs.Kept.{IsUp, AreHeld, StoreHolds, Stands, AreSound, Holds, Executes, Answers, HoldsTable, is_outside, is_sound, told_table}
+use Rattle.ft_index.specs.Kept.{IsUp, AreHeld, StoreHolds, Stands, AreSound, Holds, Executes, Answers, is_sound, told_table}
 use Rattle.ft_index.specs.Opened.{IsNamed, AreMarked}
 use Rattle.ft_index.specs.Tables.{table_rows, table_index}
 use Rattle.ft_index.proofs.HeldLemmas.{holds_one_contents}

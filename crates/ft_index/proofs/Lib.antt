@@ -54,6 +54,7 @@ pub mod StandingBack
 pub mod StandingReads
 pub mod OpenedTables
 pub mod CheckLemmas
+pub mod RebuildPlans
 pub mod Lifting
 pub mod InsertDue
 pub mod InsertHolds

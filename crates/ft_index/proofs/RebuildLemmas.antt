@@ -13,7 +13,7 @@ use Rattle.ft_content.specs.Index.{Key, key_cmp, StoredSpot, index_rows}
 use Rattle.ft_content.proofs.IndexLemmas.{key_cmp_total, key_cmp_exact}
 use Rattle.ft_index.specs.RowLaws.{table_of}
 use Rattle.ft_index.specs.Rewrite.{IsPackable}
-use Rattle.ft_index.specs.Rebuild.{MakesIndex, LeavesOthers}
+use Rattle.ft_index.specs.Rebuild.{MakesIndex, LeavesOthers, LeavesNames}
 use Rattle.ft_index.specs.RewriteRows.{all_put, changed, put_lists, put_sizes, lists_of, sizes_of, rebuild_changes, AreShortNumbers}
 use Rattle.ft_index.specs.Tables.{table_rows, table_index}
 use Rattle.ft_index.proofs.StoreKeys.{column_exact, column_total, list_keys, cell_keys}
@@ -117,3 +117,8 @@ rebuild_packable tab columns documents changes is few rising fits numbers =
     (All-append IsPackable (put_lists tab lists) (put_sizes tab sizes)
     (All-map IsPackable (λ (l : Key × List StoredSpot). PutEntries tab l.0.0 l.0.1 l.1) lists (lists_packed columns documents few rising short))
     (All-map IsPackable (λ (s : (ℤ × ℤ) × ℤ). PutSize tab s.0.0 s.0.1 s.1) sizes (λ _ _ _. tt)))))
+
+-- ---- the tables and the noted names
+
+pub leaves_names : (tab : ℤ) (lists : List (Key × List StoredSpot)) (sizes : List ((ℤ × ℤ) × ℤ)) → LeavesNames (rebuild_changes tab lists sizes)
+leaves_names tab lists sizes store = let is = store_after tab lists sizes store in (ap (λ (s : StoreValue). s.tables) is, ap (λ (s : StoreValue). s.noted) is)

@@ -1,7 +1,7 @@
 -- Rows of a table as they are read, and how they stand.
-use Rattle.std.proofs.Common.{◌≡◌, ◌≢◌, ℕ, ◌<◌, List, [], ◌∷◌, ◌++◌, map, length, ℤ, String, Global, string_bytes, refl, sym, ap, subst, ◌∙◌, arith}
+use Rattle.std.proofs.Common.{◌≡◌, ◌≢◌, ℕ, ◌<◌, List, [], ◌∷◌, ◌++◌, map, length, ℤ, string_bytes, refl, sym, ap, subst, ◌∙◌, arith}
 use Rattle.std.specs.Prelude.{IsTrue}
-use Rattle.std.specs.List.{AllByRecursion, flat_map}
+use Rattle.std.specs.List.{AllByRecursion}
 use Rattle.std.specs.Ordering.{int_eq}
 use Rattle.std.specs.FinMap.Entries.{where_key}
 use Rattle.std.proofs.lemmas.List.{map-append}
@@ -19,7 +19,7 @@ use Rattle.ft_store.specs.declared.rows.EntryRow as stored_entry
 use Rattle.ft_store.specs.declared.rows.TabRow.{TabRow}
 use Rattle.ft_store.specs.Store.{Cell, StoreValue, AreInOrder, CellKey, ListKey, cell_key_cmp, list_key_cmp}
 use Rattle.ft_store.specs.Shown as shown
-use Rattle.ft_content.specs.Content.{CellRow, Column, Content, IsContent, TableRows, content_rows, content_in}
+use Rattle.ft_content.specs.Content.{Column, Content, IsContent, TableRows, content_rows, content_in}
 use Rattle.ft_content.specs.Index.{EntryRow, entry_rows, Key, StoredSpot, SizeRow, IndexRows, index_rows}
 use Rattle.ft_content.specs.Views.{KnownTable}
 use Rattle.ft_content.specs.Deserved.{Held, Sound, Stale, Loose}
@@ -31,7 +31,6 @@ use Rattle.ft_index.specs.Opened.{standing_of, mark_of, StandsSo, IsListed, IsMa
 use Rattle.ft_index.specs.RewriteRows.{sized}
 use Rattle.ft_index.specs.Standing.{shown_size, shown_entry, shown_row, listed_rows, columns_in, list_rows, AreOfRows, AreContent, HaveContent}
 use Rattle.ft_index.specs.Tables.{table_rows, table_index}
-use Rattle.ft_index.proofs.KeyedRows.{true_of, of_true}
 use Rattle.ft_index.proofs.OwnRows.{sorted_own}
 use Rattle.ft_index.proofs.StoreKeys.{list_keys}
 use Rattle.ft_index.proofs.StandingBack.{made_whole}

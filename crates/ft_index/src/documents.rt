@@ -92,8 +92,8 @@ pub(crate) fn has_document<S: Alter>(
     }
 }
 
-// The documents that rows of cells are of.
-fn gathered(alloc: Global, rows: Vec<CellRow>) -> Result<Vec<Document>, AllocError>
+/// The documents that rows of cells are of.
+pub(crate) fn gathered(alloc: Global, rows: Vec<CellRow>) -> Result<Vec<Document>, AllocError>
     ensures { IfOk result (λ documents. map shown_document documents.items ≡ content.gathered (map shown_row rows.items)) }
 {
     let mut documents = Vec::new(alloc);

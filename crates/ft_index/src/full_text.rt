@@ -1,5 +1,6 @@
 // Full-text tables over a store.
 use crate::change::change_rows;
+use crate::check::check_all;
 use crate::open::opened_tables;
 use ft_content::{Fault, TableInfo};
 use ft_store::{RowChange, Store, StoreFault};
@@ -41,11 +42,12 @@ impl<S: Alter> Model for FullText<S> {
 }
 
 impl<S: Alter> FullText<S> {
-    ghost use Rattle.std.specs.Prelude.{◌≡◌, map, string_bytes, is_ok, IfOk, IfErr};
+    ghost use Rattle.std.specs.Prelude.{◌≡◌, ◌↔◌, map, string_bytes, is_ok, IsTrue, IfOk, IfErr};
+    ghost use Rattle.ft_content.specs.Deserved.{Contents};
     ghost use Rattle.ft_content.specs.Views.{known_info};
     ghost use Rattle.ft_index.specs.DocumentsRead.{Looks};
     ghost use Rattle.ft_index.specs.Opened.{Opens};
-    ghost use Rattle.ft_index.specs.Kept.{IsUp, value_of, OnlyLooks, Notes, KeptByCalls, NoneGetsUnsound, NamesStayApart};
+    ghost use Rattle.ft_index.specs.Kept.{IsUp, value_of, Holds, AreSound, OnlyLooks, Notes, KeptByCalls, NoneGetsUnsound, NamesStayApart};
 
     /// Takes a store, and marks each table whose rows aren't documents with exactly the index rows made from scratch. The
     /// store is only read; where a read is refused it is handed back.
@@ -70,6 +72,14 @@ impl<S: Alter> FullText<S> {
         ensures { map known_info result.now ≡ self.now.tables }
     {
         self.tables.as_slice()
+    }
+
+    /// Whether each table's rows are documents with exactly the index rows made from scratch. They are read and compared.
+    pub fn check_all(&mut self) -> Result<bool, Fault>
+        ensures all { IsUp S.Store self.new → IfOk result (λ all. (contents : Contents) → Holds S.Store self.old contents → IsTrue all ↔ AreSound contents) }
+        ensures looks { OnlyLooks S.Store self.old self.new }
+    {
+        check_all(self.alloc, &mut self.store)
     }
 
     /// Notes a name, in its latest spelling.

@@ -1,18 +1,42 @@
-//! The row changes that make the index of a table again.
-ghost use Rattle.std.specs.Prelude.{◌≡◌, ◌≤◌, All, IfOk, OnOk, IsTrue, length, map};
+//! Making the index of a table again.
+ghost use Rattle.std.specs.Prelude.{◌≡◌, ◌≤◌, ℤ, ℕ, List, All, IfOk, OnOk, IsTrue, length, map};
 ghost use Rattle.std.specs.Ordering.{int_cmp};
 ghost use Rattle.std.specs.FinMap.Entries.{is_sorted};
 ghost use Rattle.ft_store.specs.Changes.{shown_change, CanApply};
+ghost use Rattle.sqlite.specs.State.{HasCleanDisk};
+ghost use Rattle.ft_store.specs.Kept.{shows, value_in};
 ghost use Rattle.ft_content.specs.Content.{is_document};
-ghost use Rattle.ft_content.specs.Views.{column_of};
-ghost use Rattle.ft_index.specs.Rebuild.{shown_document, MakesIndex, LeavesOthers};
+ghost use Rattle.ft_content.specs.Command as plain;
+ghost use Rattle.ft_content.specs.Views.{column_of, known_info, answer_of};
+ghost use Rattle.ft_content.specs.Deserved.{Contents};
+ghost use Rattle.ft_index.specs.Changed.{with_tables};
+ghost use Rattle.ft_index.specs.DocumentsRead.{Looks};
+ghost use Rattle.ft_index.specs.Kept.{AreHeld, PlansFrom, Executes};
+ghost use Rattle.ft_index.specs.Opened.{IsListed, IsNamed};
+ghost use Rattle.ft_index.specs.Planned.{changes_of};
+ghost use Rattle.ft_index.specs.Rebuild.{shown_document, MakesIndex, LeavesOthers, LeavesNames, HoldsIfAny};
+ghost use Rattle.ft_index.specs.Tables.{table_rows};
 ghost use Rattle.ft_index.specs.RewriteRows as rows;
 
+use crate::change::change_rows;
 use crate::document::Document;
 use crate::document_index::DocumentIndex;
-use ft_content::Column;
-use ft_store::RowChange;
+use crate::documents::gathered;
+use crate::names::place_of;
+use crate::standing::listed_table;
+use crate::standing_rows::{is_content, listed_columns};
+use crate::told::mark_sound;
+use ft_content::{Column, Fault, Reply, TableInfo};
+use ft_store::{RowChange, Store, StoreFault, TabRow};
+use sqlite::Alter;
 use std::alloc::{AllocError, Global};
+
+/// What a table holds: its columns, and its documents by rising docid.
+#[derive(Drop)]
+pub(crate) struct TableContent {
+    columns: Vec<Column>,
+    documents: Vec<Document>,
+}
 
 /// The row changes that make the index of a table again out of its documents, which stand by rising docid.
 pub(crate) fn index_changes(
@@ -23,6 +47,7 @@ pub(crate) fn index_changes(
 ) -> Result<Vec<RowChange>, AllocError>
     ensures right { IfOk result (λ changes. MakesIndex tab (map column_of columns.now) (map shown_document documents.now) (map shown_change changes.items)) }
     ensures others { IfOk result (λ changes. LeavesOthers tab (map shown_change changes.items)) }
+    ensures names { IfOk result (λ changes. LeavesNames (map shown_change changes.items)) }
     ensures packable { IfOk result (λ changes. length columns.now ≤ 100 → IsTrue (is_sorted int_cmp (map shown_document documents.now)) → All (λ d. IsTrue (is_document (length columns.now) d)) (map shown_document documents.now) → All CanApply changes.items) }
 {
     let index = index_of(alloc, columns, documents)?;
@@ -58,4 +83,88 @@ fn rebuilt(alloc: Global, tab: i64, index: &DocumentIndex) -> Result<Vec<RowChan
     none.put_lists(&mut changes, tab, index)?;
     none.put_sizes(&mut changes, tab, index)?;
     Ok(changes)
+}
+
+// What a table that is listed holds, None where its rows are no content. Its index rows aren't read. The store is only read, whatever is
+// answered.
+fn read_content<S: Alter>(
+    alloc: Global,
+    store: &mut Store<S>,
+    table: &TabRow,
+) -> Result<Option<TableContent>, StoreFault>
+    ensures held { (named : ℤ × List ℕ) → HasCleanDisk (shows S.Store store.new) → IsListed (value_in S.Store store.old) named table.now
+        → IfOk result (λ found. HoldsIfAny named.1 (table_rows named.0 (value_in S.Store store.old)) found) }
+    ensures looks { Looks S.Store store.old store.new }
+{
+    let columns = listed_columns(alloc, table)?;
+    let cells = store.cells(table.id)?;
+    if !is_content(alloc, table, columns.as_slice(), cells.as_slice())? {
+        return Ok(None);
+    }
+    let documents = gathered(alloc, cells)?;
+    Ok(Some(TableContent { columns, documents }))
+}
+
+// The same of the table of an id.
+fn content_under<S: Alter>(
+    alloc: Global,
+    store: &mut Store<S>,
+    id: i64,
+) -> Result<Option<TableContent>, StoreFault>
+    ensures held { (named : ℤ × List ℕ) → HasCleanDisk (shows S.Store store.new) → IsNamed (value_in S.Store store.old) id named
+        → IfOk result (λ found. HoldsIfAny named.1 (table_rows named.0 (value_in S.Store store.old)) found) }
+    ensures looks { Looks S.Store store.old store.new }
+{
+    match listed_table(store, id)? {
+        Some(table) => read_content(alloc, store, &table),
+        None => Ok(None),
+    }
+}
+
+/// The row changes of a Rebuild. The store is only read, whatever is answered.
+pub(crate) fn rebuild_changes<S: Alter>(
+    alloc: Global,
+    store: &mut Store<S>,
+    tables: &[TableInfo],
+    table: &str,
+) -> Result<Vec<RowChange>, Fault>
+    ensures plan { HasCleanDisk (shows S.Store store.new) → (contents : Contents) → AreHeld (value_in S.Store store.old) (map known_info tables.now) contents
+        → PlansFrom contents (plain.Rebuild table.now) (value_in S.Store store.old) (changes_of result) }
+    ensures looks { Looks S.Store store.old store.new }
+{
+    store.is_in_order();
+    let Some(place) = place_of(tables, table) else {
+        return Err(Fault::NoSuchTable);
+    };
+    let id = tables[place].id;
+    let Some(content) = content_under(alloc, store, id)? else {
+        return Err(Fault::Corrupt);
+    };
+    let changes = index_changes(
+        alloc,
+        id,
+        content.columns.as_slice(),
+        content.documents.as_slice(),
+    )?;
+    Ok(changes)
+}
+
+/// Answers a Rebuild. Of the store's index rows none is read.
+pub(crate) fn rebuild_table<S: Alter>(
+    alloc: Global,
+    store: &mut Store<S>,
+    tables: &mut Vec<TableInfo>,
+    table: &str,
+) -> Result<Reply, Fault>
+    ensures { Executes S.Store (with_tables store.old (map known_info tables.old.items)) (plain.Rebuild table.now) (answer_of result) (with_tables store.new (map known_info tables.new.items)) }
+{
+    store.is_in_order();
+    let changes = rebuild_changes(alloc, store, tables.as_slice(), table)?;
+    change_rows(store, changes.as_slice())?;
+    let known = tables.as_slice();
+    if let Some(place) = place_of(known, table) {
+        let id = known[place].id;
+        mark_sound(tables, id);
+    }
+    Ok(Reply::Done)
 }

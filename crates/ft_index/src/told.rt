@@ -3,6 +3,7 @@ ghost use Rattle.std.specs.Prelude.{◌≡◌, ◌<◌, ◌≤◌, map, length, 
 ghost use Rattle.std.specs.List.{insert};
 ghost use Rattle.ft_content.specs.Views.{KnownTable, known_info};
 ghost use Rattle.ft_index.specs.Found.{with_told, without_told};
+ghost use Rattle.ft_index.specs.Rebuild.{sound_if, with_sound};
 
 use ft_content::TableInfo;
 use std::alloc::AllocError;
@@ -39,4 +40,29 @@ pub(crate) fn remove_table(tables: &mut Vec<TableInfo>, id: i64)
     ensures { map known_info tables.new.items ≡ without_told id (map known_info tables.old.items) }
 {
     tables.retain(|table| table.id != id);
+}
+
+// Marks a table sound if it has this id.
+fn mark_if(table: &mut TableInfo, id: i64)
+    ensures { known_info table.new ≡ sound_if id (known_info table.old) }
+{
+    if table.id == id {
+        table.sound = true;
+    }
+}
+
+// Marks the table of an id sound.
+fn mark_among(tables: &mut [TableInfo], id: i64)
+    ensures { map known_info tables.new ≡ with_sound id (map known_info tables.old) }
+{
+    for table in tables.iter_mut() {
+        mark_if(table, id);
+    }
+}
+
+/// Marks the table of an id sound.
+pub(crate) fn mark_sound(tables: &mut Vec<TableInfo>, id: i64)
+    ensures { map known_info tables.new.items ≡ with_sound id (map known_info tables.old.items) }
+{
+    mark_among(tables.as_mut_slice(), id);
 }

@@ -6,7 +6,6 @@ use Rattle.ft_content.specs.declared.table.TableInfo.{TableInfo}
 use Rattle.ft_content.specs.Content.{same_name}
 use Rattle.ft_content.specs.Command as plain
 use Rattle.ft_content.specs.Views.{KnownTable, known_info}
-use Rattle.ft_index.specs.Kept.{is_sound}
 use Rattle.ft_index.specs.Opened.{IsNamed}
 use Rattle.ft_index.proofs.Executing.{executes_same}
 use Rattle.ft_index.specs.Changed.{with_tables}
@@ -29,11 +28,11 @@ returns-then-branch-clause-checks g c =
     let same : s.item ≡ c.index-tables-place.result = same_Some s.item c.index-tables-place.result (sym s.is ∙ read) in
     let fits : FitsSigned w64 c.index-tables-place.result.id = search rules in
     executes_read g.S.Store c.args.store.now c.is_right.new.store tables (plain.Check c.args.table.now) _ c.in_ok-is_right.ensures.looks (λ up first holds.
-        let t = told_here v tables first c.args.table.now (known_info s.item) c.is_in_order.ensures.order holds s.found in
-        let named : IsNamed v (to_z w64 (of_z w64 c.index-tables-place.result.id)) (t.table.0, t.table.1.name) = subst (λ k. IsNamed v k (t.table.0, t.table.1.name)) (ap (λ (i : TableInfo). i.id) same ∙ sym (to_z-of_z fits)) t.named in
-        let read_named = subst (λ (i : TableInfo). IsNamed v (to_z w64 (of_z w64 i.id)) (t.table.0, t.table.1.name)) c.index-tables-place.is named in
-        let right = c.in_ok-is_right.ensures.right (t.table.0, t.table.1.name) t.table.1.held up.clean read_named t.stands in
-        inr (check_right first c.args.table.now t.table t.found (sym right ∙ c.if-branch.true)))
+    let t = told_here v tables first c.args.table.now (known_info s.item) c.is_in_order.ensures.order holds s.found in
+    let named : IsNamed v (to_z w64 (of_z w64 c.index-tables-place.result.id)) (t.table.0, t.table.1.name) = subst (λ k. IsNamed v k (t.table.0, t.table.1.name)) (ap (λ (i : TableInfo). i.id) same ∙ sym (to_z-of_z fits)) t.named in
+    let read_named = subst (λ (i : TableInfo). IsNamed v (to_z w64 (of_z w64 i.id)) (t.table.0, t.table.1.name)) c.index-tables-place.is named in
+    let right = c.in_ok-is_right.ensures.right (t.table.0, t.table.1.name) t.table.1.held up.clean read_named t.stands in
+    inr (check_right first c.args.table.now t.table t.found (sym right ∙ c.if-branch.true)))
 
 pub returns-else-branch-clause-checks : goal.returns-else-branch-clause-checks
 returns-else-branch-clause-checks g c =
@@ -44,8 +43,8 @@ returns-else-branch-clause-checks g c =
     let same : s.item ≡ c.index-tables-place.result = same_Some s.item c.index-tables-place.result (sym s.is ∙ read) in
     let fits : FitsSigned w64 c.index-tables-place.result.id = search rules in
     executes_read g.S.Store c.args.store.now c.is_right.new.store tables (plain.Check c.args.table.now) _ c.in_ok-is_right.ensures.looks (λ up first holds.
-        let t = told_here v tables first c.args.table.now (known_info s.item) c.is_in_order.ensures.order holds s.found in
-        let named : IsNamed v (to_z w64 (of_z w64 c.index-tables-place.result.id)) (t.table.0, t.table.1.name) = subst (λ k. IsNamed v k (t.table.0, t.table.1.name)) (ap (λ (i : TableInfo). i.id) same ∙ sym (to_z-of_z fits)) t.named in
-        let read_named = subst (λ (i : TableInfo). IsNamed v (to_z w64 (of_z w64 i.id)) (t.table.0, t.table.1.name)) c.index-tables-place.is named in
-        let right = c.in_ok-is_right.ensures.right (t.table.0, t.table.1.name) t.table.1.held up.clean read_named t.stands in
-        inr (check_wrong first c.args.table.now t.table t.found (sym right ∙ c.if-branch.false)))
+    let t = told_here v tables first c.args.table.now (known_info s.item) c.is_in_order.ensures.order holds s.found in
+    let named : IsNamed v (to_z w64 (of_z w64 c.index-tables-place.result.id)) (t.table.0, t.table.1.name) = subst (λ k. IsNamed v k (t.table.0, t.table.1.name)) (ap (λ (i : TableInfo). i.id) same ∙ sym (to_z-of_z fits)) t.named in
+    let read_named = subst (λ (i : TableInfo). IsNamed v (to_z w64 (of_z w64 i.id)) (t.table.0, t.table.1.name)) c.index-tables-place.is named in
+    let right = c.in_ok-is_right.ensures.right (t.table.0, t.table.1.name) t.table.1.held up.clean read_named t.stands in
+    inr (check_wrong first c.args.table.now t.table t.found (sym right ∙ c.if-branch.false)))

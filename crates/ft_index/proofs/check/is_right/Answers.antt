@@ -1,8 +1,8 @@
 -- by the table as it is listed, and its rows
-use Rattle.std.proofs.Common.{◌≡◌, Some, None, ap, subst, sym, ◌∙◌, arith, rules, to_z-of_z}
+use Rattle.std.proofs.Common.{◌≡◌, Some, ap, subst, sym, ◌∙◌, arith, rules, to_z-of_z}
 use Rattle.sqlite.specs.State.{HasCleanDisk}
 use Rattle.ft_store.specs.Kept.{shows, value_in}
-use Rattle.ft_index.specs.Opened.{IsFound, IsListed, IsNamed}
+use Rattle.ft_index.specs.Opened.{IsFound, IsListed}
 use Rattle.ft_index.proofs.HeldLemmas.{held_once}
 use Rattle.ft_index.proofs.StandingReads.{looked, marked_so}
 use Rattle.ft_index.specs.Kept.{is_sound, Stands}

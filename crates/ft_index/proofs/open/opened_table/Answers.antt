@@ -1,7 +1,6 @@
 -- its mark is how its rows stand
 use Rattle.std.proofs.Common.{FitsSigned, refl, rules, to_z-of_z, w64}
 use Rattle.ft_store.specs.Kept.{value_in}
-use Rattle.ft_content.specs.Views.{known_info}
 use Rattle.ft_index.proofs.StandingReads.{marked}
 use Rattle.ft_index.proofs.open.opened_table.Goals as goal
 

@@ -5,9 +5,8 @@ use Rattle.std.proofs.lemmas.Iterator.Adapters.{YieldsList-from_vec}
 use Rattle.std.proofs.lemmas.Iterator.Consumers.{YieldsList-end}
 use Rattle.sqlite.specs.State.{HasCleanDisk}
 use Rattle.ft_store.specs.Kept.{shows, value_in}
-use Rattle.ft_store.specs.Shown.{shown_table, table_listed}
+use Rattle.ft_store.specs.Shown.{shown_table}
 use Rattle.ft_content.specs.Views.{known_info}
-use Rattle.ft_index.specs.Opened.{IsMarked, AreMarked}
 use Rattle.ft_index.proofs.StandingReads.{looked, looks_then}
 use Rattle.ft_index.proofs.OpenedTables.{IsMarkedRow, AreMarkedRows, one_marked_more, are_marked}
 use Rattle.ft_index.proofs.open.opened_tables.Goals as goal

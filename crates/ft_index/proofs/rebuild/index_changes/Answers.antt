@@ -1,9 +1,9 @@
 use Rattle.std.proofs.Common.{map, sym, subst, ◌∙◌, to_z-of_z}
 use Rattle.std.proofs.lemmas.List.{length-map}
 use Rattle.ft_content.specs.Views.{column_of}
-use Rattle.ft_index.specs.Rebuild.{shown_document, MakesIndex, LeavesOthers}
+use Rattle.ft_index.specs.Rebuild.{shown_document, MakesIndex, LeavesOthers, LeavesNames}
 use Rattle.ft_index.specs.RewriteRows.{rebuild_changes, lists_of, sizes_of}
-use Rattle.ft_index.proofs.RebuildLemmas.{makes_index, leaves_others, rebuild_packable}
+use Rattle.ft_index.proofs.RebuildLemmas.{makes_index, leaves_others, leaves_names, rebuild_packable}
 use Rattle.ft_index.proofs.rebuild.index_changes.Goals as goal
 
 pub returns : goal.returns
@@ -16,5 +16,6 @@ returns c =
     record {
       right = subst (MakesIndex c.args.tab columns documents) (sym is) (makes_index c.args.tab columns documents);
       others = subst (LeavesOthers c.args.tab) (sym is) (leaves_others c.args.tab (lists_of columns documents) (sizes_of columns documents));
+      names = subst LeavesNames (sym is) (leaves_names c.args.tab (lists_of columns documents) (sizes_of columns documents));
       packable = λ few rising fits. rebuild_packable c.args.tab columns documents c.in_ok-changes.changes.items is (rw width few) rising (rw width fits) c.in_ok-index.ensures.numbers;
     }

@@ -1,6 +1,5 @@
 -- by the sizes and entries that are read
-use Rattle.std.proofs.Common.{◌≡◌, Err, Vec, Global, Result, map, sym, ap, subst, ◌∙◌, rules, arith, to_z-of_z, to_z, of_z, w64}
-use Rattle.std.specs.Prelude.{IsTrue}
+use Rattle.std.proofs.Common.{◌≡◌, sym, ap, subst, ◌∙◌, rules, arith, to_z-of_z}
 use Rattle.sqlite.specs.State.{HasCleanDisk}
 use Rattle.sqlite.specs.Effect.{Database}
 use Rattle.ft_store.specs.Kept.{shows, value_in}

@@ -1,5 +1,5 @@
 -- among the tables that are listed
-use Rattle.std.proofs.Common.{Some, ap, subst, sym, ◌∙◌, to_z-of_z}
+use Rattle.std.proofs.Common.{ap, subst, sym, ◌∙◌, to_z-of_z}
 use Rattle.std.specs.List.{find}
 use Rattle.std.specs.Ordering.{int_eq}
 use Rattle.ft_store.specs.declared.rows.TabRow.{TabRow}

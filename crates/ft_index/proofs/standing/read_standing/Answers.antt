@@ -1,13 +1,12 @@
 -- by the cells that are read, and then by the index rows
-use Rattle.std.proofs.Common.{◌≡◌, ◌≢◌, ◌<◌, FitsSigned, map, length, sym, ap, subst, ◌∙◌, rules, arith, to_z-of_z, w64}
-use Rattle.std.specs.Prelude.{IsTrue, string_bytes}
+use Rattle.std.proofs.Common.{◌≡◌, ◌≢◌, FitsSigned, map, length, sym, ap, subst, ◌∙◌, rules, arith, to_z-of_z, w64}
+use Rattle.std.specs.Prelude.{string_bytes}
 use Rattle.std.proofs.lemmas.List.{length-map}
 use Rattle.sqlite.specs.State.{HasCleanDisk}
 use Rattle.ft_store.specs.Kept.{shows, value_in}
 use Rattle.ft_content.specs.Views.{column_of}
-use Rattle.ft_content.specs.Index.{IndexRows, index_rows}
-use Rattle.ft_index.specs.DocumentsRead.{Looks}
-use Rattle.ft_index.specs.Standing.{AreContent, HaveContent, shown_row, listed_rows, columns_in}
+use Rattle.ft_content.specs.Index.{index_rows}
+use Rattle.ft_index.specs.Standing.{AreContent, HaveContent, shown_row, listed_rows}
 use Rattle.ft_index.specs.Tables.{table_rows, table_index}
 use Rattle.ft_index.proofs.StandingReads.{looked, looks_then, CellsRead, listed, stands_loose, stands_sound, stands_stale, have_content, have_columns, are_listed, are_named}
 use Rattle.ft_index.proofs.standing.read_standing.Goals as goal

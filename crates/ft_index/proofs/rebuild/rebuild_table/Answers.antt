@@ -1,0 +1,95 @@
+-- by the plan, and what the store does
+use Rattle.std.proofs.Common.{rules, ◌≡◌, ◌⊎◌, List, map, true, Ok, Err, None, Result, Vec, Global, refl, sym, ap, subst, ◌∙◌, FitsSigned, w64, to_z, of_z, to_z-of_z}
+use Rattle.std.specs.Prelude.{is_ok}
+use Rattle.std.proofs.lemmas.Option.{slice_get_read, slice_get_within, same_Some}
+use Rattle.sqlite.specs.State.{HasCleanDisk}
+use Rattle.ft_store.specs.Changes.{shown_change}
+use Rattle.ft_store.specs.Kept.{shows, value_in}
+use Rattle.ft_store.specs.declared.rows.RowChange.{RowChange}
+use Rattle.ft_content.specs.declared.fault.Fault.{Fault}
+use Rattle.ft_content.specs.declared.fault.Fault.TheVariants as faults
+use Rattle.ft_content.specs.declared.command.Reply.{Reply}
+use Rattle.ft_content.specs.declared.table.TableInfo.{TableInfo}
+use Rattle.ft_content.specs.Content.{same_name}
+use Rattle.ft_content.specs.Command as plain
+use Rattle.ft_content.specs.Deserved.{Contents}
+use Rattle.ft_content.specs.Views.{KnownTable, known_info, answer_of}
+use Rattle.ft_index.specs.Found.{known_named}
+use Rattle.ft_index.specs.Kept.{AreHeld, Executes, PlansFrom}
+use Rattle.ft_index.specs.Planned.{changes_of}
+use Rattle.ft_index.specs.Rebuild.{with_sound}
+use Rattle.ft_index.specs.Changed.{Changed, with_tables}
+use Rattle.ft_index.proofs.FoundLemmas.{placed, unplaced}
+use Rattle.ft_index.proofs.CheckLemmas.{told_here}
+use Rattle.ft_index.proofs.RebuildPlans.{refused_plan, refused_after, executes_after, told_after, rebuild_missing, rebuild_reply}
+use Rattle.ft_index.proofs.rebuild.rebuild_table.Goals as goal
+use Rattle.ft_index.proofs.rebuild.rebuild_table.Goals.{in-Some, in_default}
+
+pub returns-in_err-changes : goal.returns-in_err-changes
+returns-in_err-changes g c =
+    let fault : Fault = c.in_err-changes.field-0.0 in
+    let is : c.from_residual.result ≡ Err fault = search rules in
+    let planned : c.rebuild_changes.result ≡ Err fault = search rules in
+    let tables = map known_info c.args.tables.now.items in
+    let command = plain.Rebuild c.args.table.now in
+    let value = value_in g.S.Store c.args.store.now in
+    subst (λ (a : Result Reply Fault). Executes g.S.Store (with_tables c.args.store.now tables) command (answer_of a) (with_tables c.rebuild_changes.new.store tables)) (sym is)
+    (refused_plan g.S.Store c.args.store.now c.rebuild_changes.new.store tables command fault c.rebuild_changes.ensures.looks
+    (λ clean contents held. subst (λ (r : Result (Vec RowChange Global) Fault). PlansFrom contents command value (changes_of r)) planned
+    (c.rebuild_changes.ensures.plan clean contents (subst (λ ts. AreHeld value (map known_info ts) contents) (sym c.as_slice.ensures.value) held))))
+
+pub returns-in_err-change_rows : goal.returns-in_err-change_rows
+returns-in_err-change_rows g c =
+    let fault : Fault = c.in_err-change_rows.field-0.0 in
+    let is : c.from_residual-in_err-change_rows.result ≡ Err fault = search rules in
+    let refused : c.change_rows.result ≡ Err fault = search rules in
+    let tables = map known_info c.args.tables.now.items in
+    let command = plain.Rebuild c.args.table.now in
+    let outside : (fault ≡ faults.Store) ⊎ (fault ≡ faults.Memory) = search rules in
+    let mid = c.rebuild_changes.new.store in
+    let changed = subst (λ (r : Result (Unit {0}) Fault). Changed g.S.Store mid c.change_rows.new.store (map shown_change c.as_slice-2.result.now) (is_ok r)) refused c.change_rows.ensures.changed in
+    subst (λ (a : Result Reply Fault). Executes g.S.Store (with_tables c.args.store.now tables) command (answer_of a) (with_tables c.change_rows.new.store tables)) (sym is)
+    (refused_after g.S.Store c.args.store.now mid c.change_rows.new.store tables (map shown_change c.as_slice-2.result.now) command c.rebuild_changes.ensures.looks fault outside changed)
+
+pub returns : goal.returns
+returns g c =
+    let tables = map known_info c.args.tables.now.items in
+    let command = plain.Rebuild c.args.table.now in
+    let value = value_in g.S.Store c.args.store.now in
+    let mid = c.rebuild_changes.new.store in
+    let changes = map shown_change c.in_ok-changes.changes.items in
+    let planned : c.rebuild_changes.result ≡ Ok c.in_ok-changes.changes = search rules in
+    let done : c.change_rows.result ≡ Ok tt = search rules in
+    let changed : Changed g.S.Store mid c.change_rows.new.store changes true =
+    subst (λ (cs : List RowChange). Changed g.S.Store mid c.change_rows.new.store (map shown_change cs) true) c.as_slice-2.ensures.value
+    (subst (λ (r : Result (Unit {0}) Fault). Changed g.S.Store mid c.change_rows.new.store (map shown_change c.as_slice-2.result.now) (is_ok r)) done c.change_rows.ensures.changed) in
+    let plans : HasCleanDisk (shows g.S.Store mid) → (contents : Contents) → AreHeld value tables contents → PlansFrom contents command value (Ok changes) =
+    λ clean contents held. subst (λ (r : Result (Vec RowChange Global) Fault). PlansFrom contents command value (changes_of r)) planned
+    (c.rebuild_changes.ensures.plan clean contents (subst (λ ts. AreHeld value (map known_info ts) contents) (sym c.as_slice.ensures.value) held)) in
+    elim c.match-place_of.branch [
+      | in-Some w ↦
+          let here : c.as_slice-known.result.now ≡ c.args.tables.now.items = c.as_slice-known.ensures.value in
+          let s = placed known_info (λ (t : KnownTable). same_name t.name c.args.table.now) c.as_slice-known.result.now w.in-Some.place (sym c.place_of.ensures ∙ w.in-Some.is) in
+          let named = ap (λ ts. known_named (map known_info ts) c.args.table.now) (sym here) ∙ s.found in
+          let fits : FitsSigned w64 w.index-known-place.result.id = search rules in
+          let read = slice_get_read c.as_slice-known.result.now _ w.in-Some.place w.index-known-place.result refl (slice_get_within c.as_slice-known.result.now w.in-Some.place s.item s.is) w.index-known-place.is in
+          let same : w.index-known-place.result ≡ s.item = same_Some w.index-known-place.result s.item (sym read ∙ s.is) in
+          let told : map known_info c.match-place_of.tables.items ≡ with_sound s.item.id tables =
+          ap (λ (v : Vec TableInfo Global). map known_info v.items) w.tables-is ∙ w.mark_sound.ensures
+          ∙ ap (λ (t : TableInfo). with_sound (to_z w64 (of_z w64 t.id)) tables) (sym w.index-known-place.is)
+          ∙ ap (λ k. with_sound k tables) (to_z-of_z fits)
+          ∙ ap (λ (t : TableInfo). with_sound t.id tables) same in
+          subst (λ (ts : List KnownTable). Executes g.S.Store (with_tables c.args.store.now tables) command (Ok plain.Done) (with_tables c.change_rows.new.store ts)) (sym told)
+          (executes_after g.S.Store c.args.store.now mid c.change_rows.new.store tables changes command c.rebuild_changes.ensures.looks (with_sound s.item.id tables) plans changed
+          (λ contents held fine. told_after value tables contents c.args.table.now (known_info s.item) (told_here value tables contents c.args.table.now (known_info s.item) c.is_in_order.ensures.order held named) held.told fine)
+          (λ contents. rebuild_reply contents c.args.table.now))
+      | in_default w ↦
+          let here : c.as_slice-known.result.now ≡ c.args.tables.now.items = c.as_slice-known.ensures.value in
+          let none : c.place_of.result ≡ None = search rules in
+          let named = ap (λ ts. known_named (map known_info ts) c.args.table.now) (sym here) ∙ unplaced known_info (λ (t : KnownTable). same_name t.name c.args.table.now) c.as_slice-known.result.now (sym c.place_of.ensures ∙ none) in
+          let told : map known_info c.match-place_of.tables.items ≡ tables = ap (λ (v : Vec TableInfo Global). map known_info v.items) w.tables-is in
+          subst (λ (ts : List KnownTable). Executes g.S.Store (with_tables c.args.store.now tables) command (Ok plain.Done) (with_tables c.change_rows.new.store ts)) (sym told)
+          (executes_after g.S.Store c.args.store.now mid c.change_rows.new.store tables changes command c.rebuild_changes.ensures.looks tables plans changed
+          (λ contents held fine. absurd (let no = sym fine ∙ rebuild_missing contents tables c.args.table.now held.told named in cc))
+          (λ contents. rebuild_reply contents c.args.table.now))
+    ]
