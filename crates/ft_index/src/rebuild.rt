@@ -10,6 +10,7 @@ ghost use Rattle.ft_content.specs.Command as plain;
 ghost use Rattle.ft_content.specs.Views.{column_of, known_info, answer_of};
 ghost use Rattle.ft_content.specs.Deserved.{Contents};
 ghost use Rattle.ft_index.specs.Changed.{with_tables};
+ghost use Rattle.ft_index.specs.Crashes.{CommandSurvives};
 ghost use Rattle.ft_index.specs.DocumentsRead.{Looks};
 ghost use Rattle.ft_index.specs.Kept.{AreHeld, PlansFrom, Executes};
 ghost use Rattle.ft_index.specs.Opened.{IsListed, IsNamed};
@@ -95,6 +96,7 @@ fn read_content<S: Alter>(
     ensures held { (named : ℤ × List ℕ) → HasCleanDisk (shows S.Store store.new) → IsListed (value_in S.Store store.old) named table.now
         → IfOk result (λ found. HoldsIfAny named.1 (table_rows named.0 (value_in S.Store store.old)) found) }
     ensures looks { Looks S.Store store.old store.new }
+    ensures live { HasCleanDisk (shows S.Store store.new) → OnOk result (IsTrue (shows S.Store store.old).is_open → IsTrue (shows S.Store store.new).is_open) }
 {
     let columns = listed_columns(alloc, table)?;
     let cells = store.cells(table.id)?;
@@ -114,6 +116,7 @@ fn content_under<S: Alter>(
     ensures held { (named : ℤ × List ℕ) → HasCleanDisk (shows S.Store store.new) → IsNamed (value_in S.Store store.old) id named
         → IfOk result (λ found. HoldsIfAny named.1 (table_rows named.0 (value_in S.Store store.old)) found) }
     ensures looks { Looks S.Store store.old store.new }
+    ensures live { HasCleanDisk (shows S.Store store.new) → OnOk result (IsTrue (shows S.Store store.old).is_open → IsTrue (shows S.Store store.new).is_open) }
 {
     match listed_table(store, id)? {
         Some(table) => read_content(alloc, store, &table),
@@ -131,6 +134,7 @@ pub(crate) fn rebuild_changes<S: Alter>(
     ensures plan { HasCleanDisk (shows S.Store store.new) → (contents : Contents) → AreHeld (value_in S.Store store.old) (map known_info tables.now) contents
         → PlansFrom contents (plain.Rebuild table.now) (value_in S.Store store.old) (changes_of result) }
     ensures looks { Looks S.Store store.old store.new }
+    ensures live { HasCleanDisk (shows S.Store store.new) → OnOk result (IsTrue (shows S.Store store.old).is_open → IsTrue (shows S.Store store.new).is_open) }
 {
     store.is_in_order();
     let Some(place) = place_of(tables, table) else {
@@ -156,7 +160,8 @@ pub(crate) fn rebuild_table<S: Alter>(
     tables: &mut Vec<TableInfo>,
     table: &str,
 ) -> Result<Reply, Fault>
-    ensures { Executes S.Store (with_tables store.old (map known_info tables.old.items)) (plain.Rebuild table.now) (answer_of result) (with_tables store.new (map known_info tables.new.items)) }
+    ensures executes { Executes S.Store (with_tables store.old (map known_info tables.old.items)) (plain.Rebuild table.now) (answer_of result) (with_tables store.new (map known_info tables.new.items)) }
+    ensures crash { CommandSurvives S.Store (with_tables store.old (map known_info tables.old.items)) (plain.Rebuild table.now) (with_tables store.new (map known_info tables.new.items)) }
 {
     store.is_in_order();
     let changes = rebuild_changes(alloc, store, tables.as_slice(), table)?;

@@ -2,7 +2,9 @@
 use Rattle.std.proofs.Common.{rules, ◌≡◌, ◌⊎◌, List, map, true, Ok, Err, None, Result, Vec, Global, refl, sym, ap, subst, ◌∙◌, FitsSigned, w64, to_z, of_z, to_z-of_z}
 use Rattle.std.specs.Prelude.{is_ok}
 use Rattle.std.proofs.lemmas.Option.{slice_get_read, slice_get_within, same_Some}
-use Rattle.sqlite.specs.State.{HasCleanDisk}
+use Rattle.sqlite.specs.State.{HasCleanDisk, Survives}
+use Rattle.ft_index.specs.Written.{PlansIn}
+use Rattle.ft_index.proofs.Crashing.{CommitsRows, crash_read, crash_written}
 use Rattle.ft_store.specs.Changes.{shown_change}
 use Rattle.ft_store.specs.Kept.{shows, value_in}
 use Rattle.ft_store.specs.declared.rows.RowChange.{RowChange}
@@ -25,8 +27,8 @@ use Rattle.ft_index.proofs.RebuildPlans.{refused_plan, refused_after, executes_a
 use Rattle.ft_index.proofs.rebuild.rebuild_table.Goals as goal
 use Rattle.ft_index.proofs.rebuild.rebuild_table.Goals.{in-Some, in_default}
 
-pub returns-in_err-changes : goal.returns-in_err-changes
-returns-in_err-changes g c =
+pub returns-in_err-changes-clause-executes : goal.returns-in_err-changes-clause-executes
+returns-in_err-changes-clause-executes g c =
     let fault : Fault = c.in_err-changes.field-0.0 in
     let is : c.from_residual.result ≡ Err fault = search rules in
     let planned : c.rebuild_changes.result ≡ Err fault = search rules in
@@ -38,8 +40,8 @@ returns-in_err-changes g c =
     (λ clean contents held. subst (λ (r : Result (Vec RowChange Global) Fault). PlansFrom contents command value (changes_of r)) planned
     (c.rebuild_changes.ensures.plan clean contents (subst (λ ts. AreHeld value (map known_info ts) contents) (sym c.as_slice.ensures.value) held))))
 
-pub returns-in_err-change_rows : goal.returns-in_err-change_rows
-returns-in_err-change_rows g c =
+pub returns-in_err-change_rows-clause-executes : goal.returns-in_err-change_rows-clause-executes
+returns-in_err-change_rows-clause-executes g c =
     let fault : Fault = c.in_err-change_rows.field-0.0 in
     let is : c.from_residual-in_err-change_rows.result ≡ Err fault = search rules in
     let refused : c.change_rows.result ≡ Err fault = search rules in
@@ -51,8 +53,8 @@ returns-in_err-change_rows g c =
     subst (λ (a : Result Reply Fault). Executes g.S.Store (with_tables c.args.store.now tables) command (answer_of a) (with_tables c.change_rows.new.store tables)) (sym is)
     (refused_after g.S.Store c.args.store.now mid c.change_rows.new.store tables (map shown_change c.as_slice-2.result.now) command c.rebuild_changes.ensures.looks fault outside changed)
 
-pub returns : goal.returns
-returns g c =
+pub returns-clause-executes : goal.returns-clause-executes
+returns-clause-executes g c =
     let tables = map known_info c.args.tables.now.items in
     let command = plain.Rebuild c.args.table.now in
     let value = value_in g.S.Store c.args.store.now in
@@ -93,3 +95,38 @@ returns g c =
           (λ contents held fine. absurd (let no = sym fine ∙ rebuild_missing contents tables c.args.table.now held.told named in cc))
           (λ contents. rebuild_reply contents c.args.table.now))
     ]
+
+pub returns-in_err-changes-clause-crash : goal.returns-in_err-changes-clause-crash
+returns-in_err-changes-clause-crash g c =
+    let tables = map known_info c.args.tables.now.items in
+    crash_read g.S.Store c.args.store.now c.rebuild_changes.new.store tables tables (plain.Rebuild c.args.table.now) c.rebuild_changes.ensures.looks
+
+pub returns-in_err-change_rows-clause-crash : goal.returns-in_err-change_rows-clause-crash
+returns-in_err-change_rows-clause-crash g c =
+    let tables = map known_info c.args.tables.now.items in
+    let after = tables in
+    let command = plain.Rebuild c.args.table.now in
+    let value = value_in g.S.Store c.args.store.now in
+    let mid = c.rebuild_changes.new.store in
+    let changes = c.in_ok-changes.changes in
+    let planned : c.rebuild_changes.result ≡ Ok changes = search rules in
+    let plans : PlansIn g.S.Store tables c.args.store.now mid command (Ok changes) =
+    λ up contents held. subst (λ (r : Result (Vec RowChange Global) Fault). PlansFrom contents command value (changes_of r)) planned
+    (c.rebuild_changes.ensures.plan up.clean contents (subst (λ ts. AreHeld value (map known_info ts) contents) (sym c.as_slice.ensures.value) held)) in
+    crash_written g.S.Store c.args.store.now mid c.change_rows.new.store tables after command changes c.rebuild_changes.ensures.looks c.in_ok-changes.ensures.live plans
+    (subst (λ (cs : List RowChange). Survives (shows g.S.Store mid) (shows g.S.Store c.change_rows.new.store) (CommitsRows g.S.Store mid (map shown_change cs))) c.as_slice-2.ensures.value c.change_rows.ensures.crash)
+
+pub returns-clause-crash : goal.returns-clause-crash
+returns-clause-crash g c =
+    let tables = map known_info c.args.tables.now.items in
+    let after = map known_info c.match-place_of.tables.items in
+    let command = plain.Rebuild c.args.table.now in
+    let value = value_in g.S.Store c.args.store.now in
+    let mid = c.rebuild_changes.new.store in
+    let changes = c.in_ok-changes.changes in
+    let planned : c.rebuild_changes.result ≡ Ok changes = search rules in
+    let plans : PlansIn g.S.Store tables c.args.store.now mid command (Ok changes) =
+    λ up contents held. subst (λ (r : Result (Vec RowChange Global) Fault). PlansFrom contents command value (changes_of r)) planned
+    (c.rebuild_changes.ensures.plan up.clean contents (subst (λ ts. AreHeld value (map known_info ts) contents) (sym c.as_slice.ensures.value) held)) in
+    crash_written g.S.Store c.args.store.now mid c.change_rows.new.store tables after command changes c.rebuild_changes.ensures.looks c.in_ok-changes.ensures.live plans
+    (subst (λ (cs : List RowChange). Survives (shows g.S.Store mid) (shows g.S.Store c.change_rows.new.store) (CommitsRows g.S.Store mid (map shown_change cs))) c.as_slice-2.ensures.value c.change_rows.ensures.crash)
