@@ -1,8 +1,8 @@
 -- How many rows searches read. The two messages are those of the SQLite document "SQLite FTS3 and FTS4 Extensions", "The Offsets
 -- Function"; the searches are own examples.
-use Rattle.std.specs.Prelude.{◌≡◌, ℕ, true, List, [], ◌∷◌, Option, Some, None, ℤ, pos, codes, refl}
+use Rattle.std.specs.Prelude.{◌≡◌, ℕ, true, List, [], ◌∷◌, Option, Some, None, pos, codes, refl}
 use Rattle.ft_query.specs.Reads.{query_of}
-use Rattle.ft_store.specs.Store.{Cell, Text}
+use Rattle.ft_store.specs.Store.{Text}
 use Rattle.ft_content.specs.Content.{Content}
 use Rattle.ft_content.specs.Command.{Matching, AllColumns, Named, OffsetsOf, Items, Counted, Listed}
 use Rattle.ft_content.specs.Answer.{reading, chosen}
