@@ -1,0 +1,9 @@
+pub mod Words
+pub mod Views
+pub mod Reading
+pub mod Values
+pub mod Create
+pub mod Insert
+pub mod Change
+pub mod Select
+pub mod Statements
