@@ -1,1 +1,3 @@
 pub mod ReadingLemmas
+pub mod CreateLemmas
+pub mod EachLemmas

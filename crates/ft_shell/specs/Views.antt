@@ -1,8 +1,13 @@
 -- Words, and what was read of them, as the code holds them.
-use Rattle.std.specs.Prelude.{List, map, Option, option_map, Bor}
+use Rattle.std.specs.Prelude.{ℕ, Bool, List, map, Option, option_map, string_bytes, String, Vec}
+use Rattle.std.specs.declared.alloc.Global.{Global}
+use Rattle.std.specs.Borrow.{Bor}
 use Rattle.ft_shell.specs.declared.words.Piece.{Piece}
+use Rattle.ft_shell.specs.declared.create.Argument.{Argument}
+use Rattle.ft_shell.specs.declared.create.Argument.TheVariants as arguments
 use Rattle.ft_shell.specs.Words.{Token}
 use Rattle.ft_shell.specs.Reading.{Reads}
+use Rattle.ft_shell.specs.Create as forms
 
 abbrev pub seen : Piece → Token
 seen p = record { kind = p.kind; text = p.text.now }
@@ -24,3 +29,25 @@ two_runs read = option_map (λ r. (plain r.0.now, plain r.1.now)) read
 
 abbrev pub runs : List (Bor (List Piece)) → List (List Token)
 runs parts = map (λ p. plain p.now) parts
+
+-- a sign, and the words that are left
+abbrev pub signed_words : Bool × Bor (List Piece) → Bool × List Token
+signed_words s = (s.0, plain s.1.now)
+
+-- whether words stand there, and the words that are left
+abbrev pub optional_words : Bool × Bor (List Piece) → Bool × List Token
+optional_words s = (s.0, plain s.1.now)
+
+abbrev pub argument_as : Argument → forms.Argument
+argument_as (arguments.Setting name value) = forms.Setting (string_bytes name) (string_bytes value)
+argument_as (arguments.Column name) = forms.Column (string_bytes name)
+
+abbrev pub settings_as : {A : Type 0} → Vec (String Global × String Global) A → List (List ℕ × List ℕ)
+settings_as settings = map (λ s. (string_bytes s.0, string_bytes s.1)) settings.items
+
+abbrev pub texts_of : {A : Type 0} → Vec (String Global) A → List (List ℕ)
+texts_of texts = map string_bytes texts.items
+
+-- a list of names, if there is one
+abbrev pub listed : {A : Type 0} → Option (Vec (String Global) A) → Option (List (List ℕ))
+listed names = option_map texts_of names

@@ -1,5 +1,6 @@
 // Reading words from the front of a statement.
-ghost use Rattle.std.specs.Prelude.{◌≡◌, ◌<◌, ◌-◌, ◌^◌, string_bytes, option_map, IfOk};
+ghost use Rattle.std.specs.Prelude.{◌≡◌, ◌≤◌, ◌+◌, ◌==◌, ◌&&◌, codes, ◌<◌, ◌++◌, ◌∷◌, [], OnOk, ◌-◌, ◌^◌, string_bytes, option_map, IfOk};
+ghost use Rattle.ft_shell.specs.Words.{is_symbol};
 ghost use Rattle.ft_shell.specs.Reading as forms;
 ghost use Rattle.ft_shell.specs.Insert as inserts;
 ghost use Rattle.ft_shell.specs.Views.{seen, plain, left, read_as, two_runs, runs};
@@ -76,7 +77,8 @@ fn closed<'a>(words: &'a [Piece<'a>]) -> Option<(&'a [Piece<'a>], &'a [Piece<'a>
 // How many parentheses are open behind a word.
 fn depth_after(depth: usize, word: &Piece<'_>) -> usize
     requires { depth < 2 ^ 64 - 1 }
-    ensures { result ≡ forms.depth_after depth (seen word.now) }
+    ensures depth { result ≡ forms.depth_after depth (seen word.now) }
+    ensures most { result ≤ depth + 1 }
 {
     if is_symbol(word, "(") {
         depth + 1
@@ -96,6 +98,22 @@ pub(crate) fn parenthesized<'a>(
     closed(symbol_at(words, "(")?)
 }
 
+// Whether a word is a comma that stands in no parentheses.
+fn ends_part(depth: usize, word: &Piece<'_>) -> bool
+    ensures { result ≡ (is_symbol (codes ",") (seen word.now) && depth == 0) }
+{
+    is_symbol(word, ",") && depth == 0
+}
+
+// Puts a part behind others.
+#[tactic(auto, using(crate::proofs::ReadingLemmas::runs_more))]
+fn push_part<'a>(parts: &mut Vec<&'a [Piece<'a>]>, part: &'a [Piece<'a>]) -> Result<(), AllocError>
+    ensures { OnOk result (runs parts.new.items ≡ runs parts.old.items ++ plain part.now ∷ []) }
+{
+    parts.push(part)?;
+    Ok(())
+}
+
 // The parts between commas that stand in no parentheses.
 pub(crate) fn parts<'a>(
     alloc: Global,
@@ -107,13 +125,13 @@ pub(crate) fn parts<'a>(
     let mut start = 0;
     let mut depth = 0usize;
     for (i, word) in words.iter().enumerate() {
-        if is_symbol(word, ",") && depth == 0 {
-            parts.push(&words[start..i])?;
+        if ends_part(depth, word) {
+            push_part(&mut parts, &words[start..i])?;
             start = i + 1;
         }
         depth = depth_after(depth, word);
     }
-    parts.push(&words[start..])?;
+    push_part(&mut parts, &words[start..])?;
     Ok(parts)
 }
 

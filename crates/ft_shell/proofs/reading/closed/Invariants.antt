@@ -5,9 +5,9 @@ use Rattle.ft_shell.specs.Views.{plain}
 use Rattle.ft_shell.proofs.ReadingLemmas.{all_onto}
 use Rattle.ft_shell.proofs.reading.closed.Given as goal
 
-pub record Kept (same bound : Type 0) : Type 0 where
-  pub same : same
-  pub bound : bound
+pub record Kept (is_same is_bound : Type 0) : Type 0 where
+  pub same : is_same
+  pub bound : is_bound
 
 abbrev pub invariant-loop-i : goal.invariant-loop-i
 invariant-loop-i l = Kept

@@ -6,10 +6,10 @@ use Rattle.ft_shell.specs.Views.{plain, runs}
 use Rattle.ft_shell.proofs.ReadingLemmas.{all_onto_first}
 use Rattle.ft_shell.proofs.reading.parts.Given as goal
 
-pub record Kept (same start depth : Type 0) : Type 0 where
-  pub same : same
-  pub start : start
-  pub depth : depth
+pub record Kept (is_same is_start is_depth : Type 0) : Type 0 where
+  pub same : is_same
+  pub start : is_start
+  pub depth : is_depth
 
 abbrev pub invariant-loop-i : goal.invariant-loop-i
 invariant-loop-i l = Kept
