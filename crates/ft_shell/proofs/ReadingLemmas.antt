@@ -1,9 +1,10 @@
 -- Words read one after the other.
 use Rattle.std.proofs.Common.{◌≡◌, ℕ, zero, suc, ◌+◌, ◌-◌, ◌<◌, ◌≤◌, Bool, true, false, cond, ◌&&◌, ◌==◌, List, [], ◌∷◌, ◌++◌, map, length, drop, take, get_or, Option, Some, None, refl, sym, ap, subst, ◌∙◌, arith, codes, append_assoc, slice_range}
 use Rattle.std.specs.List.{onto_first}
-use Rattle.std.proofs.lemmas.List.{drop_more, take_more, drop_all, map-append, get_or-drop, length-drop}
-use Rattle.ft_shell.specs.Words.{Token, is_symbol}
-use Rattle.ft_shell.specs.Reading.{Reads, closed, onto_read, depth_after, parts_at}
+use Rattle.std.specs.Prelude.{slice_get}
+use Rattle.std.proofs.lemmas.List.{drop_more, take_more, drop_all, map-append, get_or-drop, length-drop, length-map, take-map}
+use Rattle.ft_shell.specs.Words.{Token, is_symbol, all_but_last}
+use Rattle.ft_shell.specs.Reading.{◌>>=◌, Reads, closed, onto_read, depth_after, parts_at, front_and_last}
 use Rattle.ft_shell.specs.declared.words.Piece.{Piece}
 use Rattle.std.specs.Borrow.{Bor}
 use Rattle.ft_shell.specs.Views.{seen, plain, runs}
@@ -82,3 +83,18 @@ last_part found ps start i depth h =
     ap (λ n. found ++ plain (slice_range ps start n) ∷ []) (sym h)
     ∙ ap (λ parts. found ++ parts) (sym (onto_empty (plain (slice_range ps start i)) []))
     ∙ ap (λ qs. found ++ all_onto_first (plain (slice_range ps start i)) (parts_at depth (plain qs))) (sym (drop_all i ps (omega (arith, h))))
+
+-- ---- the last part
+
+pub runs_front : (ps : List (Bor (List Piece))) → all_but_last (runs ps) ≡ runs (take (length ps - 1) ps)
+runs_front ps = ap (λ n. take (n - 1) (runs ps)) (length-map ps (λ p. plain p.now)) ∙ take-map (λ p. plain p.now) (length ps - 1) ps
+
+runs_at : (ps : List (Bor (List Piece))) (i : ℕ) (d : Bor (List Piece)) → i < length ps → slice_get (runs ps) i ≡ Some (plain (get_or ps i d).now)
+runs_at [] i d h = absurd (omega (arith, h))
+runs_at (p ∷ ps) zero d h = refl
+runs_at (p ∷ ps) (suc i) d h = runs_at ps i d (omega (arith, h))
+
+pub last_split : (ps : List (Bor (List Piece))) (d : Bor (List Piece)) → 1 ≤ length ps → front_and_last (runs ps) ≡ Some (runs (take (length ps - 1) ps), plain (get_or ps (length ps - 1) d).now)
+last_split ps d h =
+    let last = ap (λ n. slice_get (runs ps) (n - 1)) (length-map ps (λ p. plain p.now)) ∙ runs_at ps (length ps - 1) d (omega (arith, h)) in
+    λ j. last j >>= λ part. Some (runs_front ps j, part)

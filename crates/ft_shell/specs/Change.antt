@@ -7,7 +7,7 @@ use Rattle.std.specs.Option.{option_or}
 use Rattle.ft_content.specs.Content.{Cell}
 use Rattle.ft_content.specs.Command.{Command, Filter, Everything, OfDocid, Matching, Update, Delete}
 use Rattle.ft_shell.specs.Words.{Token}
-use Rattle.ft_shell.specs.Reading.{Reads, ◌>>=◌, whole, name_at, literal_at, keyword_at, keywords_at, symbol_at, parts}
+use Rattle.ft_shell.specs.Reading.{Reads, ◌>>=◌, whole, name_at, literal_at, keyword_at, keywords_at, symbol_at, parts, with_last}
 use Rattle.ft_shell.specs.Values.{integer_at, value_at}
 
 -- the words behind one of the two names of the docid
@@ -28,17 +28,22 @@ filter_behind None ts = Some (Everything, ts)
 filter_behind (Some rest) ts = filter_at rest
 
 -- the filter behind WHERE; all documents where that word doesn't stand there
-abbrev pub where_at : List Token → Reads Filter
+unfoldable pub where_at : List Token → Reads Filter
 where_at ts = filter_behind (keyword_at (codes "WHERE") ts) ts
 
 abbrev pub set_at : List Token → Reads (List ℕ × Cell)
 set_at ts = name_at ts >>= λ name. symbol_at (codes "=") name.1 >>= λ value. value_at value >>= λ r. Some ((name.0, r.0), r.1)
 
+abbrev pub whole_set : List Token → Option (List ℕ × Cell)
+whole_set ts = whole (set_at ts)
+
+-- the last of the new values, and the filter behind it
+abbrev pub last_set : List Token → Option ((List ℕ × Cell) × Filter)
+last_set ts = set_at ts >>= λ set. whole (where_at set.1) >>= λ filter. Some (set.0, filter)
+
 -- the parts between commas; the filter is behind the last of them
 abbrev pub sets_of : List (List Token) → Option (List (List ℕ × Cell) × Filter)
-sets_of [] = None
-sets_of (last ∷ []) = set_at last >>= λ set. whole (where_at set.1) >>= λ filter. Some (set.0 ∷ [], filter)
-sets_of (part ∷ next ∷ more) = whole (set_at part) >>= λ set. sets_of (next ∷ more) >>= λ sets. Some (set ∷ sets.0, sets.1)
+sets_of parts = with_last whole_set last_set parts
 
 abbrev pub update : List Token → Option Command
 update ts = do

@@ -17,6 +17,10 @@ special_of table word =
     else if str_eq_ignore_ascii_case word (codes "optimize") then Some (Optimize table)
     else None
 
+-- the one column is named as the table
+abbrev pub special_where : List ℕ → List ℕ → List ℕ → Option Command
+special_where table column word = if str_eq_ignore_ascii_case column table then special_of table word else None
+
 abbrev pub only_name : List Token → Option (List ℕ)
 only_name ts = only name_of ts
 
@@ -33,7 +37,7 @@ special ts = do
   values ← keyword_at (codes "VALUES") columns.1
   row ← whole (parenthesized values)
   word ← only_literal row
-  if str_eq_ignore_ascii_case column table.0 then special_of table.0 word else None
+  special_where table.0 column word
 
 abbrev pub names_of : List Token → Option (List (List ℕ))
 names_of ts = each only_name (parts ts)

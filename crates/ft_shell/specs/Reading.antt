@@ -1,8 +1,8 @@
 -- Reading words from the front of a statement.
-use Rattle.std.specs.Prelude.{ℕ, ◌+◌, ◌-◌, Bool, true, false, ◌==◌, ◌&&◌, List, [], ◌∷◌, Option, Some, None, option_map, if◌then◌else◌, codes}
+use Rattle.std.specs.Prelude.{ℕ, ◌+◌, ◌-◌, Bool, true, false, ◌==◌, ◌&&◌, List, [], ◌∷◌, ◌++◌, length, slice_get, Option, Some, None, option_map, if◌then◌else◌, codes}
 use Rattle.std.specs.Option.{option_map_or}
 use Rattle.std.specs.List.{onto_first}
-use Rattle.ft_shell.specs.Words.{Token, is_keyword, is_symbol, name_of, literal_of}
+use Rattle.ft_shell.specs.Words.{Token, all_but_last, is_keyword, is_symbol, name_of, literal_of}
 
 -- what the front of the words spells, if it does, and the words behind it
 abbrev pub Reads : Type 0 → Type 0
@@ -88,6 +88,14 @@ parts_at depth (t ∷ ts) =
 
 abbrev pub parts : List Token → List (List Token)
 parts ts = parts_at 0 ts
+
+-- the parts before the last one, and that one
+abbrev pub front_and_last : List (List Token) → Option (List (List Token) × List Token)
+front_and_last parts = slice_get parts (length parts - 1) >>= λ last. Some (all_but_last parts, last)
+
+-- what each part but the last gives, and then what the last one gives
+abbrev pub with_last : {A B : Type 0} → (List Token → Option A) → (List Token → Option (A × B)) → List (List Token) → Option (List A × B)
+with_last f g parts = front_and_last parts >>= λ p. each f p.0 >>= λ xs. g p.1 >>= λ r. Some (xs ++ r.0 ∷ [], r.1)
 
 -- the words are one, which stands for this
 abbrev pub only : {A : Type 0} → (Token → Option A) → List Token → Option A

@@ -5,7 +5,7 @@ use Rattle.std.specs.Prelude.{ℕ, Bool, List, [], ◌∷◌, Option, Some, None
 use Rattle.std.specs.Option.{option_or}
 use Rattle.ft_content.specs.Command.{Command, Item, Items, AllColumns, Named, OffsetsOf, Counted, Listed, Select}
 use Rattle.ft_shell.specs.Words.{Token}
-use Rattle.ft_shell.specs.Reading.{Reads, ◌>>=◌, whole, token_at, name_at, keyword_at, keywords_at, symbol_at, optional, parenthesized, parts, only}
+use Rattle.ft_shell.specs.Reading.{Reads, ◌>>=◌, whole, token_at, name_at, keyword_at, keywords_at, symbol_at, optional, parenthesized, parts, with_last, only}
 use Rattle.ft_shell.specs.Values.{count_of}
 use Rattle.ft_shell.specs.Insert.{only_name}
 use Rattle.ft_shell.specs.Change.{key_at, where_at}
@@ -23,11 +23,12 @@ named_at ts = name_at ts >>= λ name. Some (Named name.0, name.1)
 abbrev pub item_at : List Token → Reads Item
 item_at ts = option_or (star_at ts) (option_or (offsets_at ts) (named_at ts))
 
+abbrev pub whole_item : List Token → Option Item
+whole_item ts = whole (item_at ts)
+
 -- the parts between commas; what follows the items is behind the last of them
 abbrev pub items_of : List (List Token) → Reads (List Item)
-items_of [] = None
-items_of (last ∷ []) = item_at last >>= λ item. Some (item.0 ∷ [], item.1)
-items_of (part ∷ next ∷ more) = whole (item_at part) >>= λ item. items_of (next ∷ more) >>= λ items. Some (item ∷ items.0, items.1)
+items_of parts = with_last whole_item item_at parts
 
 -- count(*) alone
 abbrev pub count_at : List Token → Reads Items

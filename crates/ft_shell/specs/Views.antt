@@ -5,6 +5,12 @@ use Rattle.std.specs.Borrow.{Bor}
 use Rattle.ft_shell.specs.declared.words.Piece.{Piece}
 use Rattle.ft_shell.specs.declared.create.Argument.{Argument}
 use Rattle.ft_shell.specs.declared.create.Argument.TheVariants as arguments
+use Rattle.ft_content.specs.declared.command.Filter.{Filter}
+use Rattle.ft_content.specs.declared.command.Item.{Item}
+use Rattle.ft_content.specs.Command as commands
+use Rattle.ft_content.specs.Content.{Cell}
+use Rattle.ft_content.specs.Views.{set_of, filter_of, item_of}
+use Rattle.ft_store.specs.declared.rows.Value.{Value}
 use Rattle.ft_shell.specs.Words.{Token}
 use Rattle.ft_shell.specs.Reading.{Reads}
 use Rattle.ft_shell.specs.Create as forms
@@ -51,3 +57,17 @@ texts_of texts = map string_bytes texts.items
 -- a list of names, if there is one
 abbrev pub listed : {A : Type 0} → Option (Vec (String Global) A) → Option (List (List ℕ))
 listed names = option_map texts_of names
+
+-- new values and a filter
+abbrev pub sets_as : {A : Type 0} → Vec (String Global × Value) A × Filter → List (List ℕ × Cell) × commands.Filter
+sets_as s = (map set_of s.0.items, filter_of s.1)
+
+abbrev pub set_and_filter : (String Global × Value) × Filter → (List ℕ × Cell) × commands.Filter
+set_and_filter s = (set_of s.0, filter_of s.1)
+
+-- the parts before the last one, and that one
+abbrev pub split_parts : Option (Bor (List (Bor (List Piece))) × Bor (List Piece)) → Option (List (List Token) × List Token)
+split_parts split = option_map (λ s. (runs s.0.now, plain s.1.now)) split
+
+abbrev pub items_as : {A : Type 0} → Vec Item A → List commands.Item
+items_as items = map item_of items.items

@@ -44,8 +44,8 @@ halved mark after (c ∷ cs) = if after && c == mark then halved mark false cs e
 abbrev pub closing : ℕ → ℕ
 closing mark = if mark == 0x5B then 0x5D else mark
 
-abbrev pub all_but_last : List ℕ → List ℕ
-all_but_last cs = take (length cs - 1) cs
+abbrev pub all_but_last : {A : Type 0} → List A → List A
+all_but_last xs = take (length xs - 1) xs
 
 -- the characters between two marks, where the closing one is doubled ("Literal Values (Constants)"; no closing bracket stands
 -- between brackets)

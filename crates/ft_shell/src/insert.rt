@@ -34,6 +34,17 @@ fn special_of(table: String, word: &str) -> Option<Command>
     }
 }
 
+// The special command of this word, where the column is named as the table.
+fn special_where(table: String, column: &str, word: &str) -> Option<Command>
+    ensures { option_map views.command_of result ≡ forms.special_where (string_bytes table) column.now word.now }
+{
+    if column.eq_ignore_ascii_case(table.as_str()) {
+        special_of(table, word)
+    } else {
+        None
+    }
+}
+
 /// A special command.
 pub(crate) fn special(alloc: Global, words: &[Piece<'_>]) -> Result<Option<Command>, AllocError>
     ensures { IfOk result (λ command. option_map views.command_of command ≡ forms.special (plain words.now)) }
@@ -59,11 +70,7 @@ pub(crate) fn special(alloc: Global, words: &[Piece<'_>]) -> Result<Option<Comma
     let Some(word) = only_literal(alloc, row)? else {
         return Ok(None);
     };
-    if column.as_str().eq_ignore_ascii_case(table.as_str()) {
-        Ok(special_of(table, word.as_str()))
-    } else {
-        Ok(None)
-    }
+    Ok(special_where(table, column.as_str(), word.as_str()))
 }
 
 // The names that parts are.

@@ -1,8 +1,10 @@
 //! The shell: statements, dot-commands and what a session does with them.
 #![tactic(auto)]
 
+mod change;
 mod create;
 mod insert;
 mod reading;
+mod select;
 mod values;
 mod words;

@@ -3,7 +3,7 @@ ghost use Rattle.std.specs.Prelude.{◌≡◌, ◌≤◌, ◌+◌, ◌==◌, ◌
 ghost use Rattle.ft_shell.specs.Words.{is_symbol};
 ghost use Rattle.ft_shell.specs.Reading as forms;
 ghost use Rattle.ft_shell.specs.Insert as inserts;
-ghost use Rattle.ft_shell.specs.Views.{seen, plain, left, read_as, two_runs, runs};
+ghost use Rattle.ft_shell.specs.Views.{seen, plain, left, read_as, two_runs, runs, split_parts};
 
 use crate::words::{Piece, is_keyword, is_symbol, literal_of, name_of};
 use std::alloc::{AllocError, Global};
@@ -133,6 +133,18 @@ pub(crate) fn parts<'a>(
     }
     push_part(&mut parts, &words[start..])?;
     Ok(parts)
+}
+
+// The parts before the last one, and that one.
+pub(crate) fn front_and_last<'a>(
+    parts: &'a [&'a [Piece<'a>]],
+) -> Option<(&'a [&'a [Piece<'a>]], &'a [Piece<'a>])>
+    ensures { split_parts result ≡ forms.front_and_last (runs parts.now) }
+{
+    match parts {
+        [front @ .., last] => Some((front, *last)),
+        [] => None,
+    }
 }
 
 // The name that the words are, if they are one.
