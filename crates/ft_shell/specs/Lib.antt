@@ -7,3 +7,4 @@ pub mod Insert
 pub mod Change
 pub mod Select
 pub mod Statements
+pub mod Classes

@@ -20,14 +20,14 @@ offsets_at ts = keyword_at (codes "offsets") ts >>= parenthesized >>= λ r. only
 abbrev pub named_at : List Token → Reads Item
 named_at ts = name_at ts >>= λ name. Some (Named name.0, name.1)
 
-abbrev pub item_at : List Token → Reads Item
+unfoldable pub item_at : List Token → Reads Item
 item_at ts = option_or (star_at ts) (option_or (offsets_at ts) (named_at ts))
 
 abbrev pub whole_item : List Token → Option Item
 whole_item ts = whole (item_at ts)
 
 -- the parts between commas; what follows the items is behind the last of them
-abbrev pub items_of : List (List Token) → Reads (List Item)
+unfoldable pub items_of : List (List Token) → Reads (List Item)
 items_of parts = with_last whole_item item_at parts
 
 -- count(*) alone
@@ -37,7 +37,7 @@ count_at ts = keyword_at (codes "count") ts >>= parenthesized >>= λ r. whole (s
 abbrev pub list_at : List Token → Reads Items
 list_at ts = items_of (parts ts) >>= λ r. Some (Listed r.0, r.1)
 
-abbrev pub selection_at : List Token → Reads Items
+unfoldable pub selection_at : List Token → Reads Items
 selection_at ts = option_or (count_at ts) (list_at ts)
 
 abbrev pub order_behind : Option (List Token) → List Token → Option (List Token)
@@ -45,7 +45,7 @@ order_behind None ts = Some ts
 order_behind (Some rest) ts = key_at rest >>= λ behind. Some (optional (keyword_at (codes "ASC") behind) behind).1
 
 -- the words behind ORDER BY and the docid, if they stand there
-abbrev pub order_at : List Token → Option (List Token)
+unfoldable pub order_at : List Token → Option (List Token)
 order_at ts = order_behind (keywords_at (codes "ORDER" ∷ codes "BY" ∷ []) ts) ts
 
 abbrev pub offset_of : List Token → Option ℕ
@@ -53,7 +53,7 @@ offset_of [] = Some 0
 offset_of (t ∷ ts) = keyword_at (codes "OFFSET") (t ∷ ts) >>= only count_of
 
 -- the limit, if there is one, and the offset
-abbrev pub limits_of : List Token → Option (Option ℕ × ℕ)
+unfoldable pub limits_of : List Token → Option (Option ℕ × ℕ)
 limits_of [] = Some (None, 0)
 limits_of (t ∷ ts) = do
   rest ← keyword_at (codes "LIMIT") (t ∷ ts)

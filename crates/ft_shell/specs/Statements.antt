@@ -29,9 +29,12 @@ leads t =
     is_keyword (codes "FROM") t || is_keyword (codes "INTO") t || is_keyword (codes "UPDATE") t || is_keyword (codes "TABLE") t
     || is_keyword (codes "JOIN") t || is_keyword (codes "EXISTS") t
 
+abbrev pub is_named : List ℕ → List ℕ → Bool
+is_named name table = str_eq_ignore_ascii_case name table
+
 -- whether this is the name of one of these tables, in any case of ASCII letters
 abbrev pub is_table : List (List ℕ) → Token → Bool
-is_table tables t = option_map_or (λ name. list_any (str_eq_ignore_ascii_case name) tables) (name_of t) false
+is_table tables t = option_map_or (λ name. list_any (is_named name) tables) (name_of t) false
 
 -- whether one of these tables is named directly behind such a word
 abbrev pub names_table : List (List ℕ) → List Token → Bool
@@ -48,6 +51,6 @@ pub data Class : Type 0 where
   FullText : (command : Command) → Class
 
 -- the class of a statement, where full-text tables of these names are there; a full-text statement that spells no command has none
-abbrev pub class_of : List (List ℕ) → List Token → Option Class
+unfoldable pub class_of : List (List ℕ) → List Token → Option Class
 class_of tables ts =
     if is_full_text tables ts then option_map FullText (command_of (without_end ts)) else Some Plain

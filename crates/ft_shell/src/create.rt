@@ -104,10 +104,7 @@ fn argument_of(alloc: Global, words: &[Piece<'_>]) -> Result<Option<Argument>, A
 }
 
 // The arguments that parts are.
-fn each_argument(
-    alloc: Global,
-    parts: &[&[Piece<'_>]],
-) -> Result<Option<Vec<Argument>>, AllocError>
+fn each_argument(alloc: Global, parts: &[&[Piece<'_>]]) -> Result<Option<Vec<Argument>>, AllocError>
     ensures { IfOk result (λ found. option_map (λ v. map argument_as v.items) found ≡ reading.each forms.argument_of (runs parts.now)) }
 {
     let mut found = Vec::new(alloc);

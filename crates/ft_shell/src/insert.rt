@@ -6,7 +6,9 @@ ghost use Rattle.ft_shell.specs.Insert as forms;
 ghost use Rattle.ft_shell.specs.Reading as reading;
 ghost use Rattle.ft_shell.specs.Views.{plain, left, runs, read_as, listed};
 
-use crate::reading::{keyword_at, name_at, only_literal, only_name, parenthesized, parts, symbol_at};
+use crate::reading::{
+    keyword_at, name_at, only_literal, only_name, parenthesized, parts, symbol_at,
+};
 use crate::values::only_value;
 use crate::words::Piece;
 use ft_content::{Command, Value};

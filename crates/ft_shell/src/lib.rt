@@ -6,5 +6,8 @@ mod create;
 mod insert;
 mod reading;
 mod select;
+mod statement;
 mod values;
 mod words;
+
+pub use crate::statement::{Class, StatementFault, read_statement};

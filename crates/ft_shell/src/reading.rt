@@ -136,9 +136,9 @@ pub(crate) fn parts<'a>(
 }
 
 // The parts before the last one, and that one.
-pub(crate) fn front_and_last<'a>(
-    parts: &'a [&'a [Piece<'a>]],
-) -> Option<(&'a [&'a [Piece<'a>]], &'a [Piece<'a>])>
+pub(crate) fn front_and_last<'a, 'b>(
+    parts: &'b [&'a [Piece<'a>]],
+) -> Option<(&'b [&'a [Piece<'a>]], &'a [Piece<'a>])>
     ensures { split_parts result ≡ forms.front_and_last (runs parts.now) }
 {
     match parts {
@@ -148,10 +148,7 @@ pub(crate) fn front_and_last<'a>(
 }
 
 // The name that the words are, if they are one.
-pub(crate) fn only_name(
-    alloc: Global,
-    words: &[Piece<'_>],
-) -> Result<Option<String>, AllocError>
+pub(crate) fn only_name(alloc: Global, words: &[Piece<'_>]) -> Result<Option<String>, AllocError>
     ensures { IfOk result (λ name. option_map string_bytes name ≡ inserts.only_name (plain words.now)) }
 {
     match words {
@@ -161,10 +158,7 @@ pub(crate) fn only_name(
 }
 
 // The text that the words are, if they are one.
-pub(crate) fn only_literal(
-    alloc: Global,
-    words: &[Piece<'_>],
-) -> Result<Option<String>, AllocError>
+pub(crate) fn only_literal(alloc: Global, words: &[Piece<'_>]) -> Result<Option<String>, AllocError>
     ensures { IfOk result (λ text. option_map string_bytes text ≡ inserts.only_literal (plain words.now)) }
 {
     match words {

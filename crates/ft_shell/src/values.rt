@@ -20,7 +20,9 @@ fn digits_value(digits: &[u8]) -> u64
 {
     let mut number = 0u64;
     for digit in digits {
-        let more = number.saturating_mul(10).saturating_add(u64::from(digit.saturating_sub(b'0')));
+        let more = number
+            .saturating_mul(10)
+            .saturating_add(u64::from(digit.saturating_sub(b'0')));
         number = more.min(MOST_BELOW_ZERO + 1);
     }
     number
@@ -53,7 +55,11 @@ pub(crate) fn count_of(word: &Piece<'_>) -> Option<u64>
     match word.kind {
         SqlKind::Number => {
             let number = digits_value(word.text.as_bytes());
-            if number < MOST_BELOW_ZERO { Some(number) } else { None }
+            if number < MOST_BELOW_ZERO {
+                Some(number)
+            } else {
+                None
+            }
         }
         _ => None,
     }

@@ -23,9 +23,9 @@ loop-i-preserved c = record {
             ∙ c.loop-i.invariant.same
       ];
   start = elim c.if-ends_part.branch [
-      | then-ends_part+in_ok-push_part w ↦ omega (arith, w.start-is)
-      | else-ends_part w ↦ omega (arith, w.start-is, c.loop-i.invariant.start)
-    ];
+    | then-ends_part+in_ok-push_part w ↦ omega (arith, w.start-is)
+    | else-ends_part w ↦ omega (arith, w.start-is, c.loop-i.invariant.start)
+  ];
   depth = omega (arith, c.depth_after-depth.ensures.most, c.loop-i.invariant.depth);
 }
 
