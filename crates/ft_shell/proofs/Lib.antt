@@ -1,3 +1,4 @@
 pub mod ReadingLemmas
 pub mod CreateLemmas
 pub mod EachLemmas
+pub mod StatementLemmas
