@@ -1,6 +1,6 @@
 -- Arguments of a CREATE VIRTUAL TABLE.
-use Rattle.std.proofs.Common.{◌≡◌, ℕ, List, [], ◌∷◌, ◌++◌, map, refl, sym, ap, ◌∙◌, ◌≤◌, length, get_or, drop, take, ◌-◌, arith, string_bytes, Vec, String, Global}
-use Rattle.std.specs.List.{flat_map, join_with_byte}
+use Rattle.std.proofs.Common.{◌≡◌, ℕ, List, [], ◌∷◌, ◌++◌, map, refl, sym, ap, ◌∙◌, ◌≤◌, length, get_or, drop, take, ◌-◌, arith, string_bytes, String, Global}
+use Rattle.std.specs.List.{flat_map}
 use Rattle.std.proofs.lemmas.List.{append-nil, map-append, take_all}
 use Rattle.ft_shell.specs.Words.{Token, bare}
 use Rattle.ft_shell.specs.Create.{Argument, Setting, Column, joined, settings_in, columns_in, argument_of, arguments_of}

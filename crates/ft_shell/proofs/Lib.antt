@@ -2,3 +2,4 @@ pub mod ReadingLemmas
 pub mod CreateLemmas
 pub mod EachLemmas
 pub mod StatementLemmas
+pub mod StatementRows

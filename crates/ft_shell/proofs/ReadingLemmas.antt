@@ -1,10 +1,10 @@
 -- Words read one after the other.
-use Rattle.std.proofs.Common.{◌≡◌, ℕ, zero, suc, ◌+◌, ◌-◌, ◌<◌, ◌≤◌, Bool, true, false, cond, ◌&&◌, ◌==◌, List, [], ◌∷◌, ◌++◌, map, length, drop, take, get_or, Option, Some, None, refl, sym, ap, subst, ◌∙◌, arith, codes, append_assoc, slice_range}
+use Rattle.std.proofs.Common.{◌≡◌, ℕ, zero, suc, ◌+◌, ◌-◌, ◌<◌, ◌≤◌, true, false, cond, ◌&&◌, ◌==◌, List, [], ◌∷◌, ◌++◌, length, drop, take, get_or, Some, None, refl, sym, ap, ◌∙◌, arith, codes, append_assoc, slice_range}
 use Rattle.std.specs.List.{onto_first}
 use Rattle.std.specs.Prelude.{slice_get}
 use Rattle.std.proofs.lemmas.List.{drop_more, take_more, drop_all, map-append, get_or-drop, length-drop, length-map, take-map}
 use Rattle.ft_shell.specs.Words.{Token, is_symbol, all_but_last}
-use Rattle.ft_shell.specs.Reading.{◌>>=◌, Reads, closed, onto_read, depth_after, parts_at, front_and_last}
+use Rattle.ft_shell.specs.Reading.{◌>>=◌, Reads, depth_after, parts_at, front_and_last}
 use Rattle.ft_shell.specs.declared.words.Piece.{Piece}
 use Rattle.std.specs.Borrow.{Bor}
 use Rattle.ft_shell.specs.Views.{seen, plain, runs}

@@ -2,12 +2,12 @@
 -- Extensions"). Just these forms are read (own choice):
 --   CREATE VIRTUAL TABLE [IF NOT EXISTS] NAME USING NAME [ ( [arg {, arg}] ) ]
 --   DROP TABLE [IF EXISTS] NAME
-use Rattle.std.specs.Prelude.{ℕ, Bool, List, [], ◌∷◌, map, Option, Some, None, if◌then◌else◌, codes}
+use Rattle.std.specs.Prelude.{ℕ, List, [], ◌∷◌, map, Option, Some, None, codes}
 use Rattle.std.specs.List.{join_with_byte}
-use Rattle.std.specs.Option.{option_or, option_map_or}
+use Rattle.std.specs.Option.{option_or}
 use Rattle.ft_content.specs.Command.{Command, Create, Drop}
 use Rattle.ft_shell.specs.Words.{Token, bare, name_of, literal_of}
-use Rattle.ft_shell.specs.Reading.{Reads, ◌>>=◌, whole, each, token_at, name_at, keyword_at, keywords_at, symbol_at, optional, parenthesized, parts}
+use Rattle.ft_shell.specs.Reading.{◌>>=◌, whole, each, token_at, name_at, keyword_at, keywords_at, symbol_at, optional, parenthesized, parts}
 
 -- An argument is an option with its value, or a column.
 pub data Argument : Type 0 where

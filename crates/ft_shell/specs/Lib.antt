@@ -8,3 +8,4 @@ pub mod Change
 pub mod Select
 pub mod Statements
 pub mod Classes
+pub mod Plain

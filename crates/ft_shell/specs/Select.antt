@@ -1,7 +1,7 @@
 -- SELECT ("Simple FTS Queries", "The Offsets Function"). Just this form is read (own choice):
 --   SELECT items FROM NAME [WHERE filter] [ORDER BY key [ASC]] [LIMIT n [OFFSET n]]
 -- where items are count ( * ), or some of *, offsets ( NAME ) and NAME.
-use Rattle.std.specs.Prelude.{ℕ, Bool, List, [], ◌∷◌, Option, Some, None, codes}
+use Rattle.std.specs.Prelude.{ℕ, List, [], ◌∷◌, Option, Some, None, codes}
 use Rattle.std.specs.Option.{option_or}
 use Rattle.ft_content.specs.Command.{Command, Item, Items, AllColumns, Named, OffsetsOf, Counted, Listed, Select}
 use Rattle.ft_shell.specs.Words.{Token}

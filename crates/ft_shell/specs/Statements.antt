@@ -1,11 +1,11 @@
 -- Which class a statement is of, and which command a full-text statement spells.
-use Rattle.std.specs.Prelude.{ℕ, ◌≡◌, Bool, true, false, ◌&&◌, ◌||◌, List, [], ◌∷◌, Option, Some, None, is_some, option_map, if◌then◌else◌, codes}
+use Rattle.std.specs.Prelude.{ℕ, Bool, false, ◌&&◌, ◌||◌, List, [], ◌∷◌, Option, Some, is_some, option_map, if◌then◌else◌, codes}
 use Rattle.std.specs.List.{list_any}
 use Rattle.std.specs.Option.{option_map_or, option_or}
 use Rattle.std.specs.Str.{str_eq_ignore_ascii_case}
 use Rattle.ft_content.specs.Command.{Command}
 use Rattle.ft_shell.specs.Words.{Token, is_keyword, is_symbol, name_of}
-use Rattle.ft_shell.specs.Reading.{◌>>=◌, keywords_at}
+use Rattle.ft_shell.specs.Reading.{keywords_at}
 use Rattle.ft_shell.specs.Create.{create, drop_table}
 use Rattle.ft_shell.specs.Insert.{special, insert}
 use Rattle.ft_shell.specs.Change.{update, delete}

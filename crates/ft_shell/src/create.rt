@@ -182,7 +182,7 @@ fn create_virtual_table<'a>(words: &'a [Piece<'a>]) -> Option<&'a [Piece<'a>]>
     keyword_at(words, "TABLE")
 }
 
-fn if_not_exists<'a>(words: &'a [Piece<'a>]) -> Option<&'a [Piece<'a>]>
+pub(crate) fn if_not_exists<'a>(words: &'a [Piece<'a>]) -> Option<&'a [Piece<'a>]>
     ensures { left result ≡ reading.keywords_at (codes "IF" ∷ codes "NOT" ∷ codes "EXISTS" ∷ []) (plain words.now) }
 {
     let words = keyword_at(words, "IF")?;
@@ -198,7 +198,10 @@ fn if_exists<'a>(words: &'a [Piece<'a>]) -> Option<&'a [Piece<'a>]>
 }
 
 // Whether words stand there that may be missing, and the words behind them.
-fn optional<'a>(found: Option<&'a [Piece<'a>]>, words: &'a [Piece<'a>]) -> (bool, &'a [Piece<'a>])
+pub(crate) fn optional<'a>(
+    found: Option<&'a [Piece<'a>]>,
+    words: &'a [Piece<'a>],
+) -> (bool, &'a [Piece<'a>])
     ensures { optional_words result ≡ reading.optional (left found.entry) (plain words.now) }
 {
     match found {

@@ -4,10 +4,12 @@
 mod change;
 mod create;
 mod insert;
+mod plain;
 mod reading;
 mod select;
 mod statement;
 mod values;
 mod words;
 
+pub use crate::plain::{PlainStatement, read_plain};
 pub use crate::statement::{Class, StatementFault, read_statement};

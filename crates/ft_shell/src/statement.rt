@@ -57,10 +57,10 @@ impl<T: Drop> From<AllocFailed<T>> for StatementFault {
 fn without_end<'a>(words: &'a [Piece<'a>]) -> &'a [Piece<'a>]
     ensures { plain result.now ≡ forms.without_end (plain words.now) }
 {
-    match words {
-        [front @ .., last] if is_symbol(last, ";") => front,
-        _ => words,
-    }
+    let [front @ .., last] = words else {
+        return words;
+    };
+    if is_symbol(last, ";") { front } else { words }
 }
 
 // The command that words spell, if they spell one.

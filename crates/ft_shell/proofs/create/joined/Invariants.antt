@@ -1,8 +1,7 @@
 -- the texts so far
 use Rattle.std.proofs.Common.{◌≡◌, ◌++◌, take, string_bytes}
 use Rattle.std.specs.List.{flat_map}
-use Rattle.ft_shell.specs.Words.{bare}
-use Rattle.ft_shell.specs.Views.{seen, plain}
+use Rattle.ft_shell.specs.Views.{plain}
 use Rattle.ft_shell.proofs.CreateLemmas.{behind_space}
 use Rattle.ft_shell.proofs.create.joined.Given as goal
 

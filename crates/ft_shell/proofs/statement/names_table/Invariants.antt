@@ -1,5 +1,5 @@
 -- none of the tables is named before this place
-use Rattle.std.proofs.Common.{◌≡◌, ◌-◌, ◌≤◌, drop}
+use Rattle.std.proofs.Common.{◌≡◌, ◌-◌, drop}
 use Rattle.ft_content.specs.Views.{info_names}
 use Rattle.ft_shell.specs.Statements.{names_table}
 use Rattle.ft_shell.specs.Views.{plain}
