@@ -9,3 +9,5 @@ pub mod Select
 pub mod Statements
 pub mod Classes
 pub mod Plain
+pub mod Dots
+pub mod DotViews

@@ -3,6 +3,7 @@
 
 mod change;
 mod create;
+mod dots;
 mod insert;
 mod plain;
 mod reading;

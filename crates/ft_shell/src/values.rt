@@ -15,7 +15,7 @@ use std::alloc::{AllocError, Global};
 const MOST_BELOW_ZERO: u64 = 9_223_372_036_854_775_808;
 
 // The number that digits write, where one that is too large for 64 bits with a sign stands as the least such number.
-fn digits_value(digits: &[u8]) -> u64
+pub(crate) fn digits_value(digits: &[u8]) -> u64
     ensures { result ≡ min (forms.digits_value digits.now) 9223372036854775809 }
 {
     let mut number = 0u64;
