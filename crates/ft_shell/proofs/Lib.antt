@@ -3,3 +3,4 @@ pub mod CreateLemmas
 pub mod EachLemmas
 pub mod StatementLemmas
 pub mod StatementRows
+pub mod DotRows

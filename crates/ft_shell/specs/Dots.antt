@@ -50,6 +50,10 @@ mode_named word =
     else if bytes_eq word (codes "quote") then Some mode.Quote
     else None
 
+-- the mode that is the one word
+abbrev pub mode_in : List (List ℕ) → Option Mode
+mode_in words = lone words >>= mode_named
+
 abbrev pub is_on : List ℕ → Bool
 is_on word = str_eq_ignore_ascii_case word (codes "on") || str_eq_ignore_ascii_case word (codes "yes") || bytes_eq word (codes "1")
 
@@ -113,7 +117,7 @@ alone command usage (word ∷ words) = Usage usage
 -- the commands on how answers are printed
 unfoldable pub print_command : List ℕ → List (List ℕ) → Option DotCommand
 print_command name words =
-    if bytes_eq name (codes "mode") then Some (or_usage (codes ".mode list|csv|column|quote") (lone words >>= mode_named >>= λ m. Some (SetMode m)))
+    if bytes_eq name (codes "mode") then Some (or_usage (codes ".mode list|csv|column|quote") (option_map SetMode (mode_in words)))
     else if bytes_eq name (codes "headers") || bytes_eq name (codes "header") then Some (or_usage (codes ".headers BOOL") (option_map SetHeaders (switch_in words)))
     else if bytes_eq name (codes "separator") then Some (or_usage (codes ".separator TEXT") (option_map SetSeparator (lone words)))
     else if bytes_eq name (codes "nullvalue") then Some (or_usage (codes ".nullvalue TEXT") (option_map SetNull (lone words)))

@@ -11,3 +11,5 @@ pub mod Classes
 pub mod Plain
 pub mod Dots
 pub mod DotViews
+pub mod Texts
+pub mod Replies

@@ -1,5 +1,5 @@
 // Which dot-command a line's words are.
-ghost use Rattle.std.specs.Prelude.{◌≡◌, map, string_bytes, option_map, IfOk};
+ghost use Rattle.std.specs.Prelude.{◌≡◌, codes, map, string_bytes, option_map, IfOk};
 ghost use Rattle.std.specs.Char.{is_ascii_digit};
 ghost use Rattle.std.specs.List.{list_all};
 ghost use Rattle.ft_shell.specs.Dots as forms;
@@ -110,7 +110,11 @@ fn skip_named(word: &str) -> Option<u64>
         return None;
     }
     let number = digits_value(digits);
-    if number <= 1_000_000 { Some(number) } else { None }
+    if number <= 1_000_000 {
+        Some(number)
+    } else {
+        None
+    }
 }
 
 fn is_csv_option(word: &str) -> bool
@@ -205,4 +209,171 @@ fn alone(command: DotCommand, usage: &'static str, words: &[String]) -> DotComma
     } else {
         DotCommand::Usage(usage)
     }
+}
+
+// A switch's command, or how it is used.
+fn headers_command(words: &[String]) -> DotCommand
+    ensures { command_as result ≡ forms.or_usage (codes ".headers BOOL") (option_map forms.SetHeaders (forms.switch_in (map string_bytes words.now))) }
+{
+    match switch_in(words) {
+        Some(shown) => DotCommand::Headers(shown),
+        None => DotCommand::Usage(".headers BOOL"),
+    }
+}
+
+fn mode_in(words: &[String]) -> Option<Mode>
+    ensures { result ≡ forms.mode_in (map string_bytes words.now) }
+{
+    mode_named(lone(words)?)
+}
+
+fn mode_command(words: &[String]) -> DotCommand
+    ensures { command_as result ≡ forms.or_usage (codes ".mode list|csv|column|quote") (option_map forms.SetMode (forms.mode_in (map string_bytes words.now))) }
+{
+    match mode_in(words) {
+        Some(mode) => DotCommand::Mode(mode),
+        None => DotCommand::Usage(".mode list|csv|column|quote"),
+    }
+}
+
+fn echo_command(words: &[String]) -> DotCommand
+    ensures { command_as result ≡ forms.or_usage (codes ".echo BOOL") (option_map forms.SetEcho (forms.switch_in (map string_bytes words.now))) }
+{
+    match switch_in(words) {
+        Some(on) => DotCommand::Echo(on),
+        None => DotCommand::Usage(".echo BOOL"),
+    }
+}
+
+fn bail_command(words: &[String]) -> DotCommand
+    ensures { command_as result ≡ forms.or_usage (codes ".bail BOOL") (option_map forms.SetBail (forms.switch_in (map string_bytes words.now))) }
+{
+    match switch_in(words) {
+        Some(on) => DotCommand::Bail(on),
+        None => DotCommand::Usage(".bail BOOL"),
+    }
+}
+
+fn separator_command(alloc: Global, words: &[String]) -> Result<DotCommand, AllocError>
+    ensures { IfOk result (λ command. command_as command ≡ forms.or_usage (codes ".separator TEXT") (option_map forms.SetSeparator (forms.lone (map string_bytes words.now)))) }
+{
+    match lone(words) {
+        Some(text) => Ok(DotCommand::Separator(String::from_str(alloc, text)?)),
+        None => Ok(DotCommand::Usage(".separator TEXT")),
+    }
+}
+
+fn null_command(alloc: Global, words: &[String]) -> Result<DotCommand, AllocError>
+    ensures { IfOk result (λ command. command_as command ≡ forms.or_usage (codes ".nullvalue TEXT") (option_map forms.SetNull (forms.lone (map string_bytes words.now)))) }
+{
+    match lone(words) {
+        Some(text) => Ok(DotCommand::Null(String::from_str(alloc, text)?)),
+        None => Ok(DotCommand::Usage(".nullvalue TEXT")),
+    }
+}
+
+fn import_command(alloc: Global, words: &[String]) -> Result<DotCommand, AllocError>
+    ensures { IfOk result (λ command. command_as command ≡ forms.or_usage (codes ".import [--csv] [--skip N] FILE TABLE") (option_map forms.Importing (forms.import_of (map string_bytes words.now)))) }
+{
+    match import_of(alloc, words)? {
+        Some(what) => Ok(DotCommand::Import(what)),
+        None => Ok(DotCommand::Usage(".import [--csv] [--skip N] FILE TABLE")),
+    }
+}
+
+// Copies of words.
+fn copied(alloc: Global, words: &[String]) -> Result<Vec<String>, AllocError>
+    ensures { IfOk result (λ copies. map string_bytes copies.items ≡ map string_bytes words.now) }
+{
+    let mut copies = Vec::new(alloc);
+    for word in words {
+        copies.push(String::from_str(alloc, word.as_str())?)?;
+    }
+    Ok(copies)
+}
+
+// The commands on how answers are printed.
+#[tactic(auto, unfolding(crate::specs::Dots::print_command))]
+fn print_command(
+    alloc: Global,
+    name: &str,
+    words: &[String],
+) -> Result<Option<DotCommand>, AllocError>
+    ensures { IfOk result (λ command. option_map command_as command ≡ forms.print_command name.now (map string_bytes words.now)) }
+{
+    if name == "mode" {
+        Ok(Some(mode_command(words)))
+    } else if name == "headers" || name == "header" {
+        Ok(Some(headers_command(words)))
+    } else if name == "separator" {
+        Ok(Some(separator_command(alloc, words)?))
+    } else if name == "nullvalue" {
+        Ok(Some(null_command(alloc, words)?))
+    } else {
+        Ok(None)
+    }
+}
+
+// The commands on the run.
+#[tactic(auto, unfolding(crate::specs::Dots::run_command))]
+fn run_command(
+    alloc: Global,
+    name: &str,
+    words: &[String],
+) -> Result<Option<DotCommand>, AllocError>
+    ensures { IfOk result (λ command. option_map command_as command ≡ forms.run_command name.now (map string_bytes words.now)) }
+{
+    if name == "print" {
+        Ok(Some(DotCommand::Print(copied(alloc, words)?)))
+    } else if name == "echo" {
+        Ok(Some(echo_command(words)))
+    } else if name == "bail" {
+        Ok(Some(bail_command(words)))
+    } else if name == "quit" {
+        Ok(Some(alone(DotCommand::Quit, ".quit", words)))
+    } else if name == "exit" {
+        Ok(Some(alone(DotCommand::Quit, ".exit", words)))
+    } else {
+        Ok(None)
+    }
+}
+
+// The commands on tables.
+#[tactic(auto, unfolding(crate::specs::Dots::table_command))]
+fn table_command(
+    alloc: Global,
+    name: &str,
+    words: &[String],
+) -> Result<Option<DotCommand>, AllocError>
+    ensures { IfOk result (λ command. option_map command_as command ≡ forms.table_command name.now (map string_bytes words.now)) }
+{
+    if name == "import" {
+        Ok(Some(import_command(alloc, words)?))
+    } else if name == "tables" {
+        Ok(Some(alone(DotCommand::Tables, ".tables", words)))
+    } else {
+        Ok(None)
+    }
+}
+
+/// The command that a dot line's words make. A line without words is none; a known name with a wrong number or form of words
+/// is told how it is used; any other name is unknown.
+#[tactic(auto, unfolding(crate::specs::Dots::dot_command_of))]
+pub fn dot_command(alloc: Global, words: &[String]) -> Result<DotCommand, AllocError>
+    ensures { IfOk result (λ command. command_as command ≡ forms.dot_command_of (map string_bytes words.now)) }
+{
+    let [name, words @ ..] = words else {
+        return Ok(DotCommand::Nothing);
+    };
+    let name = name.as_str();
+    if let Some(command) = print_command(alloc, name, words)? {
+        return Ok(command);
+    }
+    if let Some(command) = run_command(alloc, name, words)? {
+        return Ok(command);
+    }
+    if let Some(command) = table_command(alloc, name, words)? {
+        return Ok(command);
+    }
+    Ok(DotCommand::Unknown)
 }

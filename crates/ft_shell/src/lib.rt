@@ -7,10 +7,15 @@ mod dots;
 mod insert;
 mod plain;
 mod reading;
+mod replies;
 mod select;
 mod statement;
+mod texts;
 mod values;
 mod words;
 
+pub use crate::dots::{DotCommand, Import, dot_command};
 pub use crate::plain::{PlainStatement, read_plain};
+pub use crate::replies::write_reply;
 pub use crate::statement::{Class, StatementFault, read_statement};
+pub use crate::texts::{fault_line, fault_text, split_text, statement_text, usage_text};
