@@ -19,3 +19,6 @@ pub use crate::plain::{PlainStatement, read_plain};
 pub use crate::replies::write_reply;
 pub use crate::statement::{Class, StatementFault, read_statement};
 pub use crate::texts::{fault_line, fault_text, split_text, statement_text, usage_text};
+
+#[cfg(test)]
+mod tests;
