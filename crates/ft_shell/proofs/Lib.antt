@@ -4,3 +4,4 @@ pub mod EachLemmas
 pub mod StatementLemmas
 pub mod StatementRows
 pub mod DotRows
+pub mod TableLemmas

@@ -5,10 +5,10 @@ use Rattle.std.specs.List.{list_any}
 use Rattle.std.specs.List.Sorted.{IsPermutation, IsSorted}
 use Rattle.std.specs.Ordering.{nat_cmp}
 use Rattle.std.specs.Cmp.Lexicographic.{slice_cmp}
-use Rattle.std.specs.Str.{str_eq_ignore_ascii_case}
 use Rattle.shell_text.specs.Print as print
 use Rattle.shell_text.specs.Print.{Look, Table, printed}
 use Rattle.ft_content.specs.Content.{Cell, Null, Int, Text}
+use Rattle.ft_shell.specs.Statements.{is_named}
 use Rattle.ft_content.specs.Command.{Grid, Reply, Done, Rows}
 
 -- a cell as a value that is printed
@@ -27,7 +27,7 @@ reply_text look (Rows grid) = printed look (table_of grid)
 
 -- whether one of the full-text tables has this name, in any case of ASCII letters
 abbrev pub is_own : List (List ℕ) → List ℕ → Bool
-is_own tables name = list_any (str_eq_ignore_ascii_case name) tables
+is_own tables name = list_any (is_named name) tables
 
 -- `.tables` lists the full-text tables and the plain ones that were found, but for those that a full-text table hides
 abbrev pub listed : List (List ℕ) → List (List ℕ) → List (List ℕ)

@@ -10,6 +10,7 @@ mod reading;
 mod replies;
 mod select;
 mod statement;
+mod tables;
 mod texts;
 mod values;
 mod words;
@@ -18,6 +19,7 @@ pub use crate::dots::{DotCommand, Import, dot_command};
 pub use crate::plain::{PlainStatement, read_plain};
 pub use crate::replies::write_reply;
 pub use crate::statement::{Class, StatementFault, read_statement};
+pub use crate::tables::listed_tables;
 pub use crate::texts::{fault_line, fault_text, split_text, statement_text, usage_text};
 
 #[cfg(test)]

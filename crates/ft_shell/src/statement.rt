@@ -102,7 +102,7 @@ fn leads(word: &Piece<'_>) -> bool
 }
 
 // Whether one of these tables has this name.
-fn has_table(tables: &[TableInfo], name: &str) -> bool
+pub(crate) fn has_table(tables: &[TableInfo], name: &str) -> bool
     ensures { result ≡ list_any (forms.is_named name.now) (views.info_names tables.now) }
 {
     tables
