@@ -5,3 +5,4 @@ pub mod StatementLemmas
 pub mod StatementRows
 pub mod DotRows
 pub mod TableLemmas
+pub mod ImportLemmas

@@ -13,3 +13,4 @@ pub mod Dots
 pub mod DotViews
 pub mod Texts
 pub mod Replies
+pub mod Imports

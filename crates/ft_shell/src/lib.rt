@@ -4,6 +4,7 @@
 mod change;
 mod create;
 mod dots;
+mod imports;
 mod insert;
 mod plain;
 mod reading;
@@ -16,6 +17,9 @@ mod values;
 mod words;
 
 pub use crate::dots::{DotCommand, Import, dot_command};
+pub use crate::imports::{
+    creation_text, delimiter_of, fitted_row, insertion_text, reading_text, warnings,
+};
 pub use crate::plain::{PlainStatement, read_plain};
 pub use crate::replies::write_reply;
 pub use crate::statement::{Class, StatementFault, read_statement};
