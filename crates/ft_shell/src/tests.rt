@@ -1,14 +1,15 @@
 // Statements, dot-commands and texts.
 use super::{
-    Class, StatementFault, dot_command, fault_line, fault_text, read_plain, read_statement,
-    split_text, statement_text, usage_text, write_reply,
+    Class, StatementFault, creation_text, delimiter_of, dot_command, fault_line, fault_text,
+    fitted_row, insertion_text, listed_tables, read_plain, read_statement, reading_text,
+    split_text, statement_text, usage_text, warnings, write_reply,
 };
 use ft_content::{Fault, Grid, Reply, TableInfo, Value};
 use shell_text::{Mode, Settings, SplitFault, dot_words, sql_words};
 use std::test::Fail;
 
-// What a statement is read as, where the full-text tables `d` and `mail` are there.
-fn read(rt: &HostRuntime, text: &str) -> Result<String, Fail> {
+// The full-text tables `d` and `mail`.
+fn two_tables(rt: &HostRuntime) -> Result<Vec<TableInfo>, Fail> {
     let mut tables: Vec<TableInfo> = Vec::new(rt.alloc());
     for name in ["d", "mail"] {
         tables.push(TableInfo {
@@ -18,6 +19,21 @@ fn read(rt: &HostRuntime, text: &str) -> Result<String, Fail> {
             sound: true,
         })?;
     }
+    Ok(tables)
+}
+
+// Texts of their own.
+fn texts(rt: &HostRuntime, words: &[&str]) -> Result<Vec<String>, Fail> {
+    let mut texts: Vec<String> = Vec::new(rt.alloc());
+    for word in words {
+        texts.push((*word).to_string(rt.alloc())?)?;
+    }
+    Ok(texts)
+}
+
+// What a statement is read as, where the full-text tables `d` and `mail` are there.
+fn read(rt: &HostRuntime, text: &str) -> Result<String, Fail> {
+    let tables = two_tables(rt)?;
     let words = sql_words(rt.alloc(), text)?;
     match read_statement(rt.alloc(), text, words.as_slice(), tables.as_slice()) {
         Ok(Class::Plain) => Ok("plain".to_string(rt.alloc())?),
@@ -179,5 +195,69 @@ fn a_reply_in_quote_mode(rt: HostRuntime) -> Result<(), Fail> {
     let mut out: Vec<u8> = Vec::new(rt.alloc());
     write_reply(rt.alloc(), &settings, Reply::Rows(grid), &mut out)?;
     assert_eq!(rt; out.as_slice(), b"1,'it''s',NULL\n".as_slice());
+    Ok(())
+}
+
+#[test]
+fn names_of_tables(rt: HostRuntime) -> Result<(), Fail> {
+    let tables = two_tables(&rt)?;
+    let found = texts(&rt, &["p", "D", "a"])?;
+    let names = listed_tables(rt.alloc(), tables.as_slice(), found)?;
+    assert_eq!(rt;
+        format!(in rt.alloc(); "{names:?}")?.as_str(),
+        "[\"a\", \"d\", \"mail\", \"p\"]"
+    );
+    Ok(())
+}
+
+#[test]
+fn texts_of_an_import(rt: HostRuntime) -> Result<(), Fail> {
+    let columns = texts(&rt, &["x", "y z"])?;
+    assert_eq!(rt;
+        creation_text(rt.alloc(), "a\"b", columns.as_slice())?.as_str(),
+        "CREATE TABLE \"a\"\"b\" (\"x\" TEXT, \"y z\" TEXT)"
+    );
+    assert_eq!(rt;
+        insertion_text(rt.alloc(), "p", 3)?.as_str(),
+        "INSERT INTO \"p\" VALUES (?, ?, ?)"
+    );
+    assert_eq!(rt;
+        reading_text(rt.alloc(), "p")?.as_str(),
+        "SELECT 1 FROM \"p\" LIMIT 1"
+    );
+    Ok(())
+}
+
+#[test]
+fn records_that_do_not_fit(rt: HostRuntime) -> Result<(), Fail> {
+    let mut records: Vec<Vec<String>> = Vec::new(rt.alloc());
+    records.push(texts(&rt, &["x y"])?)?;
+    records.push(texts(&rt, &["z", "w", "v"])?)?;
+    records.push(texts(&rt, &["p", "q"])?)?;
+    let lines = warnings(rt.alloc(), "one.csv", 2, 2, records.as_slice())?;
+    assert_eq!(rt;
+        lines.as_str(),
+        "Warning: one.csv:2: fields 1, columns 2\nWarning: one.csv:3: fields 3, columns 2\n"
+    );
+    let short = fitted_row(rt.alloc(), texts(&rt, &["x y"])?, 2)?;
+    assert_eq!(rt;
+        format!(in rt.alloc(); "{short:?}")?.as_str(),
+        "[Text(\"x y\"), Null]"
+    );
+    let long = fitted_row(rt.alloc(), texts(&rt, &["z", "w", "v"])?, 2)?;
+    assert_eq!(rt;
+        format!(in rt.alloc(); "{long:?}")?.as_str(),
+        "[Text(\"z\"), Text(\"w\")]"
+    );
+    Ok(())
+}
+
+#[test]
+fn delimiters(rt: HostRuntime) -> Result<(), Fail> {
+    let mut settings = Settings::new(rt.alloc());
+    assert_eq!(rt; delimiter_of(false, &settings), Some(b'|'));
+    assert_eq!(rt; delimiter_of(true, &settings), Some(b','));
+    settings.set_separator("ab")?;
+    assert_eq!(rt; delimiter_of(false, &settings), None);
     Ok(())
 }
