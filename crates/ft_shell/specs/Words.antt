@@ -1,0 +1,84 @@
+-- The words of a statement with their texts: keywords, names, texts and numbers. Names and literals are those of the SQLite
+-- document "SQL Language Expressions" (section "Literal Values (Constants)") and of its page "SQLite Keywords".
+use Rattle.std.specs.Prelude.{ℕ, ◌+◌, ◌-◌, Bool, true, false, ◌==◌, ◌&&◌, List, [], ◌∷◌, map, length, take, slice_range, Option, Some, None, if◌then◌else◌, bytes_eq, chars, encode_utf8_all}
+use Rattle.std.specs.Str.{str_eq_ignore_ascii_case}
+use Rattle.shell_text.specs.Words.{words_of}
+use Rattle.shell_text.specs.declared.words.SqlWord.{SqlWord}
+use Rattle.shell_text.specs.declared.words.SqlKind.{SqlKind}
+use Rattle.shell_text.specs.declared.words.SqlKind.TheVariants as kinds
+
+-- a word by its kind, and its bytes with the marks of a literal or a quoted name
+pub record Token : Type 0 where
+  pub kind : SqlKind
+  pub text : List ℕ
+
+abbrev pub token_of : List ℕ → SqlWord → Token
+token_of text w = record { kind = w.kind; text = slice_range text w.start (w.start + w.size) }
+
+-- the words of a statement's text, in order
+abbrev pub tokens_of : List ℕ → List Token
+tokens_of text = map (token_of text) (words_of text)
+
+abbrev pub is_bare : SqlKind → Bool
+is_bare kinds.Word = true
+is_bare _ = false
+
+abbrev pub is_mark : SqlKind → Bool
+is_mark kinds.Symbol = true
+is_mark _ = false
+
+-- the word is this keyword: it stands without marks, in any case of ASCII letters ("SQLite Keywords")
+abbrev pub is_keyword : List ℕ → Token → Bool
+is_keyword keyword t = is_bare t.kind && str_eq_ignore_ascii_case t.text keyword
+
+-- the word is this single character
+abbrev pub is_symbol : List ℕ → Token → Bool
+is_symbol symbol t = is_mark t.kind && bytes_eq t.text symbol
+
+-- without the second mark of each two that stand side by side; `after` says that the character before was the first of two
+abbrev pub halved : ℕ → Bool → List ℕ → List ℕ
+halved mark after [] = []
+halved mark after (c ∷ cs) = if after && c == mark then halved mark false cs else c ∷ halved mark (c == mark) cs
+
+-- a square bracket is closed by its counterpart, another mark by itself ("SQLite Keywords")
+abbrev pub closing : ℕ → ℕ
+closing mark = if mark == 0x5B then 0x5D else mark
+
+abbrev pub all_but_last : {A : Type 0} → List A → List A
+all_but_last xs = take (length xs - 1) xs
+
+-- the characters between two marks, where the closing one is doubled ("Literal Values (Constants)"; no closing bracket stands
+-- between brackets)
+abbrev pub between_marks : List ℕ → List ℕ
+between_marks [] = []
+between_marks (mark ∷ rest) = halved (closing mark) false (all_but_last rest)
+
+-- what a text or a quoted name is without its marks
+abbrev pub without_marks : List ℕ → List ℕ
+without_marks text = encode_utf8_all (between_marks (chars text))
+
+-- the text that a word stands for
+abbrev pub bare_text : SqlKind → List ℕ → List ℕ
+bare_text kinds.Quoted text = without_marks text
+bare_text kinds.Text text = without_marks text
+bare_text _ text = text
+
+abbrev pub bare : Token → List ℕ
+bare t = bare_text t.kind t.text
+
+-- a name is any word without marks, or a quoted one ("SQLite Keywords"; that a keyword may be a name is an own choice)
+abbrev pub is_name : SqlKind → Bool
+is_name kinds.Word = true
+is_name kinds.Quoted = true
+is_name _ = false
+
+abbrev pub name_of : Token → Option (List ℕ)
+name_of t = if is_name t.kind then Some (bare t) else None
+
+-- a text stands between single quotes ("Literal Values (Constants)")
+abbrev pub is_literal : SqlKind → Bool
+is_literal kinds.Text = true
+is_literal _ = false
+
+abbrev pub literal_of : Token → Option (List ℕ)
+literal_of t = if is_literal t.kind then Some (bare t) else None

@@ -1,0 +1,203 @@
+// The parts of an import.
+ghost use Rattle.std.specs.Prelude.{◌≡◌, ◌+◌, ◌-◌, ◌^◌, ◌<◌, ◌++◌, length, map, codes, chars, string_bytes, replicate, IfOk, OnOk};
+ghost use Rattle.std.specs.List.{flat_map, enumerate_from};
+ghost use Rattle.ft_content.specs.Views as views;
+ghost use Rattle.ft_content.specs.Content.{Null, Text};
+ghost use Rattle.ft_shell.specs.Imports as forms;
+ghost use Rattle.ft_shell.specs.Views.{texts_of};
+
+use ft_content::Value;
+use shell_text::Settings;
+use std::alloc::{AllocError, Global};
+use std::fmt::Write;
+
+// Puts a name between quotation marks behind a text.
+fn push_identifier(text: &mut String, name: &str) -> Result<(), AllocError>
+    ensures { OnOk result (string_bytes text.new ≡ string_bytes text.old ++ forms.identifier name.now) }
+{
+    text.push('"')?;
+    push_all_doubled(text, name)?;
+    text.push('"')?;
+    Ok(())
+}
+
+// Puts a character behind a text, or two quotation marks for one.
+fn push_doubled(text: &mut String, c: char) -> Result<(), AllocError>
+    ensures { OnOk result (string_bytes text.new ≡ string_bytes text.old ++ forms.doubled c) }
+{
+    if c == '"' {
+        text.push_str("\"\"")?;
+    } else {
+        text.push(c)?;
+    }
+    Ok(())
+}
+
+// Puts the characters of a name behind a text, with two quotation marks for one.
+fn push_all_doubled(text: &mut String, name: &str) -> Result<(), AllocError>
+    ensures { OnOk result (string_bytes text.new ≡ string_bytes text.old ++ flat_map forms.doubled (chars name.now)) }
+{
+    for c in name.chars() {
+        push_doubled(text, c)?;
+    }
+    Ok(())
+}
+
+/// A statement that `sqlite` runs where a table of this name can be read.
+pub fn reading_text(alloc: Global, name: &str) -> Result<String, AllocError>
+    ensures { IfOk result (λ text. string_bytes text ≡ forms.reading_of name.now) }
+{
+    let mut text = "SELECT 1 FROM ".to_string(alloc)?;
+    push_identifier(&mut text, name)?;
+    text.push_str(" LIMIT 1")?;
+    Ok(text)
+}
+
+// Puts so many marks behind a text, with a comma between each two.
+
+fn push_marks(text: &mut String, count: usize) -> Result<(), AllocError>
+    ensures { OnOk result (string_bytes text.new ≡ string_bytes text.old ++ forms.with_commas (λ mark. mark) (replicate count (codes "?"))) }
+{
+    if count == 0 {
+        return Ok(());
+    }
+    text.push_str("?")?;
+    for place in 1..count {
+        text.push_str(", ?")?;
+    }
+    Ok(())
+}
+
+/// A statement that puts a row of so many values into a table of this name.
+pub fn insertion_text(alloc: Global, name: &str, count: usize) -> Result<String, AllocError>
+    ensures { IfOk result (λ text. string_bytes text ≡ forms.insertion_of name.now count) }
+{
+    let mut text = "INSERT INTO ".to_string(alloc)?;
+    push_identifier(&mut text, name)?;
+    text.push_str(" VALUES (")?;
+    push_marks(&mut text, count)?;
+    text.push_str(")")?;
+    Ok(text)
+}
+
+fn push_column(text: &mut String, column: &str) -> Result<(), AllocError>
+    ensures { OnOk result (string_bytes text.new ≡ string_bytes text.old ++ forms.text_column column.now) }
+{
+    push_identifier(text, column)?;
+    text.push_str(" TEXT")?;
+    Ok(())
+}
+
+// Puts columns behind a text, with a comma between each two.
+fn push_columns(text: &mut String, columns: &[String]) -> Result<(), AllocError>
+    ensures { OnOk result (string_bytes text.new ≡ string_bytes text.old ++ forms.with_commas forms.text_column (map string_bytes columns.now)) }
+{
+    let [first, rest @ ..] = columns else {
+        return Ok(());
+    };
+    push_column(text, first.as_str())?;
+    for column in rest {
+        text.push_str(", ")?;
+        push_column(text, column.as_str())?;
+    }
+    Ok(())
+}
+
+/// A statement that makes a table of this name, with columns of texts.
+pub fn creation_text(alloc: Global, name: &str, columns: &[String]) -> Result<String, AllocError>
+    ensures { IfOk result (λ text. string_bytes text ≡ forms.creation_of name.now (map string_bytes columns.now)) }
+{
+    let mut text = "CREATE TABLE ".to_string(alloc)?;
+    push_identifier(&mut text, name)?;
+    text.push_str(" (")?;
+    push_columns(&mut text, columns)?;
+    text.push_str(")")?;
+    Ok(text)
+}
+
+// Puts NULL behind values up to so many.
+fn fill(row: &mut Vec<Value>, count: usize) -> Result<(), AllocError>
+    ensures { OnOk result (views.cells_of row.new ≡ views.cells_of row.old ++ replicate (count - length row.old.items) Null) }
+{
+    let missing = count.saturating_sub(row.len());
+    for place in 0..missing {
+        row.push(Value::Null)?;
+    }
+    Ok(())
+}
+
+// Fields as values.
+fn text_values(alloc: Global, fields: Vec<String>) -> Result<Vec<Value>, AllocError>
+    ensures { IfOk result (λ row. views.cells_of row ≡ map Text (texts_of fields)) }
+{
+    let mut row = Vec::new(alloc);
+    for field in fields {
+        row.push(Value::Text(field))?;
+    }
+    Ok(row)
+}
+
+/// A record's fields in so many columns: cut, or filled with NULL.
+pub fn fitted_row(
+    alloc: Global,
+    fields: Vec<String>,
+    count: usize,
+) -> Result<Vec<Value>, AllocError>
+    ensures { IfOk result (λ row. views.cells_of row ≡ forms.fitted count (texts_of fields)) }
+{
+    let mut row = text_values(alloc, fields)?;
+    row.truncate(count);
+    fill(&mut row, count)?;
+    Ok(row)
+}
+
+// The line for a record of this number that doesn't fit.
+fn push_warning(
+    text: &mut String,
+    file: &str,
+    columns: usize,
+    number: usize,
+    fields: &[String],
+) -> Result<(), AllocError>
+    ensures { OnOk result (string_bytes text.new ≡ string_bytes text.old ++ forms.warning file.now columns (number, map string_bytes fields.now)) }
+{
+    let count = fields.len();
+    if count != columns {
+        writeln!(
+            text,
+            "Warning: {file}:{number}: fields {count}, columns {columns}"
+        )?;
+    }
+    Ok(())
+}
+
+/// The lines for those of the records that don't fit so many columns. The first of the records has this number.
+pub fn warnings(
+    alloc: Global,
+    file: &str,
+    columns: usize,
+    first: usize,
+    records: &[Vec<String>],
+) -> Result<String, AllocError>
+    requires { first + length records.now < 2 ^ 64 }
+    ensures { IfOk result (λ text. string_bytes text ≡ forms.warnings file.now columns (enumerate_from first (map texts_of records.now))) }
+{
+    let mut text = String::new(alloc);
+    for (i, record) in records.iter().enumerate() {
+        push_warning(&mut text, file, columns, first + i, record.as_slice())?;
+    }
+    Ok(text)
+}
+
+/// What parts the fields of a file: a comma where that is said, or else the separator, if it may part fields.
+pub fn delimiter_of(csv: bool, settings: &Settings) -> Option<u8>
+    ensures { result ≡ forms.delimiter_of csv settings.now }
+{
+    if csv {
+        return Some(b',');
+    }
+    match settings.separator().as_bytes() {
+        [b] if *b > 0 && *b < 0x80 && !(*b == b'"' || *b == b'\r' || *b == b'\n') => Some(*b),
+        _ => None,
+    }
+}

@@ -1,0 +1,30 @@
+//! The shell: statements, dot-commands and what a session does with them.
+#![tactic(auto)]
+
+mod change;
+mod create;
+mod dots;
+mod imports;
+mod insert;
+mod plain;
+mod reading;
+mod replies;
+mod select;
+mod statement;
+mod tables;
+mod texts;
+mod values;
+mod words;
+
+pub use crate::dots::{DotCommand, Import, dot_command};
+pub use crate::imports::{
+    creation_text, delimiter_of, fitted_row, insertion_text, reading_text, warnings,
+};
+pub use crate::plain::{PlainStatement, read_plain};
+pub use crate::replies::write_reply;
+pub use crate::statement::{Class, StatementFault, read_statement};
+pub use crate::tables::listed_tables;
+pub use crate::texts::{fault_line, fault_text, split_text, statement_text, usage_text};
+
+#[cfg(test)]
+mod tests;

@@ -1,0 +1,180 @@
+// Which class a statement is of.
+ghost use Rattle.std.specs.Prelude.{◌≡◌, ◌∷◌, [], ◌||◌, None, Some, codes, map, string_bytes, option_map, is_some, IfOk, IsErrOf};
+ghost use Rattle.std.specs.List.{list_any};
+ghost use Rattle.shell_text.specs.Words.{words_of};
+ghost use Rattle.ft_content.specs.Views as views;
+ghost use Rattle.ft_shell.specs.declared.statement.StatementFault.TheVariants.{Syntax, Memory};
+ghost use Rattle.ft_shell.specs.Words as tokens;
+ghost use Rattle.ft_shell.specs.Reading as reading;
+ghost use Rattle.ft_shell.specs.Statements as forms;
+ghost use Rattle.ft_shell.specs.Views.{seen, plain};
+ghost use Rattle.ft_shell.specs.Classes.{class_as};
+
+use crate::change::{delete, update};
+use crate::create::{create, drop_table};
+use crate::insert::{insert, special};
+use crate::reading::keyword_at;
+use crate::select::select;
+use crate::words::{Piece, is_keyword, is_symbol, name_of, pieces_of};
+use ft_content::{Command, TableInfo};
+use shell_text::SqlWord;
+use std::alloc::{AllocError, AllocFailed, Global};
+use thiserror::Error;
+
+/// Who runs a statement: plain SQL, or full-text tables.
+#[derive(Debug, Drop)]
+pub enum Class {
+    Plain,
+    FullText(Command),
+}
+
+/// Why a statement has no class, in the order of the tests.
+#[derive(Clone, Copy, Debug, PartialEq, Eq, Error)]
+pub enum StatementFault {
+    #[error("unsupported full-text statement")]
+    Syntax,
+    #[error("out of memory")]
+    Memory,
+}
+
+impl From<AllocError> for StatementFault {
+    ghost from_gives = { λ _ fault. fault ≡ Memory };
+
+    fn from(_error: AllocError) -> StatementFault {
+        StatementFault::Memory
+    }
+}
+
+impl<T: Drop> From<AllocFailed<T>> for StatementFault {
+    ghost from_gives = { λ _ fault. fault ≡ Memory };
+
+    fn from(_error: AllocFailed<T>) -> StatementFault {
+        StatementFault::Memory
+    }
+}
+
+// Without the semicolon at the end, if there is one.
+fn without_end<'a>(words: &'a [Piece<'a>]) -> &'a [Piece<'a>]
+    ensures { plain result.now ≡ forms.without_end (plain words.now) }
+{
+    let [front @ .., last] = words else {
+        return words;
+    };
+    if is_symbol(last, ";") { front } else { words }
+}
+
+// The command that words spell, if they spell one.
+#[tactic(auto, unfolding(crate::specs::Statements::command_of))]
+fn command_of(alloc: Global, words: &[Piece<'_>]) -> Result<Option<Command>, AllocError>
+    ensures { IfOk result (λ command. option_map views.command_of command ≡ forms.command_of (plain words.now)) }
+{
+    if let Some(command) = create(alloc, words)? {
+        return Ok(Some(command));
+    }
+    if let Some(command) = drop_table(alloc, words)? {
+        return Ok(Some(command));
+    }
+    if let Some(command) = special(alloc, words)? {
+        return Ok(Some(command));
+    }
+    if let Some(command) = insert(alloc, words)? {
+        return Ok(Some(command));
+    }
+    if let Some(command) = update(alloc, words)? {
+        return Ok(Some(command));
+    }
+    if let Some(command) = delete(alloc, words)? {
+        return Ok(Some(command));
+    }
+    select(alloc, words)
+}
+
+// Whether a full-text table's name behind this word makes a statement full-text.
+fn leads(word: &Piece<'_>) -> bool
+    ensures { result ≡ forms.leads (seen word.now) }
+{
+    is_keyword(word, "FROM")
+        || is_keyword(word, "INTO")
+        || is_keyword(word, "UPDATE")
+        || is_keyword(word, "TABLE")
+        || is_keyword(word, "JOIN")
+        || is_keyword(word, "EXISTS")
+}
+
+// Whether one of these tables has this name.
+pub(crate) fn has_table(tables: &[TableInfo], name: &str) -> bool
+    ensures { result ≡ list_any (forms.is_named name.now) (views.info_names tables.now) }
+{
+    tables
+        .iter()
+        .any(|table| name.eq_ignore_ascii_case(table.name.as_str()))
+}
+
+// Whether this word is the name of one of these tables.
+fn is_table(alloc: Global, tables: &[TableInfo], word: &Piece<'_>) -> Result<bool, AllocError>
+    ensures { IfOk result (λ is. is ≡ forms.is_table (views.info_names tables.now) (seen word.now)) }
+{
+    match name_of(alloc, word)? {
+        Some(name) => Ok(has_table(tables, name.as_str())),
+        None => Ok(false),
+    }
+}
+
+// Whether one of these tables is named behind a word that leads to it.
+fn names_table(alloc: Global, tables: &[TableInfo], words: &[Piece<'_>]) -> Result<bool, AllocError>
+    ensures { IfOk result (λ names. names ≡ forms.names_table (views.info_names tables.now) (plain words.now)) }
+{
+    for place in 1..words.len() {
+        if leads(&words[place - 1]) && is_table(alloc, tables, &words[place])? {
+            return Ok(true);
+        }
+    }
+    Ok(false)
+}
+
+fn creates_virtual(words: &[Piece<'_>]) -> bool
+    ensures { result ≡ is_some (reading.keywords_at (codes "CREATE" ∷ codes "VIRTUAL" ∷ []) (plain words.now)) }
+{
+    match keyword_at(words, "CREATE") {
+        Some(rest) => keyword_at(rest, "VIRTUAL").is_some(),
+        None => false,
+    }
+}
+
+fn is_full_text(
+    alloc: Global,
+    tables: &[TableInfo],
+    words: &[Piece<'_>],
+) -> Result<bool, AllocError>
+    ensures { IfOk result (λ is. is ≡ forms.is_full_text (views.info_names tables.now) (plain words.now)) }
+{
+    if creates_virtual(words) {
+        return Ok(true);
+    }
+    names_table(alloc, tables, words)
+}
+
+/// The class of a statement, where these full-text tables are there. A full-text statement is one that begins with CREATE
+/// VIRTUAL or names one of the tables directly behind FROM, INTO, UPDATE, TABLE, JOIN or EXISTS; one that spells no command
+/// is refused as `Syntax`. Any other is plain. The words are those of the text.
+#[tactic(auto, unfolding(crate::specs::Statements::class_of))]
+pub fn read_statement(
+    alloc: Global,
+    text: &str,
+    words: &[SqlWord],
+    tables: &[TableInfo],
+) -> Result<Class, StatementFault>
+    requires { words.now ≡ words_of text.now }
+    ensures class { IfOk result (λ class. forms.class_of (views.info_names tables.now) (tokens.tokens_of text.now) ≡ Some (class_as class)) }
+    ensures syntax { IsErrOf result StatementFault.Syntax → forms.class_of (views.info_names tables.now) (tokens.tokens_of text.now) ≡ None }
+{
+    let pieces = pieces_of(alloc, text, words)?;
+    let pieces = pieces.as_slice();
+    if !is_full_text(alloc, tables, pieces)? {
+        return Ok(Class::Plain);
+    }
+    match command_of(alloc, without_end(pieces))? {
+        Some(command) => Ok(Class::FullText(command)),
+        None => Err(StatementFault::Syntax),
+    }
+}
