@@ -9,6 +9,7 @@ mod doc_lists;
 mod document;
 mod document_index;
 mod documents;
+mod execute;
 mod full_text;
 mod insert;
 mod matching;
