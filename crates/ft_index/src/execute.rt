@@ -99,8 +99,8 @@ pub(crate) fn execute_command<S: Alter>(
     }
 }
 
-// The columns that an Insert lists.
-fn listed(columns: &Option<Vec<String>>) -> Option<&[String]>
+/// The columns that an Insert lists.
+pub(crate) fn listed(columns: &Option<Vec<String>>) -> Option<&[String]>
     ensures { option_map (λ n. map string_bytes n.now) result ≡ option_map names_in columns.now }
 {
     match columns {

@@ -17,6 +17,7 @@ mod names;
 mod new_documents;
 mod open;
 mod optimize;
+mod plan;
 mod query;
 mod rebuild;
 mod rewrite;
