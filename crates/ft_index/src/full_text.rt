@@ -44,7 +44,8 @@ impl<S: Alter> Model for FullText<S> {
 }
 
 impl<S: Alter> FullText<S> {
-    ghost use Rattle.std.specs.Prelude.{◌≡◌, ◌↔◌, map, string_bytes, is_ok, IsTrue, IfOk, IfErr};
+    ghost use Rattle.std.specs.Prelude.{◌≡◌, ◌⊎◌, ◌↔◌, map, string_bytes, is_ok, IsTrue, IfOk, IfErr};
+    ghost use Rattle.ft_content.specs.declared.fault.Fault.TheVariants as faults;
     ghost use Rattle.ft_content.specs.Deserved.{Contents};
     ghost use Rattle.ft_content.specs.Views.{known_info, command_of, answer_of};
     ghost use Rattle.ft_index.specs.Crashes.{CommandSurvives, NoteSurvives};
@@ -113,6 +114,7 @@ impl<S: Alter> FullText<S> {
     /// Whether each table's rows are documents with exactly the index rows made from scratch. They are read and compared.
     pub fn check_all(&mut self) -> Result<bool, Fault>
         ensures all { IsUp S.Store self.new → IfOk result (λ all. (contents : Contents) → Holds S.Store self.old contents → IsTrue all ↔ AreSound contents) }
+        ensures fault { IfErr result (λ fault. (fault ≡ faults.Store) ⊎ (fault ≡ faults.Memory)) }
         ensures looks { OnlyLooks S.Store self.old self.new }
     {
         check_all(self.alloc, &mut self.store)
