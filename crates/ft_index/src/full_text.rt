@@ -53,7 +53,7 @@ impl<S: Alter> FullText<S> {
     ghost use Rattle.ft_index.specs.RowsRead.{CountsRows};
     ghost use Rattle.ft_index.specs.DocumentsRead.{Looks};
     ghost use Rattle.ft_index.specs.Opened.{Opens};
-    ghost use Rattle.ft_index.specs.Kept.{IsUp, value_of, Holds, AreSound, OnlyLooks, Executes, Plans, Notes, KeptByCalls, NoneGetsUnsound, NamesStayApart};
+    ghost use Rattle.ft_index.specs.Kept.{IsUp, value_of, Holds, AreSound, OnlyLooks, Executes, Plans, Notes, KeptByCalls, NoneGetsUnsound, NamesStayApart, HoldsOneContents};
 
     /// Takes a store, and marks each table whose rows aren't documents with exactly the index rows made from scratch. The
     /// store is only read; where a read is refused it is handed back.
@@ -156,5 +156,11 @@ impl<S: Alter> FullText<S> {
         ensures kept { KeptByCalls S.Store }
         ensures sound { NoneGetsUnsound }
         ensures names { NamesStayApart }
+    {}
+
+    /// What a store holds is settled: no two contents are held by one store. So `new` gives each table one mark, and of what a
+    /// crash left the marks of the contents before the command or after it.
+    pub fn one_store_holds_one_contents()
+        ensures { HoldsOneContents }
     {}
 }
