@@ -7,6 +7,7 @@ mod dots;
 mod imports;
 mod insert;
 mod plain;
+mod plain_rows;
 mod reading;
 mod replies;
 mod select;
@@ -21,6 +22,7 @@ pub use crate::imports::{
     creation_text, delimiter_of, fitted_row, insertion_text, reading_text, warnings,
 };
 pub use crate::plain::{PlainStatement, read_plain};
+pub use crate::plain_rows::plain_grid;
 pub use crate::replies::write_reply;
 pub use crate::statement::{Class, StatementFault, read_statement};
 pub use crate::tables::listed_tables;
