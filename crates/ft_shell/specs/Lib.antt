@@ -15,3 +15,4 @@ pub mod Texts
 pub mod Replies
 pub mod Imports
 pub mod PlainRows
+pub mod PlainTurns

@@ -8,6 +8,7 @@ mod imports;
 mod insert;
 mod plain;
 mod plain_rows;
+mod plain_turns;
 mod reading;
 mod replies;
 mod select;
@@ -23,6 +24,7 @@ pub use crate::imports::{
 };
 pub use crate::plain::{PlainStatement, read_plain};
 pub use crate::plain_rows::plain_grid;
+pub use crate::plain_turns::{PlainFault, ask, refusal_text};
 pub use crate::replies::write_reply;
 pub use crate::statement::{Class, StatementFault, read_statement};
 pub use crate::tables::listed_tables;
