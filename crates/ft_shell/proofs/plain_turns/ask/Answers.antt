@@ -22,18 +22,20 @@ returns-in_err-rows-clause-asks g c = λ clean.
 pub returns-in-Ok-Some-clause-asks : goal.returns-in-Ok-Some-clause-asks
 returns-in-Ok-Some-clause-asks g c = λ clean.
     let mid : HasCleanDisk (state g.P.Store c.prepare.new.self) = omega (arith, c.query_all.ensures.survives.clean, clean) in
-    let first : HasCleanDisk (state g.P.Store c.args.conn.now) = omega (arith, c.prepare.ensures.survives.clean, mid) in
-    (answered_by g.P.Store c.args.text.now c.args.conn.now c.prepare.new.self c.query_all.new.conn c.in_ok-statement.statement c.in_ok-rows.rows.items first
-    (c.in_ok-statement.ensures.shape mid) (c.in_ok-statement.ensures.ok mid) (c.in_ok-rows.ensures.ok clean),
-    (λ j. answer_table (sym c.column_names.ensures j) (sym c.as_slice.ensures.value j)) ∙ sym c.in-Ok-Some.ensures ∙ ap (option_map table_of) c.in-Ok-Some.field-0-is)
+    let first : HasCleanDisk (state g.P.Store c.args.conn.now) = omega (arith, c.prepare.ensures.survives.clean, mid) in (
+      answered_by g.P.Store c.args.text.now c.args.conn.now c.prepare.new.self c.query_all.new.conn c.in_ok-statement.statement c.in_ok-rows.rows.items first
+          (c.in_ok-statement.ensures.shape mid) (c.in_ok-statement.ensures.ok mid) (c.in_ok-rows.ensures.ok clean),
+      (λ j. answer_table (sym c.column_names.ensures j) (sym c.as_slice.ensures.value j)) ∙ sym c.in-Ok-Some.ensures ∙ ap (option_map table_of) c.in-Ok-Some.field-0-is,
+    )
 
 pub returns-in-Ok-None-clause-asks : goal.returns-in-Ok-None-clause-asks
 returns-in-Ok-None-clause-asks g c = λ clean.
     let mid : HasCleanDisk (state g.P.Store c.prepare.new.self) = omega (arith, c.query_all.ensures.survives.clean, clean) in
-    let first : HasCleanDisk (state g.P.Store c.args.conn.now) = omega (arith, c.prepare.ensures.survives.clean, mid) in
-    (answered_by g.P.Store c.args.text.now c.args.conn.now c.prepare.new.self c.query_all.new.conn c.in_ok-statement.statement c.in_ok-rows.rows.items first
-    (c.in_ok-statement.ensures.shape mid) (c.in_ok-statement.ensures.ok mid) (c.in_ok-rows.ensures.ok clean),
-    (λ j. answer_table (sym c.column_names.ensures j) (sym c.as_slice.ensures.value j)) ∙ sym c.in-Ok-None.ensures ∙ ap (option_map table_of) c.in-Ok-None.field-0-is)
+    let first : HasCleanDisk (state g.P.Store c.args.conn.now) = omega (arith, c.prepare.ensures.survives.clean, mid) in (
+      answered_by g.P.Store c.args.text.now c.args.conn.now c.prepare.new.self c.query_all.new.conn c.in_ok-statement.statement c.in_ok-rows.rows.items first
+          (c.in_ok-statement.ensures.shape mid) (c.in_ok-statement.ensures.ok mid) (c.in_ok-rows.ensures.ok clean),
+      (λ j. answer_table (sym c.column_names.ensures j) (sym c.as_slice.ensures.value j)) ∙ sym c.in-Ok-None.ensures ∙ ap (option_map table_of) c.in-Ok-None.field-0-is,
+    )
 
 pub returns-clause-asks : goal.returns-clause-asks
 returns-clause-asks g c = λ clean.
