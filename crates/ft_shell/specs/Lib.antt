@@ -16,3 +16,4 @@ pub mod Replies
 pub mod Imports
 pub mod PlainRows
 pub mod PlainTurns
+pub mod Settings

@@ -16,6 +16,7 @@ use Rattle.shell_text.specs.Print.{Table, table_of}
 use Rattle.ft_shell.specs.declared.plain_turns.PlainFault.{PlainFault}
 use Rattle.ft_shell.specs.declared.plain_turns.PlainFault.TheVariants.{Float, Refused, Memory}
 use Rattle.ft_shell.specs.PlainRows.{answer_table}
+use Rattle.ft_shell.specs.Imports.{reading_of}
 
 abbrev pub is_memory_error : Error → Bool
 is_memory_error (SqliteFailure code.OutOfMemory) = true
@@ -47,3 +48,10 @@ module _ {S : Type 0} (g : Ghosts S) where
   Asks text old new (Err Float) = (answered : IsAnswered text old new) × (printed_of answered ≡ None)
   Asks text old new (Err (Refused e)) = IsRefused text old new e
   Asks text old new (Err Memory) = IsAnswered text old new
+
+  -- Whether a table can be read: `sqlite` answers a reading of it, or refuses it for another cause than memory (own choice). Where
+  -- that is not known nothing was tried, or memory was wanting.
+  abbrev pub TellsTable : List ℕ → Held S → Held S → Option Bool → Type 0
+  TellsTable name old new (Some true) = HasCleanDisk (state g old) × (rows : List Row) × Shown (reading_of name) [] (state g old) (state g new) rows
+  TellsTable name old new (Some false) = HasCleanDisk (state g old) × (e : Error) × (is_memory_error e ≡ false) × FailsToQuery (reading_of name) [] (state g old) (state g new) e
+  TellsTable name old new None = (new ≡ old) ⊎ (HasCleanDisk (state g old) × (e : Error) × (is_memory_error e ≡ true) × FailsToQuery (reading_of name) [] (state g old) (state g new) e)

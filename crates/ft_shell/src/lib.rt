@@ -12,6 +12,7 @@ mod plain_turns;
 mod reading;
 mod replies;
 mod select;
+mod setting;
 mod statement;
 mod tables;
 mod texts;
@@ -24,8 +25,9 @@ pub use crate::imports::{
 };
 pub use crate::plain::{PlainStatement, read_plain};
 pub use crate::plain_rows::plain_grid;
-pub use crate::plain_turns::{PlainFault, ask, refusal_text};
+pub use crate::plain_turns::{PlainFault, ask, reads_table, refusal_text};
 pub use crate::replies::write_reply;
+pub use crate::setting::{apply, print_text};
 pub use crate::statement::{Class, StatementFault, read_statement};
 pub use crate::tables::listed_tables;
 pub use crate::texts::{fault_line, fault_text, split_text, statement_text, usage_text};

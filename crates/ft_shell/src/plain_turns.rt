@@ -3,8 +3,9 @@ ghost use Rattle.std.specs.Prelude.{◌≡◌, false, true, codes, string_bytes,
 ghost use Rattle.sqlite.specs.State.{HasCleanDisk};
 ghost use Rattle.sqlite.specs.Held.{state};
 ghost use Rattle.ft_shell.specs.declared.plain_turns.PlainFault.TheVariants.{Refused};
-ghost use Rattle.ft_shell.specs.PlainTurns.{Asks, is_memory_error};
+ghost use Rattle.ft_shell.specs.PlainTurns.{Asks, TellsTable, is_memory_error};
 
+use crate::imports::reading_text;
 use crate::plain_rows::plain_grid;
 use shell_text::Grid;
 use sqlite::{Alter, Connection, Error, ErrorCode};
@@ -56,4 +57,26 @@ pub fn refusal_text(alloc: Global, error: Error) -> Result<String, AllocError>
         return "out of memory".to_string(alloc);
     }
     format!(in alloc; "{error}")
+}
+
+// Whether an error is want of memory.
+fn is_memory_error(error: Error) -> bool
+    ensures { result ≡ is_memory_error error }
+{
+    matches!(error, Error::SqliteFailure(ErrorCode::OutOfMemory))
+}
+
+/// Whether a table of this name can be read in the plain database: `sqlite` answers a reading of it. None is want of memory.
+pub fn reads_table<P: Alter>(alloc: Global, conn: &mut Connection<P>, name: &str) -> Option<bool>
+    ensures tells { HasCleanDisk (state P.Store conn.new) → TellsTable P.Store name.now conn.old conn.new result }
+    ensures mode { conn.old.in_transaction ≡ false → conn.new.in_transaction ≡ false }
+{
+    let Ok(text) = reading_text(alloc, name) else {
+        return None;
+    };
+    match conn.query_all(text.as_str(), &[]) {
+        Ok(_) => Some(true),
+        Err(error) if is_memory_error(error) => None,
+        Err(_) => Some(false),
+    }
 }
