@@ -43,7 +43,7 @@ cut_and_filled n xs z = filled n n xs z (omega arith)
 
 -- ---- warnings
 
-enumerate_more : {A : Type 0} (from : ℕ) (xs : List A) (y : A) → enumerate_from from (xs ++ y ∷ []) ≡ enumerate_from from xs ++ (from + length xs, y) ∷ []
+pub enumerate_more : {A : Type 0} (from : ℕ) (xs : List A) (y : A) → enumerate_from from (xs ++ y ∷ []) ≡ enumerate_from from xs ++ (from + length xs, y) ∷ []
 enumerate_more from [] y = ap (λ n. (n, y) ∷ []) (let same : from ≡ from + 0 = omega arith in same)
 enumerate_more from (x ∷ xs) y = ap (λ rest. (from, x) ∷ rest) (enumerate_more (from + 1) xs y ∙ ap (λ n. enumerate_from (from + 1) xs ++ (n, y) ∷ []) (let same : from + 1 + length xs ≡ from + suc (length xs) = omega arith in same))
 

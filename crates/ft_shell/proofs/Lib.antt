@@ -6,3 +6,5 @@ pub mod StatementRows
 pub mod DotRows
 pub mod TableLemmas
 pub mod ImportLemmas
+pub mod PlainLemmas
+pub mod TurnLemmas

@@ -14,3 +14,6 @@ pub mod DotViews
 pub mod Texts
 pub mod Replies
 pub mod Imports
+pub mod PlainRows
+pub mod PlainTurns
+pub mod Settings
