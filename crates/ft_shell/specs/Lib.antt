@@ -14,3 +14,7 @@ pub mod DotViews
 pub mod Texts
 pub mod Replies
 pub mod Imports
+pub mod Told
+pub mod ToldViews
+pub mod Shell
+pub mod Sources

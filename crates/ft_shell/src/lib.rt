@@ -10,9 +10,11 @@ mod plain;
 mod reading;
 mod replies;
 mod select;
+mod source;
 mod statement;
 mod tables;
 mod texts;
+mod told;
 mod values;
 mod words;
 
@@ -22,6 +24,7 @@ pub use crate::imports::{
 };
 pub use crate::plain::{PlainStatement, read_plain};
 pub use crate::replies::write_reply;
+pub use crate::source::{Source, SourceFault};
 pub use crate::statement::{Class, StatementFault, read_statement};
 pub use crate::tables::listed_tables;
 pub use crate::texts::{fault_line, fault_text, split_text, statement_text, usage_text};
