@@ -6,3 +6,4 @@ pub mod StatementRows
 pub mod DotRows
 pub mod TableLemmas
 pub mod ImportLemmas
+pub mod AnswerLemmas

@@ -18,3 +18,4 @@ pub mod Told
 pub mod ToldViews
 pub mod Shell
 pub mod Sources
+pub mod Answers

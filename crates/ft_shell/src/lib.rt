@@ -1,6 +1,7 @@
 //! The shell: statements, dot-commands and what a session does with them.
 #![tactic(auto)]
 
+mod answers;
 mod change;
 mod create;
 mod dots;
