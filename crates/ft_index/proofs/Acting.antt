@@ -63,6 +63,7 @@ module _ {S : Type 0} (g : Ghosts S) where
     was_up = λ up. looks_up old new tables tables looks up;
     steps = λ up first holds. (first, subst (λ v. AreHeld v tables first) (sym (looks_same old new tables looks up)) holds, answers up first holds);
     noted = λ up first holds. ap (λ v. v.noted) (looks_same old new tables looks up);
+    unchanged = λ no up. (looks_same old new tables looks up, refl);
   }
 
   -- a plan that is refused
@@ -93,6 +94,7 @@ module _ {S : Type 0} (g : Ghosts S) where
       inr (done_answers first command (planned up first holds).0 (replies first)),
     );
     noted = λ up first holds. ap (λ v. v.noted) (all.value tables up) ∙ (planned up first holds).2;
+    unchanged = λ no up. absurd (let wrong = no in cc);
   }
     where
       all : Changed g old new (map shown_change changes.items) true

@@ -37,6 +37,7 @@ executes_read g old new tables command answer looks answers = record {
   was_up = λ up. record { clean = (let c = up.clean in omega (arith, looks.survives.clean, c)); is_open = (looks.kept up.clean up.is_open).2 };
   steps = λ up first holds. (first, subst (λ v. AreHeld v tables first) (sym (same up)) holds, answers up first holds);
   noted = λ up first holds. ap (λ v. v.noted) (same up);
+  unchanged = λ no up. (same up, refl);
 }
   where
     same : IsUp g (with_tables new tables) → value_in g new ≡ value_in g old

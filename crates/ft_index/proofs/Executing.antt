@@ -31,6 +31,7 @@ executes_same g known command answer answers = record {
   was_up = λ up. up;
   steps = λ up first holds. (first, holds, answers first holds);
   noted = λ up first holds. refl;
+  unchanged = λ no up. (refl, refl);
 }
 
 -- ---- Create
@@ -63,6 +64,7 @@ module _ {S : Type 0} (g : Ghosts S) (table module_name : List ℕ) (options : L
       inr (create_answers first table module_name options names if_new (makes first holds.told).0),
     );
     noted = λ up first holds. ap (λ v. v.noted) (changed.value (with_told (known_info made) tables) up);
+    unchanged = λ no up. absurd (let wrong = no in cc);
   }
 
 -- a change of rows that was refused, for want of memory or by the store
@@ -72,6 +74,7 @@ executes_refused g old new tables changes command fault outside changed = record
   was_up = λ up. changed.was_up tables tables up;
   steps = λ up first holds. (first, subst (λ v. AreHeld v tables first) (sym (changed.value tables up)) holds, inl (is_out outside, refl));
   noted = λ up first holds. ap (λ v. v.noted) (changed.value tables up);
+  unchanged = λ no up. (changed.value tables up, refl);
 }
   where
     is_out : (fault ≡ faults.Store) ⊎ (fault ≡ faults.Memory) → IsTrue (is_outside (Err fault))
@@ -101,6 +104,7 @@ executes_planned g old new tables after_tables changes command plans changed tol
     inr (done_answers first command (plans first holds).0 (told first holds).1),
   );
   noted = λ up first holds. ap (λ v. v.noted) (changed.value after_tables up) ∙ (plans first holds).2;
+  unchanged = λ no up. absurd (let wrong = no in cc);
 }
 
 -- a plan that is refused

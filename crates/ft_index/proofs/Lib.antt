@@ -77,3 +77,4 @@ pub mod SelectAnswers
 pub mod Crashing
 pub mod AskedRows
 pub mod PlanAnswers
+pub mod Counting

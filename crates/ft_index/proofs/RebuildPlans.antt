@@ -174,6 +174,7 @@ module _ {S : Type 0} (g : Ghosts S) (old mid new : StoreState S) (tables : List
           inr (done_answers first command (planned up first holds).0 (done first)),
         );
         noted = λ up first holds. ap (λ v. v.noted) (whole.value after_tables up) ∙ (planned up first holds).2;
+        unchanged = λ no up. absurd (let wrong = no in cc);
       }
 
 -- a plan that is refused

@@ -119,6 +119,7 @@ module _ {S : Type 0} (g : Ghosts S) (old new : StoreState S) (tables : List Kno
     was_up = was_up;
     steps = λ up first holds. (first, subst (λ v. AreHeld v tables first) (sym (same_value up)) holds, answers up first holds);
     noted = λ up first holds. ap (λ (v : StoreValue). v.noted) (same_value up);
+    unchanged = λ no up. (same_value up, refl);
   }
 
   pub select_unfit : (fault : Fault) → IsUnfit tables name fault → Does (Err fault)

@@ -112,6 +112,9 @@ pub record Executes {S : Type 0} (g : Ghosts S) (old : Known S) (command : Comma
   pub steps : IsUp g new → (first : Contents) → Holds g old first → (last : Contents) × Holds g new last × Answers first command answer last
   pub noted : IsUp g new → (first : Contents) → Holds g old first → (value_of g new).noted ≡ (value_of g old).noted
 
+  -- what is refused changes nothing
+  pub unchanged : is_ok answer ≡ false → IsUp g new → (value_of g new ≡ value_of g old) × (new.tables ≡ old.tables)
+
 -- A change names rows of one table and of these documents alone: no change of whole tables.
 abbrev pub IsOfDocids : ℤ → List ℤ → Change → Type 0
 IsOfDocids id docids (AddTable tab name columns skipped) = ⊥

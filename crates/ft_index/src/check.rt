@@ -1,8 +1,9 @@
 //! Comparing the rows of tables with those that they should have.
-ghost use Rattle.std.specs.Prelude.{◌≡◌, ◌↔◌, ℤ, ℕ, List, map, IsTrue, IfOk, OnOk, IfErr};
+ghost use Rattle.std.specs.Prelude.{◌≡◌, ◌⊎◌, ◌↔◌, ℤ, ℕ, List, map, IsTrue, IfOk, IfErr};
 ghost use Rattle.std.specs.List.{list_all};
 ghost use Rattle.sqlite.specs.State.{HasCleanDisk};
 ghost use Rattle.ft_store.specs.Kept.{shows, value_in};
+ghost use Rattle.ft_content.specs.declared.fault.Fault.TheVariants as faults;
 ghost use Rattle.ft_content.specs.Command as plain;
 ghost use Rattle.ft_content.specs.Views.{known_info, answer_of};
 ghost use Rattle.ft_content.specs.Deserved.{Held, Contents};
@@ -68,6 +69,7 @@ fn are_sound(tables: &[TableInfo]) -> bool
 /// Whether every table is sound, by the rows as they are read. The store is only read, whatever is answered.
 pub(crate) fn check_all<S: Alter>(alloc: Global, store: &mut Store<S>) -> Result<bool, Fault>
     ensures all { HasCleanDisk (shows S.Store store.new) → IfOk result (λ all. (contents : Contents) → StoreHolds (value_in S.Store store.old) contents → IsTrue all ↔ AreSound contents) }
+    ensures fault { IfErr result (λ fault. (fault ≡ faults.Store) ⊎ (fault ≡ faults.Memory)) }
     ensures looks { Looks S.Store store.old store.new }
 {
     let tables = opened_tables(alloc, store)?;

@@ -1,8 +1,10 @@
 // Full-text tables over a store.
 use crate::change::change_rows;
 use crate::check::check_all;
+use crate::execute::execute_command;
 use crate::open::opened_tables;
-use ft_content::{Fault, TableInfo};
+use crate::plan::planned_changes;
+use ft_content::{Command, Fault, Reply, TableInfo};
 use ft_store::{RowChange, Store, StoreFault};
 use sqlite::Alter;
 use std::alloc::Global;
@@ -42,12 +44,16 @@ impl<S: Alter> Model for FullText<S> {
 }
 
 impl<S: Alter> FullText<S> {
-    ghost use Rattle.std.specs.Prelude.{◌≡◌, ◌↔◌, map, string_bytes, is_ok, IsTrue, IfOk, IfErr};
+    ghost use Rattle.std.specs.Prelude.{◌≡◌, ◌⊎◌, ◌↔◌, map, string_bytes, is_ok, IsTrue, IfOk, IfErr};
+    ghost use Rattle.ft_content.specs.declared.fault.Fault.TheVariants as faults;
     ghost use Rattle.ft_content.specs.Deserved.{Contents};
-    ghost use Rattle.ft_content.specs.Views.{known_info};
+    ghost use Rattle.ft_content.specs.Views.{known_info, command_of, answer_of};
+    ghost use Rattle.ft_index.specs.Crashes.{CommandSurvives, NoteSurvives};
+    ghost use Rattle.ft_index.specs.Planned.{changes_of};
+    ghost use Rattle.ft_index.specs.RowsRead.{CountsRows};
     ghost use Rattle.ft_index.specs.DocumentsRead.{Looks};
     ghost use Rattle.ft_index.specs.Opened.{Opens};
-    ghost use Rattle.ft_index.specs.Kept.{IsUp, value_of, Holds, AreSound, OnlyLooks, Notes, KeptByCalls, NoneGetsUnsound, NamesStayApart};
+    ghost use Rattle.ft_index.specs.Kept.{IsUp, value_of, Holds, AreSound, OnlyLooks, Executes, Plans, Notes, KeptByCalls, NoneGetsUnsound, NamesStayApart, HoldsOneContents};
 
     /// Takes a store, and marks each table whose rows aren't documents with exactly the index rows made from scratch. The
     /// store is only read; where a read is refused it is handed back.
@@ -74,9 +80,41 @@ impl<S: Alter> FullText<S> {
         self.tables.as_slice()
     }
 
+    /// Executes a command. One that is refused leaves everything as it was.
+    ///
+    /// # Errors
+    ///
+    /// The first fault that the command deserves, in the order of the causes of `Fault`; or `Store` or `Memory`, where the
+    /// store or memory refused it.
+    pub fn execute(&mut self, command: &Command) -> Result<Reply, Fault>
+        ensures executes { Executes S.Store self.old (command_of command.now) (answer_of result) self.new }
+
+        // A Select with MATCH reads the entries of its terms, and where an item is a column the documents that it answers.
+        ensures counts { CountsRows S.Store self.old (command_of command.now) (answer_of result) self.new }
+
+        // A crash leaves what it could leave before, or the contents that the command leaves.
+        ensures crash { CommandSurvives S.Store self.old (command_of command.now) self.new }
+    {
+        execute_command(self.alloc, &mut self.store, &mut self.tables, command)
+    }
+
+    /// The row changes that a command asks for, without making them.
+    ///
+    /// # Errors
+    ///
+    /// As `execute` has them.
+    pub fn plan(&mut self, command: &Command) -> Result<Vec<RowChange>, Fault>
+        ensures plan { IsUp S.Store self.new → Plans S.Store self.old (command_of command.now) (changes_of result) }
+        ensures looks { OnlyLooks S.Store self.old self.new }
+    {
+        let tables = self.tables.as_slice();
+        planned_changes(self.alloc, &mut self.store, tables, command)
+    }
+
     /// Whether each table's rows are documents with exactly the index rows made from scratch. They are read and compared.
     pub fn check_all(&mut self) -> Result<bool, Fault>
         ensures all { IsUp S.Store self.new → IfOk result (λ all. (contents : Contents) → Holds S.Store self.old contents → IsTrue all ↔ AreSound contents) }
+        ensures fault { IfErr result (λ fault. (fault ≡ faults.Store) ⊎ (fault ≡ faults.Memory)) }
         ensures looks { OnlyLooks S.Store self.old self.new }
     {
         check_all(self.alloc, &mut self.store)
@@ -85,6 +123,9 @@ impl<S: Alter> FullText<S> {
     /// Notes a name, in its latest spelling.
     pub fn note(&mut self, name: &str) -> Result<(), Fault>
         ensures noted { Notes S.Store self.old name.now (is_ok result) self.new }
+
+        // A crash leaves what it could leave before, or the name alone.
+        ensures crash { NoteSurvives S.Store self.old name.now self.new }
     {
         let mut changes = Vec::new(self.alloc);
         changes.push(RowChange::Note(String::from_str(self.alloc, name)?))?;
@@ -115,5 +156,11 @@ impl<S: Alter> FullText<S> {
         ensures kept { KeptByCalls S.Store }
         ensures sound { NoneGetsUnsound }
         ensures names { NamesStayApart }
+    {}
+
+    /// What a store holds is settled: no two contents are held by one store. So `new` gives each table one mark, and of what a
+    /// crash left the marks of the contents before the command or after it.
+    pub fn one_store_holds_one_contents()
+        ensures { HoldsOneContents }
     {}
 }

@@ -2,6 +2,8 @@
 #![tactic(auto)]
 
 #[cfg(test)]
+mod index;
+#[cfg(test)]
 mod query;
 #[cfg(test)]
 mod ram;

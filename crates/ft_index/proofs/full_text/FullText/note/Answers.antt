@@ -1,10 +1,14 @@
 -- a note changes no table
 use Rattle.std.proofs.Common.{◌≡◌, ◌∷◌, [], List, map, subst, refl, rules}
 use Rattle.std.specs.Prelude.{is_ok}
-use Rattle.ft_store.specs.Store.{Change, Note}
+use Rattle.ft_store.specs.Store.{Change, Note, all_applied}
+use Rattle.ft_store.specs.Calls.{IsStored}
+use Rattle.ft_store.specs.Kept.{shows, value_in}
 use Rattle.ft_store.specs.Changes.{shown_change}
 use Rattle.ft_content.specs.Views.{known_info}
-use Rattle.ft_index.specs.Kept.{Notes}
+use Rattle.ft_index.specs.Kept.{Known, Notes}
+use Rattle.ft_index.specs.Crashes.{NoteSurvives}
+use Rattle.ft_index.proofs.Crashing.{survives_as}
 use Rattle.ft_index.specs.Changed.{Changed, with_tables}
 use Rattle.ft_index.proofs.Changing.{note_upheld}
 use Rattle.ft_index.proofs.full_text.FullText.note.Goals as goal
@@ -27,4 +31,7 @@ returns g c =
         noted = λ up. changed.value tables up;
         tables = refl;
       });
+      crash = subst (λ (k : Known g.row.S.Denot). NoteSurvives g.S.Store k c.args.name.now (with_tables c.change_rows.new.store tables)) c.self.view_is
+          (survives_as (shows g.S.Store c.self.inside.store) (shows g.S.Store c.change_rows.new.store) _ _ (λ clean db commits up.
+          subst (λ (cs : List Change). IsStored db (all_applied cs (value_in g.S.Store c.self.inside.store))) same (commits up.is_open)) c.change_rows.ensures.crash);
     }
