@@ -8,3 +8,4 @@ pub mod TableLemmas
 pub mod ImportLemmas
 pub mod PlainLemmas
 pub mod TurnLemmas
+pub mod AnswerLemmas

@@ -17,3 +17,8 @@ pub mod Imports
 pub mod PlainRows
 pub mod PlainTurns
 pub mod Settings
+pub mod Told
+pub mod ToldViews
+pub mod Shell
+pub mod Sources
+pub mod Answers

@@ -1,6 +1,7 @@
 //! The shell: statements, dot-commands and what a session does with them.
 #![tactic(auto)]
 
+mod answers;
 mod change;
 mod create;
 mod dots;
@@ -13,9 +14,11 @@ mod reading;
 mod replies;
 mod select;
 mod setting;
+mod source;
 mod statement;
 mod tables;
 mod texts;
+mod told;
 mod values;
 mod words;
 
@@ -28,6 +31,7 @@ pub use crate::plain_rows::plain_grid;
 pub use crate::plain_turns::{PlainFault, ask, reads_table, refusal_text};
 pub use crate::replies::write_reply;
 pub use crate::setting::{apply, print_text};
+pub use crate::source::{Source, SourceFault};
 pub use crate::statement::{Class, StatementFault, read_statement};
 pub use crate::tables::listed_tables;
 pub use crate::texts::{fault_line, fault_text, split_text, statement_text, usage_text};

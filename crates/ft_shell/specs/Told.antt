@@ -1,0 +1,38 @@
+-- What turns of a session write. The form of fault lines, and that a fault ends the session only where bail is on, are own choices
+-- beside the section "Special commands to sqlite3" of "Command Line Shell For SQLite".
+use Rattle.std.specs.Prelude.{ℕ, ◌≡◌, Bool, false, if◌then◌else◌, List, [], ◌∷◌, ◌++◌, ◌+◌, codes}
+use Rattle.shell_text.specs.Print.{Look}
+use Rattle.ft_shell.specs.Texts.{fault_line}
+
+-- what one or more turns write on the two outputs, how many fault lines are among it, and whether the session ends there
+pub record Told : Type 0 where
+  pub out : List ℕ
+  pub err : List ℕ
+  pub faults : ℕ
+  pub ends : Bool
+
+abbrev pub silent : Told
+silent = record { out = []; err = []; faults = 0; ends = false }
+
+abbrev pub says : List ℕ → Told
+says bytes = record { out = bytes; err = []; faults = 0; ends = false }
+
+-- a fault line; where bail is on, it ends the session
+abbrev pub blames : Look → ℕ → List ℕ → Told
+blames look line text = record { out = []; err = fault_line line text; faults = 1; ends = look.bail }
+
+-- lines on standard error that are no fault
+abbrev pub warned : List ℕ → Told
+warned lines = record { out = []; err = lines; faults = 0; ends = false }
+
+-- where echo is on, a unit's text and a line feed stand before what it tells
+abbrev pub echoed : Look → List ℕ → Told → Told
+echoed look text told = record told { out = (if look.echo then text ++ 10 ∷ [] else []) ++ told.out }
+
+-- what a turn tells, and then what the turns after it tell
+abbrev pub followed : Told → Told → Told
+followed first rest = record { out = first.out ++ rest.out; err = first.err ++ rest.err; faults = first.faults + rest.faults; ends = rest.ends }
+
+-- nothing was done, or told of what was done, for want of memory
+abbrev pub lacks_memory : Look → ℕ → Told
+lacks_memory look line = blames look line (codes "out of memory")

@@ -1,0 +1,113 @@
+// What a turn of a session tells, held in memory until the session writes it.
+ghost use Rattle.std.specs.Prelude.{◌≡◌, [], true, string_bytes};
+ghost use Rattle.ft_shell.specs.Told as forms;
+ghost use Rattle.ft_shell.specs.ToldViews.{told_as, text_as};
+
+use shell_text::Settings;
+use std::alloc::Global;
+
+/// The text of a fault line.
+#[derive(Debug, Drop)]
+pub(crate) enum FaultText {
+    Fixed(&'static str),
+    Made(String),
+}
+
+/// A fault line, made as it is written, so that it takes no memory.
+#[derive(Debug, Drop)]
+pub(crate) struct FaultLine {
+    pub(crate) line: u64,
+    pub(crate) text: FaultText,
+}
+
+/// What a turn tells: bytes for standard output; then, for standard error, warnings and at most one fault line. It may end
+/// the session.
+#[derive(Debug, Drop)]
+pub(crate) struct Told {
+    pub(crate) out: Vec<u8>,
+    pub(crate) warnings: String,
+    pub(crate) fault: Option<FaultLine>,
+    pub(crate) ends: bool,
+}
+
+impl Told {
+    pub(crate) fn silent(alloc: Global) -> Told
+        ensures { told_as result ≡ forms.silent }
+    {
+        Told {
+            out: Vec::new(alloc),
+            warnings: String::new(alloc),
+            fault: None,
+            ends: false,
+        }
+    }
+
+    pub(crate) fn says(alloc: Global, bytes: Vec<u8>) -> Told
+        ensures { told_as result ≡ forms.says bytes.items }
+    {
+        Told {
+            out: bytes,
+            warnings: String::new(alloc),
+            fault: None,
+            ends: false,
+        }
+    }
+
+    /// A fault line. Where bail is on, it ends the session.
+    pub(crate) fn fault(alloc: Global, settings: &Settings, line: u64, text: FaultText) -> Told
+        ensures { told_as result ≡ forms.blames settings.now line (text_as text) }
+    {
+        Told {
+            out: Vec::new(alloc),
+            warnings: String::new(alloc),
+            fault: Some(FaultLine { line, text }),
+            ends: settings.bail(),
+        }
+    }
+
+    /// A fault line with a text that takes no memory.
+    pub(crate) fn blames(alloc: Global, settings: &Settings, line: u64, text: &'static str) -> Told
+        ensures { told_as result ≡ forms.blames settings.now line text.now }
+    {
+        Told::fault(alloc, settings, line, FaultText::Fixed(text))
+    }
+
+    /// A fault line with a text that was made.
+    pub(crate) fn blames_text(alloc: Global, settings: &Settings, line: u64, text: String) -> Told
+        ensures { told_as result ≡ forms.blames settings.now line (string_bytes text) }
+    {
+        Told::fault(alloc, settings, line, FaultText::Made(text))
+    }
+
+    /// The fault line of what memory refused.
+    pub(crate) fn lacks_memory(alloc: Global, settings: &Settings, line: u64) -> Told
+        ensures { told_as result ≡ forms.lacks_memory settings.now line }
+    {
+        Told::blames(alloc, settings, line, "out of memory")
+    }
+
+    /// The session ends.
+    pub(crate) fn quits(alloc: Global) -> Told
+        ensures { told_as result ≡ record forms.silent { ends = true } }
+    {
+        Told {
+            out: Vec::new(alloc),
+            warnings: String::new(alloc),
+            fault: None,
+            ends: true,
+        }
+    }
+
+    /// These warnings, and then what is told without warnings.
+    pub(crate) fn after_warnings(self, warnings: String) -> Told
+        requires { string_bytes self.warnings ≡ [] }
+        ensures { told_as result ≡ forms.followed (forms.warned (string_bytes warnings)) (told_as self) }
+    {
+        Told {
+            out: self.out,
+            warnings,
+            fault: self.fault,
+            ends: self.ends,
+        }
+    }
+}
