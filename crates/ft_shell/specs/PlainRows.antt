@@ -1,5 +1,5 @@
 -- What is printed for the rows of a plain query ("Changing Output Formats" of "Command Line Shell For SQLite").
-use Rattle.std.specs.Prelude.{ℕ, Bool, not, ◌==◌, ◌||◌, List, ◌++◌, length, map, Option, Some, None, option_map, if◌then◌else◌, codes, decimal}
+use Rattle.std.specs.Prelude.{ℕ, not, ◌==◌, ◌||◌, List, ◌++◌, length, map, Option, Some, None, option_map, if◌then◌else◌, codes, decimal}
 use Rattle.std.specs.List.{enumerate_from}
 use Rattle.std.specs.Str.{is_utf8}
 use Rattle.sqlite_value.specs.declared.value.Value.{Value}

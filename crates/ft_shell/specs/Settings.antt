@@ -1,5 +1,5 @@
 -- What dot-commands set and print ("Changing Output Formats" of "Command Line Shell For SQLite").
-use Rattle.std.specs.Prelude.{ℕ, Bool, true, List, [], ◌∷◌, ◌++◌, Option, Some}
+use Rattle.std.specs.Prelude.{ℕ, Bool, true, List, [], ◌∷◌, ◌++◌, Some}
 use Rattle.std.specs.List.{join_with_byte}
 use Rattle.shell_text.specs.Print.{Look, may_separate, with_mode}
 use Rattle.ft_shell.specs.Dots.{DotCommand, SetMode, SetHeaders, SetSeparator, SetNull, SetEcho, SetBail}

@@ -2,7 +2,6 @@
 use Rattle.std.proofs.Common.{◌+◌, ◌++◌, ◌∷◌, [], map, sym, ap, ◌∙◌, string_bytes}
 use Rattle.std.proofs.lemmas.List.{map-append}
 use Rattle.ft_shell.specs.PlainRows as forms
-use Rattle.ft_shell.specs.Views.{texts_of}
 use Rattle.ft_shell.proofs.PlainLemmas.{names_more}
 use Rattle.ft_shell.proofs.plain_rows.column_names.Goals as goal
 

@@ -1,12 +1,12 @@
 -- prepared, and then run
-use Rattle.std.proofs.Common.{rules, ◌≡◌, [], ap, sym, ◌∙◌, arith, subst, Result, Ok, Err, Some, None}
+use Rattle.std.proofs.Common.{rules, ◌≡◌, [], ap, sym, ◌∙◌, arith, subst, Err}
 use Rattle.std.specs.Prelude.{option_map}
 use Rattle.sqlite.specs.State.{HasCleanDisk, FailsToQuery}
 use Rattle.sqlite.specs.Held.{state}
 use Rattle.shell_text.specs.Print.{table_of}
 use Rattle.ft_shell.specs.declared.plain_turns.PlainFault.TheVariants.{Refused}
 use Rattle.ft_shell.specs.PlainRows.{answer_table}
-use Rattle.ft_shell.specs.PlainTurns.{Asks, IsRefused, unprepared, refused}
+use Rattle.ft_shell.specs.PlainTurns.{Asks, refused}
 use Rattle.ft_shell.proofs.TurnLemmas.{answered_by}
 use Rattle.ft_shell.proofs.plain_turns.ask.Goals as goal
 
