@@ -11,6 +11,7 @@ const MOST_BYTES: usize = 64 << 20;
 const CHUNK: usize = 1 << 16;
 
 /// The files that a runtime opens. What a name holds isn't known before it is read.
+#[derive(Drop)]
 pub(crate) struct SystemFiles<'a> {
     pub(crate) rt: &'a HostRuntime,
 }
