@@ -1,3 +1,4 @@
 pub mod PieceLemmas
 pub mod AnswerLemmas
 pub mod RunLemmas
+pub mod LineLemmas

@@ -3,3 +3,5 @@ pub mod Pieces
 pub mod Session
 pub mod Answers
 pub mod Runs
+pub mod Line
+pub mod LineGives
