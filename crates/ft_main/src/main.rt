@@ -2,6 +2,7 @@
 #![tactic(auto)]
 
 mod answer;
+mod files;
 mod line;
 mod pieces;
 mod session;

@@ -16,7 +16,15 @@ fn refusal(rt: &HostRuntime, words: &[&str]) -> Result<(String, Option<i32>), Fa
 
 #[test]
 fn words_that_say_something(rt: HostRuntime) -> Result<(), Fail> {
-    let words = ["-csv", "-nullvalue", "none", "mail.db", "SELECT 1;", "--", "-bail"];
+    let words = [
+        "-csv",
+        "-nullvalue",
+        "none",
+        "mail.db",
+        "SELECT 1;",
+        "--",
+        "-bail",
+    ];
     let Ok(line) = read_line(rt.alloc(), words.as_slice()) else {
         assert!(rt; false);
         return Ok(());
@@ -48,7 +56,13 @@ fn words_that_say_nothing(rt: HostRuntime) -> Result<(), Fail> {
     assert_eq!(rt; status, Some(2));
     let (text, status) = refusal(&rt, ["-help"].as_slice())?;
     assert_eq!(rt; status, Some(0));
-    assert!(rt; text.as_str().contains("Usage: ft4sh [OPTIONS] [FILE] [SQL]...\n"));
-    assert!(rt; text.as_str().contains("--bail                   Stop after the first fault\n"));
+    assert!(rt;
+        text.as_str()
+            .contains("Usage: ft4sh [OPTIONS] [FILE] [SQL]...\n")
+    );
+    assert!(rt;
+        text.as_str()
+            .contains("--bail                   Stop after the first fault\n")
+    );
     Ok(())
 }
