@@ -5,3 +5,4 @@ pub mod Answers
 pub mod Runs
 pub mod Line
 pub mod LineGives
+pub mod Opening

@@ -358,3 +358,6 @@ pub(crate) fn read_line(alloc: Global, words: &[&str]) -> Result<Line, LineFault
     let matches = matches_in(alloc, words.as_slice())?;
     meaning_of(alloc, &matches)
 }
+
+#[cfg(test)]
+mod tests;

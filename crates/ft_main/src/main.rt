@@ -2,10 +2,10 @@
 #![tactic(auto)]
 
 mod answer;
+mod files;
 mod line;
 mod pieces;
 mod session;
-mod source;
 mod statement;
 
 use session::run;

@@ -1,0 +1,106 @@
+//! The two databases: the plain tables and the full-text store.
+
+ghost use Rattle.std.specs.Prelude.{◌≡◌, string_bytes, IfOk, IfErr};
+ghost use Rattle.sqlite.specs.Files.{IsOpened, file_state, over_files};
+ghost use Rattle.sqlite.specs.Held.{IsNew};
+ghost use Rattle.sqlite.specs.State.{HasCleanDisk};
+ghost use Rattle.sqlite.specs.Steps.{IsEmpty};
+ghost use Rattle.ft_store.specs.Kept.{shows, value_in};
+ghost use Rattle.ft_store.specs.Store.{nothing_held};
+ghost use Rattle.ft_main.specs.Opening as forms;
+ghost use Rattle.ft_main.specs.declared.files.OpenFault.TheVariants as fault;
+
+use ft_store::{Store, StoreFault};
+use ram_disk::{Ram, open_ram};
+use sqlite::{Connection, File, FileStore};
+use std::alloc::{AllocError, Global};
+use thiserror::Error;
+
+/// Why a database is not opened. What it displays is the program's own line.
+#[derive(Clone, Copy, Debug, PartialEq, Eq, Error)]
+pub(crate) enum OpenFault {
+    #[error("Error: unable to open database")]
+    Database,
+    #[error("Error: not a full-text store")]
+    NotAStore,
+    #[error("Error: full-text store of version {0}")]
+    Version(i64),
+    #[error("Error: unable to open full-text store")]
+    Store,
+}
+
+/// What is told of a store that is not opened.
+pub(crate) fn store_fault(cause: StoreFault) -> OpenFault
+    ensures { result ≡ forms.fault_of cause }
+{
+    match cause {
+        StoreFault::NotAStore => OpenFault::NotAStore,
+        StoreFault::Version(number) => OpenFault::Version(number),
+        _ => OpenFault::Store,
+    }
+}
+
+// The file of the full-text store beside the file of the plain tables.
+fn store_path(alloc: Global, path: &str) -> Result<String, AllocError>
+    ensures { IfOk result (λ text. string_bytes text ≡ forms.store_path path.now) }
+{
+    format!(in alloc; "{path}-fts4")
+}
+
+/// The plain tables in a file, which is made where it isn't there.
+pub(crate) fn open_plain(
+    rt: &HostRuntime,
+    path: &str,
+) -> Result<Connection<FileStore<File>>, OpenFault>
+    ensures opened { IfOk result (λ conn. HasCleanDisk (file_state conn) → IsOpened conn) }
+    ensures fresh { IfOk result IsNew }
+    ensures refused { IfErr result (λ f. f ≡ fault.Database) }
+{
+    match Connection::open(rt, path) {
+        Ok(conn) => Ok(conn),
+        Err(_) => Err(OpenFault::Database),
+    }
+}
+
+/// The full-text store in the file beside that of the plain tables, which is made where it isn't there.
+pub(crate) fn open_store(rt: &HostRuntime, path: &str) -> Result<Store<FileStore<File>>, OpenFault>
+    ensures unread { IfOk result (λ store. store.rows_read ≡ 0) }
+    ensures refused { IfErr result (λ f. (cause : StoreFault) × (f ≡ forms.fault_of cause)) }
+{
+    let Ok(beside) = store_path(rt.alloc(), path) else {
+        return Err(store_fault(StoreFault::Memory));
+    };
+    match Store::open_file(rt, beside.as_str()) {
+        Ok(store) => Ok(store),
+        Err(cause) => Err(store_fault(cause)),
+    }
+}
+
+/// No plain tables, in memory.
+pub(crate) fn plain_in_memory(alloc: Global) -> Result<Connection<FileStore<Ram>>, OpenFault>
+    ensures empty { IfOk result (λ conn. IsEmpty (file_state conn)) }
+    ensures clean { IfOk result (λ conn. HasCleanDisk (file_state conn)) }
+    ensures fresh { IfOk result IsNew }
+    ensures refused { IfErr result (λ f. f ≡ fault.Database) }
+{
+    match open_ram(alloc) {
+        Ok(conn) => Ok(conn),
+        Err(_) => Err(OpenFault::Database),
+    }
+}
+
+/// An empty full-text store in memory.
+pub(crate) fn store_in_memory(alloc: Global) -> Result<Store<FileStore<Ram>>, OpenFault>
+    ensures empty { IfOk result (λ store. value_in over_files store ≡ nothing_held) }
+    ensures clean { IfOk result (λ store. HasCleanDisk (shows over_files store)) }
+    ensures unread { IfOk result (λ store. store.rows_read ≡ 0) }
+    ensures refused { IfErr result (λ f. (cause : StoreFault) × (f ≡ forms.fault_of cause)) }
+{
+    match Store::open_memory(alloc) {
+        Ok(store) => Ok(store),
+        Err(cause) => Err(store_fault(cause)),
+    }
+}
+
+#[cfg(test)]
+mod tests;
