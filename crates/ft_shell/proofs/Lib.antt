@@ -7,3 +7,4 @@ pub mod DotRows
 pub mod TableLemmas
 pub mod ImportLemmas
 pub mod AnswerLemmas
+pub mod PlainTurnLemmas

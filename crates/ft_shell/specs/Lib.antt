@@ -19,3 +19,6 @@ pub mod ToldViews
 pub mod Shell
 pub mod Sources
 pub mod Answers
+pub mod FullTextTurns
+pub mod PlainTurns
+pub mod StatementTurns
