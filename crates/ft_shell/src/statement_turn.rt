@@ -9,7 +9,7 @@ ghost use Rattle.ft_shell.specs.StatementTurns.{ClassTurn, StatementTurn, table_
 
 use crate::full_text_turn::full_text_turn;
 use crate::plain_turn::plain_turn;
-use crate::statement::{Class, read_statement};
+use crate::statement::{Class, StatementFault, read_statement};
 use crate::texts::statement_text;
 use crate::told::Told;
 use ft_index::FullText;
@@ -34,7 +34,11 @@ fn class_turn<P: Alter, S: Alter>(
     match read_statement(alloc, text, words, fulltext.tables()) {
         Ok(Class::Plain) => plain_turn(alloc, settings, plain, fulltext, line, text, words),
         Ok(Class::FullText(command)) => full_text_turn(alloc, settings, fulltext, line, &command),
-        Err(fault) => Told::blames(alloc, settings, line, statement_text(fault)),
+        Err(StatementFault::Syntax) => {
+            let text = statement_text(StatementFault::Syntax);
+            Told::blames(alloc, settings, line, text)
+        }
+        Err(StatementFault::Memory) => Told::lacks_memory(alloc, settings, line),
     }
 }
 
