@@ -8,4 +8,4 @@ pub mod TableLemmas
 pub mod ImportLemmas
 pub mod AnswerLemmas
 pub mod PlainTurnLemmas
-pub mod TurnLemmas
+pub mod ClassLemmas

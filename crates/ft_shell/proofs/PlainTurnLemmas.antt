@@ -16,7 +16,7 @@ use Rattle.sqlite.specs.Listing.{understood}
 use Rattle.sqlite.specs.Outline.{Outline}
 use Rattle.sqlite.specs.Steps.{Outlines}
 use Rattle.sqlite.specs.declared.error.Error.{Error}
-use Rattle.ft_shell.specs.PlainTurns.{is_memory_error, TellsRefusal, IfClean, Prepares, Shows, Refuses, Answers, FailsToAnswer, QueryTurn, CommandTurn, PlainTurn, unprepared, refused}
+use Rattle.ft_shell.specs.PlainStatements.{is_memory_error, TellsRefusal, IfClean, Prepares, Shows, Refuses, Answers, FailsToAnswer, QueryTurn, CommandTurn, PlainTurn, unprepared, refused}
 
 pub clean_before : {old new : State} {Commits : Trees → Type 0} → Survives old new Commits → HasCleanDisk new → HasCleanDisk old
 clean_before {old} {new} survives clean = let c : doubt new.is_clean ≡ 0 = clean in let s = survives.clean in omega (arith, c, s)

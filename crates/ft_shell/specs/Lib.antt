@@ -20,5 +20,5 @@ pub mod Shell
 pub mod Sources
 pub mod Answers
 pub mod FullTextTurns
-pub mod PlainTurns
+pub mod PlainStatements
 pub mod StatementTurns

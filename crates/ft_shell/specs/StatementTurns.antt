@@ -10,7 +10,7 @@ use Rattle.ft_index.specs.Kept.{Known}
 use Rattle.ft_shell.specs.Words.{tokens_of}
 use Rattle.ft_shell.specs.Statements.{Class, Plain, FullText, class_of}
 use Rattle.ft_shell.specs.FullTextTurns.{FullTextTurn}
-use Rattle.ft_shell.specs.PlainTurns.{PlainTurn, OrNothing}
+use Rattle.ft_shell.specs.PlainStatements.{PlainTurn, OrNothing}
 use Rattle.ft_shell.specs.Told.{Told, blames}
 
 -- the names of the full-text tables that are there

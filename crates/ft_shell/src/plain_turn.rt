@@ -4,8 +4,8 @@ ghost use Rattle.sqlite.specs.Held.{state};
 ghost use Rattle.sqlite.specs.State.{Executes};
 ghost use Rattle.ft_shell.specs.Told.{Tells};
 ghost use Rattle.ft_shell.specs.ToldViews.{told_as};
-ghost use Rattle.ft_shell.specs.PlainTurns as turns;
-ghost use Rattle.ft_shell.specs.PlainTurns.{TellsRefusal, IfClean, Answers, FailsToAnswer, QueryTurn, CommandTurn, PlainTurn, OrNothing};
+ghost use Rattle.ft_shell.specs.PlainStatements as turns;
+ghost use Rattle.ft_shell.specs.PlainStatements.{TellsRefusal, IfClean, Answers, FailsToAnswer, QueryTurn, CommandTurn, PlainTurn, OrNothing};
 ghost use Rattle.shell_text.specs.Words.{words_of};
 
 use crate::answers::rows_told;

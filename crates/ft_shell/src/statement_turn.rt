@@ -2,7 +2,7 @@
 ghost use Rattle.std.specs.Prelude.{◌≡◌};
 ghost use Rattle.shell_text.specs.Words.{words_of};
 ghost use Rattle.ft_shell.specs.ToldViews.{told_as};
-ghost use Rattle.ft_shell.specs.PlainTurns.{OrNothing};
+ghost use Rattle.ft_shell.specs.PlainStatements.{OrNothing};
 ghost use Rattle.ft_shell.specs.Statements.{class_of};
 ghost use Rattle.ft_shell.specs.Words as tokens;
 ghost use Rattle.ft_shell.specs.StatementTurns.{ClassTurn, StatementTurn, table_names};

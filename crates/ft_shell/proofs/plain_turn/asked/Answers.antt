@@ -2,7 +2,7 @@
 use Rattle.std.proofs.Common.{rules, ◌≡◌, Err, Result, sym, subst}
 use Rattle.std.specs.Prelude.{IfErr}
 use Rattle.sqlite.specs.declared.error.Error.{Error}
-use Rattle.ft_shell.specs.PlainTurns.{FailsToAnswer}
+use Rattle.ft_shell.specs.PlainStatements.{FailsToAnswer}
 use Rattle.ft_shell.proofs.PlainTurnLemmas.{asked_unprepared, asked_refused, asked_answered}
 use Rattle.ft_shell.proofs.plain_turn.asked.Goals as goal
 

@@ -3,7 +3,7 @@ use Rattle.std.proofs.Common.{rules, ◌≡◌, subst, sym}
 use Rattle.ft_shell.specs.Told.{Tells}
 use Rattle.ft_shell.specs.Answers.{rows_told}
 use Rattle.ft_shell.specs.ToldViews.{told_as}
-use Rattle.ft_shell.specs.PlainTurns.{answered, refused}
+use Rattle.ft_shell.specs.PlainStatements.{answered, refused}
 use Rattle.ft_shell.proofs.plain_turn.query_turn.Goals as goal
 
 pub returns-in-Ok : goal.returns-in-Ok

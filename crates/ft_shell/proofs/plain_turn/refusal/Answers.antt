@@ -1,6 +1,6 @@
 -- other words than those of memory
 use Rattle.std.proofs.Common.{rules, ◌≡◌, sym, ◌∙◌, codes, false}
-use Rattle.ft_shell.specs.PlainTurns.{is_memory_error}
+use Rattle.ft_shell.specs.PlainStatements.{is_memory_error}
 use Rattle.ft_shell.specs.ToldViews.{told_as}
 use Rattle.ft_shell.proofs.PlainTurnLemmas.{words_told}
 use Rattle.ft_shell.proofs.plain_turn.refusal.Goals as goal

@@ -5,9 +5,9 @@ use Rattle.ft_content.specs.Views.{command_of, info_names}
 use Rattle.ft_shell.specs.Statements.{Class, Plain, FullText, class_of}
 use Rattle.ft_shell.specs.Words.{tokens_of}
 use Rattle.ft_shell.specs.ToldViews.{told_as}
-use Rattle.ft_shell.specs.PlainTurns.{OrNothing}
+use Rattle.ft_shell.specs.PlainStatements.{OrNothing}
 use Rattle.ft_shell.specs.StatementTurns.{ClassTurn}
-use Rattle.ft_shell.proofs.TurnLemmas.{class_as_told}
+use Rattle.ft_shell.proofs.ClassLemmas.{class_as_told}
 use Rattle.ft_shell.proofs.statement_turn.class_turn.Goals as goal
 
 pub returns-in-Ok-Plain : goal.returns-in-Ok-Plain
