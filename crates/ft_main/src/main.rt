@@ -4,6 +4,7 @@
 mod answer;
 mod pieces;
 mod session;
+mod source;
 mod statement;
 
 use session::run;

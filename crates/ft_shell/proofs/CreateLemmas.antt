@@ -1,6 +1,6 @@
 -- Arguments of a CREATE VIRTUAL TABLE.
 use Rattle.std.proofs.Common.{◌≡◌, ℕ, List, [], ◌∷◌, ◌++◌, map, refl, sym, ap, ◌∙◌, ◌≤◌, length, get_or, drop, take, ◌-◌, arith, string_bytes, String, Global}
-use Rattle.std.specs.List.{flat_map}
+use Rattle.std.specs.List.{flat_map, join_with_byte}
 use Rattle.std.proofs.lemmas.List.{append-nil, map-append, take_all}
 use Rattle.ft_shell.specs.Words.{Token, bare}
 use Rattle.ft_shell.specs.Create.{Argument, Setting, Column, joined, settings_in, columns_in, argument_of, arguments_of}
@@ -42,3 +42,16 @@ pair s = (string_bytes s.0, string_bytes s.1)
 
 pub settings_push : (found : List (String Global × String Global)) (setting : String Global × String Global) → map pair (found ++ setting ∷ []) ≡ map pair found ++ pair setting ∷ []
 settings_push found setting = map-append pair found (setting ∷ [])
+
+-- ---- words with a space between each two
+
+abbrev pub spaced : List ℕ → List ℕ
+spaced word = 0x20 ∷ word
+
+spaced_words : (word : List ℕ) (words : List (List ℕ)) → join_with_byte 0x20 (word ∷ words) ≡ word ++ flat_map spaced words
+spaced_words word [] = sym (append-nil word)
+spaced_words word (next ∷ more) = ap (λ later. word ++ 0x20 ∷ later) (spaced_words next more)
+
+pub words_first : (ws : List (String Global)) (d : String Global) → 1 ≤ length ws → join_with_byte 0x20 (map string_bytes ws) ≡ string_bytes (get_or ws 0 d) ++ flat_map spaced (map string_bytes (take (length ws - 1) (drop 1 ws)))
+words_first [] d h = absurd (omega (arith, h))
+words_first (w ∷ ws) d h = spaced_words (string_bytes w) (map string_bytes ws) ∙ ap (λ vs. string_bytes w ++ flat_map spaced (map string_bytes vs)) (sym (take_all (length (w ∷ ws) - 1) ws (omega arith)))

@@ -9,7 +9,7 @@ use Rattle.ft_shell.specs.Views.{plain, runs}
 use Rattle.ft_shell.proofs.ReadingLemmas.{runs_more}
 
 -- one more behind others
-each_snoc : {B : Type 0} (f : List Token → Option B) (xs : List (List Token)) (x : List Token) → each f (xs ++ x ∷ []) ≡ (each f xs >>= λ ys. f x >>= λ y. Some (ys ++ y ∷ []))
+pub each_snoc : {A B : Type 0} (f : A → Option B) (xs : List A) (x : A) → each f (xs ++ x ∷ []) ≡ (each f xs >>= λ ys. f x >>= λ y. Some (ys ++ y ∷ []))
 each_snoc f [] x = refl
 each_snoc f (z ∷ zs) x = ap (λ o. f z >>= λ b. o >>= λ ys. Some (b ∷ ys)) (each_snoc f zs x) ∙ joined (f z) (each f zs) (f x) where
   joined : {B : Type 0} (a : Option B) (later : Option (List B)) (last : Option B) →
@@ -20,7 +20,7 @@ each_snoc f (z ∷ zs) x = ap (λ o. f z >>= λ b. o >>= λ ys. Some (b ∷ ys))
   joined (Some b) (Some ys) (Some y) = refl
 
 -- one that gives nothing
-each_stops : {B : Type 0} (f : List Token → Option B) (xs later : List (List Token)) (x : List Token) → f x ≡ None → each f (xs ++ x ∷ later) ≡ None
+pub each_stops : {A B : Type 0} (f : A → Option B) (xs later : List A) (x : A) → f x ≡ None → each f (xs ++ x ∷ later) ≡ None
 each_stops f [] later x none = ap (λ o. o >>= λ y. each f later >>= λ ys. Some (y ∷ ys)) none
 each_stops f (z ∷ zs) later x none = ap (λ o. f z >>= λ y. o >>= λ ys. Some (y ∷ ys)) (each_stops f zs later x none) ∙ nothing (f z) where
   nothing : {B : Type 0} (o : Option B) → (o >>= λ y. let none : Option (List B) = None in none) ≡ None

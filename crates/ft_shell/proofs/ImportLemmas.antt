@@ -1,5 +1,5 @@
 -- Texts and rows of an import.
-use Rattle.std.proofs.Common.{◌≡◌, ℕ, zero, suc, ◌+◌, ◌-◌, ◌<◌, ◌≤◌, List, [], ◌∷◌, ◌++◌, map, length, take, drop, get_or, replicate, refl, sym, ap, ◌∙◌, arith, codes, append_assoc, String, Vec, Global}
+use Rattle.std.proofs.Common.{◌≡◌, ℕ, zero, suc, ◌+◌, ◌-◌, ◌<◌, ◌≤◌, List, [], ◌∷◌, ◌++◌, map, length, take, get_or, replicate, refl, sym, ap, ◌∙◌, arith, codes, append_assoc, String, Vec, Global}
 use Rattle.std.specs.List.{flat_map, enumerate_from}
 use Rattle.std.proofs.lemmas.List.{append-nil, replicate_more, take_more, map-append, length-map, length-take-le}
 use Rattle.std.proofs.lemmas.Grind.{flat_map-append}
@@ -43,7 +43,7 @@ cut_and_filled n xs z = filled n n xs z (omega arith)
 
 -- ---- warnings
 
-enumerate_more : {A : Type 0} (from : ℕ) (xs : List A) (y : A) → enumerate_from from (xs ++ y ∷ []) ≡ enumerate_from from xs ++ (from + length xs, y) ∷ []
+pub enumerate_more : {A : Type 0} (from : ℕ) (xs : List A) (y : A) → enumerate_from from (xs ++ y ∷ []) ≡ enumerate_from from xs ++ (from + length xs, y) ∷ []
 enumerate_more from [] y = ap (λ n. (n, y) ∷ []) (let same : from ≡ from + 0 = omega arith in same)
 enumerate_more from (x ∷ xs) y = ap (λ rest. (from, x) ∷ rest) (enumerate_more (from + 1) xs y ∙ ap (λ n. enumerate_from (from + 1) xs ++ (n, y) ∷ []) (let same : from + 1 + length xs ≡ from + suc (length xs) = omega arith in same))
 

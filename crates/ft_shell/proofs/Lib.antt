@@ -6,6 +6,8 @@ pub mod StatementRows
 pub mod DotRows
 pub mod TableLemmas
 pub mod ImportLemmas
+pub mod PlainLemmas
+pub mod TurnLemmas
 pub mod AnswerLemmas
 pub mod PlainTurnLemmas
 pub mod ClassLemmas

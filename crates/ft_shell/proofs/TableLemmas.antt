@@ -1,5 +1,5 @@
 -- Names in the order of their bytes.
-use Rattle.std.proofs.Common.{◌≡◌, ℕ, ◌+◌, ◌<◌, List, [], ◌∷◌, map, length, get_or, refl, sym, ap, ◌∙◌, arith, string_bytes, String, Global}
+use Rattle.std.proofs.Common.{◌+◌, ◌<◌, List, [], ◌∷◌, map, length, ◌∙◌, arith, string_bytes, String, Global}
 use Rattle.std.specs.List.Sorted.{IsSorted}
 use Rattle.std.specs.Ordering.{nat_cmp, is_lt}
 use Rattle.std.specs.Cmp.Lexicographic.{slice_cmp}

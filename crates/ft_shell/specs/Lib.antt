@@ -14,6 +14,9 @@ pub mod DotViews
 pub mod Texts
 pub mod Replies
 pub mod Imports
+pub mod PlainRows
+pub mod PlainTurns
+pub mod Settings
 pub mod Told
 pub mod ToldViews
 pub mod Shell

@@ -10,9 +10,12 @@ mod imports;
 mod insert;
 mod plain;
 mod plain_turn;
+mod plain_rows;
+mod plain_turns;
 mod reading;
 mod replies;
 mod select;
+mod setting;
 mod source;
 mod statement;
 mod statement_turn;
@@ -27,7 +30,10 @@ pub use crate::imports::{
     creation_text, delimiter_of, fitted_row, insertion_text, reading_text, warnings,
 };
 pub use crate::plain::{PlainStatement, read_plain};
+pub use crate::plain_rows::plain_grid;
+pub use crate::plain_turns::{PlainFault, ask, reads_table, refusal_text};
 pub use crate::replies::write_reply;
+pub use crate::setting::{apply, print_text};
 pub use crate::source::{Source, SourceFault};
 pub use crate::statement::{Class, StatementFault, read_statement};
 pub use crate::tables::listed_tables;

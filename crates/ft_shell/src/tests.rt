@@ -1,11 +1,13 @@
 // Statements, dot-commands and texts.
 use super::{
-    Class, StatementFault, creation_text, delimiter_of, dot_command, fault_line, fault_text,
-    fitted_row, insertion_text, listed_tables, read_plain, read_statement, reading_text,
-    split_text, statement_text, usage_text, warnings, write_reply,
+    Class, PlainFault, StatementFault, apply, ask, creation_text, delimiter_of, dot_command,
+    fault_line, fault_text, fitted_row, insertion_text, listed_tables, print_text, read_plain,
+    read_statement, reading_text, reads_table, refusal_text, split_text, statement_text,
+    usage_text, warnings, write_reply,
 };
 use ft_content::{Fault, Grid, Reply, TableInfo, Value};
-use shell_text::{Mode, Settings, SplitFault, dot_words, sql_words};
+use shell_text::{Mode, SetFault, Settings, SplitFault, dot_words, sql_words};
+use sqlite::{Connection, Error, ErrorCode};
 use std::test::Fail;
 
 // The full-text tables `d` and `mail`.
@@ -259,5 +261,79 @@ fn delimiters(rt: HostRuntime) -> Result<(), Fail> {
     assert_eq!(rt; delimiter_of(true, &settings), Some(b','));
     settings.set_separator("ab")?;
     assert_eq!(rt; delimiter_of(false, &settings), None);
+    Ok(())
+}
+
+#[test]
+fn plain_queries(rt: HostRuntime) -> Result<(), Fail> {
+    let mut conn = Connection::open_in_memory(rt.alloc())?;
+    conn.execute("CREATE TABLE p(a)", &[])?;
+    conn.execute("INSERT INTO p VALUES (7)", &[])?;
+    let grid = ask(
+        rt.alloc(),
+        &mut conn,
+        "SELECT x'abcd' AS b, NULL AS n, a, 'it' AS t FROM p;",
+    )?;
+    assert_eq!(rt;
+        format!(in rt.alloc(); "{grid:?}")?.as_str(),
+        "Grid { names: [\"b\", \"n\", \"a\", \"t\"], rows: [[Bytes([171, 205]), Null, Int(7), Text(\"it\")]] }"
+    );
+    let float = ask(rt.alloc(), &mut conn, "SELECT a, 1.5 FROM p");
+    assert!(rt; matches!(float, Err(PlainFault::Float)));
+    let refused = ask(rt.alloc(), &mut conn, "SELECT a FROM q");
+    assert!(rt; matches!(refused, Err(PlainFault::Refused(_))));
+    let written = ask(rt.alloc(), &mut conn, "DELETE FROM p RETURNING a")?;
+    assert_eq!(rt; written.rows.len(), 1);
+    Ok(())
+}
+
+#[test]
+fn words_of_a_refusal(rt: HostRuntime) -> Result<(), Fail> {
+    let text = refusal_text(rt.alloc(), Error::SqliteFailure(ErrorCode::OutOfMemory))?;
+    assert_eq!(rt; text.as_str(), "out of memory");
+    let text = refusal_text(rt.alloc(), Error::SqliteFailure(ErrorCode::IntegerOverflow))?;
+    assert_eq!(rt; text.as_str(), "integer overflow");
+    Ok(())
+}
+
+#[test]
+fn settings_by_commands(rt: HostRuntime) -> Result<(), Fail> {
+    let mut settings = Settings::new(rt.alloc());
+    for line in [
+        "mode csv",
+        "separator ;",
+        "nullvalue -",
+        "headers on",
+        "echo yes",
+        "bail 1",
+        "tables",
+    ] {
+        let words = dot_words(rt.alloc(), line)?;
+        let command = dot_command(rt.alloc(), words.as_slice())?;
+        assert!(rt; apply(&mut settings, &command).is_ok());
+    }
+    assert_eq!(rt; settings.mode(), Mode::Csv);
+    assert_eq!(rt; settings.separator(), ";");
+    assert_eq!(rt; settings.null(), "-");
+    assert_eq!(rt; settings.headers(), Some(true));
+    assert!(rt; settings.echo() && settings.bail());
+    let words = dot_words(rt.alloc(), "separator ab")?;
+    let command = dot_command(rt.alloc(), words.as_slice())?;
+    assert!(rt; matches!(apply(&mut settings, &command), Err(SetFault::BadSeparator)));
+    let words = texts(&rt, &["a", "b c"])?;
+    assert_eq!(rt;
+        print_text(rt.alloc(), words.as_slice())?.as_str(),
+        "a b c\n"
+    );
+    assert_eq!(rt; print_text(rt.alloc(), &[])?.as_str(), "\n");
+    Ok(())
+}
+
+#[test]
+fn tables_that_can_be_read(rt: HostRuntime) -> Result<(), Fail> {
+    let mut conn = Connection::open_in_memory(rt.alloc())?;
+    conn.execute("CREATE TABLE \"a b\"(x)", &[])?;
+    assert_eq!(rt; reads_table(rt.alloc(), &mut conn, "a b"), Some(true));
+    assert_eq!(rt; reads_table(rt.alloc(), &mut conn, "c"), Some(false));
     Ok(())
 }

@@ -1,5 +1,5 @@
 -- sorted names
-use Rattle.std.proofs.Common.{subst, map, string_bytes}
+use Rattle.std.proofs.Common.{subst, string_bytes}
 use Rattle.std.specs.List.Sorted.{IsPermutation}
 use Rattle.std.proofs.lemmas.List.Sorted.{IsPermutation-map}
 use Rattle.ft_shell.specs.Views.{texts_of}
