@@ -11,3 +11,5 @@ pub mod TurnLemmas
 pub mod AnswerLemmas
 pub mod PlainTurnLemmas
 pub mod ClassLemmas
+pub mod FeedLemmas
+pub mod WriteLemmas

@@ -25,3 +25,6 @@ pub mod Answers
 pub mod FullTextTurns
 pub mod PlainStatements
 pub mod StatementTurns
+pub mod DotTurns
+pub mod Turns
+pub mod Feeds
