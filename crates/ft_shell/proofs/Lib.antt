@@ -13,3 +13,4 @@ pub mod PlainTurnLemmas
 pub mod ClassLemmas
 pub mod FeedLemmas
 pub mod WriteLemmas
+pub mod RanLemmas

@@ -28,3 +28,4 @@ pub mod StatementTurns
 pub mod DotTurns
 pub mod Turns
 pub mod Feeds
+pub mod Ran

@@ -1,6 +1,10 @@
 // A session: the units of an input in turn, and what is written for them.
-ghost use Rattle.std.specs.Prelude.{◌≡◌, ◌≤◌, ◌<◌, [], false, length, take, IfOk, IfErr, OnOk};
-ghost use Rattle.std.specs.Io.KnownBytes.{Consumes, IsAtEnd};
+ghost use Rattle.std.specs.Prelude.{◌≡◌, ◌≤◌, ◌<◌, ◌+◌, ◌-◌, ◌^◌, ◌++◌, ◌∷◌, ◌||◌, min, if◌then◌else◌, [], false, length, take, IfOk, IfErr, OnOk};
+ghost use Rattle.std.specs.Io.KnownBytes.{Appends, Consumes, IsAtEnd};
+ghost use Rattle.shell_text.specs.Units.{Fault};
+ghost use Rattle.shell_text.specs.Splitting.{member_of_unit};
+ghost use Rattle.ft_shell.specs.ToldViews.{told_as};
+ghost use Rattle.ft_shell.specs.Ran.{Ran};
 
 use crate::feed::{Feed, Refusal};
 use crate::source::Source;
@@ -136,7 +140,10 @@ impl<P: Alter + Drop, S: Alter + Drop> Session<P, S> {
         source: &mut F,
         out: &mut O,
         err: &mut E,
-    ) -> Result<(), RunFault> {
+    ) -> Result<(), RunFault>
+        requires { status.old.quit ≡ false → feed.old.splitting.waiting ≡ [] }
+        ensures { OnOk result (status.new.quit ≡ false → feed.new.splitting.waiting ≡ []) }
+    {
         for byte in bytes {
             if status.quit {
                 return Ok(());
@@ -154,7 +161,10 @@ impl<P: Alter + Drop, S: Alter + Drop> Session<P, S> {
         source: &mut F,
         out: &mut O,
         err: &mut E,
-    ) -> Result<(), RunFault> {
+    ) -> Result<(), RunFault>
+        requires { feed.old.splitting.waiting ≡ [] }
+        ensures { OnOk result (status.new.quit ≡ false → feed.new.splitting.waiting ≡ []) }
+    {
         if byte == b'\n' {
             return self.end_line(feed, status, source, out, err);
         }
@@ -170,9 +180,12 @@ impl<P: Alter + Drop, S: Alter + Drop> Session<P, S> {
         source: &mut F,
         out: &mut O,
         err: &mut E,
-    ) -> Result<(), RunFault> {
+    ) -> Result<(), RunFault>
+        requires { feed.old.splitting.waiting ≡ [] }
+        ensures { OnOk result (status.new.quit ≡ false → feed.new.splitting.waiting ≡ []) }
+    {
         if let Some(refusal) = feed.end_line()? {
-            return self.refuse(&refusal, status, out, err);
+            self.refuse(&refusal, status, out, err)?;
         }
         self.run_units(feed, status, source, out, err)
     }
@@ -188,11 +201,11 @@ impl<P: Alter + Drop, S: Alter + Drop> Session<P, S> {
     ) -> Result<(), RunFault>
         ensures { OnOk result (status.new.quit ≡ false → feed.new.splitting.waiting ≡ []) }
     {
-        while let Some(unit) = feed.next() {
+        while !status.quit {
+            let Some(unit) = feed.next() else {
+                break;
+            };
             self.run_unit(&unit, status, source, out, err)?;
-            if status.quit {
-                return Ok(());
-            }
         }
         Ok(())
     }
@@ -204,7 +217,11 @@ impl<P: Alter + Drop, S: Alter + Drop> Session<P, S> {
         source: &mut F,
         out: &mut O,
         err: &mut E,
-    ) -> Result<(), RunFault> {
+    ) -> Result<(), RunFault>
+        ensures { OnOk result (Ran P.Store S.Store (member_of_unit unit.now)
+            (record { shell = record { look = self.old.settings; plain = self.old.plain; known = self.old.fulltext }; status = status.old; out = O.contents out.old; err = E.contents err.old })
+            (record { shell = record { look = self.new.settings; plain = self.new.plain; known = self.new.fulltext }; status = status.new; out = O.contents out.new; err = E.contents err.new })) }
+    {
         let echo = self.settings.echo();
         let told = unit_turn(
             self.alloc,
@@ -214,9 +231,7 @@ impl<P: Alter + Drop, S: Alter + Drop> Session<P, S> {
             source,
             unit,
         );
-        if echo {
-            write_echo(out, unit.text.as_str())?;
-        }
+        echo_text(echo, unit.text.as_str(), out)?;
         tell(&told, status, out, err)
     }
 
@@ -227,13 +242,35 @@ impl<P: Alter + Drop, S: Alter + Drop> Session<P, S> {
         status: &mut Status,
         out: &mut O,
         err: &mut E,
-    ) -> Result<(), RunFault> {
+    ) -> Result<(), RunFault>
+        ensures { OnOk result (Ran P.Store S.Store (Fault refusal.now.line refusal.now.fault)
+            (record { shell = record { look = self.old.settings; plain = self.old.plain; known = self.old.fulltext }; status = status.old; out = O.contents out.old; err = E.contents err.old })
+            (record { shell = record { look = self.new.settings; plain = self.new.plain; known = self.new.fulltext }; status = status.new; out = O.contents out.new; err = E.contents err.new })) }
+    {
         let text = split_text(&refusal.fault);
         let told = Told::blames(self.alloc, &self.settings, refusal.line, text);
         tell(&told, status, out, err)
     }
 
-    // The input ends: what follows the last line feed is a line if it isn't empty, and what is pending is a unit.
+    // What follows the last line feed is a line if it isn't empty.
+    fn finish_line<O: Write, E: Write, F: Source>(
+        &mut self,
+        feed: &mut Feed,
+        status: &mut Status,
+        source: &mut F,
+        out: &mut O,
+        err: &mut E,
+    ) -> Result<(), RunFault>
+        requires { feed.old.splitting.waiting ≡ [] }
+        ensures { OnOk result (status.new.quit ≡ false → feed.new.splitting.waiting ≡ []) }
+    {
+        if feed.is_between_lines() {
+            return Ok(());
+        }
+        self.end_line(feed, status, source, out, err)
+    }
+
+    // The input ends: what is pending is a unit, or it is refused.
     fn finish<O: Write, E: Write, F: Source>(
         &mut self,
         feed: &mut Feed,
@@ -241,10 +278,10 @@ impl<P: Alter + Drop, S: Alter + Drop> Session<P, S> {
         source: &mut F,
         out: &mut O,
         err: &mut E,
-    ) -> Result<(), RunFault> {
-        if !feed.is_between_lines() {
-            self.end_line(feed, status, source, out, err)?;
-        }
+    ) -> Result<(), RunFault>
+        requires { feed.old.splitting.waiting ≡ [] }
+    {
+        self.finish_line(feed, status, source, out, err)?;
         if status.quit {
             return Ok(());
         }
@@ -270,19 +307,42 @@ fn flush<O: Write>(out: &mut O) -> Result<(), RunFault> {
     out.flush().map_err(|_| RunFault::Write)
 }
 
+// How many fault lines there are with those of a turn.
+fn faults_with(faults: u64, told: &Told) -> u64
+    ensures { result ≡ min (faults + (told_as told.now).faults) (2 ^ 64 - 1) }
+{
+    match &told.fault {
+        Some(_) => faults.saturating_add(1),
+        None => faults,
+    }
+}
+
 // Writes what a turn tells, and counts its fault line.
 fn tell<O: Write, E: Write>(
     told: &Told,
     status: &mut Status,
     out: &mut O,
     err: &mut E,
-) -> Result<(), RunFault> {
+) -> Result<(), RunFault>
+    ensures out { OnOk result (Appends (O.contents out.old) (O.contents out.new) (told_as told.now).out) }
+    ensures err { OnOk result (Appends (E.contents err.old) (E.contents err.new) (told_as told.now).err) }
+    ensures faults { OnOk result (status.new.faults ≡ min (status.old.faults + (told_as told.now).faults) (2 ^ 64 - 1)) }
+    ensures quit { OnOk result (status.new.quit ≡ (status.old.quit || (told_as told.now).ends)) }
+{
     write_told(told, out, err)?;
-    if told.fault.is_some() {
-        status.faults = status.faults.saturating_add(1);
-    }
-    if told.ends {
-        status.quit = true;
+    *status = Status {
+        faults: faults_with(status.faults, told),
+        quit: status.quit || told.ends,
+    };
+    Ok(())
+}
+
+// Writes the text of a unit where echo is on.
+fn echo_text<O: Write>(echo: bool, text: &str, out: &mut O) -> Result<(), RunFault>
+    ensures { OnOk result (Appends (O.contents out.old) (O.contents out.new) (if echo then text.now ++ 10 ∷ [] else [])) }
+{
+    if echo {
+        write_echo(out, text)?;
     }
     Ok(())
 }

@@ -2,8 +2,8 @@
 use Rattle.std.proofs.Common.{length}
 use Rattle.ft_shell.proofs.session.Session.run_units.Given as goal
 
-abbrev pub invariant-loop-unit : goal.invariant-loop-unit
-invariant-loop-unit g l = Unit {0}
+abbrev pub invariant-loop-status : goal.invariant-loop-status
+invariant-loop-status g l = Unit {0}
 
-abbrev pub decreases-loop-unit : goal.decreases-loop-unit
-decreases-loop-unit g l = length l.feed.splitting.waiting
+abbrev pub decreases-loop-status : goal.decreases-loop-status
+decreases-loop-status g l = length l.feed.splitting.waiting
