@@ -14,3 +14,4 @@ pub mod ClassLemmas
 pub mod FeedLemmas
 pub mod WriteLemmas
 pub mod RanLemmas
+pub mod TurnsLemmas
