@@ -9,3 +9,9 @@ pub mod ImportLemmas
 pub mod PlainLemmas
 pub mod TurnLemmas
 pub mod AnswerLemmas
+pub mod PlainTurnLemmas
+pub mod ClassLemmas
+pub mod FeedLemmas
+pub mod WriteLemmas
+pub mod RanLemmas
+pub mod TurnsLemmas

@@ -22,3 +22,10 @@ pub mod ToldViews
 pub mod Shell
 pub mod Sources
 pub mod Answers
+pub mod FullTextTurns
+pub mod PlainStatements
+pub mod StatementTurns
+pub mod DotTurns
+pub mod Turns
+pub mod Feeds
+pub mod Ran

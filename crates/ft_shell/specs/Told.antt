@@ -1,6 +1,6 @@
 -- What turns of a session write. The form of fault lines, and that a fault ends the session only where bail is on, are own choices
 -- beside the section "Special commands to sqlite3" of "Command Line Shell For SQLite".
-use Rattle.std.specs.Prelude.{ℕ, ◌≡◌, Bool, false, if◌then◌else◌, List, [], ◌∷◌, ◌++◌, ◌+◌, codes}
+use Rattle.std.specs.Prelude.{ℕ, ◌≡◌, ◌⊎◌, Bool, false, if◌then◌else◌, List, [], ◌∷◌, ◌++◌, ◌+◌, codes}
 use Rattle.shell_text.specs.Print.{Look}
 use Rattle.ft_shell.specs.Texts.{fault_line}
 
@@ -36,3 +36,7 @@ followed first rest = record { out = first.out ++ rest.out; err = first.err ++ r
 -- nothing was done, or told of what was done, for want of memory
 abbrev pub lacks_memory : Look → ℕ → Told
 lacks_memory look line = blames look line (codes "out of memory")
+
+-- it tells what is due, or else that it lacks memory
+abbrev pub Tells : Look → ℕ → Told → Told → Type 0
+Tells look line due told = (told ≡ due) ⊎ (told ≡ lacks_memory look line)

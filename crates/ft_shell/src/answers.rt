@@ -5,7 +5,7 @@ ghost use Rattle.std.specs.List.{list_any};
 ghost use Rattle.sqlite_value.specs.Order.{column};
 ghost use Rattle.sqlite_value.specs.Value.{owned};
 ghost use Rattle.shell_text.specs.Print as print;
-ghost use Rattle.ft_shell.specs.Told.{lacks_memory};
+ghost use Rattle.ft_shell.specs.Told.{Tells};
 ghost use Rattle.ft_shell.specs.ToldViews.{told_as};
 ghost use Rattle.ft_shell.specs.Answers as forms;
 
@@ -150,7 +150,7 @@ pub(crate) fn rows_told(
     names: &[Bytes],
     rows: &[Row],
 ) -> Told
-    ensures { (told_as result ≡ forms.rows_told settings.now line names.now rows.now) ⊎ (told_as result ≡ lacks_memory settings.now line) }
+    ensures { Tells settings.now line (forms.rows_told settings.now line names.now rows.now) (told_as result) }
 {
     if have_float(rows) {
         return Told::blames(alloc, settings, line, "floating-point value in result");

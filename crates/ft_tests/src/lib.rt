@@ -8,6 +8,8 @@ mod query;
 #[cfg(test)]
 mod ram;
 #[cfg(test)]
+mod session;
+#[cfg(test)]
 mod shell;
 #[cfg(test)]
 mod store;

@@ -1,0 +1,36 @@
+-- Turns one after the other.
+use Rattle.std.proofs.Common.{◌≡◌, ℕ, true, false, List, [], ◌∷◌, ◌++◌, refl, sym, ap, subst, ◌∙◌, append_assoc, append-nil, add_assoc, add-zero, zero-add}
+use Rattle.std.specs.Prelude.{MatchBool, Bool}
+use Rattle.sqlite.specs.Store.{Ghosts}
+use Rattle.shell_text.specs.Units.{Member}
+use Rattle.ft_shell.specs.Shell.{Shell}
+use Rattle.ft_shell.specs.Told.{Told, silent, followed}
+use Rattle.ft_shell.specs.Turns.{Turn, Turns}
+
+pub followed_assoc : (a b c : Told) → followed (followed a b) c ≡ followed a (followed b c)
+followed_assoc a b c = λ i. record { out = append_assoc a.out b.out c.out i; err = append_assoc a.err b.err c.err i; faults = add_assoc a.faults b.faults c.faults i; ends = c.ends }
+
+pub silent_followed : (t : Told) → followed silent t ≡ t
+silent_followed t = ap (λ n. record t { faults = n }) (zero-add t.faults)
+
+-- turns that don't end the session, and then those that follow
+pub turns_then : {P S : Type 0} (g : Ghosts P) (h : Ghosts S) (members others : List Member) (a b c : Shell P S) (first rest : Told) → Turns g h members a b first → first.ends ≡ false → Turns g h others b c rest → Turns g h (members ++ others) a c (followed first rest)
+turns_then g h [] others a b c first rest (same, none) goes later =
+    subst (λ s. Turns g h others s c (followed first rest)) same (subst (λ t. Turns g h others b c t) (sym (ap (λ t. followed t rest) none ∙ silent_followed rest)) later)
+turns_then g h (member ∷ members) others a b c first rest (mid, told, turn, more) goes later = (mid, told, turn, go (λ after turns ends. turns_then g h members others mid b c after rest turns ends later) told.ends refl more)
+  where
+    go : ((after : Told) → Turns g h members mid b after → after.ends ≡ false → Turns g h (members ++ others) mid c (followed after rest)) → (ends : Bool) → told.ends ≡ ends → MatchBool ends ((b ≡ mid) × (first ≡ told)) ((after : Told) × Turns g h members mid b after × (first ≡ followed told after)) →
+        MatchBool ends ((c ≡ mid) × (followed first rest ≡ told)) ((after : Told) × Turns g h (members ++ others) mid c after × (followed first rest ≡ followed told after))
+    go joined true is (same, all) = absurd (let wrong : true ≡ false = sym is ∙ ap (λ (t : Told). t.ends) (sym all) ∙ goes in cc)
+    go joined false is (after, turns, all) =
+        (followed after rest, joined after turns (ap (λ (t : Told). t.ends) (sym all) ∙ goes), ap (λ t. followed t rest) all ∙ followed_assoc told after rest)
+
+-- what follows turns that end the session is not run
+pub turns_ended : {P S : Type 0} (g : Ghosts P) (h : Ghosts S) (members others : List Member) (a b : Shell P S) (told : Told) → Turns g h members a b told → told.ends ≡ true → Turns g h (members ++ others) a b told
+turns_ended g h [] others a b told (same, none) ends = absurd (let wrong : false ≡ true = ap (λ (t : Told). t.ends) (sym none) ∙ ends in cc)
+turns_ended g h (member ∷ members) others a b told (mid, first, turn, more) ends = (mid, first, turn, go (λ after turns stops. turns_ended g h members others mid b after turns stops) first.ends refl more)
+  where
+    go : ((after : Told) → Turns g h members mid b after → after.ends ≡ true → Turns g h (members ++ others) mid b after) → (stops : Bool) → first.ends ≡ stops → MatchBool stops ((b ≡ mid) × (told ≡ first)) ((after : Told) × Turns g h members mid b after × (told ≡ followed first after)) →
+        MatchBool stops ((b ≡ mid) × (told ≡ first)) ((after : Told) × Turns g h (members ++ others) mid b after × (told ≡ followed first after))
+    go joined true is it = it
+    go joined false is (after, turns, all) = (after, joined after turns (ap (λ (t : Told). t.ends) (sym all) ∙ ends), all)

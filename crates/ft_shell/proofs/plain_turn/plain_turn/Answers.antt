@@ -1,0 +1,19 @@
+-- it asks, or it doesn't
+use Rattle.std.proofs.Common.{rules, ◌≡◌, true, false, inl, ◌∙◌}
+use Rattle.std.specs.Prelude.{option_map}
+use Rattle.ft_shell.specs.Plain.{asks, made_name}
+use Rattle.ft_shell.specs.Words.{tokens_of}
+use Rattle.ft_shell.specs.ToldViews.{told_as}
+use Rattle.ft_shell.proofs.PlainTurnLemmas.{asks_turn, runs_turn}
+use Rattle.ft_shell.proofs.plain_turn.plain_turn.Goals as goal
+
+pub returns-then-statement : goal.returns-then-statement
+returns-then-statement g c =
+    let is : asks (tokens_of c.args.text.now) ≡ true = search rules in
+    inl (asks_turn g.P.Store g.S.Store c.args.settings.now c.args.line c.args.text.now c.args.plain.now c.query_turn.new.plain c.args.fulltext.now (told_as c.query_turn.result) is c.query_turn.ensures)
+
+pub returns : goal.returns
+returns g c =
+    let is : asks (tokens_of c.args.text.now) ≡ false = search rules in
+    inl (runs_turn g.P.Store g.S.Store c.args.settings.now c.args.line c.args.text.now c.args.plain.now c.command_turn.new.plain c.args.fulltext.now c.command_turn.new.fulltext (told_as c.command_turn.result)
+      (option_map (λ n. n.now) c.made_in.result) is (c.made_in.ensures ∙ c.in-Ok.ensures.made) c.command_turn.ensures)

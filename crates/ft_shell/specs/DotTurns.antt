@@ -1,0 +1,42 @@
+-- What a dot-command does in a session ("Special commands to sqlite3 (dot-commands)" of "Command Line Shell For SQLite").
+use Rattle.std.specs.Prelude.{ℕ, ◌≡◌, true, MatchBool, List, [], codes, Option}
+use Rattle.sqlite.specs.Store.{Ghosts}
+use Rattle.shell_text.specs.Print.{Look}
+use Rattle.ft_shell.specs.Shell.{Shell}
+use Rattle.ft_shell.specs.Texts.{usage_text}
+use Rattle.ft_shell.specs.Dots.{DotCommand, Import, Nothing, SetMode, SetHeaders, SetSeparator, SetNull, SetEcho, SetBail, Print, Importing, Tables, Quit, Usage, Unknown}
+use Rattle.ft_shell.specs.Settings.{look_after, may_set, print_text}
+use Rattle.ft_shell.specs.Told.{Told, silent, says, blames}
+
+-- the session ends there
+abbrev pub quits : Told
+quits = record silent { ends = true }
+
+-- a setting is changed, but for a separator that may not be set
+abbrev pub Sets : ℕ → DotCommand → Look → Look → Told → Type 0
+Sets line command old new told = MatchBool (may_set command old) ((new ≡ look_after command old) × (told ≡ silent)) ((new ≡ old) × (told ≡ blames old line (codes "bad separator")))
+
+module _ {P S : Type 0} (line : ℕ) (old new : Shell P S) (told : Told) where
+  -- nothing is done, and this is told
+  abbrev pub OnlyTells : Told → Type 0
+  OnlyTells due = (new ≡ old) × (told ≡ due)
+
+  -- only a setting is changed
+  abbrev pub OnlySets : DotCommand → Type 0
+  OnlySets command = (new.plain ≡ old.plain) × (new.known ≡ old.known) × Sets line command old.look new.look told
+
+  -- `.import` and `.tables` are to come
+  abbrev pub DotTurn : DotCommand → Type 0
+  DotTurn Nothing = OnlySets Nothing
+  DotTurn (SetMode mode) = OnlySets (SetMode mode)
+  DotTurn (SetHeaders shown) = OnlySets (SetHeaders shown)
+  DotTurn (SetSeparator text) = OnlySets (SetSeparator text)
+  DotTurn (SetNull text) = OnlySets (SetNull text)
+  DotTurn (SetEcho on) = OnlySets (SetEcho on)
+  DotTurn (SetBail on) = OnlySets (SetBail on)
+  DotTurn (Print words) = OnlyTells (says (print_text words))
+  DotTurn (Importing what) = OnlyTells (blames old.look line (codes "unsupported"))
+  DotTurn Tables = OnlyTells (blames old.look line (codes "unsupported"))
+  DotTurn Quit = OnlyTells quits
+  DotTurn (Usage text) = OnlyTells (blames old.look line (usage_text text))
+  DotTurn Unknown = OnlyTells (blames old.look line (codes "unknown dot-command"))

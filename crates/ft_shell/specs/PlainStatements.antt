@@ -1,0 +1,78 @@
+-- What a statement of plain SQL does in a session ("Command Line Shell For SQLite"; that a query is prepared for its names and then
+-- executed once, and how a refusal is told, are own choices).
+use Rattle.std.specs.Prelude.{ℕ, ◌≡◌, ◌⊎◌, List, [], Option, Result, Ok, Err, Bool, true, false, MatchBool}
+use Rattle.sqlite.specs.Store.{Ghosts}
+use Rattle.sqlite_value.specs.Order.{Row}
+use Rattle.sqlite.specs.Held.{Held, state}
+use Rattle.sqlite.specs.State.{HasCleanDisk, Executes, FailsToQuery, IsUnchanged, Shown}
+use Rattle.sqlite.specs.Listing.{understood}
+use Rattle.sqlite.specs.Outline.{Outline}
+use Rattle.sqlite.specs.Steps.{Outlines}
+use Rattle.sqlite.specs.declared.error.Error.{Error}
+use Rattle.sqlite.specs.declared.error.Error.TheVariants.{SqliteFailure}
+use Rattle.sqlite.specs.declared.error.ErrorCode.TheVariants as code
+use Rattle.shell_text.specs.Print.{Look}
+use Rattle.ft_index.specs.Kept.{Known}
+use Rattle.ft_shell.specs.Plain.{asks, made_name}
+use Rattle.ft_shell.specs.Words.{tokens_of}
+use Rattle.ft_shell.specs.Answers.{rows_told}
+use Rattle.ft_shell.specs.FullTextTurns.{MaybeNotes}
+use Rattle.ft_shell.specs.Told.{Told, blames, lacks_memory, Tells}
+
+abbrev pub is_memory_error : Error → Bool
+is_memory_error (SqliteFailure code.OutOfMemory) = true
+is_memory_error _ = false
+
+-- the fault line of a refusal: its words are those of `sqlite`, but for want of memory
+abbrev pub TellsRefusal : Look → ℕ → Error → Told → Type 0
+TellsRefusal look line e told = MatchBool (is_memory_error e) (told ≡ lacks_memory look line) ((words : List ℕ) × (told ≡ blames look line words))
+
+module _ {P : Type 0} (g : Ghosts P) where
+  -- A step of the plain database. All that `sqlite` says has the premise that the disk is clean as the step ends; then it was
+  -- clean as the step began, so that no step is an unclean one of which nothing is said.
+  abbrev pub IfClean : Held P → Held P → Type 0 → Type 0
+  IfClean old new Step = HasCleanDisk (state g new) → HasCleanDisk (state g old) × Step
+
+  -- the statement was prepared, which tells its columns' names
+  pub record Prepares (text : List ℕ) (old new : Held P) (names : List (List ℕ)) : Type 0 where
+    pub outline : Outline
+    pub columns : names ≡ outline.columns
+    pub is : IfClean old new (Outlines (understood (state g old).now.schema text) outline × IsUnchanged (state g old) (state g new))
+
+  -- a query, or a write with RETURNING, is done with these rows
+  abbrev pub Shows : List ℕ → Held P → Held P → List Row → Type 0
+  Shows text old new rows = IfClean old new (Shown text [] (state g old) (state g new) rows)
+
+  abbrev pub Refuses : List ℕ → Held P → Held P → Error → Type 0
+  Refuses text old new e = IfClean old new (FailsToQuery text [] (state g old) (state g new) e)
+
+  -- it is prepared, and then answered
+  pub record Answers (text : List ℕ) (old new : Held P) (names : List (List ℕ)) (rows : List Row) : Type 0 where
+    pub prepared : Held P
+    pub prepares : Prepares text old prepared names
+    pub shows : Shows text prepared new rows
+
+  -- it is refused as it is prepared, or as it is run
+  pub data FailsToAnswer (text : List ℕ) (old new : Held P) (e : Error) : Type 0 where
+    unprepared : Refuses text old new e → FailsToAnswer text old new e
+    refused : (prepared : Held P) (names : List (List ℕ)) → Prepares text old prepared names → Refuses text prepared new e → FailsToAnswer text old new e
+
+  pub data QueryTurn (look : Look) (line : ℕ) (text : List ℕ) (old new : Held P) (told : Told) : Type 0 where
+    answered : (names : List (List ℕ)) (rows : List Row) → Answers text old new names rows → Tells look line (rows_told look line names rows) told → QueryTurn look line text old new told
+    refused : (e : Error) → FailsToAnswer text old new e → TellsRefusal look line e told → QueryTurn look line text old new told
+
+  -- CREATE, INSERT and whatever is no query; the name of a table that is made is noted
+  module _ {S : Type 0} (h : Ghosts S) where
+    pub data CommandTurn (look : Look) (line : ℕ) (text : List ℕ) (made : Option (List ℕ)) (old new : Held P) (before after : Known S) (told : Told) : Type 0 where
+      done : (count : ℕ) → IfClean old new (Executes text [] (state g old) (state g new) (Ok count)) → MaybeNotes h look line made before after told → CommandTurn look line text made old new before after told
+      refused : (e : Error) → IfClean old new (Executes text [] (state g old) (state g new) (Err e)) → after ≡ before → TellsRefusal look line e told → CommandTurn look line text made old new before after told
+
+    -- a plain statement: a query, or a command
+    abbrev pub PlainTurn : Look → ℕ → List ℕ → Held P → Held P → Known S → Known S → Told → Type 0
+    PlainTurn look line text old new before after told = MatchBool (asks (tokens_of text))
+        (QueryTurn look line text old new told × (after ≡ before))
+        (CommandTurn look line text (made_name (tokens_of text)) old new before after told)
+
+-- a unit's turn, or, for want of memory, nothing
+abbrev pub OrNothing : {P S : Type 0} → Type 0 → Look → ℕ → Held P → Held P → Known S → Known S → Told → Type 0
+OrNothing Turn look line old new before after told = Turn ⊎ ((new ≡ old) × (after ≡ before) × (told ≡ lacks_memory look line))

@@ -1,0 +1,117 @@
+// What a dot-command does in a session.
+ghost use Rattle.std.specs.Prelude.{◌≡◌, ◌⊎◌, ℕ, List, codes, map, string_bytes};
+ghost use Rattle.shell_text.specs.Dot.{dot_words_of};
+ghost use Rattle.ft_shell.specs.ToldViews.{told_as};
+ghost use Rattle.ft_shell.specs.Told.{Tells, says, blames, lacks_memory};
+ghost use Rattle.ft_shell.specs.Texts as texts;
+ghost use Rattle.ft_shell.specs.Settings as settings_forms;
+ghost use Rattle.ft_shell.specs.DotViews.{command_as};
+ghost use Rattle.ft_shell.specs.Dots.{dot_command_of};
+ghost use Rattle.ft_shell.specs.DotTurns.{Sets};
+ghost use Rattle.ft_shell.specs.Turns.{DotOrLacks, behind_stop};
+
+use crate::dots::{DotCommand, dot_command};
+use crate::setting::{apply, print_text};
+use crate::source::Source;
+use crate::texts::usage_text;
+use crate::told::Told;
+use ft_index::FullText;
+use shell_text::{SetFault, Settings, dot_words};
+use sqlite::{Alter, Connection};
+use std::alloc::Global;
+
+fn print_turn(alloc: Global, settings: &Settings, line: u64, words: &[String]) -> Told
+    ensures { Tells settings.now line (says (settings_forms.print_text (map string_bytes words.now))) (told_as result) }
+{
+    match print_text(alloc, words) {
+        Ok(text) => Told::says(alloc, text.into_bytes()),
+        Err(_) => Told::lacks_memory(alloc, settings, line),
+    }
+}
+
+fn usage_turn(alloc: Global, settings: &Settings, line: u64, usage: &str) -> Told
+    ensures { Tells settings.now line (blames settings.now line (texts.usage_text usage.now)) (told_as result) }
+{
+    match usage_text(alloc, usage) {
+        Ok(text) => Told::blames_text(alloc, settings, line, text),
+        Err(_) => Told::lacks_memory(alloc, settings, line),
+    }
+}
+
+fn set_turn(alloc: Global, settings: &mut Settings, line: u64, command: &DotCommand) -> Told
+    ensures { Sets line (command_as command.now) settings.old settings.new (told_as result) ⊎ ((settings.new ≡ settings.old) × (told_as result ≡ lacks_memory settings.old line)) }
+{
+    match apply(settings, command) {
+        Ok(()) => Told::silent(alloc),
+        Err(SetFault::BadSeparator) => Told::blames(alloc, settings, line, "bad separator"),
+        Err(SetFault::Memory) => Told::lacks_memory(alloc, settings, line),
+    }
+}
+
+fn unknown(alloc: Global, settings: &Settings, line: u64) -> Told
+    ensures { told_as result ≡ blames settings.now line (codes "unknown dot-command") }
+{
+    Told::blames(alloc, settings, line, "unknown dot-command")
+}
+
+// To come: `.import` and `.tables`.
+fn not_there_yet(alloc: Global, settings: &Settings, line: u64) -> Told
+    ensures { told_as result ≡ blames settings.now line (codes "unsupported") }
+{
+    Told::blames(alloc, settings, line, "unsupported")
+}
+
+/// Does what a dot-command says.
+pub(crate) fn dot_turn<P: Alter, S: Alter, F: Source>(
+    alloc: Global,
+    settings: &mut Settings,
+    plain: &mut Connection<P>,
+    fulltext: &mut FullText<S>,
+    source: &mut F,
+    line: u64,
+    command: &DotCommand,
+) -> Told
+    ensures turn { DotOrLacks line (record { look = settings.old; plain = plain.old; known = fulltext.old }) (record { look = settings.new; plain = plain.new; known = fulltext.new }) (told_as result) (command_as command.now) }
+    ensures source { (name : List ℕ) → F.holds source.new name ≡ F.holds source.old name }
+{
+    match command {
+        DotCommand::Print(words) => print_turn(alloc, settings, line, words.as_slice()),
+        DotCommand::Import(_) | DotCommand::Tables => not_there_yet(alloc, settings, line),
+        DotCommand::Quit => Told::quits(alloc),
+        DotCommand::Usage(usage) => usage_turn(alloc, settings, line, usage),
+        DotCommand::Unknown => unknown(alloc, settings, line),
+        _ => set_turn(alloc, settings, line, command),
+    }
+}
+
+// What stands behind the full stop at its front.
+fn behind_stop(text: &str) -> &str
+    ensures { result.now ≡ behind_stop text.now }
+{
+    match text.as_bytes() {
+        [b'.', ..] => &text[1..],
+        _ => text,
+    }
+}
+
+/// Does what a dot line says.
+pub(crate) fn dot_line_turn<P: Alter, S: Alter, F: Source>(
+    alloc: Global,
+    settings: &mut Settings,
+    plain: &mut Connection<P>,
+    fulltext: &mut FullText<S>,
+    source: &mut F,
+    line: u64,
+    text: &str,
+) -> Told
+    ensures turn { DotOrLacks line (record { look = settings.old; plain = plain.old; known = fulltext.old }) (record { look = settings.new; plain = plain.new; known = fulltext.new }) (told_as result) (dot_command_of (dot_words_of (behind_stop text.now))) }
+    ensures source { (name : List ℕ) → F.holds source.new name ≡ F.holds source.old name }
+{
+    let Ok(words) = dot_words(alloc, behind_stop(text)) else {
+        return Told::lacks_memory(alloc, settings, line);
+    };
+    match dot_command(alloc, words.as_slice()) {
+        Ok(command) => dot_turn(alloc, settings, plain, fulltext, source, line, &command),
+        Err(_) => Told::lacks_memory(alloc, settings, line),
+    }
+}

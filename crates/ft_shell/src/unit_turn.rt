@@ -1,0 +1,33 @@
+// What a unit of the input does in a session.
+ghost use Rattle.std.specs.Prelude.{◌≡◌, ℕ, List};
+ghost use Rattle.shell_text.specs.Splitting.{member_of_unit};
+ghost use Rattle.ft_shell.specs.ToldViews.{told_as};
+ghost use Rattle.ft_shell.specs.Turns.{Body};
+
+use crate::dot_turn::dot_line_turn;
+use crate::source::Source;
+use crate::statement_turn::statement_turn;
+use crate::told::Told;
+use ft_index::FullText;
+use shell_text::{Settings, Unit, UnitKind};
+use sqlite::{Alter, Connection};
+use std::alloc::Global;
+
+/// Runs a unit, and tells its answer, but for the echo.
+pub(crate) fn unit_turn<P: Alter, S: Alter, F: Source>(
+    alloc: Global,
+    settings: &mut Settings,
+    plain: &mut Connection<P>,
+    fulltext: &mut FullText<S>,
+    source: &mut F,
+    unit: &Unit,
+) -> Told
+    ensures body { Body P.Store S.Store (member_of_unit unit.now) (record { look = settings.old; plain = plain.old; known = fulltext.old }) (record { look = settings.new; plain = plain.new; known = fulltext.new }) (told_as result) }
+    ensures source { (name : List ℕ) → F.holds source.new name ≡ F.holds source.old name }
+{
+    let text = unit.text.as_str();
+    match unit.kind {
+        UnitKind::Sql => statement_turn(alloc, settings, plain, fulltext, unit.line, text),
+        UnitKind::Dot => dot_line_turn(alloc, settings, plain, fulltext, source, unit.line, text),
+    }
+}
