@@ -8,7 +8,6 @@ mod query;
 #[cfg(test)]
 mod ram;
 #[cfg(test)]
-#[cfg(test)]
 mod shell;
 #[cfg(test)]
 mod store;
