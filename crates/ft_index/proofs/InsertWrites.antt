@@ -54,8 +54,8 @@ all_new : (documents after : Documents) (all rs : List Rewrite) → is_sorted in
 all_new documents after all [] sorted made found new = tt
 all_new documents after all (r ∷ rs) sorted made found new = (
   new_in documents after r.docid new.0.1.0
-  (ap (find int_cmp r.docid) (sym made) ∙ find_rewritten r.docid all documents sorted ∙ ap (λ o. written o (find int_cmp r.docid documents)) found.0 ∙ new.0.1.1)
-  (ap is_some new.0.0),
+      (ap (find int_cmp r.docid) (sym made) ∙ find_rewritten r.docid all documents sorted ∙ ap (λ o. written o (find int_cmp r.docid documents)) found.0 ∙ new.0.1.1)
+      (ap is_some new.0.0),
   all_new documents after all rs sorted made found.1 new.1,
 )
 

@@ -85,8 +85,8 @@ module _ (command : Command) (name : List ℕ) (due : List ℕ → Content → O
       let touches : touched contents command ≡ touch t.content = is.touches contents ∙ ap (λ found. touched_found found touch) t.found ∙ ap (λ h. touched_held h touch) t.held in (
         is.deserves contents ∙ sound_is contents name known t due ∙ fine,
         subst (StoreHolds (all_applied changes store)) (sym (is.leaves contents))
-        (lifts store (all_applied changes store) tables contents name known t change order held leaves (is.keeps t.table.1.name t.content has.is_content fine) (done.0 ∙ ap content_rows same) (done.1 ∙ ap index_rows same)),
+            (lifts store (all_applied changes store) tables contents name known t change order held leaves (is.keeps t.table.1.name t.content has.is_content fine) (done.0 ∙ ap content_rows same) (done.1 ∙ ap index_rows same)),
         leaves.noted,
         is.near contents changes (subst (λ docids. AreOfFound (table_named contents name) docids changes) (sym touches)
-        (subst (λ found. AreOfFound found (touch t.content) changes) (sym t.found) (All-from_recursion (IsOfDocids t.table.0 (touch t.content)) changes many))),
+            (subst (λ found. AreOfFound found (touch t.content) changes) (sym t.found) (All-from_recursion (IsOfDocids t.table.0 (touch t.content)) changes many))),
       )

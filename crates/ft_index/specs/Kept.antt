@@ -111,7 +111,6 @@ pub record Executes {S : Type 0} (g : Ghosts S) (old : Known S) (command : Comma
   pub was_up : IsUp g new → IsUp g old
   pub steps : IsUp g new → (first : Contents) → Holds g old first → (last : Contents) × Holds g new last × Answers first command answer last
   pub noted : IsUp g new → (first : Contents) → Holds g old first → (value_of g new).noted ≡ (value_of g old).noted
-
   -- what is refused changes nothing
   pub unchanged : is_ok answer ≡ false → IsUp g new → (value_of g new ≡ value_of g old) × (new.tables ≡ old.tables)
 

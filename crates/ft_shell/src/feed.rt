@@ -101,8 +101,7 @@ impl Feed {
     }
 
     /// Whether nothing was read of a last line.
-    pub(crate) fn is_between_lines(&self) -> bool
-    {
+    pub(crate) fn is_between_lines(&self) -> bool {
         self.line.is_empty()
     }
 

@@ -11,8 +11,8 @@ mod full_text_turn;
 mod imports;
 mod insert;
 mod plain;
-mod plain_turn;
 mod plain_rows;
+mod plain_turn;
 mod plain_turns;
 mod reading;
 mod replies;
@@ -27,8 +27,8 @@ mod texts;
 mod told;
 mod unit_turn;
 mod values;
-mod written;
 mod words;
+mod written;
 
 pub use crate::dots::{DotCommand, Import, dot_command};
 pub use crate::imports::{

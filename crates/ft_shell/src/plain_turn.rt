@@ -37,10 +37,7 @@ pub(crate) fn refusal(alloc: Global, settings: &Settings, line: u64, error: Erro
 }
 
 // A query is prepared for its names, and then executed.
-fn asked<P: Alter>(
-    plain: &mut Connection<P>,
-    text: &str,
-) -> Result<(Statement, Vec<Row>), Error>
+fn asked<P: Alter>(plain: &mut Connection<P>, text: &str) -> Result<(Statement, Vec<Row>), Error>
     ensures answered { IfOk result (λ r. Answers P.Store text.now plain.old plain.new r.0.columns r.1.items) }
     ensures refused { IfErr result (FailsToAnswer P.Store text.now plain.old plain.new) }
 {

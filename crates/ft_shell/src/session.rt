@@ -92,7 +92,9 @@ impl<P: Alter + Drop, S: Alter + Drop> Session<P, S> {
         ensures { result ≡ (self.plain, self.fulltext) }
     {
         let Session {
-            plain, fulltext, ..
+            plain,
+            fulltext,
+            ..
         } = self;
         (plain, fulltext)
     }
@@ -121,7 +123,14 @@ impl<P: Alter + Drop, S: Alter + Drop> Session<P, S> {
                 flush(out)?;
                 return Ok(status);
             }
-            self.take(&mut feed, &chunk.as_slice()[..read], &mut status, source, out, err)?;
+            self.take(
+                &mut feed,
+                &chunk.as_slice()[..read],
+                &mut status,
+                source,
+                out,
+                err,
+            )?;
             if status.quit {
                 flush(out)?;
                 return Ok(status);

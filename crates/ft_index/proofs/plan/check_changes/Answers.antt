@@ -19,9 +19,9 @@ returns-in_err-check_table-clause-plans g c =
     let is : c.from_residual.result ≡ Err fault = search rules in
     let failed : c.check_table.result ≡ Err fault = search rules in
     λ up contents held.
-        let answered = c.check_table.ensures.checks.steps up contents held in
-        subst (λ (r : Result (Vec RowChange Global) Fault). PlansFrom contents (plain.Check c.args.table.now) (value_in g.S.Store c.args.store.now) (changes_of r)) (sym is)
-        (answered_fault contents answered.0 (plain.Check c.args.table.now) fault (subst (λ (r : Result Reply Fault). Answers contents (plain.Check c.args.table.now) (answer_of r) answered.0) failed answered.2))
+    let answered = c.check_table.ensures.checks.steps up contents held in
+    subst (λ (r : Result (Vec RowChange Global) Fault). PlansFrom contents (plain.Check c.args.table.now) (value_in g.S.Store c.args.store.now) (changes_of r)) (sym is)
+    (answered_fault contents answered.0 (plain.Check c.args.table.now) fault (subst (λ (r : Result Reply Fault). Answers contents (plain.Check c.args.table.now) (answer_of r) answered.0) failed answered.2))
 
 pub returns-clause-plans : goal.returns-clause-plans
 returns-clause-plans g c up contents held =

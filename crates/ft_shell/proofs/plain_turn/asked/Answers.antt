@@ -19,9 +19,9 @@ returns-in_err-rows-clause-refused g c =
     let is : c.from_residual-in_err-rows.result ≡ Err fault = search rules in
     subst (λ r. IfErr r (FailsToAnswer g.P.Store c.args.text.now c.args.plain.now c.query_all.new.conn)) (sym is)
     (asked_refused g.P.Store c.args.text.now c.args.plain.now c.prepare.new.self c.query_all.new.conn c.in_ok-statement.statement fault
-      c.prepare.ensures.survives c.in_ok-statement.ensures.ok c.in_ok-statement.ensures.shape c.query_all.ensures.survives c.in_err-rows.ensures.err)
+    c.prepare.ensures.survives c.in_ok-statement.ensures.ok c.in_ok-statement.ensures.shape c.query_all.ensures.survives c.in_err-rows.ensures.err)
 
 pub returns-clause-answered : goal.returns-clause-answered
 returns-clause-answered g c =
     asked_answered g.P.Store c.args.text.now c.args.plain.now c.prepare.new.self c.query_all.new.conn c.in_ok-statement.statement c.in_ok-rows.rows.items
-      c.prepare.ensures.survives c.in_ok-statement.ensures.ok c.in_ok-statement.ensures.shape c.query_all.ensures.survives c.in_ok-rows.ensures.ok
+    c.prepare.ensures.survives c.in_ok-statement.ensures.ok c.in_ok-statement.ensures.shape c.query_all.ensures.survives c.in_ok-rows.ensures.ok

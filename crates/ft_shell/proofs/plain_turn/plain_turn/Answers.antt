@@ -16,4 +16,4 @@ pub returns : goal.returns
 returns g c =
     let is : asks (tokens_of c.args.text.now) ≡ false = search rules in
     inl (runs_turn g.P.Store g.S.Store c.args.settings.now c.args.line c.args.text.now c.args.plain.now c.command_turn.new.plain c.args.fulltext.now c.command_turn.new.fulltext (told_as c.command_turn.result)
-      (option_map (λ n. n.now) c.made_in.result) is (c.made_in.ensures ∙ c.in-Ok.ensures.made) c.command_turn.ensures)
+    (option_map (λ n. n.now) c.made_in.result) is (c.made_in.ensures ∙ c.in-Ok.ensures.made) c.command_turn.ensures)

@@ -17,6 +17,6 @@ returns g c =
     let second : Appends b d number = subst (Appends b d) c.format.ensures.text c.in_ok-write_text-2.ensures in
     on_ok c.write_echo.result
     (λ last. appends_then a b f (codes "Error: near line ") (number ++ (codes ": " ++ (text ++ 10 ∷ []))) c.in_ok-write_text.ensures
-      (appends_then b d f number (codes ": " ++ (text ++ 10 ∷ [])) second
-      (appends_then d e f (codes ": ") (text ++ 10 ∷ []) c.in_ok-write_text-3.ensures (subst (λ t. Appends e f (t ++ 10 ∷ [])) c.fault_text_of.ensures last))))
+    (appends_then b d f number (codes ": " ++ (text ++ 10 ∷ [])) second
+    (appends_then d e f (codes ": ") (text ++ 10 ∷ []) c.in_ok-write_text-3.ensures (subst (λ t. Appends e f (t ++ 10 ∷ [])) c.fault_text_of.ensures last))))
     c.write_echo.ensures

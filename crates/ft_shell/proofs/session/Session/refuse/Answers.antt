@@ -11,6 +11,9 @@ returns g c =
     (λ out err faults quit. record {
       told = told_as c.blames-told.result;
       turn = record { body = told_as c.blames-told.result; done = (refl, c.blames-told.ensures ∙ ap (blames c.args.self.now.settings c.args.refusal.now.line) c.split_text-text.ensures); tells = refl };
-      out = out; err = err; faults = faults; quit = quit
+      out = out;
+      err = err;
+      faults = faults;
+      quit = quit;
     })
     c.tell.ensures.out c.tell.ensures.err c.tell.ensures.faults c.tell.ensures.quit

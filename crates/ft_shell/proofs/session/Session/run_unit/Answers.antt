@@ -15,8 +15,8 @@ returns g c =
     let first : Appends a b (if c.args.self.now.settings.echo then text ++ 10 ∷ [] else []) = subst (λ e. Appends a b (if e then text ++ 10 ∷ [] else [])) c.echo-echo.ensures told in
     on_ok4 c.tell.result
     (ran_unit g.P.Store g.S.Store c.args.unit.now.kind c.args.unit.now.line text
-      (record { look = c.args.self.now.settings; plain = c.args.self.now.plain; known = c.args.self.now.fulltext })
-      (record { look = c.unit_turn-told.new.settings; plain = c.unit_turn-told.new.plain; known = c.unit_turn-told.new.fulltext })
-      c.args.status.now c.tell.new.status a b (g.O.Write.contents c.tell.new.out) (g.E.Write.contents c.args.err.now) (g.E.Write.contents c.tell.new.err) (told_as c.unit_turn-told.result)
-      c.unit_turn-told.ensures.body first)
+    (record { look = c.args.self.now.settings; plain = c.args.self.now.plain; known = c.args.self.now.fulltext })
+    (record { look = c.unit_turn-told.new.settings; plain = c.unit_turn-told.new.plain; known = c.unit_turn-told.new.fulltext })
+    c.args.status.now c.tell.new.status a b (g.O.Write.contents c.tell.new.out) (g.E.Write.contents c.args.err.now) (g.E.Write.contents c.tell.new.err) (told_as c.unit_turn-told.result)
+    c.unit_turn-told.ensures.body first)
     c.tell.ensures.out c.tell.ensures.err c.tell.ensures.faults c.tell.ensures.quit
