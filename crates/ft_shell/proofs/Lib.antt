@@ -15,3 +15,4 @@ pub mod FeedLemmas
 pub mod WriteLemmas
 pub mod RanLemmas
 pub mod TurnsLemmas
+pub mod TablesLemmas

@@ -29,3 +29,5 @@ pub mod DotTurns
 pub mod Turns
 pub mod Feeds
 pub mod Ran
+pub mod TablesTurns
+pub mod ImportTurns

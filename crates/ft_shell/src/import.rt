@@ -1,0 +1,339 @@
+// What `.import` does in a session.
+ghost use Rattle.std.specs.Prelude.{◌≡◌, ◌+◌, ◌^◌, ◌<◌, ◌≤◌, ◌∷◌, [], None, true, length, map, min, unwrap_or, codes, string_bytes, IfOk};
+ghost use Rattle.shell_text.specs.Print.{is_csv_separator};
+ghost use Rattle.ft_content.specs.Command.{Insert};
+ghost use Rattle.ft_content.specs.Views as views;
+ghost use Rattle.ft_shell.specs.Imports.{fitted};
+ghost use Rattle.ft_shell.specs.Told as forms;
+ghost use Rattle.ft_shell.specs.ToldViews.{told_as};
+ghost use Rattle.ft_shell.specs.Views.{texts_of};
+
+use crate::dots::Import;
+use crate::full_text_turn::fault_told;
+use crate::imports::{delimiter_of, fitted_row, warnings};
+use crate::plain_import::{ImportFault, column_count, import_records, import_table};
+use crate::plain_turns::reads_table;
+use crate::source::{Source, SourceFault};
+use crate::told::{FaultLine, FaultText, Told};
+use ft_content::{Command, Fault, TableInfo, Value};
+use ft_index::FullText;
+use shell_text::{RecordFault, Settings, read_records};
+use sqlite::{Alter, Connection};
+use std::alloc::{AllocError, Global};
+
+// The fault line of what the plain database refused.
+fn refusal(alloc: Global, settings: &Settings, line: u64, fault: ImportFault) -> Told
+    ensures refused { fault ≡ ImportFault.Refused → told_as result ≡ forms.blames settings.now line (codes "import refused") }
+    ensures memory { fault ≡ ImportFault.Memory → told_as result ≡ forms.lacks_memory settings.now line }
+{
+    match fault {
+        ImportFault::Refused => Told::blames(alloc, settings, line, "import refused"),
+        ImportFault::Memory => Told::lacks_memory(alloc, settings, line),
+    }
+}
+
+// Warnings, and nothing else.
+fn warned(alloc: Global, lines: String) -> Told
+    ensures { told_as result ≡ forms.warned (string_bytes lines) }
+{
+    Told {
+        out: Vec::new(alloc),
+        warnings: lines,
+        fault: None,
+        ends: false,
+    }
+}
+
+// Warnings, and then a fault line.
+fn warned_and_blamed(
+    alloc: Global,
+    settings: &Settings,
+    line: u64,
+    lines: String,
+    text: &'static str,
+) -> Told
+    ensures { told_as result ≡ forms.followed (forms.warned (string_bytes lines)) (forms.blames settings.now line text.now) }
+{
+    Told {
+        out: Vec::new(alloc),
+        warnings: lines,
+        fault: Some(FaultLine {
+            line,
+            text: FaultText::Fixed(text),
+        }),
+        ends: settings.bail(),
+    }
+}
+
+// What is told of an import that made a table: its warnings, and then that its name is noted or isn't.
+fn noted_told<S: Alter>(
+    alloc: Global,
+    settings: &Settings,
+    full: &mut FullText<S>,
+    line: u64,
+    table: &str,
+    lines: String,
+) -> Told {
+    match full.note(table) {
+        Ok(()) => warned(alloc, lines),
+        Err(Fault::Memory) => warned_and_blamed(alloc, settings, line, lines, "out of memory"),
+        Err(_) => warned_and_blamed(alloc, settings, line, lines, "table not noted"),
+    }
+}
+
+// Records into a plain table that is there.
+fn into_table<P: Alter>(
+    alloc: Global,
+    settings: &Settings,
+    plain: &mut Connection<P>,
+    what: &Import,
+    line: u64,
+    first: usize,
+    records: &[Vec<String>],
+) -> Told
+    requires { first + length records.now < 2 ^ 64 }
+{
+    let columns = match column_count(alloc, plain, what.table.as_str()) {
+        Ok(columns) => columns,
+        Err(fault) => return refusal(alloc, settings, line, fault),
+    };
+    let Ok(lines) = warnings(alloc, what.file.as_str(), columns, first, records) else {
+        return Told::lacks_memory(alloc, settings, line);
+    };
+    match import_records(alloc, plain, what.table.as_str(), columns, records) {
+        Ok(()) => warned(alloc, lines),
+        Err(fault) => refusal(alloc, settings, line, fault),
+    }
+}
+
+// Records into a plain table that the first of them names the columns of.
+fn into_new_table<P: Alter, S: Alter>(
+    alloc: Global,
+    settings: &Settings,
+    plain: &mut Connection<P>,
+    full: &mut FullText<S>,
+    what: &Import,
+    line: u64,
+    first: usize,
+    records: &[Vec<String>],
+) -> Told
+    requires { first + length records.now < 2 ^ 64 }
+{
+    let [names, rest @ ..] = records else {
+        return Told::blames(alloc, settings, line, "no header record");
+    };
+    if names.len() > 100 {
+        return Told::blames(alloc, settings, line, "import refused");
+    }
+    let Ok(lines) = warnings(alloc, what.file.as_str(), names.len(), first + 1, rest) else {
+        return Told::lacks_memory(alloc, settings, line);
+    };
+    match import_table(alloc, plain, what.table.as_str(), names.as_slice(), rest) {
+        Ok(()) => noted_told(alloc, settings, full, line, what.table.as_str(), lines),
+        Err(fault) => refusal(alloc, settings, line, fault),
+    }
+}
+
+// Records into a plain table. The first of them has this number.
+fn plain_import<P: Alter, S: Alter>(
+    alloc: Global,
+    settings: &Settings,
+    plain: &mut Connection<P>,
+    full: &mut FullText<S>,
+    what: &Import,
+    line: u64,
+    first: usize,
+    records: &[Vec<String>],
+) -> Told
+    requires { first + length records.now < 2 ^ 64 }
+{
+    match reads_table(alloc, plain, what.table.as_str()) {
+        Some(true) => into_table(alloc, settings, plain, what, line, first, records),
+        Some(false) => into_new_table(alloc, settings, plain, full, what, line, first, records),
+        None => Told::lacks_memory(alloc, settings, line),
+    }
+}
+
+// The command that puts records into a full-text table with so many columns.
+fn insert_of(
+    alloc: Global,
+    table: &str,
+    columns: usize,
+    records: Vec<Vec<String>>,
+) -> Result<Command, AllocError>
+    ensures { IfOk result (λ command. views.command_of command ≡ Insert table.now None (map (fitted columns) (map texts_of records.items))) }
+{
+    let mut rows: Vec<Vec<Value>> = Vec::new(alloc);
+    for fields in records {
+        rows.push(fitted_row(alloc, fields, columns)?)?;
+    }
+    Ok(Command::Insert {
+        table: String::from_str(alloc, table)?,
+        columns: None,
+        rows,
+    })
+}
+
+// Records into a full-text table with so many columns: one command.
+fn full_text_import<S: Alter>(
+    alloc: Global,
+    settings: &Settings,
+    full: &mut FullText<S>,
+    what: &Import,
+    line: u64,
+    columns: usize,
+    first: usize,
+    records: Vec<Vec<String>>,
+) -> Told
+    requires { first + length records.items < 2 ^ 64 }
+{
+    let Ok(lines) = warnings(
+        alloc,
+        what.file.as_str(),
+        columns,
+        first,
+        records.as_slice(),
+    ) else {
+        return Told::lacks_memory(alloc, settings, line);
+    };
+    let Ok(command) = insert_of(alloc, what.table.as_str(), columns, records) else {
+        return Told::lacks_memory(alloc, settings, line);
+    };
+    match full.execute(&command) {
+        Ok(_) => warned(alloc, lines),
+        Err(fault) => fault_told(alloc, settings, line, fault),
+    }
+}
+
+// How many columns the full-text table of this name has, if there is one.
+fn columns_named(tables: &[TableInfo], name: &str) -> Option<usize> {
+    for table in tables {
+        if name.eq_ignore_ascii_case(table.name.as_str()) {
+            return Some(table.columns.len());
+        }
+    }
+    None
+}
+
+// The records that are not skipped.
+fn left_records(
+    alloc: Global,
+    records: Vec<Vec<String>>,
+    skip: usize,
+) -> Result<Vec<Vec<String>>, AllocError>
+    ensures fewer { IfOk result (λ left. length left.items ≤ length records.items) }
+{
+    let mut left = Vec::new(alloc);
+    let mut passed = 0;
+    for record in records {
+        if passed < skip {
+            passed += 1;
+        } else {
+            left.push(record)?;
+        }
+    }
+    Ok(left)
+}
+
+// How many of so many records are skipped.
+fn skipped(skip: Option<u64>, count: usize) -> usize
+    ensures { result ≡ min (unwrap_or skip 0) count }
+{
+    match skip {
+        Some(skip) => (skip as usize).min(count),
+        None => 0,
+    }
+}
+
+// The records of a file into the table.
+fn records_turn<P: Alter, S: Alter>(
+    alloc: Global,
+    settings: &Settings,
+    plain: &mut Connection<P>,
+    full: &mut FullText<S>,
+    what: &Import,
+    line: u64,
+    records: Vec<Vec<String>>,
+) -> Told {
+    let skip = skipped(what.skip, records.len());
+    let Ok(left) = left_records(alloc, records, skip) else {
+        return Told::lacks_memory(alloc, settings, line);
+    };
+    match columns_named(full.tables(), what.table.as_str()) {
+        Some(columns) => full_text_import(
+            alloc,
+            settings,
+            full,
+            what,
+            line,
+            columns,
+            skip + 1,
+            left,
+        ),
+        None => plain_import(
+            alloc,
+            settings,
+            plain,
+            full,
+            what,
+            line,
+            skip + 1,
+            left.as_slice(),
+        ),
+    }
+}
+
+// A file's bytes into the table.
+fn bytes_turn<P: Alter, S: Alter>(
+    alloc: Global,
+    settings: &Settings,
+    plain: &mut Connection<P>,
+    full: &mut FullText<S>,
+    what: &Import,
+    line: u64,
+    delimiter: u8,
+    bytes: &[u8],
+) -> Told
+    requires { is_csv_separator (delimiter ∷ []) ≡ true }
+{
+    match read_records(alloc, bytes, delimiter) {
+        Ok(records) => records_turn(alloc, settings, plain, full, what, line, records),
+        Err(RecordFault::NotUtf8) => Told::blames(alloc, settings, line, "file is not UTF-8"),
+        Err(RecordFault::Memory) => Told::lacks_memory(alloc, settings, line),
+    }
+}
+
+/// Puts the records of a file into a table, all of them or none.
+pub(crate) fn import_turn<P: Alter, S: Alter, F: Source>(
+    alloc: Global,
+    settings: &Settings,
+    plain: &mut Connection<P>,
+    full: &mut FullText<S>,
+    source: &mut F,
+    what: &Import,
+    line: u64,
+) -> Told {
+    let Some(delimiter) = delimiter_of(what.csv, settings) else {
+        return Told::blames(alloc, settings, line, "bad separator");
+    };
+    match source.fetch(alloc, what.file.as_str()) {
+        Ok(bytes) => bytes_turn(
+            alloc,
+            settings,
+            plain,
+            full,
+            what,
+            line,
+            delimiter,
+            bytes.as_slice(),
+        ),
+        Err(SourceFault::TooBig) => Told::blames(alloc, settings, line, "file too big"),
+        Err(SourceFault::Memory) => Told::lacks_memory(alloc, settings, line),
+        Err(SourceFault::Missing | SourceFault::Read) => Told::blames(
+            alloc,
+            settings,
+            line,
+            "cannot read file",
+        ),
+    }
+}
