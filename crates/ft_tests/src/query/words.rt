@@ -124,7 +124,7 @@ impl<'a> Lists for Words<'a> {
     ghost in_order = { λ _ never. absurd never };
 }
 
-pub fn words_of<'a>(documents: &'a [Texts<'a>]) -> Words<'a> {
+pub(crate) fn words_of<'a>(documents: &'a [Texts<'a>]) -> Words<'a> {
     Words {
         documents,
         calls_left: 1_000,
