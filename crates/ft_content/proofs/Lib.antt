@@ -13,10 +13,3 @@ pub mod AnswerLemmas
 pub mod DocidLemmas
 pub mod LastLemmas
 pub mod NameLemmas
-pub mod PlainLemmas
-pub mod InsertLemmas
-pub mod CommandLemmas
-pub mod SearchLemmas
-pub mod WordLemmas
-pub mod AcceptLemmas
-pub mod SelectLemmas

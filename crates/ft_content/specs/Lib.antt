@@ -7,5 +7,3 @@ pub mod Deserved
 pub mod Step
 pub mod Laws
 pub mod Meaning
-pub mod Word
-pub mod Plain

@@ -12,7 +12,7 @@ use crate::table::Column;
 use std::alloc::{AllocError, Global};
 
 /// The place of the column of this name, if there is one.
-pub fn column_place(columns: &[Column], name: &str) -> Option<usize>
+pub(crate) fn column_place(columns: &[Column], name: &str) -> Option<usize>
     ensures { result ≡ answer.column_place (bare_content columns.now) name.now }
 {
     columns
@@ -37,7 +37,7 @@ pub fn has_column(columns: &[Column], name: &str) -> bool
 }
 
 /// Whether a MATCH of the filter has a name that is neither the table's nor a column's.
-pub fn names_unknown(table: &str, columns: &[Column], filter: &Filter) -> bool
+pub(crate) fn names_unknown(table: &str, columns: &[Column], filter: &Filter) -> bool
     ensures { result ≡ deserved.names_unknown table.now (bare_content columns.now) (filter_of filter.now) }
 {
     match filter {

@@ -10,9 +10,9 @@ ghost use Rattle.ft_content.specs.Views.{last_docid, placed};
 
 use crate::fault::Fault;
 
-/// The docid of a document that is given none, where this is the last one's: one more, or 1 where there is no document.
-/// There is none behind the largest of all.
-pub fn next_docid(last: Option<i64>) -> Option<i64>
+// The docid of a document that is given none, where this is the last one's: one more, or 1 where there is no document.
+// There is none behind the largest of all.
+fn next_docid(last: Option<i64>) -> Option<i64>
     ensures { (documents : Documents) → last_docid documents ≡ last → result ≡ deserved.next_docid documents }
 {
     match last {

@@ -61,8 +61,8 @@ fn items_unknown(table: &str, columns: &[Column], items: &Items) -> bool
     }
 }
 
-/// Whether offsets are among the items.
-pub fn asks_offsets(items: &Items) -> bool
+// Whether offsets are among the items.
+fn asks_offsets(items: &Items) -> bool
     ensures { result ≡ list_any deserved.is_offsets (deserved.items_in (items_of items.now)) }
 {
     match items {

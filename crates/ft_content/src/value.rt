@@ -9,7 +9,7 @@ use ft_store::Value;
 use std::alloc::{AllocError, Global};
 
 /// A copy of a value.
-pub fn copied_value(alloc: Global, value: &Value) -> Result<Value, AllocError>
+pub(crate) fn copied_value(alloc: Global, value: &Value) -> Result<Value, AllocError>
     ensures { IfOk result (λ copy. shown_value copy ≡ shown_value value.now) }
 {
     match value {

@@ -4,6 +4,7 @@
 mod adopt;
 mod examine;
 mod fault;
+mod files;
 mod lists;
 mod make;
 mod packed;
@@ -16,6 +17,7 @@ mod tables;
 mod write;
 
 pub use fault::StoreFault;
+pub use files::open_database;
 pub use packed::packed_lists;
 pub use rows::{CellRow, EntryRow, RowChange, SizeRow, Spot, TabRow, Value};
 pub use store::{AdoptFault, Store};

@@ -3,6 +3,7 @@ ghost use Rattle.std.specs.Ordering.{int_eq, is_eq};
 ghost use Rattle.std.specs.List.{starts_with};
 ghost use Rattle.std.specs.FinMap.Entries.{where_key};
 ghost use Rattle.sqlite.specs.State.{HasCleanDisk, Survives};
+ghost use Rattle.sqlite_wal.specs.Files.{image_at};
 ghost use Rattle.ft_store.specs.Store.{cell_key_cmp, list_key_cmp, name_cmp, nothing_held, all_applied, AreInOrder};
 ghost use Rattle.ft_store.specs.Changes.{shown_change, CanApply};
 ghost use Rattle.ft_store.specs.Shown.{shown_cell, shown_size, shown_note, shown_entry, tables_listed, shown_table, last_docid_of, entries_of, AreWhole, SomeDamaged, AreNamedApart};
@@ -11,11 +12,12 @@ ghost use Rattle.ft_store.specs.Adopted.{IsTaken, IsNotTaken, LeavesEmpty};
 
 use crate::adopt::take;
 use crate::fault::StoreFault;
+use crate::files::open_database;
 use crate::make::make;
 use crate::rows::{CellRow, EntryRow, RowChange, SizeRow, TabRow};
 use crate::{lists, read, tables, write};
 use ram_disk::{Ram, open_ram};
-use sqlite::{Alter, Connection, File, FileStore};
+use sqlite::{Alter, Connection, File, FileFrom, FileStore, Start, Unknown};
 use std::alloc::Global;
 use std::marker::Model;
 
@@ -73,11 +75,29 @@ impl Store<FileStore<Ram>> {
 }
 
 impl Store<FileStore<File>> {
-    /// The store in a file, which is made where it isn't there. `:memory:` is refused.
+    /// The store in a file, which is made where it isn't there. `:memory:` is refused. Nothing is supposed of what a file
+    /// that isn't empty held: where something is known of it, `open_from` says what is found.
     pub fn open_file(rt: &HostRuntime, path: &str) -> Result<Store<FileStore<File>>, StoreFault>
         ensures unread { IfOk result (λ store. store.rows_read ≡ 0) }
     {
-        let conn = Connection::open(rt, path)?;
+        Store::open_from(rt, path, Unknown)
+    }
+}
+
+impl<B: Start> Store<FileStore<FileFrom<B>>> {
+    ghost use Rattle.sqlite.specs.Files.{over_files};
+    ghost use Rattle.ft_store.specs.Opened.{IsOpenedFrom};
+
+    /// The same, where `B` stands for what the files held: the database that they hold is taken as a store.
+    pub fn open_from(
+        rt: &HostRuntime,
+        path: &str,
+        start: B,
+    ) -> Result<Store<FileStore<FileFrom<B>>>, StoreFault>
+        ensures opened { IfOk result (λ store. IsOpenedFrom (image_at B.Start) store.held) }
+        ensures unread { IfOk result (λ store. store.rows_read ≡ 0) }
+    {
+        let conn = open_database(rt, path, start)?;
         match Store::adopt(rt.alloc(), conn) {
             Ok(store) => Ok(store),
             Err(fault) => Err(fault.cause),

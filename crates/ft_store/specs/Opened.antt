@@ -1,0 +1,17 @@
+-- What a store holds that is opened from files (own choice).
+use Rattle.sqlite_disk.specs.declared.Disk as disk
+use Rattle.sqlite_store.specs.declared.store.FileStore.{FileStore}
+use Rattle.sqlite_wal.specs.Recovery.{Image}
+use Rattle.sqlite.specs.Files.{file_state, over_files, IsOpened}
+use Rattle.sqlite.specs.Held.{Held, IsNew}
+use Rattle.sqlite.specs.Start.{FindsIn}
+use Rattle.sqlite.specs.State.{HasCleanDisk}
+use Rattle.ft_store.specs.Adopted.{IsTaken}
+
+-- The files held this image. The database that is found in it was opened, and then it was taken as a store.
+pub record IsOpenedFrom {D : Type 0} {g : disk.Ghosts D} (image : Image) (store : Held (FileStore D g)) : Type 0 where
+  pub conn : Held (FileStore D g)
+  pub fresh : IsNew conn
+  pub opened : HasCleanDisk (file_state conn) → IsOpened conn
+  pub found : HasCleanDisk (file_state conn) → FindsIn image (file_state conn)
+  pub taken : IsTaken over_files conn store
