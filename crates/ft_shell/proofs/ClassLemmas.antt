@@ -1,10 +1,10 @@
 -- Names of tables, as the code and as contracts see them.
-use Rattle.std.proofs.Common.{◌≡◌, ℕ, List, map, Option, refl, sym, ap, subst, ◌∙◌, [], ◌∷◌, string_bytes}
+use Rattle.std.proofs.Common.{◌≡◌, List, map, Option, refl, ap, subst, ◌∙◌, [], ◌∷◌, string_bytes}
 use Rattle.ft_content.specs.declared.table.TableInfo.{TableInfo}
 use Rattle.ft_content.specs.Views.{KnownTable, known_info, info_names}
 use Rattle.ft_index.specs.Kept.{Known}
-use Rattle.ft_shell.specs.Words.{Token}
-use Rattle.ft_shell.specs.Statements.{Class, class_of}
+use Rattle.ft_statements.specs.Words.{Token}
+use Rattle.ft_statements.specs.Statements.{Class, class_of}
 use Rattle.ft_shell.specs.StatementTurns.{table_names}
 
 names_known : (tables : List TableInfo) → info_names tables ≡ map (λ (t : KnownTable). t.name) (map known_info tables)

@@ -1,14 +1,14 @@
 -- Lines of an input that is read piece by piece.
-use Rattle.std.proofs.Common.{◌≡◌, ◌≢◌, ℕ, ◌+◌, ◌<◌, ◌≤◌, Bool, true, false, cond, ◌||◌, ◌&&◌, ◌==◌, List, [], ◌∷◌, ◌++◌, length, Option, Some, None, Result, Ok, Err, refl, sym, ap, subst, ◌∙◌, arith, append-nil, append_assoc, length-append, nat_lt, lt-ltb, not}
+use Rattle.std.proofs.Common.{◌≡◌, ◌≢◌, ℕ, ◌<◌, Bool, true, false, cond, ◌||◌, ◌&&◌, ◌==◌, List, [], ◌∷◌, ◌++◌, length, Option, Some, None, Result, Ok, Err, refl, sym, ap, ◌∙◌, arith, append-nil, length-append, lt-ltb, not}
 use Rattle.std.specs.List.{list_any, onto_first}
 use Rattle.std.specs.Str.{is_utf8}
 use Rattle.shell_text.specs.declared.units.SplitFault.{SplitFault}
 use Rattle.shell_text.specs.declared.units.SplitFault.TheVariants as fault
-use Rattle.shell_text.specs.Units.{Member, Fault, Reading, Role, Refused, Command, Joins, is_idle, pending_in, lines_of, most_bytes, role_of, size_with, member_of, after_role, after, units_in, without_block}
-use Rattle.shell_text.specs.Splitting.{Splitting, TakesLine, given_by, without_ended}
+use Rattle.shell_text.specs.declared.units.Unit.{Unit as SeenUnit}
+use Rattle.shell_text.specs.Units.{Member, Fault, last_member, tail_in, Reading, Role, Refused, Command, Joins, is_idle, lines_of, most_bytes, role_of, size_with, member_of, after_role, after, units_in, without_block}
+use Rattle.shell_text.specs.Splitting.{Finishes, Splitting, TakesLine, given_by, without_ended}
 use Rattle.shell_text.specs.Words.{next_is, first_byte, pieces_from}
-use Rattle.ft_shell.specs.declared.feed.Refusal.{Refusal}
-use Rattle.ft_shell.specs.Feeds.{Fed, members_left, refused_as}
+use Rattle.ft_shell.specs.Feeds.{EndsWith, Fed, end_line, members_left}
 
 -- lines with a text before the first of them
 abbrev fronted : List ℕ → List (List ℕ) → List (List ℕ)
@@ -118,3 +118,37 @@ refused_line a new why number rest plain none same other takes =
     ∙ refused_given why r a.line (lines_of rest) is.0
     ∙ (λ i. Fault (sym same i) why ∷ given_by (after_role (sym is.0 i) r a.line) (lines_of rest))
     ∙ sym (ap (λ (s : Splitting). Fault number why ∷ (s.waiting ++ given_by s.reading (lines_of rest))) is.1 ∙ ap (λ w. Fault number why ∷ (w ++ given_by (after r a.line) (lines_of rest))) none)
+
+-- ---- the end of the input
+
+-- what follows the last line feed is a line, as if a line feed ended it
+pub ended_line : (a : Fed) → IsPlain a.line → 0 < length a.line → members_left a [] ≡ members_left a (10 ∷ [])
+ended_line a plain some = ap (λ lines. a.splitting.waiting ++ given_by a.splitting.reading lines) (go a.line plain some)
+  where
+    go : (line : List ℕ) → IsPlain line → 0 < length line → lines_of (line ++ []) ≡ lines_of (line ++ 10 ∷ [])
+    go [] plain some = absurd (omega (arith, some))
+    go (b ∷ bs) plain some = ended_at_last b bs plain ∙ sym (ended (b ∷ bs) [] plain)
+
+-- between two lines what is pending is left
+pub ends_with : (a : Fed) (new : Splitting) (r : Result (Option SeenUnit) SplitFault) → a.splitting.waiting ≡ [] → a.line ≡ [] → Finishes a.splitting new r → EndsWith r (members_left a [])
+ends_with a new r none between finishes = go r finishes
+  where
+    left : members_left a [] ≡ last_member (tail_in a.splitting.reading)
+    left = λ i. none i ++ given_by a.splitting.reading (lines_of (between i ++ []))
+
+    go : (r : Result (Option SeenUnit) SplitFault) → Finishes a.splitting new r → EndsWith r (members_left a [])
+    go (Ok None) f = left ∙ f.0
+    go (Ok (Some u)) f = left ∙ f.0
+    go (Err fault.Memory) f = tt
+    go (Err (fault.Incomplete line)) f = left ∙ f.0
+    go (Err fault.TooLong) f = absurd f
+    go (Err fault.NotUtf8) f = absurd f
+    go (Err fault.HasNul) f = absurd f
+
+-- a refusal at the end
+pub ends_refused : (why : SplitFault) (left : List Member) → why ≢ fault.Memory → EndsWith (Err why) left → left ≡ Fault (end_line why) why ∷ []
+ends_refused fault.TooLong left other is = is
+ends_refused fault.NotUtf8 left other is = is
+ends_refused fault.HasNul left other is = is
+ends_refused (fault.Incomplete n) left other is = is
+ends_refused fault.Memory left other is = absurd (other refl)

@@ -4,7 +4,7 @@ use Rattle.std.specs.List.{flat_map, enumerate_from}
 use Rattle.std.proofs.lemmas.List.{append-nil, replicate_more, take_more, map-append, length-map, length-take-le}
 use Rattle.std.proofs.lemmas.Grind.{flat_map-append}
 use Rattle.ft_shell.specs.Imports.{with_commas, warning, warnings}
-use Rattle.ft_shell.specs.Views.{texts_of}
+use Rattle.ft_statements.specs.Views.{texts_of}
 
 abbrev pub marks : ℕ → List ℕ
 marks n = with_commas (λ mark. mark) (replicate n (codes "?"))

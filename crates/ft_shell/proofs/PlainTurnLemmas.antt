@@ -1,9 +1,9 @@
 -- What `sqlite` says of a query that is prepared and then run, where the disk is clean as it ends.
-use Rattle.std.proofs.Common.{◌≡◌, ◌≤◌, ℕ, List, [], refl, subst, sym, arith, inl}
-use Rattle.std.specs.Prelude.{◌⊎◌, MatchBool, true, false, Option}
+use Rattle.std.proofs.Common.{◌≡◌, ℕ, List, [], refl, subst, sym, arith, inl}
+use Rattle.std.specs.Prelude.{MatchBool, true, false, Option}
 use Rattle.ft_index.specs.Kept.{Known}
-use Rattle.ft_shell.specs.Plain.{asks, made_name}
-use Rattle.ft_shell.specs.Words.{tokens_of}
+use Rattle.ft_statements.specs.Plain.{asks, made_name}
+use Rattle.ft_statements.specs.Words.{tokens_of}
 use Rattle.shell_text.specs.Print.{Look}
 use Rattle.ft_shell.specs.Told.{Told, blames, lacks_memory}
 use Rattle.sqlite_trees.specs.View.{doubt}
@@ -16,7 +16,7 @@ use Rattle.sqlite.specs.Listing.{understood}
 use Rattle.sqlite.specs.Outline.{Outline}
 use Rattle.sqlite.specs.Steps.{Outlines}
 use Rattle.sqlite.specs.declared.error.Error.{Error}
-use Rattle.ft_shell.specs.PlainStatements.{is_memory_error, TellsRefusal, IfClean, Prepares, Shows, Refuses, Answers, FailsToAnswer, QueryTurn, CommandTurn, PlainTurn, unprepared, refused}
+use Rattle.ft_shell.specs.PlainStatements.{is_memory_error, TellsRefusal, IfClean, Prepares, Answers, FailsToAnswer, QueryTurn, CommandTurn, PlainTurn, unprepared, refused}
 
 pub clean_before : {old new : State} {Commits : Trees → Type 0} → Survives old new Commits → HasCleanDisk new → HasCleanDisk old
 clean_before {old} {new} survives clean = let c : doubt new.is_clean ≡ 0 = clean in let s = survives.clean in omega (arith, c, s)

@@ -1,5 +1,5 @@
 -- Turns one after the other.
-use Rattle.std.proofs.Common.{◌≡◌, ℕ, true, false, List, [], ◌∷◌, ◌++◌, refl, sym, ap, subst, ◌∙◌, append_assoc, append-nil, add_assoc, add-zero, zero-add}
+use Rattle.std.proofs.Common.{◌≡◌, true, false, List, [], ◌∷◌, ◌++◌, refl, sym, ap, subst, ◌∙◌, append_assoc, append-nil, add_assoc, add-zero, zero-add}
 use Rattle.std.specs.Prelude.{MatchBool, Bool}
 use Rattle.sqlite.specs.Store.{Ghosts}
 use Rattle.shell_text.specs.Units.{Member}
@@ -12,6 +12,17 @@ followed_assoc a b c = λ i. record { out = append_assoc a.out b.out c.out i; er
 
 pub silent_followed : (t : Told) → followed silent t ≡ t
 silent_followed t = ap (λ n. record t { faults = n }) (zero-add t.faults)
+
+pub followed_silent : (t : Told) → t.ends ≡ false → followed t silent ≡ t
+followed_silent t goes = λ i. record { out = append-nil t.out i; err = append-nil t.err i; faults = add-zero t.faults i; ends = sym goes i }
+
+-- one turn
+pub turns_one : {P S : Type 0} (g : Ghosts P) (h : Ghosts S) (member : Member) (a b : Shell P S) (told : Told) → Turn g h member a b told → Turns g h (member ∷ []) a b told
+turns_one g h member a b told turn = (b, told, turn, go told.ends refl)
+  where
+    go : (ends : Bool) → told.ends ≡ ends → MatchBool ends ((b ≡ b) × (told ≡ told)) ((rest : Told) × Turns g h [] b b rest × (told ≡ followed told rest))
+    go true is = (refl, refl)
+    go false is = (silent, (refl, refl), sym (followed_silent told is))
 
 -- turns that don't end the session, and then those that follow
 pub turns_then : {P S : Type 0} (g : Ghosts P) (h : Ghosts S) (members others : List Member) (a b c : Shell P S) (first rest : Told) → Turns g h members a b first → first.ends ≡ false → Turns g h others b c rest → Turns g h (members ++ others) a c (followed first rest)

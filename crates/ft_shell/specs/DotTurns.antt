@@ -1,11 +1,13 @@
 -- What a dot-command does in a session ("Special commands to sqlite3 (dot-commands)" of "Command Line Shell For SQLite").
-use Rattle.std.specs.Prelude.{ℕ, ◌≡◌, true, MatchBool, List, [], codes, Option}
+use Rattle.std.specs.Prelude.{ℕ, ◌≡◌, true, MatchBool, codes}
 use Rattle.sqlite.specs.Store.{Ghosts}
 use Rattle.shell_text.specs.Print.{Look}
 use Rattle.ft_shell.specs.Shell.{Shell}
-use Rattle.ft_shell.specs.Texts.{usage_text}
-use Rattle.ft_shell.specs.Dots.{DotCommand, Import, Nothing, SetMode, SetHeaders, SetSeparator, SetNull, SetEcho, SetBail, Print, Importing, Tables, Quit, Usage, Unknown}
-use Rattle.ft_shell.specs.Settings.{look_after, may_set, print_text}
+use Rattle.ft_statements.specs.Texts.{usage_text}
+use Rattle.ft_statements.specs.Dots.{DotCommand, Nothing, SetMode, SetHeaders, SetSeparator, SetNull, SetEcho, SetBail, Print, Importing, Tables, Quit, Usage, Unknown}
+use Rattle.ft_statements.specs.Settings.{look_after, may_set, print_text}
+use Rattle.ft_shell.specs.TablesTurns.{TablesTurn}
+use Rattle.ft_shell.specs.ImportTurns.{ImportTurn}
 use Rattle.ft_shell.specs.Told.{Told, silent, says, blames}
 
 -- the session ends there
@@ -16,16 +18,19 @@ quits = record silent { ends = true }
 abbrev pub Sets : ℕ → DotCommand → Look → Look → Told → Type 0
 Sets line command old new told = MatchBool (may_set command old) ((new ≡ look_after command old) × (told ≡ silent)) ((new ≡ old) × (told ≡ blames old line (codes "bad separator")))
 
-module _ {P S : Type 0} (line : ℕ) (old new : Shell P S) (told : Told) where
+module _ {P S : Type 0} (g : Ghosts P) (h : Ghosts S) (line : ℕ) (old new : Shell P S) (told : Told) where
   -- nothing is done, and this is told
   abbrev pub OnlyTells : Told → Type 0
   OnlyTells due = (new ≡ old) × (told ≡ due)
 
   -- only a setting is changed
   abbrev pub OnlySets : DotCommand → Type 0
-  OnlySets command = (new.plain ≡ old.plain) × (new.known ≡ old.known) × Sets line command old.look new.look told
+  OnlySets command = (new.plain ≡ old.plain) × (new.known ≡ old.known) × (new.holds ≡ old.holds) × Sets line command old.look new.look told
 
-  -- `.import` and `.tables` are to come
+  -- the settings and the files are as before
+  abbrev pub LooksSame : Type 0
+  LooksSame = (new.look ≡ old.look) × (new.holds ≡ old.holds)
+
   abbrev pub DotTurn : DotCommand → Type 0
   DotTurn Nothing = OnlySets Nothing
   DotTurn (SetMode mode) = OnlySets (SetMode mode)
@@ -35,8 +40,8 @@ module _ {P S : Type 0} (line : ℕ) (old new : Shell P S) (told : Told) where
   DotTurn (SetEcho on) = OnlySets (SetEcho on)
   DotTurn (SetBail on) = OnlySets (SetBail on)
   DotTurn (Print words) = OnlyTells (says (print_text words))
-  DotTurn (Importing what) = OnlyTells (blames old.look line (codes "unsupported"))
-  DotTurn Tables = OnlyTells (blames old.look line (codes "unsupported"))
+  DotTurn (Importing what) = LooksSame × ImportTurn g h old.look line what old.plain new.plain old.known new.known told old.holds
+  DotTurn Tables = LooksSame × TablesTurn g h old.look line old.plain new.plain old.known new.known told
   DotTurn Quit = OnlyTells quits
   DotTurn (Usage text) = OnlyTells (blames old.look line (usage_text text))
   DotTurn Unknown = OnlyTells (blames old.look line (codes "unknown dot-command"))

@@ -1,7 +1,10 @@
 -- An input that is read piece by piece (own choice).
-use Rattle.std.specs.Prelude.{ℕ, List, [], ◌∷◌, ◌++◌, Option, Some, None}
+use Rattle.std.specs.Prelude.{ℕ, ◌≡◌, ⊤, List, [], ◌∷◌, ◌++◌, Option, Some, None, Result, Ok, Err}
 use Rattle.shell_text.specs.Units.{Member, Fault, lines_of}
-use Rattle.shell_text.specs.Splitting.{Splitting, given_by}
+use Rattle.shell_text.specs.declared.units.SplitFault.{SplitFault}
+use Rattle.shell_text.specs.declared.units.SplitFault.TheVariants as fault
+use Rattle.shell_text.specs.declared.units.Unit.{Unit as SeenUnit}
+use Rattle.shell_text.specs.Splitting.{Splitting, given_by, member_of_unit}
 use Rattle.ft_shell.specs.declared.feed.Refusal.{Refusal}
 
 -- what was read of an input: the lines that ended, and the bytes so far of the line that is being read
@@ -16,3 +19,15 @@ members_left fed rest = fed.splitting.waiting ++ given_by fed.splitting.reading 
 abbrev pub refused_as : Option Refusal → List Member
 refused_as None = []
 refused_as (Some r) = Fault r.line r.fault ∷ []
+
+-- the line with which the end of an input is refused
+abbrev pub end_line : SplitFault → ℕ
+end_line (fault.Incomplete line) = line
+end_line _ = 1
+
+-- What is left as the input ends: a unit, or its refusal, or nothing. Want of memory says nothing of it.
+abbrev pub EndsWith : Result (Option SeenUnit) SplitFault → List Member → Type 0
+EndsWith (Ok None) left = left ≡ []
+EndsWith (Ok (Some unit)) left = left ≡ member_of_unit unit ∷ []
+EndsWith (Err fault.Memory) left = ⊤
+EndsWith (Err why) left = left ≡ Fault (end_line why) why ∷ []

@@ -1,14 +1,14 @@
 -- What a full-text statement does in a session. All of it is our own choice.
-use Rattle.std.specs.Prelude.{ℕ, ◌≡◌, ◌⊎◌, Bool, true, false, MatchBool, List, codes, Option, Some, None, Result, Ok, Err}
+use Rattle.std.specs.Prelude.{ℕ, ◌≡◌, Bool, MatchBool, List, codes, Option, Some, None, Result, Ok, Err}
 use Rattle.sqlite.specs.Store.{Ghosts}
 use Rattle.shell_text.specs.Print.{Look}
 use Rattle.ft_content.specs.declared.fault.Fault.{Fault}
 use Rattle.ft_content.specs.Command.{Command, Reply}
 use Rattle.ft_index.specs.Kept.{Known, Executes, Notes}
 use Rattle.ft_index.specs.Crashes.{CommandSurvives, NoteSurvives}
-use Rattle.ft_shell.specs.Texts.{fault_text}
-use Rattle.ft_shell.specs.Replies.{reply_text}
-use Rattle.ft_shell.specs.Told.{Told, silent, says, blames, lacks_memory, Tells}
+use Rattle.ft_statements.specs.Texts.{fault_text}
+use Rattle.ft_statements.specs.Replies.{reply_text}
+use Rattle.ft_shell.specs.Told.{Told, silent, says, blames, Tells}
 
 -- what is told of an answer
 abbrev pub reply_told : Look → ℕ → Result Reply Fault → Told

@@ -1,31 +1,40 @@
 -- What `.import` does in a session ("Importing files as CSV or other formats" of "Command Line Shell For SQLite"; that an import is one
--- command, whole or not at all, and that short records are filled with NULL and long ones cut, are own choices).
-use Rattle.std.specs.Prelude.{ℕ, Bool, ◌≡◌, ◌≤◌, List, [], ◌∷◌, ◌++◌, length, map, take, drop, replicate, true, Option, Some, None, unwrap_or, Result, Ok, Err, is_ok, if◌then◌else◌}
+-- command, whole or not at all, that short records are filled with NULL and long ones cut, and each refusal, are own choices).
+use Rattle.std.specs.Prelude.{ℕ, ◌≡◌, ◌⊎◌, ◌<◌, ◌≤◌, List, [], ◌∷◌, length, map, drop, true, false, codes, Option, Some, None, unwrap_or, Result, Ok, Err, if◌then◌else◌}
 use Rattle.std.specs.List.{enumerate_from}
-use Rattle.sqlite_value.specs.Order.{Row}
-use Rattle.sqlite_value.specs.declared.value.Value.TheVariants as value
+use Rattle.csv.specs.Reading.{AreRecords, strip_bom}
+use Rattle.csv.specs.declared.parser.State.TheVariants as csv
 use Rattle.sqlite.specs.Store.{Ghosts}
-use Rattle.sqlite.specs.Schema.{Schema}
-use Rattle.sqlite.specs.Listing.{understood}
+use Rattle.sqlite.specs.Held.{Held, state}
 use Rattle.shell_text.specs.Print.{Look}
+use Rattle.shell_text.specs.Records.{IsNoText, csv_reader}
 use Rattle.ft_content.specs.declared.fault.Fault.{Fault}
-use Rattle.ft_content.specs.Command.{Insert, Reply}
+use Rattle.ft_content.specs.Command.{Command, Insert, Reply}
 use Rattle.ft_content.specs.Views.{KnownTable}
 use Rattle.ft_index.specs.Kept.{Known, Executes}
 use Rattle.ft_index.specs.Crashes.{CommandSurvives}
-use Rattle.ft_shell.specs.Dots.{Import}
+use Rattle.ft_statements.specs.Dots.{Import}
+use Rattle.ft_shell.specs.declared.plain_import.ImportFault.{ImportFault}
+use Rattle.ft_shell.specs.declared.plain_import.ImportFault.TheVariants.{Refused, Memory}
 use Rattle.ft_shell.specs.FullTextTurns.{NoteTurn}
-use Rattle.ft_shell.specs.Imports.{fitted, insertion_of, warnings}
-use Rattle.ft_shell.specs.Statements.{is_named}
-use Rattle.ft_shell.specs.Texts.{fault_text}
+use Rattle.ft_shell.specs.Imports.{delimiter_of, fitted, warnings}
+use Rattle.ft_shell.specs.PlainImports.{HasColumns, Stays, Keeps, import_steps, CommitsAll, Declines, Uncounted}
+use Rattle.ft_shell.specs.PlainStatements.{IfClean}
+use Rattle.ft_shell.specs.Sources.{Gives}
+use Rattle.ft_statements.specs.Statements.{is_named}
+use Rattle.ft_shell.specs.TablesTurns.{Tries}
+use Rattle.ft_statements.specs.Texts.{fault_text}
 use Rattle.ft_shell.specs.Told.{Told, blames, followed, lacks_memory, warned, Tells}
 
 -- the records that are not skipped, each with its number, from 1
 abbrev pub kept : Option ℕ → List (List (List ℕ)) → List (ℕ × List (List ℕ))
 kept skip found = drop (unwrap_or skip 0) (enumerate_from 1 found)
 
+abbrev pub records_in : List (ℕ × List (List ℕ)) → List (List (List ℕ))
+records_in rows = map (λ r. r.1) rows
+
 -- the number of columns of the first table that has this name, if one has
-unfoldable pub columns_in : List KnownTable → List ℕ → Option ℕ
+abbrev pub columns_in : List KnownTable → List ℕ → Option ℕ
 columns_in [] name = None
 columns_in (t ∷ ts) name = if is_named name t.name then Some (length t.columns) else columns_in ts name
 
@@ -36,30 +45,96 @@ abbrev pub insert_told : Look → ℕ → List ℕ → Result Reply Fault → To
 insert_told look line lines (Ok reply) = warned lines
 insert_told look line lines (Err fault) = blames look line (fault_text fault)
 
+-- The one command is executed, and its answer is told.
+pub record InsertTurn {S : Type 0} (h : Ghosts S) (look : Look) (line : ℕ) (command : Command) (lines : List ℕ) (before after : Known S) (told : Told) : Type 0 where
+  pub answer : Result Reply Fault
+  pub executes : Executes h before command answer after
+  pub survives : CommandSurvives h before command after
+  pub tells : Tells look line (insert_told look line lines answer) told
+
 -- All records go in by one Insert, or none does. Where memory is wanting before it, nothing is done.
 pub data TextImport {S : Type 0} (h : Ghosts S) (look : Look) (line : ℕ) (what : Import) (n : ℕ) (rows : List (ℕ × List (List ℕ))) (before after : Known S) (told : Told) : Type 0 where
-  executed : (answer : Result Reply Fault) → Executes h before (Insert what.table None (map (λ r. fitted n r.1) rows)) answer after
-      → CommandSurvives h before (Insert what.table None (map (λ r. fitted n r.1) rows)) after
-      → Tells look line (insert_told look line (warnings what.file n rows) answer) told → TextImport h look line what n rows before after told
+  executed : InsertTurn h look line (Insert what.table None (map (fitted n) (records_in rows))) (warnings what.file n rows) before after told → TextImport h look line what n rows before after told
   no_memory : after ≡ before → told ≡ lacks_memory look line → TextImport h look line what n rows before after told
 
 -- ---- into a plain table
 
--- a record's fields in n columns: cut, or filled with NULL
-abbrev pub fitted_row : ℕ → List (List ℕ) → Row
-fitted_row n fields = take n (map value.Text fields ++ replicate n value.Null)
-
--- whether so many values may be put into the table
-abbrev pub takes_values : Schema → List ℕ → ℕ → Bool
-takes_values schema name n = is_ok (understood schema (insertion_of name n))
-
--- the table's number of columns: the one from 1 to 100 of values that may be put into it
-pub record HasColumns (schema : Schema) (name : List ℕ) (n : ℕ) : Type 0 where
-  pub least : 1 ≤ n
-  pub most : n ≤ 100
-  pub takes : takes_values schema name n ≡ true
-  pub only : (m : ℕ) → 1 ≤ m → m ≤ 100 → takes_values schema name m ≡ true → m ≡ n
-
 -- a made table's name is noted, after the warnings of its import
 abbrev pub NotesAfter : {S : Type 0} → Ghosts S → Look → ℕ → List ℕ → List ℕ → Known S → Known S → Told → Type 0
 NotesAfter h look line name lines before after told = (end : Told) × NoteTurn h look line name before after end × (told ≡ followed (warned lines) end)
+
+-- the words of what the plain database refused
+abbrev pub fault_words : ImportFault → List ℕ
+fault_words Refused = codes "import refused"
+fault_words Memory = codes "out of memory"
+
+module _ {P : Type 0} (g : Ghosts P) (look : Look) (line : ℕ) (what : Import) (rows : List (ℕ × List (List ℕ))) where
+  -- it is refused, or memory is wanting: what was committed stays, and nothing else is told
+  abbrev pub IsLeft : List ℕ → Held P → Held P → Told → Type 0
+  IsLeft why old new told = IfClean g old new (Keeps (state g old) (state g new)) × (told ≡ blames look line why)
+
+  -- Into a table that is there: all records in one transaction, and then the warnings.
+  pub data IntoTable (old new : Held P) (told : Told) : Type 0 where
+    into : (n : ℕ) (counted : Held P) → IfClean g old counted (Stays (state g old) (state g counted) × HasColumns (state g old).now.schema what.table n)
+        → CommitsAll g (import_steps None what.table n (records_in rows)) counted new → told ≡ warned (warnings what.file n rows) → IntoTable old new told
+    uncounted : Uncounted g what.table old new → IsLeft (codes "import refused") old new told → IntoTable old new told
+    declined : (n : ℕ) (counted : Held P) → IfClean g old counted (Stays (state g old) (state g counted) × HasColumns (state g old).now.schema what.table n)
+        → Declines g (import_steps None what.table n (records_in rows)) counted new → IsLeft (codes "import refused") old new told → IntoTable old new told
+    no_memory : IsLeft (codes "out of memory") old new told → IntoTable old new told
+
+  -- Into a table that the first record left names the columns of: it is made in the same transaction, and noted after the warnings.
+  module _ {S : Type 0} (h : Ghosts S) where
+    pub data IntoNew (old new : Held P) (before after : Known S) (told : Told) : Type 0 where
+      no_header : rows ≡ [] → new ≡ old → after ≡ before → told ≡ blames look line (codes "no header record") → IntoNew old new before after told
+      too_wide : (first : ℕ × List (List ℕ)) (rest : List (ℕ × List (List ℕ))) → rows ≡ first ∷ rest → 100 < length first.1 → new ≡ old → after ≡ before
+          → told ≡ blames look line (codes "import refused") → IntoNew old new before after told
+      made : (first : ℕ × List (List ℕ)) (rest : List (ℕ × List (List ℕ))) → rows ≡ first ∷ rest → length first.1 ≤ 100
+          → CommitsAll g (import_steps (Some first.1) what.table (length first.1) (records_in rest)) old new
+          → NotesAfter h look line what.table (warnings what.file (length first.1) rest) before after told → IntoNew old new before after told
+      declined : (first : ℕ × List (List ℕ)) (rest : List (ℕ × List (List ℕ))) → rows ≡ first ∷ rest → length first.1 ≤ 100
+          → Declines g (import_steps (Some first.1) what.table (length first.1) (records_in rest)) old new
+          → after ≡ before → IsLeft (codes "import refused") old new told → IntoNew old new before after told
+      no_memory : after ≡ before → IsLeft (codes "out of memory") old new told → IntoNew old new before after told
+
+    -- the table is there where `sqlite` answers a reading of it
+    pub data PlainImport (old new : Held P) (before after : Known S) (told : Told) : Type 0 where
+      there : (found : Held P) → Tries g what.table (Some true) old found → after ≡ before → IntoTable found new told → PlainImport old new before after told
+      new_table : (found : Held P) → Tries g what.table (Some false) old found → IntoNew found new before after told → PlainImport old new before after told
+      untried : Tries g what.table None old new → after ≡ before → told ≡ lacks_memory look line → PlainImport old new before after told
+
+-- ---- the file
+
+module _ {P S : Type 0} (g : Ghosts P) (h : Ghosts S) (look : Look) (line : ℕ) (what : Import) (old new : Held P) (before after : Known S) (told : Told) where
+  -- nothing is done, and this is the fault line
+  abbrev pub Declined : List ℕ → Type 0
+  Declined why = (new ≡ old) × (after ≡ before) × (told ≡ blames look line why)
+
+  -- a full-text table hides a plain one of its name
+  abbrev pub IntoNamed : List (ℕ × List (List ℕ)) → Option ℕ → Type 0
+  IntoNamed rows (Some n) = (new ≡ old) × TextImport h look line what n rows before after told
+  IntoNamed rows None = PlainImport g look line what rows h old new before after told
+
+  -- the file's records go into the table of that name, but for those that are skipped
+  abbrev pub RecordsTurn : List (List (List ℕ)) → Type 0
+  RecordsTurn found = IntoNamed (kept what.skip found) (columns_in before.tables what.table) ⊎ Declined (codes "out of memory")
+
+  -- the file's bytes are read as records of CSV, if they are a text
+  pub data BytesTurn (delimiter : ℕ) (bytes : List ℕ) : Type 0 where
+    read : (found : List (List (List ℕ))) → AreRecords (csv_reader delimiter) csv.StartRecord (strip_bom bytes) found → RecordsTurn found → BytesTurn delimiter bytes
+    no_text : IsNoText (csv_reader delimiter) bytes → Declined (codes "file is not UTF-8") → BytesTurn delimiter bytes
+    no_memory : Declined (codes "out of memory") → BytesTurn delimiter bytes
+
+  -- the file's bytes are those that its name holds, if they are there
+  pub data FileTurn (holds : List ℕ → Option (List ℕ)) (delimiter : ℕ) : Type 0 where
+    fetched : (bytes : List ℕ) → Gives holds what.file bytes → BytesTurn delimiter bytes → FileTurn holds delimiter
+    unread : Declined (codes "cannot read file") → FileTurn holds delimiter
+    too_big : Declined (codes "file too big") → FileTurn holds delimiter
+    no_memory : Declined (codes "out of memory") → FileTurn holds delimiter
+
+  -- the delimiter is tested first
+  abbrev pub DelimitedTurn : (List ℕ → Option (List ℕ)) → Option ℕ → Type 0
+  DelimitedTurn holds None = Declined (codes "bad separator")
+  DelimitedTurn holds (Some delimiter) = FileTurn holds delimiter
+
+  abbrev pub ImportTurn : (List ℕ → Option (List ℕ)) → Type 0
+  ImportTurn holds = DelimitedTurn holds (delimiter_of what.csv look)

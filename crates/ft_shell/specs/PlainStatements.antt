@@ -1,6 +1,6 @@
 -- What a statement of plain SQL does in a session ("Command Line Shell For SQLite"; that a query is prepared for its names and then
 -- executed once, and how a refusal is told, are own choices).
-use Rattle.std.specs.Prelude.{ℕ, ◌≡◌, ◌⊎◌, List, [], Option, Result, Ok, Err, Bool, true, false, MatchBool}
+use Rattle.std.specs.Prelude.{ℕ, ◌≡◌, ◌⊎◌, List, [], Option, Ok, Err, Bool, true, false, MatchBool}
 use Rattle.sqlite.specs.Store.{Ghosts}
 use Rattle.sqlite_value.specs.Order.{Row}
 use Rattle.sqlite.specs.Held.{Held, state}
@@ -13,8 +13,8 @@ use Rattle.sqlite.specs.declared.error.Error.TheVariants.{SqliteFailure}
 use Rattle.sqlite.specs.declared.error.ErrorCode.TheVariants as code
 use Rattle.shell_text.specs.Print.{Look}
 use Rattle.ft_index.specs.Kept.{Known}
-use Rattle.ft_shell.specs.Plain.{asks, made_name}
-use Rattle.ft_shell.specs.Words.{tokens_of}
+use Rattle.ft_statements.specs.Plain.{asks, made_name}
+use Rattle.ft_statements.specs.Words.{tokens_of}
 use Rattle.ft_shell.specs.Answers.{rows_told}
 use Rattle.ft_shell.specs.FullTextTurns.{MaybeNotes}
 use Rattle.ft_shell.specs.Told.{Told, blames, lacks_memory, Tells}

@@ -1,12 +1,16 @@
--- What a session does with one member of its input, and what is written for it (own choice).
-use Rattle.std.specs.Prelude.{ℕ, ◌≡◌, ◌+◌, ◌-◌, ◌^◌, min, ◌||◌, List, Option}
-use Rattle.std.specs.Io.KnownBytes.{Appends}
+-- What a session does with members of its input, and what is written for them (own choice).
+use Rattle.std.specs.Prelude.{ℕ, ◌≡◌, ◌≢◌, ◌⊎◌, ◌<◌, false, ◌+◌, ◌-◌, ◌^◌, min, ◌||◌, List, [], ◌++◌, length, take, Option, Result, Ok, Err}
+use Rattle.std.specs.Io.KnownBytes.{Appends, Consumes, IsAtEnd}
 use Rattle.sqlite.specs.Store.{Ghosts}
 use Rattle.shell_text.specs.Units.{Member}
 use Rattle.ft_shell.specs.declared.session.Status.{Status}
+use Rattle.ft_shell.specs.declared.session.RunFault.{RunFault}
+use Rattle.ft_shell.specs.declared.session.RunFault.TheVariants as causes
 use Rattle.ft_shell.specs.Shell.{Shell}
 use Rattle.ft_shell.specs.Told.{Told}
-use Rattle.ft_shell.specs.Turns.{Turn}
+use Rattle.ft_shell.specs.Turns.{Turns}
+use Rattle.ft_shell.specs.Writing.{AppendsUpTo}
+use Rattle.ft_shell.specs.Feeds.{Fed, members_left}
 
 -- a shell with the status of its run, and what the two writers hold where that is known
 pub record Moment (P S : Type 0) : Type 0 where
@@ -15,11 +19,53 @@ pub record Moment (P S : Type 0) : Type 0 where
   pub out : Option (List ℕ)
   pub err : Option (List ℕ)
 
--- The member's turn was done, and what it tells was written and counted. The count of fault lines stays at 2 ^ 64 - 1 once there.
-pub record Ran {P S : Type 0} (g : Ghosts P) (h : Ghosts S) (member : Member) (old new : Moment P S) : Type 0 where
-  pub told : Told
-  pub turn : Turn g h member old.shell new.shell told
-  pub out : Appends old.out new.out told.out
-  pub err : Appends old.err new.err told.err
-  pub faults : new.status.faults ≡ min (old.status.faults + told.faults) (2 ^ 64 - 1)
-  pub quit : new.status.quit ≡ (old.status.quit || told.ends)
+module _ {P S : Type 0} (g : Ghosts P) (h : Ghosts S) where
+  -- The members' turns were done one after the other, and what they tell was written and counted. The count of fault lines stays at
+  -- 2 ^ 64 - 1 once there.
+  pub record Did (members : List Member) (old new : Moment P S) : Type 0 where
+    pub told : Told
+    pub turns : Turns g h members old.shell new.shell told
+    pub out : Appends old.out new.out told.out
+    pub err : Appends old.err new.err told.err
+    pub faults : min new.status.faults (2 ^ 64 - 1) ≡ min (old.status.faults + told.faults) (2 ^ 64 - 1)
+    pub quit : new.status.quit ≡ (old.status.quit || told.ends)
+
+  -- The members' turns were done, and what they tell was written, or a front of it where a writer refused more.
+  pub record Cut (fault : RunFault) (members : List Member) (old new : Moment P S) : Type 0 where
+    pub told : Told
+    pub turns : Turns g h members old.shell new.shell told
+    pub out : AppendsUpTo old.out new.out told.out
+    pub err : AppendsUpTo old.err new.err told.err
+    pub whole : (fault ≡ causes.Write) ⊎ (Appends old.out new.out told.out × Appends old.err new.err told.err)
+
+  -- Of the members that are due, however the input goes on, a front was done. Where the session goes on, the others are left.
+  pub record Passes {W : Type 0} (due left : W → List Member) (old new : Moment P S) : Type 0 where
+    pub done : List Member
+    pub front : (way : W) → (more : List Member) × (due way ≡ done ++ more) × (new.status.quit ≡ false → more ≡ left way)
+    pub did : Did done old new
+
+  -- Of the members that are due, however the input goes on, a front was done, up to a fault.
+  pub record Breaks {W : Type 0} (fault : RunFault) (due : W → List Member) (old new : Moment P S) : Type 0 where
+    pub done : List Member
+    pub front : (way : W) → (more : List Member) × (due way ≡ done ++ more)
+    pub cut : Cut fault done old new
+
+  -- what a part of a run does; it never finds the input too much
+  abbrev pub Runs : {W T : Type 0} → Result T RunFault → (W → List Member) → (W → List Member) → Moment P S → Moment P S → Type 0
+  Runs (Ok _) due left old new = Passes due left old new
+  Runs (Err fault) due left old new = Breaks fault due old new × (fault ≢ causes.TooMuch)
+
+  -- So many bytes were read. They are taken, as far as there is room; without any the input is at its end, and what was left of it is done.
+  pub record HasRead (room n : ℕ) (before after : Option (List ℕ)) (fed left : Fed) (old new : Moment P S) : Type 0 where
+    pub bytes : List ℕ
+    pub consumed : Consumes before after bytes
+    pub size : length bytes ≡ n
+    pub goes : 0 < n → Passes (λ (rest : List ℕ). members_left fed (take room bytes ++ rest)) (λ rest. members_left left rest) old new
+    pub ends : n ≡ 0 → IsAtEnd after × Passes (λ (_ : Unit {0}). members_left fed []) (λ _. []) old new
+
+  -- Bytes were read, and the run is cut short: in the part of them that there is room for, or at the end of the input.
+  pub record Interrupted (fault : RunFault) (room : ℕ) (before after : Option (List ℕ)) (fed : Fed) (old new : Moment P S) : Type 0 where
+    pub bytes : List ℕ
+    pub consumed : Consumes before after bytes
+    pub cause : fault ≢ causes.TooMuch
+    pub breaks : Breaks fault (λ (rest : List ℕ). members_left fed (take room bytes ++ rest)) old new ⊎ ((bytes ≡ []) × IsAtEnd after × Breaks fault (λ (_ : Unit {0}). members_left fed []) old new)

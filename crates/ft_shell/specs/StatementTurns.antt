@@ -7,8 +7,8 @@ use Rattle.shell_text.specs.Print.{Look}
 use Rattle.shell_text.specs.Words.{is_unclosed}
 use Rattle.ft_content.specs.Views.{KnownTable}
 use Rattle.ft_index.specs.Kept.{Known}
-use Rattle.ft_shell.specs.Words.{tokens_of}
-use Rattle.ft_shell.specs.Statements.{Class, Plain, FullText, class_of}
+use Rattle.ft_statements.specs.Words.{tokens_of}
+use Rattle.ft_statements.specs.Statements.{Class, Plain, FullText, class_of}
 use Rattle.ft_shell.specs.FullTextTurns.{FullTextTurn}
 use Rattle.ft_shell.specs.PlainStatements.{PlainTurn, OrNothing}
 use Rattle.ft_shell.specs.Told.{Told, blames}

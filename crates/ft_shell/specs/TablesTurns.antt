@@ -2,20 +2,30 @@
 -- their noted names, and only those that can be read, is an own choice).
 use Rattle.std.specs.Prelude.{ℕ, ◌≡◌, ◌⊎◌, Bool, true, false, List, [], ◌∷◌, map, codes, Option, Some, None}
 use Rattle.sqlite.specs.Store.{Ghosts}
+use Rattle.sqlite_value.specs.Order.{Row}
 use Rattle.sqlite.specs.Held.{Held, state}
-use Rattle.sqlite.specs.State.{HasCleanDisk}
+use Rattle.sqlite.specs.State.{FailsToQuery, Shown}
+use Rattle.sqlite.specs.declared.error.Error.{Error}
 use Rattle.shell_text.specs.Print as print
 use Rattle.shell_text.specs.Print.{Look}
 use Rattle.ft_index.specs.Kept.{Known, IsUp, OnlyLooks, value_of}
-use Rattle.ft_shell.specs.PlainTurns.{TellsTable}
-use Rattle.ft_shell.specs.Replies.{AreSorted, listed}
+use Rattle.ft_shell.specs.Imports.{reading_of}
+use Rattle.ft_shell.specs.PlainStatements.{IfClean, is_memory_error}
+use Rattle.ft_statements.specs.Replies.{AreSorted, listed}
 use Rattle.ft_shell.specs.StatementTurns.{table_names}
 use Rattle.ft_shell.specs.Told.{Told, says, blames, lacks_memory, Tells}
 
 module _ {P : Type 0} (g : Ghosts P) where
+  -- Whether a table can be read: `sqlite` answers a reading of it, or refuses that for another cause than memory. Where it is not known
+  -- nothing was tried, or memory was wanting.
+  abbrev pub TellsTable : List ℕ → Held P → Held P → Option Bool → Type 0
+  TellsTable name old new (Some true) = (rows : List Row) × Shown (reading_of name) [] (state g old) (state g new) rows
+  TellsTable name old new (Some false) = (e : Error) × (is_memory_error e ≡ false) × FailsToQuery (reading_of name) [] (state g old) (state g new) e
+  TellsTable name old new None = (new ≡ old) ⊎ ((e : Error) × (is_memory_error e ≡ true) × FailsToQuery (reading_of name) [] (state g old) (state g new) e)
+
   -- It was tried whether a table can be read: it can, it can't, or memory was wanting.
   abbrev pub Tries : List ℕ → Option Bool → Held P → Held P → Type 0
-  Tries name can_read old new = HasCleanDisk (state g new) → TellsTable g name old new can_read
+  Tries name can_read old new = IfClean g old new (TellsTable name old new can_read)
 
   -- of these names those of tables that can be read, each tried in turn
   abbrev pub Finds : List (List ℕ) → Held P → Held P → List (List ℕ) → Type 0

@@ -4,7 +4,7 @@ use Rattle.ft_shell.specs.declared.told.FaultText.{FaultText}
 use Rattle.ft_shell.specs.declared.told.FaultText.TheVariants as texts
 use Rattle.ft_shell.specs.declared.told.FaultLine.{FaultLine}
 use Rattle.ft_shell.specs.declared.told.Told.{Told}
-use Rattle.ft_shell.specs.Texts.{fault_line}
+use Rattle.ft_statements.specs.Texts.{fault_line}
 use Rattle.ft_shell.specs.Told as forms
 
 abbrev pub text_as : FaultText → List ℕ

@@ -1,12 +1,12 @@
 -- A session: the turns of an input's members, one after the other, each from what the turn before it left. What a unit is told as is
 -- that of its kind; echo and bail are of the section "Special commands to sqlite3 (dot-commands)" of "Command Line Shell For SQLite".
-use Rattle.std.specs.Prelude.{ℕ, ◌≡◌, ◌⊎◌, true, false, MatchBool, ◌==◌, if◌then◌else◌, List, [], ◌∷◌, drop, take, Option}
+use Rattle.std.specs.Prelude.{ℕ, ◌≡◌, ◌⊎◌, MatchBool, ◌==◌, if◌then◌else◌, List, [], ◌∷◌, take}
 use Rattle.sqlite.specs.Store.{Ghosts}
 use Rattle.shell_text.specs.Units.{Member, Sql, Dot, Fault, members_of}
 use Rattle.shell_text.specs.Dot.{dot_words_of}
 use Rattle.ft_shell.specs.Shell.{Shell}
-use Rattle.ft_shell.specs.Texts.{split_text}
-use Rattle.ft_shell.specs.Dots.{DotCommand, dot_command_of}
+use Rattle.ft_statements.specs.Texts.{split_text}
+use Rattle.ft_statements.specs.Dots.{DotCommand, dot_command_of}
 use Rattle.ft_shell.specs.DotTurns.{DotTurn}
 use Rattle.ft_shell.specs.StatementTurns.{StatementTurn}
 use Rattle.ft_shell.specs.Told.{Told, silent, blames, echoed, followed, lacks_memory}
@@ -16,15 +16,15 @@ abbrev pub behind_stop : List ℕ → List ℕ
 behind_stop [] = []
 behind_stop (b ∷ text) = if b == 0x2E then text else b ∷ text
 
--- a dot-command's turn, or, for want of memory, nothing
-abbrev pub DotOrLacks : {P S : Type 0} → ℕ → Shell P S → Shell P S → Told → DotCommand → Type 0
-DotOrLacks line old new told command = DotTurn line old new told command ⊎ ((new ≡ old) × (told ≡ lacks_memory old.look line))
-
 module _ {P S : Type 0} (g : Ghosts P) (h : Ghosts S) where
+  -- a dot-command's turn, or, for want of memory, nothing
+  abbrev pub DotOrLacks : ℕ → Shell P S → Shell P S → Told → DotCommand → Type 0
+  DotOrLacks line old new told command = DotTurn g h line old new told command ⊎ ((new ≡ old) × (told ≡ lacks_memory old.look line))
+
   -- what is done with a unit or a fault of the input
   abbrev pub Body : Member → Shell P S → Shell P S → Told → Type 0
   Body (Fault line fault) old new told = (new ≡ old) × (told ≡ blames old.look line (split_text fault))
-  Body (Sql line text) old new told = (new.look ≡ old.look) × StatementTurn g h old.look line text old.plain new.plain old.known new.known told
+  Body (Sql line text) old new told = (new.look ≡ old.look) × (new.holds ≡ old.holds) × StatementTurn g h old.look line text old.plain new.plain old.known new.known told
   Body (Dot line text) old new told = DotOrLacks line old new told (dot_command_of (dot_words_of (behind_stop text)))
 
   -- the text of a unit is echoed where echo is on

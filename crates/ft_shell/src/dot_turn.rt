@@ -3,19 +3,19 @@ ghost use Rattle.std.specs.Prelude.{◌≡◌, ◌⊎◌, ℕ, List, codes, map,
 ghost use Rattle.shell_text.specs.Dot.{dot_words_of};
 ghost use Rattle.ft_shell.specs.ToldViews.{told_as};
 ghost use Rattle.ft_shell.specs.Told.{Tells, says, blames, lacks_memory};
-ghost use Rattle.ft_shell.specs.Texts as texts;
-ghost use Rattle.ft_shell.specs.Settings as settings_forms;
-ghost use Rattle.ft_shell.specs.DotViews.{command_as};
-ghost use Rattle.ft_shell.specs.Dots.{dot_command_of};
+ghost use Rattle.ft_statements.specs.Texts as texts;
+ghost use Rattle.ft_statements.specs.Settings as settings_forms;
+ghost use Rattle.ft_statements.specs.DotViews.{command_as};
+ghost use Rattle.ft_statements.specs.Dots.{dot_command_of};
 ghost use Rattle.ft_shell.specs.DotTurns.{Sets};
 ghost use Rattle.ft_shell.specs.Turns.{DotOrLacks, behind_stop};
 
-use crate::dots::{DotCommand, dot_command};
-use crate::setting::{apply, print_text};
+use crate::import::import_turn;
+use crate::listing::tables_turn;
 use crate::source::Source;
-use crate::texts::usage_text;
 use crate::told::Told;
 use ft_index::FullText;
+use ft_statements::{DotCommand, apply, dot_command, print_text, usage_text};
 use shell_text::{SetFault, Settings, dot_words};
 use sqlite::{Alter, Connection};
 use std::alloc::Global;
@@ -54,13 +54,6 @@ fn unknown(alloc: Global, settings: &Settings, line: u64) -> Told
     Told::blames(alloc, settings, line, "unknown dot-command")
 }
 
-// To come: `.import` and `.tables`.
-fn not_there_yet(alloc: Global, settings: &Settings, line: u64) -> Told
-    ensures { told_as result ≡ blames settings.now line (codes "unsupported") }
-{
-    Told::blames(alloc, settings, line, "unsupported")
-}
-
 /// Does what a dot-command says.
 pub(crate) fn dot_turn<P: Alter, S: Alter, F: Source>(
     alloc: Global,
@@ -71,12 +64,15 @@ pub(crate) fn dot_turn<P: Alter, S: Alter, F: Source>(
     line: u64,
     command: &DotCommand,
 ) -> Told
-    ensures turn { DotOrLacks line (record { look = settings.old; plain = plain.old; known = fulltext.old }) (record { look = settings.new; plain = plain.new; known = fulltext.new }) (told_as result) (command_as command.now) }
+    ensures turn { DotOrLacks P.Store S.Store line (record { look = settings.old; plain = plain.old; known = fulltext.old; holds = F.holds source.old }) (record { look = settings.new; plain = plain.new; known = fulltext.new; holds = F.holds source.new }) (told_as result) (command_as command.now) }
     ensures source { (name : List ℕ) → F.holds source.new name ≡ F.holds source.old name }
 {
     match command {
         DotCommand::Print(words) => print_turn(alloc, settings, line, words.as_slice()),
-        DotCommand::Import(_) | DotCommand::Tables => not_there_yet(alloc, settings, line),
+        DotCommand::Import(what) => import_turn(
+            alloc, settings, plain, fulltext, source, what, line,
+        ),
+        DotCommand::Tables => tables_turn(alloc, settings, plain, fulltext, line),
         DotCommand::Quit => Told::quits(alloc),
         DotCommand::Usage(usage) => usage_turn(alloc, settings, line, usage),
         DotCommand::Unknown => unknown(alloc, settings, line),
@@ -104,7 +100,7 @@ pub(crate) fn dot_line_turn<P: Alter, S: Alter, F: Source>(
     line: u64,
     text: &str,
 ) -> Told
-    ensures turn { DotOrLacks line (record { look = settings.old; plain = plain.old; known = fulltext.old }) (record { look = settings.new; plain = plain.new; known = fulltext.new }) (told_as result) (dot_command_of (dot_words_of (behind_stop text.now))) }
+    ensures turn { DotOrLacks P.Store S.Store line (record { look = settings.old; plain = plain.old; known = fulltext.old; holds = F.holds source.old }) (record { look = settings.new; plain = plain.new; known = fulltext.new; holds = F.holds source.new }) (told_as result) (dot_command_of (dot_words_of (behind_stop text.now))) }
     ensures source { (name : List ℕ) → F.holds source.new name ≡ F.holds source.old name }
 {
     let Ok(words) = dot_words(alloc, behind_stop(text)) else {

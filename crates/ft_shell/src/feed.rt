@@ -3,7 +3,7 @@ ghost use Rattle.std.specs.Prelude.{◌≡◌, ◌≢◌, true, false, ◌∷◌
 ghost use Rattle.shell_text.specs.Units.{start};
 ghost use Rattle.shell_text.specs.Splitting.{member_of_unit};
 ghost use Rattle.shell_text.specs.declared.units.SplitFault.TheVariants.{Memory};
-ghost use Rattle.ft_shell.specs.Feeds.{members_left, refused_as};
+ghost use Rattle.ft_shell.specs.Feeds.{EndsWith, members_left, refused_as};
 
 use shell_text::{SplitFault, Splitter, Unit};
 use std::alloc::{AllocError, Global};
@@ -16,7 +16,8 @@ pub(crate) struct Refusal {
     pub(crate) fault: SplitFault,
 }
 
-fn is_memory(fault: &SplitFault) -> bool
+/// Whether memory was wanting.
+pub(crate) fn is_memory(fault: &SplitFault) -> bool
     ensures memory { result ≡ true → fault.now ≡ Memory }
     ensures other { result ≡ false → fault.now ≢ Memory }
 {
@@ -101,13 +102,18 @@ impl Feed {
     }
 
     /// Whether nothing was read of a last line.
-    pub(crate) fn is_between_lines(&self) -> bool {
+    pub(crate) fn is_between_lines(&self) -> bool
+        ensures between { result ≡ true → self.now.line ≡ [] }
+        ensures within { result ≡ false → members_left self.now [] ≡ members_left self.now (10 ∷ []) }
+    {
         self.line.is_empty()
     }
 
     /// The input ends, behind a line: what is pending is a unit, or it is refused.
     pub(crate) fn finish(&mut self) -> Result<Option<Unit>, SplitFault>
-        requires { self.old.splitting.waiting ≡ [] }
+        requires waiting { self.old.splitting.waiting ≡ [] }
+        requires between { self.old.line ≡ [] }
+        ensures { EndsWith result (members_left self.old []) }
     {
         self.splitter.finish()
     }

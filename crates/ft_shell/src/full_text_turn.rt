@@ -1,17 +1,16 @@
 // What a full-text statement does in a session.
 ghost use Rattle.std.specs.Prelude.{◌≡◌, ◌⊎◌, option_map};
 ghost use Rattle.ft_content.specs.Views as views;
-ghost use Rattle.ft_shell.specs.Texts as texts;
-ghost use Rattle.ft_shell.specs.Replies.{reply_text};
+ghost use Rattle.ft_statements.specs.Texts as texts;
+ghost use Rattle.ft_statements.specs.Replies.{reply_text};
 ghost use Rattle.ft_shell.specs.Told.{Tells, says, blames};
 ghost use Rattle.ft_shell.specs.ToldViews.{told_as};
 ghost use Rattle.ft_shell.specs.FullTextTurns.{FullTextTurn, NoteTurn, MaybeNotes};
 
-use crate::replies::write_reply;
-use crate::texts::fault_text;
 use crate::told::Told;
 use ft_content::{Command, Fault, Reply};
 use ft_index::FullText;
+use ft_statements::{fault_text, write_reply};
 use shell_text::Settings;
 use sqlite::Alter;
 use std::alloc::Global;

@@ -1,30 +1,33 @@
 // What `.import` does in a session.
-ghost use Rattle.std.specs.Prelude.{◌≡◌, ◌+◌, ◌^◌, ◌<◌, ◌≤◌, ◌∷◌, [], None, true, length, map, min, unwrap_or, codes, string_bytes, IfOk};
+ghost use Rattle.std.specs.Prelude.{◌≡◌, ◌+◌, ◌^◌, ◌<◌, ◌≤◌, ◌∷◌, [], None, ℕ, List, true, drop, length, map, min, unwrap_or, string_bytes, IfOk};
+ghost use Rattle.std.specs.List.{enumerate_from};
 ghost use Rattle.shell_text.specs.Print.{is_csv_separator};
 ghost use Rattle.ft_content.specs.Command.{Insert};
 ghost use Rattle.ft_content.specs.Views as views;
+ghost use Rattle.ft_content.specs.Views.{known_info};
+ghost use Rattle.ft_statements.specs.DotViews.{import_as};
 ghost use Rattle.ft_shell.specs.Imports.{fitted};
+ghost use Rattle.ft_shell.specs.ImportTurns.{columns_in, InsertTurn, TextImport, NotesAfter, IntoTable, IntoNew, PlainImport, fault_words, RecordsTurn, BytesTurn, FileTurn, ImportTurn};
 ghost use Rattle.ft_shell.specs.Told as forms;
 ghost use Rattle.ft_shell.specs.ToldViews.{told_as};
-ghost use Rattle.ft_shell.specs.Views.{texts_of};
+ghost use Rattle.ft_statements.specs.Views.{texts_of};
 
-use crate::dots::Import;
 use crate::full_text_turn::fault_told;
 use crate::imports::{delimiter_of, fitted_row, warnings};
-use crate::plain_import::{ImportFault, column_count, import_records, import_table};
-use crate::plain_turns::reads_table;
+use crate::plain_import::{ImportFault, column_count, import_records};
+use crate::readable::reads_table;
 use crate::source::{Source, SourceFault};
 use crate::told::{FaultLine, FaultText, Told};
 use ft_content::{Command, Fault, TableInfo, Value};
 use ft_index::FullText;
+use ft_statements::Import;
 use shell_text::{RecordFault, Settings, read_records};
 use sqlite::{Alter, Connection};
 use std::alloc::{AllocError, Global};
 
 // The fault line of what the plain database refused.
 fn refusal(alloc: Global, settings: &Settings, line: u64, fault: ImportFault) -> Told
-    ensures refused { fault ≡ ImportFault.Refused → told_as result ≡ forms.blames settings.now line (codes "import refused") }
-    ensures memory { fault ≡ ImportFault.Memory → told_as result ≡ forms.lacks_memory settings.now line }
+    ensures { told_as result ≡ forms.blames settings.now line (fault_words fault) }
 {
     match fault {
         ImportFault::Refused => Told::blames(alloc, settings, line, "import refused"),
@@ -73,7 +76,9 @@ fn noted_told<S: Alter>(
     line: u64,
     table: &str,
     lines: String,
-) -> Told {
+) -> Told
+    ensures { NotesAfter S.Store settings.now line table.now (string_bytes lines) full.old full.new (told_as result) }
+{
     match full.note(table) {
         Ok(()) => warned(alloc, lines),
         Err(Fault::Memory) => warned_and_blamed(alloc, settings, line, lines, "out of memory"),
@@ -81,7 +86,7 @@ fn noted_told<S: Alter>(
     }
 }
 
-// Records into a plain table that is there.
+// Records into a plain table that is there. The first of them has this number.
 fn into_table<P: Alter>(
     alloc: Global,
     settings: &Settings,
@@ -92,21 +97,52 @@ fn into_table<P: Alter>(
     records: &[Vec<String>],
 ) -> Told
     requires { first + length records.now < 2 ^ 64 }
+    ensures { IntoTable P.Store settings.now line (import_as what.now) (enumerate_from first (map texts_of records.now)) plain.old plain.new (told_as result) }
 {
-    let columns = match column_count(alloc, plain, what.table.as_str()) {
+    let table = what.table.as_str();
+    let columns = match column_count(alloc, plain, table) {
         Ok(columns) => columns,
         Err(fault) => return refusal(alloc, settings, line, fault),
     };
     let Ok(lines) = warnings(alloc, what.file.as_str(), columns, first, records) else {
         return Told::lacks_memory(alloc, settings, line);
     };
-    match import_records(alloc, plain, what.table.as_str(), columns, records) {
+    match import_records(alloc, plain, table, None, columns, records) {
         Ok(()) => warned(alloc, lines),
         Err(fault) => refusal(alloc, settings, line, fault),
     }
 }
 
-// Records into a plain table that the first of them names the columns of.
+// Records into a plain table that is made, with columns of these names. The record of the names has this number.
+fn into_made_table<P: Alter, S: Alter>(
+    alloc: Global,
+    settings: &Settings,
+    plain: &mut Connection<P>,
+    full: &mut FullText<S>,
+    what: &Import,
+    line: u64,
+    first: usize,
+    names: &[String],
+    rest: &[Vec<String>],
+) -> Told
+    requires { first + 1 + length rest.now < 2 ^ 64 }
+    ensures { IntoNew P.Store settings.now line (import_as what.now) ((first, map string_bytes names.now) ∷ enumerate_from (first + 1) (map texts_of rest.now)) S.Store plain.old plain.new full.old full.new (told_as result) }
+{
+    let table = what.table.as_str();
+    let columns = names.len();
+    if columns > 100 {
+        return refusal(alloc, settings, line, ImportFault::Refused);
+    }
+    let Ok(lines) = warnings(alloc, what.file.as_str(), columns, first + 1, rest) else {
+        return Told::lacks_memory(alloc, settings, line);
+    };
+    match import_records(alloc, plain, table, Some(names), columns, rest) {
+        Ok(()) => noted_told(alloc, settings, full, line, table, lines),
+        Err(fault) => refusal(alloc, settings, line, fault),
+    }
+}
+
+// Records into a plain table that the first of them names the columns of. That one has this number.
 fn into_new_table<P: Alter, S: Alter>(
     alloc: Global,
     settings: &Settings,
@@ -118,19 +154,21 @@ fn into_new_table<P: Alter, S: Alter>(
     records: &[Vec<String>],
 ) -> Told
     requires { first + length records.now < 2 ^ 64 }
+    ensures { IntoNew P.Store settings.now line (import_as what.now) (enumerate_from first (map texts_of records.now)) S.Store plain.old plain.new full.old full.new (told_as result) }
 {
-    let [names, rest @ ..] = records else {
-        return Told::blames(alloc, settings, line, "no header record");
-    };
-    if names.len() > 100 {
-        return Told::blames(alloc, settings, line, "import refused");
-    }
-    let Ok(lines) = warnings(alloc, what.file.as_str(), names.len(), first + 1, rest) else {
-        return Told::lacks_memory(alloc, settings, line);
-    };
-    match import_table(alloc, plain, what.table.as_str(), names.as_slice(), rest) {
-        Ok(()) => noted_told(alloc, settings, full, line, what.table.as_str(), lines),
-        Err(fault) => refusal(alloc, settings, line, fault),
+    match records {
+        [names, rest @ ..] => into_made_table(
+            alloc,
+            settings,
+            plain,
+            full,
+            what,
+            line,
+            first,
+            names.as_slice(),
+            rest,
+        ),
+        [] => Told::blames(alloc, settings, line, "no header record"),
     }
 }
 
@@ -146,6 +184,7 @@ fn plain_import<P: Alter, S: Alter>(
     records: &[Vec<String>],
 ) -> Told
     requires { first + length records.now < 2 ^ 64 }
+    ensures { PlainImport P.Store settings.now line (import_as what.now) (enumerate_from first (map texts_of records.now)) S.Store plain.old plain.new full.old full.new (told_as result) }
 {
     match reads_table(alloc, plain, what.table.as_str()) {
         Some(true) => into_table(alloc, settings, plain, what, line, first, records),
@@ -174,6 +213,23 @@ fn insert_of(
     })
 }
 
+// Executes the command of an import, and tells its warnings or its fault.
+fn insert_told<S: Alter>(
+    alloc: Global,
+    settings: &Settings,
+    full: &mut FullText<S>,
+    line: u64,
+    command: &Command,
+    lines: String,
+) -> Told
+    ensures { InsertTurn S.Store settings.now line (views.command_of command.now) (string_bytes lines) full.old full.new (told_as result) }
+{
+    match full.execute(command) {
+        Ok(_) => warned(alloc, lines),
+        Err(fault) => fault_told(alloc, settings, line, fault),
+    }
+}
+
 // Records into a full-text table with so many columns: one command.
 fn full_text_import<S: Alter>(
     alloc: Global,
@@ -186,6 +242,7 @@ fn full_text_import<S: Alter>(
     records: Vec<Vec<String>>,
 ) -> Told
     requires { first + length records.items < 2 ^ 64 }
+    ensures { TextImport S.Store settings.now line (import_as what.now) columns (enumerate_from first (map texts_of records.items)) full.old full.new (told_as result) }
 {
     let Ok(lines) = warnings(
         alloc,
@@ -199,14 +256,13 @@ fn full_text_import<S: Alter>(
     let Ok(command) = insert_of(alloc, what.table.as_str(), columns, records) else {
         return Told::lacks_memory(alloc, settings, line);
     };
-    match full.execute(&command) {
-        Ok(_) => warned(alloc, lines),
-        Err(fault) => fault_told(alloc, settings, line, fault),
-    }
+    insert_told(alloc, settings, full, line, &command, lines)
 }
 
 // How many columns the full-text table of this name has, if there is one.
-fn columns_named(tables: &[TableInfo], name: &str) -> Option<usize> {
+fn columns_named(tables: &[TableInfo], name: &str) -> Option<usize>
+    ensures { result ≡ columns_in (map known_info tables.now) name.now }
+{
     for table in tables {
         if name.eq_ignore_ascii_case(table.name.as_str()) {
             return Some(table.columns.len());
@@ -221,18 +277,9 @@ fn left_records(
     records: Vec<Vec<String>>,
     skip: usize,
 ) -> Result<Vec<Vec<String>>, AllocError>
-    ensures fewer { IfOk result (λ left. length left.items ≤ length records.items) }
+    ensures { IfOk result (λ left. left.items ≡ drop skip records.items) }
 {
-    let mut left = Vec::new(alloc);
-    let mut passed = 0;
-    for record in records {
-        if passed < skip {
-            passed += 1;
-        } else {
-            left.push(record)?;
-        }
-    }
-    Ok(left)
+    records.into_iter().skip(skip).collect(alloc)
 }
 
 // How many of so many records are skipped.
@@ -254,7 +301,9 @@ fn records_turn<P: Alter, S: Alter>(
     what: &Import,
     line: u64,
     records: Vec<Vec<String>>,
-) -> Told {
+) -> Told
+    ensures { RecordsTurn P.Store S.Store settings.now line (import_as what.now) plain.old plain.new full.old full.new (told_as result) (map texts_of records.items) }
+{
     let skip = skipped(what.skip, records.len());
     let Ok(left) = left_records(alloc, records, skip) else {
         return Told::lacks_memory(alloc, settings, line);
@@ -295,6 +344,7 @@ fn bytes_turn<P: Alter, S: Alter>(
     bytes: &[u8],
 ) -> Told
     requires { is_csv_separator (delimiter ∷ []) ≡ true }
+    ensures { BytesTurn P.Store S.Store settings.now line (import_as what.now) plain.old plain.new full.old full.new (told_as result) delimiter bytes.now }
 {
     match read_records(alloc, bytes, delimiter) {
         Ok(records) => records_turn(alloc, settings, plain, full, what, line, records),
@@ -303,8 +353,8 @@ fn bytes_turn<P: Alter, S: Alter>(
     }
 }
 
-/// Puts the records of a file into a table, all of them or none.
-pub(crate) fn import_turn<P: Alter, S: Alter, F: Source>(
+// A file into the table.
+fn file_turn<P: Alter, S: Alter, F: Source>(
     alloc: Global,
     settings: &Settings,
     plain: &mut Connection<P>,
@@ -312,10 +362,12 @@ pub(crate) fn import_turn<P: Alter, S: Alter, F: Source>(
     source: &mut F,
     what: &Import,
     line: u64,
-) -> Told {
-    let Some(delimiter) = delimiter_of(what.csv, settings) else {
-        return Told::blames(alloc, settings, line, "bad separator");
-    };
+    delimiter: u8,
+) -> Told
+    requires { is_csv_separator (delimiter ∷ []) ≡ true }
+    ensures turn { FileTurn P.Store S.Store settings.now line (import_as what.now) plain.old plain.new full.old full.new (told_as result) (F.holds source.old) delimiter }
+    ensures source { (name : List ℕ) → F.holds source.new name ≡ F.holds source.old name }
+{
     match source.fetch(alloc, what.file.as_str()) {
         Ok(bytes) => bytes_turn(
             alloc,
@@ -335,5 +387,24 @@ pub(crate) fn import_turn<P: Alter, S: Alter, F: Source>(
             line,
             "cannot read file",
         ),
+    }
+}
+
+/// Puts the records of a file into a table, all of them or none.
+pub(crate) fn import_turn<P: Alter, S: Alter, F: Source>(
+    alloc: Global,
+    settings: &Settings,
+    plain: &mut Connection<P>,
+    full: &mut FullText<S>,
+    source: &mut F,
+    what: &Import,
+    line: u64,
+) -> Told
+    ensures turn { ImportTurn P.Store S.Store settings.now line (import_as what.now) plain.old plain.new full.old full.new (told_as result) (F.holds source.old) }
+    ensures source { (name : List ℕ) → F.holds source.new name ≡ F.holds source.old name }
+{
+    match delimiter_of(what.csv, settings) {
+        Some(delimiter) => file_turn(alloc, settings, plain, full, source, what, line, delimiter),
+        None => Told::blames(alloc, settings, line, "bad separator"),
     }
 }

@@ -4,7 +4,7 @@ ghost use Rattle.std.specs.List.{flat_map, enumerate_from};
 ghost use Rattle.ft_content.specs.Views as views;
 ghost use Rattle.ft_content.specs.Content.{Null, Text};
 ghost use Rattle.ft_shell.specs.Imports as forms;
-ghost use Rattle.ft_shell.specs.Views.{texts_of};
+ghost use Rattle.ft_statements.specs.Views.{texts_of};
 
 use ft_content::Value;
 use shell_text::Settings;
@@ -44,7 +44,7 @@ fn push_all_doubled(text: &mut String, name: &str) -> Result<(), AllocError>
 }
 
 /// A statement that `sqlite` runs where a table of this name can be read.
-pub fn reading_text(alloc: Global, name: &str) -> Result<String, AllocError>
+pub(crate) fn reading_text(alloc: Global, name: &str) -> Result<String, AllocError>
     ensures { IfOk result (λ text. string_bytes text ≡ forms.reading_of name.now) }
 {
     let mut text = "SELECT 1 FROM ".to_string(alloc)?;
@@ -54,7 +54,6 @@ pub fn reading_text(alloc: Global, name: &str) -> Result<String, AllocError>
 }
 
 // Puts so many marks behind a text, with a comma between each two.
-
 fn push_marks(text: &mut String, count: usize) -> Result<(), AllocError>
     ensures { OnOk result (string_bytes text.new ≡ string_bytes text.old ++ forms.with_commas (λ mark. mark) (replicate count (codes "?"))) }
 {
@@ -69,7 +68,7 @@ fn push_marks(text: &mut String, count: usize) -> Result<(), AllocError>
 }
 
 /// A statement that puts a row of so many values into a table of this name.
-pub fn insertion_text(alloc: Global, name: &str, count: usize) -> Result<String, AllocError>
+pub(crate) fn insertion_text(alloc: Global, name: &str, count: usize) -> Result<String, AllocError>
     ensures { IfOk result (λ text. string_bytes text ≡ forms.insertion_of name.now count) }
 {
     let mut text = "INSERT INTO ".to_string(alloc)?;
@@ -104,7 +103,11 @@ fn push_columns(text: &mut String, columns: &[String]) -> Result<(), AllocError>
 }
 
 /// A statement that makes a table of this name, with columns of texts.
-pub fn creation_text(alloc: Global, name: &str, columns: &[String]) -> Result<String, AllocError>
+pub(crate) fn creation_text(
+    alloc: Global,
+    name: &str,
+    columns: &[String],
+) -> Result<String, AllocError>
     ensures { IfOk result (λ text. string_bytes text ≡ forms.creation_of name.now (map string_bytes columns.now)) }
 {
     let mut text = "CREATE TABLE ".to_string(alloc)?;
@@ -138,7 +141,7 @@ fn text_values(alloc: Global, fields: Vec<String>) -> Result<Vec<Value>, AllocEr
 }
 
 /// A record's fields in so many columns: cut, or filled with NULL.
-pub fn fitted_row(
+pub(crate) fn fitted_row(
     alloc: Global,
     fields: Vec<String>,
     count: usize,
@@ -172,7 +175,7 @@ fn push_warning(
 }
 
 /// The lines for those of the records that don't fit so many columns. The first of the records has this number.
-pub fn warnings(
+pub(crate) fn warnings(
     alloc: Global,
     file: &str,
     columns: usize,
@@ -190,7 +193,7 @@ pub fn warnings(
 }
 
 /// What parts the fields of a file: a comma where that is said, or else the separator, if it may part fields.
-pub fn delimiter_of(csv: bool, settings: &Settings) -> Option<u8>
+pub(crate) fn delimiter_of(csv: bool, settings: &Settings) -> Option<u8>
     ensures { result ≡ forms.delimiter_of csv settings.now }
 {
     if csv {

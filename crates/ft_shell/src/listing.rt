@@ -1,16 +1,17 @@
 // What `.tables` does in a session.
-ghost use Rattle.std.specs.Prelude.{map, string_bytes, IfOk};
+ghost use Rattle.std.specs.Prelude.{map, string_bytes, IfOk, OnErr};
 ghost use Rattle.shell_text.specs.Print as print;
-ghost use Rattle.ft_shell.specs.TablesTurns.{Finds};
+ghost use Rattle.ft_content.specs.Views.{info_names};
+ghost use Rattle.ft_shell.specs.TablesTurns.{Finds, Stops, Lists, TablesTurn};
 ghost use Rattle.ft_shell.specs.Told.{Tells, says};
 ghost use Rattle.ft_shell.specs.ToldViews.{told_as};
-ghost use Rattle.ft_shell.specs.Views.{texts_of};
+ghost use Rattle.ft_statements.specs.Views.{texts_of};
 
-use crate::plain_turns::reads_table;
-use crate::tables::listed_tables;
+use crate::readable::reads_table;
 use crate::told::Told;
 use ft_content::{Fault, TableInfo};
 use ft_index::FullText;
+use ft_statements::listed_tables;
 use shell_text::{Settings, write_names};
 use sqlite::{Alter, Connection};
 use std::alloc::{AllocError, Global};
@@ -19,9 +20,10 @@ use std::alloc::{AllocError, Global};
 fn found_tables<P: Alter>(
     alloc: Global,
     plain: &mut Connection<P>,
-    names: Vec<String>,
+    names: &[String],
 ) -> Result<Vec<String>, AllocError>
-    ensures found { IfOk result (λ found. Finds P.Store (texts_of names) plain.old plain.new (texts_of found)) }
+    ensures found { IfOk result (λ found. Finds P.Store (map string_bytes names.now) plain.old plain.new (texts_of found)) }
+    ensures stops { OnErr result (Stops P.Store (map string_bytes names.now) plain.old plain.new) }
 {
     let mut found = Vec::new(alloc);
     for name in names {
@@ -29,7 +31,7 @@ fn found_tables<P: Alter>(
             return Err(AllocError);
         };
         if can_read {
-            found.push(name)?;
+            found.push(String::from_str(alloc, name.as_str())?)?;
         }
     }
     Ok(found)
@@ -53,8 +55,10 @@ fn list_turn<P: Alter>(
     plain: &mut Connection<P>,
     tables: &[TableInfo],
     line: u64,
-    noted: Vec<String>,
-) -> Told {
+    noted: &[String],
+) -> Told
+    ensures { Lists P.Store settings.now line (info_names tables.now) (map string_bytes noted.now) plain.old plain.new (told_as result) }
+{
     let Ok(found) = found_tables(alloc, plain, noted) else {
         return Told::lacks_memory(alloc, settings, line);
     };
@@ -71,9 +75,18 @@ pub(crate) fn tables_turn<P: Alter, S: Alter>(
     plain: &mut Connection<P>,
     full: &mut FullText<S>,
     line: u64,
-) -> Told {
+) -> Told
+    ensures { TablesTurn P.Store S.Store settings.now line plain.old plain.new full.old full.new (told_as result) }
+{
     match full.noted() {
-        Ok(noted) => list_turn(alloc, settings, plain, full.tables(), line, noted),
+        Ok(noted) => list_turn(
+            alloc,
+            settings,
+            plain,
+            full.tables(),
+            line,
+            noted.as_slice(),
+        ),
         Err(Fault::Memory) => Told::lacks_memory(alloc, settings, line),
         Err(_) => Told::blames(alloc, settings, line, "full-text store refused"),
     }

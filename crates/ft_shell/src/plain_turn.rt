@@ -10,14 +10,15 @@ ghost use Rattle.shell_text.specs.Words.{words_of};
 
 use crate::answers::rows_told;
 use crate::full_text_turn::maybe_note;
-use crate::plain::{PlainStatement, read_plain};
 use crate::told::Told;
 use ft_index::FullText;
+use ft_statements::{PlainStatement, read_plain};
 use shell_text::{Settings, SqlWord};
 use sqlite::{Alter, Connection, Error, ErrorCode, Row, Statement};
 use std::alloc::Global;
 
-fn is_memory_error(error: Error) -> bool
+/// Whether an error is want of memory.
+pub(crate) fn is_memory_error(error: Error) -> bool
     ensures { result ≡ turns.is_memory_error error }
 {
     matches!(error, Error::SqliteFailure(ErrorCode::OutOfMemory))

@@ -1,22 +1,31 @@
 // A session: the units of an input in turn, and what is written for them.
-ghost use Rattle.std.specs.Prelude.{◌≡◌, ◌≤◌, ◌<◌, ◌+◌, ◌-◌, ◌^◌, ◌++◌, ◌∷◌, ◌||◌, min, if◌then◌else◌, [], false, length, take, IfOk, IfErr, OnOk};
-ghost use Rattle.std.specs.Io.KnownBytes.{Appends, Consumes, IsAtEnd};
-ghost use Rattle.shell_text.specs.Units.{Fault};
+ghost use Rattle.std.specs.Prelude.{◌≡◌, ◌≢◌, ◌⊎◌, ◌≤◌, ◌<◌, ◌+◌, ◌-◌, ◌^◌, ◌∷◌, ◌++◌, ◌||◌, ℕ, List, Option, [], ⊤, min, if◌then◌else◌, true, false, length, take, IfOk, IfErr, OnOk, OnErr};
+ghost use Rattle.std.specs.Io.KnownBytes.{Consumes, IsAtEnd, Keeps};
+ghost use Rattle.shell_text.specs.Units.{Fault, Member};
 ghost use Rattle.shell_text.specs.Splitting.{member_of_unit};
+ghost use Rattle.ft_shell.specs.declared.session.RunFault.TheVariants.{Memory, Write};
 ghost use Rattle.ft_shell.specs.ToldViews.{told_as};
-ghost use Rattle.ft_shell.specs.Ran.{Ran};
+ghost use Rattle.ft_shell.specs.Feeds.{end_line, members_left, refused_as};
+ghost use Rattle.ft_shell.specs.Writing.{Sends};
+ghost use Rattle.ft_shell.specs.Ran.{HasRead, Interrupted, Runs};
+ghost use Rattle.ft_shell.specs.Runs.{Completes, Stops};
+ghost use Rattle.ft_content.specs.Deserved.{Contents};
+ghost use Rattle.ft_index.specs.Kept.{Holds, IsUp};
+ghost use Rattle.ft_shell.specs.Calls.{KeptByTurns, Leaves};
+ghost use Rattle.ft_shell.specs.Shell.{lent};
 
-use crate::feed::{Feed, Refusal};
+use crate::feed::{Feed, Refusal, is_memory};
 use crate::source::Source;
-use crate::texts::split_text;
 use crate::told::Told;
 use crate::unit_turn::unit_turn;
 use crate::written::{Refused, write_echo, write_told};
 use ft_index::FullText;
-use shell_text::{Settings, SplitFault, Unit};
+use ft_statements::split_text;
+use shell_text::{Settings, SplitFault, Unit, blocks_read_whole};
 use sqlite::{Alter, Connection};
 use std::alloc::{AllocError, Global};
 use std::io::{Read, Write};
+use std::marker::Model;
 use thiserror::Error;
 
 /// How a run ended.
@@ -42,12 +51,16 @@ pub enum RunFault {
 }
 
 impl From<AllocError> for RunFault {
+    ghost from_gives = { λ _ fault. fault ≡ Memory };
+
     fn from(_error: AllocError) -> RunFault {
         RunFault::Memory
     }
 }
 
 impl From<Refused> for RunFault {
+    ghost from_gives = { λ _ fault. fault ≡ Write };
+
     fn from(_refused: Refused) -> RunFault {
         RunFault::Write
     }
@@ -61,23 +74,32 @@ const CHUNK: usize = 1 << 16;
 
 /// A plain database and full-text tables, with the settings of a shell.
 #[derive(Drop)]
-pub struct Session<P: Alter + Drop, S: Alter + Drop> {
+pub struct Session<P: Alter, S: Alter> {
     alloc: Global,
     settings: Settings,
     plain: Connection<P>,
     fulltext: FullText<S>,
 }
 
-impl<P: Alter + Drop, S: Alter + Drop> Session<P, S> {
+impl<P: Alter, S: Alter> Model for Session<P, S> {
+    ghost use Rattle.ft_shell.specs.Shell.{Parts, parts_code};
+
+    ghost Value = { Parts P S };
+
+    ghost coded = { parts_code P.code S.code };
+
+    ghost view = { λ s. record { look = s.settings; plain = s.plain; known = s.fulltext } };
+}
+
+impl<P: Alter, S: Alter> Session<P, S> {
+    /// A session over plain tables and full-text tables, which begins with these settings.
     pub fn new(
         alloc: Global,
         plain: Connection<P>,
         fulltext: FullText<S>,
         settings: Settings,
     ) -> Session<P, S>
-        ensures plain { result.plain ≡ plain }
-        ensures known { result.fulltext ≡ fulltext }
-        ensures look { result.settings ≡ settings }
+        ensures { result ≡ record { look = settings; plain = plain; known = fulltext } }
     {
         Session {
             alloc,
@@ -89,7 +111,7 @@ impl<P: Alter + Drop, S: Alter + Drop> Session<P, S> {
 
     /// Both parts as they stand.
     pub fn into_parts(self) -> (Connection<P>, FullText<S>)
-        ensures { result ≡ (self.plain, self.fulltext) }
+        ensures { result ≡ (self.plain, self.known) }
     {
         let Session {
             plain,
@@ -100,15 +122,60 @@ impl<P: Alter + Drop, S: Alter + Drop> Session<P, S> {
     }
 
     /// Runs the units of an input in turn, up to one that ends the session. Whatever a unit is refused for, the run goes
-    /// on. It ends by `Read` or `Write` where the reader or a writer fails, by `TooMuch` past 2^30 bytes of input, and by
-    /// `Memory` where there is none to read a line; what was done before stands.
+    /// on.
+    ///
+    /// # Errors
+    ///
+    /// `Read` or `Write` where the reader or a writer fails, `TooMuch` past 2^30 bytes of input, and `Memory` where there is
+    /// none to read a line. What was done before stands.
     pub fn run<R: Read, O: Write, E: Write, F: Source>(
         &mut self,
         reader: &mut R,
         out: &mut O,
         err: &mut E,
         source: &mut F,
-    ) -> Result<Status, RunFault> {
+    ) -> Result<Status, RunFault>
+        ensures ok { IfOk result (λ status. Completes P.Store S.Store status
+            (record { shell = lent self.old (F.holds source.old); input = R.remaining reader.old; out = O.contents out.old; err = E.contents err.old })
+            (record { shell = lent self.new (F.holds source.new); input = R.remaining reader.new; out = O.contents out.new; err = E.contents err.new })) }
+        ensures err { IfErr result (λ fault. Stops P.Store S.Store fault
+            (record { shell = lent self.old (F.holds source.old); input = R.remaining reader.old; out = O.contents out.old; err = E.contents err.old })
+            (record { shell = lent self.new (F.holds source.new); input = R.remaining reader.new; out = O.contents out.new; err = E.contents err.new })) }
+        ensures source { (name : List ℕ) → F.holds source.new name ≡ F.holds source.old name }
+
+        // However the run ends, the full-text store holds what the accepted commands leave, with the index rows made from
+        // scratch, if it held contents before.
+        ensures kept { (first : Contents) → IsUp S.Store self.new.known → Holds S.Store self.old.known first → Leaves S.Store self.old.known self.new.known first }
+    {
+        Session::<P, S>::kept_by_turns();
+        self.run_pieces(reader, out, err, source)
+    }
+
+    /// After any turns, those of a whole input or of a front of it, the full-text store holds what the accepted commands
+    /// leave: the index rows of each sound table are exactly those made from scratch. Each command was answered by the
+    /// definitions.
+    pub fn kept_by_turns()
+        ensures { KeptByTurns P.Store S.Store }
+    {
+        FullText::<S>::kept_by_calls();
+    }
+
+    fn run_pieces<R: Read, O: Write, E: Write, F: Source>(
+        &mut self,
+        reader: &mut R,
+        out: &mut O,
+        err: &mut E,
+        source: &mut F,
+    ) -> Result<Status, RunFault>
+        ensures ok { IfOk result (λ status. Completes P.Store S.Store status
+            (record { shell = lent self.old (F.holds source.old); input = R.remaining reader.old; out = O.contents out.old; err = E.contents err.old })
+            (record { shell = lent self.new (F.holds source.new); input = R.remaining reader.new; out = O.contents out.new; err = E.contents err.new })) }
+        ensures err { IfErr result (λ fault. Stops P.Store S.Store fault
+            (record { shell = lent self.old (F.holds source.old); input = R.remaining reader.old; out = O.contents out.old; err = E.contents err.old })
+            (record { shell = lent self.new (F.holds source.new); input = R.remaining reader.new; out = O.contents out.new; err = E.contents err.new })) }
+        ensures source { (name : List ℕ) → F.holds source.new name ≡ F.holds source.old name }
+    {
+        blocks_read_whole();
         let mut feed = Feed::new(self.alloc)?;
         let mut chunk = vec![in self.alloc; 0; CHUNK]?;
         let mut status = Status {
@@ -117,27 +184,59 @@ impl<P: Alter + Drop, S: Alter + Drop> Session<P, S> {
         };
         let mut total: usize = 0;
         while total <= MOST_INPUT {
-            let read = read_chunk(reader, chunk.as_mut_slice())?;
-            if read == 0 {
-                self.finish(&mut feed, &mut status, source, out, err)?;
-                flush(out)?;
-                return Ok(status);
-            }
-            self.take(
+            let read = self.read_piece(
+                reader,
+                chunk.as_mut_slice(),
+                MOST_INPUT - total,
                 &mut feed,
-                &chunk.as_slice()[..read],
                 &mut status,
                 source,
                 out,
                 err,
             )?;
-            if status.quit {
+            if is_over(read, status) {
                 flush(out)?;
                 return Ok(status);
             }
             total += read;
         }
         Err(RunFault::TooMuch)
+    }
+
+    // Reads a piece of the input, and takes of it as many bytes as there is room for. It has none only at the end, and then
+    // what is left of the input is run.
+    fn read_piece<R: Read, O: Write, E: Write, F: Source>(
+        &mut self,
+        reader: &mut R,
+        chunk: &mut [u8],
+        room: usize,
+        feed: &mut Feed,
+        status: &mut Status,
+        source: &mut F,
+        out: &mut O,
+        err: &mut E,
+    ) -> Result<usize, RunFault>
+        requires waiting { feed.old.splitting.waiting ≡ [] }
+        requires quit { status.old.quit ≡ false }
+        requires chunk { 0 < length chunk.old }
+        ensures bound { IfOk result (λ n. n ≤ length chunk.new) }
+        ensures ok { IfOk result (λ n. HasRead P.Store S.Store room n (R.remaining reader.old) (R.remaining reader.new) feed.old feed.new
+            (record { shell = lent self.old (F.holds source.old); status = status.old; out = O.contents out.old; err = E.contents err.old })
+            (record { shell = lent self.new (F.holds source.new); status = status.new; out = O.contents out.new; err = E.contents err.new })) }
+        ensures err { IfErr result (λ fault. Interrupted P.Store S.Store fault room (R.remaining reader.old) (R.remaining reader.new) feed.old
+            (record { shell = lent self.old (F.holds source.old); status = status.old; out = O.contents out.old; err = E.contents err.old })
+            (record { shell = lent self.new (F.holds source.new); status = status.new; out = O.contents out.new; err = E.contents err.new })) }
+        ensures waiting { IfOk result (λ n. 0 < n → status.new.quit ≡ false → feed.new.splitting.waiting ≡ []) }
+        ensures source { (name : List ℕ) → F.holds source.new name ≡ F.holds source.old name }
+    {
+        let read = read_chunk(reader, chunk)?;
+        if read == 0 {
+            self.finish(feed, status, source, out, err)?;
+            return Ok(0);
+        }
+        let bytes = &chunk[..read.min(room)];
+        self.take(feed, bytes, status, source, out, err)?;
+        Ok(read)
     }
 
     // Takes a piece of the input, up to a unit that ends the session.
@@ -151,7 +250,11 @@ impl<P: Alter + Drop, S: Alter + Drop> Session<P, S> {
         err: &mut E,
     ) -> Result<(), RunFault>
         requires { status.old.quit ≡ false → feed.old.splitting.waiting ≡ [] }
-        ensures { OnOk result (status.new.quit ≡ false → feed.new.splitting.waiting ≡ []) }
+        ensures runs { Runs P.Store S.Store result (λ (rest : List ℕ). members_left feed.old (bytes.now ++ rest)) (λ (rest : List ℕ). members_left feed.new rest)
+            (record { shell = lent self.old (F.holds source.old); status = status.old; out = O.contents out.old; err = E.contents err.old })
+            (record { shell = lent self.new (F.holds source.new); status = status.new; out = O.contents out.new; err = E.contents err.new }) }
+        ensures waiting { OnOk result (status.new.quit ≡ false → feed.new.splitting.waiting ≡ []) }
+        ensures source { (name : List ℕ) → F.holds source.new name ≡ F.holds source.old name }
     {
         for byte in bytes {
             if status.quit {
@@ -171,8 +274,13 @@ impl<P: Alter + Drop, S: Alter + Drop> Session<P, S> {
         out: &mut O,
         err: &mut E,
     ) -> Result<(), RunFault>
-        requires { feed.old.splitting.waiting ≡ [] }
-        ensures { OnOk result (status.new.quit ≡ false → feed.new.splitting.waiting ≡ []) }
+        requires waiting { feed.old.splitting.waiting ≡ [] }
+        requires quit { status.old.quit ≡ false }
+        ensures runs { Runs P.Store S.Store result (λ (rest : List ℕ). members_left feed.old (byte ∷ rest)) (λ (rest : List ℕ). members_left feed.new rest)
+            (record { shell = lent self.old (F.holds source.old); status = status.old; out = O.contents out.old; err = E.contents err.old })
+            (record { shell = lent self.new (F.holds source.new); status = status.new; out = O.contents out.new; err = E.contents err.new }) }
+        ensures waiting { OnOk result (status.new.quit ≡ false → feed.new.splitting.waiting ≡ []) }
+        ensures source { (name : List ℕ) → F.holds source.new name ≡ F.holds source.old name }
     {
         if byte == b'\n' {
             return self.end_line(feed, status, source, out, err);
@@ -190,11 +298,19 @@ impl<P: Alter + Drop, S: Alter + Drop> Session<P, S> {
         out: &mut O,
         err: &mut E,
     ) -> Result<(), RunFault>
-        requires { feed.old.splitting.waiting ≡ [] }
-        ensures { OnOk result (status.new.quit ≡ false → feed.new.splitting.waiting ≡ []) }
+        requires waiting { feed.old.splitting.waiting ≡ [] }
+        requires quit { status.old.quit ≡ false }
+        ensures runs { Runs P.Store S.Store result (λ (rest : List ℕ). members_left feed.old (10 ∷ rest)) (λ (rest : List ℕ). members_left feed.new rest)
+            (record { shell = lent self.old (F.holds source.old); status = status.old; out = O.contents out.old; err = E.contents err.old })
+            (record { shell = lent self.new (F.holds source.new); status = status.new; out = O.contents out.new; err = E.contents err.new }) }
+        ensures waiting { OnOk result (status.new.quit ≡ false → feed.new.splitting.waiting ≡ []) }
+        ensures line { OnOk result (feed.new.line ≡ []) }
+        ensures source { (name : List ℕ) → F.holds source.new name ≡ F.holds source.old name }
     {
-        if let Some(refusal) = feed.end_line()? {
-            self.refuse(&refusal, status, out, err)?;
+        let refused = feed.end_line()?;
+        self.refuse_some(&refused, status, out, err)?;
+        if status.quit {
+            return Ok(());
         }
         self.run_units(feed, status, source, out, err)
     }
@@ -208,7 +324,12 @@ impl<P: Alter + Drop, S: Alter + Drop> Session<P, S> {
         out: &mut O,
         err: &mut E,
     ) -> Result<(), RunFault>
-        ensures { OnOk result (status.new.quit ≡ false → feed.new.splitting.waiting ≡ []) }
+        ensures runs { Runs P.Store S.Store result (λ (rest : List ℕ). members_left feed.old rest) (λ (rest : List ℕ). members_left feed.new rest)
+            (record { shell = lent self.old (F.holds source.old); status = status.old; out = O.contents out.old; err = E.contents err.old })
+            (record { shell = lent self.new (F.holds source.new); status = status.new; out = O.contents out.new; err = E.contents err.new }) }
+        ensures waiting { OnOk result (status.new.quit ≡ false → feed.new.splitting.waiting ≡ []) }
+        ensures line { feed.new.line ≡ feed.old.line }
+        ensures source { (name : List ℕ) → F.holds source.new name ≡ F.holds source.old name }
     {
         while !status.quit {
             let Some(unit) = feed.next() else {
@@ -227,9 +348,10 @@ impl<P: Alter + Drop, S: Alter + Drop> Session<P, S> {
         out: &mut O,
         err: &mut E,
     ) -> Result<(), RunFault>
-        ensures { OnOk result (Ran P.Store S.Store (member_of_unit unit.now)
-            (record { shell = record { look = self.old.settings; plain = self.old.plain; known = self.old.fulltext }; status = status.old; out = O.contents out.old; err = E.contents err.old })
-            (record { shell = record { look = self.new.settings; plain = self.new.plain; known = self.new.fulltext }; status = status.new; out = O.contents out.new; err = E.contents err.new })) }
+        ensures runs { Runs P.Store S.Store result (λ (rest : List Member). member_of_unit unit.now ∷ rest) (λ (rest : List Member). rest)
+            (record { shell = lent self.old (F.holds source.old); status = status.old; out = O.contents out.old; err = E.contents err.old })
+            (record { shell = lent self.new (F.holds source.new); status = status.new; out = O.contents out.new; err = E.contents err.new }) }
+        ensures source { (name : List ℕ) → F.holds source.new name ≡ F.holds source.old name }
     {
         let echo = self.settings.echo();
         let told = unit_turn(
@@ -252,13 +374,30 @@ impl<P: Alter + Drop, S: Alter + Drop> Session<P, S> {
         out: &mut O,
         err: &mut E,
     ) -> Result<(), RunFault>
-        ensures { OnOk result (Ran P.Store S.Store (Fault refusal.now.line refusal.now.fault)
-            (record { shell = record { look = self.old.settings; plain = self.old.plain; known = self.old.fulltext }; status = status.old; out = O.contents out.old; err = E.contents err.old })
-            (record { shell = record { look = self.new.settings; plain = self.new.plain; known = self.new.fulltext }; status = status.new; out = O.contents out.new; err = E.contents err.new })) }
+        ensures { (holds : List ℕ → Option (List ℕ)) → Runs P.Store S.Store result (λ (rest : List Member). Fault refusal.now.line refusal.now.fault ∷ rest) (λ (rest : List Member). rest)
+            (record { shell = lent self.old holds; status = status.old; out = O.contents out.old; err = E.contents err.old })
+            (record { shell = lent self.new holds; status = status.new; out = O.contents out.new; err = E.contents err.new }) }
     {
         let text = split_text(&refusal.fault);
         let told = Told::blames(self.alloc, &self.settings, refusal.line, text);
         tell(&told, status, out, err)
+    }
+
+    fn refuse_some<O: Write, E: Write>(
+        &mut self,
+        refused: &Option<Refusal>,
+        status: &mut Status,
+        out: &mut O,
+        err: &mut E,
+    ) -> Result<(), RunFault>
+        ensures { (holds : List ℕ → Option (List ℕ)) → Runs P.Store S.Store result (λ (rest : List Member). refused_as refused.now ++ rest) (λ (rest : List Member). rest)
+            (record { shell = lent self.old holds; status = status.old; out = O.contents out.old; err = E.contents err.old })
+            (record { shell = lent self.new holds; status = status.new; out = O.contents out.new; err = E.contents err.new }) }
+    {
+        match refused {
+            Some(refusal) => self.refuse(refusal, status, out, err),
+            None => Ok(()),
+        }
     }
 
     // What follows the last line feed is a line if it isn't empty.
@@ -270,8 +409,14 @@ impl<P: Alter + Drop, S: Alter + Drop> Session<P, S> {
         out: &mut O,
         err: &mut E,
     ) -> Result<(), RunFault>
-        requires { feed.old.splitting.waiting ≡ [] }
-        ensures { OnOk result (status.new.quit ≡ false → feed.new.splitting.waiting ≡ []) }
+        requires waiting { feed.old.splitting.waiting ≡ [] }
+        requires quit { status.old.quit ≡ false }
+        ensures runs { Runs P.Store S.Store result (λ (_ : ⊤). members_left feed.old []) (λ (_ : ⊤). members_left feed.new [])
+            (record { shell = lent self.old (F.holds source.old); status = status.old; out = O.contents out.old; err = E.contents err.old })
+            (record { shell = lent self.new (F.holds source.new); status = status.new; out = O.contents out.new; err = E.contents err.new }) }
+        ensures waiting { OnOk result (status.new.quit ≡ false → feed.new.splitting.waiting ≡ []) }
+        ensures line { OnOk result (feed.new.line ≡ []) }
+        ensures source { (name : List ℕ) → F.holds source.new name ≡ F.holds source.old name }
     {
         if feed.is_between_lines() {
             return Ok(());
@@ -288,23 +433,53 @@ impl<P: Alter + Drop, S: Alter + Drop> Session<P, S> {
         out: &mut O,
         err: &mut E,
     ) -> Result<(), RunFault>
-        requires { feed.old.splitting.waiting ≡ [] }
+        requires waiting { feed.old.splitting.waiting ≡ [] }
+        requires quit { status.old.quit ≡ false }
+        ensures runs { Runs P.Store S.Store result (λ (_ : ⊤). members_left feed.old []) (λ (_ : ⊤). [])
+            (record { shell = lent self.old (F.holds source.old); status = status.old; out = O.contents out.old; err = E.contents err.old })
+            (record { shell = lent self.new (F.holds source.new); status = status.new; out = O.contents out.new; err = E.contents err.new }) }
+        ensures source { (name : List ℕ) → F.holds source.new name ≡ F.holds source.old name }
     {
         self.finish_line(feed, status, source, out, err)?;
         if status.quit {
             return Ok(());
         }
+        self.finish_last(feed, status, source, out, err)
+    }
+
+    // What is pending behind the last line is a unit, or it is refused.
+    fn finish_last<O: Write, E: Write, F: Source>(
+        &mut self,
+        feed: &mut Feed,
+        status: &mut Status,
+        source: &mut F,
+        out: &mut O,
+        err: &mut E,
+    ) -> Result<(), RunFault>
+        requires waiting { feed.old.splitting.waiting ≡ [] }
+        requires between { feed.old.line ≡ [] }
+        ensures runs { Runs P.Store S.Store result (λ (_ : ⊤). members_left feed.old []) (λ (_ : ⊤). [])
+            (record { shell = lent self.old (F.holds source.old); status = status.old; out = O.contents out.old; err = E.contents err.old })
+            (record { shell = lent self.new (F.holds source.new); status = status.new; out = O.contents out.new; err = E.contents err.new }) }
+        ensures source { (name : List ℕ) → F.holds source.new name ≡ F.holds source.old name }
+    {
         match feed.finish() {
             Ok(Some(unit)) => self.run_unit(&unit, status, source, out, err),
             Ok(None) => Ok(()),
-            Err(SplitFault::Memory) => Err(RunFault::Memory),
-            Err(fault) => self.refuse(&end_refusal(fault), status, out, err),
+            Err(fault) => {
+                if is_memory(&fault) {
+                    return Err(RunFault::Memory);
+                }
+                self.refuse(&end_refusal(fault), status, out, err)
+            }
         }
     }
 }
 
 // The refusal of an input that ends where something is open.
-fn end_refusal(fault: SplitFault) -> Refusal {
+fn end_refusal(fault: SplitFault) -> Refusal
+    ensures { result ≡ record { line = end_line fault; fault = fault } }
+{
     let line = match &fault {
         SplitFault::Incomplete(line) => *line,
         _ => 1,
@@ -312,8 +487,23 @@ fn end_refusal(fault: SplitFault) -> Refusal {
     Refusal { line, fault }
 }
 
-fn flush<O: Write>(out: &mut O) -> Result<(), RunFault> {
-    out.flush().map_err(|_| RunFault::Write)
+// Whether a run is over behind a piece of so many bytes.
+fn is_over(read: usize, status: Status) -> bool
+    ensures over { result ≡ true → (read ≡ 0) ⊎ ((0 < read) × (status.quit ≡ true)) }
+    ensures goes { result ≡ false → (0 < read) × (status.quit ≡ false) }
+    ensures fits { status.faults < 2 ^ 64 }
+{
+    read == 0 || status.quit
+}
+
+fn flush<O: Write>(out: &mut O) -> Result<(), RunFault>
+    ensures bytes { Keeps (O.contents out.old) (O.contents out.new) }
+    ensures fault { IfErr result (λ fault. fault ≡ RunFault.Write) }
+{
+    match out.flush() {
+        Ok(()) => Ok(()),
+        Err(_) => Err(RunFault::Write),
+    }
 }
 
 // How many fault lines there are with those of a turn.
@@ -333,8 +523,9 @@ fn tell<O: Write, E: Write>(
     out: &mut O,
     err: &mut E,
 ) -> Result<(), RunFault>
-    ensures out { OnOk result (Appends (O.contents out.old) (O.contents out.new) (told_as told.now).out) }
-    ensures err { OnOk result (Appends (E.contents err.old) (E.contents err.new) (told_as told.now).err) }
+    ensures out { Sends result (O.contents out.old) (O.contents out.new) (told_as told.now).out }
+    ensures err { Sends result (E.contents err.old) (E.contents err.new) (told_as told.now).err }
+    ensures fault { IfErr result (λ fault. fault ≡ RunFault.Write) }
     ensures faults { OnOk result (status.new.faults ≡ min (status.old.faults + (told_as told.now).faults) (2 ^ 64 - 1)) }
     ensures quit { OnOk result (status.new.quit ≡ (status.old.quit || (told_as told.now).ends)) }
 {
@@ -348,7 +539,8 @@ fn tell<O: Write, E: Write>(
 
 // Writes the text of a unit where echo is on.
 fn echo_text<O: Write>(echo: bool, text: &str, out: &mut O) -> Result<(), RunFault>
-    ensures { OnOk result (Appends (O.contents out.old) (O.contents out.new) (if echo then text.now ++ 10 ∷ [] else [])) }
+    ensures out { Sends result (O.contents out.old) (O.contents out.new) (if echo then text.now ++ 10 ∷ [] else []) }
+    ensures fault { IfErr result (λ fault. fault ≡ RunFault.Write) }
 {
     if echo {
         write_echo(out, text)?;
@@ -360,6 +552,7 @@ fn read_chunk<R: Read>(reader: &mut R, chunk: &mut [u8]) -> Result<usize, RunFau
     ensures bound { IfOk result (λ n. n ≤ length chunk.new) }
     ensures bytes { IfOk result (λ n. Consumes (R.remaining reader.old) (R.remaining reader.new) (take n chunk.new)) }
     ensures end { IfOk result (λ n. n ≡ 0 → 0 < length chunk.new → IsAtEnd (R.remaining reader.new)) }
+    ensures kept { OnErr result (Keeps (R.remaining reader.old) (R.remaining reader.new)) }
     ensures fault { IfErr result (λ fault. fault ≡ RunFault.Read) }
 {
     match reader.read(chunk) {

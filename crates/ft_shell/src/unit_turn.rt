@@ -22,7 +22,7 @@ pub(crate) fn unit_turn<P: Alter, S: Alter, F: Source>(
     source: &mut F,
     unit: &Unit,
 ) -> Told
-    ensures body { Body P.Store S.Store (member_of_unit unit.now) (record { look = settings.old; plain = plain.old; known = fulltext.old }) (record { look = settings.new; plain = plain.new; known = fulltext.new }) (told_as result) }
+    ensures body { Body P.Store S.Store (member_of_unit unit.now) (record { look = settings.old; plain = plain.old; known = fulltext.old; holds = F.holds source.old }) (record { look = settings.new; plain = plain.new; known = fulltext.new; holds = F.holds source.new }) (told_as result) }
     ensures source { (name : List ℕ) → F.holds source.new name ≡ F.holds source.old name }
 {
     let text = unit.text.as_str();

@@ -1,21 +1,31 @@
 // What is told, written to the two outputs.
-ghost use Rattle.std.specs.Prelude.{◌≡◌, ◌∷◌, ◌++◌, [], OnOk, if◌then◌else◌};
-ghost use Rattle.std.specs.Io.KnownBytes.{Appends};
-ghost use Rattle.ft_shell.specs.ToldViews.{told_as, text_as, line_as};
-ghost use Rattle.ft_shell.specs.Texts.{fault_line};
+ghost use Rattle.std.specs.Prelude.{◌≡◌, ◌∷◌, ◌++◌, []};
+ghost use Rattle.ft_shell.specs.ToldViews.{told_as, text_as};
+ghost use Rattle.ft_statements.specs.Texts.{fault_line};
+ghost use Rattle.ft_shell.specs.Writing.{Sends};
 
 use crate::told::{FaultLine, FaultText, Told};
 use itoa::Buffer;
+use shell_text::write_out;
 use std::io::Write;
 
 // The writer refused.
 #[derive(Clone, Copy, Debug, Drop)]
 pub(crate) struct Refused;
 
-fn write_text<W: Write>(to: &mut W, text: &str) -> Result<(), Refused>
-    ensures { OnOk result (Appends (W.contents to.old) (W.contents to.new) text.now) }
+fn write_bytes<W: Write>(to: &mut W, bytes: &[u8]) -> Result<(), Refused>
+    ensures { Sends result (W.contents to.old) (W.contents to.new) bytes.now }
 {
-    to.write_all(text.as_bytes()).map_err(|_| Refused)
+    match write_out(to, bytes) {
+        Ok(()) => Ok(()),
+        Err(_) => Err(Refused),
+    }
+}
+
+fn write_text<W: Write>(to: &mut W, text: &str) -> Result<(), Refused>
+    ensures { Sends result (W.contents to.old) (W.contents to.new) text.now }
+{
+    write_bytes(to, text.as_bytes())
 }
 
 fn fault_text_of(fault: &FaultLine) -> &str
@@ -28,7 +38,7 @@ fn fault_text_of(fault: &FaultLine) -> &str
 }
 
 fn write_fault<W: Write>(to: &mut W, fault: &FaultLine) -> Result<(), Refused>
-    ensures { OnOk result (Appends (W.contents to.old) (W.contents to.new) (fault_line fault.now.line (text_as fault.now.text))) }
+    ensures { Sends result (W.contents to.old) (W.contents to.new) (fault_line fault.now.line (text_as fault.now.text)) }
 {
     let mut buffer = Buffer::new();
     write_text(to, "Error: near line ")?;
@@ -39,14 +49,14 @@ fn write_fault<W: Write>(to: &mut W, fault: &FaultLine) -> Result<(), Refused>
 
 /// The text of a unit, and a line feed.
 pub(crate) fn write_echo<W: Write>(to: &mut W, text: &str) -> Result<(), Refused>
-    ensures { OnOk result (Appends (W.contents to.old) (W.contents to.new) (text.now ++ 10 ∷ [])) }
+    ensures { Sends result (W.contents to.old) (W.contents to.new) (text.now ++ 10 ∷ []) }
 {
     write_text(to, text)?;
     write_text(to, "\n")
 }
 
 fn write_err<W: Write>(to: &mut W, told: &Told) -> Result<(), Refused>
-    ensures { OnOk result (Appends (W.contents to.old) (W.contents to.new) (told_as told.now).err) }
+    ensures { Sends result (W.contents to.old) (W.contents to.new) (told_as told.now).err }
 {
     write_text(to, told.warnings.as_str())?;
     match &told.fault {
@@ -61,10 +71,10 @@ pub(crate) fn write_told<O: Write, E: Write>(
     out: &mut O,
     err: &mut E,
 ) -> Result<(), Refused>
-    ensures out { OnOk result (Appends (O.contents out.old) (O.contents out.new) (told_as told.now).out) }
-    ensures err { OnOk result (Appends (E.contents err.old) (E.contents err.new) (told_as told.now).err) }
+    ensures out { Sends result (O.contents out.old) (O.contents out.new) (told_as told.now).out }
+    ensures err { Sends result (E.contents err.old) (E.contents err.new) (told_as told.now).err }
 {
-    out.write_all(told.out.as_slice()).map_err(|_| Refused)?;
+    write_bytes(out, told.out.as_slice())?;
     if told.warnings.is_empty() && told.fault.is_none() {
         return Ok(());
     }

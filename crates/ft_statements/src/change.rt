@@ -1,9 +1,9 @@
 // Filters, UPDATE and DELETE.
 ghost use Rattle.std.specs.Prelude.{◌≡◌, ◌∷◌, [], codes, map, string_bytes, option_map, IfOk};
 ghost use Rattle.ft_content.specs.Views as views;
-ghost use Rattle.ft_shell.specs.Change as forms;
-ghost use Rattle.ft_shell.specs.Reading as reading;
-ghost use Rattle.ft_shell.specs.Views.{plain, left, runs, read_as, sets_as, set_and_filter};
+ghost use Rattle.ft_statements.specs.Change as forms;
+ghost use Rattle.ft_statements.specs.Reading as reading;
+ghost use Rattle.ft_statements.specs.Views.{plain, left, runs, read_as, sets_as, set_and_filter};
 
 use crate::reading::{front_and_last, keyword_at, literal_at, name_at, parts, symbol_at};
 use crate::values::{integer_at, value_at};

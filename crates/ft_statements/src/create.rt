@@ -1,9 +1,9 @@
 // CREATE VIRTUAL TABLE and DROP TABLE.
 ghost use Rattle.std.specs.Prelude.{◌≡◌, ◌∷◌, ◌++◌, [], codes, OnOk, map, string_bytes, option_map, IfOk};
 ghost use Rattle.ft_content.specs.Views as views;
-ghost use Rattle.ft_shell.specs.Create as forms;
-ghost use Rattle.ft_shell.specs.Reading as reading;
-ghost use Rattle.ft_shell.specs.Views.{plain, left, runs, optional_words, argument_as, settings_as, texts_of};
+ghost use Rattle.ft_statements.specs.Create as forms;
+ghost use Rattle.ft_statements.specs.Reading as reading;
+ghost use Rattle.ft_statements.specs.Views.{plain, left, runs, optional_words, argument_as, settings_as, texts_of};
 
 use crate::reading::{keyword_at, name_at, parenthesized, parts, symbol_at};
 use crate::words::{Piece, bare, literal_of, name_of};

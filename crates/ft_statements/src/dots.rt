@@ -2,8 +2,8 @@
 ghost use Rattle.std.specs.Prelude.{◌≡◌, codes, map, string_bytes, option_map, IfOk};
 ghost use Rattle.std.specs.Char.{is_ascii_digit};
 ghost use Rattle.std.specs.List.{list_all};
-ghost use Rattle.ft_shell.specs.Dots as forms;
-ghost use Rattle.ft_shell.specs.DotViews.{command_as, import_as, words_left, csv_words, skip_words};
+ghost use Rattle.ft_statements.specs.Dots as forms;
+ghost use Rattle.ft_statements.specs.DotViews.{command_as, import_as, words_left, csv_words, skip_words};
 
 use crate::values::digits_value;
 use shell_text::Mode;

@@ -2,9 +2,9 @@
 ghost use Rattle.std.specs.Prelude.{◌≡◌, ◌∷◌, [], codes, map, string_bytes, option_map, IfOk};
 ghost use Rattle.ft_content.specs.Views as views;
 ghost use Rattle.ft_store.specs.Changes.{shown_value};
-ghost use Rattle.ft_shell.specs.Insert as forms;
-ghost use Rattle.ft_shell.specs.Reading as reading;
-ghost use Rattle.ft_shell.specs.Views.{plain, left, runs, read_as, listed};
+ghost use Rattle.ft_statements.specs.Insert as forms;
+ghost use Rattle.ft_statements.specs.Reading as reading;
+ghost use Rattle.ft_statements.specs.Views.{plain, left, runs, read_as, listed};
 
 use crate::reading::{
     keyword_at, name_at, only_literal, only_name, parenthesized, parts, symbol_at,

@@ -2,9 +2,9 @@
 ghost use Rattle.std.specs.Prelude.{◌≡◌, ◌∷◌, [], codes, string_bytes, option_map, IfOk};
 ghost use Rattle.std.specs.List.{list_any};
 ghost use Rattle.shell_text.specs.Words.{words_of};
-ghost use Rattle.ft_shell.specs.Words as tokens;
-ghost use Rattle.ft_shell.specs.Plain as forms;
-ghost use Rattle.ft_shell.specs.Views.{seen, plain, left};
+ghost use Rattle.ft_statements.specs.Words as tokens;
+ghost use Rattle.ft_statements.specs.Plain as forms;
+ghost use Rattle.ft_statements.specs.Views.{seen, plain, left};
 
 use crate::create::{if_not_exists, optional};
 use crate::reading::{keyword_at, name_at};

@@ -1,9 +1,9 @@
 // Reading words from the front of a statement.
 ghost use Rattle.std.specs.Prelude.{◌≡◌, ◌≤◌, ◌+◌, ◌==◌, ◌&&◌, codes, ◌<◌, ◌++◌, ◌∷◌, [], OnOk, ◌-◌, ◌^◌, string_bytes, option_map, IfOk};
-ghost use Rattle.ft_shell.specs.Words.{is_symbol};
-ghost use Rattle.ft_shell.specs.Reading as forms;
-ghost use Rattle.ft_shell.specs.Insert as inserts;
-ghost use Rattle.ft_shell.specs.Views.{seen, plain, left, read_as, two_runs, runs, split_parts};
+ghost use Rattle.ft_statements.specs.Words.{is_symbol};
+ghost use Rattle.ft_statements.specs.Reading as forms;
+ghost use Rattle.ft_statements.specs.Insert as inserts;
+ghost use Rattle.ft_statements.specs.Views.{seen, plain, left, read_as, two_runs, runs, split_parts};
 
 use crate::words::{Piece, is_keyword, is_symbol, literal_of, name_of};
 use std::alloc::{AllocError, Global};

@@ -5,7 +5,7 @@ ghost use Rattle.shell_text.specs.Print as print;
 ghost use Rattle.shell_text.specs.Print.{AppendsFront};
 ghost use Rattle.ft_store.specs.Changes.{shown_value};
 ghost use Rattle.ft_content.specs.Views as views;
-ghost use Rattle.ft_shell.specs.Replies as forms;
+ghost use Rattle.ft_statements.specs.Replies as forms;
 
 use ft_content::{Reply, Value};
 use shell_text::{Cell, Grid, PrintFault, Settings, write_grid};

@@ -1,9 +1,9 @@
 // SELECT.
 ghost use Rattle.std.specs.Prelude.{◌≡◌, ◌∷◌, [], codes, map, string_bytes, option_map, is_some, IfOk};
 ghost use Rattle.ft_content.specs.Views as views;
-ghost use Rattle.ft_shell.specs.Select as forms;
-ghost use Rattle.ft_shell.specs.Reading as reading;
-ghost use Rattle.ft_shell.specs.Views.{plain, left, runs, read_as, items_as};
+ghost use Rattle.ft_statements.specs.Select as forms;
+ghost use Rattle.ft_statements.specs.Reading as reading;
+ghost use Rattle.ft_statements.specs.Views.{plain, left, runs, read_as, items_as};
 
 use crate::change::{key_at, where_at};
 use crate::reading::{

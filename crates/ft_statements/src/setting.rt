@@ -1,8 +1,8 @@
 // What dot-commands set and print.
 ghost use Rattle.std.specs.Prelude.{◌≡◌, map, string_bytes, true, false, IfOk, OnOk, OnErr, IsErrOf};
 ghost use Rattle.std.specs.List.{join_with_byte};
-ghost use Rattle.ft_shell.specs.DotViews.{command_as};
-ghost use Rattle.ft_shell.specs.Settings as forms;
+ghost use Rattle.ft_statements.specs.DotViews.{command_as};
+ghost use Rattle.ft_statements.specs.Settings as forms;
 
 use crate::dots::DotCommand;
 use shell_text::{SetFault, Settings};

@@ -3,12 +3,12 @@ ghost use Rattle.std.specs.Prelude.{◌≡◌, ◌∷◌, [], ◌||◌, None, So
 ghost use Rattle.std.specs.List.{list_any};
 ghost use Rattle.shell_text.specs.Words.{words_of};
 ghost use Rattle.ft_content.specs.Views as views;
-ghost use Rattle.ft_shell.specs.declared.statement.StatementFault.TheVariants.{Syntax, Memory};
-ghost use Rattle.ft_shell.specs.Words as tokens;
-ghost use Rattle.ft_shell.specs.Reading as reading;
-ghost use Rattle.ft_shell.specs.Statements as forms;
-ghost use Rattle.ft_shell.specs.Views.{seen, plain};
-ghost use Rattle.ft_shell.specs.Classes.{class_as};
+ghost use Rattle.ft_statements.specs.declared.statement.StatementFault.TheVariants.{Syntax, Memory};
+ghost use Rattle.ft_statements.specs.Words as tokens;
+ghost use Rattle.ft_statements.specs.Reading as reading;
+ghost use Rattle.ft_statements.specs.Statements as forms;
+ghost use Rattle.ft_statements.specs.Views.{seen, plain};
+ghost use Rattle.ft_statements.specs.Classes.{class_as};
 
 use crate::change::{delete, update};
 use crate::create::{create, drop_table};

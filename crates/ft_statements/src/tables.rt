@@ -1,8 +1,8 @@
 // The names that `.tables` lists.
 ghost use Rattle.std.specs.Prelude.{◌≡◌, ◌++◌, map, not, filter, string_bytes, IfOk};
 ghost use Rattle.ft_content.specs.Views as views;
-ghost use Rattle.ft_shell.specs.Replies as forms;
-ghost use Rattle.ft_shell.specs.Views.{texts_of};
+ghost use Rattle.ft_statements.specs.Replies as forms;
+ghost use Rattle.ft_statements.specs.Views.{texts_of};
 
 use crate::statement::has_table;
 use ft_content::TableInfo;

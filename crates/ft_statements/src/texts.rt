@@ -1,6 +1,6 @@
 // The texts of fault lines.
 ghost use Rattle.std.specs.Prelude.{◌≡◌, codes, string_bytes, IfOk};
-ghost use Rattle.ft_shell.specs.Texts as forms;
+ghost use Rattle.ft_statements.specs.Texts as forms;
 
 use crate::statement::StatementFault;
 use ft_content::Fault;

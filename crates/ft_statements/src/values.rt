@@ -1,9 +1,9 @@
 // Values of a statement.
 ghost use Rattle.std.specs.Prelude.{◌≡◌, ◌+◌, ◌^◌, min, string_bytes, option_map, IfOk};
 ghost use Rattle.ft_store.specs.Changes.{shown_value};
-ghost use Rattle.ft_shell.specs.Values as forms;
-ghost use Rattle.ft_shell.specs.Insert as inserts;
-ghost use Rattle.ft_shell.specs.Views.{seen, plain, signed_words, read_as};
+ghost use Rattle.ft_statements.specs.Values as forms;
+ghost use Rattle.ft_statements.specs.Insert as inserts;
+ghost use Rattle.ft_statements.specs.Views.{seen, plain, signed_words, read_as};
 
 use crate::reading::{keyword_at, literal_at, symbol_at};
 use crate::words::Piece;

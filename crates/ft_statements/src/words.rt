@@ -1,8 +1,8 @@
 // Words of a statement with their texts.
 ghost use Rattle.std.specs.Prelude.{◌≡◌, ◌-◌, false, take, length, string_bytes, option_map, encode_utf8_all, IfOk};
 ghost use Rattle.shell_text.specs.Words.{words_of};
-ghost use Rattle.ft_shell.specs.Words as forms;
-ghost use Rattle.ft_shell.specs.Views.{seen, plain};
+ghost use Rattle.ft_statements.specs.Words as forms;
+ghost use Rattle.ft_statements.specs.Views.{seen, plain};
 
 use shell_text::{SqlKind, SqlWord, words_on_characters};
 use std::alloc::{AllocError, Global};

@@ -1,7 +1,7 @@
 -- the rows so far
 use Rattle.std.proofs.Common.{◌≡◌, map}
 use Rattle.ft_content.specs.Views.{rows_of}
-use Rattle.ft_shell.specs.Views.{texts_of}
+use Rattle.ft_statements.specs.Views.{texts_of}
 use Rattle.ft_shell.specs.Imports.{fitted}
 use Rattle.ft_shell.proofs.import.insert_of.Given as goal
 

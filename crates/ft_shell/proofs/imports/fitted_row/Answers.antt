@@ -4,7 +4,7 @@ use Rattle.std.proofs.lemmas.List.{take-map, length-map}
 use Rattle.ft_store.specs.Changes.{shown_value}
 use Rattle.ft_content.specs.Content.{Null, Text}
 use Rattle.ft_content.specs.Views.{cells_of}
-use Rattle.ft_shell.specs.Views.{texts_of}
+use Rattle.ft_statements.specs.Views.{texts_of}
 use Rattle.ft_shell.proofs.ImportLemmas.{cut_and_filled}
 use Rattle.ft_shell.proofs.imports.fitted_row.Goals as goal
 

@@ -2,7 +2,7 @@
 use Rattle.std.proofs.Common.{◌≡◌, take, map, string_bytes}
 use Rattle.std.specs.List.{enumerate_from}
 use Rattle.ft_shell.specs.Imports as forms
-use Rattle.ft_shell.specs.Views.{texts_of}
+use Rattle.ft_statements.specs.Views.{texts_of}
 use Rattle.ft_shell.proofs.imports.warnings.Given as goal
 
 abbrev pub invariant-loop-i : goal.invariant-loop-i

@@ -1,5 +1,5 @@
 -- by what `sqlite` says of the two calls
-use Rattle.std.proofs.Common.{rules, ◌≡◌, Err, Result, sym, subst}
+use Rattle.std.proofs.Common.{rules, ◌≡◌, Err, sym, subst}
 use Rattle.std.specs.Prelude.{IfErr}
 use Rattle.sqlite.specs.declared.error.Error.{Error}
 use Rattle.ft_shell.specs.PlainStatements.{FailsToAnswer}

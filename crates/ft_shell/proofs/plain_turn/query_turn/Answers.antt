@@ -1,5 +1,5 @@
 -- it is answered, or refused
-use Rattle.std.proofs.Common.{rules, ◌≡◌, subst, sym}
+use Rattle.std.proofs.Common.{rules}
 use Rattle.ft_shell.specs.Told.{Tells}
 use Rattle.ft_shell.specs.Answers.{rows_told}
 use Rattle.ft_shell.specs.ToldViews.{told_as}

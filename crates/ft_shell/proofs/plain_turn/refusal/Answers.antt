@@ -1,5 +1,5 @@
 -- other words than those of memory
-use Rattle.std.proofs.Common.{rules, ◌≡◌, sym, ◌∙◌, codes, false}
+use Rattle.std.proofs.Common.{rules, ◌≡◌, codes, false}
 use Rattle.ft_shell.specs.PlainStatements.{is_memory_error}
 use Rattle.ft_shell.specs.ToldViews.{told_as}
 use Rattle.ft_shell.proofs.PlainTurnLemmas.{words_told}

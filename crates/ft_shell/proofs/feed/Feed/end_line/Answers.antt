@@ -1,5 +1,5 @@
 -- the line is taken, or refused
-use Rattle.std.proofs.Common.{rules, ◌≡◌, ◌≢◌, ◌==◌, ◌++◌, ◌∷◌, [], false, sym, ap, ◌∙◌, Ok, Err, subst}
+use Rattle.std.proofs.Common.{rules, ◌≡◌, ◌≢◌, ◌++◌, [], sym, ◌∙◌, Ok, Err}
 use Rattle.shell_text.specs.declared.units.SplitFault.TheVariants as fault
 use Rattle.shell_text.specs.Splitting.{TakesLine}
 use Rattle.ft_shell.specs.Feeds.{members_left, refused_as}

@@ -1,19 +1,23 @@
 -- its fault line is told
-use Rattle.std.proofs.Common.{refl, ap, ◌∙◌}
+use Rattle.std.proofs.Common.{◌≡◌, ◌∷◌, List, refl, ap, ◌∙◌, subst}
+use Rattle.shell_text.specs.Units.{Member, Fault}
+use Rattle.ft_shell.specs.Shell.{Parts, Shell, lent}
 use Rattle.ft_shell.specs.Told.{blames}
+use Rattle.ft_statements.specs.Texts.{split_text}
 use Rattle.ft_shell.specs.ToldViews.{told_as}
-use Rattle.ft_shell.proofs.RanLemmas.{on_ok4}
+use Rattle.ft_shell.specs.Ran.{Runs}
+use Rattle.ft_shell.proofs.RanLemmas.{runs_turn}
 use Rattle.ft_shell.proofs.session.Session.refuse.Goals as goal
 
 pub returns : goal.returns
-returns g c =
-    on_ok4 c.tell.result
-    (λ out err faults quit. record {
-      told = told_as c.blames-told.result;
-      turn = record { body = told_as c.blames-told.result; done = (refl, c.blames-told.ensures ∙ ap (blames c.args.self.now.settings c.args.refusal.now.line) c.split_text-text.ensures); tells = refl };
-      out = out;
-      err = err;
-      faults = faults;
-      quit = quit;
-    })
-    c.tell.ensures.out c.tell.ensures.err c.tell.ensures.faults c.tell.ensures.quit
+returns g c = λ holds.
+    let parts : Parts g.row.P.Denot g.row.S.Denot = record { look = c.self.inside.settings; plain = c.self.inside.plain; known = c.self.inside.fulltext } in
+    let old : Shell g.row.P.Denot g.row.S.Denot = lent parts holds in
+    let told = told_as c.blames-told.result in
+    let due : told ≡ blames old.look c.args.refusal.now.line (split_text c.args.refusal.now.fault) = c.blames-told.ensures ∙ ap (blames c.self.inside.settings c.args.refusal.now.line) c.split_text-text.ensures in
+    let a = g.O.Write.contents c.args.out.now in
+    let e = g.E.Write.contents c.args.err.now in
+    subst (λ s. Runs g.P.Store g.S.Store c.tell.result (λ (rest : List Member). Fault c.args.refusal.now.line c.args.refusal.now.fault ∷ rest) (λ rest. rest) (record { shell = lent s holds; status = c.args.status.now; out = a; err = e }) (record { shell = lent s holds; status = c.tell.new.status; out = g.O.Write.contents c.tell.new.out; err = g.E.Write.contents c.tell.new.err })) c.self.view_is
+    (runs_turn g.P.Store g.S.Store c.tell.result (Fault c.args.refusal.now.line c.args.refusal.now.fault) (record { shell = old; status = c.args.status.now; out = a; err = e }) (record { shell = old; status = c.tell.new.status; out = g.O.Write.contents c.tell.new.out; err = g.E.Write.contents c.tell.new.err }) told
+    (record { body = told; done = (refl, due); tells = refl })
+    c.tell.ensures.out c.tell.ensures.err c.tell.ensures.fault c.tell.ensures.faults c.tell.ensures.quit)

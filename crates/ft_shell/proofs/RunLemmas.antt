@@ -1,0 +1,265 @@
+-- From the pieces of an input to a whole run.
+use Rattle.std.specs.Prelude.{IfErr}
+use Rattle.std.proofs.Common.{◌≡◌, ◌≢◌, ◌⊎◌, ℕ, zero, suc, ◌+◌, ◌-◌, ◌^◌, ◌<◌, ◌≤◌, Bool, true, false, ◌||◌, List, [], ◌∷◌, ◌++◌, length, take, drop, Option, Some, None, Result, Err, refl, sym, ap, subst, ◌∙◌, arith, append-nil, append_assoc, length-append, inl, inr}
+use Rattle.std.specs.Io.KnownBytes.{Consumes, IsAtEnd, Keeps}
+use Rattle.std.proofs.lemmas.List.{take_all, take-append-drop}
+use Rattle.std.proofs.Math.Seq.{take-append-add, take-append_seam}
+use Rattle.sqlite.specs.Store.{Ghosts}
+use Rattle.shell_text.specs.Units.{Member, members_of, start, lines_of}
+use Rattle.shell_text.specs.Splitting.{given_by}
+use Rattle.ft_shell.specs.declared.session.RunFault.{RunFault}
+use Rattle.ft_shell.specs.declared.session.RunFault.TheVariants as causes
+use Rattle.ft_shell.specs.Shell.{Shell}
+use Rattle.ft_shell.specs.Told.{Told}
+use Rattle.ft_shell.specs.Turns.{Turns, Session, Begins}
+use Rattle.ft_shell.specs.Feeds.{Fed, members_left}
+use Rattle.ft_shell.specs.Ran.{Moment, Did, Passes, Breaks, HasRead, Interrupted}
+use Rattle.ft_shell.specs.Runs.{IsWhole, IsFront, Completes, Stops}
+use Rattle.ft_shell.proofs.WriteLemmas.{appends_kept}
+use Rattle.ft_shell.proofs.TurnsLemmas.{turns_ended}
+use Rattle.ft_shell.proofs.RanLemmas.{breaks_after, breaks_none, breaks_then, passes_as, passes_none, passes_then}
+
+-- ---- lists and readers
+
+nil_of : {X : Type 0} (xs : List X) → length xs ≡ 0 → xs ≡ []
+nil_of [] e = refl
+nil_of (x ∷ xs) e = absurd (omega (arith, e))
+
+-- a front of two texts, of which the first is in it
+take_both : (most room : ℕ) (xs ys : List ℕ) → length xs ≤ most → room ≡ most - length xs → take most (xs ++ ys) ≡ take most xs ++ take room ys
+take_both most room xs ys h is =
+    let sum : most ≡ length xs + room = omega (arith, h, is) in
+    ap (λ m. take m (xs ++ ys)) sum ∙ take-append-add xs ys room ∙ ap (λ t. t ++ take room ys) (sym (take_all most xs h))
+
+consumes_then : (a b c : Option (List ℕ)) (x y : List ℕ) → Consumes a b x → Consumes b c y → Consumes a c (x ++ y)
+consumes_then None b c x y h k = tt
+consumes_then (Some p) None c x y h k = absurd h
+consumes_then (Some p) (Some q) None x y h k = absurd k
+consumes_then (Some p) (Some q) (Some r) x y h k = h ∙ ap (λ z. x ++ z) k ∙ sym (append_assoc x y r)
+
+pub consumes_none : (a b : Option (List ℕ)) → Keeps a b → Consumes a b []
+consumes_none None b kept = tt
+consumes_none (Some p) None kept = absurd kept
+consumes_none (Some p) (Some q) kept = sym kept
+
+keeps_same : (a : Option (List ℕ)) → Keeps a a
+keeps_same None = tt
+keeps_same (Some p) = refl
+
+-- ---- a run so far
+
+-- the moment at which a run begins
+abbrev pub opening : {P S : Type 0} → Shell P S → Option (List ℕ) → Option (List ℕ) → Moment P S
+opening shell out err = record { shell = shell; status = record { faults = 0; quit = false }; out = out; err = err }
+
+-- what was read, and was run as far as it isn't too much
+pub record SoFar {P S : Type 0} (g : Ghosts P) (h : Ghosts S) (most total : ℕ) (before after : Option (List ℕ)) (left : Fed) (old new : Moment P S) : Type 0 where
+  pub read : List ℕ
+  pub consumed : Consumes before after read
+  pub size : length read ≡ total
+  pub passes : Passes g h (λ (rest : List ℕ). members_of (take most read ++ rest)) (λ rest. members_left left rest) old new
+
+-- the law of reading on
+abbrev pub ReadsOn : Type 0
+ReadsOn = (input : List ℕ) → members_of input ≡ given_by start (lines_of input)
+
+pub so_far_none : {P S : Type 0} (g : Ghosts P) (h : Ghosts S) (most : ℕ) (before : Option (List ℕ)) (left : Fed) (a : Moment P S) → ReadsOn → left ≡ record { splitting = record { reading = start; waiting = [] }; line = [] } → SoFar g h most 0 before before left a a
+so_far_none g h most before left a law fresh = record {
+  read = [];
+  consumed = consumes_none before before (keeps_same before);
+  size = refl;
+  passes = passes_none g h _ _ a (λ rest. ap (λ xs. members_of (xs ++ rest)) (take_all most [] (omega arith)) ∙ law rest ∙ ap (λ f. members_left f rest) (sym fresh));
+}
+
+-- what was run before a piece, where the piece follows
+run_before : {P S : Type 0} (g : Ghosts P) (h : Ghosts S) (most total room : ℕ) (before mid : Option (List ℕ)) (left : Fed) (a b : Moment P S) (so : SoFar g h most total before mid left a b) → total ≤ most → room ≡ most - total → (bytes : List ℕ) →
+    Passes g h (λ (rest : List ℕ). members_of (take most (so.read ++ bytes) ++ rest)) (λ rest. members_left left (take room bytes ++ rest)) a b
+run_before g h most total room before mid left a b so fits is bytes =
+    let whole = take_both most room so.read bytes (omega (arith, so.size, fits)) (omega (arith, so.size, is)) in
+    passes_as g h _ _ _ _ (λ rest. take room bytes ++ rest) a b
+    (λ rest. ap members_of (ap (λ xs. xs ++ rest) whole ∙ append_assoc (take most so.read) (take room bytes) rest)) (λ rest goes. refl) so.passes
+
+-- the same, where the input ends there
+run_to_end : {P S : Type 0} (g : Ghosts P) (h : Ghosts S) (most total : ℕ) (before mid : Option (List ℕ)) (left : Fed) (a b : Moment P S) (so : SoFar g h most total before mid left a b) → total ≤ most →
+    Passes g h (λ (_ : Unit {0}). members_of so.read) (λ _. members_left left []) a b
+run_to_end g h most total before mid left a b so fits =
+    passes_as g h _ _ _ _ (λ (_ : Unit {0}). []) a b
+    (λ u. ap members_of (sym (append-nil (take most so.read) ∙ take_all most so.read (omega (arith, so.size, fits))))) (λ u goes. refl) so.passes
+
+pub so_far_more : {P S : Type 0} (g : Ghosts P) (h : Ghosts S) (most total room n : ℕ) (before mid after : Option (List ℕ)) (left left' : Fed) (a b c : Moment P S) →
+    SoFar g h most total before mid left a b → b.status.quit ≡ false → total ≤ most → room ≡ most - total → HasRead g h room n mid after left left' b c → 0 < n →
+    SoFar g h most (total + n) before after left' a c
+so_far_more g h most total room n before mid after left left' a b c so goes fits is piece some = record {
+  read = so.read ++ piece.bytes;
+  consumed = consumes_then before mid after so.read piece.bytes so.consumed piece.consumed;
+  size = length-append so.read piece.bytes ∙ (λ k. so.size k + piece.size k);
+  passes = passes_then g h _ (λ rest. members_left left (take room piece.bytes ++ rest)) _ a b c (run_before g h most total room before mid left a b so fits is piece.bytes) goes (piece.goes some);
+}
+
+consumes_to_end : (before mid after : Option (List ℕ)) (read bytes : List ℕ) → Consumes before mid read → Consumes mid after bytes → bytes ≡ [] → Consumes before after read
+consumes_to_end before mid after read bytes first second none =
+    subst (λ xs. Consumes before after xs) (ap (λ xs. read ++ xs) none ∙ append-nil read) (consumes_then before mid after read bytes first second)
+
+-- ---- a flush at the end
+
+pub passes_kept : {P S W : Type 0} (g : Ghosts P) (h : Ghosts S) (due left : W → List Member) (a b : Moment P S) (out : Option (List ℕ)) → Keeps b.out out → Passes g h due left a b → Passes g h due left a (record b { out = out })
+passes_kept g h due left a b out kept it = record {
+  done = it.done;
+  front = it.front;
+  did = record {
+    told = it.did.told;
+    turns = it.did.turns;
+    out = appends_kept a.out b.out out it.did.told.out it.did.out kept;
+    err = it.did.err;
+    faults = it.did.faults;
+    quit = it.did.quit;
+  };
+}
+
+-- ---- a run that ended well
+
+-- what was done ended the session
+ended_by : {P S : Type 0} (g : Ghosts P) (h : Ghosts S) (members : List Member) (a b : Moment P S) (d : Did g h members a b) → a.status.quit ≡ false → b.status.quit ≡ true → d.told.ends ≡ true
+ended_by g h members a b d began ended = ap (λ q. q || d.told.ends) (sym began) ∙ sym d.quit ∙ ended
+
+whole_at_end : {P S : Type 0} (g : Ghosts P) (h : Ghosts S) (after : Option (List ℕ)) (read : List ℕ) (a b : Moment P S) (p : Passes g h (λ (_ : Unit {0}). members_of read) (λ _. []) a b) → a.status.quit ≡ false → IsAtEnd after → IsWhole g h after read a.shell b.shell p.did.told
+whole_at_end g h after read a b p began at_end = inl (at_end, go b.status.quit refl)
+  where
+    go : (quit : Bool) → b.status.quit ≡ quit → Session g h read a.shell b.shell p.did.told
+    go false is =
+        let all : members_of read ≡ p.done = (p.front tt).1 ∙ ap (λ ms. p.done ++ ms) ((p.front tt).2 is) ∙ append-nil p.done in
+        subst (λ ms. Turns g h ms a.shell b.shell p.did.told) (sym all) p.did.turns
+    go true is =
+        subst (λ ms. Turns g h ms a.shell b.shell p.did.told) (sym (p.front tt).1)
+        (turns_ended g h p.done (p.front tt).0 a.shell b.shell p.did.told p.did.turns (ended_by g h p.done a b p.did began is))
+
+split_members : (most : ℕ) (read rest : List ℕ) → members_of (read ++ rest) ≡ members_of (take most read ++ (drop most read ++ rest))
+split_members most read rest = ap members_of (ap (λ xs. xs ++ rest) (sym (take-append-drop most read)) ∙ append_assoc (take most read) (drop most read) rest)
+
+whole_by_turn : {P S : Type 0} (g : Ghosts P) (h : Ghosts S) (after : Option (List ℕ)) (most : ℕ) (read : List ℕ) (left : List ℕ → List Member) (a b : Moment P S) (p : Passes g h (λ (rest : List ℕ). members_of (take most read ++ rest)) left a b) →
+    a.status.quit ≡ false → b.status.quit ≡ true → IsWhole g h after read a.shell b.shell p.did.told
+whole_by_turn g h after most read left a b p began ended =
+    let ends = ended_by g h p.done a b p.did began ended in
+    inr (
+      ends,
+      λ rest.
+          let all : members_of (read ++ rest) ≡ p.done ++ (p.front (drop most read ++ rest)).0 = split_members most read rest ∙ (p.front (drop most read ++ rest)).1 in
+          subst (λ ms. Turns g h ms a.shell b.shell p.did.told) (sym all) (turns_ended g h p.done (p.front (drop most read ++ rest)).0 a.shell b.shell p.did.told p.did.turns ends),
+    )
+
+completes_by : {P S W : Type 0} (g : Ghosts P) (h : Ghosts S) (due left : W → List Member) (before after : Option (List ℕ)) (read : List ℕ) (shell : Shell P S) (out err : Option (List ℕ)) (b : Moment P S) (p : Passes g h due left (opening shell out err) b) →
+    Consumes before after read → IsWhole g h after read shell b.shell p.did.told → b.status.faults < 2 ^ 64 →
+    Completes g h b.status (record { shell = shell; input = before; out = out; err = err }) (record { shell = b.shell; input = after; out = b.out; err = b.err })
+completes_by g h due left before after read shell out err b p consumed whole fits = record {
+  read = read;
+  consumed = consumed;
+  told = p.did.told;
+  turns = whole;
+  out = p.did.out;
+  err = p.did.err;
+  faults = omega (arith, p.did.faults, fits);
+  quit = p.did.quit;
+}
+
+-- the last piece was read: it was the end, or a turn ended the session
+pub completes : {P S : Type 0} (g : Ghosts P) (h : Ghosts S) (most total room n : ℕ) (before mid after : Option (List ℕ)) (left left' : Fed) (shell : Shell P S) (out err out' : Option (List ℕ)) (b c : Moment P S) →
+    SoFar g h most total before mid left (opening shell out err) b → b.status.quit ≡ false → total ≤ most → room ≡ most - total → HasRead g h room n mid after left left' b c → (n ≡ 0) ⊎ ((0 < n) × (c.status.quit ≡ true)) → Keeps c.out out' → c.status.faults < 2 ^ 64 →
+    Completes g h c.status (record { shell = shell; input = before; out = out; err = err }) (record { shell = c.shell; input = after; out = out'; err = c.err })
+completes g h most total room n before mid after left left' shell out err out' b c so goes fits is piece (inl none) kept small =
+    let a = opening shell out err in
+    let p = passes_kept g h _ _ a c out' kept (passes_then g h _ (λ _. members_left left []) _ a b c (run_to_end g h most total before mid left a b so fits) goes (piece.ends none).1) in
+    completes_by g h _ _ before after so.read shell out err (record c { out = out' }) p
+    (consumes_to_end before mid after so.read piece.bytes so.consumed piece.consumed (nil_of piece.bytes (piece.size ∙ none)))
+    (whole_at_end g h after so.read a (record c { out = out' }) p refl (piece.ends none).0) small
+completes g h most total room n before mid after left left' shell out err out' b c so goes fits is piece (inr (some, ended)) kept small =
+    let a = opening shell out err in
+    let more = so_far_more g h most total room n before mid after left left' a b c so goes fits is piece some in
+    let p = passes_kept g h _ _ a c out' kept more.passes in
+    completes_by g h _ _ before after more.read shell out err (record c { out = out' }) p more.consumed
+    (whole_by_turn g h after most more.read _ a (record c { out = out' }) p refl ended) small
+
+-- ---- a run that is cut short
+
+begun : {P S : Type 0} (g : Ghosts P) (h : Ghosts S) (input : List ℕ) (done more : List Member) (old new : Shell P S) (told : Told) → members_of input ≡ done ++ more → Turns g h done old new told → Begins g h input old new told
+begun g h input done more old new told is turns = (length done, subst (λ ms. Turns g h ms old new told) (sym (ap (take (length done)) is ∙ take-append_seam done more)) turns)
+
+stops_by : {P S W : Type 0} (g : Ghosts P) (h : Ghosts S) (fault : RunFault) (due : W → List Member) (before after : Option (List ℕ)) (read : List ℕ) (shell : Shell P S) (out err : Option (List ℕ)) (b : Moment P S) (p : Breaks g h fault due (opening shell out err) b) →
+    Consumes before after read → IsFront g h after read shell b.shell p.cut.told → (fault ≡ causes.TooMuch → (2 ^ 30 < length read) × ((rest : List ℕ) → Begins g h (take (2 ^ 30) read ++ rest) shell b.shell p.cut.told)) →
+    Stops g h fault (record { shell = shell; input = before; out = out; err = err }) (record { shell = b.shell; input = after; out = b.out; err = b.err })
+stops_by g h fault due before after read shell out err b p consumed front much = record {
+  read = read;
+  consumed = consumed;
+  told = p.cut.told;
+  turns = front;
+  out = p.cut.out;
+  err = p.cut.err;
+  whole = p.cut.whole;
+  much = much;
+}
+
+stops_at_end : {P S : Type 0} (g : Ghosts P) (h : Ghosts S) (fault : RunFault) (before after : Option (List ℕ)) (read : List ℕ) (shell : Shell P S) (out err : Option (List ℕ)) (b : Moment P S) → Breaks g h fault (λ (_ : Unit {0}). members_of read) (opening shell out err) b →
+    Consumes before after read → IsAtEnd after → fault ≢ causes.TooMuch →
+    Stops g h fault (record { shell = shell; input = before; out = out; err = err }) (record { shell = b.shell; input = after; out = b.out; err = b.err })
+stops_at_end g h fault before after read shell out err b p consumed at_end other =
+    stops_by g h fault _ before after read shell out err b p consumed (inl (at_end, begun g h read p.done (p.front tt).0 shell b.shell p.cut.told (p.front tt).1 p.cut.turns)) (λ much. absurd (other much))
+
+stops_within : {P S : Type 0} (g : Ghosts P) (h : Ghosts S) (fault : RunFault) (most : ℕ) (before after : Option (List ℕ)) (read : List ℕ) (shell : Shell P S) (out err : Option (List ℕ)) (b : Moment P S) → most ≡ 2 ^ 30 → Breaks g h fault (λ (rest : List ℕ). members_of (take most read ++ rest)) (opening shell out err) b →
+    Consumes before after read → (fault ≡ causes.TooMuch → most < length read) →
+    Stops g h fault (record { shell = shell; input = before; out = out; err = err }) (record { shell = b.shell; input = after; out = b.out; err = b.err })
+stops_within g h fault most before after read shell out err b size p consumed much =
+    stops_by g h fault _ before after read shell out err b p consumed
+    (inr (λ rest. begun g h (read ++ rest) p.done (p.front (drop most read ++ rest)).0 shell b.shell p.cut.told (split_members most read rest ∙ (p.front (drop most read ++ rest)).1) p.cut.turns))
+    (λ is. (subst (λ m. m < length read) size (much is), λ rest. begun g h (take (2 ^ 30) read ++ rest) p.done (p.front rest).0 shell b.shell p.cut.told (ap (λ m. members_of (take m read ++ rest)) (sym size) ∙ (p.front rest).1) p.cut.turns))
+
+-- nothing was read
+pub stops_first : {P S : Type 0} (g : Ghosts P) (h : Ghosts S) (fault : RunFault) (before : Option (List ℕ)) (shell : Shell P S) (out err : Option (List ℕ)) → fault ≢ causes.TooMuch →
+    Stops g h fault (record { shell = shell; input = before; out = out; err = err }) (record { shell = shell; input = before; out = out; err = err })
+stops_first g h fault before shell out err other =
+    stops_within g h fault (2 ^ 30) before before [] shell out err (opening shell out err) refl (breaks_none g h fault _ (opening shell out err)) (consumes_none before before (keeps_same before)) (λ much. absurd (other much))
+
+-- there was more than the limit
+pub stops_too_much : {P S : Type 0} (g : Ghosts P) (h : Ghosts S) (most total : ℕ) (before after : Option (List ℕ)) (left : Fed) (shell : Shell P S) (out err : Option (List ℕ)) (b : Moment P S) → most ≡ 2 ^ 30 → SoFar g h most total before after left (opening shell out err) b → most < total →
+    Stops g h causes.TooMuch (record { shell = shell; input = before; out = out; err = err }) (record { shell = b.shell; input = after; out = b.out; err = b.err })
+stops_too_much g h most total before after left shell out err b size so past =
+    stops_within g h causes.TooMuch most before after so.read shell out err b size (breaks_after g h causes.TooMuch _ _ (opening shell out err) b so.passes) so.consumed (λ _. omega (arith, so.size, past))
+
+-- a piece was cut short
+pub stops_in_piece : {P S : Type 0} (g : Ghosts P) (h : Ghosts S) (fault : RunFault) (most total room : ℕ) (before mid after : Option (List ℕ)) (left : Fed) (shell : Shell P S) (out err : Option (List ℕ)) (b c : Moment P S) → most ≡ 2 ^ 30 →
+    SoFar g h most total before mid left (opening shell out err) b → b.status.quit ≡ false → total ≤ most → room ≡ most - total → Interrupted g h fault room mid after left b c →
+    Stops g h fault (record { shell = shell; input = before; out = out; err = err }) (record { shell = c.shell; input = after; out = c.out; err = c.err })
+stops_in_piece g h fault most total room before mid after left shell out err b c size so goes fits is piece = go piece.breaks
+  where
+    go : Breaks g h fault (λ (rest : List ℕ). members_left left (take room piece.bytes ++ rest)) b c ⊎ ((piece.bytes ≡ []) × IsAtEnd after × Breaks g h fault (λ (_ : Unit {0}). members_left left []) b c) →
+        Stops g h fault (record { shell = shell; input = before; out = out; err = err }) (record { shell = c.shell; input = after; out = c.out; err = c.err })
+    go (inl within) =
+        stops_within g h fault most before after (so.read ++ piece.bytes) shell out err c size
+        (breaks_then g h fault _ (λ rest. members_left left (take room piece.bytes ++ rest)) (opening shell out err) b c (run_before g h most total room before mid left (opening shell out err) b so fits is piece.bytes) goes within)
+        (consumes_then before mid after so.read piece.bytes so.consumed piece.consumed) (λ much. absurd (piece.cause much))
+    go (inr (none, at_end, last)) =
+        stops_at_end g h fault before after so.read shell out err c
+        (breaks_then g h fault _ (λ _. members_left left []) (opening shell out err) b c (run_to_end g h most total before mid left (opening shell out err) b so fits) goes last)
+        (consumes_to_end before mid after so.read piece.bytes so.consumed piece.consumed none) at_end piece.cause
+
+-- all was run, and the last flush was refused
+pub stops_at_flush : {P S : Type 0} (g : Ghosts P) (h : Ghosts S) (fault : RunFault) (most total room n : ℕ) (before mid after : Option (List ℕ)) (left left' : Fed) (shell : Shell P S) (out err out' : Option (List ℕ)) (b c : Moment P S) → most ≡ 2 ^ 30 →
+    SoFar g h most total before mid left (opening shell out err) b → b.status.quit ≡ false → total ≤ most → room ≡ most - total → HasRead g h room n mid after left left' b c → (n ≡ 0) ⊎ (0 < n) → Keeps c.out out' → fault ≢ causes.TooMuch →
+    Stops g h fault (record { shell = shell; input = before; out = out; err = err }) (record { shell = c.shell; input = after; out = out'; err = c.err })
+stops_at_flush g h fault most total room n before mid after left left' shell out err out' b c size so goes fits is piece (inl none) kept other =
+    let a = opening shell out err in
+    let p = passes_kept g h _ _ a c out' kept (passes_then g h _ (λ _. members_left left []) _ a b c (run_to_end g h most total before mid left a b so fits) goes (piece.ends none).1) in
+    stops_at_end g h fault before after so.read shell out err (record c { out = out' }) (breaks_after g h fault _ _ a (record c { out = out' }) p)
+    (consumes_to_end before mid after so.read piece.bytes so.consumed piece.consumed (nil_of piece.bytes (piece.size ∙ none))) (piece.ends none).0 other
+stops_at_flush g h fault most total room n before mid after left left' shell out err out' b c size so goes fits is piece (inr some) kept other =
+    let a = opening shell out err in
+    let more = so_far_more g h most total room n before mid after left left' a b c so goes fits is piece some in
+    let p = passes_kept g h _ _ a c out' kept more.passes in
+    stops_within g h fault most before after more.read shell out err (record c { out = out' }) size (breaks_after g h fault _ _ a (record c { out = out' }) p) more.consumed (λ much. absurd (other much))
+
+-- ---- exits
+
+pub if_err_at : {T E : Type 0} (Q : E → Type 0) (r : Result T E) (e : E) → r ≡ Err e → Q e → IfErr r Q
+if_err_at {T} {E} Q r e is q = subst (λ (x : Result T E). IfErr x Q) (sym is) q
+
+pub some_or_none : (n : ℕ) → (n ≡ 0) ⊎ (0 < n)
+some_or_none zero = inl refl
+some_or_none (suc n) = inr (omega arith)

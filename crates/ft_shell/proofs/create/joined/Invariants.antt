@@ -1,9 +1,0 @@
--- the texts so far
-use Rattle.std.proofs.Common.{◌≡◌, ◌++◌, take, string_bytes}
-use Rattle.std.specs.List.{flat_map}
-use Rattle.ft_shell.specs.Views.{plain}
-use Rattle.ft_shell.proofs.CreateLemmas.{behind_space}
-use Rattle.ft_shell.proofs.create.joined.Given as goal
-
-abbrev pub invariant-loop-word : goal.invariant-loop-word
-invariant-loop-word l = string_bytes l.text ≡ string_bytes l.initial.text ++ flat_map behind_space (plain (take l.word-index l.rest))

@@ -1,6 +1,0 @@
--- the words so far
-use Rattle.std.proofs.Common.{◌≡◌, map, take, string_bytes}
-use Rattle.ft_shell.proofs.dots.copied.Given as goal
-
-abbrev pub invariant-loop-word : goal.invariant-loop-word
-invariant-loop-word l = map string_bytes l.copies.items ≡ map string_bytes (take l.word-index l.words)

@@ -1,9 +1,0 @@
--- the values so far
-use Rattle.std.proofs.Common.{◌≡◌, map}
-use Rattle.shell_text.specs.Print.{value_of}
-use Rattle.ft_store.specs.Changes.{shown_value}
-use Rattle.ft_shell.specs.Replies.{cell_value}
-use Rattle.ft_shell.proofs.replies.row_of.Given as goal
-
-abbrev pub invariant-loop-value : goal.invariant-loop-value
-invariant-loop-value l = map value_of l.row.items ≡ map cell_value (map shown_value l.yielded)

@@ -1,8 +1,0 @@
--- the names so far
-use Rattle.std.proofs.Common.{◌≡◌, take}
-use Rattle.ft_content.specs.Views.{info_names}
-use Rattle.ft_shell.specs.Views.{texts_of}
-use Rattle.ft_shell.proofs.tables.own_names.Given as goal
-
-abbrev pub invariant-loop-table : goal.invariant-loop-table
-invariant-loop-table l = texts_of l.names ≡ info_names (take l.table-index l.tables)

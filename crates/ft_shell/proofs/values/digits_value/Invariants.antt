@@ -1,7 +1,0 @@
-use Rattle.std.proofs.Common.{◌≡◌, take}
-use Rattle.std.specs.Prelude.{min}
-use Rattle.ft_shell.specs.Values.{digits_value}
-use Rattle.ft_shell.proofs.values.digits_value.Given as goal
-
-abbrev pub invariant-loop-digit : goal.invariant-loop-digit
-invariant-loop-digit l = l.number ≡ min (digits_value (take l.digit-index l.digits)) 9223372036854775809

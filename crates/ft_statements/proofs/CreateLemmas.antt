@@ -1,0 +1,57 @@
+-- Arguments of a CREATE VIRTUAL TABLE.
+use Rattle.std.proofs.Common.{◌≡◌, ℕ, List, [], ◌∷◌, ◌++◌, map, refl, sym, ap, ◌∙◌, ◌≤◌, length, get_or, drop, take, ◌-◌, arith, string_bytes, String, Global}
+use Rattle.std.specs.List.{flat_map, join_with_byte}
+use Rattle.std.proofs.lemmas.List.{append-nil, map-append, take_all}
+use Rattle.ft_statements.specs.Words.{Token, bare}
+use Rattle.ft_statements.specs.Create.{Argument, Setting, Column, joined, settings_in, columns_in, argument_of, arguments_of}
+use Rattle.ft_statements.specs.Reading.{each, parts}
+use Rattle.ft_statements.specs.declared.words.Piece.{Piece}
+use Rattle.ft_statements.specs.Views.{seen, plain}
+
+-- a word's text behind a space
+abbrev pub behind_space : Token → List ℕ
+behind_space t = 0x20 ∷ bare t
+
+pub joined_behind : (t : Token) (ts : List Token) → joined (t ∷ ts) ≡ bare t ++ flat_map behind_space ts
+joined_behind t [] = sym (append-nil (bare t))
+joined_behind t (u ∷ us) = ap (λ later. bare t ++ 0x20 ∷ later) (joined_behind u us)
+
+pub joined_first : (ps : List Piece) (d : Piece) → 1 ≤ length ps → joined (plain ps) ≡ bare (seen (get_or ps 0 d)) ++ flat_map behind_space (plain (take (length ps - 1) (drop 1 ps)))
+joined_first [] d h = absurd (omega (arith, h))
+joined_first (p ∷ ps) d h = joined_behind (seen p) (plain ps) ∙ ap (λ qs. bare (seen p) ++ flat_map behind_space (plain qs)) (sym (take_all (length (p ∷ ps) - 1) ps (omega arith)))
+
+pub some_arguments : (ps : List Piece) → (length ps ≡ 0 → ⊥) → arguments_of (plain ps) ≡ each argument_of (parts (plain ps))
+some_arguments [] h = absurd (h refl)
+some_arguments (p ∷ ps) h = refl
+
+pub settings_more : (arguments : List Argument) (argument : Argument) → settings_in (arguments ++ argument ∷ []) ≡ settings_in arguments ++ settings_in (argument ∷ [])
+settings_more [] argument = refl
+settings_more (Setting name value ∷ more) argument = ap (λ s. (name, value) ∷ s) (settings_more more argument)
+settings_more (Column name ∷ more) argument = settings_more more argument
+
+pub columns_more : (arguments : List Argument) (argument : Argument) → columns_in (arguments ++ argument ∷ []) ≡ columns_in arguments ++ columns_in (argument ∷ [])
+columns_more [] argument = refl
+columns_more (Setting name value ∷ more) argument = columns_more more argument
+columns_more (Column name ∷ more) argument = ap (λ s. name ∷ s) (columns_more more argument)
+
+pub texts_push : (found : List (String Global)) (text : String Global) → map string_bytes (found ++ text ∷ []) ≡ map string_bytes found ++ string_bytes text ∷ []
+texts_push found text = map-append string_bytes found (text ∷ [])
+
+abbrev pair : String Global × String Global → List ℕ × List ℕ
+pair s = (string_bytes s.0, string_bytes s.1)
+
+pub settings_push : (found : List (String Global × String Global)) (setting : String Global × String Global) → map pair (found ++ setting ∷ []) ≡ map pair found ++ pair setting ∷ []
+settings_push found setting = map-append pair found (setting ∷ [])
+
+-- ---- words with a space between each two
+
+abbrev pub spaced : List ℕ → List ℕ
+spaced word = 0x20 ∷ word
+
+spaced_words : (word : List ℕ) (words : List (List ℕ)) → join_with_byte 0x20 (word ∷ words) ≡ word ++ flat_map spaced words
+spaced_words word [] = sym (append-nil word)
+spaced_words word (next ∷ more) = ap (λ later. word ++ 0x20 ∷ later) (spaced_words next more)
+
+pub words_first : (ws : List (String Global)) (d : String Global) → 1 ≤ length ws → join_with_byte 0x20 (map string_bytes ws) ≡ string_bytes (get_or ws 0 d) ++ flat_map spaced (map string_bytes (take (length ws - 1) (drop 1 ws)))
+words_first [] d h = absurd (omega (arith, h))
+words_first (w ∷ ws) d h = spaced_words (string_bytes w) (map string_bytes ws) ∙ ap (λ vs. string_bytes w ++ flat_map spaced (map string_bytes vs)) (sym (take_all (length (w ∷ ws) - 1) ws (omega arith)))

@@ -1,0 +1,35 @@
+-- Dot-commands as the code holds them.
+use Rattle.std.specs.Prelude.{ℕ, Bool, List, map, Option, option_map, string_bytes, String}
+use Rattle.std.specs.declared.alloc.Global.{Global}
+use Rattle.std.specs.Borrow.{Bor}
+use Rattle.ft_statements.specs.declared.dots.DotCommand.{DotCommand}
+use Rattle.ft_statements.specs.declared.dots.DotCommand.TheVariants as commands
+use Rattle.ft_statements.specs.declared.dots.Import.{Import}
+use Rattle.ft_statements.specs.Dots as forms
+
+abbrev pub import_as : Import → forms.Import
+import_as what = record { csv = what.csv; skip = what.skip; file = string_bytes what.file; table = string_bytes what.table }
+
+abbrev pub command_as : DotCommand → forms.DotCommand
+command_as commands.Nothing = forms.Nothing
+command_as (commands.Mode mode) = forms.SetMode mode
+command_as (commands.Headers shown) = forms.SetHeaders shown
+command_as (commands.Separator text) = forms.SetSeparator (string_bytes text)
+command_as (commands.Null text) = forms.SetNull (string_bytes text)
+command_as (commands.Echo on) = forms.SetEcho on
+command_as (commands.Bail on) = forms.SetBail on
+command_as (commands.Print words) = forms.Print (map string_bytes words.items)
+command_as (commands.Import what) = forms.Importing (import_as what)
+command_as commands.Tables = forms.Tables
+command_as commands.Quit = forms.Quit
+command_as (commands.Usage text) = forms.Usage text.now
+command_as commands.Unknown = forms.Unknown
+
+abbrev pub words_left : Bor (List (String Global)) → List (List ℕ)
+words_left rest = map string_bytes rest.now
+
+abbrev pub csv_words : Bool × Bor (List (String Global)) → Bool × List (List ℕ)
+csv_words s = (s.0, words_left s.1)
+
+abbrev pub skip_words : Option (Option ℕ × Bor (List (String Global))) → Option (Option ℕ × List (List ℕ))
+skip_words read = option_map (λ r. (r.0, words_left r.1)) read

@@ -1,0 +1,16 @@
+pub mod Words
+pub mod Views
+pub mod Reading
+pub mod Values
+pub mod Create
+pub mod Insert
+pub mod Change
+pub mod Select
+pub mod Statements
+pub mod Classes
+pub mod Plain
+pub mod Dots
+pub mod DotViews
+pub mod Texts
+pub mod Replies
+pub mod Settings

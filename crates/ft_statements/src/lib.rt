@@ -1,0 +1,25 @@
+//! The language of the shell: its statements, its dot-commands, and the texts that answer them.
+#![tactic(auto)]
+
+mod change;
+mod create;
+mod dots;
+mod insert;
+mod plain;
+mod reading;
+mod replies;
+mod select;
+mod setting;
+mod statement;
+mod tables;
+mod texts;
+mod values;
+mod words;
+
+pub use crate::dots::{DotCommand, Import, dot_command};
+pub use crate::plain::{PlainStatement, read_plain};
+pub use crate::replies::write_reply;
+pub use crate::setting::{apply, print_text};
+pub use crate::statement::{Class, StatementFault, read_statement};
+pub use crate::tables::listed_tables;
+pub use crate::texts::{fault_line, fault_text, split_text, statement_text, usage_text};
