@@ -1,5 +1,2 @@
-pub mod PieceLemmas
-pub mod AnswerLemmas
-pub mod RunLemmas
 pub mod LineLemmas
 pub mod LineRows

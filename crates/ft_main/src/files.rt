@@ -10,9 +10,9 @@ ghost use Rattle.ft_store.specs.Store.{nothing_held};
 ghost use Rattle.ft_main.specs.Opening as forms;
 ghost use Rattle.ft_main.specs.declared.files.OpenFault.TheVariants as fault;
 
-use ft_store::{Store, StoreFault};
+use ft_store::{Store, StoreFault, open_database};
 use ram_disk::{Ram, open_ram};
-use sqlite::{Connection, File, FileStore};
+use sqlite::{Connection, File, FileStore, Unknown};
 use std::alloc::{AllocError, Global};
 use thiserror::Error;
 
@@ -56,7 +56,7 @@ pub(crate) fn open_plain(
     ensures fresh { IfOk result IsNew }
     ensures refused { IfErr result (λ f. f ≡ fault.Database) }
 {
-    match Connection::open(rt, path) {
+    match open_database(rt, path, Unknown) {
         Ok(conn) => Ok(conn),
         Err(_) => Err(OpenFault::Database),
     }
@@ -76,15 +76,18 @@ pub(crate) fn open_store(rt: &HostRuntime, path: &str) -> Result<Store<FileStore
     }
 }
 
-/// No plain tables, in memory.
-pub(crate) fn plain_in_memory(alloc: Global) -> Result<Connection<FileStore<Ram>>, OpenFault>
+/// No plain tables, in memory. The statements know the time.
+pub(crate) fn plain_in_memory(rt: &HostRuntime) -> Result<Connection<FileStore<Ram>>, OpenFault>
     ensures empty { IfOk result (λ conn. IsEmpty (file_state conn)) }
     ensures clean { IfOk result (λ conn. HasCleanDisk (file_state conn)) }
     ensures fresh { IfOk result IsNew }
     ensures refused { IfErr result (λ f. f ≡ fault.Database) }
 {
-    match open_ram(alloc) {
-        Ok(conn) => Ok(conn),
+    match open_ram(rt.alloc()) {
+        Ok(mut conn) => {
+            conn.set_clock(rt);
+            Ok(conn)
+        }
         Err(_) => Err(OpenFault::Database),
     }
 }

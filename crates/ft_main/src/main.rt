@@ -1,42 +1,43 @@
-//! The program `ft4sh`: full-text tables on standard input, one statement a line.
+//! The program `ft4sh`: an SQL shell with full-text tables.
 #![tactic(auto)]
 
-mod answer;
 mod files;
 mod line;
-mod pieces;
-mod session;
-mod statement;
+mod source;
+mod start;
 
-use session::run;
-use std::alloc::Global;
-use std::io::{BufWriter, Read, Write};
+use start::start;
+use std::env;
+use std::io::{self, BufWriter, ErrorKind, Write};
 use std::process::ExitCode;
 
-/// Runs an input, and gives the program's status: 0, or 1 if a fault line was written or the run ended early, which its
-/// own line tells.
-pub fn start<R: Read, O: Write, E: Write>(
-    alloc: Global,
-    input: &mut R,
-    out: &mut O,
-    err: &mut E,
-) -> u8 {
-    match run(alloc, input, out, err) {
-        Ok(status) if status.faults == 0 => 0,
-        Ok(_) => 1,
-        Err(fault) => {
-            let _ = writeln!(err, "Error: {fault}");
-            1
-        }
+// Why there are no words.
+fn words_fault(kind: ErrorKind) -> &'static str {
+    match kind {
+        ErrorKind::OutOfMemory => "out of memory",
+        _ => "arguments are not UTF-8",
     }
 }
 
-fn main(rt: HostRuntime) -> ExitCode {
-    let Ok(mut out) = BufWriter::new(rt.alloc(), rt.stdout()) else {
-        return ExitCode::FAILURE;
-    };
-    ExitCode::from(start(rt.alloc(), &mut rt.stdin(), &mut out, &mut rt.stderr()))
+fn run(rt: &HostRuntime) -> io::Result<u8> {
+    let texts: Vec<String> = env::args(rt)?.skip(1).collect(rt.alloc())?;
+    let words: Vec<&str> = texts.iter().map(|text| text.as_str()).collect(rt.alloc())?;
+    let mut out = BufWriter::new(rt.alloc(), rt.stdout())?;
+    Ok(start(
+        rt,
+        words.as_slice(),
+        &mut rt.stdin(),
+        &mut out,
+        &mut rt.stderr(),
+    ))
 }
 
-#[cfg(test)]
-mod tests;
+fn main(rt: HostRuntime) -> ExitCode {
+    match run(&rt) {
+        Ok(status) => ExitCode::from(status),
+        Err(error) => {
+            let _ = writeln!(rt.stderr(), "ft4sh: {}", words_fault(error.kind()));
+            ExitCode::from(2)
+        }
+    }
+}

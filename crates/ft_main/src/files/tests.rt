@@ -42,6 +42,6 @@ fn files_in_no_folder(rt: HostRuntime) -> Result<(), Fail> {
 
 #[test]
 fn databases_in_memory(rt: HostRuntime) {
-    assert!(rt; plain_in_memory(rt.alloc()).is_ok());
+    assert!(rt; plain_in_memory(&rt).is_ok());
     assert!(rt; store_in_memory(rt.alloc()).is_ok());
 }

@@ -1,8 +1,0 @@
--- what was taken, and then what is left
-use Rattle.std.proofs.Common.{◌≡◌, ◌++◌, false, drop, string_bytes}
-use Rattle.std.specs.Prelude.{encode_utf8_all}
-use Rattle.ft_main.specs.Statements as forms
-use Rattle.ft_main.proofs.pieces.unmarked.Given as goal
-
-abbrev pub invariant-loop-c : goal.invariant-loop-c
-invariant-loop-c l = string_bytes l.found ++ encode_utf8_all (forms.unmarked l.after (drop l.c-index l.characters)) ≡ encode_utf8_all (forms.unmarked false l.fn.characters)
