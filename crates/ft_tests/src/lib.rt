@@ -8,6 +8,10 @@ mod query;
 #[cfg(test)]
 mod ram;
 #[cfg(test)]
+mod session;
+#[cfg(test)]
 mod shell;
+#[cfg(test)]
+mod statements;
 #[cfg(test)]
 mod store;
