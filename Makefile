@@ -1,4 +1,5 @@
-# ft4sh: `make` builds the program and runs the demonstration, `make test` is every test, `make install` copies the program.
+# ft4sh: `make` builds the program and runs the demonstration, `make test` is every test, `make install` copies the program and its
+# manual page.
 PREFIX ?= /usr/local
 RT ?= rt
 
@@ -12,17 +13,22 @@ build:
 	mkdir -p bin
 	cp crates/ft_main/out/ft_main bin/ft4sh
 
+# Loads the log of a harbour, searches it and changes it: examples/search.sql.
 demo: build
-	@cat crates/ft_main/stdin
-	@bin/ft4sh < crates/ft_main/stdin
+	@cd examples && ../bin/ft4sh < search.sql
 
-# Every proof from nothing, the edits that must fail, the tests, and the program as two compilers build it.
+# Every proof from nothing, the edits that must fail, the tests, and the program as two compilers build it; then what the program that
+# this left writes for the scripts of tests/, the examples of the manual and the demonstration.
 test:
 	$(RT) ci
+	tests/run crates/ft_main/out/ft_main
+	tests/manual crates/ft_main/out/ft_main
+	cd examples && ../crates/ft_main/out/ft_main < search.sql | diff search.out -
 
 install: build
-	mkdir -p "$(DESTDIR)$(PREFIX)/bin"
+	mkdir -p "$(DESTDIR)$(PREFIX)/bin" "$(DESTDIR)$(PREFIX)/share/man/man1"
 	cp bin/ft4sh "$(DESTDIR)$(PREFIX)/bin/ft4sh"
+	cp docs/ft4sh.1 "$(DESTDIR)$(PREFIX)/share/man/man1/ft4sh.1"
 
 clean:
 	rm -rf bin crates/*/out

@@ -1,0 +1,59 @@
+"""Writes a made corpus as three inputs of a shell: corpus.py FOLDER DOCUMENTS.
+
+The words are those of a vocabulary of 50,000 made words; the word of rank k comes as often as 1 / (k + 1) says. A document has a
+subject of 3 to 8 words and a body of 60 to 140. The same numbers give the same corpus at each run.
+"""
+import bisect
+import csv
+import itertools
+import random
+import sys
+
+VOCABULARY = 50_000
+ROWS = 500  # in one INSERT of many rows
+CREATE = "CREATE VIRTUAL TABLE mail USING fts4(subject, body);\n"
+SYLLABLES = [a + b for a in "bdfghklmnprstvz" for b in ("a", "e", "i", "o", "u", "an", "er", "il", "or", "us")]
+
+
+def word(rank):
+    """The word of a rank: frequent ones are short."""
+    text = SYLLABLES[rank % len(SYLLABLES)]
+    rank //= len(SYLLABLES)
+    while rank:
+        text += SYLLABLES[rank % len(SYLLABLES)]
+        rank //= len(SYLLABLES)
+    return text
+
+
+def documents(count, seed=1):
+    """Pairs of a subject and a body."""
+    drawn = random.Random(seed)
+    words = [word(rank) for rank in range(VOCABULARY)]
+    sums = list(itertools.accumulate(1 / (rank + 1) for rank in range(VOCABULARY)))
+
+    def text(least, most):
+        length = least + int(drawn.random() * (most - least + 1))
+        return " ".join(words[bisect.bisect(sums, drawn.random() * sums[-1])] for _ in range(length))
+
+    for _ in range(count):
+        yield text(3, 8), text(60, 140)
+
+
+def main(folder, count):
+    rows = list(documents(count))
+    with open(f"{folder}/corpus.csv", "w", newline="") as out:
+        csv.writer(out, lineterminator="\n").writerows(rows)
+    values = [f"('{subject}', '{body}')" for subject, body in rows]
+    with open(f"{folder}/singles.sql", "w") as out:
+        out.write(CREATE)
+        out.writelines(f"INSERT INTO mail VALUES{value};\n" for value in values)
+    with open(f"{folder}/rows.sql", "w") as out:
+        out.write(CREATE)
+        for at in range(0, len(values), ROWS):
+            out.write("INSERT INTO mail VALUES" + ",\n".join(values[at : at + ROWS]) + ";\n")
+    with open(f"{folder}/import.sql", "w") as out:
+        out.write(CREATE + f".import --csv '{folder}/corpus.csv' mail\n")
+
+
+if __name__ == "__main__":
+    main(sys.argv[1], int(sys.argv[2]))
