@@ -104,6 +104,3 @@ pub(crate) fn store_in_memory(alloc: Global) -> Result<Store<FileStore<Ram>>, Op
         Err(cause) => Err(store_fault(cause)),
     }
 }
-
-#[cfg(test)]
-mod tests;

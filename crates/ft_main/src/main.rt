@@ -2,7 +2,6 @@
 #![tactic(auto)]
 
 mod files;
-mod line;
 mod source;
 mod start;
 

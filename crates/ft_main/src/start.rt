@@ -1,9 +1,9 @@
 //! The program: its words, its databases, its inputs and its status.
 
 use crate::files::{OpenFault, open_plain, open_store, plain_in_memory, store_in_memory};
-use crate::line::{Line, LineFault, read_line};
 use crate::source::SystemFiles;
 use ft_index::FullText;
+use ft_line::{Line, LineFault, read_line};
 use ft_shell::{RunFault, Session, Status};
 use ft_store::Store;
 use shell_text::Settings;
@@ -213,6 +213,3 @@ fn tell<E: Write>(err: &mut E, fault: OpenFault) -> u8 {
     let _ = writeln!(err, "{fault}");
     FAULTY
 }
-
-#[cfg(test)]
-mod tests;

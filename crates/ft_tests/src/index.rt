@@ -1,56 +1,22 @@
 //! Full-text tables over a store in memory.
 
+use crate::store::store_of;
 use ft_index::FullText;
-use ft_store::{RowChange, Spot, Store, StoreFault, Value};
-use ram_disk::Ram;
-use sqlite::FileStore;
-use std::alloc::{AllocError, Global};
+use ft_store::Store;
+use std::alloc::Global;
 use std::test::Fail;
 
-type Memory = Store<FileStore<Ram>>;
-
-fn text(alloc: Global, words: &str) -> Result<String, AllocError> {
-    String::from_str(alloc, words)
-}
-
-// The word `red` in a column that has no other.
-fn put_red(alloc: Global, docid: i64) -> Result<RowChange, AllocError> {
-    let mut spots = Vec::new(alloc);
-    spots.push(Spot {
-        column: 0,
-        pos: 0,
-        place: 0,
-        size: 3,
-    })?;
-    Ok(RowChange::PutEntries(1, text(alloc, "red")?, docid, spots))
-}
-
 // The table 1, `d`, of one column `x`, with the documents 1 and 2, which are `red`.
-fn two_documents(alloc: Global) -> Result<Memory, StoreFault> {
-    let mut store = Store::open_memory(alloc)?;
-    let mut columns = Vec::new(alloc);
-    columns.push(text(alloc, "x")?)?;
-    let table = RowChange::AddTable(1, text(alloc, "d")?, columns, Vec::new(alloc));
-    store.change(&[
-        table,
-        RowChange::PutCell(1, 1, 0, Value::Text(text(alloc, "red")?)),
-        RowChange::PutCell(1, 2, 0, Value::Text(text(alloc, "red")?)),
-        put_red(alloc, 1)?,
-        put_red(alloc, 2)?,
-        RowChange::PutSize(1, 1, 0, 1),
-        RowChange::PutSize(1, 2, 0, 1),
-    ])?;
-    Ok(store)
-}
+const TWO: &str = "INSERT INTO tab VALUES (1, 'd');
+    INSERT INTO col VALUES (1, 0, 'x');
+    INSERT INTO cell VALUES (1, 1, 0, NULL, 'red'), (1, 2, 0, NULL, 'red');
+    INSERT INTO posting VALUES (1, 'red', 1, x'00000003'), (1, 'red', 2, x'00000003');
+    INSERT INTO sizes VALUES (1, 1, 0, 1), (1, 2, 0, 1)";
 
 // The mark of the table, and whether all tables are sound, after these statements.
 fn marks_after(alloc: Global, texts: &str) -> Result<(bool, bool), Fail> {
-    let mut conn = two_documents(alloc)?.into_connection();
-    conn.execute_batch(texts)?;
-    let Ok(store) = Store::adopt(alloc, conn) else {
-        return Err(Fail::new("no store"));
-    };
-    let Ok(mut tables) = FullText::new(alloc, store) else {
+    let texts = format!(in alloc; "{TWO}; {texts}")?;
+    let Ok(mut tables) = FullText::new(alloc, store_of(alloc, texts.as_str())?) else {
         return Err(Fail::new("not taken"));
     };
     let all = tables.check_all()?;

@@ -4,54 +4,45 @@ mod adopting;
 mod packed;
 mod rows;
 
-use ft_store::{CellRow, EntryRow, RowChange, Spot, Store, StoreFault, TabRow, Value};
+use ft_store::{CellRow, EntryRow, RowChange, Store, StoreFault, TabRow, Value};
 use ram_disk::Ram;
-use sqlite::FileStore;
+use sqlite::{Alter, FileStore};
 use std::alloc::{AllocError, Global};
+use std::test::Fail;
 
 type Memory = Store<FileStore<Ram>>;
 
-fn text(alloc: Global, words: &str) -> Result<String, AllocError> {
-    String::from_str(alloc, words)
+/// A store in memory with these rows, which are written as any SQL tool may write them.
+pub(crate) fn store_of(alloc: Global, texts: &str) -> Result<Memory, Fail> {
+    let mut conn = Store::open_memory(alloc)?.into_connection();
+    conn.execute_batch(texts)?;
+    match Store::adopt(alloc, conn) {
+        Ok(store) => Ok(store),
+        Err(_) => Err(Fail::new("no store")),
+    }
+}
+
+// One change by itself: the checker follows each way out of a call, and of a list of changes that may fail there are many.
+fn done<S: Alter>(store: &mut Store<S>, change: RowChange) -> Result<(), StoreFault> {
+    store.change(&[change])
 }
 
 // The table 1, `d`, of one column `x`.
 fn table_d(alloc: Global) -> Result<RowChange, AllocError> {
     let mut columns = Vec::new(alloc);
-    columns.push(text(alloc, "x")?)?;
-    Ok(RowChange::AddTable(1, text(alloc, "d")?, columns, Vec::new(alloc)))
+    columns.push(String::from_str(alloc, "x")?)?;
+    let name = String::from_str(alloc, "d")?;
+    Ok(RowChange::AddTable(1, name, columns, Vec::new(alloc)))
 }
 
 fn put_text(alloc: Global, docid: i64, words: &str) -> Result<RowChange, AllocError> {
-    Ok(RowChange::PutCell(1, docid, 0, Value::Text(text(alloc, words)?)))
-}
-
-// A term at one place of a document.
-fn put_term(
-    alloc: Global,
-    term: &str,
-    docid: i64,
-    pos: i64,
-    place: i64,
-    size: i64,
-) -> Result<RowChange, AllocError> {
-    let mut spots = Vec::new(alloc);
-    spots.push(Spot {
-        column: 0,
-        pos,
-        place,
-        size,
-    })?;
-    Ok(RowChange::PutEntries(1, text(alloc, term)?, docid, spots))
-}
-
-fn change(store: &mut Memory, changes: &[RowChange]) -> Result<(), StoreFault> {
-    store.change(changes)
+    let text = String::from_str(alloc, words)?;
+    Ok(RowChange::PutCell(1, docid, 0, Value::Text(text)))
 }
 
 fn value_text(alloc: Global, value: &Value) -> Result<String, AllocError> {
     match value {
-        Value::Null => text(alloc, "NULL"),
+        Value::Null => String::from_str(alloc, "NULL"),
         Value::Int(number) => format!(in alloc; "{number}"),
         Value::Text(words) => format!(in alloc; "'{words}'"),
     }
@@ -60,14 +51,8 @@ fn value_text(alloc: Global, value: &Value) -> Result<String, AllocError> {
 fn tables_text(alloc: Global, rows: &[TabRow]) -> Result<String, AllocError> {
     let mut all = String::new(alloc);
     for row in rows {
-        all.push_str(format!(in alloc;
-            "{} {} {} {};",
-            row.id,
-            row.name,
-            row.columns.len(),
-            row.skipped.len()
-        )?
-        .as_str())?;
+        let (columns, skipped) = (row.columns.len(), row.skipped.len());
+        write!(all, "{} {} {columns} {skipped};", row.id, row.name)?;
     }
     Ok(all)
 }
@@ -76,7 +61,7 @@ fn cells_text(alloc: Global, rows: &[CellRow]) -> Result<String, AllocError> {
     let mut all = String::new(alloc);
     for row in rows {
         let value = value_text(alloc, &row.value)?;
-        all.push_str(format!(in alloc; "{} {} {value};", row.docid, row.column)?.as_str())?;
+        write!(all, "{} {} {value};", row.docid, row.column)?;
     }
     Ok(all)
 }
@@ -85,11 +70,12 @@ fn entries_text(alloc: Global, rows: &[EntryRow]) -> Result<String, AllocError> 
     let mut all = String::new(alloc);
     for row in rows {
         let s = row.spot;
-        all.push_str(format!(in alloc;
-            "{} {} {} {} {} {};",
-            row.term, row.docid, s.column, s.pos, s.place, s.size
-        )?
-        .as_str())?;
+        let (column, pos, place, size) = (s.column, s.pos, s.place, s.size);
+        write!(
+            all,
+            "{} {} {column} {pos} {place} {size};",
+            row.term, row.docid
+        )?;
     }
     Ok(all)
 }
@@ -107,7 +93,7 @@ fn entries(store: &mut Memory, alloc: Global) -> Result<String, StoreFault> {
 fn sizes(store: &mut Memory, alloc: Global) -> Result<String, StoreFault> {
     let mut all = String::new(alloc);
     for row in store.sizes(1)? {
-        all.push_str(format!(in alloc; "{} {} {};", row.docid, row.column, row.n)?.as_str())?;
+        write!(all, "{} {} {};", row.docid, row.column, row.n)?;
     }
     Ok(all)
 }

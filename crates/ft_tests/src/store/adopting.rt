@@ -1,6 +1,6 @@
 //! Databases that are taken as stores, and those that aren't.
 
-use super::{cells, change, put_text, table_d};
+use super::{cells, done, put_text, table_d};
 use ft_store::{Store, StoreFault};
 use ram_disk::open_ram;
 use sqlite::Error;
@@ -17,7 +17,8 @@ fn empty_database_becomes_a_store(rt: HostRuntime) -> Result<(), Fail> {
         return Err(Fail::new("refused again"));
     };
     assert_eq!(&rt; store.tables()?.len(), 0);
-    change(&mut store, &[table_d(alloc)?, put_text(alloc, 7, "p")?])?;
+    done(&mut store, table_d(alloc)?)?;
+    done(&mut store, put_text(alloc, 7, "p")?)?;
     let Ok(mut store) = Store::adopt(alloc, store.into_connection()) else {
         return Err(Fail::new("refused at last"));
     };
@@ -27,8 +28,7 @@ fn empty_database_becomes_a_store(rt: HostRuntime) -> Result<(), Fail> {
 
 // Why a database with these tables isn't taken, and how many tables it has afterwards.
 fn refusal(alloc: Global, texts: &str) -> Result<Option<(StoreFault, i64)>, Error> {
-    let conn = open_ram(alloc)?;
-    let mut conn = conn;
+    let mut conn = open_ram(alloc)?;
     conn.execute_batch(texts)?;
     match Store::adopt(alloc, conn) {
         Ok(_) => Ok(None),
@@ -97,7 +97,8 @@ fn file_is_opened_again(rt: HostRuntime) -> Result<(), Fail> {
     };
     remove_files(&rt, name)?;
     let mut store = Store::open_file(&rt, name)?;
-    store.change(&[table_d(alloc)?, put_text(alloc, 7, "p")?])?;
+    done(&mut store, table_d(alloc)?)?;
+    done(&mut store, put_text(alloc, 7, "p")?)?;
     drop(store);
     let mut store = Store::open_file(&rt, name)?;
     assert_eq!(&rt; store.cells(1)?.len(), 1);

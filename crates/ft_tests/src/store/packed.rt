@@ -1,20 +1,15 @@
 //! Packed lists as they stand in the database.
 
-use super::{entries, put_term, table_d};
+use super::{done, entries, store_of};
 use ft_store::{RowChange, Spot, Store, StoreFault};
 use std::alloc::Global;
 use std::test::Fail;
 
 // What the entries of a store are read as whose one posting row has this list.
 fn read_list(alloc: Global, list: &str) -> Result<Result<String, StoreFault>, Fail> {
-    let mut store = Store::open_memory(alloc)?;
-    store.change(&[table_d(alloc)?, put_term(alloc, "a", 1, 0, 0, 1)?])?;
-    let mut conn = store.into_connection();
-    conn.execute_batch(format!(in alloc; "UPDATE posting SET list = x'{list}'")?.as_str())?;
-    match Store::adopt(alloc, conn) {
-        Ok(mut store) => Ok(entries(&mut store, alloc)),
-        Err(_) => Err(Fail::new("refused")),
-    }
+    let row = format!(in alloc; "INSERT INTO posting VALUES (1, 'a', 1, x'{list}')")?;
+    let mut store = store_of(alloc, row.as_str())?;
+    Ok(entries(&mut store, alloc))
 }
 
 #[test]
@@ -53,14 +48,12 @@ fn other_bytes_are_damaged(rt: HostRuntime) -> Result<(), Fail> {
 
 // The list of a term at these places, as hexadecimal digits.
 fn list_of(alloc: Global, spots: Vec<Spot>) -> Result<String, Fail> {
-    let mut store = Store::open_memory(alloc)?;
     let term = String::from_str(alloc, "a")?;
-    store.change(&[table_d(alloc)?, RowChange::PutEntries(1, term, 1, spots)])?;
+    let mut store = Store::open_memory(alloc)?;
+    done(&mut store, RowChange::PutEntries(1, term, 1, spots))?;
     let mut conn = store.into_connection();
-    let digits: String = conn
-        .query_row("SELECT hex(list) FROM posting", &[])?
-        .get(0)?;
-    Ok(digits)
+    let row = conn.query_row("SELECT hex(list) FROM posting", &[])?;
+    Ok(row.get(0)?)
 }
 
 #[test]

@@ -1,147 +1,145 @@
 //! Changes of rows, and the reads after them.
 
 use super::{
-    Memory, cells, cells_text, change, entries, entries_text, put_term, put_text, sizes, table_d,
-    tables_text, text,
+    Memory, cells, cells_text, done, entries, entries_text, put_text, sizes, store_of, table_d,
+    tables_text,
 };
-use ft_store::{RowChange, Store, StoreFault, Value};
-use std::alloc::Global;
+use ft_store::{RowChange, Spot, Store, StoreFault, Value};
+use std::alloc::{AllocError, Global};
+use std::test::Fail;
 
-// The table d with the documents `green` and `red pear`, the first of which was `red apple`.
-fn pears(alloc: Global) -> Result<Memory, StoreFault> {
-    let mut store = Store::open_memory(alloc)?;
-    change(
-        &mut store,
-        &[
-            table_d(alloc)?,
-            put_text(alloc, 1, "red apple")?,
-            put_text(alloc, 2, "red pear")?,
-            put_term(alloc, "apple", 1, 1, 4, 5)?,
-            put_term(alloc, "pear", 2, 1, 4, 4)?,
-            put_term(alloc, "red", 1, 0, 0, 3)?,
-            put_term(alloc, "red", 2, 0, 0, 3)?,
-            RowChange::PutSize(1, 1, 0, 2),
-            RowChange::PutSize(1, 2, 0, 2),
-        ],
-    )?;
-    change(
-        &mut store,
-        &[
-            put_text(alloc, 1, "green")?,
-            RowChange::DropEntries(1, text(alloc, "apple")?, 1),
-            RowChange::DropEntries(1, text(alloc, "red")?, 1),
-            put_term(alloc, "green", 1, 0, 0, 5)?,
-            RowChange::PutSize(1, 1, 0, 1),
-        ],
-    )?;
-    Ok(store)
+// The table 1, `d`, of one column `x`, with the documents 1, `green`, and 2, `red pear`.
+const PEARS: &str = "INSERT INTO tab VALUES (1, 'd');
+    INSERT INTO col VALUES (1, 0, 'x');
+    INSERT INTO cell VALUES (1, 1, 0, NULL, 'green'), (1, 2, 0, NULL, 'red pear');
+    INSERT INTO posting VALUES (1, 'green', 1, x'00000005'), (1, 'pear', 2, x'00010404'), (1, 'red', 2, x'00000003');
+    INSERT INTO sizes VALUES (1, 1, 0, 1), (1, 2, 0, 2)";
+
+// A term at the first place of a document, with a size in bytes.
+fn put_term(alloc: Global, term: &str, docid: i64, size: i64) -> Result<RowChange, AllocError> {
+    let mut spots = Vec::new(alloc);
+    spots.push(Spot {
+        column: 0,
+        pos: 0,
+        place: 0,
+        size,
+    })?;
+    let term = String::from_str(alloc, term)?;
+    Ok(RowChange::PutEntries(1, term, docid, spots))
 }
 
 #[test]
-fn puts_and_drops_cells(rt: HostRuntime) -> Result<(), StoreFault> {
+fn reads_all_rows_of_a_table(rt: HostRuntime) -> Result<(), Fail> {
     let alloc = rt.alloc();
-    let mut store = Store::open_memory(alloc)?;
-    change(
-        &mut store,
-        &[
-            table_d(alloc)?,
-            put_text(alloc, 7, "p")?,
-            RowChange::DropCells(1, 7),
-            RowChange::PutCell(1, 8, 0, Value::Null),
-        ],
-    )?;
-    assert_eq!(&rt; cells(&mut store, alloc)?.as_str(), "8 0 NULL;");
-    assert_eq!(&rt; store.last_docid(1)?, Some(8));
-    assert_eq!(&rt; store.last_docid(2)?, None);
-    assert_eq!(&rt; store.rows_read(), 2);
+    let mut store = store_of(alloc, PEARS)?;
+    let tables = store.tables()?;
+    assert_eq!(&rt; tables_text(alloc, tables.as_slice())?.as_str(), "1 d 1 0;");
+    let found = cells(&mut store, alloc)?;
+    assert_eq!(&rt; found.as_str(), "1 0 'green';2 0 'red pear';");
+    let found = entries(&mut store, alloc)?;
+    assert_eq!(&rt;
+        found.as_str(),
+        "green 1 0 0 0 5;pear 2 0 1 4 4;red 2 0 0 0 3;"
+    );
+    let found = sizes(&mut store, alloc)?;
+    assert_eq!(&rt; found.as_str(), "1 0 1;2 0 2;");
     store.is_in_order();
     Ok(())
 }
 
 #[test]
-fn keeps_the_rows_of_documents(rt: HostRuntime) -> Result<(), StoreFault> {
+fn reads_the_rows_that_are_asked_for(rt: HostRuntime) -> Result<(), Fail> {
     let alloc = rt.alloc();
-    let mut store = pears(alloc)?;
+    let mut store = store_of(alloc, PEARS)?;
+    let rows = store.document(1, 2)?;
     assert_eq!(&rt;
-        entries(&mut store, alloc)?.as_str(),
-        "green 1 0 0 0 5;pear 2 0 1 4 4;red 2 0 0 0 3;"
-    );
-    assert_eq!(&rt; sizes(&mut store, alloc)?.as_str(), "1 0 1;2 0 2;");
-    let tables = store.tables()?;
-    assert_eq!(&rt; tables_text(alloc, tables.as_slice())?.as_str(), "1 d 1 0;");
-    let document = store.document(1, 2)?;
-    assert_eq!(&rt;
-        cells_text(alloc, document.as_slice())?.as_str(),
+        cells_text(alloc, rows.as_slice())?.as_str(),
         "2 0 'red pear';"
     );
+    let rows = store.term(1, "red")?;
+    assert_eq!(&rt;
+        entries_text(alloc, rows.as_slice())?.as_str(),
+        "red 2 0 0 0 3;"
+    );
+    let rows = store.prefix(1, "re")?;
+    assert_eq!(&rt;
+        entries_text(alloc, rows.as_slice())?.as_str(),
+        "red 2 0 0 0 3;"
+    );
+    assert_eq!(&rt; store.last_docid(1)?, Some(2));
+    assert_eq!(&rt; store.last_docid(2)?, None);
+    assert_eq!(&rt; store.rows_read(), 4);
+    Ok(())
+}
+
+// A document that changes, and one that goes.
+fn changed(alloc: Global, store: &mut Memory) -> Result<(), StoreFault> {
+    done(store, put_text(alloc, 1, "red")?)?;
+    done(
+        store,
+        RowChange::DropEntries(1, String::from_str(alloc, "green")?, 1),
+    )?;
+    done(store, put_term(alloc, "red", 1, 3)?)?;
+    done(store, RowChange::PutSize(1, 1, 0, 7))?;
+    done(store, RowChange::DropCells(1, 2))?;
+    done(store, RowChange::DropSize(1, 2, 0))?;
+    done(store, RowChange::PutCell(1, 3, 0, Value::Null))
+}
+
+#[test]
+fn changes_rows(rt: HostRuntime) -> Result<(), Fail> {
+    let alloc = rt.alloc();
+    let mut store = store_of(alloc, PEARS)?;
+    changed(alloc, &mut store)?;
+    let found = cells(&mut store, alloc)?;
+    assert_eq!(&rt; found.as_str(), "1 0 'red';3 0 NULL;");
+    let found = entries(&mut store, alloc)?;
+    assert_eq!(&rt;
+        found.as_str(),
+        "pear 2 0 1 4 4;red 1 0 0 0 3;red 2 0 0 0 3;"
+    );
+    let found = sizes(&mut store, alloc)?;
+    assert_eq!(&rt; found.as_str(), "1 0 7;");
     Ok(())
 }
 
 #[test]
-fn finds_terms(rt: HostRuntime) -> Result<(), StoreFault> {
+fn clears_what_a_table_had(rt: HostRuntime) -> Result<(), Fail> {
     let alloc = rt.alloc();
-    let mut store = pears(alloc)?;
-    let term = store.term(1, "red")?;
-    assert_eq!(&rt;
-        entries_text(alloc, term.as_slice())?.as_str(),
-        "red 2 0 0 0 3;"
-    );
-    let prefix = store.prefix(1, "re")?;
-    assert_eq!(&rt;
-        entries_text(alloc, prefix.as_slice())?.as_str(),
-        "red 2 0 0 0 3;"
-    );
-    let all = store.prefix(1, "")?;
-    assert_eq!(&rt; all.len(), 3);
-    Ok(())
-}
-
-#[test]
-fn clears_what_a_table_had(rt: HostRuntime) -> Result<(), StoreFault> {
-    let alloc = rt.alloc();
-    let mut store = pears(alloc)?;
-    change(&mut store, &[RowChange::ClearIndex(1)])?;
+    let mut store = store_of(alloc, PEARS)?;
+    done(&mut store, RowChange::ClearIndex(1))?;
     assert_eq!(&rt; entries(&mut store, alloc)?.as_str(), "");
     assert_eq!(&rt; sizes(&mut store, alloc)?.as_str(), "");
-    assert_eq!(&rt;
-        cells(&mut store, alloc)?.as_str(),
-        "1 0 'green';2 0 'red pear';"
-    );
-    change(&mut store, &[RowChange::DropTable(1), table_d(alloc)?])?;
+    done(&mut store, RowChange::DropTable(1))?;
+    done(&mut store, table_d(alloc)?)?;
     assert_eq!(&rt; cells(&mut store, alloc)?.as_str(), "");
     Ok(())
 }
 
 // A row of a list that can't be packed: no change of the call is made.
 #[test]
-fn changes_all_or_none(rt: HostRuntime) -> Result<(), StoreFault> {
+fn changes_all_or_none(rt: HostRuntime) -> Result<(), Fail> {
     let alloc = rt.alloc();
-    let mut store = pears(alloc)?;
-    let refused = change(
-        &mut store,
-        &[
-            RowChange::DropCells(1, 1),
-            put_term(alloc, "p", 1, 0, 0, 0)?,
-        ],
-    );
+    let bad = put_term(alloc, "p", 1, 0)?;
+    let mut store = store_of(alloc, PEARS)?;
+    let refused = store.change(&[RowChange::DropCells(1, 1), bad]);
     assert_eq!(&rt; refused, Err(StoreFault::Damaged));
-    assert_eq!(&rt;
-        cells(&mut store, alloc)?.as_str(),
-        "1 0 'green';2 0 'red pear';"
-    );
+    let found = cells(&mut store, alloc)?;
+    assert_eq!(&rt; found.as_str(), "1 0 'green';2 0 'red pear';");
     Ok(())
 }
 
 #[test]
-fn notes_keep_the_latest_spelling(rt: HostRuntime) -> Result<(), StoreFault> {
+fn notes_keep_the_latest_spelling(rt: HostRuntime) -> Result<(), Fail> {
     let alloc = rt.alloc();
     let mut store = Store::open_memory(alloc)?;
-    change(
+    done(
         &mut store,
-        &[
-            RowChange::Note(text(alloc, "Plain")?),
-            RowChange::Note(text(alloc, "PLAIN")?),
-        ],
+        RowChange::Note(String::from_str(alloc, "Plain")?),
+    )?;
+    done(
+        &mut store,
+        RowChange::Note(String::from_str(alloc, "PLAIN")?),
     )?;
     let names = store.noted()?;
     assert_eq!(&rt; names.len(), 1);

@@ -1,0 +1,6 @@
+//! The command line of the program: what its words mean.
+#![tactic(auto)]
+
+mod line;
+
+pub use crate::line::{Line, LineFault, read_line};

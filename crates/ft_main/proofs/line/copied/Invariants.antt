@@ -1,6 +1,0 @@
--- the texts so far
-use Rattle.std.proofs.Common.{◌≡◌, map, take, string_bytes}
-use Rattle.ft_main.proofs.line.copied.Given as goal
-
-abbrev pub invariant-loop-text : goal.invariant-loop-text
-invariant-loop-text l = map string_bytes l.copies.items ≡ map (λ text. text.now) (take l.text-index l.texts)
