@@ -1,8 +1,9 @@
 //! Full-text tables over a store in memory.
 
-use crate::store::store_of;
+use crate::store::with_rows;
 use ft_index::FullText;
 use ft_store::Store;
+use sqlite::Alter;
 use std::alloc::Global;
 use std::test::Fail;
 
@@ -14,14 +15,22 @@ const TWO: &str = "INSERT INTO tab VALUES (1, 'd');
     INSERT INTO sizes VALUES (1, 1, 0, 1), (1, 2, 0, 1)";
 
 // The mark of the table, and whether all tables are sound, after these statements.
-fn marks_after(alloc: Global, texts: &str) -> Result<(bool, bool), Fail> {
-    let texts = format!(in alloc; "{TWO}; {texts}")?;
-    let Ok(mut tables) = FullText::new(alloc, store_of(alloc, texts.as_str())?) else {
+fn marks<S: Alter + Drop>(
+    alloc: Global,
+    store: Store<S>,
+    texts: &str,
+) -> Result<(bool, bool), Fail> {
+    let store = with_rows(alloc, with_rows(alloc, store, TWO)?, texts)?;
+    let Ok(mut tables) = FullText::new(alloc, store) else {
         return Err(Fail::new("not taken"));
     };
     let all = tables.check_all()?;
     let known = tables.tables();
     Ok((known.len() == 1 && known[0].sound, all))
+}
+
+fn marks_after(alloc: Global, texts: &str) -> Result<(bool, bool), Fail> {
+    marks(alloc, Store::open_memory(alloc)?, texts)
 }
 
 #[test]

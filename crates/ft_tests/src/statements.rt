@@ -2,10 +2,12 @@
 
 use ft_content::{Fault, Grid, Reply, TableInfo, Value};
 use ft_statements::{
-    Class, StatementFault, apply, dot_command, fault_line, fault_text, listed_tables, print_text,
-    read_plain, read_statement, split_text, statement_text, usage_text, write_reply,
+    Class, DotCommand, StatementFault, apply, dot_command, fault_line, fault_text, listed_tables,
+    print_text, read_plain, read_statement, split_text, statement_text, usage_text, write_reply,
 };
-use shell_text::{Mode, SetFault, Settings, SplitFault, dot_words, sql_words};
+use shell_text::{Mode, Settings, SplitFault, dot_words, sql_words};
+use std::alloc::Global;
+use std::process::Abort;
 use std::test::Fail;
 
 // The full-text tables `d` and `mail`.
@@ -43,115 +45,123 @@ fn read(rt: &HostRuntime, text: &str) -> Result<String, Fail> {
     }
 }
 
+// Statements and what they are read as.
+const STATEMENTS: [(&str, &str); 16] = [
+    (
+        "CREATE VIRTUAL TABLE IF NOT EXISTS x USING fts4(a TEXT NOT NULL, b CHECK(length(b)<9), tokenize=simple);",
+        "Create { table: \"x\", module: \"fts4\", options: [(\"tokenize\", \"simple\")], columns: [\"a\", \"b\"], if_new: true }",
+    ),
+    (
+        "DROP TABLE IF EXISTS d;",
+        "Drop { table: \"d\", if_there: true }",
+    ),
+    (
+        "INSERT INTO d(docid, x) VALUES(-7, 'it''s'),(NULL, +3)",
+        "Insert { table: \"d\", columns: Some([\"docid\", \"x\"]), rows: [[Int(-7), Text(\"it's\")], [Null, Int(3)]] }",
+    ),
+    (
+        "INSERT INTO d(D) VALUES('rebuild');",
+        "Rebuild { table: \"d\" }",
+    ),
+    (
+        "UPDATE d SET x='green', \"y\" = 1 WHERE docid=1;",
+        "Update { table: \"d\", sets: [(\"x\", Text(\"green\")), (\"y\", Int(1))], filter: Docid(1) }",
+    ),
+    (
+        "DELETE FROM [d] WHERE x MATCH 'red';",
+        "Delete { table: \"d\", filter: Match { name: \"x\", query: \"red\" } }",
+    ),
+    (
+        "SELECT docid, offsets(mail), * FROM mail WHERE mail MATCH 'world' ORDER BY docid LIMIT 2 OFFSET 1;",
+        "Select { table: \"mail\", items: List([Name(\"docid\"), Offsets(\"mail\"), All]), filter: Match { name: \"mail\", query: \"world\" }, limit: Some(2), offset: 1 }",
+    ),
+    (
+        "select count(*) from d",
+        "Select { table: \"d\", items: Count, filter: All, limit: None, offset: 0 }",
+    ),
+    ("SELECT a FROM mail, d;", "syntax"),
+    ("CREATE TABLE d(a);", "syntax"),
+    ("CREATE VIRTUAL TABLE x;", "syntax"),
+    ("DELETE FROM d LIMIT 1", "syntax"),
+    ("SELECT 'FROM d';", "plain"),
+    ("INSERT INTO p SELECT x, d FROM q", "plain"),
+    ("DROP TABLE IF EXISTS", "plain"),
+    ("", "plain"),
+];
+
 #[test]
-fn commands_are_read(rt: HostRuntime) -> Result<(), Fail> {
-    let rows = [
-        (
-            "CREATE VIRTUAL TABLE IF NOT EXISTS x USING fts4(a TEXT NOT NULL, b CHECK(length(b)<9), tokenize=simple);",
-            "Create { table: \"x\", module: \"fts4\", options: [(\"tokenize\", \"simple\")], columns: [\"a\", \"b\"], if_new: true }",
-        ),
-        (
-            "DROP TABLE IF EXISTS d;",
-            "Drop { table: \"d\", if_there: true }",
-        ),
-        (
-            "INSERT INTO d(docid, x) VALUES(-7, 'it''s'),(NULL, +3)",
-            "Insert { table: \"d\", columns: Some([\"docid\", \"x\"]), rows: [[Int(-7), Text(\"it's\")], [Null, Int(3)]] }",
-        ),
-        (
-            "INSERT INTO d(D) VALUES('rebuild');",
-            "Rebuild { table: \"d\" }",
-        ),
-        (
-            "UPDATE d SET x='green', \"y\" = 1 WHERE docid=1;",
-            "Update { table: \"d\", sets: [(\"x\", Text(\"green\")), (\"y\", Int(1))], filter: Docid(1) }",
-        ),
-        (
-            "DELETE FROM [d] WHERE x MATCH 'red';",
-            "Delete { table: \"d\", filter: Match { name: \"x\", query: \"red\" } }",
-        ),
-        (
-            "SELECT docid, offsets(mail), * FROM mail WHERE mail MATCH 'world' ORDER BY docid LIMIT 2 OFFSET 1;",
-            "Select { table: \"mail\", items: List([Name(\"docid\"), Offsets(\"mail\"), All]), filter: Match { name: \"mail\", query: \"world\" }, limit: Some(2), offset: 1 }",
-        ),
-        (
-            "select count(*) from d",
-            "Select { table: \"d\", items: Count, filter: All, limit: None, offset: 0 }",
-        ),
-    ];
-    for (text, command) in rows {
-        assert_eq!(rt; read(&rt, text)?.as_str(), command);
+fn statements_have_classes(rt: HostRuntime) -> Result<(), Fail> {
+    for (text, class) in &STATEMENTS {
+        assert_eq!(rt; read(&rt, text)?.as_str(), *class);
     }
     Ok(())
 }
 
-#[test]
-fn other_statements(rt: HostRuntime) -> Result<(), Fail> {
-    for text in [
-        "SELECT a FROM mail, d;",
-        "CREATE TABLE d(a);",
-        "CREATE VIRTUAL TABLE x;",
-        "DELETE FROM d LIMIT 1",
-    ] {
-        assert_eq!(rt; read(&rt, text)?.as_str(), "syntax");
-    }
-    for text in [
-        "SELECT 'FROM d';",
-        "INSERT INTO p SELECT x, d FROM q",
-        "DROP TABLE IF EXISTS",
-        "",
-    ] {
-        assert_eq!(rt; read(&rt, text)?.as_str(), "plain");
-    }
-    Ok(())
+// What is known of a plain statement.
+fn read_as_plain(alloc: Global, text: &str) -> Result<String, Fail> {
+    let words = sql_words(alloc, text)?;
+    let statement = read_plain(alloc, text, words.as_slice())?;
+    Ok(format!(in alloc; "{statement:?}")?)
 }
+
+const PLAIN: [(&str, &str); 2] = [
+    (
+        "CREATE TEMP TABLE IF NOT EXISTS [a b](x);",
+        "PlainStatement { asks: false, made: Some(\"a b\") }",
+    ),
+    (
+        "DELETE FROM p RETURNING a;",
+        "PlainStatement { asks: true, made: None }",
+    ),
+];
 
 #[test]
 fn plain_statements(rt: HostRuntime) -> Result<(), Fail> {
-    let text = "CREATE TEMP TABLE IF NOT EXISTS [a b](x);";
-    let words = sql_words(rt.alloc(), text)?;
-    let statement = read_plain(rt.alloc(), text, words.as_slice())?;
-    let shown = format!(in rt.alloc(); "{statement:?}")?;
-    assert_eq!(rt;
-        shown.as_str(),
-        "PlainStatement { asks: false, made: Some(\"a b\") }"
-    );
-    let text = "DELETE FROM p RETURNING a;";
-    let words = sql_words(rt.alloc(), text)?;
-    let statement = read_plain(rt.alloc(), text, words.as_slice())?;
-    assert_eq!(rt; statement.asks, true);
+    for (text, seen) in &PLAIN {
+        assert_eq!(rt; read_as_plain(rt.alloc(), text)?.as_str(), *seen);
+    }
     Ok(())
 }
 
+// What the words of a dot line say.
+fn read_dots(alloc: Global, line: &str) -> Result<String, Fail> {
+    let command = command_of(alloc, line)?;
+    Ok(format!(in alloc; "{command:?}")?)
+}
+
+fn command_of(alloc: Global, line: &str) -> Result<DotCommand, Fail> {
+    let words = dot_words(alloc, line)?;
+    Ok(dot_command(alloc, words.as_slice())?)
+}
+
+const DOTS: [(&str, &str); 15] = [
+    ("", "Nothing"),
+    ("mode csv", "Mode(Csv)"),
+    ("mode", "Usage(\".mode list|csv|column|quote\")"),
+    ("header ON", "Headers(true)"),
+    ("separator ';'", "Separator(\";\")"),
+    ("nullvalue -", "Null(\"-\")"),
+    ("print a 'b c'", "Print([\"a\", \"b c\"])"),
+    ("echo no", "Echo(false)"),
+    ("bail 1", "Bail(true)"),
+    (
+        "import --skip 1 --csv 'a b.csv' t",
+        "Import(Import { csv: true, skip: Some(1), file: \"a b.csv\", table: \"t\" })",
+    ),
+    (
+        "import --csv t",
+        "Usage(\".import [--csv] [--skip N] FILE TABLE\")",
+    ),
+    ("tables", "Tables"),
+    ("exit", "Quit"),
+    ("quit 1", "Usage(\".quit\")"),
+    ("nosuch", "Unknown"),
+];
+
 #[test]
 fn dot_commands(rt: HostRuntime) -> Result<(), Fail> {
-    let rows = [
-        ("", "Nothing"),
-        ("mode csv", "Mode(Csv)"),
-        ("mode", "Usage(\".mode list|csv|column|quote\")"),
-        ("header ON", "Headers(true)"),
-        ("separator ';'", "Separator(\";\")"),
-        ("nullvalue -", "Null(\"-\")"),
-        ("print a 'b c'", "Print([\"a\", \"b c\"])"),
-        ("echo no", "Echo(false)"),
-        ("bail 1", "Bail(true)"),
-        (
-            "import --skip 1 --csv 'a b.csv' t",
-            "Import(Import { csv: true, skip: Some(1), file: \"a b.csv\", table: \"t\" })",
-        ),
-        (
-            "import --csv t",
-            "Usage(\".import [--csv] [--skip N] FILE TABLE\")",
-        ),
-        ("tables", "Tables"),
-        ("exit", "Quit"),
-        ("quit 1", "Usage(\".quit\")"),
-        ("nosuch", "Unknown"),
-    ];
-    for (line, command) in rows {
-        let words = dot_words(rt.alloc(), line)?;
-        let read = dot_command(rt.alloc(), words.as_slice())?;
-        assert_eq!(rt; format!(in rt.alloc(); "{read:?}")?.as_str(), command);
+    for (line, command) in &DOTS {
+        assert_eq!(rt; read_dots(rt.alloc(), line)?.as_str(), *command);
     }
     Ok(())
 }
@@ -210,35 +220,48 @@ fn names_of_tables(rt: HostRuntime) -> Result<(), Fail> {
     Ok(())
 }
 
+// Sets what the command of a line sets.
+fn set(alloc: Global, settings: &mut Settings, line: &str) -> Result<bool, Fail> {
+    let command = command_of(alloc, line)?;
+    Ok(apply(settings, &command).is_ok())
+}
+
+const SETTING: [&str; 7] = [
+    "mode csv",
+    "separator ;",
+    "nullvalue -",
+    "headers on",
+    "echo yes",
+    "bail 1",
+    "tables",
+];
+
+fn settings_of(rt: &impl Abort, alloc: Global) -> Result<Settings, Fail> {
+    let mut settings = Settings::new(alloc);
+    for line in &SETTING {
+        assert!(rt; set(alloc, &mut settings, line)?);
+    }
+    assert!(rt; !set(alloc, &mut settings, "separator ab")?);
+    Ok(settings)
+}
+
 #[test]
 fn settings_by_commands(rt: HostRuntime) -> Result<(), Fail> {
-    let mut settings = Settings::new(rt.alloc());
-    for line in [
-        "mode csv",
-        "separator ;",
-        "nullvalue -",
-        "headers on",
-        "echo yes",
-        "bail 1",
-        "tables",
-    ] {
-        let words = dot_words(rt.alloc(), line)?;
-        let command = dot_command(rt.alloc(), words.as_slice())?;
-        assert!(rt; apply(&mut settings, &command).is_ok());
-    }
+    let settings = settings_of(&rt, rt.alloc())?;
     assert_eq!(rt; settings.mode(), Mode::Csv);
     assert_eq!(rt; settings.separator(), ";");
     assert_eq!(rt; settings.null(), "-");
     assert_eq!(rt; settings.headers(), Some(true));
     assert!(rt; settings.echo() && settings.bail());
-    let words = dot_words(rt.alloc(), "separator ab")?;
-    let command = dot_command(rt.alloc(), words.as_slice())?;
-    assert!(rt; matches!(apply(&mut settings, &command), Err(SetFault::BadSeparator)));
+    Ok(())
+}
+
+#[test]
+fn printed_words(rt: HostRuntime) -> Result<(), Fail> {
     let words = texts(&rt, &["a", "b c"])?;
-    assert_eq!(rt;
-        print_text(rt.alloc(), words.as_slice())?.as_str(),
-        "a b c\n"
-    );
-    assert_eq!(rt; print_text(rt.alloc(), &[])?.as_str(), "\n");
+    let text = print_text(rt.alloc(), words.as_slice())?;
+    assert_eq!(rt; text.as_str(), "a b c\n");
+    let text = print_text(rt.alloc(), &[])?;
+    assert_eq!(rt; text.as_str(), "\n");
     Ok(())
 }

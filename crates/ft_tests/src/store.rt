@@ -1,20 +1,22 @@
-//! A store of full-text rows, in memory and in a file.
+//! A store of full-text rows, in memory and in a file. What is done with one is generic in what it stands on: the checker then follows
+//! no way out of a call into the parts of a disk.
 
 mod adopting;
 mod packed;
 mod rows;
 
 use ft_store::{CellRow, EntryRow, RowChange, Store, StoreFault, TabRow, Value};
-use ram_disk::Ram;
-use sqlite::{Alter, FileStore};
+use sqlite::Alter;
 use std::alloc::{AllocError, Global};
 use std::test::Fail;
 
-type Memory = Store<FileStore<Ram>>;
-
-/// A store in memory with these rows, which are written as any SQL tool may write them.
-pub(crate) fn store_of(alloc: Global, texts: &str) -> Result<Memory, Fail> {
-    let mut conn = Store::open_memory(alloc)?.into_connection();
+/// The store with these rows too, which are written as any SQL tool may write them.
+pub(crate) fn with_rows<S: Alter + Drop>(
+    alloc: Global,
+    store: Store<S>,
+    texts: &str,
+) -> Result<Store<S>, Fail> {
+    let mut conn = store.into_connection();
     conn.execute_batch(texts)?;
     match Store::adopt(alloc, conn) {
         Ok(store) => Ok(store),
@@ -80,17 +82,17 @@ fn entries_text(alloc: Global, rows: &[EntryRow]) -> Result<String, AllocError> 
     Ok(all)
 }
 
-fn cells(store: &mut Memory, alloc: Global) -> Result<String, StoreFault> {
+fn cells<S: Alter>(store: &mut Store<S>, alloc: Global) -> Result<String, StoreFault> {
     let rows = store.cells(1)?;
     Ok(cells_text(alloc, rows.as_slice())?)
 }
 
-fn entries(store: &mut Memory, alloc: Global) -> Result<String, StoreFault> {
+fn entries<S: Alter>(store: &mut Store<S>, alloc: Global) -> Result<String, StoreFault> {
     let rows = store.entries(1)?;
     Ok(entries_text(alloc, rows.as_slice())?)
 }
 
-fn sizes(store: &mut Memory, alloc: Global) -> Result<String, StoreFault> {
+fn sizes<S: Alter>(store: &mut Store<S>, alloc: Global) -> Result<String, StoreFault> {
     let mut all = String::new(alloc);
     for row in store.sizes(1)? {
         write!(all, "{} {} {};", row.docid, row.column, row.n)?;

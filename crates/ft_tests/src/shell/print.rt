@@ -162,10 +162,10 @@ const GRIDS: [(Mode, &str, &[&str], &[&[&str]], &str); 7] = [
 #[test]
 fn grids_in_each_mode(rt: HostRuntime) -> Result<(), Fail> {
     let alloc = rt.alloc();
-    for (mode, separator, names, spelled, want) in GRIDS {
-        let settings = settings_of(alloc, mode, separator)?;
+    for (mode, separator, names, spelled, want) in &GRIDS {
+        let settings = settings_of(alloc, *mode, separator)?;
         let grid = grid_of(alloc, names, spelled)?;
-        assert_eq!(rt; printed_by(alloc, &settings, &grid)?.as_str(), want);
+        assert_eq!(rt; printed_by(alloc, &settings, &grid)?.as_str(), *want);
     }
     Ok(())
 }

@@ -1,67 +1,66 @@
 //! Databases that are taken as stores, and those that aren't.
 
 use super::{cells, done, put_text, table_d};
-use ft_store::{Store, StoreFault};
+use ft_store::{AdoptFault, Store, StoreFault};
 use ram_disk::open_ram;
-use sqlite::Error;
+use sqlite::{Alter, Connection};
 use std::alloc::Global;
 use std::test::Fail;
 
-#[test]
-fn empty_database_becomes_a_store(rt: HostRuntime) -> Result<(), Fail> {
-    let alloc = rt.alloc();
-    let Ok(store) = Store::adopt(alloc, open_ram(alloc)?) else {
-        return Err(Fail::new("refused"));
-    };
-    let Ok(mut store) = Store::adopt(alloc, store.into_connection()) else {
-        return Err(Fail::new("refused again"));
-    };
-    assert_eq!(&rt; store.tables()?.len(), 0);
+// A database that is taken, and the store that it then is.
+fn taken<S: Alter + Drop>(alloc: Global, conn: Connection<S>) -> Result<Store<S>, Fail> {
+    match Store::adopt(alloc, conn) {
+        Ok(store) => Ok(store),
+        Err(_) => Err(Fail::new("refused")),
+    }
+}
+
+// A database without tables becomes a store, and is one again with what was written.
+fn cells_of_taken<S: Alter + Drop>(alloc: Global, conn: Connection<S>) -> Result<String, Fail> {
+    let mut store = taken(alloc, conn)?;
     done(&mut store, table_d(alloc)?)?;
     done(&mut store, put_text(alloc, 7, "p")?)?;
-    let Ok(mut store) = Store::adopt(alloc, store.into_connection()) else {
-        return Err(Fail::new("refused at last"));
-    };
-    assert_eq!(&rt; cells(&mut store, alloc)?.as_str(), "7 0 'p';");
+    let mut store = taken(alloc, store.into_connection())?;
+    Ok(cells(&mut store, alloc)?)
+}
+
+#[test]
+fn empty_database_becomes_a_store(rt: HostRuntime) -> Result<(), Fail> {
+    let found = cells_of_taken(rt.alloc(), open_ram(rt.alloc())?)?;
+    assert_eq!(&rt; found.as_str(), "7 0 'p';");
     Ok(())
 }
 
-// Why a database with these tables isn't taken, and how many tables it has afterwards.
-fn refusal(alloc: Global, texts: &str) -> Result<Option<(StoreFault, i64)>, Error> {
-    let mut conn = open_ram(alloc)?;
+// Why a database isn't taken after these statements, and how many tables called `meta` it still has.
+fn refused<S: Alter + Drop>(
+    alloc: Global,
+    conn: Connection<S>,
+    texts: &str,
+) -> Result<(StoreFault, i64), Fail> {
+    let mut conn = conn;
     conn.execute_batch(texts)?;
-    match Store::adopt(alloc, conn) {
-        Ok(_) => Ok(None),
-        Err(fault) => {
-            let mut conn = fault.connection;
-            let sql = "SELECT count(*) FROM sqlite_schema";
-            let count: i64 = conn.query_row(sql, &[])?.get(0)?;
-            Ok(Some((fault.cause, count)))
-        }
-    }
-}
-
-// A store with its version changed.
-fn version_refusal(alloc: Global, texts: &str) -> Result<Option<StoreFault>, Fail> {
-    let mut conn = Store::open_memory(alloc)?.into_connection();
-    conn.execute_batch(texts)?;
-    match Store::adopt(alloc, conn) {
-        Ok(_) => Ok(None),
-        Err(fault) => Ok(Some(fault.cause)),
-    }
+    let Err(fault) = Store::adopt(alloc, conn) else {
+        return Err(Fail::new("taken"));
+    };
+    let AdoptFault { cause, connection } = fault;
+    let mut conn = connection;
+    let row = conn.query_row(
+        "SELECT count(*) FROM sqlite_schema WHERE name = 'meta'",
+        &[],
+    )?;
+    Ok((cause, row.get(0)?))
 }
 
 #[test]
 fn other_databases_are_handed_back(rt: HostRuntime) -> Result<(), Fail> {
     let bare = "CREATE TABLE meta (one INTEGER PRIMARY KEY, version INTEGER NOT NULL)";
-    let other = "CREATE TABLE meta (x INTEGER)";
-    let foreign = "CREATE TABLE p (a INTEGER)";
-    for (texts, cause) in [
-        (bare, StoreFault::NotAStore),
-        (other, StoreFault::NotAStore),
-        (foreign, StoreFault::Refused),
+    for (texts, cause, count) in [
+        (bare, StoreFault::NotAStore, 1),
+        ("CREATE TABLE meta (x INTEGER)", StoreFault::NotAStore, 1),
+        ("CREATE TABLE p (a INTEGER)", StoreFault::Refused, 0),
     ] {
-        assert_eq!(&rt; refusal(rt.alloc(), texts)?, Some((cause, 1)));
+        let seen = refused(rt.alloc(), open_ram(rt.alloc())?, texts)?;
+        assert_eq!(&rt; seen, (cause, count));
     }
     Ok(())
 }
@@ -74,35 +73,36 @@ fn other_versions_are_told(rt: HostRuntime) -> Result<(), Fail> {
         ("UPDATE meta SET version = 1", StoreFault::Version(1)),
         ("DELETE FROM meta", StoreFault::NotAStore),
     ] {
-        assert_eq!(&rt; version_refusal(rt.alloc(), texts)?, Some(cause));
+        let conn = Store::open_memory(rt.alloc())?.into_connection();
+        assert_eq!(&rt; refused(rt.alloc(), conn, texts)?, (cause, 1));
     }
     Ok(())
 }
 
-// Takes the file of a test away, and the one beside it.
-fn remove_files(rt: &HostRuntime, name: &str) -> Result<(), Fail> {
-    let _ = std::fs::remove_file(rt, name);
-    let beside = format!(in rt.alloc(); "{name}-wal")?;
-    let _ = std::fs::remove_file(rt, beside.as_str());
+// The file of a test, which the host's folder has for as long as the test runs.
+const FILE: &str = "store_test.db";
+
+fn writes<S: Alter>(alloc: Global, store: &mut Store<S>) -> Result<(), Fail> {
+    done(store, table_d(alloc)?)?;
+    done(store, put_text(alloc, 7, "p")?)?;
     Ok(())
+}
+
+fn written(rt: &HostRuntime) -> Result<(), Fail> {
+    writes(rt.alloc(), &mut Store::open_file(rt, FILE)?)
+}
+
+fn read_again(rt: &HostRuntime) -> Result<Option<i64>, Fail> {
+    Ok(Store::open_file(rt, FILE)?.last_docid(1)?)
 }
 
 #[test]
 fn file_is_opened_again(rt: HostRuntime) -> Result<(), Fail> {
-    let alloc = rt.alloc();
-    let mut path = std::env::temp_dir(&rt)?;
-    path.push("ft4sh-store-test.db")?;
-    let Some(name) = path.to_str() else {
-        return Err(Fail::new("the path is no text"));
-    };
-    remove_files(&rt, name)?;
-    let mut store = Store::open_file(&rt, name)?;
-    done(&mut store, table_d(alloc)?)?;
-    done(&mut store, put_text(alloc, 7, "p")?)?;
-    drop(store);
-    let mut store = Store::open_file(&rt, name)?;
-    assert_eq!(&rt; store.cells(1)?.len(), 1);
-    assert_eq!(&rt; store.last_docid(1)?, Some(7));
-    drop(store);
-    remove_files(&rt, name)
+    let _ = std::fs::remove_file(&rt, FILE);
+    written(&rt)?;
+    let last = read_again(&rt);
+    let _ = std::fs::remove_file(&rt, FILE);
+    let _ = std::fs::remove_file(&rt, "store_test.db-wal");
+    assert_eq!(&rt; last?, Some(7));
+    Ok(())
 }

@@ -1,15 +1,24 @@
 //! Packed lists as they stand in the database.
 
-use super::{done, entries, store_of};
+use super::{done, entries, with_rows};
 use ft_store::{RowChange, Spot, Store, StoreFault};
+use sqlite::Alter;
 use std::alloc::Global;
 use std::test::Fail;
 
 // What the entries of a store are read as whose one posting row has this list.
-fn read_list(alloc: Global, list: &str) -> Result<Result<String, StoreFault>, Fail> {
+fn entries_with<S: Alter + Drop>(
+    alloc: Global,
+    store: Store<S>,
+    list: &str,
+) -> Result<Result<String, StoreFault>, Fail> {
     let row = format!(in alloc; "INSERT INTO posting VALUES (1, 'a', 1, x'{list}')")?;
-    let mut store = store_of(alloc, row.as_str())?;
+    let mut store = with_rows(alloc, store, row.as_str())?;
     Ok(entries(&mut store, alloc))
+}
+
+fn read_list(alloc: Global, list: &str) -> Result<Result<String, StoreFault>, Fail> {
+    entries_with(alloc, Store::open_memory(alloc)?, list)
 }
 
 #[test]
@@ -47,9 +56,13 @@ fn other_bytes_are_damaged(rt: HostRuntime) -> Result<(), Fail> {
 }
 
 // The list of a term at these places, as hexadecimal digits.
-fn list_of(alloc: Global, spots: Vec<Spot>) -> Result<String, Fail> {
+fn list_of<S: Alter + Drop>(
+    alloc: Global,
+    store: Store<S>,
+    spots: Vec<Spot>,
+) -> Result<String, Fail> {
     let term = String::from_str(alloc, "a")?;
-    let mut store = Store::open_memory(alloc)?;
+    let mut store = store;
     done(&mut store, RowChange::PutEntries(1, term, 1, spots))?;
     let mut conn = store.into_connection();
     let row = conn.query_row("SELECT hex(list) FROM posting", &[])?;
@@ -67,6 +80,7 @@ fn lists_are_packed(rt: HostRuntime) -> Result<(), Fail> {
             size,
         })?;
     }
-    assert_eq!(&rt; list_of(rt.alloc(), spots)?.as_str(), "0001060501051805");
+    let list = list_of(rt.alloc(), Store::open_memory(rt.alloc())?, spots)?;
+    assert_eq!(&rt; list.as_str(), "0001060501051805");
     Ok(())
 }

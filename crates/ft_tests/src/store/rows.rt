@@ -1,11 +1,13 @@
 //! Changes of rows, and the reads after them.
 
 use super::{
-    Memory, cells, cells_text, done, entries, entries_text, put_text, sizes, store_of, table_d,
-    tables_text,
+    cells, cells_text, done, entries, entries_text, put_text, sizes, table_d, tables_text,
+    with_rows,
 };
 use ft_store::{RowChange, Spot, Store, StoreFault, Value};
+use sqlite::Alter;
 use std::alloc::{AllocError, Global};
+use std::process::Abort;
 use std::test::Fail;
 
 // The table 1, `d`, of one column `x`, with the documents 1, `green`, and 2, `red pear`.
@@ -28,57 +30,63 @@ fn put_term(alloc: Global, term: &str, docid: i64, size: i64) -> Result<RowChang
     Ok(RowChange::PutEntries(1, term, docid, spots))
 }
 
-#[test]
-fn reads_all_rows_of_a_table(rt: HostRuntime) -> Result<(), Fail> {
-    let alloc = rt.alloc();
-    let mut store = store_of(alloc, PEARS)?;
+fn reads_all<S: Alter>(rt: &impl Abort, alloc: Global, store: &mut Store<S>) -> Result<(), Fail> {
     let tables = store.tables()?;
-    assert_eq!(&rt; tables_text(alloc, tables.as_slice())?.as_str(), "1 d 1 0;");
-    let found = cells(&mut store, alloc)?;
-    assert_eq!(&rt; found.as_str(), "1 0 'green';2 0 'red pear';");
-    let found = entries(&mut store, alloc)?;
-    assert_eq!(&rt;
+    assert_eq!(rt; tables_text(alloc, tables.as_slice())?.as_str(), "1 d 1 0;");
+    let found = cells(store, alloc)?;
+    assert_eq!(rt; found.as_str(), "1 0 'green';2 0 'red pear';");
+    let found = entries(store, alloc)?;
+    assert_eq!(rt;
         found.as_str(),
         "green 1 0 0 0 5;pear 2 0 1 4 4;red 2 0 0 0 3;"
     );
-    let found = sizes(&mut store, alloc)?;
-    assert_eq!(&rt; found.as_str(), "1 0 1;2 0 2;");
+    let found = sizes(store, alloc)?;
+    assert_eq!(rt; found.as_str(), "1 0 1;2 0 2;");
     store.is_in_order();
+    Ok(())
+}
+
+#[test]
+fn reads_all_rows_of_a_table(rt: HostRuntime) -> Result<(), Fail> {
+    let alloc = rt.alloc();
+    let mut store = with_rows(alloc, Store::open_memory(alloc)?, PEARS)?;
+    reads_all(&rt, alloc, &mut store)
+}
+
+fn reads_some<S: Alter>(rt: &impl Abort, alloc: Global, store: &mut Store<S>) -> Result<(), Fail> {
+    let rows = store.document(1, 2)?;
+    assert_eq!(rt;
+        cells_text(alloc, rows.as_slice())?.as_str(),
+        "2 0 'red pear';"
+    );
+    let rows = store.term(1, "red")?;
+    assert_eq!(rt;
+        entries_text(alloc, rows.as_slice())?.as_str(),
+        "red 2 0 0 0 3;"
+    );
+    let rows = store.prefix(1, "re")?;
+    assert_eq!(rt;
+        entries_text(alloc, rows.as_slice())?.as_str(),
+        "red 2 0 0 0 3;"
+    );
+    assert_eq!(rt; store.last_docid(1)?, Some(2));
+    assert_eq!(rt; store.last_docid(2)?, None);
+    assert_eq!(rt; store.rows_read(), 4);
     Ok(())
 }
 
 #[test]
 fn reads_the_rows_that_are_asked_for(rt: HostRuntime) -> Result<(), Fail> {
     let alloc = rt.alloc();
-    let mut store = store_of(alloc, PEARS)?;
-    let rows = store.document(1, 2)?;
-    assert_eq!(&rt;
-        cells_text(alloc, rows.as_slice())?.as_str(),
-        "2 0 'red pear';"
-    );
-    let rows = store.term(1, "red")?;
-    assert_eq!(&rt;
-        entries_text(alloc, rows.as_slice())?.as_str(),
-        "red 2 0 0 0 3;"
-    );
-    let rows = store.prefix(1, "re")?;
-    assert_eq!(&rt;
-        entries_text(alloc, rows.as_slice())?.as_str(),
-        "red 2 0 0 0 3;"
-    );
-    assert_eq!(&rt; store.last_docid(1)?, Some(2));
-    assert_eq!(&rt; store.last_docid(2)?, None);
-    assert_eq!(&rt; store.rows_read(), 4);
-    Ok(())
+    let mut store = with_rows(alloc, Store::open_memory(alloc)?, PEARS)?;
+    reads_some(&rt, alloc, &mut store)
 }
 
 // A document that changes, and one that goes.
-fn changed(alloc: Global, store: &mut Memory) -> Result<(), StoreFault> {
+fn change_both<S: Alter>(alloc: Global, store: &mut Store<S>) -> Result<(), StoreFault> {
     done(store, put_text(alloc, 1, "red")?)?;
-    done(
-        store,
-        RowChange::DropEntries(1, String::from_str(alloc, "green")?, 1),
-    )?;
+    let green = String::from_str(alloc, "green")?;
+    done(store, RowChange::DropEntries(1, green, 1))?;
     done(store, put_term(alloc, "red", 1, 3)?)?;
     done(store, RowChange::PutSize(1, 1, 0, 7))?;
     done(store, RowChange::DropCells(1, 2))?;
@@ -86,46 +94,70 @@ fn changed(alloc: Global, store: &mut Memory) -> Result<(), StoreFault> {
     done(store, RowChange::PutCell(1, 3, 0, Value::Null))
 }
 
-#[test]
-fn changes_rows(rt: HostRuntime) -> Result<(), Fail> {
-    let alloc = rt.alloc();
-    let mut store = store_of(alloc, PEARS)?;
-    changed(alloc, &mut store)?;
-    let found = cells(&mut store, alloc)?;
-    assert_eq!(&rt; found.as_str(), "1 0 'red';3 0 NULL;");
-    let found = entries(&mut store, alloc)?;
-    assert_eq!(&rt;
+fn changes<S: Alter>(rt: &impl Abort, alloc: Global, store: &mut Store<S>) -> Result<(), Fail> {
+    change_both(alloc, store)?;
+    let found = cells(store, alloc)?;
+    assert_eq!(rt; found.as_str(), "1 0 'red';3 0 NULL;");
+    let found = entries(store, alloc)?;
+    assert_eq!(rt;
         found.as_str(),
         "pear 2 0 1 4 4;red 1 0 0 0 3;red 2 0 0 0 3;"
     );
-    let found = sizes(&mut store, alloc)?;
-    assert_eq!(&rt; found.as_str(), "1 0 7;");
+    let found = sizes(store, alloc)?;
+    assert_eq!(rt; found.as_str(), "1 0 7;");
+    Ok(())
+}
+
+#[test]
+fn changes_rows(rt: HostRuntime) -> Result<(), Fail> {
+    let alloc = rt.alloc();
+    let mut store = with_rows(alloc, Store::open_memory(alloc)?, PEARS)?;
+    changes(&rt, alloc, &mut store)
+}
+
+// The table goes, and comes again without rows.
+fn clears<S: Alter>(rt: &impl Abort, alloc: Global, store: &mut Store<S>) -> Result<(), Fail> {
+    done(store, RowChange::ClearIndex(1))?;
+    assert_eq!(rt; entries(store, alloc)?.as_str(), "");
+    assert_eq!(rt; sizes(store, alloc)?.as_str(), "");
+    done(store, RowChange::DropTable(1))?;
+    done(store, table_d(alloc)?)?;
+    assert_eq!(rt; cells(store, alloc)?.as_str(), "");
     Ok(())
 }
 
 #[test]
 fn clears_what_a_table_had(rt: HostRuntime) -> Result<(), Fail> {
     let alloc = rt.alloc();
-    let mut store = store_of(alloc, PEARS)?;
-    done(&mut store, RowChange::ClearIndex(1))?;
-    assert_eq!(&rt; entries(&mut store, alloc)?.as_str(), "");
-    assert_eq!(&rt; sizes(&mut store, alloc)?.as_str(), "");
-    done(&mut store, RowChange::DropTable(1))?;
-    done(&mut store, table_d(alloc)?)?;
-    assert_eq!(&rt; cells(&mut store, alloc)?.as_str(), "");
-    Ok(())
+    let mut store = with_rows(alloc, Store::open_memory(alloc)?, PEARS)?;
+    clears(&rt, alloc, &mut store)
 }
 
 // A row of a list that can't be packed: no change of the call is made.
+fn refuses<S: Alter>(rt: &impl Abort, alloc: Global, store: &mut Store<S>) -> Result<(), Fail> {
+    let bad = put_term(alloc, "p", 1, 0)?;
+    let refused = store.change(&[RowChange::DropCells(1, 1), bad]);
+    assert_eq!(rt; refused, Err(StoreFault::Damaged));
+    let found = cells(store, alloc)?;
+    assert_eq!(rt; found.as_str(), "1 0 'green';2 0 'red pear';");
+    Ok(())
+}
+
 #[test]
 fn changes_all_or_none(rt: HostRuntime) -> Result<(), Fail> {
     let alloc = rt.alloc();
-    let bad = put_term(alloc, "p", 1, 0)?;
-    let mut store = store_of(alloc, PEARS)?;
-    let refused = store.change(&[RowChange::DropCells(1, 1), bad]);
-    assert_eq!(&rt; refused, Err(StoreFault::Damaged));
-    let found = cells(&mut store, alloc)?;
-    assert_eq!(&rt; found.as_str(), "1 0 'green';2 0 'red pear';");
+    let mut store = with_rows(alloc, Store::open_memory(alloc)?, PEARS)?;
+    refuses(&rt, alloc, &mut store)
+}
+
+fn notes<S: Alter>(rt: &impl Abort, alloc: Global, store: &mut Store<S>) -> Result<(), Fail> {
+    for name in ["Plain", "PLAIN"] {
+        let name = String::from_str(alloc, name)?;
+        done(store, RowChange::Note(name))?;
+    }
+    let names = store.noted()?;
+    assert_eq!(rt; names.len(), 1);
+    assert_eq!(rt; names[0].as_str(), "PLAIN");
     Ok(())
 }
 
@@ -133,16 +165,5 @@ fn changes_all_or_none(rt: HostRuntime) -> Result<(), Fail> {
 fn notes_keep_the_latest_spelling(rt: HostRuntime) -> Result<(), Fail> {
     let alloc = rt.alloc();
     let mut store = Store::open_memory(alloc)?;
-    done(
-        &mut store,
-        RowChange::Note(String::from_str(alloc, "Plain")?),
-    )?;
-    done(
-        &mut store,
-        RowChange::Note(String::from_str(alloc, "PLAIN")?),
-    )?;
-    let names = store.noted()?;
-    assert_eq!(&rt; names.len(), 1);
-    assert_eq!(&rt; names[0].as_str(), "PLAIN");
-    Ok(())
+    notes(&rt, alloc, &mut store)
 }
