@@ -1,14 +1,14 @@
 //! Sessions over memory databases: worked inputs, with every byte that they write.
 
 use ft_index::FullText;
-use ft_shell::{Session, Source, SourceFault, Status};
+use ft_shell::{RunFault, Session, Source, SourceFault, Status};
 use ft_store::Store;
 use ram_disk::open_ram;
 use shell_text::Settings;
 use sqlite::{Alter, Connection, FileStore};
 use sqlite_disk::Disk;
 use std::alloc::Global;
-use std::io::{self, Read};
+use std::io::{self, Read, Write};
 use std::process::Abort;
 use std::test::Fail;
 
@@ -53,12 +53,12 @@ impl<'a> Read for Pieces<'a> {
     }
 }
 
-// What a session wrote.
+// How a session ended, its fault lines, and what it writes for a second input.
 #[derive(Drop)]
-struct Written {
-    out: Vec<u8>,
+struct Ended {
+    status: Result<Status, RunFault>,
     err: Vec<u8>,
-    status: Status,
+    next: Vec<u8>,
 }
 
 // A session over both databases.
@@ -81,38 +81,49 @@ fn new_session<D: Disk + Drop>(
     Session::new(alloc, plain, fulltext, Settings::new(alloc))
 }
 
-// A session over both databases, whose input comes in pieces of at most so many bytes.
-fn ran_over<D: Disk + Drop>(
+// A session over both databases, which runs an input and then a second one.
+fn ran_over<D: Disk + Drop, R: Read, O: Write>(
     alloc: Global,
     plain: Connection<FileStore<D>>,
     store: Store<FileStore<D>>,
-    input: &[u8],
-    size: usize,
-) -> Result<Written, Fail> {
+    reader: &mut R,
+    out: &mut O,
+    second: &[u8],
+) -> Result<Ended, Fail> {
     let mut session = session_over(alloc, plain, store)?;
-    let mut pieces = Pieces { left: input, size };
-    run_in_pieces(alloc, &mut session, &mut pieces)
+    run_both(alloc, &mut session, reader, out, second)
 }
 
 // Of the two stores one is named at a time: to name both in one call takes more steps than the checker has.
-fn run_in_pieces<S: Alter, D: Disk + Drop>(
+fn run_both<S: Alter, D: Disk + Drop, R: Read, O: Write>(
     alloc: Global,
     session: &mut Session<FileStore<D>, S>,
-    pieces: &mut Pieces<'_>,
-) -> Result<Written, Fail> {
-    let mut out: Vec<u8> = Vec::new(alloc);
+    reader: &mut R,
+    out: &mut O,
+    second: &[u8],
+) -> Result<Ended, Fail> {
     let mut err: Vec<u8> = Vec::new(alloc);
-    let status = session.run(pieces, &mut out, &mut err, &mut TwoFiles)?;
-    Ok(Written { out, err, status })
+    let status = session.run(reader, out, &mut err, &mut TwoFiles);
+    let mut next: Vec<u8> = Vec::new(alloc);
+    let mut rest = second;
+    session.run(&mut rest, &mut next, &mut err, &mut TwoFiles)?;
+    Ok(Ended { status, err, next })
 }
 
-fn ran(alloc: Global, input: &[u8], size: usize) -> Result<Written, Fail> {
+fn ran<R: Read, O: Write>(
+    alloc: Global,
+    reader: &mut R,
+    out: &mut O,
+    second: &[u8],
+) -> Result<Ended, Fail> {
+    let plain = open_ram(alloc)?;
     ran_over(
         alloc,
-        open_ram(alloc)?,
+        plain,
         Store::open_memory(alloc)?,
-        input,
-        size,
+        reader,
+        out,
+        second,
     )
 }
 
@@ -130,10 +141,11 @@ fn faults_in(err: &str) -> u64 {
 // A session with this input writes these bytes and counts its fault lines, however the input comes.
 fn holds(rt: &impl Abort, alloc: Global, input: &[u8], out: &str, err: &str) -> Result<(), Fail> {
     for size in [1, 7, 4096] {
-        let ran = ran(alloc, input, size)?;
-        assert_eq!(rt; ran.out.as_slice(), out.as_bytes());
-        assert_eq!(rt; ran.err.as_slice(), err.as_bytes());
-        assert_eq!(rt; ran.status.faults, faults_in(err));
+        let mut written: Vec<u8> = Vec::new(alloc);
+        let ended = ran(alloc, &mut Pieces { left: input, size }, &mut written, b"")?;
+        assert_eq!(rt; written.as_slice(), out.as_bytes());
+        assert_eq!(rt; ended.err.as_slice(), err.as_bytes());
+        assert_eq!(rt; ended.status?.faults, faults_in(err));
     }
     Ok(())
 }

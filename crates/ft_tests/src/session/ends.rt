@@ -1,30 +1,29 @@
 //! How a session ends: by its input, by a command, by a fault line, or where its reader or a writer fails.
 
-use super::{TwoFiles, ran, session_over};
-use ft_shell::{RunFault, Session, Status};
-use ft_store::Store;
-use ram_disk::open_ram;
-use sqlite::{Alter, Connection, FileStore};
-use sqlite_disk::Disk;
-use std::alloc::Global;
+use super::ran;
+use ft_shell::RunFault;
 use std::io::{self, Read, Write};
 use std::test::Fail;
 
+// Inputs that end their session, how many fault lines they have, and what they write.
+const ENDS: [(&str, u64, &str); 2] = [
+    (
+        ".bail on\n.echo on\n.print a\nDROP TABLE nosuch;\n.print b\n",
+        1,
+        ".print a\na\nDROP TABLE nosuch;\n",
+    ),
+    (".print a\n.exit\n.print b\n", 0, "a\n"),
+];
+
 #[test]
 fn bail_and_quit_end_a_session(rt: HostRuntime) -> Result<(), Fail> {
-    let bailed = ran(
-        rt.alloc(),
-        b".bail on\n.echo on\n.print a\nDROP TABLE nosuch;\n.print b\n",
-        4096,
-    )?;
-    assert!(rt; bailed.status.quit && bailed.status.faults == 1);
-    assert_eq!(rt;
-        bailed.out.as_slice(),
-        b".print a\na\nDROP TABLE nosuch;\n".as_slice()
-    );
-    let quit = ran(rt.alloc(), b".print a\n.exit\n.print b\n", 4096)?;
-    assert!(rt; quit.status.quit && quit.status.faults == 0);
-    assert_eq!(rt; quit.out.as_slice(), b"a\n".as_slice());
+    for (input, faults, out) in &ENDS {
+        let mut written: Vec<u8> = Vec::new(rt.alloc());
+        let ended = ran(rt.alloc(), &mut input.as_bytes(), &mut written, b"")?;
+        let status = ended.status?;
+        assert!(rt; status.quit && status.faults == *faults);
+        assert_eq!(rt; written.as_slice(), out.as_bytes());
+    }
     Ok(())
 }
 
@@ -64,57 +63,29 @@ impl Write for Short {
     }
 }
 
-// A session that reads and writes through these, and then answers a query.
-fn ran_through<D: Disk + Drop, R: Read, O: Write>(
-    alloc: Global,
-    plain: Connection<FileStore<D>>,
-    store: Store<FileStore<D>>,
-    reader: &mut R,
-    out: &mut O,
-) -> Result<(Result<Status, RunFault>, Vec<u8>), Fail> {
-    let mut session = session_over(alloc, plain, store)?;
-    run_and_ask(alloc, &mut session, reader, out)
-}
-
-fn run_and_ask<S: Alter, D: Disk + Drop, R: Read, O: Write>(
-    alloc: Global,
-    session: &mut Session<FileStore<D>, S>,
-    reader: &mut R,
-    out: &mut O,
-) -> Result<(Result<Status, RunFault>, Vec<u8>), Fail> {
-    let mut err: Vec<u8> = Vec::new(alloc);
-    let ended = session.run(reader, out, &mut err, &mut TwoFiles);
-    let mut after: Vec<u8> = Vec::new(alloc);
-    let mut query = b"SELECT count(*) FROM d;\n".as_slice();
-    session.run(&mut query, &mut after, &mut err, &mut TwoFiles)?;
-    Ok((ended, after))
-}
+const COUNT: &[u8] = b"SELECT count(*) FROM d;\n";
 
 #[test]
 fn failing_reader_ends_a_run(rt: HostRuntime) -> Result<(), Fail> {
-    let alloc = rt.alloc();
-    let mut out: Vec<u8> = Vec::new(alloc);
+    let mut out: Vec<u8> = Vec::new(rt.alloc());
     let mut torn = Torn {
         left: b"CREATE VIRTUAL TABLE d USING fts4(x);\n.print a\n.print b",
     };
-    let (plain, store) = (open_ram(alloc)?, Store::open_memory(alloc)?);
-    let (ended, after) = ran_through(alloc, plain, store, &mut torn, &mut out)?;
-    assert!(rt; ended == Err(RunFault::Read));
+    let ended = ran(rt.alloc(), &mut torn, &mut out, COUNT)?;
+    assert!(rt; ended.status == Err(RunFault::Read));
     // The line without an end is not run; what was done before stands.
     assert_eq!(rt; out.as_slice(), b"a\n".as_slice());
-    assert_eq!(rt; after.as_slice(), b"0\n".as_slice());
+    assert_eq!(rt; ended.next.as_slice(), b"0\n".as_slice());
     Ok(())
 }
 
 #[test]
 fn failing_writer_ends_a_run(rt: HostRuntime) -> Result<(), Fail> {
-    let alloc = rt.alloc();
     let mut input =
         b"CREATE VIRTUAL TABLE d USING fts4(x);\n.print abc\nDROP TABLE d;\n".as_slice();
-    let (plain, store) = (open_ram(alloc)?, Store::open_memory(alloc)?);
-    let (ended, after) = ran_through(alloc, plain, store, &mut input, &mut Short { room: 2 })?;
-    assert!(rt; ended == Err(RunFault::Write));
+    let ended = ran(rt.alloc(), &mut input, &mut Short { room: 2 }, COUNT)?;
+    assert!(rt; ended.status == Err(RunFault::Write));
     // What was done before stands, and nothing behind it is run.
-    assert_eq!(rt; after.as_slice(), b"0\n".as_slice());
+    assert_eq!(rt; ended.next.as_slice(), b"0\n".as_slice());
     Ok(())
 }

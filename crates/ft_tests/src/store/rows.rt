@@ -46,13 +46,6 @@ fn reads_all<S: Alter>(rt: &impl Abort, alloc: Global, store: &mut Store<S>) -> 
     Ok(())
 }
 
-#[test]
-fn reads_all_rows_of_a_table(rt: HostRuntime) -> Result<(), Fail> {
-    let alloc = rt.alloc();
-    let mut store = with_rows(alloc, Store::open_memory(alloc)?, PEARS)?;
-    reads_all(&rt, alloc, &mut store)
-}
-
 fn reads_some<S: Alter>(rt: &impl Abort, alloc: Global, store: &mut Store<S>) -> Result<(), Fail> {
     let rows = store.document(1, 2)?;
     assert_eq!(rt;
@@ -73,13 +66,6 @@ fn reads_some<S: Alter>(rt: &impl Abort, alloc: Global, store: &mut Store<S>) ->
     assert_eq!(rt; store.last_docid(2)?, None);
     assert_eq!(rt; store.rows_read(), 4);
     Ok(())
-}
-
-#[test]
-fn reads_the_rows_that_are_asked_for(rt: HostRuntime) -> Result<(), Fail> {
-    let alloc = rt.alloc();
-    let mut store = with_rows(alloc, Store::open_memory(alloc)?, PEARS)?;
-    reads_some(&rt, alloc, &mut store)
 }
 
 // A document that changes, and one that goes.
@@ -108,13 +94,6 @@ fn changes<S: Alter>(rt: &impl Abort, alloc: Global, store: &mut Store<S>) -> Re
     Ok(())
 }
 
-#[test]
-fn changes_rows(rt: HostRuntime) -> Result<(), Fail> {
-    let alloc = rt.alloc();
-    let mut store = with_rows(alloc, Store::open_memory(alloc)?, PEARS)?;
-    changes(&rt, alloc, &mut store)
-}
-
 // The table goes, and comes again without rows.
 fn clears<S: Alter>(rt: &impl Abort, alloc: Global, store: &mut Store<S>) -> Result<(), Fail> {
     done(store, RowChange::ClearIndex(1))?;
@@ -126,13 +105,6 @@ fn clears<S: Alter>(rt: &impl Abort, alloc: Global, store: &mut Store<S>) -> Res
     Ok(())
 }
 
-#[test]
-fn clears_what_a_table_had(rt: HostRuntime) -> Result<(), Fail> {
-    let alloc = rt.alloc();
-    let mut store = with_rows(alloc, Store::open_memory(alloc)?, PEARS)?;
-    clears(&rt, alloc, &mut store)
-}
-
 // A row of a list that can't be packed: no change of the call is made.
 fn refuses<S: Alter>(rt: &impl Abort, alloc: Global, store: &mut Store<S>) -> Result<(), Fail> {
     let bad = put_term(alloc, "p", 1, 0)?;
@@ -141,13 +113,6 @@ fn refuses<S: Alter>(rt: &impl Abort, alloc: Global, store: &mut Store<S>) -> Re
     let found = cells(store, alloc)?;
     assert_eq!(rt; found.as_str(), "1 0 'green';2 0 'red pear';");
     Ok(())
-}
-
-#[test]
-fn changes_all_or_none(rt: HostRuntime) -> Result<(), Fail> {
-    let alloc = rt.alloc();
-    let mut store = with_rows(alloc, Store::open_memory(alloc)?, PEARS)?;
-    refuses(&rt, alloc, &mut store)
 }
 
 fn notes<S: Alter>(rt: &impl Abort, alloc: Global, store: &mut Store<S>) -> Result<(), Fail> {
@@ -161,9 +126,46 @@ fn notes<S: Alter>(rt: &impl Abort, alloc: Global, store: &mut Store<S>) -> Resu
     Ok(())
 }
 
+// What is tried on a store with these rows, one by one.
+#[derive(Clone, Copy)]
+enum Trial {
+    ReadAll,
+    ReadSome,
+    Change,
+    Clear,
+    Refuse,
+    Note,
+}
+
+fn try_on<S: Alter + Drop>(
+    rt: &impl Abort,
+    alloc: Global,
+    store: Store<S>,
+    trial: Trial,
+) -> Result<(), Fail> {
+    let mut store = with_rows(alloc, store, PEARS)?;
+    match trial {
+        Trial::ReadAll => reads_all(rt, alloc, &mut store),
+        Trial::ReadSome => reads_some(rt, alloc, &mut store),
+        Trial::Change => changes(rt, alloc, &mut store),
+        Trial::Clear => clears(rt, alloc, &mut store),
+        Trial::Refuse => refuses(rt, alloc, &mut store),
+        Trial::Note => notes(rt, alloc, &mut store),
+    }
+}
+
 #[test]
-fn notes_keep_the_latest_spelling(rt: HostRuntime) -> Result<(), Fail> {
-    let alloc = rt.alloc();
-    let mut store = Store::open_memory(alloc)?;
-    notes(&rt, alloc, &mut store)
+fn reads_and_changes(rt: HostRuntime) -> Result<(), Fail> {
+    for trial in [
+        Trial::ReadAll,
+        Trial::ReadSome,
+        Trial::Change,
+        Trial::Clear,
+        Trial::Refuse,
+        Trial::Note,
+    ] {
+        let store = Store::open_memory(rt.alloc())?;
+        try_on(&rt, rt.alloc(), store, trial)?;
+    }
+    Ok(())
 }
