@@ -2,6 +2,8 @@
 # manual page.
 PREFIX ?= /usr/local
 RT ?= rt
+# How many checks of the gate run side by side. Each takes up to 8 GB.
+RT_JOBS ?= 3
 
 .PHONY: all build demo test install clean
 
@@ -20,7 +22,7 @@ demo: build
 # Every proof from nothing, the edits that must fail, the tests, and the program as two compilers build it; then what the program that
 # this left writes for the scripts of tests/, the examples of the manual and the demonstration.
 test:
-	$(RT) ci
+	RT_JOBS=$(RT_JOBS) $(RT) ci
 	tests/run crates/ft_main/out/ft_main
 	tests/manual crates/ft_main/out/ft_main
 	cd examples && ../crates/ft_main/out/ft_main < search.sql | diff search.out -
