@@ -1,4 +1,4 @@
-//! A store of full-text rows, in memory and in a file. What is done with one is generic in what it stands on: the checker then follows
+//! A store of full-text rows in memory. What is done with one is generic in what it stands on: the checker then follows
 //! no way out of a call into the parts of a disk.
 
 mod adopting;

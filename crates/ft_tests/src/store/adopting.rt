@@ -78,31 +78,3 @@ fn other_versions_are_told(rt: HostRuntime) -> Result<(), Fail> {
     }
     Ok(())
 }
-
-// The file of a test, which the host's folder has for as long as the test runs.
-const FILE: &str = "store_test.db";
-
-fn writes<S: Alter>(alloc: Global, store: &mut Store<S>) -> Result<(), Fail> {
-    done(store, table_d(alloc)?)?;
-    done(store, put_text(alloc, 7, "p")?)?;
-    Ok(())
-}
-
-fn written(rt: &HostRuntime) -> Result<(), Fail> {
-    writes(rt.alloc(), &mut Store::open_file(rt, FILE)?)
-}
-
-fn read_again(rt: &HostRuntime) -> Result<Option<i64>, Fail> {
-    Ok(Store::open_file(rt, FILE)?.last_docid(1)?)
-}
-
-#[test]
-fn file_is_opened_again(rt: HostRuntime) -> Result<(), Fail> {
-    let _ = std::fs::remove_file(&rt, FILE);
-    written(&rt)?;
-    let last = read_again(&rt);
-    let _ = std::fs::remove_file(&rt, FILE);
-    let _ = std::fs::remove_file(&rt, "store_test.db-wal");
-    assert_eq!(&rt; last?, Some(7));
-    Ok(())
-}
