@@ -1,24 +1,21 @@
 -- What row changes do to the rows of one table.
 use Rattle.std.proofs.Common.{◌≡◌, ℕ, Bool, true, false, cond, not, ◌&&◌, List, [], ◌∷◌, map, ℤ, pos, refl, sym, ap, ◌∙◌}
-use Rattle.std.specs.Prelude.{filter, IsTrue}
+use Rattle.std.specs.Prelude.{filter}
 use Rattle.std.specs.List.{enumerate_from}
-use Rattle.sqlite_value.specs.Keys.{without_case}
 use Rattle.std.specs.declared.cmp.Ordering.{Ordering}
 use Rattle.std.specs.declared.cmp.Ordering.TheVariants.{Less, Equal, Greater}
-use Rattle.std.specs.Ordering.{int_cmp, int_eq, eq_by_cmp, nat_cmp}
-use Rattle.std.specs.Cmp.{IsTotalOrder, eq_by_cmp_equiv, int_cmp_total}
-use Rattle.std.specs.Cmp.Lexicographic.{slice_cmp, nat_list_cmp_total}
-use Rattle.std.specs.FinMap.Entries.{by_order, put, is_sorted, is_sorted-put, is_sorted-where_key, where_key}
+use Rattle.std.specs.Ordering.{int_eq, eq_by_cmp}
+use Rattle.std.specs.Cmp.{eq_by_cmp_equiv, int_cmp_total}
+use Rattle.std.specs.FinMap.Entries.{by_order, put}
 use Rattle.std.proofs.lemmas.Map.Lookups.{CmpEqualImpliesEq, exact_signed}
 use Rattle.ft_store.specs.Store.{Cell}
 use Rattle.ft_content.specs.Content.{TableRows}
 use Rattle.ft_content.specs.Index.{StoredSpot, IndexRows}
-use Rattle.ft_store.specs.Store.{AreInOrder, CellKey, ListKey, cell_key_cmp, list_key_cmp, column_key_cmp, with_columns, with_skipped, without_key, without_rows, AddTable, DropTable, PutCell, DropCells, PutEntries, DropEntries, PutSize, DropSize, ClearIndex, Note, StoreValue}
-use Rattle.ft_index.specs.RowLaws.{PutsEntries, DropsEntries, KeepsOrder, SparesOthers}
+use Rattle.ft_store.specs.Store.{CellKey, ListKey, cell_key_cmp, list_key_cmp, column_key_cmp, with_columns, with_skipped, without_key, without_rows, AddTable, DropTable, PutCell, DropCells, PutEntries, DropEntries, PutSize, DropSize, ClearIndex, Note}
+use Rattle.ft_index.specs.RowLaws.{SparesOthers}
 use Rattle.ft_content.proofs.IndexLemmas.{filter-within}
-use Rattle.ft_index.proofs.KeyedRows.{true_of, of_true, tie}
-use Rattle.ft_index.proofs.OwnRows.{own_put, own_drop}
-use Rattle.ft_index.proofs.StoreKeys.{column_exact, cell_exact, list_exact, column_total, cell_total, list_total, list_keys}
+use Rattle.ft_index.proofs.KeyedRows.{tie}
+use Rattle.ft_index.proofs.StoreKeys.{column_exact, cell_exact, list_exact}
 
 -- ---- other tables' rows
 
@@ -116,124 +113,3 @@ spares_others (ClearIndex tab) other store h =
     let apart = h tab refl in
     (refl, (λ i. index_from (spares_all (λ (k : ListKey). k.0) tab other store.lists apart i) (spares_all (λ (k : CellKey). k.0) tab other store.sizes apart i)))
 spares_others (Note name) other store h = (refl, refl)
-
--- ---- a table's own lists
-
-pub puts_entries : PutsEntries
-puts_entries tab docid term spots store h = own_put list_keys tab (term, docid) spots store.lists h
-
-pub drops_entries : DropsEntries
-drops_entries tab docid term store = own_drop list_keys tab (term, docid) store.lists
-
--- ---- order
-
-put_order : {K V : Type 0} (R : K → K → Ordering) → IsTotalOrder R → (k : K) (v : V) (rows : List (K × V)) → IsTrue (is_sorted R rows) → IsTrue (is_sorted R (put R k v rows))
-put_order R total k v rows h = true_of _ (is_sorted-put R total k v rows (of_true _ h))
-
-kept_order : {K V : Type 0} (R : K → K → Ordering) (p : K → Bool) (rows : List (K × V)) → IsTrue (is_sorted R rows) → IsTrue (is_sorted R (where_key R p rows))
-kept_order R p rows h = true_of _ (is_sorted-where_key R p rows (of_true _ h))
-
-columns_order : (tab : ℤ) (cs : List (ℕ × List ℕ)) (columns : List ((ℤ × ℤ) × List ℕ)) → IsTrue (is_sorted column_key_cmp columns) → IsTrue (is_sorted column_key_cmp (with_columns tab cs columns))
-columns_order tab [] columns h = h
-columns_order tab (c ∷ cs) columns h = columns_order tab cs (put column_key_cmp (tab, pos c.0) c.1 columns) (put_order column_key_cmp column_total (tab, pos c.0) c.1 columns h)
-
-skipped_order : (tab : ℤ) (cs : List ℤ) (skipped : List ((ℤ × ℤ) × Unit {0})) → IsTrue (is_sorted column_key_cmp skipped) → IsTrue (is_sorted column_key_cmp (with_skipped tab cs skipped))
-skipped_order tab [] skipped h = h
-skipped_order tab (c ∷ cs) skipped h = skipped_order tab cs (put column_key_cmp (tab, c) tt skipped) (put_order column_key_cmp column_total (tab, c) tt skipped h)
-
-bare_order : (id : ℤ) (store : StoreValue) → AreInOrder store → AreInOrder (without_rows id store)
-bare_order id store h = record {
-  tables = kept_order int_cmp (λ t. not (int_eq id t)) store.tables h.tables;
-  columns = kept_order column_key_cmp (λ k. not (int_eq id k.0)) store.columns h.columns;
-  skipped = kept_order column_key_cmp (λ k. not (int_eq id k.0)) store.skipped h.skipped;
-  cells = kept_order cell_key_cmp (λ k. not (int_eq id k.0)) store.cells h.cells;
-  lists = kept_order list_key_cmp (λ k. not (int_eq id k.0)) store.lists h.lists;
-  sizes = kept_order cell_key_cmp (λ k. not (int_eq id k.0)) store.sizes h.sizes;
-  noted = h.noted;
-}
-
-pub keeps_order : KeepsOrder
-keeps_order (AddTable id name columns skipped) store h =
-    let bare = bare_order id store h in
-    record {
-      tables = put_order int_cmp int_cmp_total id name (without_rows id store).tables bare.tables;
-      columns = columns_order id (enumerate_from 0 columns) (without_rows id store).columns bare.columns;
-      skipped = skipped_order id skipped (without_rows id store).skipped bare.skipped;
-      cells = bare.cells;
-      lists = bare.lists;
-      sizes = bare.sizes;
-      noted = bare.noted;
-    }
-keeps_order (DropTable id) store h = bare_order id store h
-keeps_order (PutCell tab docid column value) store h = record {
-  tables = h.tables;
-  columns = h.columns;
-  skipped = h.skipped;
-  lists = h.lists;
-  sizes = h.sizes;
-  noted = h.noted;
-  cells = put_order cell_key_cmp cell_total (tab, docid, column) value store.cells h.cells;
-}
-keeps_order (DropCells tab docid) store h = record {
-  tables = h.tables;
-  columns = h.columns;
-  skipped = h.skipped;
-  lists = h.lists;
-  sizes = h.sizes;
-  noted = h.noted;
-  cells = kept_order cell_key_cmp (λ k. not (int_eq tab k.0 && int_eq docid k.1)) store.cells h.cells;
-}
-keeps_order (PutEntries tab term docid spots) store h = record {
-  tables = h.tables;
-  columns = h.columns;
-  skipped = h.skipped;
-  cells = h.cells;
-  sizes = h.sizes;
-  noted = h.noted;
-  lists = put_order list_key_cmp list_total (tab, term, docid) spots store.lists h.lists;
-}
-keeps_order (DropEntries tab term docid) store h = record {
-  tables = h.tables;
-  columns = h.columns;
-  skipped = h.skipped;
-  cells = h.cells;
-  sizes = h.sizes;
-  noted = h.noted;
-  lists = kept_order list_key_cmp (λ k. not (eq_by_cmp list_key_cmp (tab, term, docid) k)) store.lists h.lists;
-}
-keeps_order (PutSize tab docid column n) store h = record {
-  tables = h.tables;
-  columns = h.columns;
-  skipped = h.skipped;
-  cells = h.cells;
-  lists = h.lists;
-  noted = h.noted;
-  sizes = put_order cell_key_cmp cell_total (tab, docid, column) n store.sizes h.sizes;
-}
-keeps_order (DropSize tab docid column) store h = record {
-  tables = h.tables;
-  columns = h.columns;
-  skipped = h.skipped;
-  cells = h.cells;
-  lists = h.lists;
-  noted = h.noted;
-  sizes = kept_order cell_key_cmp (λ k. not (eq_by_cmp cell_key_cmp (tab, docid, column) k)) store.sizes h.sizes;
-}
-keeps_order (ClearIndex tab) store h = record {
-  tables = h.tables;
-  columns = h.columns;
-  skipped = h.skipped;
-  cells = h.cells;
-  noted = h.noted;
-  lists = kept_order list_key_cmp (λ k. not (int_eq tab k.0)) store.lists h.lists;
-  sizes = kept_order cell_key_cmp (λ k. not (int_eq tab k.0)) store.sizes h.sizes;
-}
-keeps_order (Note name) store h = record {
-  tables = h.tables;
-  columns = h.columns;
-  skipped = h.skipped;
-  cells = h.cells;
-  lists = h.lists;
-  sizes = h.sizes;
-  noted = put_order (slice_cmp nat_cmp) nat_list_cmp_total (without_case name) name store.noted h.noted;
-}

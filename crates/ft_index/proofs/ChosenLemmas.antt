@@ -18,7 +18,7 @@ use Rattle.ft_content.specs.Answer.{is_chosen, chosen, query_in}
 use Rattle.ft_index.specs.Chosen.{document_at}
 use Rattle.ft_index.specs.Matched.{hit_read, chosen_hits}
 use Rattle.ft_index.specs.Rewrite.{document_if}
-use Rattle.ft_index.proofs.KeyedRows.{tie, none_below, sorted-filter}
+use Rattle.ft_index.proofs.KeyedRows.{tie, none_below}
 
 -- a document is found under its docid
 abbrev pub AreFound : (ℤ → Option (List Cell)) → Documents → Type 0
@@ -58,11 +58,6 @@ found_again look p (d ∷ ds) found =
 pub chosen_again : (name : List ℕ) (content : Content) (f : Filter) → IsContent name content → map (λ (d : ℤ × List Cell). document_at content d.0) (chosen content f) ≡ chosen content f
 unfolding chosen
 chosen_again name content f is = found_again (λ k. find int_cmp k content.documents) (is_chosen content f) content.documents (all_found content.documents is.rising)
-
--- the docids of chosen documents rise
-pub chosen_rise : (name : List ℕ) (content : Content) (f : Filter) → IsContent name content → is_sorted int_cmp (chosen content f) ≡ true
-unfolding chosen
-chosen_rise name content f is = sorted-filter int_cmp int_cmp_total exact_signed (is_chosen content f) content.documents is.rising
 
 -- ---- the one of a docid
 

@@ -14,16 +14,9 @@ use Rattle.ft_content.specs.Step.{after, reply_to, step, step_by}
 use Rattle.ft_index.specs.Found.{with_told}
 use Rattle.ft_index.specs.Planned.{Makes, table_change}
 use Rattle.ft_index.specs.Changed.{Changed, with_tables}
-use Rattle.ft_index.specs.Kept.{Known, PlansFrom, AreHeld, Holds, HoldsSome, Executes, Answers, is_outside, told_table}
+use Rattle.ft_index.specs.Kept.{Known, PlansFrom, AreHeld, Holds, Executes, Answers, is_outside, told_table}
 use Rattle.ft_index.proofs.NameLemmas.{apart_after}
 use Rattle.ft_index.proofs.CreateLemmas.{made_is_held, create_answers, refused_answers, nothing_made}
-
--- what is executed leaves what it may hold
-pub still_holds : {S : Type 0} (g : Ghosts S) (old new : Known S) (command : Command) (answer : Result Reply Fault) → Executes g old command answer new → HoldsSome g old → HoldsSome g new
-still_holds g old new command answer executes some up =
-    let first = some (executes.was_up up) in
-    let last = executes.steps up first.0 first.1 in
-    (last.0, last.1)
 
 -- a command that leaves everything as it is
 pub executes_same : {S : Type 0} (g : Ghosts S) (known : Known S) (command : Command) (answer : Result Reply Fault) → ((first : Contents) → Holds g known first → Answers first command answer first) → Executes g known command answer known

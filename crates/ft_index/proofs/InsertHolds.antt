@@ -1,20 +1,15 @@
 -- What the store holds after the row changes of an Insert.
-use Rattle.std.proofs.Common.{◌≡◌, ℕ, Bool, true, false, cond, List, [], ◌∷◌, Option, Some, None, ℤ, refl, sym, ap, subst, ◌∙◌}
+use Rattle.std.proofs.Common.{◌≡◌, ℕ, Bool, true, false, cond, List, [], ◌∷◌, Some, ℤ, sym, ap, subst}
 use Rattle.std.specs.Prelude.{unwrap_or}
-use Rattle.std.specs.List.{AllByRecursion}
-use Rattle.ft_store.specs.Store.{Cell, StoreValue, AreInOrder, Change, all_applied}
-use Rattle.ft_content.specs.Content.{content_rows, same_name}
-use Rattle.ft_content.specs.Index.{index_rows}
+use Rattle.ft_store.specs.Store.{StoreValue, AreInOrder}
+use Rattle.ft_content.specs.Content.{same_name}
 use Rattle.ft_content.specs.Views.{KnownTable}
-use Rattle.ft_content.specs.Deserved.{Table, Contents, table_named, listed_columns, insert_fault}
-use Rattle.ft_content.specs.Step.{inserted, with_documents, on_table}
-use Rattle.ft_content.proofs.ContentLemmas.{insert_keeps_content}
+use Rattle.ft_content.specs.Deserved.{Table, Contents, table_named}
 use Rattle.ft_index.specs.Tables.{table_rows, table_index}
-use Rattle.ft_index.specs.Kept.{AreHeld, StoreHolds, HoldsTable, Stands, IsOfDocids}
-use Rattle.ft_index.specs.Rewrite.{Rewrite, AreOf, HasContent, AreRight, rewritten, rewritten_content}
+use Rattle.ft_index.specs.Kept.{AreHeld, HoldsTable, Stands}
+use Rattle.ft_index.specs.Rewrite.{HasContent}
 use Rattle.ft_index.proofs.OneTable.{AreHeldIn}
 use Rattle.ft_index.proofs.KnownLemmas.{IsSoundTable}
-use Rattle.ft_index.proofs.Lifting.{leaves_rest, lifts}
 
 -- a table that is found among the contents stands so in the store
 pub found_stands : (store : StoreValue) (name : List ℕ) (t : ℤ × Table) (tables : List (ℤ × List ℕ)) (contents : Contents) → AreHeldIn store tables contents → table_named contents name ≡ Some t →
@@ -36,16 +31,3 @@ pub sound_rows : (store : StoreValue) (tables : List KnownTable) (contents : Con
 sound_rows store tables contents name known t order held =
     let stands = subst (λ h. Stands t.table.1.name (table_rows t.table.0 store) (table_index t.table.0 store) h) t.held (found_stands store name t.table store.tables contents held.held t.found) in
     record { order = order; is_content = stands.0; rows = stands.1; index = stands.2 }
-
--- So row changes that are right for the rewrites of an Insert lead to the contents after it.
-pub insert_holds : (store : StoreValue) (tables : List KnownTable) (contents : Contents) (name : List ℕ) (columns : Option (List (List ℕ))) (rows : List (List Cell)) (known : KnownTable) (t : IsSoundTable contents name known) (rewrites : List Rewrite) (changes : List Change) (docids : List ℤ) →
-    AreInOrder store → AreHeld store tables contents → insert_fault t.content (listed_columns t.content columns) rows ≡ None → AreOf t.content rewrites → rewritten rewrites t.content.documents ≡ inserted t.content columns rows →
-    AllByRecursion (IsOfDocids t.table.0 docids) changes → AreRight t.table.0 t.content.columns rewrites changes →
-    StoreHolds (all_applied changes store) (on_table contents name (with_documents (λ content. inserted content columns rows)))
-insert_holds store tables contents name columns rows known t rewrites changes docids order held fine are made near right =
-    let has = sound_rows store tables contents name known t order held in
-    let done = right t.table.1.name t.content store has refl are in
-    let same : rewritten_content rewrites t.content ≡ record t.content { documents = inserted t.content columns rows } = λ i. record t.content { documents = made i } in
-    lifts store (all_applied changes store) tables contents name known t (λ content. inserted content columns rows) order held (leaves_rest t.table.0 docids changes store near)
-    (insert_keeps_content t.table.1.name t.content columns rows has.is_content fine)
-    (done.0 ∙ ap content_rows same) (done.1 ∙ ap index_rows same)

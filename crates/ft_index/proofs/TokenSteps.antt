@@ -48,7 +48,3 @@ insert_put R k v (e ∷ es) = elim (R k e.0) as (λ o. match_ordering o ((k, v) 
 pub size_some : (docid : ℤ) (place n : ℕ) (old new : List ((ℤ × ℤ) × ℤ)) → 0 < n → new ≡ put column_key_cmp (docid, pos place) (pos n) old → new ≡ all_put column_key_cmp (sized (cell_sizes docid place n)) old
 size_some docid place zero old new some is = absurd (omega arith)
 size_some docid place (suc n) old new some is = is
-
-pub size_none : (docid : ℤ) (place n : ℕ) (old : List ((ℤ × ℤ) × ℤ)) → n ≤ 0 → old ≡ all_put column_key_cmp (sized (cell_sizes docid place n)) old
-size_none docid place zero old none = refl
-size_none docid place (suc n) old none = absurd (omega arith)

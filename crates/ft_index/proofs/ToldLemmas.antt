@@ -1,8 +1,8 @@
 -- A table in its place among those that are told.
-use Rattle.std.proofs.Common.{◌≡◌, ◌++◌, ◌<◌, ◌≤◌, ◌+◌, ℕ, zero, suc, List, [], ◌∷◌, map, take, drop, get_or, length, cond, true, false, refl, sym, ap, ◌∙◌, arith}
+use Rattle.std.proofs.Common.{◌≡◌, ◌++◌, ◌<◌, ◌≤◌, ◌+◌, ℕ, zero, suc, List, [], ◌∷◌, map, take, drop, get_or, length, cond, true, refl, sym, ap, ◌∙◌, arith}
 use Rattle.std.specs.Ordering.{int_cmp, is_lt}
 use Rattle.std.specs.List.{insert, remove}
-use Rattle.std.proofs.lemmas.List.{length-map, drop_more, drop_all, take_more, take_all, map-append, take-map, drop-map, append_assoc}
+use Rattle.std.proofs.lemmas.List.{drop_more, map-append, take-map, drop-map}
 use Rattle.ft_content.specs.declared.table.TableInfo.{TableInfo}
 use Rattle.ft_content.specs.Views.{KnownTable, known_info}
 use Rattle.ft_index.specs.Found.{with_told}
@@ -19,22 +19,6 @@ stands_here table ts n t inside is less so_far =
     ∙ ap (λ l. take n (map known_info ts) ++ with_told table (map known_info l)) front
     ∙ ap (λ b. take n (map known_info ts) ++ cond b (table ∷ known_info t ∷ map known_info (drop (n + 1) ts)) (known_info t ∷ with_told table (map known_info (drop (n + 1) ts)))) less
     ∙ ap (λ l. take n (map known_info ts) ++ table ∷ l) (sym (ap (map known_info) front) ∙ sym (drop-map known_info n ts))
-
-pub stands_behind : (table : KnownTable) (ts : List TableInfo) (n : ℕ) (t : TableInfo) → n < length ts → t ≡ get_or ts n t → is_lt (int_cmp table.id t.id) ≡ false → IsBehind table ts n → IsBehind table ts (n + 1)
-stands_behind table ts n t inside is more so_far =
-    let front : drop n ts ≡ t ∷ drop (n + 1) ts = drop_more ts n t inside ∙ ap (λ x. x ∷ drop (n + 1) ts) (sym is) in
-    let next : take (n + 1) ts ≡ take n ts ++ t ∷ [] = take_more ts n t inside ∙ ap (λ x. take n ts ++ x ∷ []) (sym is) in
-    so_far
-    ∙ ap (λ l. map known_info (take n ts) ++ with_told table (map known_info l)) front
-    ∙ ap (λ b. map known_info (take n ts) ++ cond b (table ∷ known_info t ∷ map known_info (drop (n + 1) ts)) (known_info t ∷ with_told table (map known_info (drop (n + 1) ts)))) more
-    ∙ sym (append_assoc (map known_info (take n ts)) (known_info t ∷ []) (with_told table (map known_info (drop (n + 1) ts))))
-    ∙ ap (λ l. l ++ with_told table (map known_info (drop (n + 1) ts))) (sym (map-append known_info (take n ts) (t ∷ [])) ∙ ap (map known_info) (sym next))
-
-pub stands_last : (table : KnownTable) (ts : List TableInfo) (n : ℕ) → length ts ≤ n → IsBehind table ts n → with_told table (map known_info ts) ≡ insert (map known_info ts) (length ts) table
-stands_last table ts n past so_far =
-    so_far
-    ∙ (λ i. map known_info (take_all n ts past i) ++ with_told table (map known_info (drop_all n ts past i)))
-    ∙ sym ((λ i. take_all (length ts) (map known_info ts) (let e = length-map ts known_info in omega (arith, e)) i ++ table ∷ drop_all (length ts) (map known_info ts) (let e = length-map ts known_info in omega (arith, e)) i))
 
 pub known_insert : (ts : List TableInfo) (n : ℕ) (t : TableInfo) → map known_info (insert ts n t) ≡ insert (map known_info ts) n (known_info t)
 known_insert ts n t = map-append known_info (take n ts) (t ∷ drop n ts) ∙ (λ i. back_take i ++ known_info t ∷ back_drop i)

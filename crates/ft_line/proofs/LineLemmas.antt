@@ -70,15 +70,6 @@ two_modes false false true false = refl
 two_modes false false false true = refl
 two_modes false false false false = refl
 
--- modes set in turn
-pub with_more : (ms ns : List Mode) (look : Look) → with_modes (ms ++ ns) look ≡ with_modes ns (with_modes ms look)
-with_more [] ns look = refl
-with_more (m ∷ ms) ns look = with_more ms ns (with_mode m look)
-
-pub keeps_null : (ms : List Mode) (look : Look) → (with_modes ms look).null ≡ look.null
-keeps_null [] look = refl
-keeps_null (m ∷ ms) look = keeps_null ms (with_mode m look)
-
 pub keeps_headers : (ms : List Mode) (look : Look) → (with_modes ms look).headers ≡ look.headers
 keeps_headers [] look = refl
 keeps_headers (m ∷ ms) look = keeps_headers ms (with_mode m look)

@@ -20,7 +20,7 @@ use Rattle.ft_query.specs.Occurs.{PlainHit, accepts, offsets_of, hits_of}
 use Rattle.ft_query.specs.Work.{terms_in, lists_of, width, entry_count, candidate_count}
 use Rattle.ft_query.specs.Cursors.{lists_left, places_at, passed, least_of, least_from, listed_for}
 use Rattle.ft_query.specs.Visit.{listed_places}
-use Rattle.ft_query.specs.Walk.{Walk, StandsBefore, steps_to_come, Went}
+use Rattle.ft_query.specs.Walk.{StandsBefore, steps_to_come, Went}
 use Rattle.ft_query.specs.Search.{walk_at, Considers}
 use Rattle.ft_query.proofs.Nexts.{Next, Nothing, First, next_of, are_more, all_places, all_passed, all_counted, without_it, with_it}
 
@@ -189,9 +189,6 @@ pub fewer_left : (docid : ℤ) (cursors passed_by : List Cursor) → least_from 
 fewer_left docid cursors passed_by least left = subst (λ ls. sum_by length ls < sum_by length (map lists_left cursors)) (sym left) (passes_one docid (map lists_left cursors) least)
 
 -- ---- one walk after the other
-
-pub goes_nowhere : (walk : Walk) (documents : List Document) → StandsBefore walk documents → Went walk walk [] documents
-goes_nowhere walk documents stands = record { rest = documents; stands = stands; hits_are = refl; at_most = omega arith; at_least = omega arith }
 
 abbrev pub went_then : (q : Query) (a b c : List (List PlaceList)) (s t u : ℕ) (hits : List PlainHit) (documents : List Document) →
     (first : Went (record { query = q; lists = a; steps = s }) (record { query = q; lists = b; steps = t }) [] documents) →

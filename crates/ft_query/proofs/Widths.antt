@@ -23,10 +23,3 @@ all_terms (chain p links) =
 all_terms (both p q) = let l = all_terms p in let r = all_terms q in let sum = length-append (terms_in p) (terms_in q) in omega arith
 all_terms (either p q) = let l = all_terms p in let r = all_terms q in let sum = length-append (terms_in p) (terms_in q) in omega arith
 all_terms (without p q) = let l = all_terms p in let r = all_terms q in let sum = length-append (terms_in p) (terms_in q) in omega arith
-
-pub not_nothing : (tree : Tree) → 1 ≤ width tree
-not_nothing (phrase p) = omega arith
-not_nothing (chain p links) = omega arith
-not_nothing (both p q) = let l = not_nothing p in omega arith
-not_nothing (either p q) = let l = not_nothing p in omega arith
-not_nothing (without p q) = let l = not_nothing p in omega arith

@@ -1,5 +1,5 @@
 -- How much a query asks of the lists, and how many steps a walk may take (own choices).
-use Rattle.std.specs.Prelude.{ℕ, ◌+◌, ◌*◌, max, List, ◌++◌, length, map, sum_by, count_by, flat_map}
+use Rattle.std.specs.Prelude.{ℕ, ◌+◌, max, List, ◌++◌, length, map, sum_by, count_by, flat_map}
 use Rattle.std.specs.List.{list_any}
 use Rattle.ft_query.specs.Documents.{Document, PlaceList, lists_with, place_count}
 use Rattle.ft_query.specs.Trees.{PlainTerm, Tree, phrase, chain, both, either, without}
@@ -33,7 +33,3 @@ entry_count tree documents = sum_by place_count (lists_of tree documents)
 -- the documents that have such a posting
 abbrev pub candidate_count : Tree → List Document → ℕ
 candidate_count tree documents = count_by (λ d. list_any (λ t. list_any (λ p. is_listed t p.term) d.postings) (terms_in tree)) documents
-
--- the most steps that a walk over these documents takes from beginning to end
-abbrev pub most_steps : Tree → List Document → ℕ
-most_steps tree documents = 32 * entry_count tree documents + 8 * width tree * candidate_count tree documents + 1

@@ -1,23 +1,15 @@
 -- The number of columns of a plain table.
-use Rattle.std.proofs.Common.{◌≡◌, ◌+◌, ◌≤◌, ℕ, List, [], true, false, Option, Some, None, Result, Ok, Err, refl, sym, ap, ◌∙◌, arith, inl, inr}
+use Rattle.std.proofs.Common.{◌≡◌, ◌+◌, ◌≤◌, ℕ, List, [], true, false, Option, Some, None, sym, ap, ◌∙◌, arith, inl, inr}
 use Rattle.std.specs.Prelude.{is_ok}
 use Rattle.std.proofs.lemmas.Bool.{cases_lt}
 use Rattle.sqlite_trees.specs.declared.error.StoreError.{StoreError}
 use Rattle.sqlite_trees.specs.declared.error.StoreError.TheVariants.{OutOfMemory, Io, Corrupt, Full, Broken, Unstorable}
 use Rattle.sqlite.specs.Schema.{Schema}
-use Rattle.sqlite_resolve.specs.declared.compiled.Compiled.{Compiled}
 use Rattle.sqlite_resolve.specs.declared.error.CompileError.{CompileError}
 use Rattle.sqlite.specs.Listing.{understood}
-use Rattle.sqlite.specs.Outline.{Outline}
-use Rattle.sqlite.specs.Steps.{Outlines}
 use Rattle.sqlite.specs.State.{State, IsNotRun, IsUnchanged, store_error}
 use Rattle.sqlite.specs.declared.error.Error.TheVariants.{SqlInputError}
 use Rattle.ft_shell.specs.PlainImports.{HasColumns, IsOnlyBelow, takes_values}
-
--- a text that was prepared is understood
-pub outlined : (r : Result Compiled CompileError) (s : Outline) → Outlines r s → is_ok r ≡ true
-outlined (Ok c) s h = refl
-outlined (Err e) s h = absurd h
 
 no_input_error : (cause : StoreError) (f : CompileError) → SqlInputError f ≡ store_error cause → ⊥
 no_input_error OutOfMemory f e = cc

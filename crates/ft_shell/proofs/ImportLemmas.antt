@@ -9,9 +9,6 @@ use Rattle.ft_statements.specs.Views.{texts_of}
 abbrev pub marks : ℕ → List ℕ
 marks n = with_commas (λ mark. mark) (replicate n (codes "?"))
 
-no_marks : marks 0 ≡ []
-no_marks = refl
-
 -- one more behind others
 commas_more : {A : Type 0} (f : A → List ℕ) (x : A) (xs : List A) (y : A) → with_commas f (x ∷ (xs ++ y ∷ [])) ≡ with_commas f (x ∷ xs) ++ (codes ", " ++ f y)
 commas_more f x xs y =

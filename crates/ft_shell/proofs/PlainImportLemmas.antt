@@ -64,9 +64,6 @@ unrun_all_kept old new text values e h = go (unrun_either old new text values e 
 pub unchanged_stays : (old new : State) → IsUnchanged old new → Stays old new
 unchanged_stays old new same = record { was_open = λ _. same.0.was_open; now = same.0.now_is; committed = same.0.committed_is; mode = same.0.mode }
 
-pub stays_same : (s : State) → Stays s s
-stays_same s = record { was_open = λ o. o; now = refl; committed = refl; mode = refl }
-
 pub stays_then : (a b c : State) → Stays a b → Stays b c → Stays a c
 stays_then a b c one two = record { was_open = λ o. one.was_open (two.was_open o); now = two.now ∙ one.now; committed = two.committed ∙ one.committed; mode = two.mode ∙ one.mode }
 
@@ -75,9 +72,6 @@ stays_all_kept a b c stays keeps = record {
   commit = record { was_open = λ o. stays.was_open (keeps.commit.was_open o); committed = λ o. keeps.commit.committed o ∙ stays.committed };
   now = λ o. elim (keeps.now o) [ inl same ↦ inl (same ∙ stays.now) | inr back ↦ inr (back ∙ stays.committed) ];
 }
-
-pub unchanged_all_kept : (old new : State) → IsUnchanged old new → Keeps old new
-unchanged_all_kept old new same = record { commit = unchanged_keeps old new same; now = λ _. inl same.0.now_is }
 
 -- ---- one step
 

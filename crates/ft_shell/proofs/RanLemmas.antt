@@ -23,10 +23,6 @@ or_false : (b : Bool) → (b || false) ≡ b
 or_false true = refl
 or_false false = refl
 
-or_assoc : (a b c : Bool) → ((a || b) || c) ≡ (a || (b || c))
-or_assoc true b c = refl
-or_assoc false b c = refl
-
 right_of_or : (a b : Bool) → (a || b) ≡ false → b ≡ false
 right_of_or true b h = absurd (let wrong = h in cc)
 right_of_or false b h = h

@@ -1,7 +1,7 @@
 -- What writers hold.
 use Rattle.std.proofs.Common.{ℕ, List, [], ◌++◌, take, drop, Option, Some, None, Result, Ok, Err, refl, ap, sym, ◌∙◌, append_assoc, append-nil}
 use Rattle.std.proofs.lemmas.List.{take-append-drop}
-use Rattle.std.specs.Prelude.{OnOk, IsErrAnd}
+use Rattle.std.specs.Prelude.{IsErrAnd}
 use Rattle.std.specs.Io.KnownBytes.{Appends, Keeps}
 use Rattle.shell_text.specs.Print.{AppendsFront}
 use Rattle.ft_shell.specs.Writing.{AppendsUpTo, Sends}
@@ -41,9 +41,6 @@ up_to_more a b x y (front, rest, whole, h) = (front, rest ++ y, ap (λ t. t ++ y
 pub up_to_then : (a b c : Option (List ℕ)) (x y : List ℕ) → Appends a b x → AppendsUpTo b c y → AppendsUpTo a c (x ++ y)
 up_to_then a b c x y first (front, rest, whole, h) = (x ++ front, rest, ap (λ t. x ++ t) whole ∙ sym (append_assoc x front rest), appends_then a b c x front first h)
 
-pub up_to_kept : (a b c : Option (List ℕ)) (x : List ℕ) → AppendsUpTo a b x → Keeps b c → AppendsUpTo a c x
-up_to_kept a b c x (front, rest, whole, h) kept = (front, rest, whole, appends_kept a b c front h kept)
-
 pub sends_then : {T E : Type 0} (r : Result T E) (a b c : Option (List ℕ)) (x y : List ℕ) → Appends a b x → Sends r b c y → Sends r a c (x ++ y)
 sends_then (Ok t) a b c x y first then = appends_then a b c x y first then
 sends_then (Err e) a b c x y first then = up_to_then a b c x y first then
@@ -52,7 +49,3 @@ sends_then (Err e) a b c x y first then = up_to_then a b c x y first then
 pub sends_err : {T E : Type 0} (Q : E → Type 0) (r : Result T E) (a b : Option (List ℕ)) (x : List ℕ) → IsErrAnd r Q → AppendsUpTo a b x → Sends r a b x
 sends_err Q (Ok t) a b x is front = absurd is
 sends_err Q (Err e) a b x is front = front
-
-pub on_ok : {T E P Q : Type 0} (r : Result T E) → (P → Q) → OnOk r P → OnOk r Q
-on_ok (Ok x) f p = f p
-on_ok (Err e) f p = tt

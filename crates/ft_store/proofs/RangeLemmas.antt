@@ -90,10 +90,6 @@ after_last-end [] b = refl
 after_last-end (x ∷ []) b = refl
 after_last-end (x ∷ y ∷ front) b = ap (λ l. x ∷ l) (after_last-end (y ∷ front) b)
 
-pub end-below : (k : ℕ) (front : List ℕ) (b : ℕ) → AllByRecursion (λ x. x < k) (front ++ b ∷ []) → b < k
-end-below k [] b all = all.0
-end-below k (x ∷ front) b all = end-below k front b all.1
-
 next_low : (b : ℕ) → 128 + b % 64 < 255
 next_low b = omega (arith, mod-lt b (lit_pos 64))
   where

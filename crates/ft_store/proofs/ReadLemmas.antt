@@ -163,26 +163,12 @@ four_first (a ∷ b ∷ []) h = absurd (omega (arith, h))
 four_first (a ∷ b ∷ c ∷ []) h = absurd (omega (arith, h))
 four_first (a ∷ b ∷ c ∷ d ∷ rest) h = refl
 
--- fewer than four numbers say no place
-pub too_few : (first : Bool) (last : Spot) (rest : List ℕ) → 0 < length rest → length rest < 4 → checked first last rest ≡ None
-too_few first last [] some few = absurd (omega (arith, some))
-too_few first last (a ∷ []) some few = refl
-too_few first last (a ∷ b ∷ []) some few = refl
-too_few first last (a ∷ b ∷ c ∷ []) some few = refl
-too_few first last (a ∷ b ∷ c ∷ d ∷ rest) some few = absurd (omega (arith, few))
-
 checked_four : (first : Bool) (last : Spot) (rest : List ℕ) (t : Bool) → 4 ≤ length rest → passes first last (spot_from last (get_or rest 0 0) (get_or rest 1 0) (get_or rest 2 0) (get_or rest 3 0)) ≡ t
     → checked first last rest ≡ (if t then option_and_then (λ ss. Some (spot_from last (get_or rest 0 0) (get_or rest 1 0) (get_or rest 2 0) (get_or rest 3 0) ∷ ss))
     (checked false (spot_from last (get_or rest 0 0) (get_or rest 1 0) (get_or rest 2 0) (get_or rest 3 0)) (drop 4 rest)) else None)
 checked_four first last rest t four is =
     let s = spot_from last (get_or rest 0 0) (get_or rest 1 0) (get_or rest 2 0) (get_or rest 3 0) in
     ap (checked first last) (four_first rest four) ∙ ap (λ b. if b then option_and_then (λ (ss : List Spot). Some (s ∷ ss)) (checked false s (drop 4 rest)) else None) is
-
-pub not_passed : (first : Bool) (last : Spot) (rest : List ℕ) → 4 ≤ length rest → passes first last (spot_from last (get_or rest 0 0) (get_or rest 1 0) (get_or rest 2 0) (get_or rest 3 0)) ≡ false → checked first last rest ≡ None
-not_passed first last rest four fails = checked_four first last rest false four fails
-
-pub plain-stored : (s : Spot) → plain_spot (stored_spot s) ≡ s
-plain-stored s = refl
 
 joined : (xs ys : List Spot) (s : Spot) (o : Option (List Spot)) → ys ≡ xs ++ s ∷ [] → option_and_then (λ ss. Some (xs ++ ss)) (option_and_then (λ ss. Some (s ∷ ss)) o) ≡ option_and_then (λ ss. Some (ys ++ ss)) o
 joined xs ys s None e = refl

@@ -84,9 +84,6 @@ version_plain = (refl, refl)
 
 -- ---- values that differ, in any order
 
-AreOwn : List Value → Type 0
-AreOwn vs = IsAscending (λ a b. a ≢ b) vs × AllByRecursion (λ v. IsTrue (is_int v)) vs
-
 record Moves (xs ys : List Value) : Type 0 where
   apart : (w : Value) → AllByRecursion (λ v. w ≢ v) xs → AllByRecursion (λ v. w ≢ v) ys
   differ : IsAscending (λ a b. a ≢ b) xs → IsAscending (λ a b. a ≢ b) ys

@@ -8,7 +8,9 @@ ghost use Rattle.sqlite.specs.Start.{FindsIn};
 ghost use Rattle.sqlite.specs.Opening.{is_open_error};
 ghost use Rattle.sqlite.specs.Files.{file_state, IsOpened};
 ghost use Rattle.sqlite.specs.declared.error.Error.{Error};
+ghost use Rattle.ft_store.specs.declared.fault.StoreFault.TheVariants as fault;
 
+use crate::fault::StoreFault;
 use sqlite::{Connection, Error, ErrorCode, FileFrom, FileStore, Files, Options, Start};
 use sqlite_std_file::OpenError;
 use std::fs;
@@ -89,5 +91,23 @@ pub fn open_database<S: Start>(
             Ok(conn)
         }
         Err((error, _)) => Err(error),
+    }
+}
+
+/// The same, with a fault of the store.
+pub(crate) fn open_for_store<S: Start>(
+    rt: &HostRuntime,
+    path: &str,
+    start: S,
+) -> Result<Connection<FileStore<FileFrom<S>>>, StoreFault>
+    ensures memory { path.now ≡ codes ":memory:" → result ≡ Err fault.Refused }
+    ensures opened { IfOk result (λ c. HasCleanDisk (file_state c) → IsOpened c) }
+    ensures found { IfOk result (λ c. HasCleanDisk (file_state c) → FindsIn (image_at S.Start) (file_state c)) }
+    ensures fresh { IfOk result IsNew }
+{
+    match open_database(rt, path, start) {
+        Ok(conn) => Ok(conn),
+        Err(Error::SqliteFailure(ErrorCode::OutOfMemory)) => Err(StoreFault::Memory),
+        Err(_) => Err(StoreFault::Refused),
     }
 }

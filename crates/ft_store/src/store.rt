@@ -1,4 +1,4 @@
-ghost use Rattle.std.specs.Prelude.{◌≡◌, ◌&&◌, false, Err, MatchResult, IfErr, map, vec_len, length, option_to_list, nat_eq, All, IsTrue, IfOk, OnOk, OnErr};
+ghost use Rattle.std.specs.Prelude.{◌≡◌, ◌&&◌, false, codes, Err, MatchResult, IfErr, map, vec_len, length, option_to_list, nat_eq, All, IsTrue, IfOk, OnOk, OnErr};
 ghost use Rattle.std.specs.Ordering.{int_eq, is_eq};
 ghost use Rattle.std.specs.List.{starts_with};
 ghost use Rattle.std.specs.FinMap.Entries.{where_key};
@@ -12,7 +12,7 @@ ghost use Rattle.ft_store.specs.Adopted.{IsTaken, IsNotTaken, LeavesEmpty};
 
 use crate::adopt::take;
 use crate::fault::StoreFault;
-use crate::files::open_database;
+use crate::files::open_for_store;
 use crate::make::make;
 use crate::rows::{CellRow, EntryRow, RowChange, SizeRow, TabRow};
 use crate::{lists, read, tables, write};
@@ -78,6 +78,7 @@ impl Store<FileStore<File>> {
     /// The store in a file, which is made where it isn't there. `:memory:` is refused. Nothing is supposed of what a file
     /// that isn't empty held: where something is known of it, `open_from` says what is found.
     pub fn open_file(rt: &HostRuntime, path: &str) -> Result<Store<FileStore<File>>, StoreFault>
+        ensures memory { path.now ≡ codes ":memory:" → result ≡ Err StoreFault.Refused }
         ensures unread { IfOk result (λ store. store.rows_read ≡ 0) }
     {
         Store::open_from(rt, path, Unknown)
@@ -94,10 +95,11 @@ impl<B: Start> Store<FileStore<FileFrom<B>>> {
         path: &str,
         start: B,
     ) -> Result<Store<FileStore<FileFrom<B>>>, StoreFault>
+        ensures memory { path.now ≡ codes ":memory:" → result ≡ Err StoreFault.Refused }
         ensures opened { IfOk result (λ store. IsOpenedFrom (image_at B.Start) store.held) }
         ensures unread { IfOk result (λ store. store.rows_read ≡ 0) }
     {
-        let conn = open_database(rt, path, start)?;
+        let conn = open_for_store(rt, path, start)?;
         match Store::adopt(rt.alloc(), conn) {
             Ok(store) => Ok(store),
             Err(fault) => Err(fault.cause),

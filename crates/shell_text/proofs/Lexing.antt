@@ -67,16 +67,9 @@ pieces_before : (at : Place) (b : ℕ) (rest more : List ℕ) (t : Turn) → end
     → pieces_from at (b ∷ (rest ++ more)) ≡ with_byte t b (pieces_from (place_after t) (rest ++ more))
 pieces_before at b rest more t h e = pieces_by at b (rest ++ more) t (turn_before at b rest more h ∙ e)
 
-abbrev no_pieces : Place → List Piece
-no_pieces at = pieces_from at []
-
 none_left : (at : Place) → pieces_from at [] ≡ []
 unfolding pieces_from
 none_left at = refl
-
--- nothing is read
-pub reads_none : (rest : List ℕ) → Reads [] rest Between [] []
-reads_none rest = record { pieces = λ more h. refl; text = refl; whole = refl; begins = refl }
 
 longer : (before : List ℕ) (b : ℕ) (rest : List ℕ) → (before ++ b ∷ []) ++ rest ≡ before ++ b ∷ rest
 longer before b rest = append_assoc before (b ∷ []) rest

@@ -1,5 +1,5 @@
 -- What the loop over a line's bytes keeps that splits a text into statements.
-use Rattle.std.proofs.Common.{◌≡◌, refl, sym, ap, ◌∙◌, ℕ, suc, ◌+◌, ◌<◌, ◌^◌, arith, Bool, true, false, List, [], ◌∷◌, ◌++◌, length, take, drop, Option, Some, None, length-append, add-zero, zero-add}
+use Rattle.std.proofs.Common.{◌≡◌, refl, sym, ap, ◌∙◌, ℕ, suc, ◌+◌, ◌<◌, arith, Bool, true, false, List, [], ◌∷◌, ◌++◌, length, take, drop, Option, Some, None, length-append, add-zero, zero-add}
 use Rattle.std.specs.Prelude.{if◌then◌else◌, nat_lt, count_by, cond, ◌==◌}
 use Rattle.std.proofs.lemmas.Bool.{lt-ltb}
 use Rattle.std.proofs.lemmas.List.Sums.{sum_by-append, sum_by-cons}
@@ -20,12 +20,6 @@ line_feeds-append xs ys = sum_by-append (λ b. cond (b == 0x0A) 1 0) xs ys
 
 pub line_behind-append : (n : ℕ) (xs ys : List ℕ) → line_behind (line_behind n xs) ys ≡ line_behind n (xs ++ ys)
 line_behind-append n xs ys = let e = line_feeds-append xs ys in omega arith
-
-pub numbered-line : (n : ℕ) → n < 2 ^ 64 → numbered n ≡ n
-numbered-line n h = omega arith
-
-pub line_behind-none : (n : ℕ) → n < 2 ^ 64 → line_behind n [] ≡ n
-line_behind-none n h = omega arith
 
 -- ---- the first word
 

@@ -1,5 +1,5 @@
 -- What a splitter keeps, as readings.
-use Rattle.std.proofs.Common.{◌≡◌, refl, sym, ap, subst, ◌∙◌, ℕ, ◌+◌, ◌-◌, ◌≤◌, arith, Bool, true, false, List, [], ◌∷◌, ◌++◌, length, take, drop, Option, Some, None, Ok, Err}
+use Rattle.std.proofs.Common.{◌≡◌, refl, sym, ap, subst, ◌∙◌, ℕ, ◌+◌, ◌-◌, ◌≤◌, arith, Bool, true, false, List, [], ◌∷◌, ◌++◌, length, take, drop, Option, Some, None, Ok}
 use Rattle.std.specs.Prelude.{if◌then◌else◌, is_some, is_none, nat_le, nat_lt, not, unwrap_or, ◌&&◌, ◌==◌}
 use Rattle.std.specs.List.{list_all, list_any}
 use Rattle.std.specs.Str.{IsUtf8, is_utf8}
@@ -8,10 +8,9 @@ use Rattle.std.proofs.lemmas.Bool.Decides.{nat_tests}
 use Rattle.std.proofs.lemmas.List.{append-nil, take_at, drop_at}
 use Rattle.std.proofs.lemmas.Str.{IsUtf8-from_is_utf8}
 use Rattle.shell_text.specs.Words.{Piece, first_byte, is_gap, next_is, pieces_from, pieces_of, text_of}
-use Rattle.shell_text.specs.Units.{Member, Dot, Fault, Reading, Role, Refused, Command, Joins, after_role, ended_units, is_idle, joined, last_member, member_of, most_bytes, numbered, parts_of, pending_in, role_of, size_with, tail_in, tail_of, units_in, with_line, without_block}
+use Rattle.shell_text.specs.Units.{Member, Dot, Fault, Reading, Role, Refused, Command, after_role, ended_units, is_idle, joined, last_member, member_of, most_bytes, numbered, parts_of, pending_in, role_of, size_with, tail_in, tail_of, units_in, with_line, without_block}
 use Rattle.shell_text.specs.Lexed.{Keeps, handed, is_between, last_of}
-use Rattle.shell_text.specs.Splitting.{IsAccepted, IsBadText, IsKept, Splitting, TakesLine, TakesText, block_as, emptied, first_as, role_as, without_ended}
-use Rattle.shell_text.specs.declared.units.SplitFault.{SplitFault}
+use Rattle.shell_text.specs.Splitting.{IsAccepted, IsKept, Splitting, TakesLine, TakesText, block_as, emptied, first_as, without_ended}
 use Rattle.shell_text.specs.declared.units.SplitFault.TheVariants as fault
 use Rattle.shell_text.specs.declared.units.Pending.{Pending}
 use Rattle.shell_text.specs.declared.units.Spot.{Spot}
@@ -96,15 +95,6 @@ command_taken line text old new u e f g = (
       ∙ ap (λ role. (old.waiting ++ member_of role old.reading line) ++ units_in (after_role role old.reading line)) (sym e),
 )
 
-pub joins_taken : (line text : List ℕ) (old new : Splitting) (u : Unit) → role_of old.reading line ≡ Joins → text ≡ strip_carriage_return line
-    → new ≡ splitting (without_ended (with_line old.reading text)) (old.waiting ++ units_in (with_line old.reading text)) → TakesLine line old new (Ok u)
-joins_taken line text old new u e f g = (
-  subst IsAccepted (sym e) tt,
-  ap (λ s. s.reading) g ∙ ap (λ t. without_ended (with_line old.reading t)) f ∙ ap (λ role. without_ended (after_role role old.reading line)) (sym e),
-  ap (λ s. s.waiting) g ∙ ap (λ t. old.waiting ++ units_in (with_line old.reading t)) f ∙ ap (λ w. w ++ units_in (with_line old.reading (strip_carriage_return line))) (sym (append-nil old.waiting))
-      ∙ ap (λ role. (old.waiting ++ member_of role old.reading line) ++ units_in (after_role role old.reading line)) (sym e),
-)
-
 -- no line is refused for memory
 NoMemory : Role → Type 0
 NoMemory (Refused fault.Memory) = ⊥
@@ -120,48 +110,7 @@ no_memory r line =
     either true x y px py = px
     either false x y px py = py
 
-not_memory : (r : Reading) (line : List ℕ) → role_of r line ≡ Refused fault.Memory → ⊥
-unfolding NoMemory
-not_memory r line e = subst NoMemory e (no_memory r line)
-
-pub refused_taken : (why : SplitFault) (line : List ℕ) (old new : Splitting) → role_of old.reading line ≡ Refused why → new ≡ record old { reading = without_block old.reading } → TakesLine line old new (Err why)
-refused_taken fault.Memory line old new e f = absurd (not_memory old.reading line e)
-refused_taken fault.TooLong line old new e f = (e, f ∙ ap (λ role. splitting (after_role role old.reading line) old.waiting) (sym e))
-refused_taken fault.NotUtf8 line old new e f = (e, f ∙ ap (λ role. splitting (after_role role old.reading line) old.waiting) (sym e))
-refused_taken fault.HasNul line old new e f = (e, f ∙ ap (λ role. splitting (after_role role old.reading line) old.waiting) (sym e))
-refused_taken (fault.Incomplete n) line old new e f = (e, f ∙ ap (λ role. splitting (after_role role old.reading line) old.waiting) (sym e))
-
 -- ---- what a line is
-
-abbrev role_tests : Bool → Bool → Bool → Bool → Role
-role_tests long utf8 nul dot = if long then Refused fault.TooLong else if not utf8 then Refused fault.NotUtf8 else if nul then Refused fault.HasNul else if dot then Command else Joins
-
-pub role_long : (r : Reading) (line : List ℕ) → nat_lt most_bytes (size_with r line) ≡ true → role_of r line ≡ Refused fault.TooLong
-role_long r line h = ap (λ b. role_tests b (is_utf8 line) (list_any (λ b. b == 0) line) (is_idle r && next_is (λ b. b == 0x2E) (first_byte line))) h
-
-pub role_bad : (why : SplitFault) (r : Reading) (line : List ℕ) → nat_lt most_bytes (size_with r line) ≡ false → IsBadText line why → role_of r line ≡ Refused why
-role_bad fault.NotUtf8 r line h k =
-    ap (λ b. role_tests b (is_utf8 line) (list_any (λ b. b == 0) line) (is_idle r && next_is (λ b. b == 0x2E) (first_byte line))) h
-    ∙ ap (λ b. role_tests false b (list_any (λ b. b == 0) line) (is_idle r && next_is (λ b. b == 0x2E) (first_byte line))) k
-role_bad fault.HasNul r line h k =
-    ap (λ b. role_tests b (is_utf8 line) (list_any (λ b. b == 0) line) (is_idle r && next_is (λ b. b == 0x2E) (first_byte line))) h
-    ∙ ap (λ b. role_tests false b (list_any (λ b. b == 0) line) (is_idle r && next_is (λ b. b == 0x2E) (first_byte line))) k.0
-    ∙ ap (λ b. role_tests false true b (is_idle r && next_is (λ b. b == 0x2E) (first_byte line))) k.1
-role_bad fault.TooLong r line h k = absurd k
-role_bad (fault.Incomplete n) r line h k = absurd k
-role_bad fault.Memory r line h k = absurd k
-
-dot_role : (dot : Bool) → role_tests false true false dot ≡ role_as dot
-dot_role true = refl
-dot_role false = refl
-
-pub role_good : (r : Reading) (line : List ℕ) (dot : Bool) → nat_lt most_bytes (size_with r line) ≡ false → is_utf8 line ≡ true → list_any (λ b. b == 0) line ≡ false
-    → dot ≡ is_idle r && next_is (λ b. b == 0x2E) (first_byte line) → role_of r line ≡ role_as dot
-role_good r line dot h u n d =
-    ap (λ b. role_tests b (is_utf8 line) (list_any (λ b. b == 0) line) (is_idle r && next_is (λ b. b == 0x2E) (first_byte line))) h
-    ∙ ap (λ b. role_tests false b (list_any (λ b. b == 0) line) (is_idle r && next_is (λ b. b == 0x2E) (first_byte line))) u
-    ∙ ap (λ b. role_tests false true b (is_idle r && next_is (λ b. b == 0x2E) (first_byte line))) n
-    ∙ ap (role_tests false true false) (sym d) ∙ dot_role dot
 
 pub not_utf8 : (bytes : List ℕ) → ¬ (IsUtf8 bytes) → is_utf8 bytes ≡ false
 not_utf8 bytes h = by_test (is_utf8 bytes) refl

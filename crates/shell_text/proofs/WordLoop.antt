@@ -13,7 +13,7 @@ use Rattle.shell_text.specs.declared.words.Ended.TheVariants.{Word, Gap}
 use Rattle.shell_text.specs.declared.words.Turn.{Turn}
 use Rattle.shell_text.specs.declared.words.Turn.TheVariants.{Goes, Ends}
 use Rattle.shell_text.specs.Lexed.{IsFront, Reads, onto}
-use Rattle.shell_text.proofs.Lexing.{closed, onto-none, reads_none, text_of-more, reads_goes, reads_ends}
+use Rattle.shell_text.proofs.Lexing.{closed, onto-none, text_of-more, reads_goes, reads_ends}
 
 pub first_byte-drop : (text : List ℕ) (i : ℕ) → first_byte (drop i text) ≡ slice_get text i
 first_byte-drop [] zero = refl
@@ -28,9 +28,6 @@ pub record WordsTo (text : List ℕ) (i start : ℕ) (place : Place) (words : Li
   pub reads : Reads (take i text) (drop i text) place front done
   pub start_is : start ≡ length (text_of done)
   pub words_are : words ≡ words_at 0 done
-
-pub words_none : (text : List ℕ) → WordsTo text 0 0 Between []
-words_none text = record { front = []; done = []; reads = reads_none text; start_is = refl; words_are = refl }
 
 words_at-more : (done : List Piece) (p : Piece) (at : ℕ) → words_at at (done ++ p ∷ []) ≡ words_at at done ++ word_at (at + length (text_of done)) p
 words_at-more [] p at = append-nil (word_at at p) ∙ ap (λ n. word_at n p) (sym (add-zero at))
