@@ -20,12 +20,14 @@ demo: build
 	@cd examples && ../bin/ft4sh < search.sql
 
 # Every proof from nothing, the edits that must fail, the tests, and the program as two compilers build it; then what the program that
-# this left writes for the scripts of tests/, the examples of the manual and the demonstration.
+# this left writes for the scripts of tests/, the examples of the manual and the demonstration; and a session with each of its
+# allocations refused in turn, where there are a C compiler and Python.
 test:
 	RT_JOBS=$(RT_JOBS) $(RT) ci
 	tests/run crates/ft_main/out/ft_main
 	tests/manual crates/ft_main/out/ft_main
 	cd examples && ../crates/ft_main/out/ft_main < search.sql | diff search.out -
+	tests/memory crates/ft_main/out/ft_main
 
 install: build
 	mkdir -p "$(DESTDIR)$(PREFIX)/bin" "$(DESTDIR)$(PREFIX)/share/man/man1"

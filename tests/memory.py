@@ -2,9 +2,10 @@
 
 The session is SCRIPT, over databases in memory. With each STEP-th allocation from the FIRST on refused, one of these holds:
 - nothing changes;
-- one line is told to lack memory, and everything else is as in a run of the script without that line;
+- one line is refused, and everything behind it is as in a run of the script without that line;
+- a line makes a plain table and is told to lack memory: the table is there, but isn't noted;
 - the run ends early, or doesn't begin, which a line says, and what was written is a front of what is written with ample memory.
-It needs a C compiler. The gate doesn't run it: it takes an hour of a processor with a step of 1.
+It needs a C compiler.
 """
 import collections
 import concurrent.futures
@@ -39,6 +40,10 @@ SELECT count(*) FROM plain;
 INSERT INTO mail(mail) VALUES('integrity-check');
 """.strip("\n").split("\n")
 RECORDS = 'subject,body\n"a ""word""",b\nlast,words here\n'
+REFUSED = re.compile(r"Error: near line (\d+): (out of memory|disk I/O error|full-text store refused)\n")
+# What `.tables` lists, and what it lists where the table that a line makes isn't noted.
+LISTED = "made   mail   plain\n"
+UNNOTED = {10: "made  mail\n", 14: "mail   plain\n"}
 EARLY = ("Error: out of memory\n", "Error: unable to open database\n", "Error: unable to open full-text store\n", "ft4sh: out of memory\n")
 
 Ran = collections.namedtuple("Ran", "out err status")
@@ -59,14 +64,19 @@ def without(lines, number):
 
 
 def judge(ran, whole, less):
-    """Says which of the three cases holds, or None. `less` gives the run without a line."""
+    """Says which of the cases holds, or None. `less` gives the run without a line."""
     if ran == whole:
         return "no difference"
     if ran.err in EARLY and ran.status != 0 and whole.out.startswith(ran.out):
         return "ended early"
-    said = re.fullmatch(r"Error: near line (\d+): out of memory\n", ran.err)
-    if said and ran.status == 1 and ran.out == less(int(said[1])).out:
-        return "one line lacked memory"
+    said = REFUSED.match(ran.err)
+    if said and ran.status == 1:
+        number, rest = int(said[1]), ran.err[said.end() :]
+        other = less(number)
+        if (ran.out, rest) == (other.out, other.err):
+            return "one line refused"
+        if number in UNNOTED and (ran.out, rest) == (whole.out.replace(LISTED, UNNOTED[number]), ""):
+            return "a table not noted"
     return None
 
 

@@ -11,11 +11,12 @@ use Rattle.std.proofs.lemmas.Int.{ints}
 use Rattle.std.proofs.lemmas.Bool.{and_parts, and_from}
 use Rattle.std.proofs.lemmas.Map.Lookups.{CmpEqualImpliesEq}
 use Rattle.ft_store.specs.Store.{StoreValue, AreInOrder, Cell, CellKey, ListKey, ColumnKey, column_key_cmp, AddTable, applied, without_rows, with_columns, with_skipped}
-use Rattle.ft_content.specs.Content.{Column, Content, names_of, skipped_from, content_rows}
+use Rattle.ft_content.specs.Content.{Column, names_of, skipped_from, content_rows}
 use Rattle.ft_content.specs.Index.{StoredSpot, index_rows, entries, sizes, spot_lists}
 use Rattle.ft_index.specs.Tables.{table_rows, table_index}
-use Rattle.ft_index.proofs.KeyedRows.{tie, true_of, of_true}
+use Rattle.ft_index.proofs.KeyedRows.{tie, true_of, of_true, less}
 use Rattle.ft_index.proofs.StoreKeys.{column_total, column_exact}
+use Rattle.ft_index.proofs.BareLemmas.{bare}
 
 -- ---- rows put at the end
 
@@ -23,11 +24,6 @@ use Rattle.ft_index.proofs.StoreKeys.{column_total, column_exact}
 abbrev put_all : {K V : Type 0} → (K → K → Ordering) → List (K × V) → List (K × V) → List (K × V)
 put_all R [] rows = rows
 put_all R (e ∷ es) rows = put_all R es (put R e.0 e.1 rows)
-
-less : (o : Ordering) → is_lt o ≡ true → o ≡ Less
-less Less h = refl
-less Equal h = absurd (let no = h in cc)
-less Greater h = absurd (let no = h in cc)
 
 put_end : {K V : Type 0} (R : K → K → Ordering) → IsTotalOrder R → (e : K × V) (acc es : List (K × V)) → is_sorted R (acc ++ e ∷ es) ≡ true → put R e.0 e.1 acc ≡ acc ++ e ∷ []
 put_end R total e [] es h = refl
@@ -166,9 +162,6 @@ names_back id k (c ∷ cs) = ap (λ l. (pos k, c.name) ∷ l) (names_back id (k 
 skips_back : (id : ℤ) (cs : List ℤ) → map (λ (s : ColumnKey × Unit {0}). s.0.1) (map (λ (c : ℤ). ((id, c), tt)) cs) ≡ cs
 skips_back id [] = refl
 skips_back id (c ∷ cs) = ap (λ l. c ∷ l) (skips_back id cs)
-
-abbrev pub bare : List Column → Content
-bare columns = record { columns = columns; documents = [] }
 
 pub added_rows : (id : ℤ) (name : List ℕ) (columns : List Column) (store : StoreValue) → AreInOrder store → table_rows id (applied (AddTable id name (names_of columns) (skipped_from 0 columns)) store) ≡ content_rows (bare columns)
 added_rows id name columns store order =

@@ -1,10 +1,6 @@
 -- Tests of a filter look at the columns of a content alone.
-use Rattle.std.proofs.Common.{◌≡◌, ◌⊎◌, inl, inr, ℕ, Bool, true, false, List, [], map, Option, Some, None, Result, refl, sym, ap, subst, ◌∙◌}
-use Rattle.std.specs.Prelude.{◌≢◌}
+use Rattle.std.proofs.Common.{◌≡◌, ℕ, List, [], map, Option, refl, ap, ◌∙◌}
 use Rattle.ft_query.specs.Trees.{Tree}
-use Rattle.ft_query.specs.declared.query.QueryFault.{QueryFault}
-use Rattle.ft_content.specs.declared.fault.Fault.{Fault}
-use Rattle.ft_content.specs.declared.fault.Fault.TheVariants as faults
 use Rattle.ft_content.specs.declared.table.Column as source
 use Rattle.ft_content.specs.Content.{Column, Content}
 use Rattle.ft_content.specs.Command.{Filter, Everything, OfDocid, Matching}
@@ -13,63 +9,31 @@ use Rattle.ft_content.specs.Deserved.{names_unknown, query_fault, reading_fault}
 use Rattle.ft_content.specs.Views.{bare_content, column_of}
 use Rattle.ft_index.specs.Chosen.{ReadsAs}
 
-abbrev of_columns : List Column → Content
-of_columns columns = record { columns = columns; documents = [] }
+abbrev pub bare : List Column → Content
+bare columns = record { columns = columns; documents = [] }
 
-reading_of : (content : Content) (name text : List ℕ) → reading content name text ≡ reading (of_columns content.columns) name text
+reading_of : (content : Content) (name text : List ℕ) → reading content name text ≡ reading (bare content.columns) name text
 unfolding reading
 reading_of content name text = refl
 
-unknown_of : (table : List ℕ) (content : Content) (f : Filter) → names_unknown table content f ≡ names_unknown table (of_columns content.columns) f
+unknown_of : (table : List ℕ) (content : Content) (f : Filter) → names_unknown table content f ≡ names_unknown table (bare content.columns) f
 unknown_of table content Everything = refl
 unknown_of table content (OfDocid docid) = refl
 unknown_of table content (Matching name text) = refl
 
-fault_of : (content : Content) (f : Filter) → query_fault content f ≡ query_fault (of_columns content.columns) f
+fault_of : (content : Content) (f : Filter) → query_fault content f ≡ query_fault (bare content.columns) f
 fault_of content Everything = refl
 fault_of content (OfDocid docid) = refl
 fault_of content (Matching name text) = ap reading_fault (reading_of content name text)
 
 module _ (content : Content) (cols : List source.Column) (columns_are : content.columns ≡ map column_of cols) (f : Filter) where
   pub unknown_bare : (table : List ℕ) → names_unknown table content f ≡ names_unknown table (bare_content cols) f
-  unknown_bare table = unknown_of table content f ∙ ap (λ cs. names_unknown table (of_columns cs) f) columns_are
+  unknown_bare table = unknown_of table content f ∙ ap (λ cs. names_unknown table (bare cs) f) columns_are
 
   pub fault_bare : query_fault content f ≡ query_fault (bare_content cols) f
-  fault_bare = fault_of content f ∙ ap (λ cs. query_fault (of_columns cs) f) columns_are
+  fault_bare = fault_of content f ∙ ap (λ cs. query_fault (bare cs) f) columns_are
 
 pub reads_bare : (content : Content) (cols : List source.Column) (columns_are : content.columns ≡ map column_of cols) (f : Filter) (query : Option Tree) → ReadsAs (bare_content cols) f query → ReadsAs content f query
 reads_bare content cols columns_are Everything query h = tt
 reads_bare content cols columns_are (OfDocid docid) query h = tt
-reads_bare content cols columns_are (Matching name text) query h = reading_of content name text ∙ ap (λ cs. reading (of_columns cs) name text) columns_are ∙ h
-
--- ---- want of memory is told from other faults
-
-is_memory : Fault → Bool
-is_memory faults.Memory = true
-is_memory fault = false
-
-pub memory_or : (fault : Fault) → (fault ≡ faults.Memory) ⊎ (fault ≢ faults.Memory)
-memory_or faults.Module = inr (λ e. absurd (let no = ap is_memory e in cc))
-memory_or faults.Tokenizer = inr (λ e. absurd (let no = ap is_memory e in cc))
-memory_or faults.Parameter = inr (λ e. absurd (let no = ap is_memory e in cc))
-memory_or faults.Name = inr (λ e. absurd (let no = ap is_memory e in cc))
-memory_or faults.DuplicateColumn = inr (λ e. absurd (let no = ap is_memory e in cc))
-memory_or faults.TooManyColumns = inr (λ e. absurd (let no = ap is_memory e in cc))
-memory_or faults.TableExists = inr (λ e. absurd (let no = ap is_memory e in cc))
-memory_or faults.TooManyTables = inr (λ e. absurd (let no = ap is_memory e in cc))
-memory_or faults.NoSuchTable = inr (λ e. absurd (let no = ap is_memory e in cc))
-memory_or faults.Unsound = inr (λ e. absurd (let no = ap is_memory e in cc))
-memory_or faults.NoSuchColumn = inr (λ e. absurd (let no = ap is_memory e in cc))
-memory_or faults.Count = inr (λ e. absurd (let no = ap is_memory e in cc))
-memory_or faults.DocidKind = inr (λ e. absurd (let no = ap is_memory e in cc))
-memory_or faults.DocidTwice = inr (λ e. absurd (let no = ap is_memory e in cc))
-memory_or faults.TooLong = inr (λ e. absurd (let no = ap is_memory e in cc))
-memory_or faults.HasNul = inr (λ e. absurd (let no = ap is_memory e in cc))
-memory_or faults.Context = inr (λ e. absurd (let no = ap is_memory e in cc))
-memory_or faults.Malformed = inr (λ e. absurd (let no = ap is_memory e in cc))
-memory_or faults.TooLarge = inr (λ e. absurd (let no = ap is_memory e in cc))
-memory_or (faults.DocidTaken docid) = inr (λ e. absurd (let no = ap is_memory e in cc))
-memory_or faults.DocidFull = inr (λ e. absurd (let no = ap is_memory e in cc))
-memory_or faults.Corrupt = inr (λ e. absurd (let no = ap is_memory e in cc))
-memory_or faults.Store = inr (λ e. absurd (let no = ap is_memory e in cc))
-memory_or faults.Memory = inl refl
+reads_bare content cols columns_are (Matching name text) query h = reading_of content name text ∙ ap (λ cs. reading (bare cs) name text) columns_are ∙ h

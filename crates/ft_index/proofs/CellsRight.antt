@@ -15,10 +15,10 @@ use Rattle.ft_content.specs.Content.{Documents}
 use Rattle.ft_index.specs.Rewrite.{Rewrite, by_docid, rewritten}
 use Rattle.ft_index.specs.RewriteRows.{all_put, same_cell, was_there, changed, numbered, goes}
 use Rattle.ft_index.proofs.StoreKeys.{column_total, column_exact}
-use Rattle.ft_index.proofs.KeyedRows.{true_of, of_true, tie, none_below, sorted_put, find_all_put, or_else, fresh, changed_found, sorted-filter}
+use Rattle.ft_index.proofs.KeyedRows.{true_of, of_true, tie, none_below, sorted_put, find_all_put, or_else, fresh, changed_found, sorted-filter, turned_round}
 use Rattle.ft_index.proofs.CellSteps.{numbered_from}
 use Rattle.ft_index.proofs.DocumentRows.{rows_by, one_by, sorted_by, find_by, sorted_numbered}
-use Rattle.ft_index.proofs.RewriteLemmas.{Cells, turned, written, before_found, sorted_rewritten, last_rows}
+use Rattle.ft_index.proofs.RewriteLemmas.{Cells, written, before_found, sorted_rewritten, last_rows}
 use Rattle.ft_index.proofs.RowKinds.{cells_are}
 use Rattle.ft_index.proofs.AppliedLemmas.{new_cells, documents_dropped}
 
@@ -36,7 +36,7 @@ find_dropped q (r ∷ rs) rows =
     let p = λ (k : ℤ × ℤ). not (int_eq r.docid k.0) in
     let any = list_any (λ (r : Rewrite). int_eq q.0 r.docid) rs in
     find_dropped q rs (where_key column_key_cmp p rows)
-    ∙ ap (cond any None) (find-where_key column_key_cmp p q (λ x t. ap p (sym (column_exact q x t))) rows ∙ ap (λ b. cond (not b) (find column_key_cmp q rows) None) (turned r.docid q.0))
+    ∙ ap (cond any None) (find-where_key column_key_cmp p q (λ x t. ap p (sym (column_exact q x t))) rows ∙ ap (λ b. cond (not b) (find column_key_cmp q rows) None) (turned_round r.docid q.0))
     ∙ either any (int_eq q.0 r.docid) (find column_key_cmp q rows)
 
 sorted_left : (rs : List Rewrite) (rows : List ((ℤ × ℤ) × Cell)) → is_sorted column_key_cmp rows ≡ true → is_sorted column_key_cmp (documents_dropped rs rows) ≡ true

@@ -1,12 +1,12 @@
 -- Rewrites of the documents that are chosen.
-use Rattle.std.proofs.Common.{◌≡◌, ℕ, Bool, true, false, cond, not, ◌&&◌, List, [], ◌∷◌, ◌++◌, map, filter, Option, Some, None, ℤ, refl, sym, ap, subst, ◌∙◌}
-use Rattle.std.specs.Prelude.{Contains, flat_map, IsTrue}
+use Rattle.std.proofs.Common.{◌≡◌, ℕ, Bool, true, false, cond, not, List, [], ◌∷◌, ◌++◌, map, filter, Option, Some, None, ℤ, refl, sym, ap, subst, ◌∙◌}
+use Rattle.std.specs.Prelude.{Contains, flat_map}
 use Rattle.std.specs.List.{AllByRecursion}
 use Rattle.std.specs.declared.cmp.Ordering.{Ordering}
-use Rattle.std.specs.declared.cmp.Ordering.TheVariants.{Less, Equal, Greater}
-use Rattle.std.specs.Ordering.{int_cmp, int_eq, is_lt, is_eq, ordering_reverse}
+use Rattle.std.specs.declared.cmp.Ordering.TheVariants.{Less, Greater}
+use Rattle.std.specs.Ordering.{int_cmp, is_lt, is_eq, ordering_reverse}
 use Rattle.std.specs.Cmp.{int_cmp_total, tied_itself}
-use Rattle.std.specs.FinMap.Entries.{put, find, by_order, where_key, below_all, is_sorted}
+use Rattle.std.specs.FinMap.Entries.{put, find, by_order, below_all, is_sorted}
 use Rattle.std.proofs.lemmas.Bool.{and_parts, and_from}
 use Rattle.std.proofs.lemmas.List.Elements.{All-contains_itself, recursion_from_All}
 use Rattle.ft_store.specs.Store.{Cell}
@@ -14,16 +14,11 @@ use Rattle.ft_content.specs.Content.{Content, Documents, IsContent}
 use Rattle.ft_content.specs.Command.{Filter}
 use Rattle.ft_content.specs.Answer.{is_chosen, chosen}
 use Rattle.ft_content.specs.Step.{without_docid, docids_of}
-use Rattle.ft_index.specs.Rewrite.{Rewrite, AreOf, by_docid, rewritten, with_cells, document_if}
+use Rattle.ft_index.specs.Rewrite.{Rewrite, by_docid, rewritten, with_cells, document_if}
 use Rattle.ft_index.specs.Written.{LeadsTo}
-use Rattle.ft_index.proofs.KeyedRows.{tie}
+use Rattle.ft_index.proofs.KeyedRows.{less}
 use Rattle.ft_index.proofs.ChosenLemmas.{AreFound, all_found, less_apart}
 use Rattle.ft_index.proofs.InsertOf.{are_of}
-
-less_is : (o : Ordering) → is_lt o ≡ true → o ≡ Less
-less_is Less h = refl
-less_is Equal h = absurd (let no = h in cc)
-less_is Greater h = absurd (let no = h in cc)
 
 -- ---- what rewrites leave alone
 
@@ -31,7 +26,7 @@ less_is Greater h = absurd (let no = h in cc)
 later : (d : ℤ × List Cell) (ds : Documents) (docid : ℤ) (after : Option (List Cell)) → is_lt (int_cmp d.0 docid) ≡ true → with_cells docid after (d ∷ ds) ≡ d ∷ with_cells docid after ds
 later d ds docid None below = ap (λ b. cond (not b) (d ∷ without_docid docid ds) (without_docid docid ds)) (less_apart d.0 docid below)
 later d ds docid (Some cells) below =
-    let greater : int_cmp docid d.0 ≡ Greater = int_cmp_total.antisymm docid d.0 ∙ ap ordering_reverse (less_is _ below) in
+    let greater : int_cmp docid d.0 ≡ Greater = int_cmp_total.antisymm docid d.0 ∙ ap ordering_reverse (less _ below) in
     ap (λ o. by_order o ((docid, cells) ∷ d ∷ ds) ((d.0, cells) ∷ ds) (d ∷ put int_cmp docid cells ds)) greater
 
 pub spare_first : (d : ℤ × List Cell) (rs : List Rewrite) (ds : Documents) → below_all int_cmp d.0 (by_docid rs) ≡ true → rewritten rs (d ∷ ds) ≡ d ∷ rewritten rs ds
@@ -44,7 +39,7 @@ all_later : (docid : ℤ) (ds : Documents) → below_all int_cmp docid ds ≡ tr
 all_later docid [] below = refl
 all_later docid (d ∷ ds) below =
     let parts = and_parts (is_lt (int_cmp docid d.0)) (below_all int_cmp docid ds) below in
-    go (int_cmp docid d.0) (less_is _ parts.0) (all_later docid ds parts.1)
+    go (int_cmp docid d.0) (less _ parts.0) (all_later docid ds parts.1)
   where
     go : (o : Ordering) → o ≡ Less → without_docid docid ds ≡ ds → cond (not (is_eq o)) (d ∷ without_docid docid ds) (without_docid docid ds) ≡ d ∷ ds
     go o less rest = ap (λ x. cond (not (is_eq x)) (d ∷ without_docid docid ds) (without_docid docid ds)) less ∙ ap (λ l. d ∷ l) rest

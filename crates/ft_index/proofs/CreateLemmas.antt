@@ -18,7 +18,7 @@ use Rattle.ft_index.specs.Found.{with_told}
 use Rattle.ft_index.specs.Planned.{Makes, table_change}
 use Rattle.ft_index.specs.Kept.{AreHeld, StoreHolds, told_table}
 use Rattle.ft_index.proofs.OneTable.{ids_sorted}
-use Rattle.ft_index.proofs.AddLemmas.{bare}
+use Rattle.ft_index.proofs.BareLemmas.{bare}
 use Rattle.ft_index.proofs.TableChanges.{free_is_free, adds_one}
 use Rattle.ft_index.proofs.NameLemmas.{apart_after}
 use Rattle.ft_content.proofs.ContentLemmas.{create_makes_content}

@@ -14,7 +14,8 @@ use Rattle.ft_content.specs.Step.{deleted, docids_of, with_documents, on_table, 
 use Rattle.ft_content.proofs.ContentLemmas.{delete_keeps_content}
 use Rattle.ft_index.specs.Rewrite.{Rewrite, removal}
 use Rattle.ft_index.specs.Written.{LeadsTo}
-use Rattle.ft_index.proofs.BareLemmas.{unknown_bare, fault_bare, memory_or}
+use Rattle.ft_index.proofs.BareLemmas.{unknown_bare, fault_bare}
+use Rattle.ft_index.proofs.FaultLemmas.{memory_or}
 use Rattle.ft_index.proofs.ChosenWrites.{each_rewritten, chosen_lead, own_docids}
 use Rattle.ft_index.proofs.Writing.{IsWrite}
 

@@ -1,9 +1,7 @@
 -- The rewrites of an Insert are rewrites of its table's content.
-use Rattle.std.proofs.Common.{◌≡◌, ℕ, zero, suc, ◌<◌, Bool, true, false, cond, List, [], ◌∷◌, length, get_or, Option, Some, None, ℤ, refl, ap, subst, ◌∙◌, arith}
+use Rattle.std.proofs.Common.{◌≡◌, ℕ, zero, suc, ◌<◌, Bool, true, false, cond, List, [], ◌∷◌, length, get_or, Option, Some, None, ℤ, ap, subst, ◌∙◌, arith}
 use Rattle.std.specs.Prelude.{All, IfSome, IsTrue, unwrap_or}
 use Rattle.std.specs.List.{AllByRecursion, list_all}
-use Rattle.std.specs.declared.cmp.Ordering.{Ordering}
-use Rattle.std.specs.declared.cmp.Ordering.TheVariants.{Less, Equal, Greater}
 use Rattle.std.specs.Ordering.{int_cmp, int_eq, is_lt, is_eq}
 use Rattle.std.specs.Cmp.{int_cmp_total, tied_itself, eq_by_cmp_equiv}
 use Rattle.std.specs.FinMap.Entries.{find, below_all, is_sorted}
@@ -12,6 +10,7 @@ use Rattle.ft_store.specs.Store.{Cell}
 use Rattle.ft_content.specs.Content.{Documents, Content, IsContent, is_document}
 use Rattle.ft_index.specs.Rewrite.{Rewrite, AreOf, FitIfAny, by_docid, rewritten}
 use Rattle.ft_index.proofs.RewriteLemmas.{written, find_rewritten}
+use Rattle.ft_index.proofs.KeyedRows.{below_apart}
 
 all_of : {A : Type 0} (P : A → Type 0) (xs : List A) → AllByRecursion P xs → All P xs
 all_of P [] h = λ k d inside. absurd (omega (arith, inside))
@@ -23,16 +22,11 @@ all_of {A} P (x ∷ xs) h = go (all_of P xs h.1)
 
 -- ---- each rewrite is found under its docid
 
-less_apart : (o : Ordering) → is_lt o ≡ true → is_eq o ≡ false
-less_apart Less h = refl
-less_apart Equal h = absurd (let no = h in cc)
-less_apart Greater h = refl
-
 found_behind : (first : Rewrite) (rs all : List Rewrite) → below_all int_cmp first.docid (by_docid rs) ≡ true → AllByRecursion (λ (r : Rewrite). find int_cmp r.docid (by_docid all) ≡ Some r) rs → AllByRecursion (λ (r : Rewrite). find int_cmp r.docid (by_docid (first ∷ all)) ≡ Some r) rs
 found_behind first [] all below found = tt
 found_behind first (r ∷ rs) all below found =
     let parts = and_parts (is_lt (int_cmp first.docid r.docid)) (below_all int_cmp first.docid (by_docid rs)) below in
-    let other : int_eq r.docid first.docid ≡ false = (eq_by_cmp_equiv int_cmp_total).symm r.docid first.docid ∙ less_apart _ parts.0 in
+    let other : int_eq r.docid first.docid ≡ false = (eq_by_cmp_equiv int_cmp_total).symm r.docid first.docid ∙ below_apart _ parts.0 in
     (ap (λ b. cond b (Some first) (find int_cmp r.docid (by_docid all))) other ∙ found.0, found_behind first rs all parts.1 found.1)
 
 pub each_found : (rs : List Rewrite) → is_sorted int_cmp (by_docid rs) ≡ true → AllByRecursion (λ (r : Rewrite). find int_cmp r.docid (by_docid rs) ≡ Some r) rs

@@ -1,10 +1,11 @@
 -- Rows under keys: what is found in them after they are mapped, filtered and put.
-use Rattle.std.proofs.Common.{◌≡◌, Bool, true, false, cond, not, T, ◌&&◌, List, [], ◌∷◌, map, Option, Some, None, refl, sym, ap, subst, ◌∙◌}
+use Rattle.std.proofs.Common.{◌≡◌, Bool, true, false, cond, not, T, ◌&&◌, List, [], ◌∷◌, map, Option, Some, None, refl, sym, ap, subst, ◌∙◌, ℤ}
 use Rattle.std.specs.Prelude.{filter, option_map, is_some}
 use Rattle.std.specs.declared.cmp.Ordering.{Ordering}
 use Rattle.std.specs.declared.cmp.Ordering.TheVariants.{Less, Equal, Greater}
-use Rattle.std.specs.Ordering.{eq_by_cmp, is_eq, is_lt, ordering_then}
-use Rattle.std.specs.Cmp.{IsTotalOrder, eq_by_cmp_equiv}
+use Rattle.std.specs.Ordering.{int_cmp, int_eq, eq_by_cmp, is_eq, is_lt, ordering_then}
+use Rattle.std.specs.Cmp.{IsTotalOrder, eq_by_cmp_equiv, int_cmp_total, tied_itself}
+use Rattle.std.specs.FinMap.{int_cmp-IsAntisymmetric}
 use Rattle.std.specs.FinMap.Entries.{put, find, below_all, is_sorted, is_sorted-put, is_sorted-where_key, find-put, find-where_key, same_entries}
 use Rattle.std.proofs.lemmas.Bool.{and_parts, and_from}
 use Rattle.std.proofs.lemmas.Map.Lookups.{CmpEqualImpliesEq}
@@ -23,7 +24,26 @@ tie Less h = absurd (let no = h in cc)
 tie Equal h = refl
 tie Greater h = absurd (let no = h in cc)
 
-less : (o : Ordering) → is_lt o ≡ true → o ≡ Less
+pub itself : (x : ℤ) → int_eq x x ≡ true
+itself x = ap is_eq (tied_itself int_cmp_total x)
+
+pub turned_round : (x y : ℤ) → int_eq x y ≡ int_eq y x
+turned_round x y = (eq_by_cmp_equiv int_cmp_total).symm x y
+
+pub same_int : (x y : ℤ) → int_eq x y ≡ true → x ≡ y
+same_int x y h = int_cmp-IsAntisymmetric x y (tie _ h)
+
+pub second_tie : (a b : Ordering) → is_eq (ordering_then a b) ≡ true → is_eq b ≡ true
+second_tie Less b h = absurd (let no = h in cc)
+second_tie Equal b h = h
+second_tie Greater b h = absurd (let no = h in cc)
+
+pub below_apart : (o : Ordering) → is_lt o ≡ true → is_eq o ≡ false
+below_apart Less h = refl
+below_apart Equal h = absurd (let no = h in cc)
+below_apart Greater h = refl
+
+pub less : (o : Ordering) → is_lt o ≡ true → o ≡ Less
 less Less h = refl
 less Equal h = absurd (let no = h in cc)
 less Greater h = absurd (let no = h in cc)

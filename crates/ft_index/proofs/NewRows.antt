@@ -3,7 +3,6 @@ use Rattle.std.proofs.Common.{◌≡◌, ◌^◌, ◌-◌, Bool, true, false, co
 use Rattle.std.specs.Prelude.{◌+ℤ◌, unwrap_or, is_some, IfSome, ◌⊎◌, Vec}
 use Rattle.std.specs.List.{AllByRecursion}
 use Rattle.std.specs.declared.alloc.Global.{Global}
-use Rattle.std.specs.declared.cmp.Ordering.{Ordering}
 use Rattle.std.specs.declared.cmp.Ordering.TheVariants.{Less, Equal, Greater}
 use Rattle.std.specs.Ordering.{int_cmp, int_eq, is_eq, is_lt, eq_by_cmp}
 use Rattle.std.specs.Cmp.{int_cmp_total, int_cmp_is}
@@ -21,7 +20,7 @@ use Rattle.ft_content.specs.Deserved.{next_docid, has_docid, insert_row, append_
 use Rattle.ft_content.specs.Views.{cells_of}
 use Rattle.ft_index.specs.NewDocuments.{shown_entry}
 use Rattle.ft_index.specs.RewriteRows.{all_put}
-use Rattle.ft_index.proofs.KeyedRows.{true_of, of_true, sorted_put, or_else, find_all_put}
+use Rattle.ft_index.proofs.KeyedRows.{true_of, of_true, sorted_put, or_else, find_all_put, less}
 
 -- ---- a document that is put among the new ones
 
@@ -82,11 +81,6 @@ has_all docid new documents rising =
     or_true false = refl
 
 -- ---- the docid of a row is new
-
-less : (o : Ordering) → is_lt o ≡ true → o ≡ Less
-less Less h = refl
-less Equal h = absurd (let no = h in cc)
-less Greater h = absurd (let no = h in cc)
 
 next_of_one : (n k : ℤ) → cond (int_eq n (pos (2 ^ 63 - 1))) None (Some (n +ℤ pos 1)) ≡ Some k → int_cmp n k ≡ Less
 next_of_one n k = elim (int_eq n (pos (2 ^ 63 - 1))) as (λ b. cond b None (Some (n +ℤ pos 1)) ≡ Some k → int_cmp n k ≡ Less) [

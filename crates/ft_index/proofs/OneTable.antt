@@ -2,8 +2,6 @@
 use Rattle.std.proofs.Common.{◌≡◌, ℕ, Bool, true, false, cond, ◌&&◌, ◌||◌, List, [], ◌∷◌, map, Some, ℤ, refl, sym, ap, subst, ◌∙◌}
 use Rattle.std.specs.Prelude.{unwrap_or}
 use Rattle.std.specs.List.{AllZip, AllByRecursion, list_any}
-use Rattle.std.specs.declared.cmp.Ordering.{Ordering}
-use Rattle.std.specs.declared.cmp.Ordering.TheVariants.{Less, Equal, Greater}
 use Rattle.std.specs.Ordering.{int_cmp, int_eq, is_lt, is_eq}
 use Rattle.std.specs.Str.{str_to_ascii_lowercase}
 use Rattle.std.specs.Cmp.{int_cmp_total, eq_by_cmp_equiv, tied_itself}
@@ -16,6 +14,7 @@ use Rattle.ft_content.specs.Deserved.{Held, Table, Contents, table_named}
 use Rattle.ft_content.specs.Step.{on_table}
 use Rattle.ft_index.specs.Tables.{table_rows, table_index}
 use Rattle.ft_index.specs.Kept.{Stands, HoldsTable}
+use Rattle.ft_index.proofs.KeyedRows.{below_apart}
 
 neither : (a b : Bool) → (a || b) ≡ false → (a ≡ false) × (b ≡ false)
 neither true b h = absurd (let no = h in cc)
@@ -28,11 +27,6 @@ pub record IsOne (name : List ℕ) (t x : ℤ × Table) : Type 0 where
 
 abbrev names_in : Contents → List (List ℕ)
 names_in contents = map (λ (t : ℤ × Table). t.1.name) contents
-
-below_apart : (o : Ordering) → is_lt o ≡ true → is_eq o ≡ false
-below_apart Less h = refl
-below_apart Equal h = absurd (let no = h in cc)
-below_apart Greater h = refl
 
 -- behind a table of this name stand others
 others_from : (name : List ℕ) (t : ℤ × Table) (xs : Contents) → same_name t.1.name name ≡ true → below_all int_cmp t.0 xs ≡ true → list_any (same_name t.1.name) (names_in xs) ≡ false → AllByRecursion (IsOne name t) xs

@@ -2,10 +2,7 @@
 use Rattle.std.proofs.Common.{◌≡◌, ℕ, ℤ, ◌+◌, Bool, true, false, cond, Some, None, List, [], ◌∷◌, ◌++◌, map, length, refl, sym, ap, ◌∙◌, suc, arith, take, drop, subst, append_assoc, append-nil, IsPermutation}
 use Rattle.std.specs.Prelude.{slice_get}
 use Rattle.std.specs.List.{prefix_len}
-use Rattle.std.specs.declared.cmp.Ordering.{Ordering}
-use Rattle.std.specs.declared.cmp.Ordering.TheVariants.{Less, Equal, Greater}
-use Rattle.std.specs.Ordering.{int_eq, is_eq}
-use Rattle.std.specs.Cmp.{eq_by_cmp_equiv, int_cmp_total, tied_itself}
+use Rattle.std.specs.Ordering.{int_eq}
 use Rattle.std.proofs.lemmas.Map.Lookups.{exact_signed}
 use Rattle.std.proofs.lemmas.List.{map-append}
 use Rattle.std.proofs.lemmas.List.Sorted.{IsPermutation-refl}
@@ -14,17 +11,10 @@ use Rattle.ft_query.specs.declared.lists.DocList.{DocList}
 use Rattle.ft_query.specs.Documents.{PlaceList, plain_list, place_count}
 use Rattle.ft_index.specs.declared.doc_lists.Placed.{Placed}
 use Rattle.ft_index.specs.Placed.{place_in, list_with, run_with, with_placed, by_docid}
-
-equal_of : (o : Ordering) → is_eq o ≡ true → o ≡ Equal
-equal_of Less h = absurd (let no = h in cc)
-equal_of Equal h = refl
-equal_of Greater h = absurd (let no = h in cc)
+use Rattle.ft_index.proofs.KeyedRows.{tie, turned_round, itself}
 
 pub docids_same : (x y : ℤ) → int_eq x y ≡ true → x ≡ y
-docids_same x y h = exact_signed x y (equal_of _ h)
-
-pub docid_itself : (x : ℤ) → int_eq x x ≡ true
-docid_itself x = ap is_eq (tied_itself int_cmp_total x)
+docids_same x y h = exact_signed x y (tie _ h)
 
 -- the first list is of the first place's docid
 apart : (p q : Placed) (ls : List PlaceList) → int_eq p.docid q.docid ≡ false → with_placed p (with_placed q ls) ≡ list_with p (p ∷ []) ∷ with_placed q ls
@@ -36,9 +26,6 @@ apart p q (l ∷ ls) h = elim (int_eq q.docid l.docid) as (λ b.
       | false ↦ ap (λ b. cond b (list_with p (p ∷ q ∷ []) ∷ l ∷ ls) (list_with p (p ∷ []) ∷ list_with q (q ∷ []) ∷ l ∷ ls)) h
     ]
 
-turned : (x y : ℤ) → int_eq x y ≡ int_eq y x
-turned x y = (eq_by_cmp_equiv int_cmp_total).symm x y
-
 -- a place before one of its document, or of another
 step : (p q : Placed) (qs : List Placed) (b : Bool) → int_eq q.docid p.docid ≡ b → with_placed q (by_docid qs) ≡ list_with q (q ∷ take (run_with q qs) qs) ∷ by_docid (drop (run_with q qs) qs) →
     with_placed p (by_docid (q ∷ qs)) ≡ list_with p (p ∷ take (cond b (1 + run_with p qs) 0) (q ∷ qs)) ∷ by_docid (drop (cond b (1 + run_with p qs) 0) (q ∷ qs))
@@ -48,9 +35,9 @@ step p q qs true e rest =
     let more : suc (run_with p qs) ≡ 1 + run_with p qs = omega arith in
     ap (with_placed p) (rest ∙ ap (λ d. list_with q (q ∷ take (prefix_len (λ (r : Placed). int_eq r.docid d) qs) qs) ∷ by_docid (drop (prefix_len (λ (r : Placed). int_eq r.docid d) qs) qs)) same)
     ∙ ap (λ b. cond b (list_with p (p ∷ q ∷ take (run_with p qs) qs) ∷ by_docid (drop (run_with p qs) qs)) (list_with p (p ∷ []) ∷ list_with q (q ∷ take (run_with p qs) qs) ∷ by_docid (drop (run_with p qs) qs)))
-    (ap (int_eq p.docid) same ∙ docid_itself p.docid)
+    (ap (int_eq p.docid) same ∙ itself p.docid)
     ∙ ap (λ n. list_with p (p ∷ take n (q ∷ qs)) ∷ by_docid (drop n (q ∷ qs))) more
-step p q qs false e rest = apart p q (by_docid qs) (turned p.docid q.docid ∙ e)
+step p q qs false e rest = apart p q (by_docid qs) (turned_round p.docid q.docid ∙ e)
 
 -- a place before those of its document, and the rest
 runs : (p : Placed) (ps : List Placed) → with_placed p (by_docid ps) ≡ list_with p (p ∷ take (run_with p ps) ps) ∷ by_docid (drop (run_with p ps) ps)
@@ -63,7 +50,7 @@ pub first_list : (p : Placed) (ps : List Placed) → by_docid (p ∷ ps) ≡ lis
 unfolding by_docid
 first_list p ps =
     let more : suc (run_with p ps) ≡ 1 + run_with p ps = omega arith in
-    runs p ps ∙ ap (λ n. list_with p (take n (p ∷ ps)) ∷ by_docid (drop n (p ∷ ps))) (more ∙ ap (λ b. cond b (1 + run_with p ps) 0) (sym (docid_itself p.docid)))
+    runs p ps ∙ ap (λ n. list_with p (take n (p ∷ ps)) ∷ by_docid (drop n (p ∷ ps))) (more ∙ ap (λ b. cond b (1 + run_with p ps) 0) (sym (itself p.docid)))
 
 pub first_lists : (ps : List Placed) (p : Placed) → slice_get ps 0 ≡ Some p → by_docid ps ≡ list_with p (take (run_with p ps) ps) ∷ by_docid (drop (run_with p ps) ps)
 first_lists [] p is = absurd (let no = is in cc)

@@ -14,7 +14,8 @@ use Rattle.ft_index.specs.Found.{known_named, IsUnfit, IsSoundNamed}
 use Rattle.ft_index.specs.Planned.{Makes, table_change}
 use Rattle.ft_index.specs.Kept.{AreHeld, StoreHolds, StaysNear, PlansFrom, Answers, is_outside, told_table}
 use Rattle.ft_index.proofs.KnownLemmas.{IsSoundTable, sound_table, sound_is, unfit_is}
-use Rattle.ft_index.proofs.SelectAnswers.{bare, fault_bare, told_columns}
+use Rattle.ft_index.proofs.SelectAnswers.{fault_bare, told_columns}
+use Rattle.ft_index.proofs.BareLemmas.{bare}
 use Rattle.ft_index.proofs.CreateLemmas.{made_is_held, nothing_made}
 
 -- a command that leaves the contents, and names no row

@@ -5,7 +5,7 @@ use Rattle.std.specs.List.{flat_map}
 use Rattle.std.specs.Option.{option_and_then}
 use Rattle.std.specs.declared.cmp.Ordering.{Ordering}
 use Rattle.std.specs.Ordering.{int_cmp, int_eq, is_lt}
-use Rattle.std.specs.Cmp.{IsTotalOrder, eq_by_cmp_equiv, int_cmp_total}
+use Rattle.std.specs.Cmp.{IsTotalOrder, int_cmp_total}
 use Rattle.std.specs.FinMap.{int_cmp-IsAntisymmetric}
 use Rattle.std.specs.FinMap.Entries.{find, below_all, is_sorted, is_sorted-put, is_sorted-where_key, find-put, find-where_key, same_entries}
 use Rattle.std.proofs.lemmas.Bool.{and_parts, and_from}
@@ -15,7 +15,7 @@ use Rattle.ft_store.specs.Store.{Cell}
 use Rattle.ft_content.specs.Content.{Documents}
 use Rattle.ft_index.specs.Rewrite.{Rewrite, with_cells, rewritten, document_if, befores, afters, by_docid}
 use Rattle.ft_index.specs.RewriteRows.{all_put, gone, changed}
-use Rattle.ft_index.proofs.KeyedRows.{true_of, of_true, tie, none_below, sorted_put, sorted_dropped, all_dropped, replaced, find_replaced}
+use Rattle.ft_index.proofs.KeyedRows.{true_of, of_true, tie, none_below, sorted_put, sorted_dropped, all_dropped, replaced, find_replaced, turned_round}
 
 abbrev pub Cells : Type 0
 Cells = Option (List Cell)
@@ -61,14 +61,11 @@ find_held held docid (r ∷ rs) h =
 
 -- ---- documents after rewrites
 
-pub turned : (x y : ℤ) → int_eq x y ≡ int_eq y x
-turned x y = (eq_by_cmp_equiv int_cmp_total).symm x y
-
 find_with : (docid : ℤ) (other : ℤ) (cells : Cells) (documents : Documents) → find int_cmp docid (with_cells other cells documents) ≡ cond (int_eq docid other) cells (find int_cmp docid documents)
 find_with docid other None documents =
     let p = λ (d : ℤ). not (int_eq other d) in
     find-where_key int_cmp p docid (λ x t. ap p (sym (int_cmp-IsAntisymmetric docid x t))) documents
-    ∙ ap (λ b. cond (not b) (find int_cmp docid documents) None) (turned other docid)
+    ∙ ap (λ b. cond (not b) (find int_cmp docid documents) None) (turned_round other docid)
     ∙ elim (int_eq docid other) as (λ b. cond (not b) (find int_cmp docid documents) None ≡ cond b None (find int_cmp docid documents)) [ true ↦ refl | false ↦ refl ]
 find_with docid other (Some cells) documents = find-put int_cmp int_cmp_total docid other cells documents
 

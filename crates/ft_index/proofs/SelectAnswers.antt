@@ -28,11 +28,9 @@ use Rattle.ft_index.specs.RowsRead.{rows_asked, CountsHeld, CountsFound, CountsR
 use Rattle.ft_index.proofs.KnownLemmas.{IsSoundTable, sound_table, sound_is, unfit_is}
 use Rattle.ft_index.proofs.CreateLemmas.{refused_answers}
 use Rattle.ft_index.proofs.InsertHolds.{sound_rows}
+use Rattle.ft_index.proofs.BareLemmas.{bare}
 
 -- ---- only the columns of a content matter before it is read
-
-abbrev pub bare : List Column → Content
-bare columns = record { columns = columns; documents = [] }
 
 pub names_bare : (table : List ℕ) (columns : List Column) (content : Content) (items : Items) → content.columns ≡ columns → answer_names table (bare columns) items ≡ answer_names table content items
 names_bare table columns content Counted same = refl

@@ -5,7 +5,7 @@ use Rattle.std.specs.List.{AllByRecursion, flat_map}
 use Rattle.std.specs.List.Sorted.{IsSortedByKey, IsStableByKey}
 use Rattle.std.specs.declared.cmp.Ordering.{Ordering}
 use Rattle.std.specs.declared.cmp.Ordering.TheVariants.{Less, Equal, Greater}
-use Rattle.std.specs.Ordering.{int_cmp, int_eq, eq_by_cmp, is_eq, is_lt, nat_cmp, ordering_then, ordering_reverse}
+use Rattle.std.specs.Ordering.{int_cmp, int_eq, eq_by_cmp, is_eq, is_lt, nat_cmp, ordering_reverse}
 use Rattle.std.specs.Cmp.{int_cmp_total}
 use Rattle.std.specs.Cmp.Lexicographic.{slice_cmp}
 use Rattle.std.specs.FinMap.{int_cmp-IsAntisymmetric}
@@ -21,7 +21,7 @@ use Rattle.ft_content.proofs.IndexLemmas.{key_cmp_total, key_cmp_exact, spots_in
 use Rattle.ft_query.specs.Documents.{Posting}
 use Rattle.ft_index.specs.RewriteRows.{lists_of, sized}
 use Rattle.ft_index.specs.Standing.{list_rows, own_entries, shown_entry, AreOfRows, AreTheirs}
-use Rattle.ft_index.proofs.KeyedRows.{tie, sorted-filter}
+use Rattle.ft_index.proofs.KeyedRows.{tie, sorted-filter, second_tie}
 use Rattle.ft_index.proofs.StandingEntries.{has_key, spots_of, of_docid, lists_same, made_spots, made_sorted, spots_of_docid, same_docids}
 use Rattle.ft_index.proofs.DocidOrder.{Rise, AreFrom, rise_sorted, same_by_docid, rise_run, from_both, at_own}
 
@@ -112,11 +112,6 @@ none_within p q apart (x ∷ xs) =
     fails : (b : Bool) → p x ≡ b → q x ≡ true → p x ≡ false
     fails true is passes = absurd (let no = sym passes ∙ apart x is in cc)
     fails false is passes = is
-
-second_tie : (a b : Ordering) → is_eq (ordering_then a b) ≡ true → is_eq b ≡ true
-second_tie Less b h = absurd (let no = h in cc)
-second_tie Equal b h = h
-second_tie Greater b h = absurd (let no = h in cc)
 
 -- where a key has this docid, another docid is not its own
 other_docid : (key : Key) (docid other : ℤ) → int_eq docid key.1 ≡ false → is_eq (int_cmp key.1 other) ≡ true → int_eq docid other ≡ false

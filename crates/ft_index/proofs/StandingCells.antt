@@ -2,17 +2,14 @@
 use Rattle.std.proofs.Common.{◌≡◌, ℕ, ◌+◌, ◌<◌, ◌≢◌, ◌==◌, Bool, true, false, cond, ◌&&◌, List, [], ◌∷◌, ◌++◌, map, length, Option, Some, None, ℤ, pos, refl, sym, ap, subst, ◌∙◌, arith, eqb-true, eq-eqb}
 use Rattle.std.specs.Prelude.{IsTrue}
 use Rattle.std.specs.List.{list_all, flat_map, enumerate_from}
-use Rattle.std.specs.declared.cmp.Ordering.{Ordering}
-use Rattle.std.specs.declared.cmp.Ordering.TheVariants.{Less, Equal, Greater}
 use Rattle.std.specs.Ordering.{int_cmp, int_eq, is_lt, is_eq}
 use Rattle.std.specs.Cmp.{int_cmp_total, tied_itself}
-use Rattle.std.specs.FinMap.{int_cmp-IsAntisymmetric}
 use Rattle.std.specs.FinMap.Entries.{below_all, is_sorted}
 use Rattle.std.proofs.lemmas.Bool.{and_parts, and_from, false_from_ne_true}
 use Rattle.ft_store.specs.Store.{Cell}
 use Rattle.ft_content.specs.Content.{CellRow, Documents, document_rows, is_cell, is_document}
 use Rattle.ft_index.specs.Standing.{AreDocuments, stands_after, follows}
-use Rattle.ft_index.proofs.KeyedRows.{tie}
+use Rattle.ft_index.proofs.KeyedRows.{less, same_int}
 
 abbrev pub next_place : ℕ → ℕ → ℕ
 next_place width place = cond (place + 1 == width) 0 (place + 1)
@@ -53,14 +50,6 @@ Rest width place (Some docid) cells false = Begun width place docid cells
 
 later_place : (k : ℕ) → (k + 1 == 0) ≡ false
 later_place k = false_from_ne_true (k + 1 == 0) (λ h. let e : k + 1 ≡ 0 = eqb-true (k + 1) 0 h in omega arith)
-
-same_int : (x y : ℤ) → int_eq x y ≡ true → x ≡ y
-same_int x y h = int_cmp-IsAntisymmetric x y (tie _ h)
-
-less : (o : Ordering) → is_lt o ≡ true → o ≡ Less
-less Less h = refl
-less Equal h = absurd (let no = h in cc)
-less Greater h = absurd (let no = h in cc)
 
 lower : (x y : ℤ) (documents : Documents) → is_lt (int_cmp x y) ≡ true → below_all int_cmp y documents ≡ true → below_all int_cmp x documents ≡ true
 lower x y [] h below = refl

@@ -2,9 +2,8 @@
 use Rattle.std.proofs.Common.{◌≡◌, ◌≢◌, Bool, true, false, cond, not, ◌&&◌, List, [], ◌∷◌, ◌++◌, map, Option, Some, None, ℤ, refl, sym, ap, ◌∙◌, append-nil}
 use Rattle.std.specs.Prelude.{filter, unwrap_or, option_map}
 use Rattle.std.specs.List.{AllByRecursion, flat_map}
-use Rattle.std.specs.declared.cmp.Ordering.{Ordering}
 use Rattle.std.specs.declared.cmp.Ordering.TheVariants.{Less, Equal, Greater}
-use Rattle.std.specs.Ordering.{int_cmp, int_eq, eq_by_cmp, is_eq, is_lt, nat_cmp, ordering_then, ordering_reverse}
+use Rattle.std.specs.Ordering.{int_cmp, int_eq, eq_by_cmp, is_eq, is_lt, nat_cmp, ordering_reverse}
 use Rattle.std.specs.List.Sorted.{IsStableByKey, ties}
 use Rattle.std.specs.Cmp.{int_cmp_total, tied_itself}
 use Rattle.std.specs.Cmp.Lexicographic.{slice_cmp}
@@ -21,7 +20,7 @@ use Rattle.ft_content.proofs.PlanLemmas.{sorted_lists}
 use Rattle.ft_index.specs.RewriteRows.{lists_of}
 use Rattle.ft_index.specs.Standing.{list_rows, own_entries, shown_entry, AreOfRows, AreTheirs}
 use Rattle.ft_index.proofs.StandingSizes.{sized_back}
-use Rattle.ft_index.proofs.KeyedRows.{true_of, of_true, find-values, sorted-values, none_below}
+use Rattle.ft_index.proofs.KeyedRows.{true_of, of_true, find-values, sorted-values, none_below, second_tie}
 
 abbrev pub has_key : Key → EntryRow → Bool
 has_key key e = eq_by_cmp key_cmp key (e.term, e.docid)
@@ -108,11 +107,6 @@ own_spots key columns (d ∷ ds) =
     let first = made_spots key columns (d ∷ []) ∙ ap (λ es. map stored_spot (spots_in key es)) (append-nil (document_entries columns d)) in
     spots_of-append key (own_entries columns d) (flat_map (own_entries columns) ds) ∙ (λ i. first i ++ own_spots key columns ds i)
     ∙ sym (spots_in-append key (document_entries columns d) (flat_map (document_entries columns) ds))
-
-second_tie : (a b : Ordering) → is_eq (ordering_then a b) ≡ true → is_eq b ≡ true
-second_tie Less b h = absurd (let no = h in cc)
-second_tie Equal b h = h
-second_tie Greater b h = absurd (let no = h in cc)
 
 abbrev pub of_docid : ℤ → List EntryRow → List EntryRow
 of_docid docid es = filter (λ (e : EntryRow). int_eq docid e.docid) es

@@ -2,9 +2,8 @@
 use Rattle.std.proofs.Common.{◌≡◌, ℕ, suc, ◌+◌, ◌<◌, ◌==◌, Bool, true, false, cond, ◌&&◌, List, [], ◌∷◌, ◌++◌, map, length, Option, Some, None, ℤ, pos, refl, sym, ap, ◌∙◌, arith, eqb-true, append-nil, nat_lt}
 use Rattle.std.specs.Prelude.{filter, bytes_eq, IsTrue}
 use Rattle.std.specs.List.{flat_map, enumerate_from}
-use Rattle.std.specs.Ordering.{int_cmp, int_eq, is_eq, is_lt, ordering_then}
+use Rattle.std.specs.Ordering.{int_cmp, int_eq, is_lt, ordering_then}
 use Rattle.std.specs.Cmp.{int_cmp_total, tied_itself}
-use Rattle.std.specs.FinMap.{int_cmp-IsAntisymmetric}
 use Rattle.std.specs.FinMap.Entries.{find, below_all, is_sorted, same_entries}
 use Rattle.std.proofs.lemmas.Bool.{and_parts, and_from}
 use Rattle.std.proofs.lemmas.List.{map-append}
@@ -16,18 +15,12 @@ use Rattle.ft_content.specs.Index.{EntryRow, StoredSpot, Size, SizeRow, size_row
 use Rattle.ft_content.specs.Laws.{content_with}
 use Rattle.ft_index.specs.RewriteRows.{same_spot, all_put, sized}
 use Rattle.ft_index.specs.Standing.{same_size, same_entry, after_first, own_sizes, own_entries, rests_pass, are_of_documents, AreTheirs}
-use Rattle.ft_index.proofs.KeyedRows.{of_true, tie, sorted_put, find_all_put, or_else}
+use Rattle.ft_index.proofs.KeyedRows.{of_true, sorted_put, find_all_put, or_else, same_int, itself}
 use Rattle.ft_index.proofs.StoreKeys.{column_total, column_exact}
 use Rattle.ft_index.proofs.CellSteps.{pos_less}
 use Rattle.ft_index.proofs.DocumentSteps.{size_at, sizes_from}
 
 -- ---- what is the same
-
-same_int : (x y : ℤ) → int_eq x y ≡ true → x ≡ y
-same_int x y h = int_cmp-IsAntisymmetric x y (tie _ h)
-
-itself : (x : ℤ) → int_eq x x ≡ true
-itself x = ap is_eq (tied_itself int_cmp_total x)
 
 size_is : (x y : (ℤ × ℤ) × ℤ) → same_size x y ≡ true → x ≡ y
 size_is x y h =

@@ -16,9 +16,11 @@ use Rattle.ft_content.specs.Deserved.{Sound, Table, Contents}
 use Rattle.ft_content.specs.Step.{dropped, free_id_from}
 use Rattle.ft_index.specs.Tables.{table_rows, table_index}
 use Rattle.ft_index.specs.Kept.{HoldsTable, StoreHolds}
-use Rattle.ft_index.proofs.AddLemmas.{bare, added_rows, added_index}
+use Rattle.ft_index.proofs.AddLemmas.{added_rows, added_index}
+use Rattle.ft_index.proofs.BareLemmas.{bare}
 use Rattle.ft_index.proofs.OneTable.{IsOne, AreHeldIn, SparesAllBut, spared}
 use Rattle.ft_index.proofs.ChangeLemmas.{spares_others}
+use Rattle.ft_index.proofs.KeyedRows.{less}
 
 -- ---- a table goes
 
@@ -49,11 +51,6 @@ drops_one name t old new (n ∷ ns) (x ∷ xs) spares one h = go (int_eq t.0 n.0
     go false is rest = subst (λ b. AreHeldIn new (tables_after b) (contents_after (same_name x.1.name name))) (sym is) (subst (λ b. AreHeldIn new (tables_after false) (contents_after b)) (sym (one.0.agrees ∙ same_id ∙ is)) (spared t.0 old new n x spares (same_id ∙ is) h.0, rest))
 
 -- ---- a table comes
-
-less : (o : Ordering) → is_lt o ≡ true → o ≡ Less
-less Less h = refl
-less Equal h = absurd (let no = h in cc)
-less Greater h = absurd (let no = h in cc)
 
 apart_if_less : (o : Ordering) → o ≡ Less → is_eq o ≡ false
 apart_if_less o h = ap is_eq h

@@ -14,7 +14,8 @@ use Rattle.ft_content.specs.Deserved.{Contents, first_of, or_else, on_sound, has
 use Rattle.ft_content.specs.Step.{updated, with_documents, on_table, after, touched, reply_to}
 use Rattle.ft_content.proofs.ContentLemmas.{update_keeps_content}
 use Rattle.ft_index.specs.Updated.{update_touches}
-use Rattle.ft_index.proofs.BareLemmas.{unknown_bare, fault_bare, memory_or}
+use Rattle.ft_index.proofs.BareLemmas.{unknown_bare, fault_bare}
+use Rattle.ft_index.proofs.FaultLemmas.{memory_or}
 use Rattle.ft_index.proofs.Writing.{IsWrite}
 
 module _ (sets : List (List ℕ × Cell)) (f : Filter) where

@@ -123,6 +123,7 @@ impl<S: Alter> FullText<S> {
     /// Notes a name, in its latest spelling.
     pub fn note(&mut self, name: &str) -> Result<(), Fault>
         ensures noted { Notes S.Store self.old name.now (is_ok result) self.new }
+        ensures fault { IfErr result (λ fault. (fault ≡ faults.Store) ⊎ (fault ≡ faults.Memory)) }
 
         // A crash leaves what it could leave before, or the name alone.
         ensures crash { NoteSurvives S.Store self.old name.now self.new }
@@ -135,6 +136,7 @@ impl<S: Alter> FullText<S> {
     /// The noted names, in the order of their small letters.
     pub fn noted(&mut self) -> Result<Vec<String>, Fault>
         ensures names { IsUp S.Store self.new → IfOk result (λ names. map string_bytes names.items ≡ map (λ n. n.1) (value_of S.Store self.old).noted) }
+        ensures fault { IfErr result (λ fault. (fault ≡ faults.Store) ⊎ (fault ≡ faults.Memory)) }
         ensures looks { OnlyLooks S.Store self.old self.new }
     {
         let names = self.store.noted()?;
