@@ -45,6 +45,7 @@ impl<S: Alter> Model for FullText<S> {
 
 impl<S: Alter> FullText<S> {
     ghost use Rattle.std.specs.Prelude.{◌≡◌, ◌⊎◌, ◌↔◌, map, string_bytes, is_ok, IsTrue, IfOk, IfErr};
+    ghost use Rattle.ft_store.specs.Calls.{IsPlainFault};
     ghost use Rattle.ft_content.specs.declared.fault.Fault.TheVariants as faults;
     ghost use Rattle.ft_content.specs.Deserved.{Contents};
     ghost use Rattle.ft_content.specs.Views.{known_info, command_of, answer_of};
@@ -60,6 +61,7 @@ impl<S: Alter> FullText<S> {
     pub fn new(alloc: Global, store: Store<S>) -> Result<FullText<S>, NewFault<S>>
         ensures opened { IfOk result (λ made. Opens S.Store store made) }
         ensures refused { IfErr result (λ fault. Looks S.Store store fault.store) }
+        ensures cause { IfErr result (λ fault. IsPlainFault fault.cause) }
     {
         let mut store = store;
         store.is_in_order();

@@ -1,6 +1,7 @@
 //! The tables of a store, as they are told when it is taken.
-ghost use Rattle.std.specs.Prelude.{◌≡◌, ℤ, ℕ, List, map, IsTrue, IfOk, OnOk};
+ghost use Rattle.std.specs.Prelude.{◌≡◌, ℤ, ℕ, List, map, IsTrue, IfOk, IfErr, OnOk};
 ghost use Rattle.sqlite.specs.State.{HasCleanDisk};
+ghost use Rattle.ft_store.specs.Calls.{IsPlainFault};
 ghost use Rattle.ft_store.specs.Kept.{shows, value_in};
 ghost use Rattle.ft_content.specs.Views.{known_info};
 ghost use Rattle.ft_index.specs.DocumentsRead.{Looks};
@@ -22,6 +23,7 @@ fn opened_table<S: Alter>(
     ensures marked { (named : ℤ × List ℕ) → HasCleanDisk (shows S.Store store.new) → IsListed (value_in S.Store store.old) named table
         → IfOk result (λ info. IsMarked (value_in S.Store store.old) named (known_info info)) }
     ensures live { HasCleanDisk (shows S.Store store.new) → OnOk result (IsTrue (shows S.Store store.new).is_open) }
+    ensures cause { IfErr result IsPlainFault }
     ensures looks { Looks S.Store store.old store.new }
 {
     let columns = listed_columns(alloc, &table)?;
@@ -42,6 +44,7 @@ pub(crate) fn opened_tables<S: Alter>(
 ) -> Result<Vec<TableInfo>, StoreFault>
     ensures marked { HasCleanDisk (shows S.Store store.new) → IfOk result (λ tables. AreMarked (value_in S.Store store.old) (value_in S.Store store.old).tables (map known_info tables.items)) }
     ensures live { HasCleanDisk (shows S.Store store.new) → OnOk result (IsTrue (shows S.Store store.new).is_open) }
+    ensures cause { IfErr result IsPlainFault }
     ensures looks { Looks S.Store store.old store.new }
 {
     let rows = store.tables()?;

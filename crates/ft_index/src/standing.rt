@@ -1,9 +1,10 @@
 //! How the rows of a table stand.
-ghost use Rattle.std.specs.Prelude.{◌≡◌, ◌<◌, ◌↔◌, ℤ, ℕ, List, map, length, IsTrue, IfOk, OnOk};
+ghost use Rattle.std.specs.Prelude.{◌≡◌, ◌<◌, ◌↔◌, ℤ, ℕ, List, map, length, IsTrue, IfOk, IfErr, OnOk};
 ghost use Rattle.std.specs.List.{find};
 ghost use Rattle.std.specs.Ordering.{int_eq};
 ghost use Rattle.sqlite.specs.State.{HasCleanDisk};
 ghost use Rattle.ft_store.specs.declared.rows.TabRow as rows;
+ghost use Rattle.ft_store.specs.Calls.{IsPlainFault};
 ghost use Rattle.ft_store.specs.Kept.{shows, value_in};
 ghost use Rattle.ft_content.specs.Content.{Content};
 ghost use Rattle.ft_content.specs.Index.{index_rows};
@@ -53,6 +54,7 @@ pub(crate) fn listed_table<S: Alter>(
     ensures found { (named : ℤ × List ℕ) → HasCleanDisk (shows S.Store store.new) → IsNamed (value_in S.Store store.old) id named
         → IfOk result (λ found. IsFound (value_in S.Store store.old) named found) }
     ensures live { HasCleanDisk (shows S.Store store.new) → OnOk result (IsTrue (shows S.Store store.new).is_open) }
+    ensures cause { IfErr result IsPlainFault }
     ensures looks { Looks S.Store store.old store.new }
 {
     let tables = store.tables()?;
@@ -68,6 +70,7 @@ pub(crate) fn read_standing<S: Alter>(
     ensures stands { (named : ℤ × List ℕ) → HasCleanDisk (shows S.Store store.new) → IsListed (value_in S.Store store.old) named table.now
         → IfOk result (λ s. StandsSo named.1 (table_rows named.0 (value_in S.Store store.old)) (table_index named.0 (value_in S.Store store.old)) s) }
     ensures live { HasCleanDisk (shows S.Store store.new) → OnOk result (IsTrue (shows S.Store store.new).is_open) }
+    ensures cause { IfErr result IsPlainFault }
     ensures looks { Looks S.Store store.old store.new }
 {
     let columns = listed_columns(alloc, table)?;
@@ -95,6 +98,7 @@ fn has_right_index<S: Alter>(
     ensures right { (content : Content) → HasCleanDisk (shows S.Store store.new) → standing.HaveContent (map column_of columns.now) (map standing.shown_row cells.now) content
         → IfOk result (λ b. IsTrue b ↔ (table_index tab (value_in S.Store store.old) ≡ index_rows content)) }
     ensures live { HasCleanDisk (shows S.Store store.new) → OnOk result (IsTrue (shows S.Store store.new).is_open) }
+    ensures cause { IfErr result IsPlainFault }
     ensures looks { Looks S.Store store.old store.new }
 {
     store.is_in_order();

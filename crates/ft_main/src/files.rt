@@ -97,10 +97,10 @@ pub(crate) fn store_in_memory(alloc: Global) -> Result<Store<FileStore<Ram>>, Op
     ensures empty { IfOk result (λ store. value_in over_files store ≡ nothing_held) }
     ensures clean { IfOk result (λ store. HasCleanDisk (shows over_files store)) }
     ensures unread { IfOk result (λ store. store.rows_read ≡ 0) }
-    ensures refused { IfErr result (λ f. (cause : StoreFault) × (f ≡ forms.fault_of cause)) }
+    ensures refused { IfErr result (λ f. f ≡ fault.Store) }
 {
     match Store::open_memory(alloc) {
         Ok(store) => Ok(store),
-        Err(cause) => Err(store_fault(cause)),
+        Err(_) => Err(OpenFault::Store),
     }
 }

@@ -1,6 +1,9 @@
 -- What a call does to a store.
 use Rattle.std.specs.Prelude.{◌≡◌, ◌≢◌, ◌⊎◌, pos, true, Result, List, [], ◌∷◌, map, IsTrue, OnOk}
 use Rattle.std.specs.List.{AllByRecursion}
+use Rattle.sqlite.specs.declared.error.Error.{Error}
+use Rattle.sqlite.specs.declared.error.Error.TheVariants.{SqliteFailure}
+use Rattle.sqlite.specs.declared.error.ErrorCode.TheVariants as code
 use Rattle.sqlite.specs.declared.types.Value.TheVariants as value
 use Rattle.sqlite.specs.Order.{Row, column}
 use Rattle.sqlite.specs.Tree.{Trees}
@@ -90,6 +93,19 @@ pub record IsStored (db : Trees) (value : StoreValue) : Type 0 where
 -- want of memory, or a refusal by the database
 abbrev pub IsPlainFault : StoreFault → Type 0
 IsPlainFault e = (e ≡ fault.Memory) ⊎ (e ≡ fault.Refused)
+
+-- why a read of lists is refused: a plain fault, or Damaged, where a list of places is not in its one form
+abbrev pub IsReadFault : StoreFault → Type 0
+IsReadFault e = IsPlainFault e ⊎ (e ≡ fault.Damaged)
+
+-- Why changes are refused: a plain fault, or Damaged, where they can't be made.
+abbrev pub IsChangeFault : Type 0 → StoreFault → Type 0
+IsChangeFault CanBeMade e = IsPlainFault e ⊎ ((e ≡ fault.Damaged) × (CanBeMade → ⊥))
+
+-- the fault that an error of the database is: want of memory is Memory, any other is Refused
+abbrev pub fault_of : Error → StoreFault
+fault_of (SqliteFailure code.OutOfMemory) = fault.Memory
+fault_of _ = fault.Refused
 
 -- what is kept true of the connection of a store between calls
 abbrev pub IsStoreIfOpen : State → Type 0

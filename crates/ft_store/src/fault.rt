@@ -1,4 +1,5 @@
-ghost use Rattle.std.specs.Prelude.{◌≡◌, ◌⊎◌};
+ghost use Rattle.std.specs.Prelude.{◌≡◌};
+ghost use Rattle.ft_store.specs.Calls.{IsPlainFault, fault_of};
 ghost use Rattle.ft_store.specs.declared.fault.StoreFault.TheVariants as fault;
 
 use sqlite::{Error as SqlError, ErrorCode};
@@ -41,7 +42,7 @@ impl<T: Drop> From<AllocFailed<T>> for StoreFault {
 }
 
 impl From<SqlError> for StoreFault {
-    ghost from_gives = { λ _ e. (e ≡ fault.Memory) ⊎ (e ≡ fault.Refused) };
+    ghost from_gives = { λ error e. (e ≡ fault_of error) × IsPlainFault e };
 
     fn from(error: SqlError) -> StoreFault {
         match error {

@@ -1,5 +1,5 @@
 //! Queries on the lists of terms.
-ghost use Rattle.std.specs.Prelude.{◌≡◌, ◌≢◌, false, ◌&&◌, ℕ, ◌<◌, [], ◌++◌, map, nat_eq, Err, IsTrue, IfOk, OnOk};
+ghost use Rattle.std.specs.Prelude.{◌≡◌, ◌≢◌, false, ◌&&◌, ℕ, ◌<◌, [], ◌++◌, map, nat_eq, Err, IsTrue, IfOk, IfErr, OnOk};
 ghost use Rattle.std.specs.Ordering.{int_eq, is_eq};
 ghost use Rattle.std.specs.List.{AllByRecursion, starts_with};
 ghost use Rattle.std.specs.FinMap.Entries.{where_key};
@@ -12,7 +12,7 @@ ghost use Rattle.ft_store.specs.Rows.{value_of};
 ghost use Rattle.ft_store.specs.Range.{after_last};
 ghost use Rattle.ft_store.specs.Found.{found_places};
 ghost use Rattle.ft_store.specs.Shown.{shown_list, shown_entry, list_entries, entries_of, AreWhole, SomeDamaged};
-ghost use Rattle.ft_store.specs.Calls.{IsStoreIfOpen, Keeps};
+ghost use Rattle.ft_store.specs.Calls.{IsStoreIfOpen, IsPlainFault, IsReadFault, Keeps};
 
 use crate::fault::StoreFault;
 use crate::packed::unpack;
@@ -34,6 +34,7 @@ pub(crate) struct ListRow {
 fn list_row(alloc: Global, row: &Row) -> Result<ListRow, StoreFault>
     ensures found { IfOk result (λ l. (tab : _) → (shown_list tab l ≡ found_places tab row.now) × ((found_places tab row.now).1 ≢ [])) }
     ensures damaged { result ≡ Err StoreFault.Damaged → (tab : _) → (found_places tab row.now).1 ≡ [] }
+    ensures fault { IfErr result IsReadFault }
 {
     let term: String = row.get(0)?;
     let docid: i64 = row.get(1)?;
@@ -60,6 +61,7 @@ fn push_entries(entries: &mut Vec<EntryRow>, list: &ListRow) -> Result<(), Alloc
 fn entry_rows(alloc: Global, rows: &[Row]) -> Result<Vec<EntryRow>, StoreFault>
     ensures found { IfOk result (λ entries. (tab : _) → (map shown_entry entries.items ≡ entries_of (map (found_places tab) rows.now)) × AreWhole (map (found_places tab) rows.now)) }
     ensures damaged { result ≡ Err StoreFault.Damaged → (tab : _) → SomeDamaged (map (found_places tab) rows.now) }
+    ensures fault { IfErr result IsReadFault }
 {
     let mut entries = Vec::new(alloc);
     for row in rows {
@@ -80,6 +82,7 @@ pub(crate) fn term<S: Alter>(
     requires settled { (state S.Store conn.old).in_transaction ≡ false }
     ensures rows { HasCleanDisk (state S.Store conn.new) → IfOk result (λ found. let asked = where_key list_key_cmp (λ k. int_eq tab k.0 && is_eq (name_cmp term.now k.1)) (value_of (state S.Store conn.old).now.trees).lists in (map shown_entry found.items ≡ entries_of asked) × AreWhole asked) }
     ensures damaged { HasCleanDisk (state S.Store conn.new) → result ≡ Err StoreFault.Damaged → SomeDamaged (where_key list_key_cmp (λ k. int_eq tab k.0 && is_eq (name_cmp term.now k.1)) (value_of (state S.Store conn.old).now.trees).lists) }
+    ensures fault { IfErr result IsReadFault }
     ensures kept { HasCleanDisk (state S.Store conn.new) → Keeps (state S.Store conn.old) (state S.Store conn.new) }
     ensures live { HasCleanDisk (state S.Store conn.new) → OnOk result (IsTrue (state S.Store conn.new).is_open) }
     ensures mode { (state S.Store conn.new).in_transaction ≡ false }
@@ -103,6 +106,7 @@ pub(crate) fn entries<S: Alter>(
     requires settled { (state S.Store conn.old).in_transaction ≡ false }
     ensures rows { HasCleanDisk (state S.Store conn.new) → IfOk result (λ found. let asked = where_key list_key_cmp (λ k. int_eq tab k.0) (value_of (state S.Store conn.old).now.trees).lists in (map shown_entry found.items ≡ entries_of asked) × AreWhole asked) }
     ensures damaged { HasCleanDisk (state S.Store conn.new) → result ≡ Err StoreFault.Damaged → SomeDamaged (where_key list_key_cmp (λ k. int_eq tab k.0) (value_of (state S.Store conn.old).now.trees).lists) }
+    ensures fault { IfErr result IsReadFault }
     ensures kept { HasCleanDisk (state S.Store conn.new) → Keeps (state S.Store conn.old) (state S.Store conn.new) }
     ensures live { HasCleanDisk (state S.Store conn.new) → OnOk result (IsTrue (state S.Store conn.new).is_open) }
     ensures stays { HasCleanDisk (state S.Store conn.new) → result ≡ Err StoreFault.Damaged → IsTrue (state S.Store conn.new).is_open }
@@ -152,6 +156,7 @@ fn range<'a, S: Alter>(
     ensures live { HasCleanDisk (state S.Store conn.new) → OnOk result (IsTrue (state S.Store conn.new).is_open) }
     ensures mode { (state S.Store conn.new).in_transaction ≡ false }
     ensures whole { ¬ (result ≡ Err StoreFault.Damaged) }
+    ensures fault { IfErr result IsPlainFault }
     ensures survives { Survives (state S.Store conn.old) (state S.Store conn.new) (λ _. IsTrue (state S.Store conn.old).is_open → ⊥) }
 {
     select(
@@ -172,6 +177,7 @@ pub(crate) fn prefix<S: Alter>(
     requires settled { (state S.Store conn.old).in_transaction ≡ false }
     ensures rows { HasCleanDisk (state S.Store conn.new) → IfOk result (λ found. let asked = where_key list_key_cmp (λ k. int_eq tab k.0 && starts_with nat_eq k.1 begin.now) (value_of (state S.Store conn.old).now.trees).lists in (map shown_entry found.items ≡ entries_of asked) × AreWhole asked) }
     ensures damaged { HasCleanDisk (state S.Store conn.new) → result ≡ Err StoreFault.Damaged → SomeDamaged (where_key list_key_cmp (λ k. int_eq tab k.0 && starts_with nat_eq k.1 begin.now) (value_of (state S.Store conn.old).now.trees).lists) }
+    ensures fault { IfErr result IsReadFault }
     ensures kept { HasCleanDisk (state S.Store conn.new) → Keeps (state S.Store conn.old) (state S.Store conn.new) }
     ensures live { HasCleanDisk (state S.Store conn.new) → OnOk result (IsTrue (state S.Store conn.new).is_open) }
     ensures mode { (state S.Store conn.new).in_transaction ≡ false }

@@ -44,7 +44,8 @@ pub(crate) fn select<S: Alter>(
 
 /// A cell, of its row.
 fn cell_row(row: &Row) -> Result<CellRow, StoreFault>
-    ensures { IfOk result (λ x. (tab : _) → shown_cell tab x ≡ found_cell tab row.now) }
+    ensures found { IfOk result (λ x. (tab : _) → shown_cell tab x ≡ found_cell tab row.now) }
+    ensures fault { IfErr result IsPlainFault }
 {
     let docid: i64 = row.get(0)?;
     let column: i64 = row.get(1)?;
@@ -65,7 +66,8 @@ fn cell_row(row: &Row) -> Result<CellRow, StoreFault>
 }
 
 fn cell_rows(alloc: Global, rows: &[Row]) -> Result<Vec<CellRow>, StoreFault>
-    ensures { IfOk result (λ xs. (tab : _) → map (shown_cell tab) xs.items ≡ map (found_cell tab) rows.now) }
+    ensures found { IfOk result (λ xs. (tab : _) → map (shown_cell tab) xs.items ≡ map (found_cell tab) rows.now) }
+    ensures fault { IfErr result IsPlainFault }
 {
     let mut found = Vec::new(alloc);
     for row in rows {
@@ -76,7 +78,8 @@ fn cell_rows(alloc: Global, rows: &[Row]) -> Result<Vec<CellRow>, StoreFault>
 
 /// The size of a cell, of its row.
 fn size_row(row: &Row) -> Result<SizeRow, StoreFault>
-    ensures { IfOk result (λ x. (tab : _) → shown_size tab x ≡ found_size tab row.now) }
+    ensures found { IfOk result (λ x. (tab : _) → shown_size tab x ≡ found_size tab row.now) }
+    ensures fault { IfErr result IsPlainFault }
 {
     let docid: i64 = row.get(0)?;
     let column: i64 = row.get(1)?;
@@ -85,7 +88,8 @@ fn size_row(row: &Row) -> Result<SizeRow, StoreFault>
 }
 
 fn size_rows(alloc: Global, rows: &[Row]) -> Result<Vec<SizeRow>, StoreFault>
-    ensures { IfOk result (λ xs. (tab : _) → map (shown_size tab) xs.items ≡ map (found_size tab) rows.now) }
+    ensures found { IfOk result (λ xs. (tab : _) → map (shown_size tab) xs.items ≡ map (found_size tab) rows.now) }
+    ensures fault { IfErr result IsPlainFault }
 {
     let mut found = Vec::new(alloc);
     for row in rows {
@@ -96,7 +100,8 @@ fn size_rows(alloc: Global, rows: &[Row]) -> Result<Vec<SizeRow>, StoreFault>
 
 /// A table's number and name, of its row.
 fn name_row(row: &Row) -> Result<(i64, String), StoreFault>
-    ensures { IfOk result (λ x. shown_name x ≡ found_table row.now) }
+    ensures found { IfOk result (λ x. shown_name x ≡ found_table row.now) }
+    ensures fault { IfErr result IsPlainFault }
 {
     let id: i64 = row.get(0)?;
     let name: String = row.get(1)?;
@@ -104,7 +109,8 @@ fn name_row(row: &Row) -> Result<(i64, String), StoreFault>
 }
 
 fn name_rows(alloc: Global, rows: &[Row]) -> Result<Vec<(i64, String)>, StoreFault>
-    ensures { IfOk result (λ xs. map shown_name xs.items ≡ map found_table rows.now) }
+    ensures found { IfOk result (λ xs. map shown_name xs.items ≡ map found_table rows.now) }
+    ensures fault { IfErr result IsPlainFault }
 {
     let mut found = Vec::new(alloc);
     for row in rows {
@@ -115,7 +121,8 @@ fn name_rows(alloc: Global, rows: &[Row]) -> Result<Vec<(i64, String)>, StoreFau
 
 /// A column's number and name, of its row.
 fn column_row(row: &Row) -> Result<(i64, String), StoreFault>
-    ensures { IfOk result (λ x. (tab : _) → shown_column tab x ≡ found_column tab row.now) }
+    ensures found { IfOk result (λ x. (tab : _) → shown_column tab x ≡ found_column tab row.now) }
+    ensures fault { IfErr result IsPlainFault }
 {
     let column: i64 = row.get(0)?;
     let name: String = row.get(1)?;
@@ -123,7 +130,8 @@ fn column_row(row: &Row) -> Result<(i64, String), StoreFault>
 }
 
 fn column_rows(alloc: Global, rows: &[Row]) -> Result<Vec<(i64, String)>, StoreFault>
-    ensures { IfOk result (λ xs. (tab : _) → map (shown_column tab) xs.items ≡ map (found_column tab) rows.now) }
+    ensures found { IfOk result (λ xs. (tab : _) → map (shown_column tab) xs.items ≡ map (found_column tab) rows.now) }
+    ensures fault { IfErr result IsPlainFault }
 {
     let mut found = Vec::new(alloc);
     for row in rows {
@@ -134,13 +142,15 @@ fn column_rows(alloc: Global, rows: &[Row]) -> Result<Vec<(i64, String)>, StoreF
 
 /// A column's number, of its row.
 fn skip_row(row: &Row) -> Result<i64, StoreFault>
-    ensures { IfOk result (λ x. (tab : _) → shown_skip tab x ≡ found_skip tab row.now) }
+    ensures found { IfOk result (λ x. (tab : _) → shown_skip tab x ≡ found_skip tab row.now) }
+    ensures fault { IfErr result IsPlainFault }
 {
     Ok(row.get(0)?)
 }
 
 fn skip_rows(alloc: Global, rows: &[Row]) -> Result<Vec<i64>, StoreFault>
-    ensures { IfOk result (λ xs. (tab : _) → map (shown_skip tab) xs.items ≡ map (found_skip tab) rows.now) }
+    ensures found { IfOk result (λ xs. (tab : _) → map (shown_skip tab) xs.items ≡ map (found_skip tab) rows.now) }
+    ensures fault { IfErr result IsPlainFault }
 {
     let mut found = Vec::new(alloc);
     for row in rows {
@@ -151,13 +161,15 @@ fn skip_rows(alloc: Global, rows: &[Row]) -> Result<Vec<i64>, StoreFault>
 
 /// A noted name, of its row.
 fn note_row(row: &Row) -> Result<String, StoreFault>
-    ensures { IfOk result (λ x. shown_note x ≡ found_note row.now) }
+    ensures found { IfOk result (λ x. shown_note x ≡ found_note row.now) }
+    ensures fault { IfErr result IsPlainFault }
 {
     Ok(row.get(0)?)
 }
 
 fn note_rows(alloc: Global, rows: &[Row]) -> Result<Vec<String>, StoreFault>
-    ensures { IfOk result (λ xs. map shown_note xs.items ≡ map found_note rows.now) }
+    ensures found { IfOk result (λ xs. map shown_note xs.items ≡ map found_note rows.now) }
+    ensures fault { IfErr result IsPlainFault }
 {
     let mut found = Vec::new(alloc);
     for row in rows {
@@ -176,6 +188,7 @@ pub(crate) fn names<S: Alter>(
     ensures rows { HasCleanDisk (state S.Store conn.new) → IfOk result (λ found. map shown_name found.items ≡ (value_of (state S.Store conn.old).now.trees).tables) }
     ensures kept { HasCleanDisk (state S.Store conn.new) → Keeps (state S.Store conn.old) (state S.Store conn.new) }
     ensures live { HasCleanDisk (state S.Store conn.new) → OnOk result (IsTrue (state S.Store conn.new).is_open) }
+    ensures fault { IfErr result IsPlainFault }
     ensures mode { (state S.Store conn.new).in_transaction ≡ false }
     ensures survives { Survives (state S.Store conn.old) (state S.Store conn.new) (λ _. IsTrue (state S.Store conn.old).is_open → ⊥) }
 {
@@ -198,6 +211,7 @@ pub(crate) fn columns<S: Alter>(
     ensures rows { HasCleanDisk (state S.Store conn.new) → IfOk result (λ found. map (shown_column tab) found.items ≡ where_key column_key_cmp (λ k. int_eq tab k.0) (value_of (state S.Store conn.old).now.trees).columns) }
     ensures kept { HasCleanDisk (state S.Store conn.new) → Keeps (state S.Store conn.old) (state S.Store conn.new) }
     ensures live { HasCleanDisk (state S.Store conn.new) → OnOk result (IsTrue (state S.Store conn.new).is_open) }
+    ensures fault { IfErr result IsPlainFault }
     ensures mode { (state S.Store conn.new).in_transaction ≡ false }
     ensures survives { Survives (state S.Store conn.old) (state S.Store conn.new) (λ _. IsTrue (state S.Store conn.old).is_open → ⊥) }
 {
@@ -220,6 +234,7 @@ pub(crate) fn skips<S: Alter>(
     ensures rows { HasCleanDisk (state S.Store conn.new) → IfOk result (λ found. map (shown_skip tab) found.items ≡ where_key column_key_cmp (λ k. int_eq tab k.0) (value_of (state S.Store conn.old).now.trees).skipped) }
     ensures kept { HasCleanDisk (state S.Store conn.new) → Keeps (state S.Store conn.old) (state S.Store conn.new) }
     ensures live { HasCleanDisk (state S.Store conn.new) → OnOk result (IsTrue (state S.Store conn.new).is_open) }
+    ensures fault { IfErr result IsPlainFault }
     ensures mode { (state S.Store conn.new).in_transaction ≡ false }
     ensures survives { Survives (state S.Store conn.old) (state S.Store conn.new) (λ _. IsTrue (state S.Store conn.old).is_open → ⊥) }
 {
@@ -242,6 +257,7 @@ pub(crate) fn cells<S: Alter>(
     ensures rows { HasCleanDisk (state S.Store conn.new) → IfOk result (λ found. map (shown_cell tab) found.items ≡ where_key cell_key_cmp (λ k. int_eq tab k.0) (value_of (state S.Store conn.old).now.trees).cells) }
     ensures kept { HasCleanDisk (state S.Store conn.new) → Keeps (state S.Store conn.old) (state S.Store conn.new) }
     ensures live { HasCleanDisk (state S.Store conn.new) → OnOk result (IsTrue (state S.Store conn.new).is_open) }
+    ensures fault { IfErr result IsPlainFault }
     ensures mode { (state S.Store conn.new).in_transaction ≡ false }
     ensures survives { Survives (state S.Store conn.old) (state S.Store conn.new) (λ _. IsTrue (state S.Store conn.old).is_open → ⊥) }
 {
@@ -265,6 +281,7 @@ pub(crate) fn document<S: Alter>(
     ensures rows { HasCleanDisk (state S.Store conn.new) → IfOk result (λ found. map (shown_cell tab) found.items ≡ where_key cell_key_cmp (λ k. int_eq tab k.0 && int_eq docid k.1) (value_of (state S.Store conn.old).now.trees).cells) }
     ensures kept { HasCleanDisk (state S.Store conn.new) → Keeps (state S.Store conn.old) (state S.Store conn.new) }
     ensures live { HasCleanDisk (state S.Store conn.new) → OnOk result (IsTrue (state S.Store conn.new).is_open) }
+    ensures fault { IfErr result IsPlainFault }
     ensures mode { (state S.Store conn.new).in_transaction ≡ false }
     ensures survives { Survives (state S.Store conn.old) (state S.Store conn.new) (λ _. IsTrue (state S.Store conn.old).is_open → ⊥) }
 {
@@ -278,7 +295,8 @@ pub(crate) fn document<S: Alter>(
 
 /// The docid of the first row, where there is one.
 fn first_docid(rows: &[Row]) -> Result<Option<i64>, StoreFault>
-    ensures { IfOk result (λ docid. docid ≡ option_map (λ row. id_in (column row 0)) (slice_get rows.now 0)) }
+    ensures found { IfOk result (λ docid. docid ≡ option_map (λ row. id_in (column row 0)) (slice_get rows.now 0)) }
+    ensures fault { IfErr result IsPlainFault }
 {
     match rows.first() {
         Some(row) => Ok(Some(row.get(0)?)),
@@ -296,6 +314,7 @@ pub(crate) fn last_docid<S: Alter>(
     ensures last { HasCleanDisk (state S.Store conn.new) → IfOk result (λ last. last ≡ last_docid_of tab (value_of (state S.Store conn.old).now.trees).cells) }
     ensures kept { HasCleanDisk (state S.Store conn.new) → Keeps (state S.Store conn.old) (state S.Store conn.new) }
     ensures live { HasCleanDisk (state S.Store conn.new) → OnOk result (IsTrue (state S.Store conn.new).is_open) }
+    ensures fault { IfErr result IsPlainFault }
     ensures mode { (state S.Store conn.new).in_transaction ≡ false }
     ensures survives { Survives (state S.Store conn.old) (state S.Store conn.new) (λ _. IsTrue (state S.Store conn.old).is_open → ⊥) }
 {
@@ -318,6 +337,7 @@ pub(crate) fn sizes<S: Alter>(
     ensures rows { HasCleanDisk (state S.Store conn.new) → IfOk result (λ found. map (shown_size tab) found.items ≡ where_key cell_key_cmp (λ k. int_eq tab k.0) (value_of (state S.Store conn.old).now.trees).sizes) }
     ensures kept { HasCleanDisk (state S.Store conn.new) → Keeps (state S.Store conn.old) (state S.Store conn.new) }
     ensures live { HasCleanDisk (state S.Store conn.new) → OnOk result (IsTrue (state S.Store conn.new).is_open) }
+    ensures fault { IfErr result IsPlainFault }
     ensures mode { (state S.Store conn.new).in_transaction ≡ false }
     ensures survives { Survives (state S.Store conn.old) (state S.Store conn.new) (λ _. IsTrue (state S.Store conn.old).is_open → ⊥) }
 {
@@ -339,6 +359,7 @@ pub(crate) fn noted<S: Alter>(
     ensures rows { HasCleanDisk (state S.Store conn.new) → IfOk result (λ found. map shown_note found.items ≡ (value_of (state S.Store conn.old).now.trees).noted) }
     ensures kept { HasCleanDisk (state S.Store conn.new) → Keeps (state S.Store conn.old) (state S.Store conn.new) }
     ensures live { HasCleanDisk (state S.Store conn.new) → OnOk result (IsTrue (state S.Store conn.new).is_open) }
+    ensures fault { IfErr result IsPlainFault }
     ensures mode { (state S.Store conn.new).in_transaction ≡ false }
     ensures survives { Survives (state S.Store conn.old) (state S.Store conn.new) (λ _. IsTrue (state S.Store conn.old).is_open → ⊥) }
 {

@@ -7,7 +7,7 @@ ghost use Rattle.sqlite_wal.specs.Files.{image_at};
 ghost use Rattle.ft_store.specs.Store.{cell_key_cmp, list_key_cmp, name_cmp, nothing_held, all_applied, AreInOrder};
 ghost use Rattle.ft_store.specs.Changes.{shown_change, CanApply};
 ghost use Rattle.ft_store.specs.Shown.{shown_cell, shown_size, shown_note, shown_entry, tables_listed, shown_table, last_docid_of, entries_of, AreWhole, SomeDamaged, AreNamedApart};
-ghost use Rattle.ft_store.specs.Calls.{IsStored, Keeps};
+ghost use Rattle.ft_store.specs.Calls.{IsPlainFault, IsReadFault, IsChangeFault, IsStored, Keeps};
 ghost use Rattle.ft_store.specs.Adopted.{IsTaken, IsNotTaken, LeavesEmpty};
 
 use crate::adopt::take;
@@ -63,6 +63,7 @@ impl Store<FileStore<Ram>> {
         ensures empty { IfOk result (λ store. value_in over_files store ≡ nothing_held) }
         ensures clean { IfOk result (λ store. HasCleanDisk (shows over_files store)) }
         ensures unread { IfOk result (λ store. store.rows_read ≡ 0) }
+        ensures causes { IfErr result IsPlainFault }
     {
         let mut conn = open_ram(alloc)?;
         make(&mut conn)?;
@@ -87,7 +88,7 @@ impl Store<FileStore<File>> {
 
 impl<B: Start> Store<FileStore<FileFrom<B>>> {
     ghost use Rattle.sqlite.specs.Files.{over_files};
-    ghost use Rattle.ft_store.specs.Opened.{IsOpenedFrom};
+    ghost use Rattle.ft_store.specs.Opened.{IsOpenedFrom, IsRefusedFrom};
 
     /// The same, where `B` stands for what the files held: the database that they hold is taken as a store.
     pub fn open_from(
@@ -97,6 +98,7 @@ impl<B: Start> Store<FileStore<FileFrom<B>>> {
     ) -> Result<Store<FileStore<FileFrom<B>>>, StoreFault>
         ensures memory { path.now ≡ codes ":memory:" → result ≡ Err StoreFault.Refused }
         ensures opened { IfOk result (λ store. IsOpenedFrom (image_at B.Start) store.held) }
+        ensures refused { IsRefusedFrom (image_at B.Start) result }
         ensures unread { IfOk result (λ store. store.rows_read ≡ 0) }
     {
         let conn = open_for_store(rt, path, start)?;
@@ -146,6 +148,7 @@ impl<S: Alter> Store<S> {
         ensures survives { Survives (shows S.Store self.old) (shows S.Store self.new) (λ _. IsTrue (shows S.Store self.old).is_open → ⊥) }
         ensures counted { IfOk result (λ found. self.new.rows_read ≡ more_rows (vec_len found) self.old) }
         ensures uncounted { OnErr result (self.new.rows_read ≡ self.old.rows_read) }
+        ensures causes { IfErr result IsPlainFault }
     {
         let found = tables::tables(&mut self.conn, self.alloc)?;
         self.rows_read = self.rows_read.saturating_add(found.len() as u64);
@@ -160,6 +163,7 @@ impl<S: Alter> Store<S> {
         ensures survives { Survives (shows S.Store self.old) (shows S.Store self.new) (λ _. IsTrue (shows S.Store self.old).is_open → ⊥) }
         ensures counted { IfOk result (λ found. self.new.rows_read ≡ more_rows (vec_len found) self.old) }
         ensures uncounted { OnErr result (self.new.rows_read ≡ self.old.rows_read) }
+        ensures causes { IfErr result IsPlainFault }
     {
         let found = read::cells(&mut self.conn, self.alloc, tab)?;
         self.rows_read = self.rows_read.saturating_add(found.len() as u64);
@@ -174,6 +178,7 @@ impl<S: Alter> Store<S> {
         ensures survives { Survives (shows S.Store self.old) (shows S.Store self.new) (λ _. IsTrue (shows S.Store self.old).is_open → ⊥) }
         ensures counted { IfOk result (λ found. self.new.rows_read ≡ more_rows (vec_len found) self.old) }
         ensures uncounted { OnErr result (self.new.rows_read ≡ self.old.rows_read) }
+        ensures causes { IfErr result IsPlainFault }
     {
         let found = read::document(&mut self.conn, self.alloc, tab, docid)?;
         self.rows_read = self.rows_read.saturating_add(found.len() as u64);
@@ -188,6 +193,7 @@ impl<S: Alter> Store<S> {
         ensures survives { Survives (shows S.Store self.old) (shows S.Store self.new) (λ _. IsTrue (shows S.Store self.old).is_open → ⊥) }
         ensures counted { IfOk result (λ last. self.new.rows_read ≡ more_rows (length (option_to_list last)) self.old) }
         ensures uncounted { OnErr result (self.new.rows_read ≡ self.old.rows_read) }
+        ensures causes { IfErr result IsPlainFault }
     {
         let last = read::last_docid(&mut self.conn, tab)?;
         self.rows_read = self.rows_read.saturating_add(u64::from(last.is_some()));
@@ -198,6 +204,7 @@ impl<S: Alter> Store<S> {
     pub fn term(&mut self, tab: i64, term: &str) -> Result<Vec<EntryRow>, StoreFault>
         ensures rows { HasCleanDisk (shows S.Store self.new) → IfOk result (λ found. let asked = where_key list_key_cmp (λ k. int_eq tab k.0 && is_eq (name_cmp term.now k.1)) (value_in S.Store self.old).lists in (map shown_entry found.items ≡ entries_of asked) × AreWhole asked) }
         ensures damaged { HasCleanDisk (shows S.Store self.new) → result ≡ Err StoreFault.Damaged → SomeDamaged (where_key list_key_cmp (λ k. int_eq tab k.0 && is_eq (name_cmp term.now k.1)) (value_in S.Store self.old).lists) }
+        ensures causes { IfErr result IsReadFault }
         ensures kept { HasCleanDisk (shows S.Store self.new) → Keeps (shows S.Store self.old) (shows S.Store self.new) }
         ensures survives { Survives (shows S.Store self.old) (shows S.Store self.new) (λ _. IsTrue (shows S.Store self.old).is_open → ⊥) }
         ensures counted { IfOk result (λ found. self.new.rows_read ≡ more_rows (vec_len found) self.old) }
@@ -214,6 +221,7 @@ impl<S: Alter> Store<S> {
     pub fn prefix(&mut self, tab: i64, begin: &str) -> Result<Vec<EntryRow>, StoreFault>
         ensures rows { HasCleanDisk (shows S.Store self.new) → IfOk result (λ found. let asked = where_key list_key_cmp (λ k. int_eq tab k.0 && starts_with nat_eq k.1 begin.now) (value_in S.Store self.old).lists in (map shown_entry found.items ≡ entries_of asked) × AreWhole asked) }
         ensures damaged { HasCleanDisk (shows S.Store self.new) → result ≡ Err StoreFault.Damaged → SomeDamaged (where_key list_key_cmp (λ k. int_eq tab k.0 && starts_with nat_eq k.1 begin.now) (value_in S.Store self.old).lists) }
+        ensures causes { IfErr result IsReadFault }
         ensures kept { HasCleanDisk (shows S.Store self.new) → Keeps (shows S.Store self.old) (shows S.Store self.new) }
         ensures survives { Survives (shows S.Store self.old) (shows S.Store self.new) (λ _. IsTrue (shows S.Store self.old).is_open → ⊥) }
         ensures counted { IfOk result (λ found. self.new.rows_read ≡ more_rows (vec_len found) self.old) }
@@ -229,6 +237,7 @@ impl<S: Alter> Store<S> {
     pub fn entries(&mut self, tab: i64) -> Result<Vec<EntryRow>, StoreFault>
         ensures rows { HasCleanDisk (shows S.Store self.new) → IfOk result (λ found. let asked = where_key list_key_cmp (λ k. int_eq tab k.0) (value_in S.Store self.old).lists in (map shown_entry found.items ≡ entries_of asked) × AreWhole asked) }
         ensures damaged { HasCleanDisk (shows S.Store self.new) → result ≡ Err StoreFault.Damaged → SomeDamaged (where_key list_key_cmp (λ k. int_eq tab k.0) (value_in S.Store self.old).lists) }
+        ensures causes { IfErr result IsReadFault }
         ensures kept { HasCleanDisk (shows S.Store self.new) → Keeps (shows S.Store self.old) (shows S.Store self.new) }
         ensures survives { Survives (shows S.Store self.old) (shows S.Store self.new) (λ _. IsTrue (shows S.Store self.old).is_open → ⊥) }
         ensures counted { IfOk result (λ found. self.new.rows_read ≡ more_rows (vec_len found) self.old) }
@@ -249,6 +258,7 @@ impl<S: Alter> Store<S> {
         ensures survives { Survives (shows S.Store self.old) (shows S.Store self.new) (λ _. IsTrue (shows S.Store self.old).is_open → ⊥) }
         ensures counted { IfOk result (λ found. self.new.rows_read ≡ more_rows (vec_len found) self.old) }
         ensures uncounted { OnErr result (self.new.rows_read ≡ self.old.rows_read) }
+        ensures causes { IfErr result IsPlainFault }
     {
         let found = read::sizes(&mut self.conn, self.alloc, tab)?;
         self.rows_read = self.rows_read.saturating_add(found.len() as u64);
@@ -263,6 +273,7 @@ impl<S: Alter> Store<S> {
         ensures survives { Survives (shows S.Store self.old) (shows S.Store self.new) (λ _. IsTrue (shows S.Store self.old).is_open → ⊥) }
         ensures counted { IfOk result (λ found. self.new.rows_read ≡ more_rows (vec_len found) self.old) }
         ensures uncounted { OnErr result (self.new.rows_read ≡ self.old.rows_read) }
+        ensures causes { IfErr result IsPlainFault }
     {
         let found = read::noted(&mut self.conn, self.alloc)?;
         self.rows_read = self.rows_read.saturating_add(found.len() as u64);
@@ -272,6 +283,7 @@ impl<S: Alter> Store<S> {
     /// Makes all changes, in their order, or none. Places that can't be packed are Damaged.
     pub fn change(&mut self, changes: &[RowChange]) -> Result<(), StoreFault>
         ensures packable { OnOk result (All CanApply changes.now) }
+        ensures causes { IfErr result (IsChangeFault (All CanApply changes.now)) }
         ensures all { HasCleanDisk (shows S.Store self.new) → OnOk result (value_in S.Store self.new ≡ all_applied (map shown_change changes.now) (value_in S.Store self.old)) }
         ensures none { HasCleanDisk (shows S.Store self.new) → OnErr result (Keeps (shows S.Store self.old) (shows S.Store self.new)) }
         ensures live { HasCleanDisk (shows S.Store self.new) → OnOk result (IsTrue (shows S.Store self.old).is_open × IsTrue (shows S.Store self.new).is_open) }

@@ -1,5 +1,5 @@
 //! Row changes, all in one transaction.
-ghost use Rattle.std.specs.Prelude.{◌≡◌, false, ℕ, ℤ, [], pos, map, unwrap_or, string_bytes, All, IsTrue, OnOk, OnErr};
+ghost use Rattle.std.specs.Prelude.{◌≡◌, false, ℕ, ℤ, [], pos, map, unwrap_or, string_bytes, All, IsTrue, IfErr, OnOk, OnErr};
 ghost use Rattle.std.specs.Ordering.{int_cmp};
 ghost use Rattle.std.specs.List.{enumerate_from};
 ghost use Rattle.std.specs.FinMap.Entries.{put, find};
@@ -10,7 +10,7 @@ ghost use Rattle.ft_store.specs.Packed.{CanPack, spots_in};
 ghost use Rattle.ft_store.specs.Store.{StoreValue, cell_key_cmp, list_key_cmp, column_key_cmp, name_cmp, without_index, without_rows, with_columns, with_skipped, AddTable, applied, all_applied};
 ghost use Rattle.ft_store.specs.Rows.{value_of};
 ghost use Rattle.ft_store.specs.Changes.{shown_value, shown_change, CanApply};
-ghost use Rattle.ft_store.specs.Calls.{StepsOnOk, StepsIfOpen, KeepsLast, LeavesNothing, IsStore, IsStored, IsStoreIfOpen, Keeps};
+ghost use Rattle.ft_store.specs.Calls.{IsPlainFault, IsChangeFault, StepsOnOk, StepsIfOpen, KeepsLast, LeavesNothing, IsStore, IsStored, IsStoreIfOpen, Keeps};
 
 use crate::fault::StoreFault;
 use crate::packed::{can_pack, pack};
@@ -32,6 +32,7 @@ fn put_column<S: Alter>(
 ) -> Result<(), StoreFault>
     ensures same_reference { tx.new.conn.ghost_name ≡ tx.old.conn.ghost_name }
     ensures steps { StepsOnOk S.Store tx.old.conn.now tx.new.conn.now result (λ v. record v { columns = put column_key_cmp (tab, column) name.now v.columns }) }
+    ensures fault { IfErr result IsPlainFault }
     ensures kept { KeepsLast S.Store tx.old.conn.now tx.new.conn.now }
     ensures survives { LeavesNothing S.Store tx.old.conn.now tx.new.conn.now }
 {
@@ -43,6 +44,7 @@ fn put_column<S: Alter>(
 fn put_skip<S: Alter>(tx: &mut Transaction<'_, S>, tab: i64, column: i64) -> Result<(), StoreFault>
     ensures same_reference { tx.new.conn.ghost_name ≡ tx.old.conn.ghost_name }
     ensures steps { StepsOnOk S.Store tx.old.conn.now tx.new.conn.now result (λ v. record v { skipped = put column_key_cmp (tab, column) tt v.skipped }) }
+    ensures fault { IfErr result IsPlainFault }
     ensures kept { KeepsLast S.Store tx.old.conn.now tx.new.conn.now }
     ensures survives { LeavesNothing S.Store tx.old.conn.now tx.new.conn.now }
 {
@@ -60,6 +62,7 @@ fn put_cell<S: Alter>(
 ) -> Result<(), StoreFault>
     ensures same_reference { tx.new.conn.ghost_name ≡ tx.old.conn.ghost_name }
     ensures steps { StepsOnOk S.Store tx.old.conn.now tx.new.conn.now result (λ v. record v { cells = put cell_key_cmp (tab, docid, column) (shown_value value.now) v.cells }) }
+    ensures fault { IfErr result IsPlainFault }
     ensures kept { KeepsLast S.Store tx.old.conn.now tx.new.conn.now }
     ensures survives { LeavesNothing S.Store tx.old.conn.now tx.new.conn.now }
 {
@@ -77,6 +80,7 @@ fn put_list<'a, S: Alter>(
 ) -> Result<(), StoreFault>
     ensures same_reference { tx.new.conn.ghost_name ≡ tx.old.conn.ghost_name }
     ensures steps { StepsOnOk S.Store tx.old.conn.now tx.new.conn.now result (λ v. record v { lists = put list_key_cmp (tab, term.now, docid) (unwrap_or (spots_in list.now) []) v.lists }) }
+    ensures fault { IfErr result IsPlainFault }
     ensures kept { KeepsLast S.Store tx.old.conn.now tx.new.conn.now }
     ensures survives { LeavesNothing S.Store tx.old.conn.now tx.new.conn.now }
 {
@@ -94,6 +98,7 @@ fn put_size<S: Alter>(
 ) -> Result<(), StoreFault>
     ensures same_reference { tx.new.conn.ghost_name ≡ tx.old.conn.ghost_name }
     ensures steps { StepsOnOk S.Store tx.old.conn.now tx.new.conn.now result (λ v. record v { sizes = put cell_key_cmp (tab, docid, column) n v.sizes }) }
+    ensures fault { IfErr result IsPlainFault }
     ensures kept { KeepsLast S.Store tx.old.conn.now tx.new.conn.now }
     ensures survives { LeavesNothing S.Store tx.old.conn.now tx.new.conn.now }
 {
@@ -105,6 +110,7 @@ fn put_size<S: Alter>(
 fn put_note<S: Alter>(tx: &mut Transaction<'_, S>, name: &str) -> Result<(), StoreFault>
     ensures same_reference { tx.new.conn.ghost_name ≡ tx.old.conn.ghost_name }
     ensures steps { StepsOnOk S.Store tx.old.conn.now tx.new.conn.now result (λ v. record v { noted = put name_cmp (without_case name.now) name.now v.noted }) }
+    ensures fault { IfErr result IsPlainFault }
     ensures kept { KeepsLast S.Store tx.old.conn.now tx.new.conn.now }
     ensures survives { LeavesNothing S.Store tx.old.conn.now tx.new.conn.now }
 {
@@ -122,6 +128,7 @@ fn put_entries<S: Alter>(
     spots: &[Spot],
 ) -> Result<(), StoreFault>
     ensures packable { OnOk result (CanPack spots.now) }
+    ensures fault { IfErr result (IsChangeFault (CanPack spots.now)) }
     ensures same_reference { tx.new.conn.ghost_name ≡ tx.old.conn.ghost_name }
     ensures steps { StepsOnOk S.Store tx.old.conn.now tx.new.conn.now result (λ v. record v { lists = put list_key_cmp (tab, term.now, docid) spots.now v.lists }) }
     ensures kept { KeepsLast S.Store tx.old.conn.now tx.new.conn.now }
@@ -138,6 +145,7 @@ fn put_entries<S: Alter>(
 fn clear_index<S: Alter>(tx: &mut Transaction<'_, S>, tab: i64) -> Result<(), StoreFault>
     ensures same_reference { tx.new.conn.ghost_name ≡ tx.old.conn.ghost_name }
     ensures steps { StepsOnOk S.Store tx.old.conn.now tx.new.conn.now result (λ v. without_index tab v) }
+    ensures fault { IfErr result IsPlainFault }
     ensures kept { KeepsLast S.Store tx.old.conn.now tx.new.conn.now }
     ensures survives { LeavesNothing S.Store tx.old.conn.now tx.new.conn.now }
 {
@@ -149,6 +157,7 @@ fn clear_index<S: Alter>(tx: &mut Transaction<'_, S>, tab: i64) -> Result<(), St
 fn clear_rows<S: Alter>(tx: &mut Transaction<'_, S>, tab: i64) -> Result<(), StoreFault>
     ensures same_reference { tx.new.conn.ghost_name ≡ tx.old.conn.ghost_name }
     ensures steps { StepsOnOk S.Store tx.old.conn.now tx.new.conn.now result (λ v. without_rows tab v) }
+    ensures fault { IfErr result IsPlainFault }
     ensures kept { KeepsLast S.Store tx.old.conn.now tx.new.conn.now }
     ensures survives { LeavesNothing S.Store tx.old.conn.now tx.new.conn.now }
 {
@@ -167,6 +176,7 @@ fn put_columns<S: Alter>(
 ) -> Result<(), StoreFault>
     ensures same_reference { tx.new.conn.ghost_name ≡ tx.old.conn.ghost_name }
     ensures steps { StepsIfOpen S.Store tx.old.conn.now tx.new.conn.now result (λ v. record v { columns = with_columns tab (enumerate_from 0 (map string_bytes columns.now)) v.columns }) }
+    ensures fault { IfErr result IsPlainFault }
     ensures kept { KeepsLast S.Store tx.old.conn.now tx.new.conn.now }
     ensures survives { LeavesNothing S.Store tx.old.conn.now tx.new.conn.now }
 {
@@ -184,6 +194,7 @@ fn put_skips<S: Alter>(
 ) -> Result<(), StoreFault>
     ensures same_reference { tx.new.conn.ghost_name ≡ tx.old.conn.ghost_name }
     ensures steps { StepsIfOpen S.Store tx.old.conn.now tx.new.conn.now result (λ v. record v { skipped = with_skipped tab skipped.now v.skipped }) }
+    ensures fault { IfErr result IsPlainFault }
     ensures kept { KeepsLast S.Store tx.old.conn.now tx.new.conn.now }
     ensures survives { LeavesNothing S.Store tx.old.conn.now tx.new.conn.now }
 {
@@ -203,6 +214,7 @@ fn add_table<S: Alter>(
 ) -> Result<(), StoreFault>
     ensures same_reference { tx.new.conn.ghost_name ≡ tx.old.conn.ghost_name }
     ensures steps { StepsOnOk S.Store tx.old.conn.now tx.new.conn.now result (λ v. applied (AddTable tab name.now (map string_bytes columns.now) skipped.now) v) }
+    ensures fault { IfErr result IsPlainFault }
     ensures kept { KeepsLast S.Store tx.old.conn.now tx.new.conn.now }
     ensures survives { LeavesNothing S.Store tx.old.conn.now tx.new.conn.now }
 {
@@ -219,6 +231,7 @@ fn apply<S: Alter>(
     change: &RowChange,
 ) -> Result<(), StoreFault>
     ensures packable { OnOk result (CanApply change.now) }
+    ensures fault { IfErr result (IsChangeFault (CanApply change.now)) }
     ensures same_reference { tx.new.conn.ghost_name ≡ tx.old.conn.ghost_name }
     ensures steps { StepsOnOk S.Store tx.old.conn.now tx.new.conn.now result (λ v. applied (shown_change change.now) v) }
     ensures kept { KeepsLast S.Store tx.old.conn.now tx.new.conn.now }
@@ -255,6 +268,7 @@ pub(crate) fn change<S: Alter>(
     requires settled { (state S.Store conn.old).in_transaction ≡ false }
     requires store { IsStoreIfOpen (state S.Store conn.old) }
     ensures packable { OnOk result (All CanApply changes.now) }
+    ensures fault { IfErr result (IsChangeFault (All CanApply changes.now)) }
     ensures all { HasCleanDisk (state S.Store conn.new) → OnOk result (IsStore (state S.Store conn.new).now
         × (value_of (state S.Store conn.new).now.trees ≡ all_applied (map shown_change changes.now) (value_of (state S.Store conn.old).now.trees))) }
     ensures none { HasCleanDisk (state S.Store conn.new) → OnErr result (Keeps (state S.Store conn.old) (state S.Store conn.new)) }

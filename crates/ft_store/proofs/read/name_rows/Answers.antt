@@ -5,4 +5,4 @@ use Rattle.ft_store.proofs.read.name_rows.Goals as goal
 
 pub loop-row-preserved : goal.loop-row-preserved
 loop-row-preserved c = rw c.in_ok-push.ensures.items
-    (one_more shown_name found_table c.loop-row.found.items c.args.rows.now c.loop-row.row-index c.in_ok-name_row.field-0 c.row-item.result c.loop-row-test.true c.row-item.is c.loop-row.invariant c.in_ok-name_row.ensures)
+    (one_more shown_name found_table c.loop-row.found.items c.args.rows.now c.loop-row.row-index c.in_ok-name_row.field-0 c.row-item.result c.loop-row-test.true c.row-item.is c.loop-row.invariant c.in_ok-name_row.ensures.found)
