@@ -1,10 +1,10 @@
 //! Full-text tables over a store in memory.
 
 use crate::store::with_rows;
-use ft_index::FullText;
+use ft_index::{Command, Fault, Filter, FullText};
 use ft_store::Store;
 use sqlite::Alter;
-use std::alloc::Global;
+use std::alloc::{AllocError, Global};
 use std::test::Fail;
 
 // The table 1, `d`, of one column `x`, with the documents 1 and 2, which are `red`.
@@ -54,5 +54,37 @@ fn tables_are_marked(rt: HostRuntime) -> Result<(), Fail> {
         assert_eq!(&rt; seen, (1, sound, sound));
     }
     assert_eq!(&rt; marks(alloc, Store::open_memory(alloc)?)?, (0, true, true));
+    Ok(())
+}
+
+// Whether a command is refused since its table isn't there.
+fn is_missed<S: Alter>(tables: &mut FullText<S>, command: &Command) -> bool {
+    matches!(tables.execute(command), Err(Fault::NoSuchTable))
+}
+
+// The name `x` of a table.
+fn x(alloc: Global) -> Result<String, AllocError> {
+    "x".to_string(alloc)
+}
+
+// Whether commands on a table that isn't there are refused so. A shell never gives such a command: it takes it for a plain statement.
+fn are_missed<S: Alter + Drop>(alloc: Global, store: Store<S>) -> Result<bool, Fail> {
+    let Ok(mut tables) = FullText::new(alloc, store) else {
+        return Err(Fail::new("not taken"));
+    };
+    let dropped = Command::Drop { table: x(alloc)?, if_there: false };
+    let deleted = Command::Delete { table: x(alloc)?, filter: Filter::All };
+    let checked = Command::Check { table: x(alloc)? };
+    let spared = Command::Drop { table: x(alloc)?, if_there: true };
+    Ok(is_missed(&mut tables, &dropped)
+        && is_missed(&mut tables, &deleted)
+        && is_missed(&mut tables, &checked)
+        && tables.execute(&spared).is_ok())
+}
+
+#[test]
+fn missing_tables_are_told(rt: HostRuntime) -> Result<(), Fail> {
+    let alloc = rt.alloc();
+    assert!(&rt; are_missed(alloc, Store::open_memory(alloc)?)?);
     Ok(())
 }
