@@ -72,14 +72,25 @@ fn are_missed<S: Alter + Drop>(alloc: Global, store: Store<S>) -> Result<bool, F
     let Ok(mut tables) = FullText::new(alloc, store) else {
         return Err(Fail::new("not taken"));
     };
-    let dropped = Command::Drop { table: x(alloc)?, if_there: false };
-    let deleted = Command::Delete { table: x(alloc)?, filter: Filter::All };
+    let dropped = Command::Drop {
+        table: x(alloc)?,
+        if_there: false,
+    };
+    let deleted = Command::Delete {
+        table: x(alloc)?,
+        filter: Filter::All,
+    };
     let checked = Command::Check { table: x(alloc)? };
-    let spared = Command::Drop { table: x(alloc)?, if_there: true };
-    Ok(is_missed(&mut tables, &dropped)
-        && is_missed(&mut tables, &deleted)
-        && is_missed(&mut tables, &checked)
-        && tables.execute(&spared).is_ok())
+    let spared = Command::Drop {
+        table: x(alloc)?,
+        if_there: true,
+    };
+    Ok(
+        is_missed(&mut tables, &dropped)
+            && is_missed(&mut tables, &deleted)
+            && is_missed(&mut tables, &checked)
+            && tables.execute(&spared).is_ok(),
+    )
 }
 
 #[test]
