@@ -2,16 +2,9 @@
 # Times single commands of ft_index against sqlite3's FTS4, over 300 documents in memory and 3,000 in a file. It makes a small program
 # in a folder of its own (the first argument, or a new one), proves and builds it, and prints a table: see commands.py.
 set -eu
-here=$(cd "$(dirname "$0")" && pwd)
-top=$(dirname "$here")
-room=${1:-$(mktemp -d)}
-crate=$room/crates/time_commands
-mkdir -p "$crate/src"
-for name in ft_query shell_text ram_disk ft_store ft_content ft_index ft_statements; do
-    [ -e "$room/crates/$name" ] || cp -r "$top/crates/$name" "$room/crates/"
-    grep "^$name:" "$top/crates.txt"
-done > "$room/crates.txt"
-echo 'time_commands: ft_index ft_statements ft_content ft_store shell_text sqlite anyhow' >> "$room/crates.txt"
+. "$(dirname "$0")/crate.sh"
+begin_crate "${1:-}" time_commands "ft_index ft_statements ft_content ft_store shell_text sqlite anyhow" \
+    ft_query shell_text ram_disk ft_store ft_content ft_index ft_statements
 cat > "$crate/src/main.rt" <<'RT'
 //! Executes full-text statements. Standard input has the path of a store, or an empty line for one in memory, and then a statement a
 //! line. The first line of the output tells how many nanoseconds it took to take the store, and each further one those of a command,

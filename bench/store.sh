@@ -2,16 +2,8 @@
 # Times changes and reads of ft_store over 10^5 posting rows in a file, against sqlite3 doing the same row work. It makes a small
 # program in a folder of its own (the first argument, or a new one), proves and builds it, and prints a table: see rows.py.
 set -eu
-here=$(cd "$(dirname "$0")" && pwd)
-top=$(dirname "$here")
-room=${1:-$(mktemp -d)}
-crate=$room/crates/store_rows
-mkdir -p "$crate/src"
-for name in ram_disk ft_store; do
-    [ -e "$room/crates/$name" ] || cp -r "$top/crates/$name" "$room/crates/"
-done
-grep -E '^(ram_disk|ft_store):' "$top/crates.txt" > "$room/crates.txt"
-echo 'store_rows: ft_store sqlite anyhow' >> "$room/crates.txt"
+. "$(dirname "$0")/crate.sh"
+begin_crate "${1:-}" store_rows "ft_store sqlite anyhow" ram_disk ft_store
 cat > "$crate/src/main.rt" <<'RT'
 //! Fills a store with 10^5 posting rows, or reads them. Standard input has its path, and how many changes the rows are spread over,
 //! or 0 to read. A line for each step tells the nanoseconds that it took.

@@ -9,6 +9,7 @@ It needs a C compiler.
 """
 import collections
 import concurrent.futures
+import functools
 import os
 import re
 import subprocess
@@ -80,37 +81,47 @@ def judge(ran, whole, less):
     return None
 
 
+def prepare(room):
+    """Makes the library that refuses, and the file that is imported."""
+    source = os.path.join(os.path.dirname(os.path.abspath(__file__)), "memory.c")
+    subprocess.run(["cc", "-O1", "-shared", "-fPIC", "-o", f"{room}/memory.so", source, "-ldl"], check=True)
+    with open(f"{room}/records.csv", "w") as file:
+        file.write(RECORDS)
+
+
+def with_ample_memory(program, room):
+    """The run with nothing refused, and how many allocations it makes."""
+    whole = run(program, room, SCRIPT, counted=f"{room}/count")
+    if whole.err or whole.status:
+        sys.exit(f"with ample memory: {whole}")
+    with open(f"{room}/count") as file:
+        return whole, int(file.read())
+
+
+def tries(program, room, whole, numbers):
+    """For each allocation the case that holds where it is refused, and the run."""
+    less = functools.cache(lambda number: run(program, room, without(SCRIPT, number)))
+
+    def tried(number):
+        ran = run(program, room, SCRIPT, number)
+        return number, judge(ran, whole, less), ran
+
+    with concurrent.futures.ThreadPoolExecutor(os.cpu_count()) as pool:
+        yield from pool.map(tried, numbers)
+
+
 def main(program, step=1, first=1):
     program = os.path.abspath(program)
+    told = collections.Counter()
     with tempfile.TemporaryDirectory() as room:
-        source = os.path.join(os.path.dirname(os.path.abspath(__file__)), "memory.c")
-        subprocess.run(["cc", "-O1", "-shared", "-fPIC", "-o", f"{room}/memory.so", source, "-ldl"], check=True)
-        with open(f"{room}/records.csv", "w") as file:
-            file.write(RECORDS)
-        whole = run(program, room, SCRIPT, counted=f"{room}/count")
-        if whole.err or whole.status:
-            sys.exit(f"with ample memory: {whole}")
-        with open(f"{room}/count") as file:
-            count = int(file.read())
-        runs = {}
-
-        def less(number):
-            if number not in runs:
-                runs[number] = run(program, room, without(SCRIPT, number))
-            return runs[number]
-
-        def tried(number):
-            ran = run(program, room, SCRIPT, number)
-            return number, judge(ran, whole, less), ran
-
-        told, bad = collections.Counter(), 0
-        with concurrent.futures.ThreadPoolExecutor(os.cpu_count()) as pool:
-            for number, case, ran in pool.map(tried, range(first, count + 1, step)):
-                told[case] += 1
-                if case is None and (bad := bad + 1) <= 20:
-                    print(f"allocation {number}: {ran}")
-        print(f"{count} allocations: " + ", ".join(f"{times} {case or 'WRONG'}" for case, times in sorted(told.items(), key=str)))
-        sys.exit(bad > 0)
+        prepare(room)
+        whole, count = with_ample_memory(program, room)
+        for number, case, ran in tries(program, room, whole, range(first, count + 1, step)):
+            told[case] += 1
+            if case is None and told[None] <= 20:
+                print(f"allocation {number}: {ran}")
+    print(f"{count} allocations: " + ", ".join(f"{times} {case or 'WRONG'}" for case, times in sorted(told.items(), key=str)))
+    sys.exit(told[None] > 0)
 
 
 if __name__ == "__main__":
