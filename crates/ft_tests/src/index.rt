@@ -1,7 +1,7 @@
 //! Full-text tables over a store in memory.
 
-use crate::store::with_rows;
-use ft_index::{Command, Fault, Filter, FullText};
+use crate::store::{entries, sizes, with_rows};
+use ft_index::{Command, Fault, Filter, FullText, Value};
 use ft_store::Store;
 use sqlite::Alter;
 use std::alloc::{AllocError, Global};
@@ -97,5 +97,83 @@ fn are_missed<S: Alter + Drop>(alloc: Global, store: Store<S>) -> Result<bool, F
 fn missing_tables_are_told(rt: HostRuntime) -> Result<(), Fail> {
     let alloc = rt.alloc();
     assert!(&rt; are_missed(alloc, Store::open_memory(alloc)?)?);
+    Ok(())
+}
+
+// The table 1, `d`, of one column `x`, with the documents 1, `red apple`, and 2, `red pear`.
+const FRUIT: &str = "INSERT INTO tab VALUES (1, 'd');
+    INSERT INTO col VALUES (1, 0, 'x');
+    INSERT INTO cell VALUES (1, 1, 0, NULL, 'red apple'), (1, 2, 0, NULL, 'red pear');
+    INSERT INTO posting VALUES (1, 'red', 1, x'00000003'), (1, 'apple', 1, x'00010405'), (1, 'red', 2, x'00000003'), (1, 'pear', 2, x'00010404');
+    INSERT INTO sizes VALUES (1, 1, 0, 2), (1, 2, 0, 2)";
+
+// The documents are taken with a sound index.
+fn fruit<S: Alter + Drop>(alloc: Global, store: Store<S>) -> Result<FullText<S>, Fail> {
+    match FullText::new(alloc, with_rows(alloc, store, FRUIT)?) {
+        Ok(tables) => Ok(tables),
+        Err(_) => Err(Fail::new("not taken")),
+    }
+}
+
+// The entries and sizes of the table.
+fn index_of<S: Alter + Drop>(alloc: Global, store: Store<S>) -> Result<(String, String), Fail> {
+    let mut store = store;
+    let entries = entries(&mut store, alloc)?;
+    Ok((entries, sizes(&mut store, alloc)?))
+}
+
+// The index after a command is executed.
+fn executed<S: Alter + Drop>(
+    alloc: Global,
+    tables: FullText<S>,
+    command: &Command,
+) -> Result<(String, String), Fail> {
+    let mut tables = tables;
+    tables.execute(command)?;
+    index_of(alloc, tables.into_store())
+}
+
+// The index after the changes are made that the plan of a command names.
+fn planned<S: Alter + Drop>(
+    alloc: Global,
+    tables: FullText<S>,
+    command: &Command,
+) -> Result<(String, String), Fail> {
+    let mut tables = tables;
+    let changes = tables.plan(command)?;
+    let mut store = tables.into_store();
+    store.change(changes.as_slice())?;
+    index_of(alloc, store)
+}
+
+#[test]
+fn an_update_changes_its_rows(rt: HostRuntime) -> Result<(), Fail> {
+    let alloc = rt.alloc();
+    let mut sets: Vec<(String, Value)> = Vec::new(alloc);
+    sets.push((x(alloc)?, Value::Text("green".to_string(alloc)?)))?;
+    let update = Command::Update {
+        table: "d".to_string(alloc)?,
+        sets,
+        filter: Filter::Docid(1),
+    };
+    let (entries, sizes) = executed(alloc, fruit(alloc, Store::open_memory(alloc)?)?, &update)?;
+    assert_eq!(&rt;
+        entries.as_str(),
+        "green 1 0 0 0 5;pear 2 0 1 4 4;red 2 0 0 0 3;"
+    );
+    assert_eq!(&rt; sizes.as_str(), "1 0 1;2 0 2;");
+    Ok(())
+}
+
+#[test]
+fn a_plan_is_what_is_done(rt: HostRuntime) -> Result<(), Fail> {
+    let alloc = rt.alloc();
+    let delete = Command::Delete {
+        table: "d".to_string(alloc)?,
+        filter: Filter::Docid(1),
+    };
+    let (entries, sizes) = planned(alloc, fruit(alloc, Store::open_memory(alloc)?)?, &delete)?;
+    assert_eq!(&rt; entries.as_str(), "pear 2 0 1 4 4;red 2 0 0 0 3;");
+    assert_eq!(&rt; sizes.as_str(), "2 0 2;");
     Ok(())
 }

@@ -87,12 +87,12 @@ fn cells<S: Alter>(store: &mut Store<S>, alloc: Global) -> Result<String, StoreF
     Ok(cells_text(alloc, rows.as_slice())?)
 }
 
-fn entries<S: Alter>(store: &mut Store<S>, alloc: Global) -> Result<String, StoreFault> {
+pub(crate) fn entries<S: Alter>(store: &mut Store<S>, alloc: Global) -> Result<String, StoreFault> {
     let rows = store.entries(1)?;
     Ok(entries_text(alloc, rows.as_slice())?)
 }
 
-fn sizes<S: Alter>(store: &mut Store<S>, alloc: Global) -> Result<String, StoreFault> {
+pub(crate) fn sizes<S: Alter>(store: &mut Store<S>, alloc: Global) -> Result<String, StoreFault> {
     let mut all = String::new(alloc);
     for row in store.sizes(1)? {
         write!(all, "{} {} {};", row.docid, row.column, row.n)?;
