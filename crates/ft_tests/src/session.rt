@@ -12,9 +12,9 @@ use std::io::{self, Read, Write};
 use std::process::Abort;
 use std::test::Fail;
 
-mod commands;
+pub(crate) mod commands;
 mod ends;
-mod queries;
+pub(crate) mod queries;
 mod turns;
 
 // Two files: one with records of all lengths, and an empty one.
@@ -150,8 +150,8 @@ fn holds(rt: &impl Abort, alloc: Global, input: &[u8], out: &str, err: &str) -> 
     Ok(())
 }
 
-// An input, what it writes, and its fault lines.
-type Row = (&'static str, &'static str, &'static str);
+/// An input, what it writes, and its fault lines.
+pub(crate) type Row = (&'static str, &'static str, &'static str);
 
 fn all_hold(rt: &impl Abort, alloc: Global, rows: &[Row]) -> Result<(), Fail> {
     for (input, out, err) in rows {

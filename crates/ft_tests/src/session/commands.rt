@@ -3,8 +3,8 @@
 use super::{Row, all_hold};
 use std::test::Fail;
 
-// Inputs with what they write and their fault lines.
-const ROWS: [Row; 5] = [
+/// Inputs of a statement a line, with what they write and their fault lines.
+pub(crate) const ROWS: [Row; 5] = [
     // update and delete
     (
         "CREATE VIRTUAL TABLE d USING fts4(x);\n\

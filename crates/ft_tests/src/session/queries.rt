@@ -3,8 +3,8 @@
 use super::{Row, all_hold};
 use std::test::Fail;
 
-// Inputs with what they write and their fault lines.
-const ROWS: [Row; 15] = [
+/// Inputs of a statement a line, with what they write and their fault lines.
+pub(crate) const ROWS: [Row; 15] = [
     // offsets
     (
         "CREATE VIRTUAL TABLE mail USING fts4(subject, body);\n\
