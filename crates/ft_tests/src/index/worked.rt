@@ -11,6 +11,7 @@ use ft_store::Store;
 use shell_text::{Settings, sql_words};
 use sqlite::Alter;
 use std::alloc::Global;
+use std::fs;
 use std::process::Abort;
 use std::test::Fail;
 
@@ -174,18 +175,21 @@ fn queries_are_answered(rt: HostRuntime) -> Result<(), Fail> {
     all_hold(&rt, rt.alloc(), &queries::ROWS)
 }
 
+// Empties the files of a database, which an earlier run may have left: the database and its log.
+fn empty(rt: &HostRuntime, path: &str) -> Result<(), Fail> {
+    let log = format!(in rt.alloc(); "{path}-wal")?;
+    fs::write(rt, path, "")?;
+    fs::write(rt, log.as_str(), "")?;
+    Ok(())
+}
+
 // A store in a file answers these inputs so, and is taken again with sound tables.
-fn all_hold_in_files(
-    abort: &impl Abort,
-    rt: &HostRuntime,
-    rows: &[Row],
-    name: &str,
-) -> Result<(), Fail> {
+fn all_hold_in_files(abort: &impl Abort, rt: &HostRuntime, rows: &[Row]) -> Result<(), Fail> {
     let alloc = rt.alloc();
     for (number, (input, out, err)) in rows.iter().enumerate() {
-        let path = format!(in alloc; "{name}{number}")?;
-        let store = Store::open_file(rt, path.as_str())?;
-        let (seen, _) = answers_over(alloc, store, input)?;
+        let path = format!(in alloc; "commands{number}.db")?;
+        empty(rt, path.as_str())?;
+        let (seen, _) = answers_over(alloc, Store::open_file(rt, path.as_str())?, input)?;
         seen.is(abort, out, err);
         let (_, _, all) = marks(alloc, Store::open_file(rt, path.as_str())?)?;
         assert!(abort; all);
@@ -195,5 +199,5 @@ fn all_hold_in_files(
 
 #[test]
 fn commands_are_answered_in_files(rt: HostRuntime) -> Result<(), Fail> {
-    all_hold_in_files(&rt, &rt, &commands::ROWS, "commands")
+    all_hold_in_files(&rt, &rt, &commands::ROWS)
 }
