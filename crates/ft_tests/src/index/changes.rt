@@ -66,7 +66,7 @@ fn commands_leave_these_rows(rt: HostRuntime) -> Result<(), Fail> {
     Ok(())
 }
 
-// What is read of the table that the first of the inputs leaves: the document 2, and the entries of a term and of a prefix.
+// What is read of the table that the first of the inputs leaves: its second document, and the entries of a term and of a prefix.
 fn reads_after<S: Alter + Drop>(alloc: Global, store: Store<S>) -> Result<String, Fail> {
     let (input, _, _) = CHANGES[0];
     let mut store = made(alloc, store, input)?;
@@ -132,7 +132,7 @@ fn planned<S: Alter + Drop>(
     index_of(alloc, store)
 }
 
-// Inputs with the entries and sizes that the plan of a Delete of the document 1 leaves.
+// Inputs with the entries and sizes that are left by the plan that deletes the first document.
 const DELETES: [(&str, &str, &str); 2] = [
     (
         "CREATE VIRTUAL TABLE d USING fts4(x);\n\
