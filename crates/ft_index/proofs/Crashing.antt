@@ -14,8 +14,8 @@ use Rattle.ft_store.specs.Kept.{StoreState, shows, value_in}
 use Rattle.ft_store.specs.declared.rows.RowChange.{RowChange}
 use Rattle.ft_content.specs.Command.{Command}
 use Rattle.ft_content.specs.Views.{KnownTable}
-use Rattle.ft_content.specs.Deserved.{Contents}
-use Rattle.ft_content.specs.Step.{after}
+use Rattle.ft_content.specs.Deserved.{Contents, deserved}
+use Rattle.ft_content.specs.Step.{after, step, step_by}
 use Rattle.ft_index.specs.DocumentsRead.{Looks}
 use Rattle.ft_index.specs.Kept.{IsUp, AreHeld, StoreHolds, PlansFrom}
 use Rattle.ft_index.specs.Changed.{with_tables}
@@ -35,6 +35,11 @@ survives_as a b P Q f one = survives_then a b b P (λ _. ⊥) Q f (λ clean db n
   crash = λ clean db h. inl h;
 })
 
+-- what a command leaves that deserves no fault
+left_is : (first : Contents) (command : Command) → deserved first command ≡ None → after first command ≡ (step first command).1
+unfolding step
+left_is first command fine = sym (ap (λ due. (step_by due first command).1) fine)
+
 module _ {S : Type 0} (g : Ghosts S) where
   -- row changes that are committed, whole
   abbrev pub CommitsRows : StoreState S → List Change → Trees → Type 0
@@ -50,10 +55,10 @@ module _ {S : Type 0} (g : Ghosts S) where
 
   -- row changes that lead to what the command leaves
   pub crash_changed : (old new : StoreState S) (tables others : List KnownTable) (command : Command) (changes : List Change) →
-      (IsUp g (with_tables old tables) → (first : Contents) → AreHeld (value_in g old) tables first → StoreHolds (all_applied changes (value_in g old)) (after first command) × ((all_applied changes (value_in g old)).noted ≡ (value_in g old).noted)) →
+      (IsUp g (with_tables old tables) → (first : Contents) → AreHeld (value_in g old) tables first → (deserved first command ≡ None) × StoreHolds (all_applied changes (value_in g old)) (after first command) × ((all_applied changes (value_in g old)).noted ≡ (value_in g old).noted)) →
       Survives (shows g old) (shows g new) (CommitsRows old changes) → CommandSurvives g (with_tables old tables) command (with_tables new others)
   crash_changed old new tables others command changes leads survives = survives_as (shows g old) (shows g new) _ _ (λ clean db commits up first holds.
-      record { left = all_applied changes (value_in g old); stored = commits up.is_open; held = (leads up first holds).0; noted = (leads up first holds).1 }) survives
+      record { left = all_applied changes (value_in g old); stored = commits up.is_open; held = subst (StoreHolds (all_applied changes (value_in g old))) (left_is first command (leads up first holds).0) (leads up first holds).1; noted = (leads up first holds).2 }) survives
 
   -- a plan that was made by reads, and is carried out
   pub crash_written : (old mid new : StoreState S) (tables others : List KnownTable) (command : Command) (changes : Vec RowChange Global) → Looks g old mid → (HasCleanDisk (shows g mid) → IsTrue (shows g old).is_open → IsTrue (shows g mid).is_open) →
@@ -67,6 +72,6 @@ module _ {S : Type 0} (g : Ghosts S) where
       record {
         left = all_applied (map shown_change changes.items) (value_in g old);
         stored = subst (λ (v : StoreValue). IsStored db (all_applied (map shown_change changes.items) v)) (looks_same g old mid tables looks mid_up) (commits mid_up.is_open);
-        held = planned.1;
+        held = subst (StoreHolds (all_applied (map shown_change changes.items) (value_in g old))) (left_is first command planned.0) planned.1;
         noted = planned.2;
       }) looks.survives survives

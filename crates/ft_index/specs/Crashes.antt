@@ -8,14 +8,14 @@ use Rattle.ft_store.specs.Store.{StoreValue, Note, applied}
 use Rattle.ft_store.specs.Kept.{shows}
 use Rattle.ft_content.specs.Command.{Command}
 use Rattle.ft_content.specs.Deserved.{Contents}
-use Rattle.ft_content.specs.Step.{after}
+use Rattle.ft_content.specs.Step.{step}
 use Rattle.ft_index.specs.Kept.{Known, IsUp, Holds, StoreHolds, value_of}
 
 -- a store that holds the contents which a command leaves, with the noted names as they were
 pub record HoldsAfter (old : StoreValue) (first : Contents) (command : Command) (db : Trees) : Type 0 where
   pub left : StoreValue
   pub stored : IsStored db left
-  pub held : StoreHolds left (after first command)
+  pub held : StoreHolds left (step first command).1
   pub noted : left.noted ≡ old.noted
 
 -- What a call of `execute` may commit: the contents that the command leaves, whole.

@@ -1,6 +1,6 @@
 // Row changes of a store.
-ghost use Rattle.std.specs.Prelude.{◌≡◌, ◌⊎◌, map, is_ok, IfErr, true};
-ghost use Rattle.sqlite.specs.State.{Survives};
+ghost use Rattle.std.specs.Prelude.{◌≡◌, ◌⊎◌, map, is_ok, IfErr, true, OnOk, IsTrue};
+ghost use Rattle.sqlite.specs.State.{Survives, HasCleanDisk};
 ghost use Rattle.ft_store.specs.Changes.{shown_change};
 ghost use Rattle.ft_store.specs.Calls.{IsStored};
 ghost use Rattle.ft_store.specs.Kept.{shows, value_in};
@@ -24,6 +24,7 @@ pub(crate) fn change_rows<S: Alter>(
     // A crash leaves what it could leave before, or a store with all changes made.
     ensures crash { Survives (shows S.Store store.old) (shows S.Store store.new)
         (λ db. (shows S.Store store.old).is_open ≡ true → IsStored db (all_applied (map shown_change changes.now) (value_in S.Store store.old))) }
+    ensures live { HasCleanDisk (shows S.Store store.new) → OnOk result (IsTrue (shows S.Store store.old).is_open → IsTrue (shows S.Store store.new).is_open) }
 {
     store.change(changes)?;
     Ok(())

@@ -1,5 +1,5 @@
 //! Comparing the rows of tables with those that they should have.
-ghost use Rattle.std.specs.Prelude.{◌≡◌, ◌⊎◌, ◌↔◌, ℤ, ℕ, List, map, IsTrue, IfOk, IfErr};
+ghost use Rattle.std.specs.Prelude.{◌≡◌, ◌⊎◌, ◌↔◌, ℤ, ℕ, List, map, IsTrue, IfOk, IfErr, OnOk};
 ghost use Rattle.std.specs.List.{list_all};
 ghost use Rattle.sqlite.specs.State.{HasCleanDisk};
 ghost use Rattle.ft_store.specs.Kept.{shows, value_in};
@@ -27,6 +27,7 @@ fn is_right<S: Alter>(alloc: Global, store: &mut Store<S>, id: i64) -> Result<bo
     ensures right { (named : ℤ × List ℕ) (held : Held) → HasCleanDisk (shows S.Store store.new) → IsNamed (value_in S.Store store.old) id named
         → Stands named.1 (table_rows named.0 (value_in S.Store store.old)) (table_index named.0 (value_in S.Store store.old)) held → IfOk result (λ b. b ≡ is_sound held) }
     ensures looks { Looks S.Store store.old store.new }
+    ensures live { HasCleanDisk (shows S.Store store.new) → OnOk result (IsTrue (shows S.Store store.old).is_open → IsTrue (shows S.Store store.new).is_open) }
 {
     match listed_table(store, id)? {
         Some(table) => {
@@ -46,6 +47,7 @@ pub(crate) fn check_table<S: Alter>(
 ) -> Result<Reply, Fault>
     ensures checks { Executes S.Store (with_tables store.old (map known_info tables.now)) (plain.Check table.now) (answer_of result) (with_tables store.new (map known_info tables.now)) }
     ensures looks { Looks S.Store store.old store.new }
+    ensures live { HasCleanDisk (shows S.Store store.new) → OnOk result (IsTrue (shows S.Store store.old).is_open → IsTrue (shows S.Store store.new).is_open) }
 {
     store.is_in_order();
     let Some(place) = place_of(tables, table) else {

@@ -38,6 +38,7 @@ pub(crate) fn delete_from<S: Alter>(
         (answer_of result) (with_tables store.new (map known_info tables.now)) }
     ensures crash { CommandSurvives S.Store (with_tables store.old (map known_info tables.now)) (plain.Delete table.now (filter_of filter.now))
         (with_tables store.new (map known_info tables.now)) }
+    ensures live { HasCleanDisk (shows S.Store store.new) → OnOk result (IsTrue (shows S.Store store.old).is_open → IsTrue (shows S.Store store.new).is_open) }
 {
     let changes = delete_changes(alloc, store, tables, table, filter)?;
     change_rows(store, changes.as_slice())?;

@@ -1,5 +1,7 @@
 //! Commands over a store.
-ghost use Rattle.std.specs.Prelude.{◌≡◌, map, option_map, string_bytes};
+ghost use Rattle.ft_store.specs.Kept.{shows};
+ghost use Rattle.sqlite.specs.State.{HasCleanDisk};
+ghost use Rattle.std.specs.Prelude.{◌≡◌, map, option_map, string_bytes, OnOk, IsTrue};
 ghost use Rattle.ft_content.specs.Views.{known_info, names_in, command_of, answer_of};
 ghost use Rattle.ft_index.specs.Kept.{Executes};
 ghost use Rattle.ft_index.specs.Changed.{with_tables};
@@ -29,6 +31,7 @@ pub(crate) fn execute_command<S: Alter>(
     ensures executes { Executes S.Store (with_tables store.old (map known_info tables.old.items)) (command_of command.now) (answer_of result) (with_tables store.new (map known_info tables.new.items)) }
     ensures counts { CountsRows S.Store (with_tables store.old (map known_info tables.old.items)) (command_of command.now) (answer_of result) (with_tables store.new (map known_info tables.new.items)) }
     ensures crash { CommandSurvives S.Store (with_tables store.old (map known_info tables.old.items)) (command_of command.now) (with_tables store.new (map known_info tables.new.items)) }
+    ensures live { HasCleanDisk (shows S.Store store.new) → OnOk result (IsTrue (shows S.Store store.old).is_open → IsTrue (shows S.Store store.new).is_open) }
 {
     match command {
         Command::Create {

@@ -44,12 +44,17 @@ impl<S: Alter> Model for FullText<S> {
 }
 
 impl<S: Alter> FullText<S> {
-    ghost use Rattle.std.specs.Prelude.{◌≡◌, ◌⊎◌, ◌↔◌, map, string_bytes, is_ok, IsTrue, IfOk, IfErr};
+    ghost use Rattle.std.specs.Prelude.{◌≡◌, ◌⊎◌, ◌↔◌, [], map, string_bytes, is_ok, IsTrue, IfOk, IfErr, OnOk};
     ghost use Rattle.ft_store.specs.Calls.{IsPlainFault};
+    ghost use Rattle.ft_store.specs.Kept.{shows, value_in};
+    ghost use Rattle.sqlite.specs.State.{HasCleanDisk};
+    ghost use Rattle.ft_store.specs.Store.{nothing_held};
     ghost use Rattle.ft_content.specs.declared.fault.Fault.TheVariants as faults;
     ghost use Rattle.ft_content.specs.Deserved.{Contents};
     ghost use Rattle.ft_content.specs.Views.{known_info, command_of, answer_of};
-    ghost use Rattle.ft_index.specs.Crashes.{CommandSurvives, NoteSurvives};
+    ghost use Rattle.ft_index.specs.Crashes.{CommandSurvives, NoteSurvives, HoldsAfter};
+    ghost use Rattle.sqlite_trees.specs.Tree.{Trees};
+    ghost use Rattle.ft_store.specs.Calls.{IsStored};
     ghost use Rattle.ft_index.specs.Planned.{changes_of};
     ghost use Rattle.ft_index.specs.RowsRead.{CountsRows};
     ghost use Rattle.ft_index.specs.DocumentsRead.{Looks};
@@ -60,6 +65,9 @@ impl<S: Alter> FullText<S> {
     /// store is only read; where a read is refused it is handed back.
     pub fn new(alloc: Global, store: Store<S>) -> Result<FullText<S>, NewFault<S>>
         ensures opened { IfOk result (λ made. Opens S.Store store made) }
+
+        // Of an empty store there are no tables.
+        ensures empty { value_in S.Store store ≡ nothing_held → IfOk result (λ made. IsUp S.Store made → Holds S.Store made []) }
         ensures refused { IfErr result (λ fault. Looks S.Store store fault.store) }
         ensures cause { IfErr result (λ fault. IsPlainFault fault.cause) }
     {
@@ -91,13 +99,20 @@ impl<S: Alter> FullText<S> {
     pub fn execute(&mut self, command: &Command) -> Result<Reply, Fault>
         ensures executes { Executes S.Store self.old (command_of command.now) (answer_of result) self.new }
 
+        // Where it is answered Ok, an open store stays open.
+        ensures live { HasCleanDisk (shows S.Store self.new.store) → OnOk result (IsTrue (shows S.Store self.old.store).is_open → IsTrue (shows S.Store self.new.store).is_open) }
+
         // A Select with MATCH reads the entries of its terms, and where an item is a column the documents that it answers.
         ensures counts { CountsRows S.Store self.old (command_of command.now) (answer_of result) self.new }
 
         // A crash leaves what it could leave before, or the contents that the command leaves.
         ensures crash { CommandSurvives S.Store self.old (command_of command.now) self.new }
+        ensures alone { OnOk result (IsUp S.Store self.new → (first : Contents) → Holds S.Store self.old first → (db : Trees) → (shows S.Store self.new.store).may_leave db
+            → HoldsAfter (value_of S.Store self.old) first (command_of command.now) db) }
     {
-        execute_command(self.alloc, &mut self.store, &mut self.tables, command)
+        let result = execute_command(self.alloc, &mut self.store, &mut self.tables, command);
+        self.store.is_settled();
+        result
     }
 
     /// The row changes that a command asks for, without making them.
@@ -133,6 +148,13 @@ impl<S: Alter> FullText<S> {
         let mut changes = Vec::new(self.alloc);
         changes.push(RowChange::Note(String::from_str(self.alloc, name)?))?;
         change_rows(&mut self.store, changes.as_slice())
+    }
+
+    /// The law that a crash leaves what a store that is up holds, and nothing else.
+    pub fn is_settled(&self)
+        ensures { IsUp S.Store self.now → (db : Trees) → (shows S.Store self.now.store).may_leave db → IsStored db (value_of S.Store self.now) }
+    {
+        self.store.is_settled();
     }
 
     /// The noted names, in the order of their small letters.

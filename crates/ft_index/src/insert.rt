@@ -46,6 +46,7 @@ pub(crate) fn insert_into<S: Alter>(
     ensures crash { CommandSurvives S.Store (with_tables store.old (map known_info tables.now))
         (plain.Insert table.now (option_map (λ n. map string_bytes n.now) columns.entry) (map cells_of rows.now))
         (with_tables store.new (map known_info tables.now)) }
+    ensures live { HasCleanDisk (shows S.Store store.new) → OnOk result (IsTrue (shows S.Store store.old).is_open → IsTrue (shows S.Store store.new).is_open) }
 {
     let changes = insert_changes(alloc, store, tables, table, columns, rows)?;
     change_rows(store, changes.as_slice())?;

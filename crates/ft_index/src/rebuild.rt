@@ -162,6 +162,7 @@ pub(crate) fn rebuild_table<S: Alter>(
 ) -> Result<Reply, Fault>
     ensures executes { Executes S.Store (with_tables store.old (map known_info tables.old.items)) (plain.Rebuild table.now) (answer_of result) (with_tables store.new (map known_info tables.new.items)) }
     ensures crash { CommandSurvives S.Store (with_tables store.old (map known_info tables.old.items)) (plain.Rebuild table.now) (with_tables store.new (map known_info tables.new.items)) }
+    ensures live { HasCleanDisk (shows S.Store store.new) → OnOk result (IsTrue (shows S.Store store.old).is_open → IsTrue (shows S.Store store.new).is_open) }
 {
     store.is_in_order();
     let changes = rebuild_changes(alloc, store, tables.as_slice(), table)?;

@@ -52,6 +52,7 @@ pub(crate) fn select_from<S: Alter>(
     ensures counts { CountsRows S.Store (with_tables store.old (map known_info tables.now)) (plain.Select table.now (items_of items.now) (filter_of filter.now) limit offset)
         (answer_of result) (with_tables store.new (map known_info tables.now)) }
     ensures looks { OnlyLooks S.Store (with_tables store.old (map known_info tables.now)) (with_tables store.new (map known_info tables.now)) }
+    ensures live { HasCleanDisk (shows S.Store store.new) → OnOk result (IsTrue (shows S.Store store.old).is_open → IsTrue (shows S.Store store.new).is_open) }
 {
     store.is_in_order();
     let place = sound_place(tables, table)?;
@@ -123,6 +124,7 @@ fn select_grid<S: Alter>(
         → IsTrue (deserved.is_match (filter_of filter.now)) → store.new.rows_read ≡ more_rows (rows_asked content (items_of items.now) (filter_of filter.now) limit offset) store.old) }
     ensures faults { IfErr result (λ fault. (fault ≡ faults.Store) ⊎ (fault ≡ faults.Memory)) }
     ensures looks { Looks S.Store store.old store.new }
+    ensures live { HasCleanDisk (shows S.Store store.new) → OnOk result (IsTrue (shows S.Store store.old).is_open → IsTrue (shows S.Store store.new).is_open) }
 {
     let columns = info.columns.as_slice();
     let rows = selected_rows(
@@ -150,6 +152,7 @@ fn selected_rows<S: Alter>(
         → IsTrue (deserved.is_match (filter_of filter.now)) → store.new.rows_read ≡ more_rows (rows_asked content (items_of items.now) (filter_of filter.now) limit offset) store.old) }
     ensures faults { IfErr result (λ fault. (fault ≡ faults.Store) ⊎ (fault ≡ faults.Memory)) }
     ensures looks { Looks S.Store store.old store.new }
+    ensures live { HasCleanDisk (shows S.Store store.new) → OnOk result (IsTrue (shows S.Store store.old).is_open → IsTrue (shows S.Store store.new).is_open) }
 {
     match items {
         Items::Count => {
@@ -184,6 +187,7 @@ fn chosen_count<S: Alter>(
         → IsTrue (deserved.is_match (filter_of filter.now)) → store.new.rows_read ≡ more_rows (rows.entries_asked content (query_in content (filter_of filter.now))) store.old) }
     ensures faults { IfErr result (λ fault. (fault ≡ faults.Store) ⊎ (fault ≡ faults.Memory)) }
     ensures looks { Looks S.Store store.old store.new }
+    ensures live { HasCleanDisk (shows S.Store store.new) → OnOk result (IsTrue (shows S.Store store.old).is_open → IsTrue (shows S.Store store.new).is_open) }
 {
     match filter {
         Filter::Match { .. } => {
@@ -212,6 +216,7 @@ fn read_rows<S: Alter>(
         → deserved.is_match (filter_of filter.now) ≡ false → rows_of found ≡ answer.cut limit offset (answer.answer_rows content (plain.Listed (map item_of items.now)) (filter_of filter.now))) }
     ensures faults { IfErr result (λ fault. (fault ≡ faults.Store) ⊎ (fault ≡ faults.Memory)) }
     ensures looks { Looks S.Store store.old store.new }
+    ensures live { HasCleanDisk (shows S.Store store.new) → OnOk result (IsTrue (shows S.Store store.old).is_open → IsTrue (shows S.Store store.new).is_open) }
 {
     let documents = chosen_documents(alloc, store, tab, filter, None)?;
     let answered = cut(documents.as_slice(), limit, offset);
@@ -254,6 +259,7 @@ fn matched_rows<S: Alter>(
         → store.new.rows_read ≡ more_rows (rows_asked content (plain.Listed (map item_of items.now)) (Matching name text) limit offset) store.old) }
     ensures faults { IfErr result (λ fault. (fault ≡ faults.Store) ⊎ (fault ≡ faults.Memory)) }
     ensures looks { Looks S.Store store.old store.new }
+    ensures live { HasCleanDisk (shows S.Store store.new) → OnOk result (IsTrue (shows S.Store store.old).is_open → IsTrue (shows S.Store store.new).is_open) }
 {
     let hits = matched(store, alloc, tab, query, most_hits(limit, offset))?;
     let answered = cut(hits.as_slice(), limit, offset);
@@ -322,6 +328,7 @@ fn cell_rows<S: Alter>(
     ensures counted { OnOk result ((content : Content) → HasRows S.Store tab store.old store.new content → store.new.rows_read ≡ more_rows (length content.columns * length hits.now) store.old) }
     ensures faults { IfErr result (λ fault. (fault ≡ faults.Store) ⊎ (fault ≡ faults.Memory)) }
     ensures looks { Looks S.Store store.old store.new }
+    ensures live { HasCleanDisk (shows S.Store store.new) → OnOk result (IsTrue (shows S.Store store.old).is_open → IsTrue (shows S.Store store.new).is_open) }
 {
     // So the count of rows is known to be of 64 bits.
     let _read = store.rows_read();

@@ -1,6 +1,6 @@
 // Making and removing tables.
-ghost use Rattle.std.specs.Prelude.{◌≡◌, ◌⊎◌, ◌∷◌, [], cond, map, string_bytes, is_ok, IfOk, IfErr, IsTrue};
-ghost use Rattle.sqlite.specs.State.{Survives};
+ghost use Rattle.std.specs.Prelude.{◌≡◌, ◌⊎◌, ◌∷◌, [], cond, map, string_bytes, is_ok, IfOk, IfErr, IsTrue, OnOk};
+ghost use Rattle.sqlite.specs.State.{Survives, HasCleanDisk};
 ghost use Rattle.ft_store.specs.Calls.{IsStored};
 ghost use Rattle.ft_store.specs.Kept.{shows, value_in};
 ghost use Rattle.ft_store.specs.Store.{all_applied};
@@ -134,6 +134,7 @@ pub(crate) fn create_table<S: Alter>(
     ensures crash { CommandSurvives S.Store (with_tables store.old (map known_info tables.old.items))
         (plain.Create table.now module_name.now (map option_of options.now) (map string_bytes columns.now) if_new)
         (with_tables store.new (map known_info tables.new.items)) }
+    ensures live { HasCleanDisk (shows S.Store store.new) → OnOk result (IsTrue (shows S.Store store.old).is_open → IsTrue (shows S.Store store.new).is_open) }
 {
     store.is_in_order();
     let made = made_table(
@@ -163,6 +164,7 @@ pub(crate) fn add_table<S: Alter>(
     ensures fault { IfErr result (λ fault. (fault ≡ faults.Store) ⊎ (fault ≡ faults.Memory)) }
     ensures crash { Survives (shows S.Store store.old) (shows S.Store store.new)
         (λ db. IsTrue (shows S.Store store.old).is_open → IsStored db (all_applied (table_change made ∷ []) (value_in S.Store store.old))) }
+    ensures live { HasCleanDisk (shows S.Store store.new) → OnOk result (IsTrue (shows S.Store store.old).is_open → IsTrue (shows S.Store store.new).is_open) }
 {
     let mut changes = Vec::new(alloc);
     changes.push(adding(alloc, &made)?)?;
@@ -204,6 +206,7 @@ pub(crate) fn drop_table<S: Alter>(
         (answer_of result) (with_tables store.new (map known_info tables.new.items)) }
     ensures crash { CommandSurvives S.Store (with_tables store.old (map known_info tables.old.items)) (plain.Drop table.now if_there)
         (with_tables store.new (map known_info tables.new.items)) }
+    ensures live { HasCleanDisk (shows S.Store store.new) → OnOk result (IsTrue (shows S.Store store.old).is_open → IsTrue (shows S.Store store.new).is_open) }
 {
     store.is_in_order();
     let changes = drop_changes(alloc, tables.as_slice(), table, if_there)?;

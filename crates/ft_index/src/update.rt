@@ -45,6 +45,7 @@ pub(crate) fn update_documents<S: Alter>(
         (answer_of result) (with_tables store.new (map known_info tables.now)) }
     ensures crash { CommandSurvives S.Store (with_tables store.old (map known_info tables.now)) (plain.Update table.now (map set_of sets.now) (filter_of filter.now))
         (with_tables store.new (map known_info tables.now)) }
+    ensures live { HasCleanDisk (shows S.Store store.new) → OnOk result (IsTrue (shows S.Store store.old).is_open → IsTrue (shows S.Store store.new).is_open) }
 {
     let changes = update_changes(alloc, store, tables, table, sets, filter)?;
     change_rows(store, changes.as_slice())?;

@@ -1,5 +1,5 @@
 -- What the turns of a session call of the full-text tables.
-use Rattle.std.proofs.Common.{◌≡◌, ℕ, Bool, true, false, List, [], ◌∷◌, ◌++◌, Option, Some, None, refl, ap, subst, inl, inr}
+use Rattle.std.proofs.Common.{◌≡◌, ℕ, Bool, true, false, List, [], ◌∷◌, ◌++◌, Option, Some, None, refl, sym, ap, subst, ◌⊎◌, inl, inr}
 use Rattle.std.specs.Prelude.{MatchBool, Result, Ok, Err, IfOk, IfErr, codes, map, take}
 use Rattle.sqlite.specs.Store.{Ghosts}
 use Rattle.sqlite.specs.Held.{Held}
@@ -11,12 +11,12 @@ use Rattle.ft_index.specs.Kept.{Known, Call, Executed, Noted, DoesCall, KeptByCa
 use Rattle.ft_statements.specs.Words.{tokens_of}
 use Rattle.ft_statements.specs.Plain.{asks, made_name}
 use Rattle.ft_shell.specs.Shell.{Shell}
-use Rattle.ft_shell.specs.Told.{Told, followed}
+use Rattle.ft_shell.specs.Told.{Told, Deeds, and_then, lacks_memory, blames}
 use Rattle.ft_content.specs.Command.{Insert}
 use Rattle.ft_statements.specs.Dots.{DotCommand, Import, Nothing, SetMode, SetHeaders, SetSeparator, SetNull, SetEcho, SetBail, Print, Importing, Tables, Quit, Usage, Unknown, dot_command_of}
 use Rattle.ft_shell.specs.DotTurns.{DotTurn}
-use Rattle.ft_shell.specs.FullTextTurns.{MaybeNotes, NoteTurn}
-use Rattle.ft_shell.specs.Imports.{delimiter_of, fitted}
+use Rattle.ft_shell.specs.FullTextTurns.{FullTextTurn, MaybeNotes, NoteTurn, reply_told}
+use Rattle.ft_shell.specs.Imports.{delimiter_of, fitted, warnings}
 use Rattle.ft_shell.specs.ImportTurns.{BytesTurn, DelimitedTurn, FileTurn, IntoNamed, IntoNew, PlainImport, TextImport, columns_in, kept, records_in, executed, no_memory, no_header, too_wide, declined, there, new_table, untried, read, no_text, fetched, unread, too_big}
 use Rattle.ft_shell.specs.TablesTurns.{TablesTurn}
 use Rattle.ft_shell.specs.ImportTurns as imports
@@ -24,162 +24,194 @@ use Rattle.ft_shell.specs.TablesTurns as tables
 use Rattle.ft_shell.specs.PlainStatements.{CommandTurn, PlainTurn, QueryTurn, done, refused}
 use Rattle.ft_statements.specs.Statements.{Class, Plain, FullText, class_of}
 use Rattle.ft_shell.specs.StatementTurns.{ClassTurn, Declines, StatementTurn, table_names}
-use Rattle.ft_shell.specs.Turns.{Body, Turns, behind_stop}
+use Rattle.ft_shell.specs.TurnCalls.{NoCommand, NoCall, CallsOf, CallsOfClass, CallsOfDot, CallsOfImport, HasRecords, OneCommand, behind_stop}
+use Rattle.ft_shell.specs.Sources.{Gives}
+use Rattle.ft_shell.specs.Turns.{Body, Turns}
 use Rattle.ft_content.specs.Deserved.{Contents}
 use Rattle.ft_shell.specs.declared.session.Status.{Status}
 use Rattle.ft_shell.specs.declared.session.RunFault.{RunFault}
 use Rattle.ft_shell.specs.Runs.{Completes, Console, IsFront, IsWhole, Stops}
-use Rattle.ft_shell.specs.Calls.{Calls, KeptByTurns, Leaves}
 
 -- ---- calls
 
-calls_none : {S : Type 0} (h : Ghosts S) (old new : Known S) → new ≡ old → Calls h old new
-calls_none h old new same = ([], same)
+-- calls of this kind
+abbrev pub Called : {S : Type 0} → Ghosts S → (List Call → Type 0) → Known S → Known S → Type 0
+Called h Spelled old new = (calls : List Call) × Spelled calls × Runs h old calls new
 
-calls_one : {S : Type 0} (h : Ghosts S) (old new : Known S) (call : Call) → DoesCall h old call new → Calls h old new
-calls_one h old new call does = (call ∷ [], (new, does, refl))
+notes_none : {S : Type 0} (h : Ghosts S) (old new : Known S) → new ≡ old → Called h NoCommand old new
+notes_none h old new same = ([], tt, same)
 
-same_shell : {P S : Type 0} (h : Ghosts S) (old new : Shell P S) → new ≡ old → Calls h old.known new.known
-same_shell h old new same = calls_none h old.known new.known (ap (λ (s : Shell _ _). s.known) same)
+notes_one : {S : Type 0} (h : Ghosts S) (old new : Known S) (name : List ℕ) (is_done : Bool) → DoesCall h old (Noted name is_done) new → Called h NoCommand old new
+notes_one h old new name is_done does = (Noted name is_done ∷ [], tt, (new, does, refl))
 
-calls_then : {S : Type 0} (h : Ghosts S) (a b c : Known S) → Calls h a b → Calls h b c → Calls h a c
-calls_then h a b c (xs, first) (ys, second) = (xs ++ ys, go xs a first)
-  where
-    go : (calls : List Call) (from : Known _) → Runs h from calls b → Runs h from (calls ++ ys) c
-    go [] from same = subst (λ k. Runs h k ys c) same second
-    go (call ∷ calls) from (mid, does, rest) = (mid, does, go calls mid rest)
+same_shell : {P S : Type 0} (h : Ghosts S) (old new : Shell P S) → new ≡ old → Called h NoCommand old.known new.known
+same_shell h old new same = notes_none h old.known new.known (ap (λ (s : Shell _ _). s.known) same)
 
--- ---- turns
+-- a fault line, and nothing is called
+calls_none : {S : Type 0} (h : Ghosts S) (look : Look) (line : ℕ) (told : Told) (why : List ℕ) (old new : Known S) → new ≡ old → told ≡ blames look line why → Called h (λ calls. NoCall look line told calls) old new
+calls_none h look line told why old new same is = ([], (refl, why, is), same)
 
-notes_calls : {S : Type 0} (h : Ghosts S) (look : Look) (line : ℕ) (made : Option (List ℕ)) (old new : Known S) (told : Told) → MaybeNotes h look line made old new told → Calls h old new
-notes_calls h look line None old new told it = calls_none h old new it.0
-notes_calls h look line (Some name) old new told it = calls_one h old new (Noted name it.is_noted) it.notes
+-- ---- statements
 
-command_calls : {P S : Type 0} (g : Ghosts P) (h : Ghosts S) (look : Look) (line : ℕ) (text : List ℕ) (made : Option (List ℕ)) (old new : Held P) (before after : Known S) (told : Told) → CommandTurn g h look line text made old new before after told → Calls h before after
+notes_calls : {S : Type 0} (h : Ghosts S) (look : Look) (line : ℕ) (made : Option (List ℕ)) (old new : Known S) (told : Told) → MaybeNotes h look line made old new told → Called h NoCommand old new
+notes_calls h look line None old new told it = notes_none h old new it.0
+notes_calls h look line (Some name) old new told it = notes_one h old new name it.is_noted it.notes
+
+command_calls : {P S : Type 0} (g : Ghosts P) (h : Ghosts S) (look : Look) (line : ℕ) (text : List ℕ) (made : Option (List ℕ)) (old new : Held P) (before after : Known S) (told : Told) → CommandTurn g h look line text made old new before after told → Called h NoCommand before after
 command_calls g h look line text made old new before after told (done count is notes) = notes_calls h look line made before after told notes
-command_calls g h look line text made old new before after told (refused e is same tells) = calls_none h before after same
+command_calls g h look line text made old new before after told (refused e is same tells) = notes_none h before after same
 
-plain_calls : {P S : Type 0} (g : Ghosts P) (h : Ghosts S) (look : Look) (line : ℕ) (text : List ℕ) (old new : Held P) (before after : Known S) (told : Told) → PlainTurn g h look line text old new before after told → Calls h before after
+plain_calls : {P S : Type 0} (g : Ghosts P) (h : Ghosts S) (look : Look) (line : ℕ) (text : List ℕ) (old new : Held P) (before after : Known S) (told : Told) → PlainTurn g h look line text old new before after told → Called h NoCommand before after
 plain_calls g h look line text old new before after told it = go (asks (tokens_of text)) it
   where
-    go : (is_query : Bool) → MatchBool is_query (QueryTurn g look line text old new told × (after ≡ before)) (CommandTurn g h look line text (made_name (tokens_of text)) old new before after told) → Calls h before after
-    go true it = calls_none h before after it.1
+    go : (is_query : Bool) → MatchBool is_query (QueryTurn g look line text old new told × (after ≡ before)) (CommandTurn g h look line text (made_name (tokens_of text)) old new before after told) → Called h NoCommand before after
+    go true it = notes_none h before after it.1
     go false it = command_calls g h look line text (made_name (tokens_of text)) old new before after told it
 
-class_calls : {P S : Type 0} (g : Ghosts P) (h : Ghosts S) (look : Look) (line : ℕ) (text : List ℕ) (old new : Held P) (before after : Known S) (told : Told) (class : Option Class) → ClassTurn g h look line text old new before after told class → Calls h before after
-class_calls g h look line text old new before after told None it = calls_none h before after it.1
+class_calls : {P S : Type 0} (g : Ghosts P) (h : Ghosts S) (look : Look) (line : ℕ) (text : List ℕ) (old new : Held P) (before after : Known S) (told : Told) (class : Option Class) → ClassTurn g h look line text old new before after told class → Called h (λ calls. CallsOfClass look line told calls class) before after
+class_calls g h look line text old new before after told None it = notes_none h before after it.1
 class_calls g h look line text old new before after told (Some Plain) it = plain_calls g h look line text old new before after told it
-class_calls g h look line text old new before after told (Some (FullText command)) it = calls_one h before after (Executed command it.1.answer) it.1.executes
+class_calls g h look line text old new before after told (Some (FullText command)) it = (Executed command it.1.answer ∷ [], inl (it.1.answer, refl, it.1.tells), (after, it.1.executes, refl))
 
-statement_calls : {P S : Type 0} (g : Ghosts P) (h : Ghosts S) (look : Look) (line : ℕ) (text : List ℕ) (old new : Held P) (before after : Known S) (told : Told) → StatementTurn g h look line text old new before after told → Calls h before after
-statement_calls g h look line text old new before after told (inr nothing) = calls_none h before after nothing.1
+class_none : {S : Type 0} (h : Ghosts S) (look : Look) (line : ℕ) (before after : Known S) (told : Told) (class : Option Class) → after ≡ before → told ≡ lacks_memory look line → Called h (λ calls. CallsOfClass look line told calls class) before after
+class_none h look line before after told None same is = notes_none h before after same
+class_none h look line before after told (Some Plain) same is = notes_none h before after same
+class_none h look line before after told (Some (FullText command)) same is = ([], inr (refl, codes "out of memory", is), same)
+
+statement_calls : {P S : Type 0} (g : Ghosts P) (h : Ghosts S) (look : Look) (line : ℕ) (text : List ℕ) (old new : Held P) (before after : Known S) (told : Told) → StatementTurn g h look line text old new before after told →
+    Called h (λ calls. MatchBool (is_unclosed text) (NoCommand calls) (CallsOfClass look line told calls (class_of (table_names before) (tokens_of text)))) before after
+statement_calls g h look line text old new before after told (inr nothing) = go (is_unclosed text)
+  where
+    go : (is_open : Bool) → Called h (λ calls. MatchBool is_open (NoCommand calls) (CallsOfClass look line told calls (class_of (table_names before) (tokens_of text)))) before after
+    go true = notes_none h before after nothing.1
+    go false = class_none h look line before after told (class_of (table_names before) (tokens_of text)) nothing.1 nothing.2
 statement_calls g h look line text old new before after told (inl it) = go (is_unclosed text) it
   where
-    go : (is_open : Bool) → MatchBool is_open (Declines g h look line text old new before after told (codes "incomplete input")) (ClassTurn g h look line text old new before after told (class_of (table_names before) (tokens_of text))) → Calls h before after
-    go true it = calls_none h before after it.1
+    go : (is_open : Bool) → MatchBool is_open (Declines g h look line text old new before after told (codes "incomplete input")) (ClassTurn g h look line text old new before after told (class_of (table_names before) (tokens_of text))) →
+        Called h (λ calls. MatchBool is_open (NoCommand calls) (CallsOfClass look line told calls (class_of (table_names before) (tokens_of text)))) before after
+    go true it = notes_none h before after it.1
     go false it = class_calls g h look line text old new before after told (class_of (table_names before) (tokens_of text)) it
 
 -- what only looks does what a note does that is refused
-looks_call : {S : Type 0} (h : Ghosts S) (old new : Known S) → OnlyLooks h old new → Calls h old new
-looks_call h old new looks = calls_one h old new (Noted [] false) (record { was_up = looks.was_up; noted = looks.value; tables = looks.tables })
+looks_call : {S : Type 0} (h : Ghosts S) (old new : Known S) → OnlyLooks h old new → Called h NoCommand old new
+looks_call h old new looks = notes_one h old new [] false (record { was_up = looks.was_up; noted = looks.value; tables = looks.tables })
 
-tables_calls : {P S : Type 0} (g : Ghosts P) (h : Ghosts S) (look : Look) (line : ℕ) (old new : Held P) (before after : Known S) (told : Told) → TablesTurn g h look line old new before after told → Calls h before after
+tables_calls : {P S : Type 0} (g : Ghosts P) (h : Ghosts S) (look : Look) (line : ℕ) (old new : Held P) (before after : Known S) (told : Told) → TablesTurn g h look line old new before after told → Called h NoCommand before after
 tables_calls g h look line old new before after told (tables.lists noted looks is it) = looks_call h before after looks
 tables_calls g h look line old new before after told (tables.refused looks same tells) = looks_call h before after looks
 
-note_calls : {S : Type 0} (h : Ghosts S) (look : Look) (line : ℕ) (name : List ℕ) (old new : Known S) (told : Told) → NoteTurn h look line name old new told → Calls h old new
-note_calls h look line name old new told it = calls_one h old new (Noted name it.is_noted) it.notes
+note_calls : {S : Type 0} (h : Ghosts S) (look : Look) (line : ℕ) (name : List ℕ) (old new : Known S) (told : Told) → NoteTurn h look line name old new told → Called h NoCommand old new
+note_calls h look line name old new told it = notes_one h old new name it.is_noted it.notes
 
 -- ---- imports
 
-text_calls : {S : Type 0} (h : Ghosts S) (look : Look) (line : ℕ) (what : Import) (n : ℕ) (rows : List (ℕ × List (List ℕ))) (before after : Known S) (told : Told) → TextImport h look line what n rows before after told → Calls h before after
-text_calls h look line what n rows before after told (executed it) = calls_one h before after (Executed (Insert what.table None (map (fitted n) (records_in rows))) it.answer) it.executes
-text_calls h look line what n rows before after told (no_memory same is) = calls_none h before after same
+-- one Insert of these records
+abbrev Inserts : Look → ℕ → Import → ℕ → List (ℕ × List (List ℕ)) → Told → List Call → Type 0
+Inserts look line what n rows told calls = OneCommand look line told calls (Insert what.table None (map (fitted n) (records_in rows))) (imports.insert_told look line (warnings what.file n rows))
 
-new_calls : {P S : Type 0} (g : Ghosts P) (h : Ghosts S) (look : Look) (line : ℕ) (what : Import) (rows : List (ℕ × List (List ℕ))) (old new : Held P) (before after : Known S) (told : Told) → IntoNew g look line what rows h old new before after told → Calls h before after
-new_calls g h look line what rows old new before after told (no_header none same kept is) = calls_none h before after kept
-new_calls g h look line what rows old new before after told (too_wide first rest are wide same kept is) = calls_none h before after kept
+text_calls : {S : Type 0} (h : Ghosts S) (look : Look) (line : ℕ) (what : Import) (n : ℕ) (rows : List (ℕ × List (List ℕ))) (before after : Known S) (told : Told) → TextImport h look line what n rows before after told →
+    Called h (λ calls. Inserts look line what n rows told calls ⊎ NoCall look line told calls) before after
+text_calls h look line what n rows before after told (executed it) = (Executed (Insert what.table None (map (fitted n) (records_in rows))) it.answer ∷ [], inl (it.answer, refl, it.tells), (after, it.executes, refl))
+text_calls h look line what n rows before after told (no_memory same is) = ([], inr (refl, codes "out of memory", is), same)
+
+new_calls : {P S : Type 0} (g : Ghosts P) (h : Ghosts S) (look : Look) (line : ℕ) (what : Import) (rows : List (ℕ × List (List ℕ))) (old new : Held P) (before after : Known S) (told : Told) → IntoNew g look line what rows h old new before after told → Called h NoCommand before after
+new_calls g h look line what rows old new before after told (no_header none same kept is) = notes_none h before after kept
+new_calls g h look line what rows old new before after told (too_wide first rest are wide same kept is) = notes_none h before after kept
 new_calls g h look line what rows old new before after told (imports.made first rest are narrow commits (end, notes, is)) = note_calls h look line what.table before after end notes
-new_calls g h look line what rows old new before after told (declined first rest are narrow why kept is) = calls_none h before after kept
-new_calls g h look line what rows old new before after told (no_memory kept is) = calls_none h before after kept
+new_calls g h look line what rows old new before after told (declined first rest are narrow why kept is) = notes_none h before after kept
+new_calls g h look line what rows old new before after told (no_memory kept is) = notes_none h before after kept
 
-plain_import_calls : {P S : Type 0} (g : Ghosts P) (h : Ghosts S) (look : Look) (line : ℕ) (what : Import) (rows : List (ℕ × List (List ℕ))) (old new : Held P) (before after : Known S) (told : Told) → PlainImport g look line what rows h old new before after told → Calls h before after
-plain_import_calls g h look line what rows old new before after told (there found tries same it) = calls_none h before after same
+plain_import_calls : {P S : Type 0} (g : Ghosts P) (h : Ghosts S) (look : Look) (line : ℕ) (what : Import) (rows : List (ℕ × List (List ℕ))) (old new : Held P) (before after : Known S) (told : Told) → PlainImport g look line what rows h old new before after told → Called h NoCommand before after
+plain_import_calls g h look line what rows old new before after told (there found tries same it) = notes_none h before after same
 plain_import_calls g h look line what rows old new before after told (new_table found tries it) = new_calls g h look line what rows found new before after told it
-plain_import_calls g h look line what rows old new before after told (untried tries same is) = calls_none h before after same
+plain_import_calls g h look line what rows old new before after told (untried tries same is) = notes_none h before after same
 
-module _ {P S : Type 0} (g : Ghosts P) (h : Ghosts S) (look : Look) (line : ℕ) (what : Import) (old new : Held P) (before after : Known S) (told : Told) where
-  named_calls : (rows : List (ℕ × List (List ℕ))) (n : Option ℕ) → IntoNamed g h look line what old new before after told rows n → Calls h before after
-  named_calls rows (Some n) it = text_calls h look line what n rows before after told it.1
-  named_calls rows None it = plain_import_calls g h look line what rows old new before after told it
+module _ {P S : Type 0} (g : Ghosts P) (h : Ghosts S) (look : Look) (line : ℕ) (what : Import) (old new : Held P) (before after : Known S) (told : Told) (holds : List ℕ → Option (List ℕ)) where
+  abbrev ImportCalls : Option ℕ → Type 0
+  ImportCalls found = Called h (λ calls. CallsOfImport look line told calls holds what found) before after
 
-  bytes_calls : (delimiter : ℕ) (bytes : List ℕ) → BytesTurn g h look line what old new before after told delimiter bytes → Calls h before after
-  bytes_calls delimiter bytes (read found are (inl it)) = named_calls (kept what.skip found) (columns_in before.tables what.table) it
-  bytes_calls delimiter bytes (read found are (inr nothing)) = calls_none h before after nothing.1
-  bytes_calls delimiter bytes (no_text is nothing) = calls_none h before after nothing.1
-  bytes_calls delimiter bytes (no_memory nothing) = calls_none h before after nothing.1
+  -- where nothing is called, and a fault line is told
+  import_none : (why : List ℕ) (there : Option ℕ) → after ≡ before → told ≡ blames look line why → ImportCalls there
+  import_none why None same is = notes_none h before after same
+  import_none why (Some n) same is = ([], inr (refl, why, is), same)
 
-  file_calls : (holds : List ℕ → Option (List ℕ)) (delimiter : ℕ) → FileTurn g h look line what old new before after told holds delimiter → Calls h before after
-  file_calls holds delimiter (fetched bytes gives it) = bytes_calls delimiter bytes it
-  file_calls holds delimiter (unread nothing) = calls_none h before after nothing.1
-  file_calls holds delimiter (too_big nothing) = calls_none h before after nothing.1
-  file_calls holds delimiter (no_memory nothing) = calls_none h before after nothing.1
+  named_calls : (found : List (List (List ℕ))) → HasRecords look holds what found → (n : Option ℕ) → IntoNamed g h look line what old new before after told (kept what.skip found) n → ImportCalls n
+  named_calls found has (Some n) it = go (text_calls h look line what n (kept what.skip found) before after told it.1)
+    where
+      go : Called h (λ calls. Inserts look line what n (kept what.skip found) told calls ⊎ NoCall look line told calls) before after → ImportCalls (Some n)
+      go (calls, inl one, made) = (calls, inl (found, has, one), made)
+      go (calls, inr none, made) = (calls, inr none, made)
+  named_calls found has None it = plain_import_calls g h look line what (kept what.skip found) old new before after told it
 
-  delimited_calls : (holds : List ℕ → Option (List ℕ)) (delimiter : Option ℕ) → DelimitedTurn g h look line what old new before after told holds delimiter → Calls h before after
-  delimited_calls holds None nothing = calls_none h before after nothing.1
-  delimited_calls holds (Some delimiter) it = file_calls holds delimiter it
+  bytes_calls : (delimiter : ℕ) (bytes : List ℕ) → delimiter_of what.csv look ≡ Some delimiter → Gives holds what.file bytes → BytesTurn g h look line what old new before after told delimiter bytes → ImportCalls (columns_in before.tables what.table)
+  bytes_calls delimiter bytes parts gives (read found are (inl it)) = named_calls found (record { delimiter = delimiter; parts = parts; bytes = bytes; gives = gives; are = are }) (columns_in before.tables what.table) it
+  bytes_calls delimiter bytes parts gives (read found are (inr nothing)) = import_none (codes "out of memory") (columns_in before.tables what.table) nothing.1 nothing.2
+  bytes_calls delimiter bytes parts gives (no_text is nothing) = import_none (codes "file is not UTF-8") (columns_in before.tables what.table) nothing.1 nothing.2
+  bytes_calls delimiter bytes parts gives (no_memory nothing) = import_none (codes "out of memory") (columns_in before.tables what.table) nothing.1 nothing.2
+
+  file_calls : (delimiter : ℕ) → delimiter_of what.csv look ≡ Some delimiter → FileTurn g h look line what old new before after told holds delimiter → ImportCalls (columns_in before.tables what.table)
+  file_calls delimiter parts (fetched bytes gives it) = bytes_calls delimiter bytes parts gives it
+  file_calls delimiter parts (unread nothing) = import_none (codes "cannot read file") (columns_in before.tables what.table) nothing.1 nothing.2
+  file_calls delimiter parts (too_big nothing) = import_none (codes "file too big") (columns_in before.tables what.table) nothing.1 nothing.2
+  file_calls delimiter parts (no_memory nothing) = import_none (codes "out of memory") (columns_in before.tables what.table) nothing.1 nothing.2
+
+  delimited_calls : (delimiter : Option ℕ) → delimiter_of what.csv look ≡ delimiter → DelimitedTurn g h look line what old new before after told holds delimiter → ImportCalls (columns_in before.tables what.table)
+  delimited_calls None parts nothing = import_none (codes "bad separator") (columns_in before.tables what.table) nothing.1 nothing.2
+  delimited_calls (Some delimiter) parts it = file_calls delimiter parts it
 
 -- ---- dot-commands, and whole turns
 
-dot_calls : {P S : Type 0} (g : Ghosts P) (h : Ghosts S) (line : ℕ) (old new : Shell P S) (told : Told) (command : DotCommand) → DotTurn g h line old new told command → Calls h old.known new.known
-dot_calls g h line old new told Nothing it = calls_none h old.known new.known it.1
-dot_calls g h line old new told (SetMode mode) it = calls_none h old.known new.known it.1
-dot_calls g h line old new told (SetHeaders shown) it = calls_none h old.known new.known it.1
-dot_calls g h line old new told (SetSeparator text) it = calls_none h old.known new.known it.1
-dot_calls g h line old new told (SetNull text) it = calls_none h old.known new.known it.1
-dot_calls g h line old new told (SetEcho on) it = calls_none h old.known new.known it.1
-dot_calls g h line old new told (SetBail on) it = calls_none h old.known new.known it.1
+dot_calls : {P S : Type 0} (g : Ghosts P) (h : Ghosts S) (line : ℕ) (old new : Shell P S) (told : Told) (command : DotCommand) → DotTurn g h line old new told command → Called h (λ calls. CallsOfDot line old told calls command) old.known new.known
+dot_calls g h line old new told Nothing it = notes_none h old.known new.known it.1
+dot_calls g h line old new told (SetMode mode) it = notes_none h old.known new.known it.1
+dot_calls g h line old new told (SetHeaders shown) it = notes_none h old.known new.known it.1
+dot_calls g h line old new told (SetSeparator text) it = notes_none h old.known new.known it.1
+dot_calls g h line old new told (SetNull text) it = notes_none h old.known new.known it.1
+dot_calls g h line old new told (SetEcho on) it = notes_none h old.known new.known it.1
+dot_calls g h line old new told (SetBail on) it = notes_none h old.known new.known it.1
 dot_calls g h line old new told (Print words) it = same_shell h old new it.0
-dot_calls g h line old new told (Importing what) it = delimited_calls g h old.look line what old.plain new.plain old.known new.known told old.holds (delimiter_of what.csv old.look) it.1
+dot_calls g h line old new told (Importing what) it = delimited_calls g h old.look line what old.plain new.plain old.known new.known told old.holds (delimiter_of what.csv old.look) refl it.1
 dot_calls g h line old new told Tables it = tables_calls g h old.look line old.plain new.plain old.known new.known told it.1
 dot_calls g h line old new told Quit it = same_shell h old new it.0
 dot_calls g h line old new told (Usage text) it = same_shell h old new it.0
 dot_calls g h line old new told Unknown it = same_shell h old new it.0
 
-body_calls : {P S : Type 0} (g : Ghosts P) (h : Ghosts S) (member : Member) (old new : Shell P S) (told : Told) → Body g h member old new told → Calls h old.known new.known
+dot_none : {P S : Type 0} (h : Ghosts S) (line : ℕ) (old new : Shell P S) (told : Told) (command : DotCommand) → new ≡ old → told ≡ lacks_memory old.look line → Called h (λ calls. CallsOfDot line old told calls command) old.known new.known
+dot_none h line old new told Nothing same is = same_shell h old new same
+dot_none h line old new told (SetMode mode) same is = same_shell h old new same
+dot_none h line old new told (SetHeaders shown) same is = same_shell h old new same
+dot_none h line old new told (SetSeparator text) same is = same_shell h old new same
+dot_none h line old new told (SetNull text) same is = same_shell h old new same
+dot_none h line old new told (SetEcho on) same is = same_shell h old new same
+dot_none h line old new told (SetBail on) same is = same_shell h old new same
+dot_none h line old new told (Print words) same is = same_shell h old new same
+dot_none h line old new told Tables same is = same_shell h old new same
+dot_none h line old new told Quit same is = same_shell h old new same
+dot_none h line old new told (Usage text) same is = same_shell h old new same
+dot_none h line old new told Unknown same is = same_shell h old new same
+dot_none h line old new told (Importing what) same is = go (columns_in old.known.tables what.table)
+  where
+    go : (there : Option ℕ) → Called h (λ calls. CallsOfImport old.look line told calls old.holds what there) old.known new.known
+    go None = same_shell h old new same
+    go (Some n) = ([], inr (refl, codes "out of memory", is), ap (λ (s : Shell _ _). s.known) same)
+
+-- what a member's turn calls
+pub body_calls : {P S : Type 0} (g : Ghosts P) (h : Ghosts S) (member : Member) (old new : Shell P S) (told : Told) → Body g h member old new told → Called h (λ calls. CallsOf member old told calls) old.known new.known
 body_calls g h (Fault line fault) old new told it = same_shell h old new it.0
 body_calls g h (Sql line text) old new told it = statement_calls g h old.look line text old.plain new.plain old.known new.known told it.2
 body_calls g h (Dot line text) old new told (inl it) = dot_calls g h line old new told (dot_command_of (dot_words_of (behind_stop text))) it
-body_calls g h (Dot line text) old new told (inr nothing) = same_shell h old new nothing.0
+body_calls g h (Dot line text) old new told (inr nothing) = dot_none h line old new told (dot_command_of (dot_words_of (behind_stop text))) nothing.0 nothing.1
 
-pub turns_calls : {P S : Type 0} (g : Ghosts P) (h : Ghosts S) (members : List Member) (old new : Shell P S) (told : Told) → Turns g h members old new told → Calls h old.known new.known
-turns_calls g h [] old new told it = same_shell h old new it.0
-turns_calls g h (member ∷ members) old new told (mid, first, turn, more) =
-    calls_then h old.known mid.known new.known (body_calls g h member old mid turn.body turn.done) (go (λ rest turns. turns_calls g h members mid new rest turns) first.ends more)
+-- ---- calls one after another
+
+pub runs_join : {S : Type 0} (h : Ghosts S) (a b c : Known S) (xs ys : List Call) → Runs h a xs b → Runs h b ys c → Runs h a (xs ++ ys) c
+runs_join h a b c [] ys same second = subst (λ k. Runs h k ys c) same second
+runs_join h a b c (call ∷ xs) ys (mid, does, rest) second = (mid, does, runs_join h mid b c xs ys rest second)
+
+pub turns_made : {P S : Type 0} (g : Ghosts P) (h : Ghosts S) (members : List Member) (old new : Shell P S) (all : Deeds) → Turns g h members old new all → Runs h old.known all.calls new.known
+turns_made g h [] old new all it = subst (λ (d : Deeds). Runs h old.known d.calls new.known) (sym it.1) (ap (λ (s : Shell _ _). s.known) it.0)
+turns_made g h (member ∷ members) old new all (mid, first, turn, more) = go (λ rest turns. turns_made g h members mid new rest turns) first.ends more
   where
-    go : ((rest : Told) → Turns g h members mid new rest → Calls h mid.known new.known) → (ends : Bool) → MatchBool ends ((new ≡ mid) × (told ≡ first)) ((rest : Told) × Turns g h members mid new rest × (told ≡ followed first rest)) → Calls h mid.known new.known
-    go later true (same, is) = same_shell h mid new same
-    go later false (rest, turns, is) = later rest turns
-
--- so what is kept by calls is kept by turns
-pub kept_by_turns : {P S : Type 0} (g : Ghosts P) (h : Ghosts S) → KeptByCalls h → KeptByTurns g h
-kept_by_turns g h law members old new told first turns up held =
-    let made = turns_calls g h members old new told turns in
-    let kept = law old.known new.known made.0 first up held made.1 in
-    record { calls = made.0; made = made.1; holds = kept.0; answered = kept.1 }
-
--- ---- runs
-
-whole_leaves : {P S : Type 0} (g : Ghosts P) (h : Ghosts S) (left : Option (List ℕ)) (bytes : List ℕ) (old new : Shell P S) (told : Told) → IsWhole g h left bytes old new told → KeptByTurns g h → (first : Contents) → IsUp h new.known → Holds h old.known first → Leaves h old.known new.known first
-whole_leaves g h left bytes old new told (inl it) law = λ first up held. law (members_of bytes) old new told first it.1 up held
-whole_leaves g h left bytes old new told (inr it) law = λ first up held. law (members_of (bytes ++ [])) old new told first (it.1 []) up held
-
-front_leaves : {P S : Type 0} (g : Ghosts P) (h : Ghosts S) (left : Option (List ℕ)) (bytes : List ℕ) (old new : Shell P S) (told : Told) → IsFront g h left bytes old new told → KeptByTurns g h → (first : Contents) → IsUp h new.known → Holds h old.known first → Leaves h old.known new.known first
-front_leaves g h left bytes old new told (inl it) law = λ first up held. law (take it.1.0 (members_of bytes)) old new told first it.1.1 up held
-front_leaves g h left bytes old new told (inr it) law = λ first up held. let begins = it [] in law (take begins.0 (members_of (bytes ++ []))) old new told first begins.1 up held
-
--- so it is however a run ends
-pub run_leaves : {P S : Type 0} (g : Ghosts P) (h : Ghosts S) (result : Result Status RunFault) (old new : Console P S) → IfOk result (λ status. Completes g h status old new) → IfErr result (λ fault. Stops g h fault old new) → KeptByTurns g h
-    → (first : Contents) → IsUp h new.shell.known → Holds h old.shell.known first → Leaves h old.shell.known new.shell.known first
-run_leaves g h (Ok status) old new ran cut law = whole_leaves g h new.input ran.read old.shell new.shell ran.told ran.turns law
-run_leaves g h (Err fault) old new ran cut law = front_leaves g h new.input cut.read old.shell new.shell cut.told cut.turns law
+    go : ((rest : Deeds) → Turns g h members mid new rest → Runs h mid.known rest.calls new.known) → (ends : Bool) → MatchBool ends ((new ≡ mid) × (all ≡ first)) ((rest : Deeds) × Turns g h members mid new rest × (all ≡ and_then first rest)) → Runs h old.known all.calls new.known
+    go later true (same, is) = subst (λ (d : Deeds). Runs h old.known d.calls new.known) (sym is) (subst (λ (s : Shell _ _). Runs h old.known first.calls s.known) (sym same) turn.made)
+    go later false (rest, turns, is) = subst (λ (d : Deeds). Runs h old.known d.calls new.known) (sym is) (runs_join h old.known mid.known new.known first.calls rest.calls turn.made (later rest turns))

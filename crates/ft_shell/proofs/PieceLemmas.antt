@@ -7,7 +7,7 @@ use Rattle.sqlite.specs.Store.{Ghosts}
 use Rattle.ft_shell.specs.declared.session.RunFault.{RunFault}
 use Rattle.ft_shell.specs.declared.session.RunFault.TheVariants as causes
 use Rattle.ft_shell.specs.Feeds.{Fed, members_left}
-use Rattle.ft_shell.specs.Ran.{Moment, Passes, Breaks, HasRead, Interrupted}
+use Rattle.ft_shell.specs.Ran.{Moment, Passes, Breaks, HasRead, Interrupted, IsInside}
 use Rattle.ft_shell.proofs.RanLemmas.{breaks_as, breaks_none, passes_as}
 use Rattle.ft_shell.proofs.RunLemmas.{consumes_none, if_err_at, some_or_none}
 
@@ -17,17 +17,17 @@ pub interrupted_unread : {P S T : Type 0} (g : Ghosts P) (h : Ghosts S) (r : Res
 interrupted_unread g h r fault room before after fed a is cause kept = if_err_at (λ fault. Interrupted g h fault room before after fed a a) r fault is (record {
   bytes = [];
   consumed = consumes_none before after kept;
-  cause = λ much. absurd (let wrong : causes.Read ≡ causes.TooMuch = sym cause ∙ much in cc);
+  cause = inr (cause, refl);
   breaks = inl (breaks_none g h fault _ a);
 })
 
 -- the end of the input was cut short
 pub interrupted_at_end : {P S T : Type 0} (g : Ghosts P) (h : Ghosts S) (r : Result T RunFault) (fault : RunFault) (room : ℕ) (before after : Option (List ℕ)) (fed : Fed) (a b : Moment P S) → r ≡ Err fault → Consumes before after [] → IsAtEnd after →
-    Breaks g h fault (λ (_ : Unit {0}). members_left fed []) a b × (fault ≢ causes.TooMuch) → IfErr r (λ fault. Interrupted g h fault room before after fed a b)
+    Breaks g h fault (λ (_ : Unit {0}). members_left fed []) a b × IsInside g h fault → IfErr r (λ fault. Interrupted g h fault room before after fed a b)
 interrupted_at_end g h r fault room before after fed a b is consumed at_end broken = if_err_at (λ fault. Interrupted g h fault room before after fed a b) r fault is (record {
   bytes = [];
   consumed = consumed;
-  cause = broken.1;
+  cause = inl broken.1;
   breaks = inr (refl, at_end, broken.0);
 })
 
@@ -41,11 +41,11 @@ piece_front n room k chunk is = go (some_or_none (n - room))
 
 -- a piece was cut short
 pub interrupted_within : {P S T : Type 0} (g : Ghosts P) (h : Ghosts S) (r : Result T RunFault) (fault : RunFault) (room n k : ℕ) (chunk : List ℕ) (before after : Option (List ℕ)) (fed : Fed) (a b : Moment P S) → r ≡ Err fault → Consumes before after (take n chunk) → k ≡ min n room →
-    Breaks g h fault (λ (rest : List ℕ). members_left fed (take k chunk ++ rest)) a b × (fault ≢ causes.TooMuch) → IfErr r (λ fault. Interrupted g h fault room before after fed a b)
+    Breaks g h fault (λ (rest : List ℕ). members_left fed (take k chunk ++ rest)) a b × IsInside g h fault → IfErr r (λ fault. Interrupted g h fault room before after fed a b)
 interrupted_within g h r fault room n k chunk before after fed a b is consumed size broken = if_err_at (λ fault. Interrupted g h fault room before after fed a b) r fault is (record {
   bytes = take n chunk;
   consumed = consumed;
-  cause = broken.1;
+  cause = inl broken.1;
   breaks = inl (breaks_as g h fault _ _ (λ rest. rest) a b (λ rest. ap (λ xs. members_left fed (xs ++ rest)) (piece_front n room k chunk size)) broken.0);
 })
 

@@ -5,15 +5,16 @@ use Rattle.std.specs.Io.KnownBytes.{Appends}
 use Rattle.sqlite.specs.Store.{Ghosts}
 use Rattle.shell_text.specs.declared.units.UnitKind.{UnitKind}
 use Rattle.shell_text.specs.declared.units.UnitKind.TheVariants as kinds
-use Rattle.shell_text.specs.Units.{Member}
+use Rattle.shell_text.specs.Units.{Member, Sql, Dot}
 use Rattle.shell_text.specs.Splitting.{member_as}
 use Rattle.ft_shell.specs.declared.session.RunFault.{RunFault}
 use Rattle.ft_shell.specs.declared.session.RunFault.TheVariants as causes
 use Rattle.ft_shell.specs.Shell.{Shell}
-use Rattle.ft_shell.specs.Told.{Told, silent, followed, echoed}
+use Rattle.ft_shell.specs.Told.{Told, Deeds, deeds, idle, and_then, echoed}
 use Rattle.ft_shell.specs.Turns.{Body, Turn}
 use Rattle.ft_shell.specs.Writing.{AppendsUpTo, Sends}
 use Rattle.ft_shell.specs.Ran.{Moment, Did, Cut, Passes, Breaks, Runs}
+use Rattle.ft_shell.proofs.CallsLemmas.{body_calls}
 use Rattle.ft_shell.proofs.WriteLemmas.{appends_then, appends_same, up_to_then, up_to_whole}
 use Rattle.ft_shell.proofs.TurnsLemmas.{turns_then, turns_one}
 
@@ -29,7 +30,7 @@ right_of_or false b h = h
 
 pub did_none : {P S : Type 0} (g : Ghosts P) (h : Ghosts S) (a : Moment P S) → Did g h [] a a
 did_none g h a = record {
-  told = silent;
+  told = idle;
   turns = (refl, refl);
   out = appends_same a.out;
   err = appends_same a.err;
@@ -37,7 +38,7 @@ did_none g h a = record {
   quit = sym (or_false a.status.quit);
 }
 
-pub did_one : {P S : Type 0} (g : Ghosts P) (h : Ghosts S) (member : Member) (a b : Moment P S) (told : Told) → Turn g h member a.shell b.shell told → Appends a.out b.out told.out → Appends a.err b.err told.err →
+pub did_one : {P S : Type 0} (g : Ghosts P) (h : Ghosts S) (member : Member) (a b : Moment P S) (told : Deeds) → Turn g h member a.shell b.shell told → Appends a.out b.out told.out → Appends a.err b.err told.err →
     b.status.faults ≡ min (a.status.faults + told.faults) (2 ^ 64 - 1) → b.status.quit ≡ (a.status.quit || told.ends) → Did g h (member ∷ []) a b
 did_one g h member a b told turn out err faults quit = record {
   told = told;
@@ -62,7 +63,7 @@ went_on g h members a b d goes = left_of_or a.status.quit d.told.ends (sym d.qui
 
 did_then : {P S : Type 0} (g : Ghosts P) (h : Ghosts S) (xs ys : List Member) (a b c : Moment P S) → Did g h xs a b → b.status.quit ≡ false → Did g h ys b c → Did g h (xs ++ ys) a c
 did_then g h xs ys a b c first goes second = record {
-  told = followed first.told second.told;
+  told = and_then first.told second.told;
   turns = turns_then g h xs ys a.shell b.shell c.shell first.told second.told first.turns (goes_on g h xs a b first goes) second.turns;
   out = appends_then a.out b.out c.out first.told.out second.told.out first.out second.out;
   err = appends_then a.err b.err c.err first.told.err second.told.err first.err second.err;
@@ -81,7 +82,7 @@ cut_whole g h fault members a b d = record {
   whole = inr (d.out, d.err);
 }
 
-pub cut_one : {P S : Type 0} (g : Ghosts P) (h : Ghosts S) (fault : RunFault) (member : Member) (a b : Moment P S) (told : Told) → Turn g h member a.shell b.shell told → AppendsUpTo a.out b.out told.out → AppendsUpTo a.err b.err told.err → fault ≡ causes.Write →
+pub cut_one : {P S : Type 0} (g : Ghosts P) (h : Ghosts S) (fault : RunFault) (member : Member) (a b : Moment P S) (told : Deeds) → Turn g h member a.shell b.shell told → AppendsUpTo a.out b.out told.out → AppendsUpTo a.err b.err told.err → fault ≡ causes.Write →
     Cut g h fault (member ∷ []) a b
 cut_one g h fault member a b told turn out err is = record {
   told = told;
@@ -93,7 +94,7 @@ cut_one g h fault member a b told turn out err is = record {
 
 cut_then : {P S : Type 0} (g : Ghosts P) (h : Ghosts S) (fault : RunFault) (xs ys : List Member) (a b c : Moment P S) → Did g h xs a b → b.status.quit ≡ false → Cut g h fault ys b c → Cut g h fault (xs ++ ys) a c
 cut_then g h fault xs ys a b c first goes second = record {
-  told = followed first.told second.told;
+  told = and_then first.told second.told;
   turns = turns_then g h xs ys a.shell b.shell c.shell first.told second.told first.turns (goes_on g h xs a b first goes) second.turns;
   out = up_to_then a.out b.out c.out first.told.out second.told.out first.out second.out;
   err = up_to_then a.err b.err c.err first.told.err second.told.err first.err second.err;
@@ -178,16 +179,20 @@ runs_err {P} {S} {W} {T} g h r fault due left a b is runs = subst (λ (x : Resul
 
 -- want of memory, before anything was done
 pub lacks_memory : {P S W : Type 0} (g : Ghosts P) (h : Ghosts S) (due left : W → List Member) (a : Moment P S) → Runs g h {W = W} {T = Unit {0}} (Err causes.Memory) due left a a
-lacks_memory g h due left a = (breaks_none g h causes.Memory due a, λ much. absurd (let wrong = much in cc))
+lacks_memory g h due left a = (breaks_none g h causes.Memory due a, inr refl)
 
 -- a turn was done, and what it tells was written, or a front of it
-pub runs_turn : {P S T : Type 0} (g : Ghosts P) (h : Ghosts S) (r : Result T RunFault) (member : Member) (a b : Moment P S) (told : Told) → Turn g h member a.shell b.shell told → Sends r a.out b.out told.out → Sends r a.err b.err told.err →
+pub runs_turn : {P S T : Type 0} (g : Ghosts P) (h : Ghosts S) (r : Result T RunFault) (member : Member) (a b : Moment P S) (told : Deeds) → Turn g h member a.shell b.shell told → Sends r a.out b.out told.out → Sends r a.err b.err told.err →
     IfErr r (λ fault. fault ≡ causes.Write) → OnOk r (b.status.faults ≡ min (a.status.faults + told.faults) (2 ^ 64 - 1)) → OnOk r (b.status.quit ≡ (a.status.quit || told.ends)) →
     Runs g h r (λ (rest : List Member). member ∷ rest) (λ rest. rest) a b
 runs_turn g h (Ok x) member a b told turn out err cause faults quit = passes_one g h member a b (did_one g h member a b told turn out err faults quit)
-runs_turn g h (Err fault) member a b told turn out err cause faults quit = (breaks_one g h fault member a b (cut_one g h fault member a b told turn out err cause), λ much. absurd (let wrong : causes.Write ≡ causes.TooMuch = sym cause ∙ much in cc))
+runs_turn g h (Err fault) member a b told turn out err cause faults quit = (breaks_one g h fault member a b (cut_one g h fault member a b told turn out err cause), inl cause)
 
 -- a unit's turn: its text is echoed before what it tells
-pub unit_turned : {P S : Type 0} (g : Ghosts P) (h : Ghosts S) (kind : UnitKind) (line : ℕ) (text : List ℕ) (old new : Shell P S) (body : Told) → Body g h (member_as kind line text) old new body → Turn g h (member_as kind line text) old new (echoed old.look text body)
-unit_turned g h kinds.Sql line text old new body done = record { body = body; done = done; tells = refl }
-unit_turned g h kinds.Dot line text old new body done = record { body = body; done = done; tells = refl }
+pub unit_turned : {P S : Type 0} (g : Ghosts P) (h : Ghosts S) (kind : UnitKind) (line : ℕ) (text : List ℕ) (old new : Shell P S) (body : Told) → (done : Body g h (member_as kind line text) old new body) → Turn g h (member_as kind line text) old new (deeds (echoed old.look text body) (body_calls g h (member_as kind line text) old new body done).0)
+unit_turned g h kinds.Sql line text old new body done =
+    let called = body_calls g h (Sql line text) old new body done in
+    record { body = body; done = done; tells = refl; spelled = called.1; made = called.2 }
+unit_turned g h kinds.Dot line text old new body done =
+    let called = body_calls g h (Dot line text) old new body done in
+    record { body = body; done = done; tells = refl; spelled = called.1; made = called.2 }

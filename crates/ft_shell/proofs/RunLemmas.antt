@@ -10,10 +10,10 @@ use Rattle.shell_text.specs.Splitting.{given_by}
 use Rattle.ft_shell.specs.declared.session.RunFault.{RunFault}
 use Rattle.ft_shell.specs.declared.session.RunFault.TheVariants as causes
 use Rattle.ft_shell.specs.Shell.{Shell}
-use Rattle.ft_shell.specs.Told.{Told}
+use Rattle.ft_shell.specs.Told.{Deeds}
 use Rattle.ft_shell.specs.Turns.{Turns, Session, Begins}
 use Rattle.ft_shell.specs.Feeds.{Fed, members_left}
-use Rattle.ft_shell.specs.Ran.{Moment, Did, Passes, Breaks, HasRead, Interrupted}
+use Rattle.ft_shell.specs.Ran.{Moment, Did, Passes, Breaks, HasRead, Interrupted, IsInside}
 use Rattle.ft_shell.specs.Runs.{IsWhole, IsFront, Completes, Stops}
 use Rattle.ft_shell.proofs.WriteLemmas.{appends_kept}
 use Rattle.ft_shell.proofs.TurnsLemmas.{turns_ended}
@@ -122,8 +122,8 @@ passes_kept g h due left a b out kept it = record {
 ended_by : {P S : Type 0} (g : Ghosts P) (h : Ghosts S) (members : List Member) (a b : Moment P S) (d : Did g h members a b) → a.status.quit ≡ false → b.status.quit ≡ true → d.told.ends ≡ true
 ended_by g h members a b d began ended = ap (λ q. q || d.told.ends) (sym began) ∙ sym d.quit ∙ ended
 
-whole_at_end : {P S : Type 0} (g : Ghosts P) (h : Ghosts S) (after : Option (List ℕ)) (read : List ℕ) (a b : Moment P S) (p : Passes g h (λ (_ : Unit {0}). members_of read) (λ _. []) a b) → a.status.quit ≡ false → IsAtEnd after → IsWhole g h after read a.shell b.shell p.did.told
-whole_at_end g h after read a b p began at_end = inl (at_end, go b.status.quit refl)
+whole_at_end : {P S : Type 0} (g : Ghosts P) (h : Ghosts S) (after : Option (List ℕ)) (read : List ℕ) (a b : Moment P S) (p : Passes g h (λ (_ : Unit {0}). members_of read) (λ _. []) a b) → a.status.quit ≡ false → IsAtEnd after → length read ≤ 2 ^ 30 → IsWhole g h after read a.shell b.shell p.did.told
+whole_at_end g h after read a b p began at_end fits = inl (at_end, fits, go b.status.quit refl)
   where
     go : (quit : Bool) → b.status.quit ≡ quit → Session g h read a.shell b.shell p.did.told
     go false is =
@@ -137,14 +137,14 @@ split_members : (most : ℕ) (read rest : List ℕ) → members_of (read ++ rest
 split_members most read rest = ap members_of (ap (λ xs. xs ++ rest) (sym (take-append-drop most read)) ∙ append_assoc (take most read) (drop most read) rest)
 
 whole_by_turn : {P S : Type 0} (g : Ghosts P) (h : Ghosts S) (after : Option (List ℕ)) (most : ℕ) (read : List ℕ) (left : List ℕ → List Member) (a b : Moment P S) (p : Passes g h (λ (rest : List ℕ). members_of (take most read ++ rest)) left a b) →
-    a.status.quit ≡ false → b.status.quit ≡ true → IsWhole g h after read a.shell b.shell p.did.told
-whole_by_turn g h after most read left a b p began ended =
+    most ≡ 2 ^ 30 → a.status.quit ≡ false → b.status.quit ≡ true → IsWhole g h after read a.shell b.shell p.did.told
+whole_by_turn g h after most read left a b p size began ended =
     let ends = ended_by g h p.done a b p.did began ended in
     inr (
       ends,
       λ rest.
-          let all : members_of (read ++ rest) ≡ p.done ++ (p.front (drop most read ++ rest)).0 = split_members most read rest ∙ (p.front (drop most read ++ rest)).1 in
-          subst (λ ms. Turns g h ms a.shell b.shell p.did.told) (sym all) (turns_ended g h p.done (p.front (drop most read ++ rest)).0 a.shell b.shell p.did.told p.did.turns ends),
+          let all : members_of (take (2 ^ 30) read ++ rest) ≡ p.done ++ (p.front rest).0 = ap (λ m. members_of (take m read ++ rest)) (sym size) ∙ (p.front rest).1 in
+          subst (λ ms. Turns g h ms a.shell b.shell p.did.told) (sym all) (turns_ended g h p.done (p.front rest).0 a.shell b.shell p.did.told p.did.turns ends),
     )
 
 completes_by : {P S W : Type 0} (g : Ghosts P) (h : Ghosts S) (due left : W → List Member) (before after : Option (List ℕ)) (read : List ℕ) (shell : Shell P S) (out err : Option (List ℕ)) (b : Moment P S) (p : Passes g h due left (opening shell out err) b) →
@@ -162,31 +162,31 @@ completes_by g h due left before after read shell out err b p consumed whole fit
 }
 
 -- the last piece was read: it was the end, or a turn ended the session
-pub completes : {P S : Type 0} (g : Ghosts P) (h : Ghosts S) (most total room n : ℕ) (before mid after : Option (List ℕ)) (left left' : Fed) (shell : Shell P S) (out err out' : Option (List ℕ)) (b c : Moment P S) →
+pub completes : {P S : Type 0} (g : Ghosts P) (h : Ghosts S) (most total room n : ℕ) (before mid after : Option (List ℕ)) (left left' : Fed) (shell : Shell P S) (out err out' : Option (List ℕ)) (b c : Moment P S) → most ≡ 2 ^ 30 →
     SoFar g h most total before mid left (opening shell out err) b → b.status.quit ≡ false → total ≤ most → room ≡ most - total → HasRead g h room n mid after left left' b c → (n ≡ 0) ⊎ ((0 < n) × (c.status.quit ≡ true)) → Keeps c.out out' → c.status.faults < 2 ^ 64 →
     Completes g h c.status (record { shell = shell; input = before; out = out; err = err }) (record { shell = c.shell; input = after; out = out'; err = c.err })
-completes g h most total room n before mid after left left' shell out err out' b c so goes fits is piece (inl none) kept small =
+completes g h most total room n before mid after left left' shell out err out' b c size so goes fits is piece (inl none) kept small =
     let a = opening shell out err in
     let p = passes_kept g h _ _ a c out' kept (passes_then g h _ (λ _. members_left left []) _ a b c (run_to_end g h most total before mid left a b so fits) goes (piece.ends none).1) in
     completes_by g h _ _ before after so.read shell out err (record c { out = out' }) p
     (consumes_to_end before mid after so.read piece.bytes so.consumed piece.consumed (nil_of piece.bytes (piece.size ∙ none)))
-    (whole_at_end g h after so.read a (record c { out = out' }) p refl (piece.ends none).0) small
-completes g h most total room n before mid after left left' shell out err out' b c so goes fits is piece (inr (some, ended)) kept small =
+    (whole_at_end g h after so.read a (record c { out = out' }) p refl (piece.ends none).0 (omega (arith, so.size, fits, size))) small
+completes g h most total room n before mid after left left' shell out err out' b c size so goes fits is piece (inr (some, ended)) kept small =
     let a = opening shell out err in
     let more = so_far_more g h most total room n before mid after left left' a b c so goes fits is piece some in
     let p = passes_kept g h _ _ a c out' kept more.passes in
     completes_by g h _ _ before after more.read shell out err (record c { out = out' }) p more.consumed
-    (whole_by_turn g h after most more.read _ a (record c { out = out' }) p refl ended) small
+    (whole_by_turn g h after most more.read _ a (record c { out = out' }) p size refl ended) small
 
 -- ---- a run that is cut short
 
-begun : {P S : Type 0} (g : Ghosts P) (h : Ghosts S) (input : List ℕ) (done more : List Member) (old new : Shell P S) (told : Told) → members_of input ≡ done ++ more → Turns g h done old new told → Begins g h input old new told
+begun : {P S : Type 0} (g : Ghosts P) (h : Ghosts S) (input : List ℕ) (done more : List Member) (old new : Shell P S) (told : Deeds) → members_of input ≡ done ++ more → Turns g h done old new told → Begins g h input old new told
 begun g h input done more old new told is turns = (length done, subst (λ ms. Turns g h ms old new told) (sym (ap (take (length done)) is ∙ take-append_seam done more)) turns)
 
 stops_by : {P S W : Type 0} (g : Ghosts P) (h : Ghosts S) (fault : RunFault) (due : W → List Member) (before after : Option (List ℕ)) (read : List ℕ) (shell : Shell P S) (out err : Option (List ℕ)) (b : Moment P S) (p : Breaks g h fault due (opening shell out err) b) →
-    Consumes before after read → IsFront g h after read shell b.shell p.cut.told → (fault ≡ causes.TooMuch → (2 ^ 30 < length read) × ((rest : List ℕ) → Begins g h (take (2 ^ 30) read ++ rest) shell b.shell p.cut.told)) →
+    Consumes before after read → IsFront g h after read shell b.shell p.cut.told → (fault ≡ causes.TooMuch → (2 ^ 30 < length read) × ((rest : List ℕ) → Begins g h (take (2 ^ 30) read ++ rest) shell b.shell p.cut.told)) → (fault ≡ causes.Read → length read ≤ 2 ^ 30) →
     Stops g h fault (record { shell = shell; input = before; out = out; err = err }) (record { shell = b.shell; input = after; out = b.out; err = b.err })
-stops_by g h fault due before after read shell out err b p consumed front much = record {
+stops_by g h fault due before after read shell out err b p consumed front much least = record {
   read = read;
   consumed = consumed;
   told = p.cut.told;
@@ -195,33 +195,35 @@ stops_by g h fault due before after read shell out err b p consumed front much =
   err = p.cut.err;
   whole = p.cut.whole;
   much = much;
+  least = least;
 }
 
 stops_at_end : {P S : Type 0} (g : Ghosts P) (h : Ghosts S) (fault : RunFault) (before after : Option (List ℕ)) (read : List ℕ) (shell : Shell P S) (out err : Option (List ℕ)) (b : Moment P S) → Breaks g h fault (λ (_ : Unit {0}). members_of read) (opening shell out err) b →
-    Consumes before after read → IsAtEnd after → fault ≢ causes.TooMuch →
+    Consumes before after read → IsAtEnd after → fault ≢ causes.TooMuch → length read ≤ 2 ^ 30 →
     Stops g h fault (record { shell = shell; input = before; out = out; err = err }) (record { shell = b.shell; input = after; out = b.out; err = b.err })
-stops_at_end g h fault before after read shell out err b p consumed at_end other =
-    stops_by g h fault _ before after read shell out err b p consumed (inl (at_end, begun g h read p.done (p.front tt).0 shell b.shell p.cut.told (p.front tt).1 p.cut.turns)) (λ much. absurd (other much))
+stops_at_end g h fault before after read shell out err b p consumed at_end other fits =
+    stops_by g h fault _ before after read shell out err b p consumed (inl (at_end, begun g h read p.done (p.front tt).0 shell b.shell p.cut.told (p.front tt).1 p.cut.turns)) (λ much. absurd (other much)) (λ _. fits)
 
 stops_within : {P S : Type 0} (g : Ghosts P) (h : Ghosts S) (fault : RunFault) (most : ℕ) (before after : Option (List ℕ)) (read : List ℕ) (shell : Shell P S) (out err : Option (List ℕ)) (b : Moment P S) → most ≡ 2 ^ 30 → Breaks g h fault (λ (rest : List ℕ). members_of (take most read ++ rest)) (opening shell out err) b →
-    Consumes before after read → (fault ≡ causes.TooMuch → most < length read) →
+    Consumes before after read → (fault ≡ causes.TooMuch → most < length read) → (fault ≡ causes.Read → length read ≤ most) →
     Stops g h fault (record { shell = shell; input = before; out = out; err = err }) (record { shell = b.shell; input = after; out = b.out; err = b.err })
-stops_within g h fault most before after read shell out err b size p consumed much =
+stops_within g h fault most before after read shell out err b size p consumed much least =
     stops_by g h fault _ before after read shell out err b p consumed
     (inr (λ rest. begun g h (read ++ rest) p.done (p.front (drop most read ++ rest)).0 shell b.shell p.cut.told (split_members most read rest ∙ (p.front (drop most read ++ rest)).1) p.cut.turns))
     (λ is. (subst (λ m. m < length read) size (much is), λ rest. begun g h (take (2 ^ 30) read ++ rest) p.done (p.front rest).0 shell b.shell p.cut.told (ap (λ m. members_of (take m read ++ rest)) (sym size) ∙ (p.front rest).1) p.cut.turns))
+    (λ is. subst (λ m. length read ≤ m) size (least is))
 
 -- nothing was read
 pub stops_first : {P S : Type 0} (g : Ghosts P) (h : Ghosts S) (fault : RunFault) (before : Option (List ℕ)) (shell : Shell P S) (out err : Option (List ℕ)) → fault ≢ causes.TooMuch →
     Stops g h fault (record { shell = shell; input = before; out = out; err = err }) (record { shell = shell; input = before; out = out; err = err })
 stops_first g h fault before shell out err other =
-    stops_within g h fault (2 ^ 30) before before [] shell out err (opening shell out err) refl (breaks_none g h fault _ (opening shell out err)) (consumes_none before before (keeps_same before)) (λ much. absurd (other much))
+    stops_within g h fault (2 ^ 30) before before [] shell out err (opening shell out err) refl (breaks_none g h fault _ (opening shell out err)) (consumes_none before before (keeps_same before)) (λ much. absurd (other much)) (λ _. omega arith)
 
 -- there was more than the limit
 pub stops_too_much : {P S : Type 0} (g : Ghosts P) (h : Ghosts S) (most total : ℕ) (before after : Option (List ℕ)) (left : Fed) (shell : Shell P S) (out err : Option (List ℕ)) (b : Moment P S) → most ≡ 2 ^ 30 → SoFar g h most total before after left (opening shell out err) b → most < total →
     Stops g h causes.TooMuch (record { shell = shell; input = before; out = out; err = err }) (record { shell = b.shell; input = after; out = b.out; err = b.err })
 stops_too_much g h most total before after left shell out err b size so past =
-    stops_within g h causes.TooMuch most before after so.read shell out err b size (breaks_after g h causes.TooMuch _ _ (opening shell out err) b so.passes) so.consumed (λ _. omega (arith, so.size, past))
+    stops_within g h causes.TooMuch most before after so.read shell out err b size (breaks_after g h causes.TooMuch _ _ (opening shell out err) b so.passes) so.consumed (λ _. omega (arith, so.size, past)) (λ is. absurd (let wrong = is in cc))
 
 -- a piece was cut short
 pub stops_in_piece : {P S : Type 0} (g : Ghosts P) (h : Ghosts S) (fault : RunFault) (most total room : ℕ) (before mid after : Option (List ℕ)) (left : Fed) (shell : Shell P S) (out err : Option (List ℕ)) (b c : Moment P S) → most ≡ 2 ^ 30 →
@@ -229,31 +231,41 @@ pub stops_in_piece : {P S : Type 0} (g : Ghosts P) (h : Ghosts S) (fault : RunFa
     Stops g h fault (record { shell = shell; input = before; out = out; err = err }) (record { shell = c.shell; input = after; out = c.out; err = c.err })
 stops_in_piece g h fault most total room before mid after left shell out err b c size so goes fits is piece = go piece.breaks
   where
+    not_much : IsInside g h fault ⊎ ((fault ≡ causes.Read) × (piece.bytes ≡ [])) → fault ≢ causes.TooMuch
+    not_much (inl (inl write)) much = let wrong : causes.Write ≡ causes.TooMuch = sym write ∙ much in cc
+    not_much (inl (inr memory)) much = let wrong : causes.Memory ≡ causes.TooMuch = sym memory ∙ much in cc
+    not_much (inr (cause, no_bytes)) much = let wrong : causes.Read ≡ causes.TooMuch = sym cause ∙ much in cc
+
+    least : IsInside g h fault ⊎ ((fault ≡ causes.Read) × (piece.bytes ≡ [])) → fault ≡ causes.Read → length (so.read ++ piece.bytes) ≤ most
+    least (inl (inl write)) read = absurd (let wrong : causes.Write ≡ causes.Read = sym write ∙ read in cc)
+    least (inl (inr memory)) read = absurd (let wrong : causes.Memory ≡ causes.Read = sym memory ∙ read in cc)
+    least (inr (cause, no_bytes)) read = subst (λ bytes. length (so.read ++ bytes) ≤ most) (sym no_bytes) (subst (λ xs. length xs ≤ most) (sym (append-nil so.read)) (omega (arith, so.size, fits)))
+
     go : Breaks g h fault (λ (rest : List ℕ). members_left left (take room piece.bytes ++ rest)) b c ⊎ ((piece.bytes ≡ []) × IsAtEnd after × Breaks g h fault (λ (_ : Unit {0}). members_left left []) b c) →
         Stops g h fault (record { shell = shell; input = before; out = out; err = err }) (record { shell = c.shell; input = after; out = c.out; err = c.err })
     go (inl within) =
         stops_within g h fault most before after (so.read ++ piece.bytes) shell out err c size
         (breaks_then g h fault _ (λ rest. members_left left (take room piece.bytes ++ rest)) (opening shell out err) b c (run_before g h most total room before mid left (opening shell out err) b so fits is piece.bytes) goes within)
-        (consumes_then before mid after so.read piece.bytes so.consumed piece.consumed) (λ much. absurd (piece.cause much))
+        (consumes_then before mid after so.read piece.bytes so.consumed piece.consumed) (λ much. absurd (not_much piece.cause much)) (λ is. least piece.cause is)
     go (inr (none, at_end, last)) =
         stops_at_end g h fault before after so.read shell out err c
         (breaks_then g h fault _ (λ _. members_left left []) (opening shell out err) b c (run_to_end g h most total before mid left (opening shell out err) b so fits) goes last)
-        (consumes_to_end before mid after so.read piece.bytes so.consumed piece.consumed none) at_end piece.cause
+        (consumes_to_end before mid after so.read piece.bytes so.consumed piece.consumed none) at_end (not_much piece.cause) (omega (arith, so.size, fits, size))
 
 -- all was run, and the last flush was refused
 pub stops_at_flush : {P S : Type 0} (g : Ghosts P) (h : Ghosts S) (fault : RunFault) (most total room n : ℕ) (before mid after : Option (List ℕ)) (left left' : Fed) (shell : Shell P S) (out err out' : Option (List ℕ)) (b c : Moment P S) → most ≡ 2 ^ 30 →
-    SoFar g h most total before mid left (opening shell out err) b → b.status.quit ≡ false → total ≤ most → room ≡ most - total → HasRead g h room n mid after left left' b c → (n ≡ 0) ⊎ (0 < n) → Keeps c.out out' → fault ≢ causes.TooMuch →
+    SoFar g h most total before mid left (opening shell out err) b → b.status.quit ≡ false → total ≤ most → room ≡ most - total → HasRead g h room n mid after left left' b c → (n ≡ 0) ⊎ (0 < n) → Keeps c.out out' → fault ≡ causes.Write →
     Stops g h fault (record { shell = shell; input = before; out = out; err = err }) (record { shell = c.shell; input = after; out = out'; err = c.err })
-stops_at_flush g h fault most total room n before mid after left left' shell out err out' b c size so goes fits is piece (inl none) kept other =
+stops_at_flush g h fault most total room n before mid after left left' shell out err out' b c size so goes fits is piece (inl none) kept cause =
     let a = opening shell out err in
     let p = passes_kept g h _ _ a c out' kept (passes_then g h _ (λ _. members_left left []) _ a b c (run_to_end g h most total before mid left a b so fits) goes (piece.ends none).1) in
     stops_at_end g h fault before after so.read shell out err (record c { out = out' }) (breaks_after g h fault _ _ a (record c { out = out' }) p)
-    (consumes_to_end before mid after so.read piece.bytes so.consumed piece.consumed (nil_of piece.bytes (piece.size ∙ none))) (piece.ends none).0 other
-stops_at_flush g h fault most total room n before mid after left left' shell out err out' b c size so goes fits is piece (inr some) kept other =
+    (consumes_to_end before mid after so.read piece.bytes so.consumed piece.consumed (nil_of piece.bytes (piece.size ∙ none))) (piece.ends none).0 (λ much. absurd (let wrong : causes.Write ≡ causes.TooMuch = sym cause ∙ much in cc)) (omega (arith, so.size, fits, size))
+stops_at_flush g h fault most total room n before mid after left left' shell out err out' b c size so goes fits is piece (inr some) kept cause =
     let a = opening shell out err in
     let more = so_far_more g h most total room n before mid after left left' a b c so goes fits is piece some in
     let p = passes_kept g h _ _ a c out' kept more.passes in
-    stops_within g h fault most before after more.read shell out err (record c { out = out' }) size (breaks_after g h fault _ _ a (record c { out = out' }) p) more.consumed (λ much. absurd (other much))
+    stops_within g h fault most before after more.read shell out err (record c { out = out' }) size (breaks_after g h fault _ _ a (record c { out = out' }) p) more.consumed (λ much. absurd (let wrong : causes.Write ≡ causes.TooMuch = sym cause ∙ much in cc)) (λ is. absurd (let wrong : causes.Write ≡ causes.Read = sym cause ∙ is in cc))
 
 -- ---- exits
 

@@ -8,12 +8,13 @@ pub mod FullTextTurns
 pub mod PlainStatements
 pub mod StatementTurns
 pub mod DotTurns
+pub mod TurnCalls
 pub mod Turns
 pub mod Feeds
 pub mod Writing
 pub mod Ran
 pub mod Runs
-pub mod Calls
+pub mod Promise
 pub mod TablesTurns
 pub mod PlainImports
 pub mod ImportTurns

@@ -1,5 +1,5 @@
 -- What a session does with members of its input, and what is written for them (own choice).
-use Rattle.std.specs.Prelude.{ℕ, ◌≡◌, ◌≢◌, ◌⊎◌, ◌<◌, false, ◌+◌, ◌-◌, ◌^◌, min, ◌||◌, List, [], ◌++◌, length, take, Option, Result, Ok, Err}
+use Rattle.std.specs.Prelude.{ℕ, ◌≡◌, ◌⊎◌, ◌<◌, false, ◌+◌, ◌-◌, ◌^◌, min, ◌||◌, List, [], ◌++◌, length, take, Option, Result, Ok, Err}
 use Rattle.std.specs.Io.KnownBytes.{Appends, Consumes, IsAtEnd}
 use Rattle.sqlite.specs.Store.{Ghosts}
 use Rattle.shell_text.specs.Units.{Member}
@@ -7,7 +7,7 @@ use Rattle.ft_shell.specs.declared.session.Status.{Status}
 use Rattle.ft_shell.specs.declared.session.RunFault.{RunFault}
 use Rattle.ft_shell.specs.declared.session.RunFault.TheVariants as causes
 use Rattle.ft_shell.specs.Shell.{Shell}
-use Rattle.ft_shell.specs.Told.{Told}
+use Rattle.ft_shell.specs.Told.{Deeds}
 use Rattle.ft_shell.specs.Turns.{Turns}
 use Rattle.ft_shell.specs.Writing.{AppendsUpTo}
 use Rattle.ft_shell.specs.Feeds.{Fed, members_left}
@@ -23,7 +23,7 @@ module _ {P S : Type 0} (g : Ghosts P) (h : Ghosts S) where
   -- The members' turns were done one after the other, and what they tell was written and counted. The count of fault lines stays at
   -- 2 ^ 64 - 1 once there.
   pub record Did (members : List Member) (old new : Moment P S) : Type 0 where
-    pub told : Told
+    pub told : Deeds
     pub turns : Turns g h members old.shell new.shell told
     pub out : Appends old.out new.out told.out
     pub err : Appends old.err new.err told.err
@@ -32,7 +32,7 @@ module _ {P S : Type 0} (g : Ghosts P) (h : Ghosts S) where
 
   -- The members' turns were done, and what they tell was written, or a front of it where a writer refused more.
   pub record Cut (fault : RunFault) (members : List Member) (old new : Moment P S) : Type 0 where
-    pub told : Told
+    pub told : Deeds
     pub turns : Turns g h members old.shell new.shell told
     pub out : AppendsUpTo old.out new.out told.out
     pub err : AppendsUpTo old.err new.err told.err
@@ -50,10 +50,14 @@ module _ {P S : Type 0} (g : Ghosts P) (h : Ghosts S) where
     pub front : (way : W) → (more : List Member) × (due way ≡ done ++ more)
     pub cut : Cut fault done old new
 
-  -- what a part of a run does; it never finds the input too much
+  -- what cuts short what is done with bytes that were read
+  abbrev pub IsInside : RunFault → Type 0
+  IsInside fault = (fault ≡ causes.Write) ⊎ (fault ≡ causes.Memory)
+
+  -- what a part of a run does
   abbrev pub Runs : {W T : Type 0} → Result T RunFault → (W → List Member) → (W → List Member) → Moment P S → Moment P S → Type 0
   Runs (Ok _) due left old new = Passes due left old new
-  Runs (Err fault) due left old new = Breaks fault due old new × (fault ≢ causes.TooMuch)
+  Runs (Err fault) due left old new = Breaks fault due old new × IsInside fault
 
   -- So many bytes were read. They are taken, as far as there is room; without any the input is at its end, and what was left of it is done.
   pub record HasRead (room n : ℕ) (before after : Option (List ℕ)) (fed left : Fed) (old new : Moment P S) : Type 0 where
@@ -67,5 +71,5 @@ module _ {P S : Type 0} (g : Ghosts P) (h : Ghosts S) where
   pub record Interrupted (fault : RunFault) (room : ℕ) (before after : Option (List ℕ)) (fed : Fed) (old new : Moment P S) : Type 0 where
     pub bytes : List ℕ
     pub consumed : Consumes before after bytes
-    pub cause : fault ≢ causes.TooMuch
+    pub cause : IsInside fault ⊎ ((fault ≡ causes.Read) × (bytes ≡ []))
     pub breaks : Breaks fault (λ (rest : List ℕ). members_left fed (take room bytes ++ rest)) old new ⊎ ((bytes ≡ []) × IsAtEnd after × Breaks fault (λ (_ : Unit {0}). members_left fed []) old new)

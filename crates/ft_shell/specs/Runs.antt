@@ -1,12 +1,12 @@
 -- What a run of a session does: the turns of its input one after the other, or of a front of it where the run is cut short (own choice).
-use Rattle.std.specs.Prelude.{ℕ, ◌≡◌, ◌⊎◌, ◌<◌, ◌-◌, ◌^◌, min, true, List, ◌++◌, length, take, Option}
+use Rattle.std.specs.Prelude.{ℕ, ◌≡◌, ◌⊎◌, ◌<◌, ◌≤◌, ◌-◌, ◌^◌, min, true, List, ◌++◌, length, take, Option}
 use Rattle.std.specs.Io.KnownBytes.{Appends, Consumes, IsAtEnd}
 use Rattle.sqlite.specs.Store.{Ghosts}
 use Rattle.ft_shell.specs.declared.session.Status.{Status}
 use Rattle.ft_shell.specs.declared.session.RunFault.{RunFault}
 use Rattle.ft_shell.specs.declared.session.RunFault.TheVariants as causes
 use Rattle.ft_shell.specs.Shell.{Shell}
-use Rattle.ft_shell.specs.Told.{Told}
+use Rattle.ft_shell.specs.Told.{Deeds}
 use Rattle.ft_shell.specs.Turns.{Session, Begins}
 use Rattle.ft_shell.specs.Writing.{AppendsUpTo}
 
@@ -18,19 +18,20 @@ pub record Console (P S : Type 0) : Type 0 where
   pub err : Option (List ℕ)
 
 module _ {P S : Type 0} (g : Ghosts P) (h : Ghosts S) where
-  -- The input of which these bytes were read was run whole: there is no more of it, or a turn ended the session, whatever more there is.
-  abbrev pub IsWhole : Option (List ℕ) → List ℕ → Shell P S → Shell P S → Told → Type 0
-  IsWhole left read old new told = (IsAtEnd left × Session g h read old new told) ⊎ ((told.ends ≡ true) × ((rest : List ℕ) → Session g h (read ++ rest) old new told))
+  -- The input of which these bytes were read was run whole: there is no more of it, and it isn't too much; or a turn ended the session that
+  -- isn't past 2 ^ 30 bytes, whatever more there is.
+  abbrev pub IsWhole : Option (List ℕ) → List ℕ → Shell P S → Shell P S → Deeds → Type 0
+  IsWhole left read old new told = (IsAtEnd left × (length read ≤ 2 ^ 30) × Session g h read old new told) ⊎ ((told.ends ≡ true) × ((rest : List ℕ) → Session g h (take (2 ^ 30) read ++ rest) old new told))
 
   -- A front of the turns of the input of which these bytes were read was done: there is no more of it, or whatever more there is.
-  abbrev pub IsFront : Option (List ℕ) → List ℕ → Shell P S → Shell P S → Told → Type 0
+  abbrev pub IsFront : Option (List ℕ) → List ℕ → Shell P S → Shell P S → Deeds → Type 0
   IsFront left read old new told = (IsAtEnd left × Begins g h read old new told) ⊎ ((rest : List ℕ) → Begins g h (read ++ rest) old new told)
 
   -- The input was run whole, and all that its turns tell was written. The count of fault lines stays at 2 ^ 64 - 1 once there.
   pub record Completes (status : Status) (old new : Console P S) : Type 0 where
     pub read : List ℕ
     pub consumed : Consumes old.input new.input read
-    pub told : Told
+    pub told : Deeds
     pub turns : IsWhole new.input read old.shell new.shell told
     pub out : Appends old.out new.out told.out
     pub err : Appends old.err new.err told.err
@@ -38,13 +39,14 @@ module _ {P S : Type 0} (g : Ghosts P) (h : Ghosts S) where
     pub quit : status.quit ≡ told.ends
 
   -- A front of the input's turns was done, and what they tell was written, or a front of it where a writer refused more. An input is too
-  -- much only past 2 ^ 30 bytes, and what is done then doesn't hang on what is past them.
+  -- much only past 2 ^ 30 bytes, and what is done then doesn't hang on what is past them; past them no more is read.
   pub record Stops (fault : RunFault) (old new : Console P S) : Type 0 where
     pub read : List ℕ
     pub consumed : Consumes old.input new.input read
-    pub told : Told
+    pub told : Deeds
     pub turns : IsFront new.input read old.shell new.shell told
     pub out : AppendsUpTo old.out new.out told.out
     pub err : AppendsUpTo old.err new.err told.err
     pub whole : (fault ≡ causes.Write) ⊎ (Appends old.out new.out told.out × Appends old.err new.err told.err)
     pub much : fault ≡ causes.TooMuch → (2 ^ 30 < length read) × ((rest : List ℕ) → Begins g h (take (2 ^ 30) read ++ rest) old.shell new.shell told)
+    pub least : fault ≡ causes.Read → length read ≤ 2 ^ 30

@@ -2,6 +2,7 @@
 -- beside the section "Special commands to sqlite3" of "Command Line Shell For SQLite".
 use Rattle.std.specs.Prelude.{ℕ, ◌≡◌, ◌⊎◌, Bool, false, if◌then◌else◌, List, [], ◌∷◌, ◌++◌, ◌+◌, codes}
 use Rattle.shell_text.specs.Print.{Look}
+use Rattle.ft_index.specs.Kept.{Call}
 use Rattle.ft_statements.specs.Texts.{fault_line}
 
 -- what one or more turns write on the two outputs, how many fault lines are among it, and whether the session ends there
@@ -40,3 +41,24 @@ lacks_memory look line = blames look line (codes "out of memory")
 -- it tells what is due, or else that it lacks memory
 abbrev pub Tells : Look → ℕ → Told → Told → Type 0
 Tells look line due told = (told ≡ due) ⊎ (told ≡ lacks_memory look line)
+
+-- what one or more turns tell, and the calls that they make of the full-text tables
+pub record Deeds : Type 0 where
+  pub out : List ℕ
+  pub err : List ℕ
+  pub faults : ℕ
+  pub ends : Bool
+  pub calls : List Call
+
+abbrev pub idle : Deeds
+idle = record { out = []; err = []; faults = 0; ends = false; calls = [] }
+
+abbrev pub told_by : Deeds → Told
+told_by all = record { out = all.out; err = all.err; faults = all.faults; ends = all.ends }
+
+abbrev pub deeds : Told → List Call → Deeds
+deeds told calls = record { out = told.out; err = told.err; faults = told.faults; ends = told.ends; calls = calls }
+
+-- what turns do, and then what the turns after them do
+abbrev pub and_then : Deeds → Deeds → Deeds
+and_then first rest = record { out = first.out ++ rest.out; err = first.err ++ rest.err; faults = first.faults + rest.faults; ends = rest.ends; calls = first.calls ++ rest.calls }

@@ -1,6 +1,6 @@
 -- A session: the turns of an input's members, one after the other, each from what the turn before it left. What a unit is told as is
 -- that of its kind; echo and bail are of the section "Special commands to sqlite3 (dot-commands)" of "Command Line Shell For SQLite".
-use Rattle.std.specs.Prelude.{ℕ, ◌≡◌, ◌⊎◌, MatchBool, ◌==◌, if◌then◌else◌, List, [], ◌∷◌, take}
+use Rattle.std.specs.Prelude.{ℕ, ◌≡◌, ◌⊎◌, MatchBool, List, [], ◌∷◌, take}
 use Rattle.sqlite.specs.Store.{Ghosts}
 use Rattle.shell_text.specs.Units.{Member, Sql, Dot, Fault, members_of}
 use Rattle.shell_text.specs.Dot.{dot_words_of}
@@ -9,12 +9,9 @@ use Rattle.ft_statements.specs.Texts.{split_text}
 use Rattle.ft_statements.specs.Dots.{DotCommand, dot_command_of}
 use Rattle.ft_shell.specs.DotTurns.{DotTurn}
 use Rattle.ft_shell.specs.StatementTurns.{StatementTurn}
-use Rattle.ft_shell.specs.Told.{Told, silent, blames, echoed, followed, lacks_memory}
-
--- what stands behind the full stop at its front
-abbrev pub behind_stop : List ℕ → List ℕ
-behind_stop [] = []
-behind_stop (b ∷ text) = if b == 0x2E then text else b ∷ text
+use Rattle.ft_index.specs.Kept.{Runs}
+use Rattle.ft_shell.specs.TurnCalls.{CallsOf, behind_stop}
+use Rattle.ft_shell.specs.Told.{Told, Deeds, told_by, idle, and_then, blames, echoed, lacks_memory}
 
 module _ {P S : Type 0} (g : Ghosts P) (h : Ghosts S) where
   -- a dot-command's turn, or, for want of memory, nothing
@@ -33,22 +30,24 @@ module _ {P S : Type 0} (g : Ghosts P) (h : Ghosts S) where
   Echoed (Sql line text) old body told = told ≡ echoed old.look text body
   Echoed (Dot line text) old body told = told ≡ echoed old.look text body
 
-  -- the turn of one member
-  pub record Turn (member : Member) (old new : Shell P S) (told : Told) : Type 0 where
+  -- the turn of one member, with the calls that it makes of the full-text tables
+  pub record Turn (member : Member) (old new : Shell P S) (all : Deeds) : Type 0 where
     pub body : Told
     pub done : Body member old new body
-    pub tells : Echoed member old body told
+    pub tells : Echoed member old body (told_by all)
+    pub spelled : CallsOf member old body all.calls
+    pub made : Runs h old.known all.calls new.known
 
   -- the turns of members, one after the other, up to one that ends the session
-  abbrev pub Turns : List Member → Shell P S → Shell P S → Told → Type 0
-  Turns [] old new told = (new ≡ old) × (told ≡ silent)
-  Turns (member ∷ members) old new told = (mid : Shell P S) × (first : Told) × Turn member old mid first
-      × MatchBool first.ends ((new ≡ mid) × (told ≡ first)) ((rest : Told) × Turns members mid new rest × (told ≡ followed first rest))
+  abbrev pub Turns : List Member → Shell P S → Shell P S → Deeds → Type 0
+  Turns [] old new all = (new ≡ old) × (all ≡ idle)
+  Turns (member ∷ members) old new all = (mid : Shell P S) × (first : Deeds) × Turn member old mid first
+      × MatchBool first.ends ((new ≡ mid) × (all ≡ first)) ((rest : Deeds) × Turns members mid new rest × (all ≡ and_then first rest))
 
   -- a whole input, from the shell before it to the shell after it
-  abbrev pub Session : List ℕ → Shell P S → Shell P S → Told → Type 0
-  Session input old new told = Turns (members_of input) old new told
+  abbrev pub Session : List ℕ → Shell P S → Shell P S → Deeds → Type 0
+  Session input old new all = Turns (members_of input) old new all
 
   -- a front of an input's turns
-  abbrev pub Begins : List ℕ → Shell P S → Shell P S → Told → Type 0
-  Begins input old new told = (count : ℕ) × Turns (take count (members_of input)) old new told
+  abbrev pub Begins : List ℕ → Shell P S → Shell P S → Deeds → Type 0
+  Begins input old new all = (count : ℕ) × Turns (take count (members_of input)) old new all

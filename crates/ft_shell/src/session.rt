@@ -9,9 +9,8 @@ ghost use Rattle.ft_shell.specs.Feeds.{end_line, members_left, refused_as};
 ghost use Rattle.ft_shell.specs.Writing.{Sends};
 ghost use Rattle.ft_shell.specs.Ran.{HasRead, Interrupted, Runs};
 ghost use Rattle.ft_shell.specs.Runs.{Completes, Stops};
-ghost use Rattle.ft_content.specs.Deserved.{Contents};
-ghost use Rattle.ft_index.specs.Kept.{Holds, IsUp};
-ghost use Rattle.ft_shell.specs.Calls.{KeptByTurns, Leaves};
+ghost use Rattle.ft_shell.specs.Promise.{IsOpen, KeptByRuns, RanAndKept};
+ghost use Rattle.ft_index.specs.Kept.{IsUp};
 ghost use Rattle.ft_shell.specs.Shell.{lent};
 
 use crate::feed::{Feed, Refusal, is_memory};
@@ -21,6 +20,7 @@ use crate::unit_turn::unit_turn;
 use crate::written::{Refused, write_echo, write_told};
 use ft_index::FullText;
 use ft_statements::split_text;
+use ram_disk::Honest;
 use shell_text::{Settings, SplitFault, Unit, blocks_read_whole};
 use sqlite::{Alter, Connection};
 use std::alloc::{AllocError, Global};
@@ -122,7 +122,7 @@ impl<P: Alter, S: Alter> Session<P, S> {
     }
 
     /// Runs the units of an input in turn, up to one that ends the session. Whatever a unit is refused for, the run goes
-    /// on.
+    /// on. However the run ends, the full-text tables are what the accepted commands make of them.
     ///
     /// # Errors
     ///
@@ -135,27 +135,20 @@ impl<P: Alter, S: Alter> Session<P, S> {
         err: &mut E,
         source: &mut F,
     ) -> Result<Status, RunFault>
-        ensures ok { IfOk result (λ status. Completes P.Store S.Store status
+        ensures ran { RanAndKept P.Store S.Store result
             (record { shell = lent self.old (F.holds source.old); input = R.remaining reader.old; out = O.contents out.old; err = E.contents err.old })
-            (record { shell = lent self.new (F.holds source.new); input = R.remaining reader.new; out = O.contents out.new; err = E.contents err.new })) }
-        ensures err { IfErr result (λ fault. Stops P.Store S.Store fault
-            (record { shell = lent self.old (F.holds source.old); input = R.remaining reader.old; out = O.contents out.old; err = E.contents err.old })
-            (record { shell = lent self.new (F.holds source.new); input = R.remaining reader.new; out = O.contents out.new; err = E.contents err.new })) }
+            (record { shell = lent self.new (F.holds source.new); input = R.remaining reader.new; out = O.contents out.new; err = E.contents err.new }) }
         ensures source { (name : List ℕ) → F.holds source.new name ≡ F.holds source.old name }
-
-        // However the run ends, the full-text store holds what the accepted commands leave, with the index rows made from
-        // scratch, if it held contents before.
-        ensures kept { (first : Contents) → IsUp S.Store self.new.known → Holds S.Store self.old.known first → Leaves S.Store self.old.known self.new.known first }
     {
-        Session::<P, S>::kept_by_turns();
+        Session::<P, S>::kept_by_runs();
         self.run_pieces(reader, out, err, source)
     }
 
-    /// After any turns, those of a whole input or of a front of it, the full-text store holds what the accepted commands
-    /// leave: the index rows of each sound table are exactly those made from scratch. Each command was answered by the
-    /// definitions.
-    pub fn kept_by_turns()
-        ensures { KeptByTurns P.Store S.Store }
+    /// After any runs, however each ended, each full-text table's content is that of the accepted commands, and the index
+    /// rows of each sound table are exactly those made from scratch. Each command, a Select with MATCH too, was answered by
+    /// the definitions, and a refused one changed neither content nor index.
+    pub fn kept_by_runs()
+        ensures { KeptByRuns P.Store S.Store (IsUp S.Store) }
     {
         FullText::<S>::kept_by_calls();
     }
@@ -473,6 +466,15 @@ impl<P: Alter, S: Alter> Session<P, S> {
                 self.refuse(&end_refusal(fault), status, out, err)
             }
         }
+    }
+}
+
+impl<P: Alter, S: Honest> Session<P, S> {
+    /// The same in memory, where the disk always returns what was written: it is so as long as the store is open.
+    pub fn kept_in_memory()
+        ensures { KeptByRuns P.Store S.Store (IsOpen S.Store) }
+    {
+        Session::<P, S>::kept_by_runs();
     }
 }
 

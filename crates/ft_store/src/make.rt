@@ -88,6 +88,7 @@ pub(crate) fn make<S: Alter>(conn: &mut Connection<S>) -> Result<(), StoreFault>
     requires empty { HasCleanDisk (state S.Store conn.old) → IsTrue (state S.Store conn.old).is_open → (state S.Store conn.old).now.schema ≡ no_schema }
     ensures all { HasCleanDisk (state S.Store conn.new) → OnOk result (IsStore (state S.Store conn.new).now × (value_of (state S.Store conn.new).now.trees ≡ nothing_held)) }
     ensures none { HasCleanDisk (state S.Store conn.new) → OnErr result (Keeps (state S.Store conn.old) (state S.Store conn.new)) }
+    ensures live { HasCleanDisk (state S.Store conn.new) → OnOk result (IsTrue (state S.Store conn.new).is_open) }
     ensures fault { IfErr result IsPlainFault }
     ensures mode { (state S.Store conn.new).in_transaction ≡ false }
     ensures crash { Survives (state S.Store conn.old) (state S.Store conn.new) (λ db. IsTrue (state S.Store conn.old).is_open → IsStored db nothing_held) }

@@ -1,9 +1,12 @@
-ghost use Rattle.std.specs.Prelude.{◌≡◌, ◌&&◌, false, codes, Err, MatchResult, IfErr, map, vec_len, length, option_to_list, nat_eq, All, IsTrue, IfOk, OnOk, OnErr};
+ghost use Rattle.sqlite.specs.Held.{state};
+ghost use Rattle.ft_store.specs.Store.{StoreValue};
+ghost use Rattle.std.specs.Prelude.{◌≡◌, ◌≢◌, ℤ, ◌&&◌, false, codes, Err, MatchResult, IfErr, map, vec_len, length, option_to_list, nat_eq, All, IsTrue, IfOk, OnOk, OnErr};
 ghost use Rattle.std.specs.Ordering.{int_eq, is_eq};
 ghost use Rattle.std.specs.List.{starts_with};
 ghost use Rattle.std.specs.FinMap.Entries.{where_key};
 ghost use Rattle.sqlite.specs.State.{HasCleanDisk, Survives};
 ghost use Rattle.sqlite_wal.specs.Files.{image_at};
+ghost use Rattle.sqlite_trees.specs.Tree.{Trees};
 ghost use Rattle.ft_store.specs.Store.{cell_key_cmp, list_key_cmp, name_cmp, nothing_held, all_applied, AreInOrder};
 ghost use Rattle.ft_store.specs.Changes.{shown_change, CanApply};
 ghost use Rattle.ft_store.specs.Shown.{shown_cell, shown_size, shown_note, shown_entry, tables_listed, shown_table, last_docid_of, entries_of, AreWhole, SomeDamaged, AreNamedApart};
@@ -62,6 +65,7 @@ impl Store<FileStore<Ram>> {
     pub fn open_memory(alloc: Global) -> Result<Store<FileStore<Ram>>, StoreFault>
         ensures empty { IfOk result (λ store. value_in over_files store ≡ nothing_held) }
         ensures clean { IfOk result (λ store. HasCleanDisk (shows over_files store)) }
+        ensures up { IfOk result (λ store. IsTrue (shows over_files store).is_open) }
         ensures unread { IfOk result (λ store. store.rows_read ≡ 0) }
         ensures causes { IfErr result IsPlainFault }
     {
@@ -117,10 +121,13 @@ impl<S: Alter> Store<S> {
     pub fn adopt(alloc: Global, conn: Connection<S>) -> Result<Store<S>, AdoptFault<S>>
         ensures taken { conn.in_transaction ≡ false → IfOk result (λ store. IsTaken S.Store conn store.held × (store.rows_read ≡ 0)) }
         ensures refused { conn.in_transaction ≡ false → IfErr result (λ fault. IsNotTaken S.Store conn fault.connection fault.cause) }
+        ensures again { conn.in_transaction ≡ false → IfErr result (λ fault. HasCleanDisk (state S.Store fault.connection) → IsTrue (state S.Store conn).is_open → (v : StoreValue) → IsStored (state S.Store conn).now.trees v
+            → (fault.cause ≢ StoreFault.NotAStore) × ((n : ℤ) → fault.cause ≢ StoreFault.Version n)) }
         ensures busy { IsTrue conn.in_transaction → MatchResult result (λ _. ⊥) (λ fault. (fault.connection ≡ conn) × (fault.cause ≡ StoreFault.Refused)) }
         ensures crash { conn.in_transaction ≡ false → MatchResult result (λ store. LeavesEmpty S.Store conn store.held) (λ fault. LeavesEmpty S.Store conn fault.connection) }
     {
         let mut conn = conn;
+        let _schema = conn.schema();
         if !conn.is_autocommit() {
             return Err(AdoptFault {
                 connection: conn,
@@ -292,8 +299,14 @@ impl<S: Alter> Store<S> {
         // A crash leaves what it could leave before, or a store with all changes made.
         ensures crash { Survives (shows S.Store self.old) (shows S.Store self.new)
             (λ db. IsTrue (shows S.Store self.old).is_open → IsStored db (all_applied (map shown_change changes.now) (value_in S.Store self.old))) }
+
+        // After Ok, and while the store is open, it leaves that store alone.
+        ensures alone { HasCleanDisk (shows S.Store self.new) → OnOk result (IsTrue (shows S.Store self.new).is_open → (db : Trees) → (shows S.Store self.new).may_leave db
+            → IsStored db (all_applied (map shown_change changes.now) (value_in S.Store self.old))) }
     {
-        write::change(&mut self.conn, self.alloc, changes)
+        write::change(&mut self.conn, self.alloc, changes)?;
+        let _settled = self.conn.is_autocommit();
+        Ok(())
     }
 
     /// The law that rows stand in the order of their keys, each key once, and that no two tables have one name.
@@ -302,6 +315,13 @@ impl<S: Alter> Store<S> {
         ensures names { HasCleanDisk (shows S.Store self.now) → IsTrue (shows S.Store self.now).is_open → AreNamedApart (value_in S.Store self.now) }
     {
         let _ = &self.conn;
+    }
+
+    /// The law that a crash leaves what an open store holds, and nothing else.
+    pub fn is_settled(&self)
+        ensures { HasCleanDisk (shows S.Store self.now) → IsTrue (shows S.Store self.now).is_open → (db : Trees) → (shows S.Store self.now).may_leave db → IsStored db (value_in S.Store self.now) }
+    {
+        let _ = self.conn.is_autocommit();
     }
 
     /// How many rows the reads gave so far. It stays at its greatest value.

@@ -3,6 +3,7 @@
 
 #[cfg(test)]
 mod index;
+mod promise;
 #[cfg(test)]
 mod query;
 #[cfg(test)]

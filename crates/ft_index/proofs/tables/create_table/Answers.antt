@@ -83,7 +83,7 @@ returns-in_err-add_table-clause-crash g c =
     λ contents told. subst (λ o. Makes contents c.args.table.now c.args.module_name.now options names c.args.if_new (Ok o)) c.in-Some.is
     (subst (Makes contents c.args.table.now c.args.module_name.now options names c.args.if_new) made (c.made_table.ensures contents (ap (map known_info) c.as_slice.ensures.value ∙ told))) in
     crash_changed g.S.Store c.args.store.now c.add_table.new.store tables (map known_info c.add_table.new.tables.items) command (table_change c.in-Some.made ∷ [])
-    (λ up first holds. ((made_is_held first c.args.table.now c.args.module_name.now options names c.args.if_new c.in-Some.made (value_in g.S.Store c.args.store.now) tables (makes first holds.told) c.is_in_order.ensures.order holds).held, refl))
+    (λ up first holds. ((makes first holds.told).0, (made_is_held first c.args.table.now c.args.module_name.now options names c.args.if_new c.in-Some.made (value_in g.S.Store c.args.store.now) tables (makes first holds.told) c.is_in_order.ensures.order holds).held, refl))
     c.add_table.ensures.crash
 
 pub returns-clause-crash : goal.returns-clause-crash
@@ -101,7 +101,7 @@ returns-clause-crash g c =
           (subst (Makes contents c.args.table.now c.args.module_name.now options names c.args.if_new) made (c.made_table.ensures contents (ap (map known_info) c.as_slice.ensures.value ∙ told))) in
           subst (λ (s : StoreState g.row.S.Denot). CommandSurvives g.S.Store (with_tables c.args.store.now tables) command (with_tables s after)) (sym w.store-is)
           (crash_changed g.S.Store c.args.store.now w.add_table.new.store tables after command (table_change w.in-Some.made ∷ [])
-          (λ up first holds. ((made_is_held first c.args.table.now c.args.module_name.now options names c.args.if_new w.in-Some.made (value_in g.S.Store c.args.store.now) tables (makes first holds.told) c.is_in_order.ensures.order holds).held, refl))
+          (λ up first holds. ((makes first holds.told).0, (made_is_held first c.args.table.now c.args.module_name.now options names c.args.if_new w.in-Some.made (value_in g.S.Store c.args.store.now) tables (makes first holds.told) c.is_in_order.ensures.order holds).held, refl))
           w.add_table.ensures.crash)
       | in_default w ↦
           subst (λ (s : StoreState g.row.S.Denot). CommandSurvives g.S.Store (with_tables c.args.store.now tables) command (with_tables s after)) (sym w.store-is)

@@ -99,7 +99,7 @@ returns-in_err-change_rows-clause-crash g c =
     let plans : (contents : Contents) → AreHeld value tables contents → PlansFrom contents command value (Ok changes) =
     λ contents held. subst (λ (r : Result (Vec RowChange Global) Fault). PlansFrom contents command value (changes_of r)) planned
     (c.drop_changes.ensures value contents c.is_in_order.ensures.order (subst (λ ts. AreHeld value (map known_info ts) contents) (sym c.as_slice.ensures.value) held)) in
-    crash_changed g.S.Store c.args.store.now c.change_rows.new.store tables tables command changes (λ up first holds. ((plans first holds).1, (plans first holds).2))
+    crash_changed g.S.Store c.args.store.now c.change_rows.new.store tables tables command changes (λ up first holds. ((plans first holds).0, (plans first holds).1, (plans first holds).2))
     (subst (λ (cs : List RowChange). Survives (shows g.S.Store c.args.store.now) (shows g.S.Store c.change_rows.new.store) (CommitsRows g.S.Store c.args.store.now (map shown_change cs))) c.as_slice-2.ensures.value c.change_rows.ensures.crash)
 
 pub returns-clause-crash : goal.returns-clause-crash
@@ -112,5 +112,5 @@ returns-clause-crash g c =
     let plans : (contents : Contents) → AreHeld value tables contents → PlansFrom contents command value (Ok changes) =
     λ contents held. subst (λ (r : Result (Vec RowChange Global) Fault). PlansFrom contents command value (changes_of r)) planned
     (c.drop_changes.ensures value contents c.is_in_order.ensures.order (subst (λ ts. AreHeld value (map known_info ts) contents) (sym c.as_slice.ensures.value) held)) in
-    crash_changed g.S.Store c.args.store.now c.change_rows.new.store tables tables command changes (λ up first holds. ((plans first holds).1, (plans first holds).2))
+    crash_changed g.S.Store c.args.store.now c.change_rows.new.store tables tables command changes (λ up first holds. ((plans first holds).0, (plans first holds).1, (plans first holds).2))
     (subst (λ (cs : List RowChange). Survives (shows g.S.Store c.args.store.now) (shows g.S.Store c.change_rows.new.store) (CommitsRows g.S.Store c.args.store.now (map shown_change cs))) c.as_slice-2.ensures.value c.change_rows.ensures.crash)

@@ -1,8 +1,8 @@
 -- its fault line is told
-use Rattle.std.proofs.Common.{◌≡◌, ◌∷◌, List, refl, ap, ◌∙◌, subst}
+use Rattle.std.proofs.Common.{◌≡◌, ◌∷◌, [], List, refl, ap, ◌∙◌, subst}
 use Rattle.shell_text.specs.Units.{Member, Fault}
 use Rattle.ft_shell.specs.Shell.{Parts, Shell, lent}
-use Rattle.ft_shell.specs.Told.{blames}
+use Rattle.ft_shell.specs.Told.{blames, deeds}
 use Rattle.ft_statements.specs.Texts.{split_text}
 use Rattle.ft_shell.specs.ToldViews.{told_as}
 use Rattle.ft_shell.specs.Ran.{Runs}
@@ -18,6 +18,6 @@ returns g c = λ holds.
     let a = g.O.Write.contents c.args.out.now in
     let e = g.E.Write.contents c.args.err.now in
     subst (λ s. Runs g.P.Store g.S.Store c.tell.result (λ (rest : List Member). Fault c.args.refusal.now.line c.args.refusal.now.fault ∷ rest) (λ rest. rest) (record { shell = lent s holds; status = c.args.status.now; out = a; err = e }) (record { shell = lent s holds; status = c.tell.new.status; out = g.O.Write.contents c.tell.new.out; err = g.E.Write.contents c.tell.new.err })) c.self.view_is
-    (runs_turn g.P.Store g.S.Store c.tell.result (Fault c.args.refusal.now.line c.args.refusal.now.fault) (record { shell = old; status = c.args.status.now; out = a; err = e }) (record { shell = old; status = c.tell.new.status; out = g.O.Write.contents c.tell.new.out; err = g.E.Write.contents c.tell.new.err }) told
-    (record { body = told; done = (refl, due); tells = refl })
+    (runs_turn g.P.Store g.S.Store c.tell.result (Fault c.args.refusal.now.line c.args.refusal.now.fault) (record { shell = old; status = c.args.status.now; out = a; err = e }) (record { shell = old; status = c.tell.new.status; out = g.O.Write.contents c.tell.new.out; err = g.E.Write.contents c.tell.new.err }) (deeds told [])
+    (record { body = told; done = (refl, due); tells = refl; spelled = tt; made = refl })
     c.tell.ensures.out c.tell.ensures.err c.tell.ensures.fault c.tell.ensures.faults c.tell.ensures.quit)

@@ -1,11 +1,11 @@
 -- its turns keep what the store holds
 use Rattle.ft_shell.specs.Shell.{lent}
 use Rattle.ft_shell.specs.Runs.{Console}
-use Rattle.ft_shell.proofs.CallsLemmas.{run_leaves}
+use Rattle.ft_shell.proofs.PromiseLemmas.{ran_and_kept}
 use Rattle.ft_shell.proofs.session.Session.run.Goals as goal
 
-pub returns-clause-kept : goal.returns-clause-kept
-returns-clause-kept g c =
+pub returns-clause-ran : goal.returns-clause-ran
+returns-clause-ran g c =
     let old : Console g.row.P.Denot g.row.S.Denot = record { shell = lent c.args.self.now (g.F.Source.holds c.args.source.now); input = g.R.Read.remaining c.args.reader.now; out = g.O.Write.contents c.args.out.now; err = g.E.Write.contents c.args.err.now } in
     let new : Console g.row.P.Denot g.row.S.Denot = record { shell = lent c.run_pieces.new.self (g.F.Source.holds c.run_pieces.new.source); input = g.R.Read.remaining c.run_pieces.new.reader; out = g.O.Write.contents c.run_pieces.new.out; err = g.E.Write.contents c.run_pieces.new.err } in
-    run_leaves g.P.Store g.S.Store c.run_pieces.result old new c.run_pieces.ensures.ok c.run_pieces.ensures.err c.kept_by_turns.ensures
+    ran_and_kept g.P.Store g.S.Store c.run_pieces.result old new c.run_pieces.ensures.ok c.run_pieces.ensures.err c.kept_by_runs.ensures

@@ -40,14 +40,14 @@ returns-in_err-flush-clause-err g c =
     let cause : c.in_err-flush.field-0.0 ≡ causes.Write = c.in_err-flush.ensures.fault in
     if_err_at _ c.from_residual-in_err-flush.result c.in_err-flush.field-0.0 is
     (stops_at_flush g.P.Store g.S.Store c.in_err-flush.field-0.0 (2 ^ 30) c.loop-total.total _ c.in_ok-read.read _ _ _ _ _ _ _ _ _ _ _ refl c.loop-total.invariant.run c.loop-total.invariant.goes c.loop-total-test.true refl c.in_ok-read.ensures.ok
-    (some_or_none c.in_ok-read.read) c.flush.ensures.bytes (λ much. absurd (let wrong : causes.Write ≡ causes.TooMuch = sym cause ∙ much in cc)))
+    (some_or_none c.in_ok-read.read) c.flush.ensures.bytes cause)
 
 pub returns-in_err-flush-clause-source : goal.returns-in_err-flush-clause-source
 returns-in_err-flush-clause-source g c = λ name. c.read_piece.ensures.source name ∙ c.loop-total.invariant.source name
 
 pub returns-then-is_over-clause-ok : goal.returns-then-is_over-clause-ok
 returns-then-is_over-clause-ok g c =
-    completes g.P.Store g.S.Store (2 ^ 30) c.loop-total.total _ c.in_ok-read.read _ _ _ _ _ _ _ _ _ _ _ c.loop-total.invariant.run c.loop-total.invariant.goes c.loop-total-test.true refl c.in_ok-read.ensures.ok
+    completes g.P.Store g.S.Store (2 ^ 30) c.loop-total.total _ c.in_ok-read.read _ _ _ _ _ _ _ _ _ _ _ refl c.loop-total.invariant.run c.loop-total.invariant.goes c.loop-total-test.true refl c.in_ok-read.ensures.ok
     (c.is_over.ensures.over c.if-is_over.true) c.flush.ensures.bytes c.is_over.ensures.fits
 
 pub returns-then-is_over-clause-source : goal.returns-then-is_over-clause-source

@@ -10,3 +10,6 @@ returns-clause-empty c = (c.in_ok-make.ensures.all (never_lies_is_clean (λ _. r
 
 pub returns-clause-clean : goal.returns-clause-clean
 returns-clause-clean c = never_lies_is_clean (λ _. refl) c.make.new.conn
+
+pub returns-clause-up : goal.returns-clause-up
+returns-clause-up c = c.in_ok-make.ensures.live (never_lies_is_clean (λ _. refl) c.make.new.conn)

@@ -1,0 +1,79 @@
+-- What runs of a session leave of the full-text tables (own choice).
+use Rattle.std.specs.Prelude.{ℕ, ℤ, ◌≡◌, ◌⊎◌, List, [], ◌∷◌, ◌++◌, Option, Result, Ok, Err, IsTrue}
+use Rattle.std.specs.List.{list_any}
+use Rattle.sqlite.specs.Store.{Ghosts}
+use Rattle.shell_text.specs.Units.{Sql}
+use Rattle.ft_store.specs.Kept.{shows}
+use Rattle.ft_content.specs.declared.fault.Fault.{Fault}
+use Rattle.ft_content.specs.Command.{Command, Filter, Items, Reply, Select}
+use Rattle.ft_content.specs.Deserved.{Contents}
+use Rattle.ft_content.specs.Step.{reply_to}
+use Rattle.ft_index.specs.Kept.{Known, Call, Executed, Runs, IsUp, Holds, accepted, left_by, AreAnswered, is_unsound, value_of}
+use Rattle.ft_shell.specs.declared.session.Status.{Status}
+use Rattle.ft_shell.specs.declared.session.RunFault.{RunFault}
+use Rattle.ft_shell.specs.Shell.{Parts, Shell}
+use Rattle.ft_statements.specs.Replies.{reply_text}
+use Rattle.ft_shell.specs.Told.{Deeds, and_then, told_by, says, echoed, lacks_memory}
+use Rattle.ft_shell.specs.Turns.{Turn}
+use Rattle.ft_shell.specs.Runs.{Console, Completes, Stops}
+
+-- ---- runs
+
+abbrev pub parts_of : {P S : Type 0} → Shell P S → Parts P S
+parts_of shell = record { look = shell.look; plain = shell.plain; known = shell.known }
+
+module _ {P S : Type 0} (g : Ghosts P) (h : Ghosts S) where
+  -- A run, however it ended, with what its turns told and the calls that they made of the full-text tables.
+  abbrev pub Ran : Result Status RunFault → Console P S → Console P S → Deeds → Type 0
+  Ran (Ok status) old new all = (it : Completes g h status old new) × (all ≡ it.told)
+  Ran (Err fault) old new all = (it : Stops g h fault old new) × (all ≡ it.told)
+
+  -- Any runs one after another, with what all their turns told and called. Each has an input, writers and files of its own, and begins
+  -- with what the one before it left.
+  pub data AllRan : Parts P S → Deeds → Parts P S → Type 0 where
+    last_ran : (ended : Result Status RunFault) (old new : Console P S) (all : Deeds) → Ran ended old new all → AllRan (parts_of old.shell) all (parts_of new.shell)
+    first_ran : (ended : Result Status RunFault) (old new : Console P S) (all rest : Deeds) (last : Parts P S) → Ran ended old new all → AllRan (parts_of new.shell) rest last → AllRan (parts_of old.shell) (and_then all rest) last
+
+-- ---- the promise
+
+module _ {P S : Type 0} (g : Ghosts P) (h : Ghosts S) where
+  -- The turn of a Select among all calls: what it writes is the reply by the settings that are in force there, or it lacks memory for it.
+  pub record Lists (old : Parts P S) (all : Deeds) (before more : List Call) (new : Parts P S) (reply : Reply) : Type 0 where
+    pub line : ℕ
+    pub text : List ℕ
+    pub was : Shell P S
+    pub now : Shell P S
+    pub own : Deeds
+    pub begins : Runs h old.known before was.known
+    pub turn : Turn g h (Sql line text) was now own
+    pub ends : Runs h now.known more new.known
+    pub prints : (told_by own ≡ echoed was.look text (says (reply_text was.look reply))) ⊎ (told_by own ≡ echoed was.look text (lacks_memory was.look line))
+    pub written : (front : List ℕ) × (back : List ℕ) × (all.out ≡ front ++ (own.out ++ back))
+
+  -- What runs leave of full-text tables that held these contents before them.
+  pub record Keeps (first : Contents) (old : Parts P S) (all : Deeds) (new : Parts P S) : Type 0 where
+    -- each table's content is that of the accepted commands, and the index rows of each sound table are exactly those made from scratch
+    pub holds : Holds h new.known (left_by first (accepted all.calls))
+    -- no table gets unsound
+    pub sound : (id : ℤ) → IsTrue (list_any (is_unsound id) (left_by first (accepted all.calls))) → IsTrue (list_any (is_unsound id) first)
+    -- each command is answered by the definitions over what those before it left, or refused by the store or memory
+    pub answered : AreAnswered first all.calls
+    -- so each Select that is accepted, with MATCH too, lists the reply that is defined over what the accepted commands before it left
+    pub lists : (before more : List Call) (table : List ℕ) (items : Items) (filter : Filter) (limit : Option ℕ) (offset : ℕ) (reply : Reply) → all.calls ≡ before ++ Executed (Select table items filter limit offset) (Ok reply) ∷ more →
+        (reply ≡ reply_to (left_by first (accepted before)) (Select table items filter limit offset)) × Lists old all before more new reply
+    -- a refused command changes no row of content or index, and no mark
+    pub refused : (before more : List Call) (command : Command) (fault : Fault) → all.calls ≡ before ++ Executed command (Err fault) ∷ more →
+        (was now : Known S) × Runs h old.known before was × Runs h now more new.known × (value_of h now ≡ value_of h was) × (now.tables ≡ was.tables)
+
+  -- After any runs the full-text tables are what the accepted commands make of them, if the store is up in the end.
+  abbrev pub KeptByRuns : (Known S → Type 0) → Type 0
+  KeptByRuns Up = (first : Contents) (old new : Parts P S) (all : Deeds) → Holds h old.known first → AllRan g h old all new → Up new.known → Keeps first old all new
+
+  -- So it is after one run.
+  abbrev pub RanAndKept : Result Status RunFault → Console P S → Console P S → Type 0
+  RanAndKept ended old new = (all : Deeds) × Ran g h ended old new all
+      × ((first : Contents) → Holds h old.shell.known first → IsUp h new.shell.known → Keeps first (parts_of old.shell) all (parts_of new.shell))
+
+-- in memory a store is up as long as it is open
+abbrev pub IsOpen : {S : Type 0} → Ghosts S → Known S → Type 0
+IsOpen h known = IsTrue (shows h known.store).is_open
