@@ -65,3 +65,7 @@ pub record Opens {S : Type 0} (g : Ghosts S) (old : StoreState S) (made : Known 
   pub live : HasCleanDisk (shows g made.store) → IsTrue (shows g made.store).is_open
   pub some : IsUp g made → (contents : Contents) × Holds g made contents
   pub marks : IsUp g made → (contents : Contents) → StoreHolds (value_in g old) contents → Holds g made contents
+
+-- A store that holds contents is opened with the marks that they give its tables.
+abbrev pub OpensWhatIsLeft : {S : Type 0} → Ghosts S → Type 0
+OpensWhatIsLeft {S} g = (left : StoreValue) (contents : Contents) → StoreHolds left contents → (old : StoreState S) (made : Known S) → value_in g old ≡ left → Opens g old made → IsUp g made → Holds g made contents

@@ -48,7 +48,7 @@ impl<S: Alter> FullText<S> {
     ghost use Rattle.ft_store.specs.Calls.{IsPlainFault};
     ghost use Rattle.ft_store.specs.Kept.{shows, value_in};
     ghost use Rattle.sqlite.specs.State.{HasCleanDisk};
-    ghost use Rattle.ft_store.specs.Store.{nothing_held};
+    ghost use Rattle.ft_store.specs.Store.{Note, applied, nothing_held};
     ghost use Rattle.ft_content.specs.declared.fault.Fault.TheVariants as faults;
     ghost use Rattle.ft_content.specs.Deserved.{Contents};
     ghost use Rattle.ft_content.specs.Views.{known_info, command_of, answer_of};
@@ -58,7 +58,7 @@ impl<S: Alter> FullText<S> {
     ghost use Rattle.ft_index.specs.Planned.{changes_of};
     ghost use Rattle.ft_index.specs.RowsRead.{CountsRows};
     ghost use Rattle.ft_index.specs.DocumentsRead.{Looks};
-    ghost use Rattle.ft_index.specs.Opened.{Opens};
+    ghost use Rattle.ft_index.specs.Opened.{Opens, OpensWhatIsLeft};
     ghost use Rattle.ft_index.specs.Kept.{IsUp, value_of, Holds, AreSound, OnlyLooks, Executes, Plans, Notes, KeptByCalls, NoneGetsUnsound, NamesStayApart, HoldsOneContents};
 
     /// Takes a store, and marks each table whose rows aren't documents with exactly the index rows made from scratch. The
@@ -142,12 +142,16 @@ impl<S: Alter> FullText<S> {
         ensures noted { Notes S.Store self.old name.now (is_ok result) self.new }
         ensures fault { IfErr result (λ fault. (fault ≡ faults.Store) ⊎ (fault ≡ faults.Memory)) }
 
-        // A crash leaves what it could leave before, or the name alone.
+        // A crash leaves what it could leave before, or the name alone; and once it is noted nothing else.
         ensures crash { NoteSurvives S.Store self.old name.now self.new }
+        ensures alone { OnOk result (IsUp S.Store self.new → (db : Trees) → (shows S.Store self.new.store).may_leave db
+            → IsStored db (applied (Note name.now) (value_of S.Store self.old))) }
     {
         let mut changes = Vec::new(self.alloc);
         changes.push(RowChange::Note(String::from_str(self.alloc, name)?))?;
-        change_rows(&mut self.store, changes.as_slice())
+        let result = change_rows(&mut self.store, changes.as_slice());
+        self.store.is_settled();
+        result
     }
 
     /// The law that a crash leaves what a store that is up holds, and nothing else.
@@ -188,5 +192,11 @@ impl<S: Alter> FullText<S> {
     /// crash left the marks of the contents before the command or after it.
     pub fn one_store_holds_one_contents()
         ensures { HoldsOneContents }
+    {}
+
+    /// A store that holds contents, as one that a crash left behind `execute`, `note` or the making of a store, is opened by
+    /// `new` with their marks: what was sound is sound.
+    pub fn opens_what_is_left()
+        ensures { OpensWhatIsLeft S.Store }
     {}
 }

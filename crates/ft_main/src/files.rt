@@ -10,6 +10,7 @@ ghost use Rattle.ft_store.specs.Store.{nothing_held};
 ghost use Rattle.ft_main.specs.Opening as forms;
 ghost use Rattle.ft_main.specs.declared.files.OpenFault.TheVariants as fault;
 
+use crate::access::make_beside;
 use ft_store::{Store, StoreFault, open_database};
 use ram_disk::{Ram, open_ram};
 use sqlite::{Connection, File, FileStore, Unknown};
@@ -62,7 +63,8 @@ pub(crate) fn open_plain(
     }
 }
 
-/// The full-text store in the file beside that of the plain tables, which is made where it isn't there.
+/// The full-text store in the file beside that of the plain tables, which is made where it isn't there, with the access that
+/// the other has.
 pub(crate) fn open_store(rt: &HostRuntime, path: &str) -> Result<Store<FileStore<File>>, OpenFault>
     ensures unread { IfOk result (λ store. store.rows_read ≡ 0) }
     ensures refused { IfErr result (λ f. (cause : StoreFault) × (f ≡ forms.fault_of cause)) }
@@ -70,6 +72,9 @@ pub(crate) fn open_store(rt: &HostRuntime, path: &str) -> Result<Store<FileStore
     let Ok(beside) = store_path(rt.alloc(), path) else {
         return Err(store_fault(StoreFault::Memory));
     };
+    if make_beside(rt, path, beside.as_str()).is_err() {
+        return Err(store_fault(StoreFault::Refused));
+    }
     match Store::open_file(rt, beside.as_str()) {
         Ok(store) => Ok(store),
         Err(cause) => Err(store_fault(cause)),

@@ -1,6 +1,7 @@
 //! The program `ft4sh`: an SQL shell with full-text tables.
 #![tactic(auto)]
 
+mod access;
 mod files;
 mod source;
 mod start;

@@ -1,6 +1,6 @@
 //! The files of the system, as an import reads them.
 
-ghost use Rattle.std.specs.Prelude.{None};
+ghost use Rattle.std.specs.Prelude.{None, true};
 
 use ft_shell::{Source, SourceFault};
 use std::alloc::Global;
@@ -39,7 +39,7 @@ fn read_all(alloc: Global, file: File) -> Result<Vec<u8>, SourceFault> {
 }
 
 impl Source for SystemFiles<'_> {
-    ghost holds = { λ files name. None };
+    ghost holds = { λ files name. record { bytes = None; may_refuse = λ fault. true } };
 
     fn fetch(&mut self, alloc: Global, name: &str) -> Result<Vec<u8>, SourceFault> {
         let file = fs::open(self.rt, name).map_err(|e| fault_of(e))?;

@@ -24,8 +24,8 @@ use Rattle.ft_shell.specs.TablesTurns as tables
 use Rattle.ft_shell.specs.PlainStatements.{CommandTurn, PlainTurn, QueryTurn, done, refused}
 use Rattle.ft_statements.specs.Statements.{Class, Plain, FullText, class_of}
 use Rattle.ft_shell.specs.StatementTurns.{ClassTurn, Declines, StatementTurn, table_names}
-use Rattle.ft_shell.specs.TurnCalls.{NoCommand, NoCall, CallsOf, CallsOfClass, CallsOfDot, CallsOfImport, HasRecords, OneCommand, behind_stop}
-use Rattle.ft_shell.specs.Sources.{Gives}
+use Rattle.ft_shell.specs.TurnCalls.{MayNote, MayRead, NoCall, CallsOf, CallsOfClass, CallsOfDot, CallsOfImport, HasRecords, OneCommand, behind_stop}
+use Rattle.ft_shell.specs.Sources.{Files, Gives}
 use Rattle.ft_shell.specs.Turns.{Body, Turns}
 use Rattle.ft_content.specs.Deserved.{Contents}
 use Rattle.ft_shell.specs.declared.session.Status.{Status}
@@ -38,14 +38,22 @@ use Rattle.ft_shell.specs.Runs.{Completes, Console, IsFront, IsWhole, Stops}
 abbrev pub Called : {S : Type 0} → Ghosts S → (List Call → Type 0) → Known S → Known S → Type 0
 Called h Spelled old new = (calls : List Call) × Spelled calls × Runs h old calls new
 
-notes_none : {S : Type 0} (h : Ghosts S) (old new : Known S) → new ≡ old → Called h NoCommand old new
-notes_none h old new same = ([], tt, same)
+-- nothing is called
+abbrev Uncalled : List Call → Type 0
+Uncalled calls = calls ≡ []
 
-notes_one : {S : Type 0} (h : Ghosts S) (old new : Known S) (name : List ℕ) (is_done : Bool) → DoesCall h old (Noted name is_done) new → Called h NoCommand old new
-notes_one h old new name is_done does = (Noted name is_done ∷ [], tt, (new, does, refl))
+calls_nothing : {S : Type 0} (h : Ghosts S) (old new : Known S) → new ≡ old → Called h Uncalled old new
+calls_nothing h old new same = ([], refl, same)
 
-same_shell : {P S : Type 0} (h : Ghosts S) (old new : Shell P S) → new ≡ old → Called h NoCommand old.known new.known
-same_shell h old new same = notes_none h old.known new.known (ap (λ (s : Shell _ _). s.known) same)
+notes_none : {S : Type 0} (h : Ghosts S) (made : Option (List ℕ)) (old new : Known S) → new ≡ old → Called h (MayNote made) old new
+notes_none h None old new same = ([], refl, same)
+notes_none h (Some name) old new same = ([], inl refl, same)
+
+notes_one : {S : Type 0} (h : Ghosts S) (old new : Known S) (name : List ℕ) (is_done : Bool) → DoesCall h old (Noted name is_done) new → Called h (MayNote (Some name)) old new
+notes_one h old new name is_done does = (Noted name is_done ∷ [], inr (is_done, refl), (new, does, refl))
+
+same_shell : {P S : Type 0} (h : Ghosts S) (old new : Shell P S) → new ≡ old → Called h Uncalled old.known new.known
+same_shell h old new same = calls_nothing h old.known new.known (ap (λ (s : Shell _ _). s.known) same)
 
 -- a fault line, and nothing is called
 calls_none : {S : Type 0} (h : Ghosts S) (look : Look) (line : ℕ) (told : Told) (why : List ℕ) (old new : Known S) → new ≡ old → told ≡ blames look line why → Called h (λ calls. NoCall look line told calls) old new
@@ -53,54 +61,54 @@ calls_none h look line told why old new same is = ([], (refl, why, is), same)
 
 -- ---- statements
 
-notes_calls : {S : Type 0} (h : Ghosts S) (look : Look) (line : ℕ) (made : Option (List ℕ)) (old new : Known S) (told : Told) → MaybeNotes h look line made old new told → Called h NoCommand old new
-notes_calls h look line None old new told it = notes_none h old new it.0
+notes_calls : {S : Type 0} (h : Ghosts S) (look : Look) (line : ℕ) (made : Option (List ℕ)) (old new : Known S) (told : Told) → MaybeNotes h look line made old new told → Called h (MayNote made) old new
+notes_calls h look line None old new told it = notes_none h None old new it.0
 notes_calls h look line (Some name) old new told it = notes_one h old new name it.is_noted it.notes
 
-command_calls : {P S : Type 0} (g : Ghosts P) (h : Ghosts S) (look : Look) (line : ℕ) (text : List ℕ) (made : Option (List ℕ)) (old new : Held P) (before after : Known S) (told : Told) → CommandTurn g h look line text made old new before after told → Called h NoCommand before after
+command_calls : {P S : Type 0} (g : Ghosts P) (h : Ghosts S) (look : Look) (line : ℕ) (text : List ℕ) (made : Option (List ℕ)) (old new : Held P) (before after : Known S) (told : Told) → CommandTurn g h look line text made old new before after told → Called h (MayNote made) before after
 command_calls g h look line text made old new before after told (done count is notes) = notes_calls h look line made before after told notes
-command_calls g h look line text made old new before after told (refused e is same tells) = notes_none h before after same
+command_calls g h look line text made old new before after told (refused e is same tells) = notes_none h made before after same
 
-plain_calls : {P S : Type 0} (g : Ghosts P) (h : Ghosts S) (look : Look) (line : ℕ) (text : List ℕ) (old new : Held P) (before after : Known S) (told : Told) → PlainTurn g h look line text old new before after told → Called h NoCommand before after
+plain_calls : {P S : Type 0} (g : Ghosts P) (h : Ghosts S) (look : Look) (line : ℕ) (text : List ℕ) (old new : Held P) (before after : Known S) (told : Told) → PlainTurn g h look line text old new before after told → Called h (MayNote (made_name (tokens_of text))) before after
 plain_calls g h look line text old new before after told it = go (asks (tokens_of text)) it
   where
-    go : (is_query : Bool) → MatchBool is_query (QueryTurn g look line text old new told × (after ≡ before)) (CommandTurn g h look line text (made_name (tokens_of text)) old new before after told) → Called h NoCommand before after
-    go true it = notes_none h before after it.1
+    go : (is_query : Bool) → MatchBool is_query (QueryTurn g look line text old new told × (after ≡ before)) (CommandTurn g h look line text (made_name (tokens_of text)) old new before after told) → Called h (MayNote (made_name (tokens_of text))) before after
+    go true it = notes_none h (made_name (tokens_of text)) before after it.1
     go false it = command_calls g h look line text (made_name (tokens_of text)) old new before after told it
 
-class_calls : {P S : Type 0} (g : Ghosts P) (h : Ghosts S) (look : Look) (line : ℕ) (text : List ℕ) (old new : Held P) (before after : Known S) (told : Told) (class : Option Class) → ClassTurn g h look line text old new before after told class → Called h (λ calls. CallsOfClass look line told calls class) before after
-class_calls g h look line text old new before after told None it = notes_none h before after it.1
+class_calls : {P S : Type 0} (g : Ghosts P) (h : Ghosts S) (look : Look) (line : ℕ) (text : List ℕ) (old new : Held P) (before after : Known S) (told : Told) (class : Option Class) → ClassTurn g h look line text old new before after told class → Called h (λ calls. CallsOfClass look line told calls (made_name (tokens_of text)) class) before after
+class_calls g h look line text old new before after told None it = calls_nothing h before after it.1
 class_calls g h look line text old new before after told (Some Plain) it = plain_calls g h look line text old new before after told it
 class_calls g h look line text old new before after told (Some (FullText command)) it = (Executed command it.1.answer ∷ [], inl (it.1.answer, refl, it.1.tells), (after, it.1.executes, refl))
 
-class_none : {S : Type 0} (h : Ghosts S) (look : Look) (line : ℕ) (before after : Known S) (told : Told) (class : Option Class) → after ≡ before → told ≡ lacks_memory look line → Called h (λ calls. CallsOfClass look line told calls class) before after
-class_none h look line before after told None same is = notes_none h before after same
-class_none h look line before after told (Some Plain) same is = notes_none h before after same
-class_none h look line before after told (Some (FullText command)) same is = ([], inr (refl, codes "out of memory", is), same)
+class_none : {S : Type 0} (h : Ghosts S) (look : Look) (line : ℕ) (made : Option (List ℕ)) (before after : Known S) (told : Told) (class : Option Class) → after ≡ before → told ≡ lacks_memory look line → Called h (λ calls. CallsOfClass look line told calls made class) before after
+class_none h look line made before after told None same is = calls_nothing h before after same
+class_none h look line made before after told (Some Plain) same is = notes_none h made before after same
+class_none h look line made before after told (Some (FullText command)) same is = ([], inr (refl, codes "out of memory", is), same)
 
 statement_calls : {P S : Type 0} (g : Ghosts P) (h : Ghosts S) (look : Look) (line : ℕ) (text : List ℕ) (old new : Held P) (before after : Known S) (told : Told) → StatementTurn g h look line text old new before after told →
-    Called h (λ calls. MatchBool (is_unclosed text) (NoCommand calls) (CallsOfClass look line told calls (class_of (table_names before) (tokens_of text)))) before after
+    Called h (λ calls. MatchBool (is_unclosed text) (calls ≡ []) (CallsOfClass look line told calls (made_name (tokens_of text)) (class_of (table_names before) (tokens_of text)))) before after
 statement_calls g h look line text old new before after told (inr nothing) = go (is_unclosed text)
   where
-    go : (is_open : Bool) → Called h (λ calls. MatchBool is_open (NoCommand calls) (CallsOfClass look line told calls (class_of (table_names before) (tokens_of text)))) before after
-    go true = notes_none h before after nothing.1
-    go false = class_none h look line before after told (class_of (table_names before) (tokens_of text)) nothing.1 nothing.2
+    go : (is_open : Bool) → Called h (λ calls. MatchBool is_open (calls ≡ []) (CallsOfClass look line told calls (made_name (tokens_of text)) (class_of (table_names before) (tokens_of text)))) before after
+    go true = calls_nothing h before after nothing.1
+    go false = class_none h look line (made_name (tokens_of text)) before after told (class_of (table_names before) (tokens_of text)) nothing.1 nothing.2
 statement_calls g h look line text old new before after told (inl it) = go (is_unclosed text) it
   where
     go : (is_open : Bool) → MatchBool is_open (Declines g h look line text old new before after told (codes "incomplete input")) (ClassTurn g h look line text old new before after told (class_of (table_names before) (tokens_of text))) →
-        Called h (λ calls. MatchBool is_open (NoCommand calls) (CallsOfClass look line told calls (class_of (table_names before) (tokens_of text)))) before after
-    go true it = notes_none h before after it.1
+        Called h (λ calls. MatchBool is_open (calls ≡ []) (CallsOfClass look line told calls (made_name (tokens_of text)) (class_of (table_names before) (tokens_of text)))) before after
+    go true it = calls_nothing h before after it.1
     go false it = class_calls g h look line text old new before after told (class_of (table_names before) (tokens_of text)) it
 
 -- what only looks does what a note does that is refused
-looks_call : {S : Type 0} (h : Ghosts S) (old new : Known S) → OnlyLooks h old new → Called h NoCommand old new
-looks_call h old new looks = notes_one h old new [] false (record { was_up = looks.was_up; noted = looks.value; tables = looks.tables })
+looks_call : {S : Type 0} (h : Ghosts S) (old new : Known S) → OnlyLooks h old new → Called h MayRead old new
+looks_call h old new looks = (Noted [] false ∷ [], inr refl, (new, record { was_up = looks.was_up; noted = looks.value; tables = looks.tables }, refl))
 
-tables_calls : {P S : Type 0} (g : Ghosts P) (h : Ghosts S) (look : Look) (line : ℕ) (old new : Held P) (before after : Known S) (told : Told) → TablesTurn g h look line old new before after told → Called h NoCommand before after
+tables_calls : {P S : Type 0} (g : Ghosts P) (h : Ghosts S) (look : Look) (line : ℕ) (old new : Held P) (before after : Known S) (told : Told) → TablesTurn g h look line old new before after told → Called h MayRead before after
 tables_calls g h look line old new before after told (tables.lists noted looks is it) = looks_call h before after looks
 tables_calls g h look line old new before after told (tables.refused looks same tells) = looks_call h before after looks
 
-note_calls : {S : Type 0} (h : Ghosts S) (look : Look) (line : ℕ) (name : List ℕ) (old new : Known S) (told : Told) → NoteTurn h look line name old new told → Called h NoCommand old new
+note_calls : {S : Type 0} (h : Ghosts S) (look : Look) (line : ℕ) (name : List ℕ) (old new : Known S) (told : Told) → NoteTurn h look line name old new told → Called h (MayNote (Some name)) old new
 note_calls h look line name old new told it = notes_one h old new name it.is_noted it.notes
 
 -- ---- imports
@@ -114,25 +122,25 @@ text_calls : {S : Type 0} (h : Ghosts S) (look : Look) (line : ℕ) (what : Impo
 text_calls h look line what n rows before after told (executed it) = (Executed (Insert what.table None (map (fitted n) (records_in rows))) it.answer ∷ [], inl (it.answer, refl, it.tells), (after, it.executes, refl))
 text_calls h look line what n rows before after told (no_memory same is) = ([], inr (refl, codes "out of memory", is), same)
 
-new_calls : {P S : Type 0} (g : Ghosts P) (h : Ghosts S) (look : Look) (line : ℕ) (what : Import) (rows : List (ℕ × List (List ℕ))) (old new : Held P) (before after : Known S) (told : Told) → IntoNew g look line what rows h old new before after told → Called h NoCommand before after
-new_calls g h look line what rows old new before after told (no_header none same kept is) = notes_none h before after kept
-new_calls g h look line what rows old new before after told (too_wide first rest are wide same kept is) = notes_none h before after kept
+new_calls : {P S : Type 0} (g : Ghosts P) (h : Ghosts S) (look : Look) (line : ℕ) (what : Import) (rows : List (ℕ × List (List ℕ))) (old new : Held P) (before after : Known S) (told : Told) → IntoNew g look line what rows h old new before after told → Called h (MayNote (Some what.table)) before after
+new_calls g h look line what rows old new before after told (no_header none same kept is) = notes_none h (Some what.table) before after kept
+new_calls g h look line what rows old new before after told (too_wide first rest are wide same kept is) = notes_none h (Some what.table) before after kept
 new_calls g h look line what rows old new before after told (imports.made first rest are narrow commits (end, notes, is)) = note_calls h look line what.table before after end notes
-new_calls g h look line what rows old new before after told (declined first rest are narrow why kept is) = notes_none h before after kept
-new_calls g h look line what rows old new before after told (no_memory kept is) = notes_none h before after kept
+new_calls g h look line what rows old new before after told (declined first rest are narrow why kept is) = notes_none h (Some what.table) before after kept
+new_calls g h look line what rows old new before after told (no_memory kept is) = notes_none h (Some what.table) before after kept
 
-plain_import_calls : {P S : Type 0} (g : Ghosts P) (h : Ghosts S) (look : Look) (line : ℕ) (what : Import) (rows : List (ℕ × List (List ℕ))) (old new : Held P) (before after : Known S) (told : Told) → PlainImport g look line what rows h old new before after told → Called h NoCommand before after
-plain_import_calls g h look line what rows old new before after told (there found tries same it) = notes_none h before after same
+plain_import_calls : {P S : Type 0} (g : Ghosts P) (h : Ghosts S) (look : Look) (line : ℕ) (what : Import) (rows : List (ℕ × List (List ℕ))) (old new : Held P) (before after : Known S) (told : Told) → PlainImport g look line what rows h old new before after told → Called h (MayNote (Some what.table)) before after
+plain_import_calls g h look line what rows old new before after told (there found tries same it) = notes_none h (Some what.table) before after same
 plain_import_calls g h look line what rows old new before after told (new_table found tries it) = new_calls g h look line what rows found new before after told it
-plain_import_calls g h look line what rows old new before after told (untried tries same is) = notes_none h before after same
+plain_import_calls g h look line what rows old new before after told (untried tries same is) = notes_none h (Some what.table) before after same
 
-module _ {P S : Type 0} (g : Ghosts P) (h : Ghosts S) (look : Look) (line : ℕ) (what : Import) (old new : Held P) (before after : Known S) (told : Told) (holds : List ℕ → Option (List ℕ)) where
+module _ {P S : Type 0} (g : Ghosts P) (h : Ghosts S) (look : Look) (line : ℕ) (what : Import) (old new : Held P) (before after : Known S) (told : Told) (holds : Files) where
   abbrev ImportCalls : Option ℕ → Type 0
   ImportCalls found = Called h (λ calls. CallsOfImport look line told calls holds what found) before after
 
   -- where nothing is called, and a fault line is told
   import_none : (why : List ℕ) (there : Option ℕ) → after ≡ before → told ≡ blames look line why → ImportCalls there
-  import_none why None same is = notes_none h before after same
+  import_none why None same is = notes_none h (Some what.table) before after same
   import_none why (Some n) same is = ([], inr (refl, why, is), same)
 
   named_calls : (found : List (List (List ℕ))) → HasRecords look holds what found → (n : Option ℕ) → IntoNamed g h look line what old new before after told (kept what.skip found) n → ImportCalls n
@@ -151,9 +159,9 @@ module _ {P S : Type 0} (g : Ghosts P) (h : Ghosts S) (look : Look) (line : ℕ)
 
   file_calls : (delimiter : ℕ) → delimiter_of what.csv look ≡ Some delimiter → FileTurn g h look line what old new before after told holds delimiter → ImportCalls (columns_in before.tables what.table)
   file_calls delimiter parts (fetched bytes gives it) = bytes_calls delimiter bytes parts gives it
-  file_calls delimiter parts (unread nothing) = import_none (codes "cannot read file") (columns_in before.tables what.table) nothing.1 nothing.2
-  file_calls delimiter parts (too_big nothing) = import_none (codes "file too big") (columns_in before.tables what.table) nothing.1 nothing.2
-  file_calls delimiter parts (no_memory nothing) = import_none (codes "out of memory") (columns_in before.tables what.table) nothing.1 nothing.2
+  file_calls delimiter parts (unread fault is refused nothing) = import_none (codes "cannot read file") (columns_in before.tables what.table) nothing.1 nothing.2
+  file_calls delimiter parts (too_big refused nothing) = import_none (codes "file too big") (columns_in before.tables what.table) nothing.1 nothing.2
+  file_calls delimiter parts (no_memory refused nothing) = import_none (codes "out of memory") (columns_in before.tables what.table) nothing.1 nothing.2
 
   delimited_calls : (delimiter : Option ℕ) → delimiter_of what.csv look ≡ delimiter → DelimitedTurn g h look line what old new before after told holds delimiter → ImportCalls (columns_in before.tables what.table)
   delimited_calls None parts nothing = import_none (codes "bad separator") (columns_in before.tables what.table) nothing.1 nothing.2
@@ -162,13 +170,13 @@ module _ {P S : Type 0} (g : Ghosts P) (h : Ghosts S) (look : Look) (line : ℕ)
 -- ---- dot-commands, and whole turns
 
 dot_calls : {P S : Type 0} (g : Ghosts P) (h : Ghosts S) (line : ℕ) (old new : Shell P S) (told : Told) (command : DotCommand) → DotTurn g h line old new told command → Called h (λ calls. CallsOfDot line old told calls command) old.known new.known
-dot_calls g h line old new told Nothing it = notes_none h old.known new.known it.1
-dot_calls g h line old new told (SetMode mode) it = notes_none h old.known new.known it.1
-dot_calls g h line old new told (SetHeaders shown) it = notes_none h old.known new.known it.1
-dot_calls g h line old new told (SetSeparator text) it = notes_none h old.known new.known it.1
-dot_calls g h line old new told (SetNull text) it = notes_none h old.known new.known it.1
-dot_calls g h line old new told (SetEcho on) it = notes_none h old.known new.known it.1
-dot_calls g h line old new told (SetBail on) it = notes_none h old.known new.known it.1
+dot_calls g h line old new told Nothing it = calls_nothing h old.known new.known it.1
+dot_calls g h line old new told (SetMode mode) it = calls_nothing h old.known new.known it.1
+dot_calls g h line old new told (SetHeaders shown) it = calls_nothing h old.known new.known it.1
+dot_calls g h line old new told (SetSeparator text) it = calls_nothing h old.known new.known it.1
+dot_calls g h line old new told (SetNull text) it = calls_nothing h old.known new.known it.1
+dot_calls g h line old new told (SetEcho on) it = calls_nothing h old.known new.known it.1
+dot_calls g h line old new told (SetBail on) it = calls_nothing h old.known new.known it.1
 dot_calls g h line old new told (Print words) it = same_shell h old new it.0
 dot_calls g h line old new told (Importing what) it = delimited_calls g h old.look line what old.plain new.plain old.known new.known told old.holds (delimiter_of what.csv old.look) refl it.1
 dot_calls g h line old new told Tables it = tables_calls g h old.look line old.plain new.plain old.known new.known told it.1
@@ -185,14 +193,14 @@ dot_none h line old new told (SetNull text) same is = same_shell h old new same
 dot_none h line old new told (SetEcho on) same is = same_shell h old new same
 dot_none h line old new told (SetBail on) same is = same_shell h old new same
 dot_none h line old new told (Print words) same is = same_shell h old new same
-dot_none h line old new told Tables same is = same_shell h old new same
+dot_none h line old new told Tables same is = ([], inl refl, ap (λ (s : Shell _ _). s.known) same)
 dot_none h line old new told Quit same is = same_shell h old new same
 dot_none h line old new told (Usage text) same is = same_shell h old new same
 dot_none h line old new told Unknown same is = same_shell h old new same
 dot_none h line old new told (Importing what) same is = go (columns_in old.known.tables what.table)
   where
     go : (there : Option ℕ) → Called h (λ calls. CallsOfImport old.look line told calls old.holds what there) old.known new.known
-    go None = same_shell h old new same
+    go None = notes_none h (Some what.table) old.known new.known (ap (λ (s : Shell _ _). s.known) same)
     go (Some n) = ([], inr (refl, codes "out of memory", is), ap (λ (s : Shell _ _). s.known) same)
 
 -- what a member's turn calls

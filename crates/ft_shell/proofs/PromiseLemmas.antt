@@ -23,12 +23,16 @@ use Rattle.ft_shell.specs.Imports.{fitted}
 use Rattle.ft_shell.specs.ImportTurns.{columns_in, kept, records_in}
 use Rattle.ft_shell.specs.FullTextTurns.{reply_told}
 use Rattle.ft_shell.specs.StatementTurns.{table_names}
-use Rattle.ft_shell.specs.Told.{Told, Deeds, Tells, and_then, told_by, says, echoed, lacks_memory}
-use Rattle.ft_shell.specs.TurnCalls.{NoCommand, CallsOf, CallsOfClass, CallsOfDot, CallsOfImport, behind_stop}
+use Rattle.ft_shell.specs.Told.{Told, Deeds, Tells, idle, and_then, told_by, says, echoed, lacks_memory}
+use Rattle.ft_shell.specs.TurnCalls.{MayNote, MayRead, CallsOf, CallsOfClass, CallsOfDot, CallsOfImport, behind_stop}
 use Rattle.ft_shell.specs.Turns.{Turn, Turns}
 use Rattle.ft_shell.specs.Runs.{Completes, Console, IsFront, IsWhole, Stops}
-use Rattle.ft_shell.specs.Promise.{Ran, AllRan, last_ran, first_ran, Lists, Keeps, KeptByRuns, RanAndKept, parts_of}
+use Rattle.ft_shell.specs.Promise.{Ran, AllRan, none_ran, last_ran, first_ran, Reached, Lists, Keeps, KeptByRuns, RanAndKept, parts_of}
 use Rattle.ft_shell.proofs.CallsLemmas.{runs_join, turns_made}
+use Rattle.ft_shell.proofs.TurnsLemmas.{assoc_then, idle_then, turns_one, turns_then}
+use Rattle.ft_shell.specs.Broken.{Broken, not_begun, not_echoed, not_told}
+use Rattle.ft_shell.specs.Sources.{Files}
+use Rattle.ft_statements.specs.Plain.{made_name}
 
 -- ---- calls
 
@@ -81,6 +85,12 @@ no_more : {X : Type 0} (before more : List X) (x : X) → [] ≡ before ++ x ∷
 no_more [] more x is = let wrong = is in cc
 no_more (b ∷ before) more x is = let wrong = is in cc
 
+-- no command is executed: names are noted or read at most
+abbrev NoCommand : List Call → Type 0
+NoCommand [] = Unit {0}
+NoCommand (Executed command answer ∷ calls) = ⊥
+NoCommand (Noted name is_done ∷ calls) = NoCommand calls
+
 -- the calls of a turn: one command, or none
 abbrev Few : List Call → Type 0
 Few calls = NoCommand calls ⊎ ((command : Command) × (answer : Result Reply Fault) × (calls ≡ Executed command answer ∷ []))
@@ -88,39 +98,48 @@ Few calls = NoCommand calls ⊎ ((command : Command) × (answer : Result Reply F
 none_of : (calls : List Call) → calls ≡ [] → NoCommand calls
 none_of calls is = subst NoCommand (sym is) tt
 
-few_class : (look : Look) (line : ℕ) (told : Told) (calls : List Call) (class : Option Class) → CallsOfClass look line told calls class → Few calls
-few_class look line told calls None it = inl it
-few_class look line told calls (Some Plain) it = inl it
-few_class look line told calls (Some (FullText command)) (inl it) = inr (command, it.0, it.1)
-few_class look line told calls (Some (FullText command)) (inr it) = inl (none_of calls it.0)
+note_of : (made : Option (List ℕ)) (calls : List Call) → MayNote made calls → NoCommand calls
+note_of None calls is = none_of calls is
+note_of (Some name) calls (inl is) = none_of calls is
+note_of (Some name) calls (inr it) = subst NoCommand (sym it.1) tt
 
-few_import : (look : Look) (line : ℕ) (told : Told) (calls : List Call) (holds : List ℕ → Option (List ℕ)) (what : Import) (there : Option ℕ) → CallsOfImport look line told calls holds what there → Few calls
-few_import look line told calls holds what None it = inl it
+read_of : (calls : List Call) → MayRead calls → NoCommand calls
+read_of calls (inl is) = none_of calls is
+read_of calls (inr is) = subst NoCommand (sym is) tt
+
+few_class : (look : Look) (line : ℕ) (told : Told) (calls : List Call) (made : Option (List ℕ)) (class : Option Class) → CallsOfClass look line told calls made class → Few calls
+few_class look line told calls made None it = inl (none_of calls it)
+few_class look line told calls made (Some Plain) it = inl (note_of made calls it)
+few_class look line told calls made (Some (FullText command)) (inl it) = inr (command, it.0, it.1)
+few_class look line told calls made (Some (FullText command)) (inr it) = inl (none_of calls it.0)
+
+few_import : (look : Look) (line : ℕ) (told : Told) (calls : List Call) (holds : Files) (what : Import) (there : Option ℕ) → CallsOfImport look line told calls holds what there → Few calls
+few_import look line told calls holds what None it = inl (note_of (Some what.table) calls it)
 few_import look line told calls holds what (Some n) (inl it) = inr (Insert what.table None (map (fitted n) (records_in (kept what.skip it.0))), it.2.0, it.2.1)
 few_import look line told calls holds what (Some n) (inr it) = inl (none_of calls it.0)
 
 few_dot : {P S : Type 0} (line : ℕ) (old : Shell P S) (told : Told) (calls : List Call) (command : DotCommand) → CallsOfDot line old told calls command → Few calls
 few_dot line old told calls (Importing what) it = few_import old.look line told calls old.holds what (columns_in old.known.tables what.table) it
-few_dot line old told calls Nothing it = inl it
-few_dot line old told calls (SetMode mode) it = inl it
-few_dot line old told calls (SetHeaders shown) it = inl it
-few_dot line old told calls (SetSeparator text) it = inl it
-few_dot line old told calls (SetNull text) it = inl it
-few_dot line old told calls (SetEcho on) it = inl it
-few_dot line old told calls (SetBail on) it = inl it
-few_dot line old told calls (Print words) it = inl it
-few_dot line old told calls Tables it = inl it
-few_dot line old told calls Quit it = inl it
-few_dot line old told calls (Usage text) it = inl it
-few_dot line old told calls Unknown it = inl it
+few_dot line old told calls Nothing it = inl (none_of calls it)
+few_dot line old told calls (SetMode mode) it = inl (none_of calls it)
+few_dot line old told calls (SetHeaders shown) it = inl (none_of calls it)
+few_dot line old told calls (SetSeparator text) it = inl (none_of calls it)
+few_dot line old told calls (SetNull text) it = inl (none_of calls it)
+few_dot line old told calls (SetEcho on) it = inl (none_of calls it)
+few_dot line old told calls (SetBail on) it = inl (none_of calls it)
+few_dot line old told calls (Print words) it = inl (none_of calls it)
+few_dot line old told calls Tables it = inl (read_of calls it)
+few_dot line old told calls Quit it = inl (none_of calls it)
+few_dot line old told calls (Usage text) it = inl (none_of calls it)
+few_dot line old told calls Unknown it = inl (none_of calls it)
 
 few : {P S : Type 0} (member : Member) (old : Shell P S) (told : Told) (calls : List Call) → CallsOf member old told calls → Few calls
-few (units.Fault line fault) old told calls it = inl it
+few (units.Fault line fault) old told calls it = inl (none_of calls it)
 few (Sql line text) old told calls it = go (is_unclosed text) it
   where
-    go : (is_open : Bool) → MatchBool is_open (NoCommand calls) (CallsOfClass old.look line told calls (class_of (table_names old.known) (tokens_of text))) → Few calls
-    go true it = inl it
-    go false it = few_class old.look line told calls (class_of (table_names old.known) (tokens_of text)) it
+    go : (is_open : Bool) → MatchBool is_open (calls ≡ []) (CallsOfClass old.look line told calls (made_name (tokens_of text)) (class_of (table_names old.known) (tokens_of text))) → Few calls
+    go true it = inl (none_of calls it)
+    go false it = few_class old.look line told calls (made_name (tokens_of text)) (class_of (table_names old.known) (tokens_of text)) it
 few (Dot line text) old told calls it = few_dot line old told calls (dot_command_of (dot_words_of (behind_stop text))) it
 
 not_noted : (before more : List Call) (command : Command) (answer : Result Reply Fault) → NoCommand (before ++ Executed command answer ∷ more) → ⊥
@@ -137,67 +156,77 @@ few_is calls before more command answer (inr (c, a, one)) is = go before (sym on
     go (b ∷ before) same = absurd (no_more before more (Executed command answer) (let e = same in cc))
 
 module _ {P S : Type 0} (g : Ghosts P) (h : Ghosts S) where
-  -- a call's turn, among others
-  record At (old : Known S) (all : Deeds) (before : List Call) (command : Command) (answer : Result Reply Fault) (more : List Call) (new : Known S) : Type 0 where
+  -- a call's turn, among others, with what the turns before it did
+  record At (Reaches : Deeds → Shell P S → Type 0) (all : Deeds) (before : List Call) (command : Command) (answer : Result Reply Fault) (more : List Call) (new : Known S) : Type 0 where
     member : Member
     was : Shell P S
     now : Shell P S
+    earlier : Deeds
     own : Deeds
-    begins : Runs h old before was.known
+    later : Deeds
+    reached : Reaches earlier was
+    calls : earlier.calls ≡ before
     turn : Turn g h member was now own
     only : own.calls ≡ Executed command answer ∷ []
     ends : Runs h now.known more new
-    front : List ℕ
-    back : List ℕ
-    written : all.out ≡ front ++ (own.out ++ back)
+    out : all.out ≡ earlier.out ++ (own.out ++ later.out)
+    err : all.err ≡ earlier.err ++ (own.err ++ later.err)
 
-  at_turn : (members : List Member) (old new : Shell P S) (all : Deeds) → Turns g h members old new all → (before more : List Call) (command : Command) (answer : Result Reply Fault) → all.calls ≡ before ++ Executed command answer ∷ more → At old.known all before command answer more new.known
+  -- turns from this shell
+  abbrev From : Shell P S → Deeds → Shell P S → Type 0
+  From old earlier was = (members : List Member) × Turns g h members old was earlier
+
+  at_turn : (members : List Member) (old new : Shell P S) (all : Deeds) → Turns g h members old new all → (before more : List Call) (command : Command) (answer : Result Reply Fault) → all.calls ≡ before ++ Executed command answer ∷ more → At (From old) all before command answer more new.known
   at_turn [] old new all it before more command answer is = absurd (no_more before more (Executed command answer) (sym (ap (λ (d : Deeds). d.calls) it.1) ∙ is))
-  at_turn (member ∷ members) old new all (mid, first, turn, rest) before more command answer is = go (λ later turns b e. at_turn members mid new later turns b more command answer e) first.ends rest
+  at_turn (member ∷ members) old new all (mid, first, turn, rest) before more command answer is = go (λ later turns b e. at_turn members mid new later turns b more command answer e) first.ends refl rest
     where
-      here : first.calls ≡ before ++ Executed command answer ∷ [] → before ≡ [] → Runs h mid.known more new.known → (back : List ℕ) → all.out ≡ first.out ++ back → At old.known all before command answer more new.known
-      here own no_front ends back written = record {
+      here : first.calls ≡ before ++ Executed command answer ∷ [] → before ≡ [] → Runs h mid.known more new.known → (later : Deeds) → all.out ≡ first.out ++ later.out → all.err ≡ first.err ++ later.err → At (From old) all before command answer more new.known
+      here own no_front ends later out err = record {
         member = member;
         was = old;
         now = mid;
+        earlier = idle;
         own = first;
-        begins = subst (λ b. Runs h old.known b old.known) (sym no_front) refl;
+        later = later;
+        reached = ([], (refl, refl));
+        calls = sym no_front;
         turn = turn;
         only = own ∙ ap (λ b. b ++ Executed command answer ∷ []) no_front;
         ends = ends;
-        front = [];
-        back = back;
-        written = written;
+        out = out;
+        err = err;
       }
 
-      go : ((later : Deeds) → Turns g h members mid new later → (b : List Call) → later.calls ≡ b ++ Executed command answer ∷ more → At mid.known later b command answer more new.known) → (stops : Bool) →
-          MatchBool stops ((new ≡ mid) × (all ≡ first)) ((later : Deeds) × Turns g h members mid new later × (all ≡ and_then first later)) → At old.known all before command answer more new.known
-      go next true (same, all_is) =
+      go : ((later : Deeds) → Turns g h members mid new later → (b : List Call) → later.calls ≡ b ++ Executed command answer ∷ more → At (From mid) later b command answer more new.known) → (stops : Bool) → first.ends ≡ stops →
+          MatchBool stops ((new ≡ mid) × (all ≡ first)) ((later : Deeds) × Turns g h members mid new later × (all ≡ and_then first later)) → At (From old) all before command answer more new.known
+      go next true ended (same, all_is) =
           let own : first.calls ≡ before ++ Executed command answer ∷ more = sym (ap (λ (d : Deeds). d.calls) all_is) ∙ is in
           let alone = few_is first.calls before more command answer (few member old turn.body first.calls turn.spelled) own in
-          here (own ∙ ap (λ m. before ++ Executed command answer ∷ m) alone.1) alone.0 (subst (λ m. Runs h mid.known m new.known) (sym alone.1) (ap (λ (s : Shell P S). s.known) same)) []
-          (ap (λ (d : Deeds). d.out) all_is ∙ sym (append-nil first.out))
-      go next false (later, turns, all_is) = cut (split_at first.calls later.calls before more (Executed command answer) (sym (ap (λ (d : Deeds). d.calls) all_is) ∙ is))
+          here (own ∙ ap (λ m. before ++ Executed command answer ∷ m) alone.1) alone.0 (subst (λ m. Runs h mid.known m new.known) (sym alone.1) (ap (λ (s : Shell P S). s.known) same)) idle
+          (ap (λ (d : Deeds). d.out) all_is ∙ sym (append-nil first.out)) (ap (λ (d : Deeds). d.err) all_is ∙ sym (append-nil first.err))
+      go next false goes (later, turns, all_is) = cut (split_at first.calls later.calls before more (Executed command answer) (sym (ap (λ (d : Deeds). d.calls) all_is) ∙ is))
         where
-          cut : ((m : List Call) × (first.calls ≡ before ++ Executed command answer ∷ m) × (more ≡ m ++ later.calls)) ⊎ ((b : List Call) × (before ≡ first.calls ++ b) × (later.calls ≡ b ++ Executed command answer ∷ more)) → At old.known all before command answer more new.known
+          cut : ((m : List Call) × (first.calls ≡ before ++ Executed command answer ∷ m) × (more ≡ m ++ later.calls)) ⊎ ((b : List Call) × (before ≡ first.calls ++ b) × (later.calls ≡ b ++ Executed command answer ∷ more)) → At (From old) all before command answer more new.known
           cut (inl (m, own, left)) =
               let alone = few_is first.calls before m command answer (few member old turn.body first.calls turn.spelled) own in
-              here (own ∙ ap (λ k. before ++ Executed command answer ∷ k) alone.1) alone.0 (subst (λ k. Runs h mid.known k new.known) (sym (left ∙ ap (λ k. k ++ later.calls) alone.1)) (turns_made g h members mid new later turns)) later.out
-              (ap (λ (d : Deeds). d.out) all_is)
+              here (own ∙ ap (λ k. before ++ Executed command answer ∷ k) alone.1) alone.0 (subst (λ k. Runs h mid.known k new.known) (sym (left ∙ ap (λ k. k ++ later.calls) alone.1)) (turns_made g h members mid new later turns)) later
+              (ap (λ (d : Deeds). d.out) all_is) (ap (λ (d : Deeds). d.err) all_is)
           cut (inr (b, front, left)) =
               let it = next later turns b left in
               record {
                 member = it.member;
                 was = it.was;
                 now = it.now;
+                earlier = and_then first it.earlier;
                 own = it.own;
-                begins = subst (λ k. Runs h old.known k it.was.known) (sym front) (runs_join h old.known mid.known it.was.known first.calls b turn.made it.begins);
+                later = it.later;
+                reached = (member ∷ it.reached.0, (mid, first, turn, subst (λ ends. MatchBool ends ((it.was ≡ mid) × (and_then first it.earlier ≡ first)) ((rest : Deeds) × Turns g h it.reached.0 mid it.was rest × (and_then first it.earlier ≡ and_then first rest))) (sym goes) (it.earlier, it.reached.1, refl)));
+                calls = ap (λ cs. first.calls ++ cs) it.calls ∙ sym front;
                 turn = it.turn;
                 only = it.only;
                 ends = it.ends;
-                front = first.out ++ it.front;
-                back = it.back;
-                written = ap (λ (d : Deeds). d.out) all_is ∙ ap (λ o. first.out ++ o) it.written ∙ sym (append_assoc first.out it.front (it.own.out ++ it.back));
+                out = ap (λ (d : Deeds). d.out) all_is ∙ ap (λ o. first.out ++ o) it.out ∙ sym (append_assoc first.out it.earlier.out (it.own.out ++ it.later.out));
+                err = ap (λ (d : Deeds). d.err) all_is ∙ ap (λ o. first.err ++ o) it.err ∙ sym (append_assoc first.err it.earlier.err (it.own.err ++ it.later.err));
               }
 
 -- ---- runs
@@ -206,61 +235,100 @@ whole_made : {P S : Type 0} (g : Ghosts P) (h : Ghosts S) (left : Option (List �
 whole_made g h left bytes old new all (inl it) = (members_of bytes, it.2)
 whole_made g h left bytes old new all (inr it) = (members_of (take (2 ^ 30) bytes ++ []), it.1 [])
 
-front_made : {P S : Type 0} (g : Ghosts P) (h : Ghosts S) (left : Option (List ℕ)) (bytes : List ℕ) (old new : Shell P S) (all : Deeds) → IsFront g h left bytes old new all → (members : List Member) × Turns g h members old new all
-front_made g h left bytes old new all (inl it) = (take it.1.0 (members_of bytes), it.1.1)
-front_made g h left bytes old new all (inr it) = let begins = it [] in (take begins.0 (members_of (bytes ++ [])), begins.1)
+front_made : {P S : Type 0} (g : Ghosts P) (h : Ghosts S) (left : Option (List ℕ)) (bytes : List ℕ) (old new : Shell P S) (all : Deeds) (next : List Member) → IsFront g h left bytes old new all next → (members : List Member) × Turns g h members old new all
+front_made g h left bytes old new all next (inl it) = (take it.1.0 (members_of bytes), it.1.1)
+front_made g h left bytes old new all next (inr it) = let begins = it [] in (take begins.0 (members_of (bytes ++ [])), begins.1)
+
+-- with the turn that was done, and not told whole
+broken_made : {P S : Type 0} (g : Ghosts P) (h : Ghosts S) (fault : RunFault) (whole : Deeds) (members : List Member) (old mid new : Shell P S) (out out' err err' : Option (List ℕ)) (next : List Member) (all : Deeds) →
+    Turns g h members old mid whole → Broken g h fault whole mid new out out' err err' next all → (done : List Member) × Turns g h done old new all
+broken_made g h fault whole members old mid new out out' err err' next all turns (not_begun same no_out no_err) = (members, subst (λ s. Turns g h members old s whole) (sym same) turns)
+broken_made g h fault whole members old mid new out out' err err' next all turns (not_echoed member goes cause same part no_err) = (members, subst (λ s. Turns g h members old s whole) (sym same) turns)
+broken_made g h fault whole members old mid new out out' err err' next all turns (not_told member own front rest goes cause turn is written lines) =
+    (members ++ member ∷ [], turns_then g h members (member ∷ []) old mid new whole own turns goes (turns_one g h member mid new own turn))
 
 -- the turns of a run, however it ended
 ran_turns : {P S : Type 0} (g : Ghosts P) (h : Ghosts S) (ended : Result Status RunFault) (old new : Console P S) (all : Deeds) → Ran g h ended old new all → (members : List Member) × Turns g h members old.shell new.shell all
-ran_turns g h (Ok status) old new all (it, is) = let made = whole_made g h new.input it.read old.shell new.shell it.told it.turns in (made.0, subst (Turns g h made.0 old.shell new.shell) (sym is) made.1)
-ran_turns g h (Err fault) old new all (it, is) = let made = front_made g h new.input it.read old.shell new.shell it.told it.turns in (made.0, subst (Turns g h made.0 old.shell new.shell) (sym is) made.1)
+ran_turns g h (Ok status) old new all (it, is) = let made = whole_made g h new.input it.read old.shell new.shell it.deeds it.turns in (made.0, subst (Turns g h made.0 old.shell new.shell) (sym is) made.1)
+ran_turns g h (Err fault) old new all (it, is) =
+    let front = front_made g h new.input it.read old.shell it.mid it.whole it.next it.turns in
+    let made = broken_made g h fault it.whole front.0 old.shell it.mid new.shell it.mid_out new.out it.mid_err new.err it.next it.deeds front.1 it.broken in
+    (made.0, subst (Turns g h made.0 old.shell new.shell) (sym is) made.1)
 
 ran_made : {P S : Type 0} (g : Ghosts P) (h : Ghosts S) (ended : Result Status RunFault) (old new : Console P S) (all : Deeds) → Ran g h ended old new all → Runs h old.shell.known all.calls new.shell.known
 ran_made g h ended old new all ran = let it = ran_turns g h ended old new all ran in turns_made g h it.0 old.shell new.shell all it.1
 
 all_made : {P S : Type 0} (g : Ghosts P) (h : Ghosts S) (old new : Parts P S) (all : Deeds) → AllRan g h old all new → Runs h old.known all.calls new.known
+all_made g h old new all (none_ran parts) = refl
 all_made g h old new all (last_ran ended from to own ran) = ran_made g h ended from to own ran
 all_made g h old new all (first_ran ended from to own rest last ran later) =
     runs_join h from.shell.known to.shell.known last.known own.calls rest.calls (ran_made g h ended from to own ran) (all_made g h (parts_of to.shell) last rest later)
 
-at_run : {P S : Type 0} (g : Ghosts P) (h : Ghosts S) (ended : Result Status RunFault) (from to : Console P S) (all : Deeds) → Ran g h ended from to all → (before more : List Call) (command : Command) (answer : Result Reply Fault) → all.calls ≡ before ++ Executed command answer ∷ more → At g h from.shell.known all before command answer more to.shell.known
-at_run g h ended from to all ran before more command answer is = let it = ran_turns g h ended from to all ran in at_turn g h it.0 from.shell to.shell all it.1 before more command answer is
+-- in a run, behind none
+at_run : {P S : Type 0} (g : Ghosts P) (h : Ghosts S) (ended : Result Status RunFault) (from to : Console P S) (all : Deeds) → Ran g h ended from to all → (before more : List Call) (command : Command) (answer : Result Reply Fault) → all.calls ≡ before ++ Executed command answer ∷ more → At g h (Reached g h (parts_of from.shell)) all before command answer more to.shell.known
+at_run g h ended from to all ran before more command answer is =
+    let turns = ran_turns g h ended from to all ran in
+    let it = at_turn g h turns.0 from.shell to.shell all turns.1 before more command answer is in
+    record {
+      member = it.member;
+      was = it.was;
+      now = it.now;
+      earlier = it.earlier;
+      own = it.own;
+      later = it.later;
+      reached = record { whole = idle; start = from.shell; ran = none_ran (parts_of from.shell); members = it.reached.0; part = it.earlier; turns = it.reached.1; both = sym (idle_then it.earlier) };
+      calls = it.calls;
+      turn = it.turn;
+      only = it.only;
+      ends = it.ends;
+      out = it.out;
+      err = it.err;
+    }
 
-at_all : {P S : Type 0} (g : Ghosts P) (h : Ghosts S) (old new : Parts P S) (all : Deeds) → AllRan g h old all new → (before more : List Call) (command : Command) (answer : Result Reply Fault) → all.calls ≡ before ++ Executed command answer ∷ more → At g h old.known all before command answer more new.known
+at_all : {P S : Type 0} (g : Ghosts P) (h : Ghosts S) (old new : Parts P S) (all : Deeds) → AllRan g h old all new → (before more : List Call) (command : Command) (answer : Result Reply Fault) → all.calls ≡ before ++ Executed command answer ∷ more → At g h (Reached g h old) all before command answer more new.known
+at_all g h old new all (none_ran parts) before more command answer is = absurd (no_more before more (Executed command answer) is)
 at_all g h old new all (last_ran ended from to own ran) before more command answer is = at_run g h ended from to own ran before more command answer is
-at_all {P} {S} g h old new all (first_ran ended from to own rest last ran later) before more command answer is = cut (λ b left. at_all g h (parts_of to.shell) last rest later b more command answer left) (split_at own.calls rest.calls before more (Executed command answer) is)
+at_all {P} {S} g h old new all (first_ran ended from to own rest last ran others) before more command answer is = cut (λ b left. at_all g h (parts_of to.shell) last rest others b more command answer left) (split_at own.calls rest.calls before more (Executed command answer) is)
   where
-    cut : ((b : List Call) → rest.calls ≡ b ++ Executed command answer ∷ more → At g h to.shell.known rest b command answer more last.known) → ((m : List Call) × (own.calls ≡ before ++ Executed command answer ∷ m) × (more ≡ m ++ rest.calls)) ⊎ ((b : List Call) × (before ≡ own.calls ++ b) × (rest.calls ≡ b ++ Executed command answer ∷ more)) →
-        At g h from.shell.known (and_then own rest) before command answer more last.known
+    cut : ((b : List Call) → rest.calls ≡ b ++ Executed command answer ∷ more → At g h (Reached g h (parts_of to.shell)) rest b command answer more last.known) → ((m : List Call) × (own.calls ≡ before ++ Executed command answer ∷ m) × (more ≡ m ++ rest.calls)) ⊎ ((b : List Call) × (before ≡ own.calls ++ b) × (rest.calls ≡ b ++ Executed command answer ∷ more)) →
+        At g h (Reached g h (parts_of from.shell)) (and_then own rest) before command answer more last.known
     cut next (inl (m, mine, left)) =
         let it = at_run g h ended from to own ran before m command answer mine in
         record {
           member = it.member;
           was = it.was;
           now = it.now;
+          earlier = it.earlier;
           own = it.own;
-          begins = it.begins;
+          later = and_then it.later rest;
+          reached = it.reached;
+          calls = it.calls;
           turn = it.turn;
           only = it.only;
-          ends = subst (λ k. Runs h it.now.known k last.known) (sym left) (runs_join h it.now.known to.shell.known last.known m rest.calls it.ends (all_made g h (parts_of to.shell) last rest later));
-          front = it.front;
-          back = it.back ++ rest.out;
-          written = ap (λ o. o ++ rest.out) it.written ∙ append_assoc it.front (it.own.out ++ it.back) rest.out ∙ ap (λ o. it.front ++ o) (append_assoc it.own.out it.back rest.out);
+          ends = subst (λ k. Runs h it.now.known k last.known) (sym left) (runs_join h it.now.known to.shell.known last.known m rest.calls it.ends (all_made g h (parts_of to.shell) last rest others));
+          out = behind it.earlier.out it.own.out it.later.out rest.out it.out;
+          err = behind it.earlier.err it.own.err it.later.err rest.err it.err;
         }
+      where
+        behind : {xs : List ℕ} (front mine back end : List ℕ) → xs ≡ front ++ (mine ++ back) → xs ++ end ≡ front ++ (mine ++ (back ++ end))
+        behind front mine back end is = ap (λ o. o ++ end) is ∙ append_assoc front (mine ++ back) end ∙ ap (λ o. front ++ o) (append_assoc mine back end)
     cut next (inr (b, front, left)) =
         let it = next b left in
+        let r = it.reached in
         record {
           member = it.member;
           was = it.was;
           now = it.now;
+          earlier = and_then own it.earlier;
           own = it.own;
-          begins = subst (λ k. Runs h from.shell.known k it.was.known) (sym front) (runs_join h from.shell.known to.shell.known it.was.known own.calls b (ran_made g h ended from to own ran) it.begins);
+          later = it.later;
+          reached = record { whole = and_then own r.whole; start = r.start; ran = first_ran ended from to own r.whole (parts_of r.start) ran r.ran; members = r.members; part = r.part; turns = r.turns; both = ap (and_then own) r.both ∙ sym (assoc_then own r.whole r.part) };
+          calls = ap (λ cs. own.calls ++ cs) it.calls ∙ sym front;
           turn = it.turn;
           only = it.only;
           ends = it.ends;
-          front = own.out ++ it.front;
-          back = it.back;
-          written = ap (λ o. own.out ++ o) it.written ∙ sym (append_assoc own.out it.front (it.own.out ++ it.back));
+          out = ap (λ o. own.out ++ o) it.out ∙ sym (append_assoc own.out it.earlier.out (it.own.out ++ it.later.out));
+          err = ap (λ o. own.err ++ o) it.err ∙ sym (append_assoc own.err it.earlier.err (it.own.err ++ it.later.err));
         }
 
 -- ---- a Select's turn
@@ -272,58 +340,62 @@ module _ (table : List ℕ) (items : Items) (filter : Filter) (limit : Option �
   not_none : NoCommand selected → ⊥
   not_none it = it
 
-  select_class : (look : Look) (line : ℕ) (told : Told) (class : Option Class) → CallsOfClass look line told selected class → Tells look line (says (reply_text look reply)) told
-  select_class look line told None it = absurd (not_none it)
-  select_class look line told (Some Plain) it = absurd (not_none it)
-  select_class look line told (Some (FullText command)) (inl (answer, is, tells)) =
+  select_class : (look : Look) (line : ℕ) (told : Told) (made : Option (List ℕ)) (class : Option Class) → CallsOfClass look line told selected made class → Tells look line (says (reply_text look reply)) told
+  select_class look line told made None it = absurd (not_none (none_of selected it))
+  select_class look line told made (Some Plain) it = absurd (not_none (note_of made selected it))
+  select_class look line told made (Some (FullText command)) (inl (answer, is, tells)) =
       let same : answer ≡ Ok reply = (let e = is in cc) in
       subst (λ a. Tells look line (reply_told look line a) told) same tells
-  select_class look line told (Some (FullText command)) (inr it) = absurd (let wrong = it.0 in cc)
+  select_class look line told made (Some (FullText command)) (inr it) = absurd (let wrong = it.0 in cc)
 
-  select_import : (look : Look) (line : ℕ) (told : Told) (holds : List ℕ → Option (List ℕ)) (what : Import) (there : Option ℕ) → CallsOfImport look line told selected holds what there → ⊥
-  select_import look line told holds what None it = not_none it
+  select_import : (look : Look) (line : ℕ) (told : Told) (holds : Files) (what : Import) (there : Option ℕ) → CallsOfImport look line told selected holds what there → ⊥
+  select_import look line told holds what None it = not_none (note_of (Some what.table) selected it)
   select_import look line told holds what (Some n) (inl it) = let wrong = it.2.1 in cc
   select_import look line told holds what (Some n) (inr it) = let wrong = it.0 in cc
 
   select_dot : {P S : Type 0} (line : ℕ) (old : Shell P S) (told : Told) (command : DotCommand) → CallsOfDot line old told selected command → ⊥
   select_dot line old told (Importing what) it = select_import old.look line told old.holds what (columns_in old.known.tables what.table) it
-  select_dot line old told Nothing it = not_none it
-  select_dot line old told (SetMode mode) it = not_none it
-  select_dot line old told (SetHeaders shown) it = not_none it
-  select_dot line old told (SetSeparator text) it = not_none it
-  select_dot line old told (SetNull text) it = not_none it
-  select_dot line old told (SetEcho on) it = not_none it
-  select_dot line old told (SetBail on) it = not_none it
-  select_dot line old told (Print words) it = not_none it
-  select_dot line old told Tables it = not_none it
-  select_dot line old told Quit it = not_none it
-  select_dot line old told (Usage text) it = not_none it
-  select_dot line old told Unknown it = not_none it
+  select_dot line old told Nothing it = not_none (none_of selected it)
+  select_dot line old told (SetMode mode) it = not_none (none_of selected it)
+  select_dot line old told (SetHeaders shown) it = not_none (none_of selected it)
+  select_dot line old told (SetSeparator text) it = not_none (none_of selected it)
+  select_dot line old told (SetNull text) it = not_none (none_of selected it)
+  select_dot line old told (SetEcho on) it = not_none (none_of selected it)
+  select_dot line old told (SetBail on) it = not_none (none_of selected it)
+  select_dot line old told (Print words) it = not_none (none_of selected it)
+  select_dot line old told Tables it = not_none (read_of selected it)
+  select_dot line old told Quit it = not_none (none_of selected it)
+  select_dot line old told (Usage text) it = not_none (none_of selected it)
+  select_dot line old told Unknown it = not_none (none_of selected it)
 
   select_sql : {P S : Type 0} (line : ℕ) (text : List ℕ) (old : Shell P S) (told : Told) → CallsOf (Sql line text) old told selected → Tells old.look line (says (reply_text old.look reply)) told
   select_sql line text old told it = go (is_unclosed text) it
     where
-      go : (is_open : Bool) → MatchBool is_open (NoCommand selected) (CallsOfClass old.look line told selected (class_of (table_names old.known) (tokens_of text))) → Tells old.look line (says (reply_text old.look reply)) told
-      go true it = absurd (not_none it)
-      go false it = select_class old.look line told (class_of (table_names old.known) (tokens_of text)) it
+      go : (is_open : Bool) → MatchBool is_open (selected ≡ []) (CallsOfClass old.look line told selected (made_name (tokens_of text)) (class_of (table_names old.known) (tokens_of text))) → Tells old.look line (says (reply_text old.look reply)) told
+      go true it = absurd (not_none (none_of selected it))
+      go false it = select_class old.look line told (made_name (tokens_of text)) (class_of (table_names old.known) (tokens_of text)) it
 
-  select_lists : {P S : Type 0} (g : Ghosts P) (h : Ghosts S) (old new : Parts P S) (all : Deeds) (before more : List Call) → At g h old.known all before (Select table items filter limit offset) (Ok reply) more new.known → Lists g h old all before more new reply
+  select_lists : {P S : Type 0} (g : Ghosts P) (h : Ghosts S) (old new : Parts P S) (all : Deeds) (before more : List Call) → At g h (Reached g h old) all before (Select table items filter limit offset) (Ok reply) more new.known → Lists g h old all before more new reply
   select_lists {P} {S} g h old new all before more it = go it.member it.turn
     where
       go : (member : Member) → Turn g h member it.was it.now it.own → Lists g h old all before more new reply
-      go (units.Fault line fault) turn = absurd (not_none (subst NoCommand it.only turn.spelled))
+      go (units.Fault line fault) turn = absurd (not_none (none_of selected (sym it.only ∙ turn.spelled)))
       go (Dot line text) turn = absurd (select_dot line it.was turn.body (dot_command_of (dot_words_of (behind_stop text))) (subst (λ calls. CallsOfDot line it.was turn.body calls (dot_command_of (dot_words_of (behind_stop text)))) it.only turn.spelled))
       go (Sql line text) turn = record {
         line = line;
         text = text;
         was = it.was;
         now = it.now;
+        earlier = it.earlier;
         own = it.own;
-        begins = it.begins;
+        later = it.later;
+        reached = it.reached;
+        calls = it.calls;
         turn = turn;
         ends = it.ends;
         prints = told (select_sql line text it.was turn.body (subst (λ calls. CallsOf (Sql line text) it.was turn.body calls) it.only turn.spelled));
-        written = (it.front, it.back, it.written);
+        out = it.out;
+        err = it.err;
       }
         where
           told : Tells it.was.look line (says (reply_text it.was.look reply)) turn.body → (told_by it.own ≡ echoed it.was.look text (says (reply_text it.was.look reply))) ⊎ (told_by it.own ≡ echoed it.was.look text (lacks_memory it.was.look line))
@@ -349,5 +421,5 @@ kept_by_runs g h law sound first old new all held ran up =
 
 -- one run, however it ends
 pub ran_and_kept : {P S : Type 0} (g : Ghosts P) (h : Ghosts S) (ended : Result Status RunFault) (old new : Console P S) → IfOk ended (λ status. Completes g h status old new) → IfErr ended (λ fault. Stops g h fault old new) → KeptByRuns g h (IsUp h) → RanAndKept g h ended old new
-ran_and_kept g h (Ok status) old new ran cut law = (ran.told, (ran, refl), λ first held up. law first (parts_of old.shell) (parts_of new.shell) ran.told held (last_ran (Ok status) old new ran.told (ran, refl)) up)
-ran_and_kept g h (Err fault) old new ran cut law = (cut.told, (cut, refl), λ first held up. law first (parts_of old.shell) (parts_of new.shell) cut.told held (last_ran (Err fault) old new cut.told (cut, refl)) up)
+ran_and_kept g h (Ok status) old new ran cut law = (ran.deeds, (ran, refl), λ first held up. law first (parts_of old.shell) (parts_of new.shell) ran.deeds held (last_ran (Ok status) old new ran.deeds (ran, refl)) up)
+ran_and_kept g h (Err fault) old new ran cut law = (cut.deeds, (cut, refl), λ first held up. law first (parts_of old.shell) (parts_of new.shell) cut.deeds held (last_ran (Err fault) old new cut.deeds (cut, refl)) up)

@@ -3,7 +3,7 @@ use Rattle.std.specs.Prelude.{IfErr}
 use Rattle.std.proofs.Common.{◌≡◌, ◌≢◌, ◌⊎◌, ℕ, zero, suc, ◌+◌, ◌-◌, ◌^◌, ◌<◌, ◌≤◌, Bool, true, false, ◌||◌, List, [], ◌∷◌, ◌++◌, length, take, drop, Option, Some, None, Result, Err, refl, sym, ap, subst, ◌∙◌, arith, append-nil, append_assoc, length-append, inl, inr}
 use Rattle.std.specs.Io.KnownBytes.{Consumes, IsAtEnd, Keeps}
 use Rattle.std.proofs.lemmas.List.{take_all, take-append-drop}
-use Rattle.std.proofs.Math.Seq.{take-append-add, take-append_seam}
+use Rattle.std.proofs.Math.Seq.{take-append-add, take-append_seam, drop-append_seam}
 use Rattle.sqlite.specs.Store.{Ghosts}
 use Rattle.shell_text.specs.Units.{Member, members_of, start, lines_of}
 use Rattle.shell_text.specs.Splitting.{given_by}
@@ -107,53 +107,57 @@ passes_kept g h due left a b out kept it = record {
   done = it.done;
   front = it.front;
   did = record {
-    told = it.did.told;
+    deeds = it.did.deeds;
     turns = it.did.turns;
-    out = appends_kept a.out b.out out it.did.told.out it.did.out kept;
+    out = appends_kept a.out b.out out it.did.deeds.out it.did.out kept;
     err = it.did.err;
     faults = it.did.faults;
     quit = it.did.quit;
   };
 }
 
+-- it may be flushed before the next piece is read
+pub so_far_kept : {P S : Type 0} (g : Ghosts P) (h : Ghosts S) (most total : ℕ) (before after : Option (List ℕ)) (left : Fed) (a b : Moment P S) (out : Option (List ℕ)) → SoFar g h most total before after left a b → Keeps b.out out → SoFar g h most total before after left a (record b { out = out })
+so_far_kept g h most total before after left a b out so kept = record { read = so.read; consumed = so.consumed; size = so.size; passes = passes_kept g h _ _ a b out kept so.passes }
+
 -- ---- a run that ended well
 
 -- what was done ended the session
-ended_by : {P S : Type 0} (g : Ghosts P) (h : Ghosts S) (members : List Member) (a b : Moment P S) (d : Did g h members a b) → a.status.quit ≡ false → b.status.quit ≡ true → d.told.ends ≡ true
-ended_by g h members a b d began ended = ap (λ q. q || d.told.ends) (sym began) ∙ sym d.quit ∙ ended
+ended_by : {P S : Type 0} (g : Ghosts P) (h : Ghosts S) (members : List Member) (a b : Moment P S) (d : Did g h members a b) → a.status.quit ≡ false → b.status.quit ≡ true → d.deeds.ends ≡ true
+ended_by g h members a b d began ended = ap (λ q. q || d.deeds.ends) (sym began) ∙ sym d.quit ∙ ended
 
-whole_at_end : {P S : Type 0} (g : Ghosts P) (h : Ghosts S) (after : Option (List ℕ)) (read : List ℕ) (a b : Moment P S) (p : Passes g h (λ (_ : Unit {0}). members_of read) (λ _. []) a b) → a.status.quit ≡ false → IsAtEnd after → length read ≤ 2 ^ 30 → IsWhole g h after read a.shell b.shell p.did.told
+whole_at_end : {P S : Type 0} (g : Ghosts P) (h : Ghosts S) (after : Option (List ℕ)) (read : List ℕ) (a b : Moment P S) (p : Passes g h (λ (_ : Unit {0}). members_of read) (λ _. []) a b) → a.status.quit ≡ false → IsAtEnd after → length read ≤ 2 ^ 30 → IsWhole g h after read a.shell b.shell p.did.deeds
 whole_at_end g h after read a b p began at_end fits = inl (at_end, fits, go b.status.quit refl)
   where
-    go : (quit : Bool) → b.status.quit ≡ quit → Session g h read a.shell b.shell p.did.told
+    go : (quit : Bool) → b.status.quit ≡ quit → Session g h read a.shell b.shell p.did.deeds
     go false is =
         let all : members_of read ≡ p.done = (p.front tt).1 ∙ ap (λ ms. p.done ++ ms) ((p.front tt).2 is) ∙ append-nil p.done in
-        subst (λ ms. Turns g h ms a.shell b.shell p.did.told) (sym all) p.did.turns
+        subst (λ ms. Turns g h ms a.shell b.shell p.did.deeds) (sym all) p.did.turns
     go true is =
-        subst (λ ms. Turns g h ms a.shell b.shell p.did.told) (sym (p.front tt).1)
-        (turns_ended g h p.done (p.front tt).0 a.shell b.shell p.did.told p.did.turns (ended_by g h p.done a b p.did began is))
+        subst (λ ms. Turns g h ms a.shell b.shell p.did.deeds) (sym (p.front tt).1)
+        (turns_ended g h p.done (p.front tt).0 a.shell b.shell p.did.deeds p.did.turns (ended_by g h p.done a b p.did began is))
 
 split_members : (most : ℕ) (read rest : List ℕ) → members_of (read ++ rest) ≡ members_of (take most read ++ (drop most read ++ rest))
 split_members most read rest = ap members_of (ap (λ xs. xs ++ rest) (sym (take-append-drop most read)) ∙ append_assoc (take most read) (drop most read) rest)
 
 whole_by_turn : {P S : Type 0} (g : Ghosts P) (h : Ghosts S) (after : Option (List ℕ)) (most : ℕ) (read : List ℕ) (left : List ℕ → List Member) (a b : Moment P S) (p : Passes g h (λ (rest : List ℕ). members_of (take most read ++ rest)) left a b) →
-    most ≡ 2 ^ 30 → a.status.quit ≡ false → b.status.quit ≡ true → IsWhole g h after read a.shell b.shell p.did.told
+    most ≡ 2 ^ 30 → a.status.quit ≡ false → b.status.quit ≡ true → IsWhole g h after read a.shell b.shell p.did.deeds
 whole_by_turn g h after most read left a b p size began ended =
     let ends = ended_by g h p.done a b p.did began ended in
     inr (
       ends,
       λ rest.
           let all : members_of (take (2 ^ 30) read ++ rest) ≡ p.done ++ (p.front rest).0 = ap (λ m. members_of (take m read ++ rest)) (sym size) ∙ (p.front rest).1 in
-          subst (λ ms. Turns g h ms a.shell b.shell p.did.told) (sym all) (turns_ended g h p.done (p.front rest).0 a.shell b.shell p.did.told p.did.turns ends),
+          subst (λ ms. Turns g h ms a.shell b.shell p.did.deeds) (sym all) (turns_ended g h p.done (p.front rest).0 a.shell b.shell p.did.deeds p.did.turns ends),
     )
 
 completes_by : {P S W : Type 0} (g : Ghosts P) (h : Ghosts S) (due left : W → List Member) (before after : Option (List ℕ)) (read : List ℕ) (shell : Shell P S) (out err : Option (List ℕ)) (b : Moment P S) (p : Passes g h due left (opening shell out err) b) →
-    Consumes before after read → IsWhole g h after read shell b.shell p.did.told → b.status.faults < 2 ^ 64 →
+    Consumes before after read → IsWhole g h after read shell b.shell p.did.deeds → b.status.faults < 2 ^ 64 →
     Completes g h b.status (record { shell = shell; input = before; out = out; err = err }) (record { shell = b.shell; input = after; out = b.out; err = b.err })
 completes_by g h due left before after read shell out err b p consumed whole fits = record {
   read = read;
   consumed = consumed;
-  told = p.did.told;
+  deeds = p.did.deeds;
   turns = whole;
   out = p.did.out;
   err = p.did.err;
@@ -180,20 +184,30 @@ completes g h most total room n before mid after left left' shell out err out' b
 
 -- ---- a run that is cut short
 
-begun : {P S : Type 0} (g : Ghosts P) (h : Ghosts S) (input : List ℕ) (done more : List Member) (old new : Shell P S) (told : Deeds) → members_of input ≡ done ++ more → Turns g h done old new told → Begins g h input old new told
-begun g h input done more old new told is turns = (length done, subst (λ ms. Turns g h ms old new told) (sym (ap (take (length done)) is ∙ take-append_seam done more)) turns)
+begun : {P S : Type 0} (g : Ghosts P) (h : Ghosts S) (input : List ℕ) (done next more : List Member) (old new : Shell P S) (all : Deeds) → members_of input ≡ done ++ (next ++ more) → Turns g h done old new all → Begins g h input old new all next
+begun g h input done next more old new all is turns = (
+  length done,
+  subst (λ ms. Turns g h ms old new all) (sym (ap (take (length done)) is ∙ take-append_seam done (next ++ more))) turns,
+  more,
+  ap (drop (length done)) is ∙ drop-append_seam done (next ++ more),
+)
 
 stops_by : {P S W : Type 0} (g : Ghosts P) (h : Ghosts S) (fault : RunFault) (due : W → List Member) (before after : Option (List ℕ)) (read : List ℕ) (shell : Shell P S) (out err : Option (List ℕ)) (b : Moment P S) (p : Breaks g h fault due (opening shell out err) b) →
-    Consumes before after read → IsFront g h after read shell b.shell p.cut.told → (fault ≡ causes.TooMuch → (2 ^ 30 < length read) × ((rest : List ℕ) → Begins g h (take (2 ^ 30) read ++ rest) shell b.shell p.cut.told)) → (fault ≡ causes.Read → length read ≤ 2 ^ 30) →
+    Consumes before after read → IsFront g h after read shell p.cut.mid.shell p.cut.did.deeds p.next → (fault ≡ causes.TooMuch → (2 ^ 30 < length read) × ((rest : List ℕ) → Begins g h (take (2 ^ 30) read ++ rest) shell p.cut.mid.shell p.cut.did.deeds p.next)) → (fault ≡ causes.Read → length read ≤ 2 ^ 30) →
     Stops g h fault (record { shell = shell; input = before; out = out; err = err }) (record { shell = b.shell; input = after; out = b.out; err = b.err })
 stops_by g h fault due before after read shell out err b p consumed front much least = record {
   read = read;
   consumed = consumed;
-  told = p.cut.told;
+  whole = p.cut.did.deeds;
+  mid = p.cut.mid.shell;
+  mid_out = p.cut.mid.out;
+  mid_err = p.cut.mid.err;
+  next = p.next;
   turns = front;
-  out = p.cut.out;
-  err = p.cut.err;
-  whole = p.cut.whole;
+  out = p.cut.did.out;
+  err = p.cut.did.err;
+  deeds = p.cut.deeds;
+  broken = p.cut.broken;
   much = much;
   least = least;
 }
@@ -202,15 +216,15 @@ stops_at_end : {P S : Type 0} (g : Ghosts P) (h : Ghosts S) (fault : RunFault) (
     Consumes before after read → IsAtEnd after → fault ≢ causes.TooMuch → length read ≤ 2 ^ 30 →
     Stops g h fault (record { shell = shell; input = before; out = out; err = err }) (record { shell = b.shell; input = after; out = b.out; err = b.err })
 stops_at_end g h fault before after read shell out err b p consumed at_end other fits =
-    stops_by g h fault _ before after read shell out err b p consumed (inl (at_end, begun g h read p.done (p.front tt).0 shell b.shell p.cut.told (p.front tt).1 p.cut.turns)) (λ much. absurd (other much)) (λ _. fits)
+    stops_by g h fault _ before after read shell out err b p consumed (inl (at_end, begun g h read p.done p.next (p.front tt).0 shell p.cut.mid.shell p.cut.did.deeds (p.front tt).1 p.cut.did.turns)) (λ much. absurd (other much)) (λ _. fits)
 
 stops_within : {P S : Type 0} (g : Ghosts P) (h : Ghosts S) (fault : RunFault) (most : ℕ) (before after : Option (List ℕ)) (read : List ℕ) (shell : Shell P S) (out err : Option (List ℕ)) (b : Moment P S) → most ≡ 2 ^ 30 → Breaks g h fault (λ (rest : List ℕ). members_of (take most read ++ rest)) (opening shell out err) b →
     Consumes before after read → (fault ≡ causes.TooMuch → most < length read) → (fault ≡ causes.Read → length read ≤ most) →
     Stops g h fault (record { shell = shell; input = before; out = out; err = err }) (record { shell = b.shell; input = after; out = b.out; err = b.err })
 stops_within g h fault most before after read shell out err b size p consumed much least =
     stops_by g h fault _ before after read shell out err b p consumed
-    (inr (λ rest. begun g h (read ++ rest) p.done (p.front (drop most read ++ rest)).0 shell b.shell p.cut.told (split_members most read rest ∙ (p.front (drop most read ++ rest)).1) p.cut.turns))
-    (λ is. (subst (λ m. m < length read) size (much is), λ rest. begun g h (take (2 ^ 30) read ++ rest) p.done (p.front rest).0 shell b.shell p.cut.told (ap (λ m. members_of (take m read ++ rest)) (sym size) ∙ (p.front rest).1) p.cut.turns))
+    (inr (λ rest. begun g h (read ++ rest) p.done p.next (p.front (drop most read ++ rest)).0 shell p.cut.mid.shell p.cut.did.deeds (split_members most read rest ∙ (p.front (drop most read ++ rest)).1) p.cut.did.turns))
+    (λ is. (subst (λ m. m < length read) size (much is), λ rest. begun g h (take (2 ^ 30) read ++ rest) p.done p.next (p.front rest).0 shell p.cut.mid.shell p.cut.did.deeds (ap (λ m. members_of (take m read ++ rest)) (sym size) ∙ (p.front rest).1) p.cut.did.turns))
     (λ is. subst (λ m. length read ≤ m) size (least is))
 
 -- nothing was read
@@ -251,6 +265,14 @@ stops_in_piece g h fault most total room before mid after left shell out err b c
         stops_at_end g h fault before after so.read shell out err c
         (breaks_then g h fault _ (λ _. members_left left []) (opening shell out err) b c (run_to_end g h most total before mid left (opening shell out err) b so fits) goes last)
         (consumes_to_end before mid after so.read piece.bytes so.consumed piece.consumed none) at_end (not_much piece.cause) (omega (arith, so.size, fits, size))
+
+-- what was run was not flushed
+pub stops_unflushed : {P S : Type 0} (g : Ghosts P) (h : Ghosts S) (fault : RunFault) (most total : ℕ) (before after : Option (List ℕ)) (left : Fed) (shell : Shell P S) (out err out' : Option (List ℕ)) (b : Moment P S) → most ≡ 2 ^ 30 → SoFar g h most total before after left (opening shell out err) b → Keeps b.out out' → fault ≡ causes.Write →
+    Stops g h fault (record { shell = shell; input = before; out = out; err = err }) (record { shell = b.shell; input = after; out = out'; err = b.err })
+stops_unflushed g h fault most total before after left shell out err out' b size so kept cause =
+    let flushed = so_far_kept g h most total before after left (opening shell out err) b out' so kept in
+    stops_within g h fault most before after so.read shell out err (record b { out = out' }) size (breaks_after g h fault _ _ (opening shell out err) (record b { out = out' }) flushed.passes) so.consumed
+    (λ much. absurd (let wrong : causes.Write ≡ causes.TooMuch = sym cause ∙ much in cc)) (λ is. absurd (let wrong : causes.Write ≡ causes.Read = sym cause ∙ is in cc))
 
 -- all was run, and the last flush was refused
 pub stops_at_flush : {P S : Type 0} (g : Ghosts P) (h : Ghosts S) (fault : RunFault) (most total room n : ℕ) (before mid after : Option (List ℕ)) (left left' : Fed) (shell : Shell P S) (out err out' : Option (List ℕ)) (b c : Moment P S) → most ≡ 2 ^ 30 →

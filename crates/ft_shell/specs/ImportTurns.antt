@@ -20,7 +20,9 @@ use Rattle.ft_shell.specs.FullTextTurns.{NoteTurn}
 use Rattle.ft_shell.specs.Imports.{delimiter_of, fitted, warnings}
 use Rattle.ft_shell.specs.PlainImports.{HasColumns, Stays, Keeps, import_steps, CommitsAll, Declines, Uncounted}
 use Rattle.ft_shell.specs.PlainStatements.{IfClean}
-use Rattle.ft_shell.specs.Sources.{Gives}
+use Rattle.ft_shell.specs.Sources.{Files, Gives, Refuses}
+use Rattle.ft_shell.specs.declared.source.SourceFault.{SourceFault}
+use Rattle.ft_shell.specs.declared.source.SourceFault.TheVariants as sources
 use Rattle.ft_statements.specs.Statements.{is_named}
 use Rattle.ft_shell.specs.TablesTurns.{Tries}
 use Rattle.ft_statements.specs.Texts.{fault_text}
@@ -124,17 +126,17 @@ module _ {P S : Type 0} (g : Ghosts P) (h : Ghosts S) (look : Look) (line : ℕ)
     no_text : IsNoText (csv_reader delimiter) bytes → Declined (codes "file is not UTF-8") → BytesTurn delimiter bytes
     no_memory : Declined (codes "out of memory") → BytesTurn delimiter bytes
 
-  -- the file's bytes are those that its name holds, if they are there
-  pub data FileTurn (holds : List ℕ → Option (List ℕ)) (delimiter : ℕ) : Type 0 where
+  -- the file's bytes are those that its name holds, if they are there; each fault of a fetch has its text
+  pub data FileTurn (holds : Files) (delimiter : ℕ) : Type 0 where
     fetched : (bytes : List ℕ) → Gives holds what.file bytes → BytesTurn delimiter bytes → FileTurn holds delimiter
-    unread : Declined (codes "cannot read file") → FileTurn holds delimiter
-    too_big : Declined (codes "file too big") → FileTurn holds delimiter
-    no_memory : Declined (codes "out of memory") → FileTurn holds delimiter
+    unread : (fault : SourceFault) → (fault ≡ sources.Missing) ⊎ (fault ≡ sources.Read) → Refuses holds what.file fault → Declined (codes "cannot read file") → FileTurn holds delimiter
+    too_big : Refuses holds what.file sources.TooBig → Declined (codes "file too big") → FileTurn holds delimiter
+    no_memory : Refuses holds what.file sources.Memory → Declined (codes "out of memory") → FileTurn holds delimiter
 
   -- the delimiter is tested first
-  abbrev pub DelimitedTurn : (List ℕ → Option (List ℕ)) → Option ℕ → Type 0
+  abbrev pub DelimitedTurn : Files → Option ℕ → Type 0
   DelimitedTurn holds None = Declined (codes "bad separator")
   DelimitedTurn holds (Some delimiter) = FileTurn holds delimiter
 
-  abbrev pub ImportTurn : (List ℕ → Option (List ℕ)) → Type 0
+  abbrev pub ImportTurn : Files → Type 0
   ImportTurn holds = DelimitedTurn holds (delimiter_of what.csv look)

@@ -4,6 +4,7 @@ pub mod ToldViews
 pub mod Shell
 pub mod Sources
 pub mod Answers
+pub mod Broken
 pub mod FullTextTurns
 pub mod PlainStatements
 pub mod StatementTurns

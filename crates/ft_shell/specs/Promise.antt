@@ -2,7 +2,7 @@
 use Rattle.std.specs.Prelude.{ℕ, ℤ, ◌≡◌, ◌⊎◌, List, [], ◌∷◌, ◌++◌, Option, Result, Ok, Err, IsTrue}
 use Rattle.std.specs.List.{list_any}
 use Rattle.sqlite.specs.Store.{Ghosts}
-use Rattle.shell_text.specs.Units.{Sql}
+use Rattle.shell_text.specs.Units.{Member, Sql}
 use Rattle.ft_store.specs.Kept.{shows}
 use Rattle.ft_content.specs.declared.fault.Fault.{Fault}
 use Rattle.ft_content.specs.Command.{Command, Filter, Items, Reply, Select}
@@ -13,8 +13,8 @@ use Rattle.ft_shell.specs.declared.session.Status.{Status}
 use Rattle.ft_shell.specs.declared.session.RunFault.{RunFault}
 use Rattle.ft_shell.specs.Shell.{Parts, Shell}
 use Rattle.ft_statements.specs.Replies.{reply_text}
-use Rattle.ft_shell.specs.Told.{Deeds, and_then, told_by, says, echoed, lacks_memory}
-use Rattle.ft_shell.specs.Turns.{Turn}
+use Rattle.ft_shell.specs.Told.{Deeds, idle, and_then, told_by, says, echoed, lacks_memory}
+use Rattle.ft_shell.specs.Turns.{Turn, Turns}
 use Rattle.ft_shell.specs.Runs.{Console, Completes, Stops}
 
 -- ---- runs
@@ -25,30 +25,46 @@ parts_of shell = record { look = shell.look; plain = shell.plain; known = shell.
 module _ {P S : Type 0} (g : Ghosts P) (h : Ghosts S) where
   -- A run, however it ended, with what its turns told and the calls that they made of the full-text tables.
   abbrev pub Ran : Result Status RunFault → Console P S → Console P S → Deeds → Type 0
-  Ran (Ok status) old new all = (it : Completes g h status old new) × (all ≡ it.told)
-  Ran (Err fault) old new all = (it : Stops g h fault old new) × (all ≡ it.told)
+  Ran (Ok status) old new all = (it : Completes g h status old new) × (all ≡ it.deeds)
+  Ran (Err fault) old new all = (it : Stops g h fault old new) × (all ≡ it.deeds)
 
-  -- Any runs one after another, with what all their turns told and called. Each has an input, writers and files of its own, and begins
-  -- with what the one before it left.
+  -- Any runs one after another, or none, with what all their turns told and called. Each has an input, writers and files of its own, and
+  -- begins with what the one before it left.
   pub data AllRan : Parts P S → Deeds → Parts P S → Type 0 where
+    none_ran : (parts : Parts P S) → AllRan parts idle parts
     last_ran : (ended : Result Status RunFault) (old new : Console P S) (all : Deeds) → Ran ended old new all → AllRan (parts_of old.shell) all (parts_of new.shell)
     first_ran : (ended : Result Status RunFault) (old new : Console P S) (all rest : Deeds) (last : Parts P S) → Ran ended old new all → AllRan (parts_of new.shell) rest last → AllRan (parts_of old.shell) (and_then all rest) last
+
+  -- Turns from the first of runs up to one of their shells: all those of some runs, and then a front of the turns of one more.
+  pub record Reached (old : Parts P S) (earlier : Deeds) (was : Shell P S) : Type 0 where
+    pub whole : Deeds
+    pub start : Shell P S
+    pub ran : AllRan old whole (parts_of start)
+    pub members : List Member
+    pub part : Deeds
+    pub turns : Turns g h members start was part
+    pub both : earlier ≡ and_then whole part
 
 -- ---- the promise
 
 module _ {P S : Type 0} (g : Ghosts P) (h : Ghosts S) where
-  -- The turn of a Select among all calls: what it writes is the reply by the settings that are in force there, or it lacks memory for it.
+  -- The turn of a Select among all calls. What it tells is the reply by the settings that are in force there, or that it lacks memory for
+  -- it, and stands on both outputs between what the turns before it and those after it tell.
   pub record Lists (old : Parts P S) (all : Deeds) (before more : List Call) (new : Parts P S) (reply : Reply) : Type 0 where
     pub line : ℕ
     pub text : List ℕ
     pub was : Shell P S
     pub now : Shell P S
+    pub earlier : Deeds
     pub own : Deeds
-    pub begins : Runs h old.known before was.known
+    pub later : Deeds
+    pub reached : Reached g h old earlier was
+    pub calls : earlier.calls ≡ before
     pub turn : Turn g h (Sql line text) was now own
     pub ends : Runs h now.known more new.known
     pub prints : (told_by own ≡ echoed was.look text (says (reply_text was.look reply))) ⊎ (told_by own ≡ echoed was.look text (lacks_memory was.look line))
-    pub written : (front : List ℕ) × (back : List ℕ) × (all.out ≡ front ++ (own.out ++ back))
+    pub out : all.out ≡ earlier.out ++ (own.out ++ later.out)
+    pub err : all.err ≡ earlier.err ++ (own.err ++ later.err)
 
   -- What runs leave of full-text tables that held these contents before them.
   pub record Keeps (first : Contents) (old : Parts P S) (all : Deeds) (new : Parts P S) : Type 0 where

@@ -9,7 +9,7 @@ use Rattle.ft_shell.specs.declared.session.RunFault.TheVariants as causes
 use Rattle.ft_shell.specs.Shell.{Shell}
 use Rattle.ft_shell.specs.Told.{Deeds}
 use Rattle.ft_shell.specs.Turns.{Turns}
-use Rattle.ft_shell.specs.Writing.{AppendsUpTo}
+use Rattle.ft_shell.specs.Broken.{Broken}
 use Rattle.ft_shell.specs.Feeds.{Fed, members_left}
 
 -- a shell with the status of its run, and what the two writers hold where that is known
@@ -23,20 +23,19 @@ module _ {P S : Type 0} (g : Ghosts P) (h : Ghosts S) where
   -- The members' turns were done one after the other, and what they tell was written and counted. The count of fault lines stays at
   -- 2 ^ 64 - 1 once there.
   pub record Did (members : List Member) (old new : Moment P S) : Type 0 where
-    pub told : Deeds
-    pub turns : Turns g h members old.shell new.shell told
-    pub out : Appends old.out new.out told.out
-    pub err : Appends old.err new.err told.err
-    pub faults : min new.status.faults (2 ^ 64 - 1) ≡ min (old.status.faults + told.faults) (2 ^ 64 - 1)
-    pub quit : new.status.quit ≡ (old.status.quit || told.ends)
+    pub deeds : Deeds
+    pub turns : Turns g h members old.shell new.shell deeds
+    pub out : Appends old.out new.out deeds.out
+    pub err : Appends old.err new.err deeds.err
+    pub faults : min new.status.faults (2 ^ 64 - 1) ≡ min (old.status.faults + deeds.faults) (2 ^ 64 - 1)
+    pub quit : new.status.quit ≡ (old.status.quit || deeds.ends)
 
-  -- The members' turns were done, and what they tell was written, or a front of it where a writer refused more.
-  pub record Cut (fault : RunFault) (members : List Member) (old new : Moment P S) : Type 0 where
-    pub told : Deeds
-    pub turns : Turns g h members old.shell new.shell told
-    pub out : AppendsUpTo old.out new.out told.out
-    pub err : AppendsUpTo old.err new.err told.err
-    pub whole : (fault ≡ causes.Write) ⊎ (Appends old.out new.out told.out × Appends old.err new.err told.err)
+  -- The members' turns were done and told whole, and then what they are part of was cut short, before these.
+  pub record Cut (fault : RunFault) (members next : List Member) (old new : Moment P S) : Type 0 where
+    pub mid : Moment P S
+    pub did : Did members old mid
+    pub deeds : Deeds
+    pub broken : Broken g h fault did.deeds mid.shell new.shell mid.out new.out mid.err new.err next deeds
 
   -- Of the members that are due, however the input goes on, a front was done. Where the session goes on, the others are left.
   pub record Passes {W : Type 0} (due left : W → List Member) (old new : Moment P S) : Type 0 where
@@ -47,8 +46,9 @@ module _ {P S : Type 0} (g : Ghosts P) (h : Ghosts S) where
   -- Of the members that are due, however the input goes on, a front was done, up to a fault.
   pub record Breaks {W : Type 0} (fault : RunFault) (due : W → List Member) (old new : Moment P S) : Type 0 where
     pub done : List Member
-    pub front : (way : W) → (more : List Member) × (due way ≡ done ++ more)
-    pub cut : Cut fault done old new
+    pub next : List Member
+    pub front : (way : W) → (more : List Member) × (due way ≡ done ++ (next ++ more))
+    pub cut : Cut fault done next old new
 
   -- what cuts short what is done with bytes that were read
   abbrev pub IsInside : RunFault → Type 0

@@ -2,13 +2,14 @@
 use Rattle.std.specs.Prelude.{ℕ, ◌≡◌, ◌⊎◌, ◌<◌, ◌≤◌, ◌-◌, ◌^◌, min, true, List, ◌++◌, length, take, Option}
 use Rattle.std.specs.Io.KnownBytes.{Appends, Consumes, IsAtEnd}
 use Rattle.sqlite.specs.Store.{Ghosts}
+use Rattle.shell_text.specs.Units.{Member}
 use Rattle.ft_shell.specs.declared.session.Status.{Status}
 use Rattle.ft_shell.specs.declared.session.RunFault.{RunFault}
 use Rattle.ft_shell.specs.declared.session.RunFault.TheVariants as causes
 use Rattle.ft_shell.specs.Shell.{Shell}
 use Rattle.ft_shell.specs.Told.{Deeds}
 use Rattle.ft_shell.specs.Turns.{Session, Begins}
-use Rattle.ft_shell.specs.Writing.{AppendsUpTo}
+use Rattle.ft_shell.specs.Broken.{Broken}
 
 -- a shell with the bytes that its reader has left and those that its two writers hold, where they are known
 pub record Console (P S : Type 0) : Type 0 where
@@ -21,32 +22,38 @@ module _ {P S : Type 0} (g : Ghosts P) (h : Ghosts S) where
   -- The input of which these bytes were read was run whole: there is no more of it, and it isn't too much; or a turn ended the session that
   -- isn't past 2 ^ 30 bytes, whatever more there is.
   abbrev pub IsWhole : Option (List ℕ) → List ℕ → Shell P S → Shell P S → Deeds → Type 0
-  IsWhole left read old new told = (IsAtEnd left × (length read ≤ 2 ^ 30) × Session g h read old new told) ⊎ ((told.ends ≡ true) × ((rest : List ℕ) → Session g h (take (2 ^ 30) read ++ rest) old new told))
+  IsWhole left read old new all = (IsAtEnd left × (length read ≤ 2 ^ 30) × Session g h read old new all) ⊎ ((all.ends ≡ true) × ((rest : List ℕ) → Session g h (take (2 ^ 30) read ++ rest) old new all))
 
-  -- A front of the turns of the input of which these bytes were read was done: there is no more of it, or whatever more there is.
-  abbrev pub IsFront : Option (List ℕ) → List ℕ → Shell P S → Shell P S → Deeds → Type 0
-  IsFront left read old new told = (IsAtEnd left × Begins g h read old new told) ⊎ ((rest : List ℕ) → Begins g h (read ++ rest) old new told)
+  -- A front of the turns of the input of which these bytes were read was done, before these members: there is no more of it, or whatever
+  -- more there is.
+  abbrev pub IsFront : Option (List ℕ) → List ℕ → Shell P S → Shell P S → Deeds → List Member → Type 0
+  IsFront left read old new all next = (IsAtEnd left × Begins g h read old new all next) ⊎ ((rest : List ℕ) → Begins g h (read ++ rest) old new all next)
 
   -- The input was run whole, and all that its turns tell was written. The count of fault lines stays at 2 ^ 64 - 1 once there.
   pub record Completes (status : Status) (old new : Console P S) : Type 0 where
     pub read : List ℕ
     pub consumed : Consumes old.input new.input read
-    pub told : Deeds
-    pub turns : IsWhole new.input read old.shell new.shell told
-    pub out : Appends old.out new.out told.out
-    pub err : Appends old.err new.err told.err
-    pub faults : status.faults ≡ min told.faults (2 ^ 64 - 1)
-    pub quit : status.quit ≡ told.ends
+    pub deeds : Deeds
+    pub turns : IsWhole new.input read old.shell new.shell deeds
+    pub out : Appends old.out new.out deeds.out
+    pub err : Appends old.err new.err deeds.err
+    pub faults : status.faults ≡ min deeds.faults (2 ^ 64 - 1)
+    pub quit : status.quit ≡ deeds.ends
 
-  -- A front of the input's turns was done, and what they tell was written, or a front of it where a writer refused more. An input is too
-  -- much only past 2 ^ 30 bytes, and what is done then doesn't hang on what is past them; past them no more is read.
+  -- A front of the input's turns was done and told whole, and then the run was cut short. An input is too much only past 2 ^ 30 bytes, and
+  -- what is done then doesn't hang on what is past them; past them no more is read.
   pub record Stops (fault : RunFault) (old new : Console P S) : Type 0 where
     pub read : List ℕ
     pub consumed : Consumes old.input new.input read
-    pub told : Deeds
-    pub turns : IsFront new.input read old.shell new.shell told
-    pub out : AppendsUpTo old.out new.out told.out
-    pub err : AppendsUpTo old.err new.err told.err
-    pub whole : (fault ≡ causes.Write) ⊎ (Appends old.out new.out told.out × Appends old.err new.err told.err)
-    pub much : fault ≡ causes.TooMuch → (2 ^ 30 < length read) × ((rest : List ℕ) → Begins g h (take (2 ^ 30) read ++ rest) old.shell new.shell told)
+    pub whole : Deeds
+    pub mid : Shell P S
+    pub mid_out : Option (List ℕ)
+    pub mid_err : Option (List ℕ)
+    pub next : List Member
+    pub turns : IsFront new.input read old.shell mid whole next
+    pub out : Appends old.out mid_out whole.out
+    pub err : Appends old.err mid_err whole.err
+    pub deeds : Deeds
+    pub broken : Broken g h fault whole mid new.shell mid_out new.out mid_err new.err next deeds
+    pub much : fault ≡ causes.TooMuch → (2 ^ 30 < length read) × ((rest : List ℕ) → Begins g h (take (2 ^ 30) read ++ rest) old.shell mid whole next)
     pub least : fault ≡ causes.Read → length read ≤ 2 ^ 30

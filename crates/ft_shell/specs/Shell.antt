@@ -1,18 +1,19 @@
 -- What a session stands on between two turns.
-use Rattle.std.specs.Prelude.{ℕ, List, Option, refl}
+use Rattle.std.specs.Prelude.{refl}
 use Rattle.std.specs.Coded.{Coded, code_by, coded×}
 use Rattle.sqlite.specs.Held.{Held, held_code}
 use Rattle.shell_text.specs.Print.{Look}
 use Rattle.shell_text.specs.contracts.settings.Settings as settings
 use Rattle.ft_index.specs.Kept.{Known, known_code}
+use Rattle.ft_shell.specs.Sources.{Files}
 
--- The settings, the connection to the plain database over a store P, the full-text tables over a store S, and the bytes of the files
--- that can be imported, where they are known.
+-- The settings, the connection to the plain database over a store P, the full-text tables over a store S, and what is known of the files
+-- that can be imported.
 pub record Shell (P S : Type 0) : Type 0 where
   pub look : Look
   pub plain : Held P
   pub known : Known S
-  pub holds : List ℕ → Option (List ℕ)
+  pub holds : Files
 
 -- the same without the files, which a session is lent for a run
 pub record Parts (P S : Type 0) : Type 0 where
@@ -24,5 +25,5 @@ abbrev pub parts_code : {P S : Type 0} → Coded P → Coded S → Coded (Parts 
 parts_code {P} {S} p s = code_by (Look × (Held P × Known S)) (coded× settings.the_row.coded (coded× (held_code p) (known_code s))) (λ a. (a.look, (a.plain, a.known))) (λ t. record { look = t.0; plain = t.1.0; known = t.1.1 }) (λ _. refl)
 
 -- a session with the files that it is lent
-abbrev pub lent : {P S : Type 0} → Parts P S → (List ℕ → Option (List ℕ)) → Shell P S
+abbrev pub lent : {P S : Type 0} → Parts P S → Files → Shell P S
 lent parts holds = record { look = parts.look; plain = parts.plain; known = parts.known; holds = holds }

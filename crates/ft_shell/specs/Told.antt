@@ -26,9 +26,13 @@ blames look line text = record { out = []; err = fault_line line text; faults = 
 abbrev pub warned : List ℕ → Told
 warned lines = record { out = []; err = lines; faults = 0; ends = false }
 
--- where echo is on, a unit's text and a line feed stand before what it tells
+-- where echo is on, a unit's text and a line feed are written before the unit is run
+abbrev pub echo_text : Look → List ℕ → List ℕ
+echo_text look text = if look.echo then text ++ 10 ∷ [] else []
+
+-- so they stand before what it tells
 abbrev pub echoed : Look → List ℕ → Told → Told
-echoed look text told = record told { out = (if look.echo then text ++ 10 ∷ [] else []) ++ told.out }
+echoed look text told = record told { out = echo_text look text ++ told.out }
 
 -- what a turn tells, and then what the turns after it tell
 abbrev pub followed : Told → Told → Told
@@ -56,8 +60,8 @@ idle = record { out = []; err = []; faults = 0; ends = false; calls = [] }
 abbrev pub told_by : Deeds → Told
 told_by all = record { out = all.out; err = all.err; faults = all.faults; ends = all.ends }
 
-abbrev pub deeds : Told → List Call → Deeds
-deeds told calls = record { out = told.out; err = told.err; faults = told.faults; ends = told.ends; calls = calls }
+abbrev pub deeds_of : Told → List Call → Deeds
+deeds_of told calls = record { out = told.out; err = told.err; faults = told.faults; ends = told.ends; calls = calls }
 
 -- what turns do, and then what the turns after them do
 abbrev pub and_then : Deeds → Deeds → Deeds

@@ -1,6 +1,6 @@
 -- A session: the turns of an input's members, one after the other, each from what the turn before it left. What a unit is told as is
 -- that of its kind; echo and bail are of the section "Special commands to sqlite3 (dot-commands)" of "Command Line Shell For SQLite".
-use Rattle.std.specs.Prelude.{ℕ, ◌≡◌, ◌⊎◌, MatchBool, List, [], ◌∷◌, take}
+use Rattle.std.specs.Prelude.{ℕ, ◌≡◌, ◌⊎◌, MatchBool, List, [], ◌∷◌, ◌++◌, take, drop}
 use Rattle.sqlite.specs.Store.{Ghosts}
 use Rattle.shell_text.specs.Units.{Member, Sql, Dot, Fault, members_of}
 use Rattle.shell_text.specs.Dot.{dot_words_of}
@@ -11,7 +11,14 @@ use Rattle.ft_shell.specs.DotTurns.{DotTurn}
 use Rattle.ft_shell.specs.StatementTurns.{StatementTurn}
 use Rattle.ft_index.specs.Kept.{Runs}
 use Rattle.ft_shell.specs.TurnCalls.{CallsOf, behind_stop}
-use Rattle.ft_shell.specs.Told.{Told, Deeds, told_by, idle, and_then, blames, echoed, lacks_memory}
+use Rattle.ft_shell.specs.Told.{Told, Deeds, told_by, idle, and_then, blames, echo_text, echoed, lacks_memory}
+use Rattle.shell_text.specs.Print.{Look}
+
+-- what is written of a member before it is run
+abbrev pub echo_of : Look → Member → List ℕ
+echo_of look (Fault line fault) = []
+echo_of look (Sql line text) = echo_text look text
+echo_of look (Dot line text) = echo_text look text
 
 module _ {P S : Type 0} (g : Ghosts P) (h : Ghosts S) where
   -- a dot-command's turn, or, for want of memory, nothing
@@ -48,6 +55,6 @@ module _ {P S : Type 0} (g : Ghosts P) (h : Ghosts S) where
   abbrev pub Session : List ℕ → Shell P S → Shell P S → Deeds → Type 0
   Session input old new all = Turns (members_of input) old new all
 
-  -- a front of an input's turns
-  abbrev pub Begins : List ℕ → Shell P S → Shell P S → Deeds → Type 0
-  Begins input old new all = (count : ℕ) × Turns (take count (members_of input)) old new all
+  -- a front of an input's turns, before these members
+  abbrev pub Begins : List ℕ → Shell P S → Shell P S → Deeds → List Member → Type 0
+  Begins input old new all next = (count : ℕ) × Turns (take count (members_of input)) old new all × (more : List Member) × (drop count (members_of input) ≡ next ++ more)

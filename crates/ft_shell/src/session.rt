@@ -12,6 +12,7 @@ ghost use Rattle.ft_shell.specs.Runs.{Completes, Stops};
 ghost use Rattle.ft_shell.specs.Promise.{IsOpen, KeptByRuns, RanAndKept};
 ghost use Rattle.ft_index.specs.Kept.{IsUp};
 ghost use Rattle.ft_shell.specs.Shell.{lent};
+ghost use Rattle.ft_shell.specs.Sources.{Files};
 
 use crate::feed::{Feed, Refusal, is_memory};
 use crate::source::Source;
@@ -122,12 +123,13 @@ impl<P: Alter, S: Alter> Session<P, S> {
     }
 
     /// Runs the units of an input in turn, up to one that ends the session. Whatever a unit is refused for, the run goes
-    /// on. However the run ends, the full-text tables are what the accepted commands make of them.
+    /// on. However the run ends, the full-text tables are what the accepted commands make of them. The output is flushed
+    /// before each read of the input, so that whoever waits for an answer has it, before each fault line, and at the end.
     ///
     /// # Errors
     ///
     /// `Read` or `Write` where the reader or a writer fails, `TooMuch` past 2^30 bytes of input, and `Memory` where there is
-    /// none to read a line. What was done before stands.
+    /// none to read a line. What was done before stands. A unit whose echo is refused is not run.
     pub fn run<R: Read, O: Write, E: Write, F: Source>(
         &mut self,
         reader: &mut R,
@@ -177,6 +179,7 @@ impl<P: Alter, S: Alter> Session<P, S> {
         };
         let mut total: usize = 0;
         while total <= MOST_INPUT {
+            flush(out)?;
             let read = self.read_piece(
                 reader,
                 chunk.as_mut_slice(),
@@ -346,7 +349,7 @@ impl<P: Alter, S: Alter> Session<P, S> {
             (record { shell = lent self.new (F.holds source.new); status = status.new; out = O.contents out.new; err = E.contents err.new }) }
         ensures source { (name : List ℕ) → F.holds source.new name ≡ F.holds source.old name }
     {
-        let echo = self.settings.echo();
+        echo_text(self.settings.echo(), unit.text.as_str(), out)?;
         let told = unit_turn(
             self.alloc,
             &mut self.settings,
@@ -355,7 +358,6 @@ impl<P: Alter, S: Alter> Session<P, S> {
             source,
             unit,
         );
-        echo_text(echo, unit.text.as_str(), out)?;
         tell(&told, status, out, err)
     }
 
@@ -367,7 +369,7 @@ impl<P: Alter, S: Alter> Session<P, S> {
         out: &mut O,
         err: &mut E,
     ) -> Result<(), RunFault>
-        ensures { (holds : List ℕ → Option (List ℕ)) → Runs P.Store S.Store result (λ (rest : List Member). Fault refusal.now.line refusal.now.fault ∷ rest) (λ (rest : List Member). rest)
+        ensures { (holds : Files) → Runs P.Store S.Store result (λ (rest : List Member). Fault refusal.now.line refusal.now.fault ∷ rest) (λ (rest : List Member). rest)
             (record { shell = lent self.old holds; status = status.old; out = O.contents out.old; err = E.contents err.old })
             (record { shell = lent self.new holds; status = status.new; out = O.contents out.new; err = E.contents err.new }) }
     {
@@ -383,7 +385,7 @@ impl<P: Alter, S: Alter> Session<P, S> {
         out: &mut O,
         err: &mut E,
     ) -> Result<(), RunFault>
-        ensures { (holds : List ℕ → Option (List ℕ)) → Runs P.Store S.Store result (λ (rest : List Member). refused_as refused.now ++ rest) (λ (rest : List Member). rest)
+        ensures { (holds : Files) → Runs P.Store S.Store result (λ (rest : List Member). refused_as refused.now ++ rest) (λ (rest : List Member). rest)
             (record { shell = lent self.old holds; status = status.old; out = O.contents out.old; err = E.contents err.old })
             (record { shell = lent self.new holds; status = status.new; out = O.contents out.new; err = E.contents err.new }) }
     {

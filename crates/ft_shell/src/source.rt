@@ -1,6 +1,6 @@
 // Where an import's file comes from.
-ghost use Rattle.std.specs.Prelude.{◌≡◌, ℕ, List, Option, IfOk, IfSome};
-ghost use Rattle.ft_shell.specs.Sources.{Gives};
+ghost use Rattle.std.specs.Prelude.{◌≡◌, ℕ, List, IfOk, IfErr};
+ghost use Rattle.ft_shell.specs.Sources.{Files, Gives, Refuses};
 
 use std::alloc::Global;
 use thiserror::Error;
@@ -21,11 +21,12 @@ pub enum SourceFault {
 
 /// Files by their names.
 pub trait Source {
-    /// The bytes that a name holds, where they are known. They stay so.
-    ghost holds: { Self → List ℕ → Option (List ℕ) };
+    /// What is known of the file of each name. It stays so.
+    ghost holds: { Self → Files };
 
     /// A file's bytes, at most 64 MiB of them.
     fn fetch(&mut self, alloc: Global, name: &str) -> Result<Vec<u8>, SourceFault>
         ensures bytes { IfOk result (λ bytes. Gives (holds self.old) name.now bytes.items) }
+        ensures refused { IfErr result (λ fault. Refuses (holds self.old) name.now fault) }
         ensures same { (other : List ℕ) → holds self.new other ≡ holds self.old other };
 }

@@ -22,9 +22,9 @@ mod turns;
 struct TwoFiles;
 
 impl Source for TwoFiles {
-    ghost use Rattle.std.specs.Prelude.{None};
+    ghost use Rattle.std.specs.Prelude.{None, true};
 
-    ghost holds = { λ _ name. None };
+    ghost holds = { λ _ name. record { bytes = None; may_refuse = λ fault. true } };
 
     fn fetch(&mut self, alloc: Global, name: &str) -> Result<Vec<u8>, SourceFault> {
         let bytes = match name {

@@ -12,4 +12,4 @@ returns-in-Ok-clause-turn g c =
     (subst (λ b. BytesTurn g.P.Store g.S.Store c.args.settings.now c.args.line (import_as c.args.what.now) c.args.plain.now c.bytes_turn.new.plain c.args.full.now c.bytes_turn.new.full (told_as c.bytes_turn.result) c.args.delimiter b) c.as_slice.ensures.value c.bytes_turn.ensures)
 
 pub returns-in-Err-Missing-clause-turn : goal.returns-in-Err-Missing-clause-turn
-returns-in-Err-Missing-clause-turn g c = unread (refl, refl, search rules)
+returns-in-Err-Missing-clause-turn g c = unread _ ? ? (refl, refl, search rules)

@@ -2,10 +2,11 @@
 use Rattle.std.proofs.Common.{◌≡◌, ◌∷◌, [], List, refl, ap, ◌∙◌, subst}
 use Rattle.shell_text.specs.Units.{Member, Fault}
 use Rattle.ft_shell.specs.Shell.{Parts, Shell, lent}
-use Rattle.ft_shell.specs.Told.{blames, deeds}
+use Rattle.ft_shell.specs.Told.{blames, deeds_of}
 use Rattle.ft_statements.specs.Texts.{split_text}
 use Rattle.ft_shell.specs.ToldViews.{told_as}
 use Rattle.ft_shell.specs.Ran.{Runs}
+use Rattle.ft_shell.proofs.WriteLemmas.{appends_same}
 use Rattle.ft_shell.proofs.RanLemmas.{runs_turn}
 use Rattle.ft_shell.proofs.session.Session.refuse.Goals as goal
 
@@ -18,6 +19,6 @@ returns g c = λ holds.
     let a = g.O.Write.contents c.args.out.now in
     let e = g.E.Write.contents c.args.err.now in
     subst (λ s. Runs g.P.Store g.S.Store c.tell.result (λ (rest : List Member). Fault c.args.refusal.now.line c.args.refusal.now.fault ∷ rest) (λ rest. rest) (record { shell = lent s holds; status = c.args.status.now; out = a; err = e }) (record { shell = lent s holds; status = c.tell.new.status; out = g.O.Write.contents c.tell.new.out; err = g.E.Write.contents c.tell.new.err })) c.self.view_is
-    (runs_turn g.P.Store g.S.Store c.tell.result (Fault c.args.refusal.now.line c.args.refusal.now.fault) (record { shell = old; status = c.args.status.now; out = a; err = e }) (record { shell = old; status = c.tell.new.status; out = g.O.Write.contents c.tell.new.out; err = g.E.Write.contents c.tell.new.err }) (deeds told [])
-    (record { body = told; done = (refl, due); tells = refl; spelled = tt; made = refl })
-    c.tell.ensures.out c.tell.ensures.err c.tell.ensures.fault c.tell.ensures.faults c.tell.ensures.quit)
+    (runs_turn g.P.Store g.S.Store c.tell.result (Fault c.args.refusal.now.line c.args.refusal.now.fault) (record { shell = old; status = c.args.status.now; out = a; err = e }) (record { shell = old; status = c.tell.new.status; out = g.O.Write.contents c.tell.new.out; err = g.E.Write.contents c.tell.new.err }) (deeds_of told []) a told.out
+    (record { body = told; done = (refl, due); tells = refl; spelled = refl; made = refl })
+    refl (appends_same a) c.tell.ensures.out c.tell.ensures.err c.tell.ensures.fault c.tell.ensures.faults c.tell.ensures.quit)

@@ -3,7 +3,7 @@ use Rattle.std.proofs.Common.{rules, ◌≡◌, ◌^◌, ◌++◌, ◌∙◌, Er
 use Rattle.std.proofs.lemmas.List.{length-take-le}
 use Rattle.ft_shell.specs.declared.session.RunFault.TheVariants as causes
 use Rattle.ft_shell.specs.Feeds.{Fed}
-use Rattle.ft_shell.proofs.RunLemmas.{completes, if_err_at, so_far_more, so_far_none, some_or_none, stops_at_flush, stops_first, stops_in_piece, stops_too_much}
+use Rattle.ft_shell.proofs.RunLemmas.{completes, if_err_at, so_far_kept, so_far_more, so_far_none, some_or_none, stops_at_flush, stops_first, stops_in_piece, stops_too_much, stops_unflushed}
 use Rattle.ft_shell.proofs.session.Session.run_pieces.Goals as goal
 
 pub returns-in_err-feed-clause-err : goal.returns-in_err-feed-clause-err
@@ -25,30 +25,37 @@ loop-total-init g c = record {
   source = λ name. refl;
 }
 
-pub returns-in_err-read-clause-err : goal.returns-in_err-read-clause-err
-returns-in_err-read-clause-err g c =
-    let is : c.from_residual-in_err-read.result ≡ Err c.in_err-read.field-0.0 = search (rules, c.from_residual-in_err-read.ensures) in
-    if_err_at _ c.from_residual-in_err-read.result c.in_err-read.field-0.0 is
-    (stops_in_piece g.P.Store g.S.Store c.in_err-read.field-0.0 (2 ^ 30) c.loop-total.total _ _ _ _ _ _ _ _ _ _ refl c.loop-total.invariant.run c.loop-total.invariant.goes c.loop-total-test.true refl c.in_err-read.ensures.err)
-
-pub returns-in_err-read-clause-source : goal.returns-in_err-read-clause-source
-returns-in_err-read-clause-source g c = λ name. c.read_piece.ensures.source name ∙ c.loop-total.invariant.source name
-
 pub returns-in_err-flush-clause-err : goal.returns-in_err-flush-clause-err
 returns-in_err-flush-clause-err g c =
     let is : c.from_residual-in_err-flush.result ≡ Err c.in_err-flush.field-0.0 = search (rules, c.from_residual-in_err-flush.ensures) in
     let cause : c.in_err-flush.field-0.0 ≡ causes.Write = c.in_err-flush.ensures.fault in
     if_err_at _ c.from_residual-in_err-flush.result c.in_err-flush.field-0.0 is
-    (stops_at_flush g.P.Store g.S.Store c.in_err-flush.field-0.0 (2 ^ 30) c.loop-total.total _ c.in_ok-read.read _ _ _ _ _ _ _ _ _ _ _ refl c.loop-total.invariant.run c.loop-total.invariant.goes c.loop-total-test.true refl c.in_ok-read.ensures.ok
-    (some_or_none c.in_ok-read.read) c.flush.ensures.bytes cause)
+    (stops_unflushed g.P.Store g.S.Store c.in_err-flush.field-0.0 (2 ^ 30) c.loop-total.total _ _ _ _ _ _ _ _ refl c.loop-total.invariant.run c.flush.ensures.bytes cause)
 
-pub returns-in_err-flush-clause-source : goal.returns-in_err-flush-clause-source
-returns-in_err-flush-clause-source g c = λ name. c.read_piece.ensures.source name ∙ c.loop-total.invariant.source name
+pub returns-in_err-read-clause-err : goal.returns-in_err-read-clause-err
+returns-in_err-read-clause-err g c =
+    let is : c.from_residual-in_err-read.result ≡ Err c.in_err-read.field-0.0 = search (rules, c.from_residual-in_err-read.ensures) in
+    if_err_at _ c.from_residual-in_err-read.result c.in_err-read.field-0.0 is
+    (stops_in_piece g.P.Store g.S.Store c.in_err-read.field-0.0 (2 ^ 30) c.loop-total.total _ _ _ _ _ _ _ _ _ _ refl (so_far_kept g.P.Store g.S.Store (2 ^ 30) c.loop-total.total _ _ _ _ _ _ c.loop-total.invariant.run c.flush.ensures.bytes) c.loop-total.invariant.goes c.loop-total-test.true refl c.in_err-read.ensures.err)
+
+pub returns-in_err-read-clause-source : goal.returns-in_err-read-clause-source
+returns-in_err-read-clause-source g c = λ name. c.read_piece.ensures.source name ∙ c.loop-total.invariant.source name
+
+pub returns-in_err-flush-2-clause-err : goal.returns-in_err-flush-2-clause-err
+returns-in_err-flush-2-clause-err g c =
+    let is : c.from_residual-in_err-flush-2.result ≡ Err c.in_err-flush-2.field-0.0 = search (rules, c.from_residual-in_err-flush-2.ensures) in
+    let cause : c.in_err-flush-2.field-0.0 ≡ causes.Write = c.in_err-flush-2.ensures.fault in
+    if_err_at _ c.from_residual-in_err-flush-2.result c.in_err-flush-2.field-0.0 is
+    (stops_at_flush g.P.Store g.S.Store c.in_err-flush-2.field-0.0 (2 ^ 30) c.loop-total.total _ c.in_ok-read.read _ _ _ _ _ _ _ _ _ _ _ refl (so_far_kept g.P.Store g.S.Store (2 ^ 30) c.loop-total.total _ _ _ _ _ _ c.loop-total.invariant.run c.flush.ensures.bytes) c.loop-total.invariant.goes c.loop-total-test.true refl c.in_ok-read.ensures.ok
+    (some_or_none c.in_ok-read.read) c.flush-2.ensures.bytes cause)
+
+pub returns-in_err-flush-2-clause-source : goal.returns-in_err-flush-2-clause-source
+returns-in_err-flush-2-clause-source g c = λ name. c.read_piece.ensures.source name ∙ c.loop-total.invariant.source name
 
 pub returns-then-is_over-clause-ok : goal.returns-then-is_over-clause-ok
 returns-then-is_over-clause-ok g c =
-    completes g.P.Store g.S.Store (2 ^ 30) c.loop-total.total _ c.in_ok-read.read _ _ _ _ _ _ _ _ _ _ _ refl c.loop-total.invariant.run c.loop-total.invariant.goes c.loop-total-test.true refl c.in_ok-read.ensures.ok
-    (c.is_over.ensures.over c.if-is_over.true) c.flush.ensures.bytes c.is_over.ensures.fits
+    completes g.P.Store g.S.Store (2 ^ 30) c.loop-total.total _ c.in_ok-read.read _ _ _ _ _ _ _ _ _ _ _ refl (so_far_kept g.P.Store g.S.Store (2 ^ 30) c.loop-total.total _ _ _ _ _ _ c.loop-total.invariant.run c.flush.ensures.bytes) c.loop-total.invariant.goes c.loop-total-test.true refl c.in_ok-read.ensures.ok
+    (c.is_over.ensures.over c.if-is_over.true) c.flush-2.ensures.bytes c.is_over.ensures.fits
 
 pub returns-then-is_over-clause-source : goal.returns-then-is_over-clause-source
 returns-then-is_over-clause-source g c = λ name. c.read_piece.ensures.source name ∙ c.loop-total.invariant.source name
@@ -57,7 +64,7 @@ pub loop-total-preserved : goal.loop-total-preserved
 loop-total-preserved g c =
     let goes = c.is_over.ensures.goes c.if-is_over.false in
     record {
-      run = so_far_more g.P.Store g.S.Store (2 ^ 30) c.loop-total.total _ c.in_ok-read.read _ _ _ _ _ _ _ _ c.loop-total.invariant.run c.loop-total.invariant.goes c.loop-total-test.true refl c.in_ok-read.ensures.ok goes.0;
+      run = so_far_more g.P.Store g.S.Store (2 ^ 30) c.loop-total.total _ c.in_ok-read.read _ _ _ _ _ _ _ _ (so_far_kept g.P.Store g.S.Store (2 ^ 30) c.loop-total.total _ _ _ _ _ _ c.loop-total.invariant.run c.flush.ensures.bytes) c.loop-total.invariant.goes c.loop-total-test.true refl c.in_ok-read.ensures.ok goes.0;
       size =
           let same : length c.read_piece.new.chunk ≡ c.loop-total.chunk.len = omega (arith, c.as_mut_slice.ensures.len, c.read_piece.auto.chunk) in
           let whole = length-take-le c.loop-total.chunk.len (c.read_piece.new.chunk ++ drop (length c.read_piece.new.chunk) c.loop-total.chunk.items) (omega (arith, same, length-append c.read_piece.new.chunk (drop (length c.read_piece.new.chunk) c.loop-total.chunk.items))) in

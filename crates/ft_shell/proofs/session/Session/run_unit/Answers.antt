@@ -1,17 +1,17 @@
 -- its text is echoed, and what it tells is written
-use Rattle.std.proofs.Common.{rules, ◌≡◌, ◌++◌, ◌∷◌, [], List, Err, string_bytes, subst}
+use Rattle.std.proofs.Common.{rules, ◌≡◌, ◌++◌, ◌∷◌, [], List, Err, string_bytes, subst, sym, ap, inl}
 use Rattle.std.specs.Prelude.{if◌then◌else◌}
 use Rattle.std.specs.Io.KnownBytes.{Appends}
 use Rattle.shell_text.specs.Units.{Member}
 use Rattle.shell_text.specs.Splitting.{member_of_unit}
 use Rattle.ft_shell.specs.Shell.{Shell, lent}
-use Rattle.ft_shell.specs.Told.{deeds, echoed}
+use Rattle.ft_shell.specs.Told.{deeds_of, echo_text, echoed}
+use Rattle.ft_shell.specs.Turns.{echo_of}
 use Rattle.ft_shell.specs.ToldViews.{told_as}
 use Rattle.ft_shell.specs.Writing.{AppendsUpTo}
 use Rattle.ft_shell.specs.Ran.{Runs}
-use Rattle.ft_shell.proofs.WriteLemmas.{sends_then, up_to_more, up_to_none}
 use Rattle.ft_shell.proofs.CallsLemmas.{body_calls}
-use Rattle.ft_shell.proofs.RanLemmas.{runs_err, runs_turn, unit_turned}
+use Rattle.ft_shell.proofs.RanLemmas.{breaks_echo, runs_err, runs_turn, unit_echo, unit_turned}
 use Rattle.ft_shell.proofs.session.Session.run_unit.Goals as goal
 
 pub returns-in_err-echo_text-clause-runs : goal.returns-in_err-echo_text-clause-runs
@@ -22,17 +22,14 @@ returns-in_err-echo_text-clause-runs g c =
     let text = string_bytes c.args.unit.now.text in
     let held = g.F.Source.holds c.args.source.now in
     let old : Shell g.row.P.Denot g.row.S.Denot = record { look = c.self.inside.settings; plain = c.self.inside.plain; known = c.self.inside.fulltext; holds = held } in
-    let new : Shell g.row.P.Denot g.row.S.Denot = record { look = c.unit_turn-told.new.settings; plain = c.unit_turn-told.new.plain; known = c.unit_turn-told.new.fulltext; holds = g.F.Source.holds c.unit_turn-told.new.source } in
-    let body = told_as c.unit_turn-told.result in
-    let calls = (body_calls g.P.Store g.S.Store (member_of_unit c.args.unit.now) old new body c.unit_turn-told.ensures.body).0 in
+    let unit = member_of_unit c.args.unit.now in
     let is : c.from_residual.result ≡ Err c.in_err-echo_text.field-0.0 = search rules in
-    let spoken : AppendsUpTo a b (if c.echo-echo.result then text ++ 10 ∷ [] else []) = subst (λ t. AppendsUpTo a b (if c.echo-echo.result then t ++ 10 ∷ [] else [])) c.as_str.ensures.value c.in_err-echo_text.ensures.out in
-    let first : AppendsUpTo a b (if old.look.echo then text ++ 10 ∷ [] else []) = subst (λ on. AppendsUpTo a b (if on then text ++ 10 ∷ [] else [])) c.echo-echo.ensures spoken in
-    subst (λ s. Runs g.P.Store g.S.Store c.from_residual.result (λ (rest : List Member). member_of_unit c.args.unit.now ∷ rest) (λ rest. rest) (record { shell = lent s held; status = c.args.status.now; out = a; err = e }) (record { shell = new; status = c.args.status.now; out = b; err = e })) c.self.view_is
-    (runs_err g.P.Store g.S.Store c.from_residual.result c.in_err-echo_text.field-0.0 (λ (rest : List Member). member_of_unit c.args.unit.now ∷ rest) (λ rest. rest) _ _ is
-    (runs_turn {T = Unit {0}} g.P.Store g.S.Store (Err c.in_err-echo_text.field-0.0) (member_of_unit c.args.unit.now) (record { shell = old; status = c.args.status.now; out = a; err = e }) (record { shell = new; status = c.args.status.now; out = b; err = e }) (deeds (echoed old.look text body) calls)
-    (unit_turned g.P.Store g.S.Store c.args.unit.now.kind c.args.unit.now.line text old new body c.unit_turn-told.ensures.body)
-    (up_to_more a b _ body.out first) (up_to_none e body.err) c.in_err-echo_text.ensures.fault tt tt))
+    let spoken : AppendsUpTo a b (if c.echo.result then text ++ 10 ∷ [] else []) = subst (λ t. AppendsUpTo a b (if c.echo.result then t ++ 10 ∷ [] else [])) c.as_str.ensures.value c.in_err-echo_text.ensures.out in
+    let first : AppendsUpTo a b (echo_text old.look text) = subst (λ on. AppendsUpTo a b (if on then text ++ 10 ∷ [] else [])) c.echo.ensures spoken in
+    let part : AppendsUpTo a b (echo_of old.look unit) = subst (AppendsUpTo a b) (sym (unit_echo old.look c.args.unit.now.kind c.args.unit.now.line text)) first in
+    subst (λ s. Runs g.P.Store g.S.Store c.from_residual.result (λ (rest : List Member). unit ∷ rest) (λ rest. rest) (record { shell = lent s held; status = c.args.status.now; out = a; err = e }) (record { shell = lent s held; status = c.args.status.now; out = b; err = e })) c.self.view_is
+    (runs_err g.P.Store g.S.Store c.from_residual.result c.in_err-echo_text.field-0.0 (λ (rest : List Member). unit ∷ rest) (λ rest. rest) _ _ is
+    (breaks_echo g.P.Store g.S.Store c.in_err-echo_text.field-0.0 unit (record { shell = old; status = c.args.status.now; out = a; err = e }) b part c.in_err-echo_text.ensures.fault, inl c.in_err-echo_text.ensures.fault))
 
 pub returns-clause-runs : goal.returns-clause-runs
 returns-clause-runs g c =
@@ -47,9 +44,10 @@ returns-clause-runs g c =
     let new : Shell g.row.P.Denot g.row.S.Denot = record { look = c.unit_turn-told.new.settings; plain = c.unit_turn-told.new.plain; known = c.unit_turn-told.new.fulltext; holds = g.F.Source.holds c.unit_turn-told.new.source } in
     let body = told_as c.unit_turn-told.result in
     let calls = (body_calls g.P.Store g.S.Store (member_of_unit c.args.unit.now) old new body c.unit_turn-told.ensures.body).0 in
-    let spoken : Appends a b (if c.echo-echo.result then text ++ 10 ∷ [] else []) = subst (λ t. Appends a b (if c.echo-echo.result then t ++ 10 ∷ [] else [])) c.as_str.ensures.value c.in_ok-echo_text.ensures.out in
-    let first : Appends a b (if old.look.echo then text ++ 10 ∷ [] else []) = subst (λ on. Appends a b (if on then text ++ 10 ∷ [] else [])) c.echo-echo.ensures spoken in
+    let spoken : Appends a b (if c.echo.result then text ++ 10 ∷ [] else []) = subst (λ t. Appends a b (if c.echo.result then t ++ 10 ∷ [] else [])) c.as_str.ensures.value c.in_ok-echo_text.ensures.out in
+    let spells = unit_echo old.look c.args.unit.now.kind c.args.unit.now.line text in
+    let first : Appends a b (echo_text old.look text) = subst (λ on. Appends a b (if on then text ++ 10 ∷ [] else [])) c.echo.ensures spoken in
     subst (λ s. Runs g.P.Store g.S.Store c.tell.result (λ (rest : List Member). member_of_unit c.args.unit.now ∷ rest) (λ rest. rest) (record { shell = lent s held; status = c.args.status.now; out = a; err = e }) (record { shell = new; status = c.tell.new.status; out = d; err = f })) c.self.view_is
-    (runs_turn g.P.Store g.S.Store c.tell.result (member_of_unit c.args.unit.now) (record { shell = old; status = c.args.status.now; out = a; err = e }) (record { shell = new; status = c.tell.new.status; out = d; err = f }) (deeds (echoed old.look text body) calls)
+    (runs_turn g.P.Store g.S.Store c.tell.result (member_of_unit c.args.unit.now) (record { shell = old; status = c.args.status.now; out = a; err = e }) (record { shell = new; status = c.tell.new.status; out = d; err = f }) (deeds_of (echoed old.look text body) calls) b body.out
     (unit_turned g.P.Store g.S.Store c.args.unit.now.kind c.args.unit.now.line text old new body c.unit_turn-told.ensures.body)
-    (sends_then c.tell.result a b d _ body.out first c.tell.ensures.out) c.tell.ensures.err c.tell.ensures.fault c.tell.ensures.faults c.tell.ensures.quit)
+    (ap (λ e. e ++ body.out) (sym spells)) (subst (Appends a b) (sym spells) first) c.tell.ensures.out c.tell.ensures.err c.tell.ensures.fault c.tell.ensures.faults c.tell.ensures.quit)

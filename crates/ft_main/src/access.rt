@@ -1,0 +1,49 @@
+//! Who may read the file of the full-text store: no more than may read the file of the plain tables.
+
+use std::fs::{self, File, Metadata, OpenOptions, Permissions};
+use std::io::{self, ErrorKind};
+use std::os::unix::fs::{MetadataExt, OpenOptionsExt, PermissionsExt, fchown};
+
+// The mode of a file that is being made: its owner alone has it.
+const OWNER: u32 = 0o600;
+
+// The bits of a mode that say who may do what, and those of them that aren't the group's.
+const EVERYBODY: u32 = 0o777;
+
+const NOT_THE_GROUP: u32 = 0o707;
+
+// This process may not set an owner or a group.
+fn unless_denied(outcome: io::Result<()>) -> io::Result<()> {
+    match outcome {
+        Err(error) if error.kind() == ErrorKind::PermissionDenied => Ok(()),
+        outcome => outcome,
+    }
+}
+
+// Gives a new file the group, the owner and the mode of another. The group's bits are left out where the group stays its own.
+fn copy_access(of: &Metadata, to: &File) -> io::Result<()> {
+    unless_denied(fchown(to, None, Some(of.gid())))?;
+    unless_denied(fchown(to, Some(of.uid()), None))?;
+    let bits = if to.metadata()?.gid() == of.gid() {
+        EVERYBODY
+    } else {
+        NOT_THE_GROUP
+    };
+    to.set_permissions(Permissions::from_mode(of.mode() & bits))
+}
+
+/// Makes an empty file at `beside`, where none is, with the access that the file at `path` has, as SQLite makes the log of a
+/// database. It is never open to more.
+pub(crate) fn make_beside(rt: &HostRuntime, path: &str, beside: &str) -> io::Result<()> {
+    let of = fs::metadata(rt, path)?;
+    match OpenOptions::new()
+        .write(true)
+        .create_new(true)
+        .mode(OWNER)
+        .open(rt, beside)
+    {
+        Ok(file) => copy_access(&of, &file),
+        Err(error) if error.kind() == ErrorKind::AlreadyExists => Ok(()),
+        Err(error) => Err(error),
+    }
+}

@@ -1,0 +1,180 @@
+"""Stops the program at each of its writes, and has its disk, its input and its outputs fail at each of their calls: calls.py PROGRAM.
+
+- A run of one command on a FILE is stopped at each write of a file, before it and within it, and the file is opened again: every table is
+  sound, and all is as before the command or as after it; and as after it where it was answered.
+- The disk fails from each write on: what was answered is there, what was refused is not, and every table is sound.
+- The input fails from each read on: what was read whole ran, and nothing else. An output fails from each write on: what was written is a front of
+  what is due, and a front of the lines ran.
+It needs a C compiler.
+"""
+import collections
+import concurrent.futures
+import functools
+import os
+import shutil
+import subprocess
+import sys
+import tempfile
+
+BEGIN = """
+CREATE VIRTUAL TABLE d USING fts4(x);
+INSERT INTO d VALUES('red apple'),('red pear');
+CREATE VIRTUAL TABLE mail USING fts4(subject, body);
+INSERT INTO mail VALUES('hello', 'red world');
+CREATE TABLE plain(a, b);
+""".strip("\n").split("\n")
+COMMANDS = """
+CREATE VIRTUAL TABLE e USING fts4(x, y, notindexed=y);
+INSERT INTO d VALUES('blue plum'),('red fig');
+UPDATE d SET x='green' WHERE docid=1;
+DELETE FROM d WHERE x MATCH 'red';
+DROP TABLE mail;
+INSERT INTO mail(mail) VALUES('rebuild');
+CREATE TABLE noted(a);
+.import --csv records.csv mail
+.import --csv records.csv made
+.import --csv records.csv plain
+""".strip("\n").split("\n")
+RECORDS = "subject,body\nx y\nz,w\n"
+# The inputs whose streams fail, and what the state is seen by.
+SESSION = """
+CREATE VIRTUAL TABLE mail USING fts4(subject, body);
+.import --csv records.csv p
+SELECT subject, body FROM p ORDER BY subject;
+.import --csv --skip 1 records.csv mail
+SELECT docid FROM mail WHERE mail MATCH 'w';
+.import --csv nothing.csv mail
+.echo on
+INSERT INTO mail VALUES('red', 'green');
+SELECT nope FROM mail;
+.tables
+""".strip("\n").split("\n")
+SEEN = """
+.tables
+SELECT docid, * FROM d;
+SELECT docid FROM d WHERE d MATCH 'red OR green OR blue';
+SELECT docid, * FROM mail;
+SELECT docid, offsets(mail) FROM mail WHERE mail MATCH 'red OR x OR w OR z';
+SELECT docid, * FROM e;
+SELECT * FROM plain;
+SELECT * FROM made;
+SELECT * FROM p;
+SELECT * FROM noted;
+INSERT INTO d(d) VALUES('integrity-check');
+INSERT INTO mail(mail) VALUES('integrity-check');
+INSERT INTO e(e) VALUES('integrity-check');
+""".strip("\n").split("\n")
+UNSOUND = ("database disk image is malformed", "full-text index is unsound", "unable to open")
+
+Ran = collections.namedtuple("Ran", "out err status")
+
+
+class Rooms:
+    """Runs the program in folders that begin as copies of one."""
+
+    def __init__(self, program, library, first):
+        self.program, self.library, self.first = program, library, first
+
+    def run(self, room, lines, **env):
+        env = {"LD_PRELOAD": self.library, **{name: str(it) for name, it in env.items()}} if env else {}
+        given = ("\n".join(lines) + "\n" if isinstance(lines, list) else lines).encode()
+        ran = subprocess.run([self.program, "a.db"], input=given, cwd=room, env=env, capture_output=True, timeout=120)
+        return Ran(ran.stdout.decode(errors="replace"), ran.stderr.decode(errors="replace"), ran.returncode)
+
+    def seen(self, room):
+        """What is there, and whether every table is sound."""
+        ran = self.run(room, SEEN)
+        return ran, not any(it in ran.err for it in UNSOUND)
+
+    def after(self, lines, **env):
+        """Runs lines on a copy of the first folder, and returns the run, how many calls it made, and what is there then."""
+        with tempfile.TemporaryDirectory() as room:
+            shutil.copytree(self.first, room, dirs_exist_ok=True)
+            ran = self.run(room, lines, COUNTED=f"{room}/count", **env)
+            count = 0
+            if os.path.exists(f"{room}/count"):
+                with open(f"{room}/count", encoding="utf-8") as it:
+                    count = int(it.read())
+                os.remove(f"{room}/count")
+            return ran, count, *self.seen(room)
+
+
+def stopped(rooms, command, before, after, at, how):
+    """Says what is wrong where the command is stopped at this write, or None."""
+    ran, _, left, is_sound = rooms.after([command, ".print answered"], FILES=1, AT=at, HOW=how)
+    if not is_sound or left not in (before, after):
+        return f"{left}"
+    return "it was answered, and is not there" if "answered" in ran.out and left != after else None
+
+
+def failing(rooms, command, before, after, at):
+    """Says what is wrong where the disk fails from this write on, or None."""
+    ran, _, left, is_sound = rooms.after([command], FILES=1, AT=at, HOW="fail")
+    if not is_sound or left not in (before, after):
+        return f"{ran} {left}"
+    if ran.status == 0 and not ran.err and left != after:
+        return f"no fault was told, and it is not there: {left}"
+    return None
+
+
+def cut(rooms, lines, states, whole, stream, at):
+    """Says what is wrong where a stream fails from this call on, or None."""
+    ran, _, left, is_sound = rooms.after(lines, STREAM=stream, AT=at, HOW="fail", PIECE=7)
+    due = "Error: input fault\n" if stream == 0 else "Error: output fault\n"
+    faults = ran.err[: -len(due)] if ran.err.endswith(due) else ran.err
+    if not is_sound or ran.status != 1 or not whole.out.startswith(ran.out) or not whole.err.startswith(faults):
+        return f"{ran} {left}"
+    if stream == 0:
+        text = ("\n".join(lines) + "\n")[: 7 * (at - 1)]
+        fine = left == states[text.count("\n")] and ran.err.endswith(due)
+    else:
+        fine = left in states and (stream == 2 or ran.err.endswith(due))
+    return None if fine else f"{ran} {left}"
+
+
+def tries(rooms):
+    """Yields what is tried, and a call that says what is wrong with it."""
+    before, _ = rooms.seen(rooms.first)
+    for command in COMMANDS:
+        _, writes, after, is_sound = rooms.after([command, ".print answered"], FILES=1)
+        if not is_sound or after == before and "rebuild" not in command:
+            yield f"{command}: it does nothing", lambda after=after: str(after)
+        for at in range(1, writes + 1):
+            for how in ("kill", "half"):
+                yield f"{command} is stopped ({how}) at write {at} of {writes}", functools.partial(stopped, rooms, command, before, after, at, how)
+            yield f"{command} with a disk that fails from write {at} on", functools.partial(failing, rooms, command, before, after, at)
+    states = [rooms.after(SESSION[:number])[2] for number in range(len(SESSION) + 1)]
+    whole, _, _, _ = rooms.after(SESSION)
+    for stream in (0, 1, 2):
+        _, calls, _, _ = rooms.after(SESSION, STREAM=stream, PIECE=7)
+        for at in range(1, calls + 1):
+            yield f"stream {stream} fails from call {at} of {calls} on", functools.partial(cut, rooms, SESSION, states, whole, stream, at)
+
+
+def prepare(program, room):
+    """Makes the library that stops and fails, and the folder on which all runs begin."""
+    source = os.path.join(os.path.dirname(os.path.abspath(__file__)), "calls.c")
+    subprocess.run(["cc", "-O1", "-shared", "-fPIC", "-o", f"{room}/calls.so", source, "-ldl"], check=True)
+    os.mkdir(f"{room}/first")
+    with open(f"{room}/first/records.csv", "w", encoding="utf-8") as it:
+        it.write(RECORDS)
+    rooms = Rooms(program, f"{room}/calls.so", f"{room}/first")
+    begun = rooms.run(rooms.first, BEGIN)
+    if begun.err or begun.status:
+        sys.exit(f"the first lines: {begun}")
+    return rooms
+
+
+def main(program):
+    with tempfile.TemporaryDirectory() as room, concurrent.futures.ThreadPoolExecutor(os.cpu_count()) as pool:
+        rooms = prepare(os.path.abspath(program), room)
+        all_of_them = list(tries(rooms))
+        wrong = [(name, why) for (name, _), why in zip(all_of_them, pool.map(lambda it: it[1](), all_of_them)) if why]
+    for name, why in wrong[:20]:
+        print(f"{name}: {why}")
+    print(f"{len(all_of_them)} stops and failing calls, of which {len(wrong)} show")
+    sys.exit(bool(wrong))
+
+
+if __name__ == "__main__":
+    main(sys.argv[1])
