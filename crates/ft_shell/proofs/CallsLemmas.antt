@@ -17,7 +17,7 @@ use Rattle.ft_statements.specs.Dots.{DotCommand, Import, Nothing, SetMode, SetHe
 use Rattle.ft_shell.specs.DotTurns.{DotTurn}
 use Rattle.ft_shell.specs.FullTextTurns.{FullTextTurn, MaybeNotes, NoteTurn, reply_told}
 use Rattle.ft_shell.specs.Imports.{delimiter_of, fitted, warnings}
-use Rattle.ft_shell.specs.ImportTurns.{BytesTurn, DelimitedTurn, FileTurn, IntoNamed, IntoNew, PlainImport, TextImport, columns_in, kept, records_in, executed, no_memory, no_header, too_wide, declined, there, new_table, untried, read, no_text, fetched, unread, too_big}
+use Rattle.ft_shell.specs.ImportTurns.{BytesTurn, DelimitedTurn, FileTurn, IntoNamed, IntoNew, PlainImport, TextImport, columns_in, kept, records_in, executed, no_memory, no_header, too_wide, declined, there, new_table, untried, read, no_text, fetched, unfetched, fetch_words}
 use Rattle.ft_shell.specs.TablesTurns.{TablesTurn}
 use Rattle.ft_shell.specs.ImportTurns as imports
 use Rattle.ft_shell.specs.TablesTurns as tables
@@ -159,9 +159,7 @@ module _ {P S : Type 0} (g : Ghosts P) (h : Ghosts S) (look : Look) (line : ℕ)
 
   file_calls : (delimiter : ℕ) → delimiter_of what.csv look ≡ Some delimiter → FileTurn g h look line what old new before after told holds delimiter → ImportCalls (columns_in before.tables what.table)
   file_calls delimiter parts (fetched bytes gives it) = bytes_calls delimiter bytes parts gives it
-  file_calls delimiter parts (unread fault is refused nothing) = import_none (codes "cannot read file") (columns_in before.tables what.table) nothing.1 nothing.2
-  file_calls delimiter parts (too_big refused nothing) = import_none (codes "file too big") (columns_in before.tables what.table) nothing.1 nothing.2
-  file_calls delimiter parts (no_memory refused nothing) = import_none (codes "out of memory") (columns_in before.tables what.table) nothing.1 nothing.2
+  file_calls delimiter parts (unfetched fault allowed nothing) = import_none (fetch_words fault) (columns_in before.tables what.table) nothing.1 nothing.2
 
   delimited_calls : (delimiter : Option ℕ) → delimiter_of what.csv look ≡ delimiter → DelimitedTurn g h look line what old new before after told holds delimiter → ImportCalls (columns_in before.tables what.table)
   delimited_calls None parts nothing = import_none (codes "bad separator") (columns_in before.tables what.table) nothing.1 nothing.2

@@ -22,7 +22,7 @@ use Rattle.ft_shell.proofs.TurnsLemmas.{assoc_then, turns_then, turns_one}
 
 -- ---- turns of members
 
-or_false : (b : Bool) → (b || false) ≡ b
+pub or_false : (b : Bool) → (b || false) ≡ b
 or_false true = refl
 or_false false = refl
 

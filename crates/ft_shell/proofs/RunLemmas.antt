@@ -271,7 +271,7 @@ pub stops_unflushed : {P S : Type 0} (g : Ghosts P) (h : Ghosts S) (fault : RunF
     Stops g h fault (record { shell = shell; input = before; out = out; err = err }) (record { shell = b.shell; input = after; out = out'; err = b.err })
 stops_unflushed g h fault most total before after left shell out err out' b size so kept cause =
     let flushed = so_far_kept g h most total before after left (opening shell out err) b out' so kept in
-    stops_within g h fault most before after so.read shell out err (record b { out = out' }) size (breaks_after g h fault _ _ (opening shell out err) (record b { out = out' }) flushed.passes) so.consumed
+    stops_within g h fault most before after flushed.read shell out err (record b { out = out' }) size (breaks_after g h fault _ _ (opening shell out err) (record b { out = out' }) flushed.passes) flushed.consumed
     (λ much. absurd (let wrong : causes.Write ≡ causes.TooMuch = sym cause ∙ much in cc)) (λ is. absurd (let wrong : causes.Write ≡ causes.Read = sym cause ∙ is in cc))
 
 -- all was run, and the last flush was refused

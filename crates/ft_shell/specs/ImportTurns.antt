@@ -106,6 +106,13 @@ module _ {P : Type 0} (g : Ghosts P) (look : Look) (line : ℕ) (what : Import) 
 
 -- ---- the file
 
+-- the words of a file that is not fetched
+abbrev pub fetch_words : SourceFault → List ℕ
+fetch_words sources.Missing = codes "cannot read file"
+fetch_words sources.Read = codes "cannot read file"
+fetch_words sources.TooBig = codes "file too big"
+fetch_words sources.Memory = codes "out of memory"
+
 module _ {P S : Type 0} (g : Ghosts P) (h : Ghosts S) (look : Look) (line : ℕ) (what : Import) (old new : Held P) (before after : Known S) (told : Told) where
   -- nothing is done, and this is the fault line
   abbrev pub Declined : List ℕ → Type 0
@@ -126,12 +133,10 @@ module _ {P S : Type 0} (g : Ghosts P) (h : Ghosts S) (look : Look) (line : ℕ)
     no_text : IsNoText (csv_reader delimiter) bytes → Declined (codes "file is not UTF-8") → BytesTurn delimiter bytes
     no_memory : Declined (codes "out of memory") → BytesTurn delimiter bytes
 
-  -- the file's bytes are those that its name holds, if they are there; each fault of a fetch has its text
+  -- the file's bytes are those that its name holds, if they are there, or a fault of their fetch is told
   pub data FileTurn (holds : Files) (delimiter : ℕ) : Type 0 where
     fetched : (bytes : List ℕ) → Gives holds what.file bytes → BytesTurn delimiter bytes → FileTurn holds delimiter
-    unread : (fault : SourceFault) → (fault ≡ sources.Missing) ⊎ (fault ≡ sources.Read) → Refuses holds what.file fault → Declined (codes "cannot read file") → FileTurn holds delimiter
-    too_big : Refuses holds what.file sources.TooBig → Declined (codes "file too big") → FileTurn holds delimiter
-    no_memory : Refuses holds what.file sources.Memory → Declined (codes "out of memory") → FileTurn holds delimiter
+    unfetched : (fault : SourceFault) → Refuses holds what.file fault → Declined (fetch_words fault) → FileTurn holds delimiter
 
   -- the delimiter is tested first
   abbrev pub DelimitedTurn : Files → Option ℕ → Type 0

@@ -7,7 +7,7 @@ ghost use Rattle.ft_content.specs.Views as views;
 ghost use Rattle.ft_content.specs.Views.{known_info};
 ghost use Rattle.ft_statements.specs.DotViews.{import_as};
 ghost use Rattle.ft_shell.specs.Imports.{fitted};
-ghost use Rattle.ft_shell.specs.ImportTurns.{columns_in, InsertTurn, TextImport, NotesAfter, IntoTable, IntoNew, PlainImport, fault_words, RecordsTurn, BytesTurn, FileTurn, ImportTurn};
+ghost use Rattle.ft_shell.specs.ImportTurns.{columns_in, InsertTurn, TextImport, NotesAfter, IntoTable, IntoNew, PlainImport, fault_words, fetch_words, RecordsTurn, BytesTurn, FileTurn, ImportTurn};
 ghost use Rattle.ft_shell.specs.Told as forms;
 ghost use Rattle.ft_shell.specs.ToldViews.{told_as};
 ghost use Rattle.ft_statements.specs.Views.{texts_of};
@@ -353,6 +353,19 @@ fn bytes_turn<P: Alter, S: Alter>(
     }
 }
 
+// The fault line of a file that is not fetched.
+fn unfetched(alloc: Global, settings: &Settings, line: u64, fault: SourceFault) -> Told
+    ensures { told_as result ≡ forms.blames settings.now line (fetch_words fault) }
+{
+    match fault {
+        SourceFault::Missing | SourceFault::Read => {
+            Told::blames(alloc, settings, line, "cannot read file")
+        }
+        SourceFault::TooBig => Told::blames(alloc, settings, line, "file too big"),
+        SourceFault::Memory => Told::lacks_memory(alloc, settings, line),
+    }
+}
+
 // A file into the table.
 fn file_turn<P: Alter, S: Alter, F: Source>(
     alloc: Global,
@@ -379,14 +392,7 @@ fn file_turn<P: Alter, S: Alter, F: Source>(
             delimiter,
             bytes.as_slice(),
         ),
-        Err(SourceFault::TooBig) => Told::blames(alloc, settings, line, "file too big"),
-        Err(SourceFault::Memory) => Told::lacks_memory(alloc, settings, line),
-        Err(SourceFault::Missing | SourceFault::Read) => Told::blames(
-            alloc,
-            settings,
-            line,
-            "cannot read file",
-        ),
+        Err(fault) => unfetched(alloc, settings, line, fault),
     }
 }
 

@@ -69,12 +69,36 @@ fn other_databases_are_handed_back(rt: HostRuntime) -> Result<(), Fail> {
 fn other_versions_are_told(rt: HostRuntime) -> Result<(), Fail> {
     for (texts, cause) in [
         ("UPDATE meta SET version = 9", StoreFault::Version(9)),
-        ("UPDATE meta SET version = 2", StoreFault::Version(2)),
+        ("UPDATE meta SET version = 4", StoreFault::Version(4)),
+        ("UPDATE meta SET version = -1", StoreFault::Version(-1)),
         ("UPDATE meta SET version = 1", StoreFault::Version(1)),
+        ("UPDATE meta SET version = 2", StoreFault::Refused),
+        ("DROP TABLE skip", StoreFault::Refused),
         ("DELETE FROM meta", StoreFault::NotAStore),
     ] {
         let conn = Store::open_memory(rt.alloc())?.into_connection();
         assert_eq!(&rt; refused(rt.alloc(), conn, texts)?, (cause, 1));
     }
+    Ok(())
+}
+
+// A store whose tables and version are made those of version 2 is taken with what it held, as one of version 3.
+fn renewed<S: Alter + Drop>(alloc: Global, conn: Connection<S>) -> Result<(String, i64), Fail> {
+    let mut store = taken(alloc, conn)?;
+    done(&mut store, table_d(alloc)?)?;
+    done(&mut store, put_text(alloc, 7, "p")?)?;
+    let mut conn = store.into_connection();
+    conn.execute_batch("DROP TABLE skip; UPDATE meta SET version = 2")?;
+    let mut store = taken(alloc, conn)?;
+    let found = cells(&mut store, alloc)?;
+    let mut conn = store.into_connection();
+    let row = conn.query_row("SELECT version FROM meta", &[])?;
+    Ok((found, row.get(0)?))
+}
+
+#[test]
+fn a_store_of_version_two_is_taken(rt: HostRuntime) -> Result<(), Fail> {
+    let (found, version) = renewed(rt.alloc(), open_ram(rt.alloc())?)?;
+    assert_eq!(&rt; (found.as_str(), version), ("7 0 'p';", 3));
     Ok(())
 }
