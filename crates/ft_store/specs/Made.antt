@@ -15,6 +15,8 @@ use Rattle.sqlite_resolve.specs.declared.compiled.Compiled.{Compiled}
 use Rattle.sqlite_resolve.specs.declared.error.CompileError.{CompileError}
 use Rattle.sqlite.specs.State.{text_of}
 use Rattle.sqlite.specs.Effect.{Database, IsDatabase}
+use Rattle.ft_store.specs.Tables.{store_schema}
+use Rattle.ft_store.specs.Calls.{AreNumbered}
 
 abbrev pub command_of : Result Compiled CompileError → Command
 command_of (Ok c) = c.command
@@ -40,3 +42,14 @@ pub record Makes (schema : Schema) (text : List ℕ) (table : Table) : Type 0 wh
   pub whole : statement_of text (understood schema text) ≡ text
   pub defined : table_defined_by text ≡ Ok table
   pub uncounted : lacks_sequence (created schema table) ≡ false
+
+-- the tables of a store, with their rules kept, whatever `meta` has
+pub record IsTabled (db : Database) : Type 0 where
+  pub schema : db.schema ≡ store_schema
+  pub sound : IsDatabase db
+  pub numbered : AreNumbered store_schema.tables db.trees
+
+-- the same, where `meta` has no row
+pub record IsUnmarked (db : Database) : Type 0 where
+  pub tabled : IsTabled db
+  pub unmarked : db.trees 0 ≡ []
