@@ -11,7 +11,7 @@ use Rattle.ft_store.specs.declared.same.Layout.TheVariants.{Older, Present}
 use Rattle.ft_store.specs.Tables.{store_schema}
 use Rattle.ft_store.specs.Store.{StoreValue}
 use Rattle.ft_store.specs.Rows.{value_of}
-use Rattle.ft_store.specs.Calls.{AreNumbered}
+use Rattle.ft_store.specs.Calls.{AreNumbered, IsStore}
 
 -- the tables of a store of version 2 are those of a store but for the last, `skip`
 abbrev pub older_schema : Schema
@@ -50,3 +50,7 @@ pub record IsOlder (db : Trees) : Type 0 where
 -- what they hold: every column is indexed
 abbrev pub older_value : Trees → StoreValue
 older_value db = record (value_of db) { skipped = [] }
+
+-- of a store of version 2 a store was made, which holds the same
+abbrev pub IsRenewed : Database → Database → Type 0
+IsRenewed old new = IsStore new × (value_of new.trees ≡ older_value old.trees)

@@ -27,7 +27,8 @@ fn tables_in(layout: Layout) -> usize
 
 /// The query of a table's rowids, in their order.
 fn rowids_query(at: usize) -> &'static str
-    ensures { (layout : Layout) → at < tables_of layout → Scans (schema_of layout) result.now (tree_at at) }
+    ensures { (layout : Layout) → at < tables_of layout
+        → Scans (schema_of layout) result.now (tree_at at) }
 {
     match at {
         0 => "SELECT rowid FROM meta ORDER BY rowid",
@@ -119,7 +120,8 @@ fn are_numbered<S: Alter>(conn: &mut Connection<S>, layout: Layout) -> Result<bo
     requires settled { (state S.Store conn.old).in_transaction ≡ false }
     ensures own { HasCleanDisk (state S.Store conn.new) → IfOk result (λ b. IsTrue b → AreNumbered (schema_of layout).tables (state S.Store conn.old).now.trees) }
     ensures kept { HasCleanDisk (state S.Store conn.new) → Keeps (state S.Store conn.old) (state S.Store conn.new) }
-    ensures live { HasCleanDisk (state S.Store conn.new) → IsTrue (state S.Store conn.old).is_open → OnOk result (IsTrue (state S.Store conn.new).is_open) }
+    ensures live { HasCleanDisk (state S.Store conn.new) → IsTrue (state S.Store conn.old).is_open
+        → OnOk result (IsTrue (state S.Store conn.new).is_open) }
     ensures fault { IfErr result IsPlainFault }
     ensures mode { (state S.Store conn.new).in_transaction ≡ false }
     ensures survives { Survives (state S.Store conn.old) (state S.Store conn.new) (λ _. IsTrue (state S.Store conn.old).is_open → ⊥) }
@@ -136,7 +138,8 @@ fn are_numbered<S: Alter>(conn: &mut Connection<S>, layout: Layout) -> Result<bo
 fn judge(found: Option<i64>, layout: Layout) -> Result<(), StoreFault>
     ensures marked { OnOk result (found ≡ Some (version_of layout)) }
     ensures unmarked { result ≡ Err StoreFault.NotAStore → found ≡ None }
-    ensures version { (n : ℤ) → result ≡ Err (StoreFault.Version n) → (found ≡ Some n) × IsOtherVersion n }
+    ensures version { (n : ℤ) → result ≡ Err (StoreFault.Version n)
+        → (found ≡ Some n) × IsOtherVersion n }
     ensures cause { IfErr result IsAdoptFault }
 {
     match (found, layout) {
@@ -149,16 +152,24 @@ fn judge(found: Option<i64>, layout: Layout) -> Result<(), StoreFault>
 
 /// Whether a database with the tables of a store is a store. Nothing changes.
 pub(crate) fn examine<S: Alter>(conn: &mut Connection<S>, layout: Layout) -> Result<(), StoreFault>
-    requires schema { HasCleanDisk (state S.Store conn.old) → IsTrue (state S.Store conn.old).is_open → (state S.Store conn.old).now.schema ≡ schema_of layout }
+    requires schema { HasCleanDisk (state S.Store conn.old) → IsTrue (state S.Store conn.old).is_open
+        → (state S.Store conn.old).now.schema ≡ schema_of layout }
     requires settled { (state S.Store conn.old).in_transaction ≡ false }
-    ensures store { HasCleanDisk (state S.Store conn.new) → OnOk result (IsStoreBy layout (state S.Store conn.new).now) }
-    ensures live { HasCleanDisk (state S.Store conn.new) → OnOk result (IsTrue (state S.Store conn.new).is_open) }
-    ensures unmarked { HasCleanDisk (state S.Store conn.new) → result ≡ Err StoreFault.NotAStore → length ((state S.Store conn.old).now.trees 0) ≢ 1 }
-    ensures version { HasCleanDisk (state S.Store conn.new) → (n : ℤ) → result ≡ Err (StoreFault.Version n) → IsOfVersion n (state S.Store conn.old).now.trees }
+    ensures store { HasCleanDisk (state S.Store conn.new)
+        → OnOk result (IsStoreBy layout (state S.Store conn.new).now) }
+    ensures live { HasCleanDisk (state S.Store conn.new)
+        → OnOk result (IsTrue (state S.Store conn.new).is_open) }
+    ensures unmarked { HasCleanDisk (state S.Store conn.new) → result ≡ Err StoreFault.NotAStore
+        → length ((state S.Store conn.old).now.trees 0) ≢ 1 }
+    ensures version { HasCleanDisk (state S.Store conn.new)
+        → (n : ℤ) → result ≡ Err (StoreFault.Version n)
+        → IsOfVersion n (state S.Store conn.old).now.trees }
     ensures cause { IfErr result IsAdoptFault }
-    ensures kept { HasCleanDisk (state S.Store conn.new) → Keeps (state S.Store conn.old) (state S.Store conn.new) }
+    ensures kept { HasCleanDisk (state S.Store conn.new)
+        → Keeps (state S.Store conn.old) (state S.Store conn.new) }
     ensures mode { (state S.Store conn.new).in_transaction ≡ false }
-    ensures survives { Survives (state S.Store conn.old) (state S.Store conn.new) (λ _. IsTrue (state S.Store conn.old).is_open → ⊥) }
+    ensures survives { Survives (state S.Store conn.old) (state S.Store conn.new)
+        (λ _. IsTrue (state S.Store conn.old).is_open → ⊥) }
 {
     let _schema = conn.schema();
     judge(version(conn, layout)?, layout)?;

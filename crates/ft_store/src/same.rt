@@ -429,7 +429,8 @@ fn are_list_keys(posting: &Index, sizes: &Index) -> bool
 }
 
 fn is_note_key(noted: &Index) -> bool
-    ensures { IsTrue result ↔ (noted.now ≡ key_index (codes "sqlite_autoindex_noted_1") 12 11 (1 ∷ []) case_order) }
+    ensures { IsTrue result
+        ↔ (noted.now ≡ key_index (codes "sqlite_autoindex_noted_1") 12 11 (1 ∷ []) case_order) }
 {
     is_index(noted, "sqlite_autoindex_noted_1", 12, 11, &[1], 2)
 }
@@ -484,7 +485,8 @@ fn is_older_store(schema: &Schema) -> bool
 
 /// Which tables a store has that a database has, and nothing else.
 pub(crate) fn layout_of(schema: &Schema) -> Option<Layout>
-    ensures { MatchOption result (HasStoreTables schema.now → ⊥) (λ layout. schema.now ≡ schema_of layout) }
+    ensures { MatchOption result (HasStoreTables schema.now → ⊥)
+        (λ layout. schema.now ≡ schema_of layout) }
 {
     if is_store(schema) {
         Some(Layout::Present)

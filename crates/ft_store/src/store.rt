@@ -125,7 +125,9 @@ impl<S: Alter> Store<S> {
         ensures refused { conn.in_transaction ≡ false → IfErr result (λ fault. IsNotTaken S.Store conn fault.connection fault.cause) }
         ensures again { conn.in_transaction ≡ false → IfErr result (λ fault. HasCleanDisk (state S.Store fault.connection) → IsTrue (state S.Store conn).is_open → (v : StoreValue) → IsStored (state S.Store conn).now.trees v
             → (fault.cause ≢ StoreFault.NotAStore) × ((n : ℤ) → fault.cause ≢ StoreFault.Version n)) }
-        ensures again_older { conn.in_transaction ≡ false → IfErr result (λ fault. HasCleanDisk (state S.Store fault.connection) → IsTrue (state S.Store conn).is_open → IsOlder (state S.Store conn).now.trees
+        ensures again_older { conn.in_transaction ≡ false → IfErr result (λ fault.
+            HasCleanDisk (state S.Store fault.connection) → IsTrue (state S.Store conn).is_open
+            → IsOlder (state S.Store conn).now.trees
             → (fault.cause ≢ StoreFault.NotAStore) × ((n : ℤ) → fault.cause ≢ StoreFault.Version n)) }
         ensures busy { IsTrue conn.in_transaction → MatchResult result (λ _. ⊥) (λ fault. (fault.connection ≡ conn) × (fault.cause ≡ StoreFault.Refused)) }
         ensures crash { conn.in_transaction ≡ false → MatchResult result (λ store. LeavesMade S.Store conn store.held) (λ fault. LeavesMade S.Store conn fault.connection) }

@@ -27,4 +27,4 @@ returns-clause-steps g c clean inside was =
     let shown_5 = shows_then _ _ _ shown_4 step_5.1 in
     let shown_6 = shows_then _ _ _ shown_5 step_6.1 in
     let shown_7 = shows_then _ _ _ shown_6 step_7.1 in
-    on_ok_weaker c.create-8.result (λ f. let step_8 = f _ _ makes_skip (λ _. step_7.0) in let made = unmarked_of _ (is_store_schema _ step_8.0) in (made.0, made.1, shows_then _ _ _ shown_7 step_8.1)) (c.create-8.ensures.steps clean step_7.1.mode)
+    on_ok_weaker c.create-8.result (λ f. let step_8 = f _ _ makes_skip (λ _. step_7.0) in (unmarked_of _ (is_store_schema _ step_8.0), shows_then _ _ _ shown_7 step_8.1)) (c.create-8.ensures.steps clean step_7.1.mode)
