@@ -1,6 +1,6 @@
--- A query in a transaction that is undone changes nothing.
-use Rattle.std.proofs.Common.{◌≡◌, ◌⊎◌, inl, inr, true, List, [], ℕ, Option, Some, None, Result, Ok, Err, sym, ap, ◌∙◌, IsTrue, cond}
-use Rattle.std.specs.Prelude.{Vec, IfOk, IfErr}
+-- A query in a transaction that is undone changes nothing; why a database with the tables of a store is not taken.
+use Rattle.std.proofs.Common.{◌≡◌, ◌≢◌, ◌⊎◌, inl, inr, true, false, List, [], ℕ, ℤ, length, Option, Some, None, Result, Ok, Err, sym, ap, ◌∙◌, arith, IsTrue, cond}
+use Rattle.std.specs.Prelude.{Vec, IfOk, IfErr, OnErr}
 use Rattle.std.specs.declared.alloc.Global.{Global}
 use Rattle.sqlite.specs.declared.error.Error.{Error}
 use Rattle.sqlite.specs.Order.{Row}
@@ -8,7 +8,15 @@ use Rattle.sqlite_schema.specs.declared.command.Returning.{Returning}
 use Rattle.sqlite.specs.Clock.{timed}
 use Rattle.sqlite.specs.State.{State, Shown, ShowsRows, IsUnchanged, IsRolledBack, KeepsCommit, FailsToQuery, IsTooLate}
 use Rattle.ft_store.specs.Calls.{Keeps}
-use Rattle.ft_store.specs.Adopted.{Gives, version_query}
+use Rattle.sqlite.specs.Schema.{Schema}
+use Rattle.sqlite.specs.State.{HasCleanDisk}
+use Rattle.sqlite.specs.Store.{Ghosts}
+use Rattle.sqlite.specs.Held.{Held, state}
+use Rattle.ft_store.specs.declared.fault.StoreFault.{StoreFault}
+use Rattle.ft_store.specs.declared.fault.StoreFault.TheVariants as fault
+use Rattle.ft_store.specs.Tables.{no_schema}
+use Rattle.ft_store.specs.Older.{HasStoreTables}
+use Rattle.ft_store.specs.Adopted.{Gives, version_query, IsAdoptFault, IsOfVersion, IsNotTaken}
 use Rattle.ft_store.proofs.CallLemmas.{refused_keeps}
 
 unchanged_keeps : (old new : State) → IsUnchanged old new → KeepsCommit old new
@@ -47,3 +55,27 @@ undone_keeps old begun mid new result settled was same inside gives back is_open
 pub gives_of : (old new : State) (result : Result (Vec Row Global) Error) → IfOk result (λ rows. Shown version_query [] old new rows.items) → IfErr result (λ e. FailsToQuery version_query [] old new e ⊎ IsTooLate version_query [] old new e) → Gives old new result
 gives_of old new (Ok rows) ok err = ok
 gives_of old new (Err e) ok err = err
+
+not_bare : (schema : Schema) → HasStoreTables schema → schema ≡ no_schema → ⊥
+not_bare schema (inl is) none = omega (arith, ap (λ (s : Schema). length s.tables) (sym is ∙ none))
+not_bare schema (inr is) none = omega (arith, ap (λ (s : Schema). length s.tables) (sym is ∙ none))
+
+pub err_too : {A E K : Type 0} (r : Result A E) → K → OnErr r K
+err_too (Ok a) k = tt
+err_too (Err e) k = k
+
+pub not_taken : {S : Type 0} (g : Ghosts S) (old new : Held S) (result : Result (Unit {0}) StoreFault) → HasStoreTables old.schema
+    → (HasCleanDisk (state g new) → OnErr result (Keeps (state g old) (state g new))) → new.in_transaction ≡ false → IfErr result IsAdoptFault
+    → (HasCleanDisk (state g new) → result ≡ Err fault.NotAStore → length ((state g old).now.trees 0) ≢ 1)
+    → (HasCleanDisk (state g new) → (n : ℤ) → result ≡ Err (fault.Version n) → IsOfVersion n (state g old).now.trees) → IfErr result (IsNotTaken g old new)
+not_taken g old new (Ok done) tables kept settled kind unmarked version = tt
+not_taken g old new (Err e) tables kept settled kind unmarked version = record {
+  kept = kept;
+  settled = settled;
+  kind = kind;
+  bare = λ none. absurd (not_bare old.schema tables none);
+  unmarked = λ clean ours is. unmarked clean (ap Err is);
+  version = λ clean n ours is. version clean n (ap Err is);
+  other = λ some others unnamed. absurd (others tables);
+  told = λ clean some others named. absurd (others tables);
+}

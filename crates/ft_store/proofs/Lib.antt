@@ -9,6 +9,7 @@ pub mod EntryLemmas
 pub mod KeyedLemmas
 pub mod LastLemmas
 pub mod MakeLemmas
+pub mod MigrateLemmas
 pub mod NamedLemmas
 pub mod OrderLemmas
 pub mod PackedLemmas

@@ -1,5 +1,5 @@
 -- How the tables are made.
-use Rattle.std.proofs.Common.{None, true, map, ◌≡◌, ◌⊎◌, inl, inr, ℕ, pos, false, List, [], ◌∷◌, Ok, Err, Result, refl, sym, ap, subst, ◌∙◌, arith}
+use Rattle.std.proofs.Common.{None, true, map, ◌≡◌, ◌⊎◌, inl, inr, ℕ, pos, false, List, [], ◌∷◌, Ok, Err, Result, refl, sym, ap, subst, ◌∙◌}
 use Rattle.std.specs.List.{AllByRecursion}
 use Rattle.sqlite.specs.Schema.{Schema}
 use Rattle.sqlite.specs.Table.{Table}
@@ -13,11 +13,9 @@ use Rattle.sqlite.specs.State.{State, Shows, Writes, Executes}
 use Rattle.sqlite.proofs.Callers.{runs_as, IsPlain, command_of as command_at}
 use Rattle.sqlite.specs.Order.{Row, column}
 use Rattle.sqlite.specs.declared.types.Value.TheVariants.{Null, Int}
-use Rattle.sqlite.specs.Tree.{Trees}
 use Rattle.sqlite_trees.specs.Tree.{put_row}
 use Rattle.sqlite.specs.Term.{Term, lit}
 use Rattle.sqlite.specs.Source.TheVariants.{Values}
-use Rattle.sqlite_catalog.specs.Listing.{IsSound}
 use Rattle.std.specs.Ordering.{int_cmp}
 use Rattle.ft_store.specs.Store.{cell_key_cmp, list_key_cmp, column_key_cmp, name_cmp}
 use Rattle.ft_store.specs.Rows.{keyed, table_entry, column_entry, skip_entry, cell_entry, list_entry, size_entry, note_entry}
@@ -25,8 +23,9 @@ use Rattle.ft_store.proofs.ChangeLemmas.{inserts, cast_null, cast_int}
 use Rattle.sqlite_keyed.proofs.ListLemmas.{all-append, all_both}
 use Rattle.ft_store.specs.Tables.{no_schema, store_schema, meta_table, tab_table, col_table, cell_table, posting_table, sizes_table, noted_table, skip_table}
 use Rattle.ft_store.proofs.Texts.{make_meta_text, make_tab_text, make_col_text, make_cell_text, make_posting_text, make_sizes_text, make_noted_text, make_skip_text, mark_text}
-use Rattle.ft_store.specs.Made.{AreEmpty, IsEmptyOf, Makes}
-use Rattle.ft_store.specs.Calls.{HasOwnRowids, AreNumbered, IsStore, IsStored}
+use Rattle.ft_store.specs.Made.{IsEmptyOf, IsUnmarked, Makes}
+use Rattle.ft_store.proofs.StepLemmas.{shaped_after, same_rows}
+use Rattle.ft_store.specs.Calls.{HasOwnRowids, IsStore}
 use Rattle.ft_store.specs.Store.{nothing_held}
 use Rattle.ft_store.specs.Rows.{value_of}
 
@@ -37,24 +36,40 @@ went (inr on) = on
 same_value : {B E : Type 0} {a b : B} → ◌≡◌ {A = Result B E} (Ok a) (Ok b) → a ≡ b
 same_value e = cc
 
-pub makes : (old new : State) (text : List ℕ) (s : Schema) (table : Table) (count : ℕ) → Makes s text table → IsEmptyOf s old.now → Executes text [] old new (Ok count) → IsEmptyOf (created s table) new.now
-makes old new text s table count made was h =
-    let w = subst (λ t. Writes old new None CreateTable t [] count) made.whole (runs_as text [] old new s was.schema CreateTable made.command made.plain count h) in
+-- a table is there that has no row, and the others have their rows
+pub record Creates (old now : Database) (tables : Schema) (table : Table) : Type 0 where
+  pub schema : now.schema ≡ created tables table
+  pub others : AllByRecursion (λ t. now.trees t.tree ≡ old.trees t.tree) tables.tables
+  pub empty : now.trees (next_tree tables) ≡ []
+  pub sound : IsDatabase now
+
+pub creates : (old new : State) (text : List ℕ) (s : Schema) (table : Table) (count : ℕ) → Makes s text table → old.now.schema ≡ s → Executes text [] old new (Ok count) → Creates old.now new.now s table
+creates old new text s table count made was h =
+    let w = subst (λ t. Writes old new None CreateTable t [] count) made.whole (runs_as text [] old new s was CreateTable made.command made.plain count h) in
     let all = went w.changed in
     let first = went all.1 in
     let it = first.1 in
     let both : Ok it.table ≡ Ok table = sym it.defined ∙ made.defined in
     let same : it.table ≡ table = cc in
-    let schema : first.0.schema ≡ created s table = it.is ∙ ap (λ d. created d it.table) was.schema ∙ ap (created s) same in
+    let schema : first.0.schema ≡ created s table = it.is ∙ ap (λ d. created d it.table) was ∙ ap (created s) same in
     let plain : lacks_sequence first.0.schema ≡ false = ap lacks_sequence schema ∙ made.uncounted in
     let now : new.now ≡ first.0 = ap (λ (p : Tally × Database). p.1) (same_value all.2) ∙ same_value (rw plain at first.2) in
-    let others = subst (λ (d : Schema). AllByRecursion (λ t. first.0.trees t.tree ≡ old.now.trees t.tree) d.tables) was.schema it.others in
-    let kept = all_both (λ t. first.0.trees t.tree ≡ old.now.trees t.tree) (λ t. old.now.trees t.tree ≡ []) (λ (t : Table). first.0.trees t.tree ≡ []) (λ t e f. e ∙ f) s.tables others was.empty in
-    let fresh : first.0.trees (next_tree s) ≡ [] = subst (λ d. first.0.trees (next_tree d) ≡ []) was.schema it.empty in
+    subst (λ (d : Database). IsDatabase d → Creates old.now d s table) (sym now)
+    (λ sound. record {
+      schema = schema;
+      others = subst (λ (d : Schema). AllByRecursion (λ t. first.0.trees t.tree ≡ old.now.trees t.tree) d.tables) was it.others;
+      empty = subst (λ d. first.0.trees (next_tree d) ≡ []) was it.empty;
+      sound = sound;
+    }) w.sound
+
+pub makes : (old new : State) (text : List ℕ) (s : Schema) (table : Table) (count : ℕ) → Makes s text table → IsEmptyOf s old.now → Executes text [] old new (Ok count) → IsEmptyOf (created s table) new.now
+makes old new text s table count made was h =
+    let it = creates old new text s table count made was.schema h in
+    let kept = all_both (λ t. new.now.trees t.tree ≡ old.now.trees t.tree) (λ t. old.now.trees t.tree ≡ []) (λ (t : Table). new.now.trees t.tree ≡ []) (λ t e f. e ∙ f) s.tables it.others was.empty in
     record {
-      schema = ap (λ (d : Database). d.schema) now ∙ schema;
-      empty = subst (AreEmpty (created s table)) (sym (ap (λ (d : Database). d.trees) now)) (all-append (λ (t : Table). first.0.trees t.tree ≡ []) s.tables _ kept (fresh, tt));
-      sound = w.sound;
+      schema = it.schema;
+      empty = all-append (λ (t : Table). new.now.trees t.tree ≡ []) s.tables _ kept (it.empty, tt);
+      sound = it.sound;
     }
 
 abbrev pub schema_1 : Schema
@@ -139,43 +154,44 @@ mark_plain : IsPlain (understood store_schema mark_text)
 unfolding understood everything
 mark_plain = (refl, refl)
 
--- the tables that were just made and marked are an empty store
-pub marks : (old new : State) (count : ℕ) → IsEmptyOf store_schema old.now → Executes mark_text [] old new (Ok count) → IsStore new.now × (value_of new.now.trees ≡ nothing_held)
+-- the tables of a store get their mark
+pub marks : (old new : State) (count : ℕ) → IsUnmarked old.now → Executes mark_text [] old new (Ok count) → IsStore new.now × (value_of new.now.trees ≡ value_of old.now.trees)
 marks old new count was h =
-    let made = inserts old new mark_text [] 0 0 _ _ _ _ _ _ _ mark_terms 3 marked_row count was.schema mark_is mark_plain refl (rw (cast_int (pos 1), cast_null, cast_int (pos 3)) refl) h in
+    let made = inserts old new mark_text [] 0 0 _ _ _ _ _ _ _ mark_terms 3 marked_row count was.tabled.schema mark_is mark_plain refl (rw (cast_int (pos 1), cast_null, cast_int (pos 3)) refl) h in
     let wrote = made.0 in
-    let row : new.now.trees 0 ≡ marked_row ∷ [] = wrote.written ∙ ap (put_row marked_row) was.empty.0 in
-    let rest = wrote.others.1 in
-    let none = was.empty.1 in
-    let tables : new.now.trees 1 ≡ [] = rest.0 (λ e. omega (arith, e)) ∙ none.0 in
-    let columns : new.now.trees 3 ≡ [] = rest.1.0 (λ e. omega (arith, e)) ∙ none.1.0 in
-    let cells : new.now.trees 5 ≡ [] = rest.1.1.0 (λ e. omega (arith, e)) ∙ none.1.1.0 in
-    let lists : new.now.trees 7 ≡ [] = rest.1.1.1.0 (λ e. omega (arith, e)) ∙ none.1.1.1.0 in
-    let sizes : new.now.trees 9 ≡ [] = rest.1.1.1.1.0 (λ e. omega (arith, e)) ∙ none.1.1.1.1.0 in
-    let noted : new.now.trees 11 ≡ [] = rest.1.1.1.1.1.0 (λ e. omega (arith, e)) ∙ none.1.1.1.1.1.0 in
-    let skipped : new.now.trees 13 ≡ [] = rest.1.1.1.1.1.1.0 (λ e. omega (arith, e)) ∙ none.1.1.1.1.1.1.0 in
-    let shaped : AreNumbered store_schema.tables new.now.trees =
-    (subst (HasOwnRowids) (sym row) ((tt, tt), (refl, tt)), (empty_shaped tables, (empty_shaped columns, (empty_shaped cells, (empty_shaped lists, (empty_shaped sizes, (empty_shaped noted, (empty_shaped skipped, tt)))))))) in (
-      record { schema = wrote.schema; sound = wrote.sound; numbered = shaped; marked = ap (map (λ (r : Row). column r 2)) row },
+    let row : new.now.trees 0 ≡ marked_row ∷ [] = wrote.written ∙ ap (put_row marked_row) was.unmarked in
+    let own : HasOwnRowids (new.now.trees 0) = subst HasOwnRowids (sym row) ((tt, tt), (refl, tt)) in (
+      record {
+        schema = wrote.schema;
+        sound = wrote.sound;
+        numbered = shaped_after 0 old.now.trees new.now.trees store_schema.tables wrote.others was.tabled.numbered own;
+        marked = ap (map (λ (r : Row). column r 2)) row;
+      },
+      same_rows old.now.trees new.now.trees wrote.others.1,
+    )
+
+-- tables without a row are those of a store that holds nothing
+pub unmarked_of : (db : Database) → IsEmptyOf store_schema db → IsUnmarked db × (value_of db.trees ≡ nothing_held)
+unmarked_of db was =
+    let none = was.empty.1 in (
+      record {
+        tabled = record {
+          schema = was.schema;
+          sound = was.sound;
+          numbered = (own was.empty.0, (own none.0, (own none.1.0, (own none.1.1.0, (own none.1.1.1.0, (own none.1.1.1.1.0, (own none.1.1.1.1.1.0, (own none.1.1.1.1.1.1.0, tt))))))));
+        };
+        unmarked = was.empty.0;
+      },
       λ i. record {
-        tables = keyed int_cmp (map table_entry (tables i));
-        columns = keyed column_key_cmp (map column_entry (columns i));
-        skipped = keyed column_key_cmp (map skip_entry (skipped i));
-        cells = keyed cell_key_cmp (map cell_entry (cells i));
-        lists = keyed list_key_cmp (map list_entry (lists i));
-        sizes = keyed cell_key_cmp (map size_entry (sizes i));
-        noted = keyed name_cmp (map note_entry (noted i));
+        tables = keyed int_cmp (map table_entry (none.0 i));
+        columns = keyed column_key_cmp (map column_entry (none.1.0 i));
+        skipped = keyed column_key_cmp (map skip_entry (none.1.1.1.1.1.1.0 i));
+        cells = keyed cell_key_cmp (map cell_entry (none.1.1.0 i));
+        lists = keyed list_key_cmp (map list_entry (none.1.1.1.0 i));
+        sizes = keyed cell_key_cmp (map size_entry (none.1.1.1.1.0 i));
+        noted = keyed name_cmp (map note_entry (none.1.1.1.1.1.0 i));
       },
     )
   where
-    empty_shaped : {rows : List Row} → rows ≡ [] → HasOwnRowids rows
-    empty_shaped e = subst (HasOwnRowids) (sym e) (tt, tt)
-
--- a database without tables is one of an empty schema
-pub is_bare : (db : Database) → IsDatabase db → db.schema ≡ no_schema → IsEmptyOf no_schema db
-is_bare db sound schema = record { schema = schema; empty = tt; sound = sound }
-
--- what a commit writes is the empty store
-pub stored : (now : Database) → IsStore now → value_of now.trees ≡ nothing_held → (db : Trees) → db ≡ now.trees → IsStored db nothing_held
-stored now store is db same =
-    subst (λ t. IsStored t nothing_held) (sym same) (record { sound = subst (λ s. IsSound s now.trees) store.schema store.sound; numbered = store.numbered; marked = store.marked; is = is })
+    own : {rows : List Row} → rows ≡ [] → HasOwnRowids rows
+    own e = subst HasOwnRowids (sym e) (tt, tt)

@@ -1,5 +1,5 @@
 -- What is seen of a database before it is taken as a store.
-use Rattle.std.proofs.Common.{◌≡◌, ◌≢◌, ℕ, ◌+◌, ◌<◌, ℤ, true, false, cond, List, [], ◌∷◌, ◌++◌, map, length, refl, sym, ap, ◌∙◌, subst, arith, IsTrue, IsPermutation, codes, None, Some, take, get_or, ◌≤ℤ◌, ◌<ℤ◌, inl, inr}
+use Rattle.std.proofs.Common.{◌≡◌, ◌≢◌, ℕ, ◌+◌, ◌<◌, ◌≤◌, ℤ, true, false, cond, List, [], ◌∷◌, ◌++◌, map, length, refl, sym, ap, ◌∙◌, subst, arith, IsTrue, IsPermutation, codes, None, Some, take, get_or, ◌≤ℤ◌, ◌<ℤ◌}
 use Rattle.std.specs.Prelude.{Option, IfSome, MatchOption, nat_le, ◌-◌, ◌^◌, unwrap_or, slice_get}
 use Rattle.std.proofs.lemmas.Int.{ints}
 use Rattle.std.specs.List.{AllByRecursion}
@@ -19,12 +19,13 @@ use Rattle.sqlite.proofs.Callers.{reads_as, command_of, one_permutation, IsPlain
 use Rattle.sqlite_trees.specs.Tree.{IsAscending, rowid}
 use Rattle.sqlite_trees.specs.View.{is_int}
 use Rattle.sqlite_keyed.proofs.ListLemmas.{map-map, filter_all, all_of, all_weaker, all-append, along_permutation}
+use Rattle.sqlite.specs.Schema.{Schema}
+use Rattle.ft_store.specs.declared.same.Layout.{Layout}
+use Rattle.ft_store.specs.declared.same.Layout.TheVariants.{Older, Present}
 use Rattle.ft_store.specs.Tables.{store_schema}
+use Rattle.ft_store.specs.Older.{schema_of, tables_of}
 use Rattle.ft_store.specs.Scan.{Scans, tree_at}
-use Rattle.sqlite.specs.Effect.{Database, IsDatabase}
-use Rattle.ft_store.specs.Calls.{HasOwnRowids, AreNumbered, IsMarked, IsStore, IsPlainFault, Keeps}
-use Rattle.ft_store.specs.declared.fault.StoreFault.{StoreFault}
-use Rattle.ft_store.specs.declared.fault.StoreFault.TheVariants as fault
+use Rattle.ft_store.specs.Calls.{HasOwnRowids, AreNumbered}
 use Rattle.ft_store.proofs.TextLemmas.{query_by, rising, no_limit}
 use Rattle.ft_store.proofs.SelectLemmas.{arranged}
 use Rattle.ft_store.proofs.RowidLemmas.{IsInt, DifferIn}
@@ -32,37 +33,48 @@ use Rattle.ft_store.proofs.LastLemmas.{ascending-end}
 
 -- ---- the texts
 
-pub scans_meta : Scans (codes "SELECT rowid FROM meta ORDER BY rowid") 0
+pub scans_meta : (layout : Layout) → Scans (schema_of layout) (codes "SELECT rowid FROM meta ORDER BY rowid") 0
 unfolding understood everything
-scans_meta = record { names = codes "one" ∷ []; is = refl; plain = (refl, refl); unlisted = refl }
+scans_meta Older = record { names = codes "one" ∷ []; is = refl; plain = (refl, refl); unlisted = refl }
+scans_meta Present = record { names = codes "one" ∷ []; is = refl; plain = (refl, refl); unlisted = refl }
 
-pub scans_tab : Scans (codes "SELECT rowid FROM tab ORDER BY rowid") 1
+pub scans_tab : (layout : Layout) → Scans (schema_of layout) (codes "SELECT rowid FROM tab ORDER BY rowid") 1
 unfolding understood everything
-scans_tab = record { names = codes "id" ∷ []; is = refl; plain = (refl, refl); unlisted = refl }
+scans_tab Older = record { names = codes "id" ∷ []; is = refl; plain = (refl, refl); unlisted = refl }
+scans_tab Present = record { names = codes "id" ∷ []; is = refl; plain = (refl, refl); unlisted = refl }
 
-pub scans_col : Scans (codes "SELECT rowid FROM col ORDER BY rowid") 3
+pub scans_col : (layout : Layout) → Scans (schema_of layout) (codes "SELECT rowid FROM col ORDER BY rowid") 3
 unfolding understood everything
-scans_col = record { names = codes "rowid" ∷ []; is = refl; plain = (refl, refl); unlisted = refl }
+scans_col Older = record { names = codes "rowid" ∷ []; is = refl; plain = (refl, refl); unlisted = refl }
+scans_col Present = record { names = codes "rowid" ∷ []; is = refl; plain = (refl, refl); unlisted = refl }
 
-pub scans_cell : Scans (codes "SELECT rowid FROM cell ORDER BY rowid") 5
+pub scans_cell : (layout : Layout) → Scans (schema_of layout) (codes "SELECT rowid FROM cell ORDER BY rowid") 5
 unfolding understood everything
-scans_cell = record { names = codes "rowid" ∷ []; is = refl; plain = (refl, refl); unlisted = refl }
+scans_cell Older = record { names = codes "rowid" ∷ []; is = refl; plain = (refl, refl); unlisted = refl }
+scans_cell Present = record { names = codes "rowid" ∷ []; is = refl; plain = (refl, refl); unlisted = refl }
 
-pub scans_posting : Scans (codes "SELECT rowid FROM posting ORDER BY rowid") 7
+pub scans_posting : (layout : Layout) → Scans (schema_of layout) (codes "SELECT rowid FROM posting ORDER BY rowid") 7
 unfolding understood everything
-scans_posting = record { names = codes "rowid" ∷ []; is = refl; plain = (refl, refl); unlisted = refl }
+scans_posting Older = record { names = codes "rowid" ∷ []; is = refl; plain = (refl, refl); unlisted = refl }
+scans_posting Present = record { names = codes "rowid" ∷ []; is = refl; plain = (refl, refl); unlisted = refl }
 
-pub scans_sizes : Scans (codes "SELECT rowid FROM sizes ORDER BY rowid") 9
+pub scans_sizes : (layout : Layout) → Scans (schema_of layout) (codes "SELECT rowid FROM sizes ORDER BY rowid") 9
 unfolding understood everything
-scans_sizes = record { names = codes "rowid" ∷ []; is = refl; plain = (refl, refl); unlisted = refl }
+scans_sizes Older = record { names = codes "rowid" ∷ []; is = refl; plain = (refl, refl); unlisted = refl }
+scans_sizes Present = record { names = codes "rowid" ∷ []; is = refl; plain = (refl, refl); unlisted = refl }
 
-pub scans_noted : Scans (codes "SELECT rowid FROM noted ORDER BY rowid") 11
+pub scans_noted : (layout : Layout) → Scans (schema_of layout) (codes "SELECT rowid FROM noted ORDER BY rowid") 11
 unfolding understood everything
-scans_noted = record { names = codes "rowid" ∷ []; is = refl; plain = (refl, refl); unlisted = refl }
+scans_noted Older = record { names = codes "rowid" ∷ []; is = refl; plain = (refl, refl); unlisted = refl }
+scans_noted Present = record { names = codes "rowid" ∷ []; is = refl; plain = (refl, refl); unlisted = refl }
 
-pub scans_skip : Scans (codes "SELECT rowid FROM skip ORDER BY rowid") 13
+scans_skip : Scans store_schema (codes "SELECT rowid FROM skip ORDER BY rowid") 13
 unfolding understood everything
 scans_skip = record { names = codes "rowid" ∷ []; is = refl; plain = (refl, refl); unlisted = refl }
+
+pub scans_last : (layout : Layout) (at : ℕ) → 7 ≤ at → at < tables_of layout → Scans (schema_of layout) (codes "SELECT rowid FROM skip ORDER BY rowid") (tree_at at)
+scans_last Older at low below = absurd (omega (arith, low, below))
+scans_last Present at low below = let is : at ≡ 7 = omega (arith, low, below) in rw is scans_skip
 
 abbrev pub version_text : List ℕ
 version_text = codes "SELECT version FROM meta"
@@ -70,17 +82,20 @@ version_text = codes "SELECT version FROM meta"
 abbrev version_query : Query
 version_query = query_by 0 [] (2 ∷ []) [] no_limit
 
-version_is : command_of (understood store_schema version_text) ≡ Select (record { lets = []; body = version_query }) (codes "version" ∷ [])
+version_is : (layout : Layout) → command_of (understood (schema_of layout) version_text) ≡ Select (record { lets = []; body = version_query }) (codes "version" ∷ [])
 unfolding understood everything
-version_is = refl
+version_is Older = refl
+version_is Present = refl
 
-version_unlisted : reads_listing store_schema version_text ≡ false
+version_unlisted : (layout : Layout) → reads_listing (schema_of layout) version_text ≡ false
 unfolding understood everything
-version_unlisted = refl
+version_unlisted Older = refl
+version_unlisted Present = refl
 
-pub version_plain : IsPlain (understood store_schema version_text)
+pub version_plain : (layout : Layout) → IsPlain (understood (schema_of layout) version_text)
 unfolding understood everything
-version_plain = (refl, refl)
+version_plain Older = (refl, refl)
+version_plain Present = (refl, refl)
 
 -- ---- values that differ, in any order
 
@@ -170,17 +185,17 @@ every db tree shown order rows answer =
 pub no_overlay : (db : Trees) (t : ℕ) → overlay db [] t ≡ db t
 no_overlay db t = elim (nat_le (2 ^ 31) t) as (λ b. unwrap_or (cond b (slice_get {X = List Row} [] (t - 2 ^ 31)) None) (db t) ≡ db t) [ true ↦ refl | false ↦ refl ]
 
-pub scanned : (text : List ℕ) (tree : ℕ) → Scans text tree → (old new : State) → old.now.schema ≡ store_schema → (rows : List Row) → Shown text [] old new rows → HasOwnRowids rows → HasOwnRowids (old.now.trees tree)
-scanned text tree it old new schema rows h own =
-    let answer = (reads_as text [] old new store_schema schema _ it.is it.plain it.unlisted rows h).answer Null in
+pub scanned : (tables : Schema) (text : List ℕ) (tree : ℕ) → Scans tables text tree → (old new : State) → old.now.schema ≡ tables → (rows : List Row) → Shown text [] old new rows → HasOwnRowids rows → HasOwnRowids (old.now.trees tree)
+scanned tables text tree it old new schema rows h own =
+    let answer = (reads_as text [] old new tables schema _ it.is it.plain it.unlisted rows h).answer Null in
     let all = every (overlay old.now.trees []) tree (0 ∷ []) (0 ∷ []) rows answer in
     let rowids = subst (λ l. IsPermutation l (map rowid rows)) (map-map rowid (λ (r : Row). column r 0 ∷ []) (overlay old.now.trees [] tree)) (IsPermutation-map rowid _ _ all) in
     subst HasOwnRowids (no_overlay old.now.trees tree) (own_again (overlay old.now.trees [] tree) rows rowids own)
 
-pub version_seen : (old new : State) → old.now.schema ≡ store_schema → (rows : List Row) → Shown version_text [] old new rows
+pub version_seen : (layout : Layout) (old new : State) → old.now.schema ≡ schema_of layout → (rows : List Row) → Shown version_text [] old new rows
     → (length (old.now.trees 0) ≡ length rows) × ((n : ℤ) → map (λ r. column r 0) rows ≡ Int n ∷ [] → map (λ r. column r 2) (old.now.trees 0) ≡ Int n ∷ [])
-version_seen old new schema rows h =
-    let answer = (reads_as version_text [] old new store_schema schema _ version_is version_plain version_unlisted rows h).answer Null in
+version_seen layout old new schema rows h =
+    let answer = (reads_as version_text [] old new (schema_of layout) schema _ (version_is layout) (version_plain layout) (version_unlisted layout) rows h).answer Null in
     let all = every (overlay old.now.trees []) 0 (2 ∷ []) [] rows answer in
     let values = subst (λ l. IsPermutation l (map (λ (r : Row). column r 0) rows)) (map-map (λ (r : Row). column r 0) (λ (r : Row). column r 2 ∷ []) (old.now.trees 0)) (IsPermutation-map (λ (r : Row). column r 0) _ _ all) in (
       sym (length-map (old.now.trees 0) (λ (r : Row). column r 2 ∷ [])) ∙ sym (length_permutation _ _ all),
@@ -189,26 +204,13 @@ version_seen old new schema rows h =
 
 -- ---- all tables
 
-pub each_numbered : (db : Trees) → ((i : ℕ) → i < 8 → HasOwnRowids (db (tree_at i))) → AreNumbered store_schema.tables db
-each_numbered db h =
+pub each_numbered : (layout : Layout) (db : Trees) → ((i : ℕ) → i < tables_of layout → HasOwnRowids (db (tree_at i))) → AreNumbered (schema_of layout).tables db
+each_numbered Older db h =
+    (h 0 (omega arith), (h 1 (omega arith), (h 2 (omega arith), (h 3 (omega arith), (h 4 (omega arith), (h 5 (omega arith), (h 6 (omega arith), tt)))))))
+each_numbered Present db h =
     (h 0 (omega arith), (h 1 (omega arith), (h 2 (omega arith), (h 3 (omega arith), (h 4 (omega arith), (h 5 (omega arith), (h 6 (omega arith), (h 7 (omega arith), tt))))))))
 
-pub version_of : (o : Option ℤ) (given rows found : List Row) → given ≡ rows → (length found ≡ length rows) × ((n : ℤ) → map (λ (r : Row). column r 0) rows ≡ Int n ∷ [] → map (λ (r : Row). column r 2) found ≡ Int n ∷ [])
+pub version_found : (o : Option ℤ) (given rows found : List Row) → given ≡ rows → (length found ≡ length rows) × ((n : ℤ) → map (λ (r : Row). column r 0) rows ≡ Int n ∷ [] → map (λ (r : Row). column r 2) found ≡ Int n ∷ [])
     → MatchOption o (length given ≢ 1) (λ n. map (λ (r : Row). column r 0) given ≡ Int n ∷ []) → MatchOption o (length found ≢ 1) (λ n. map (λ (r : Row). column r 2) found ≡ Int n ∷ [])
-version_of None given rows found same seen h = λ e. h (ap length same ∙ sym seen.0 ∙ e)
-version_of (Some n) given rows found same seen h = seen.1 n (subst (λ l. map (λ (r : Row). column r 0) l ≡ Int n ∷ []) same h)
-
--- what was examined is a store
-pub taken : (old mid new : State) → Keeps old mid → Keeps mid new → IsTrue new.is_open → (IsTrue old.is_open → old.now.schema ≡ store_schema) → (IsTrue old.is_open → IsDatabase old.now) → AreNumbered store_schema.tables mid.now.trees → IsMarked old.now.trees → IsStore new.now
-taken old mid new one two is_open schema sound numbered marked =
-    let later = two is_open in
-    let first = one later.2 in
-    subst IsStore (sym (later.0 ∙ first.0)) (record { schema = schema first.2; sound = sound first.2; numbered = subst (λ (d : Database). AreNumbered store_schema.tables d.trees) first.0 numbered; marked = marked })
-
-pub not_unmarked : (e : StoreFault) → IsPlainFault e → e ≡ fault.NotAStore → ⊥
-not_unmarked e (inl memory) is = absurd (let both = sym is ∙ memory in cc)
-not_unmarked e (inr refused) is = absurd (let both = sym is ∙ refused in cc)
-
-pub no_version : (e : StoreFault) (n : ℤ) → IsPlainFault e → e ≡ fault.Version n → ⊥
-no_version e n (inl memory) is = absurd (let both = sym is ∙ memory in cc)
-no_version e n (inr refused) is = absurd (let both = sym is ∙ refused in cc)
+version_found None given rows found same seen h = λ e. h (ap length same ∙ sym seen.0 ∙ e)
+version_found (Some n) given rows found same seen h = seen.1 n (subst (λ l. map (λ (r : Row). column r 0) l ≡ Int n ∷ []) same h)

@@ -1,5 +1,5 @@
 -- What the steps of a change make of the value of a store.
-use Rattle.std.proofs.Common.{◌≡◌, ◌≢◌, ℕ, ℤ, Bool, true, false, not, List, [], ◌∷◌, map, None, Ok, refl, sym, ap, ◌∙◌, subst, arith, IsTrue, nat_eq}
+use Rattle.std.proofs.Common.{◌≡◌, ◌≢◌, ℕ, ℤ, Bool, true, false, not, List, [], ◌∷◌, drop, map, None, Ok, refl, sym, ap, ◌∙◌, subst, arith, IsTrue, nat_eq}
 use Rattle.std.specs.List.{AllByRecursion, list_all}
 use Rattle.std.specs.Ordering.{int_cmp}
 use Rattle.std.specs.FinMap.Entries.{put, where_key, find}
@@ -33,7 +33,7 @@ use Rattle.ft_store.proofs.ChangeLemmas.{Wrote, deletes}
 
 -- ---- what a write to one table leaves
 
-shaped_after : (tree : ℕ) (old new : Trees) (tables : List Table) → AllByRecursion (λ t. t.tree ≢ tree → new t.tree ≡ old t.tree) tables → AreNumbered tables old → HasOwnRowids (new tree) → AreNumbered tables new
+pub shaped_after : (tree : ℕ) (old new : Trees) (tables : List Table) → AllByRecursion (λ t. t.tree ≢ tree → new t.tree ≡ old t.tree) tables → AreNumbered tables old → HasOwnRowids (new tree) → AreNumbered tables new
 shaped_after tree old new [] others shaped here = tt
 shaped_after tree old new (t ∷ tables) others shaped here = (go (nat_eq t.tree tree) refl, shaped_after tree old new tables others.1 shaped.1 here)
   where
@@ -41,9 +41,15 @@ shaped_after tree old new (t ∷ tables) others shaped here = (go (nat_eq t.tree
     go true e = subst (λ n. HasOwnRowids (new n)) (sym (eqb-true t.tree tree e)) here
     go false e = subst (HasOwnRowids) (sym (others.0 (eqb-false t.tree tree e))) shaped.0
 
-same_value : {a b : StoreValue} → a.tables ≡ b.tables → a.columns ≡ b.columns → a.skipped ≡ b.skipped → a.cells ≡ b.cells → a.lists ≡ b.lists → a.sizes ≡ b.sizes → a.noted ≡ b.noted → a ≡ b
+pub same_value : {a b : StoreValue} → a.tables ≡ b.tables → a.columns ≡ b.columns → a.skipped ≡ b.skipped → a.cells ≡ b.cells → a.lists ≡ b.lists → a.sizes ≡ b.sizes → a.noted ≡ b.noted → a ≡ b
 same_value tables columns skipped cells lists sizes noted =
     λ i. record { tables = tables i; columns = columns i; skipped = skipped i; cells = cells i; lists = lists i; sizes = sizes i; noted = noted i }
+
+-- only `meta` differs
+pub same_rows : (old new : Trees) → AllByRecursion (λ t. t.tree ≢ 0 → new t.tree ≡ old t.tree) (drop 1 store_schema.tables) → value_of new ≡ value_of old
+same_rows old new rest =
+    same_value
+    (ap (λ r. keyed int_cmp (map table_entry r)) (rest.0 (λ e. omega (arith, e)))) (ap (λ r. keyed column_key_cmp (map column_entry r)) (rest.1.0 (λ e. omega (arith, e)))) (ap (λ r. keyed column_key_cmp (map skip_entry r)) (rest.1.1.1.1.1.1.0 (λ e. omega (arith, e)))) (ap (λ r. keyed cell_key_cmp (map cell_entry r)) (rest.1.1.0 (λ e. omega (arith, e)))) (ap (λ r. keyed list_key_cmp (map list_entry r)) (rest.1.1.1.0 (λ e. omega (arith, e)))) (ap (λ r. keyed cell_key_cmp (map size_entry r)) (rest.1.1.1.1.0 (λ e. omega (arith, e)))) (ap (λ r. keyed name_cmp (map note_entry r)) (rest.1.1.1.1.1.0 (λ e. omega (arith, e))))
 
 module _ (old new : State) (store : IsStore old.now) (shown : Shows old new new.now old.committed true) where
   sound : IsSound store_schema old.now.trees

@@ -127,5 +127,8 @@ make_skip_text = codes "CREATE TABLE skip (tab INTEGER NOT NULL, col INTEGER NOT
 abbrev pub mark_text : List ℕ
 mark_text = codes "INSERT INTO meta (one, version) VALUES (1, 3)"
 
+abbrev pub unmark_text : List ℕ
+unmark_text = codes "DELETE FROM meta"
+
 abbrev pub version_text : List ℕ
 version_text = codes "SELECT version FROM meta"

@@ -1,5 +1,5 @@
 -- Why a database that is not a store is not taken (own choice).
-use Rattle.std.specs.Prelude.{◌≡◌, ◌≢◌, ◌⊎◌, ℤ, pos, false, length, map, IsTrue, Bool, if◌then◌else◌, List, [], ◌∷◌, true, Result, Ok, Err, Vec}
+use Rattle.std.specs.Prelude.{◌≡◌, ◌≢◌, ◌⊎◌, ◌||◌, ℤ, pos, false, length, map, IsTrue, Bool, if◌then◌else◌, List, [], ◌∷◌, true, Result, Ok, Err, Vec}
 use Rattle.std.specs.List.{list_any}
 use Rattle.std.specs.Ordering.{int_eq}
 use Rattle.std.specs.declared.alloc.Global.{Global}
@@ -21,6 +21,9 @@ use Rattle.ft_store.specs.Tables.{no_schema, store_schema}
 use Rattle.ft_store.specs.Store.{nothing_held}
 use Rattle.ft_store.specs.Rows.{value_of}
 use Rattle.ft_store.specs.Calls.{IsPlainFault, IsStored, Keeps}
+use Rattle.ft_store.specs.Older.{older_schema, HasStoreTables, IsOlder, older_value}
+use Rattle.sqlite.specs.Tree.{Trees}
+use Rattle.sqlite.specs.Effect.{Database}
 
 abbrev pub version_query : List ℕ
 version_query = codes "SELECT version FROM meta"
@@ -34,9 +37,9 @@ Gives old new (Err e) = FailsToQuery version_query [] old new e ⊎ IsTooLate ve
 abbrev pub TellsAs : {S : Type 0} → Ghosts S → Held S → Result (Vec Row Global) Error → Type 0
 TellsAs {S} g old result = (after : Held S) × Gives (state g (record old { in_transaction = true })) (state g after) result
 
--- the version is the one that stores have, or another
+-- the version is one of those that stores have, or another
 abbrev pub version_cause : Value → StoreFault
-version_cause (Int n) = if int_eq n (pos 3) then fault.Refused else fault.Version n
+version_cause (Int n) = if int_eq n (pos 2) || int_eq n (pos 3) then fault.Refused else fault.Version n
 version_cause _ = fault.NotAStore
 
 -- `meta` has one row, with a number
@@ -67,24 +70,47 @@ our_names = codes "meta" ∷ codes "tab" ∷ codes "col" ∷ codes "cell" ∷ co
 abbrev pub has_our_name : Schema → Bool
 has_our_name schema = list_any (λ t. list_any (same_name t.name) our_names) schema.tables
 
--- A database is taken as a store. One that had no object holds the empty store then; any other has the tables of a store,
--- and is as it was.
+-- why a database may not be taken: a plain fault, or what `meta` says
+abbrev pub IsAdoptFault : StoreFault → Type 0
+IsAdoptFault e = IsPlainFault e ⊎ ((e ≡ fault.NotAStore) ⊎ ((n : ℤ) × (e ≡ fault.Version n)))
+
+-- a version that no store has that is taken
+abbrev pub IsOtherVersion : ℤ → Type 0
+IsOtherVersion n = (n ≢ pos 2) × (n ≢ pos 3)
+
+-- `meta` has one row, with such a version
+abbrev pub IsOfVersion : ℤ → Trees → Type 0
+IsOfVersion n db = (map (λ (r : Row). column r 2) (db 0) ≡ Int n ∷ []) × IsOtherVersion n
+
+-- A database is taken as a store. One that had no object holds the empty store then, and a store of version 2 holds what it
+-- held; any other has the tables of a store, and is as it was.
 pub record IsTaken {S : Type 0} (g : Ghosts S) (old new : Held S) : Type 0 where
   pub bare : HasCleanDisk (state g new) → IsTrue (state g new).is_open → old.schema ≡ no_schema → value_of (state g new).now.trees ≡ nothing_held
-  pub held : HasCleanDisk (state g new) → IsTrue (state g new).is_open → old.schema ≢ no_schema → (old.schema ≡ store_schema) × ((state g new).now ≡ (state g old).now)
+  pub held : HasCleanDisk (state g new) → IsTrue (state g new).is_open → old.schema ≡ store_schema → (state g new).now ≡ (state g old).now
+  pub older : HasCleanDisk (state g new) → IsTrue (state g new).is_open → old.schema ≡ older_schema
+      → IsOlder (state g old).now.trees × (value_of (state g new).now.trees ≡ older_value (state g old).now.trees)
+  pub known : HasCleanDisk (state g new) → IsTrue (state g new).is_open → old.schema ≢ no_schema → HasStoreTables old.schema
 
--- A database is not taken, and is as it was.
+-- A database is not taken, and is as it was, outside a transaction.
 pub record IsNotTaken {S : Type 0} (g : Ghosts S) (old new : Held S) (cause : StoreFault) : Type 0 where
   pub kept : HasCleanDisk (state g new) → Keeps (state g old) (state g new)
+  pub settled : new.in_transaction ≡ false
+  pub kind : IsAdoptFault cause
   -- a database without objects is not made a store for want of memory, or since it refused
   pub bare : old.schema ≡ no_schema → IsPlainFault cause
-  -- with the tables of a store `meta` decides
-  pub unmarked : HasCleanDisk (state g new) → old.schema ≡ store_schema → cause ≡ fault.NotAStore → length ((state g old).now.trees 0) ≢ 1
-  pub version : HasCleanDisk (state g new) → (n : ℤ) → old.schema ≡ store_schema → cause ≡ fault.Version n → (map (λ (r : Row). column r 2) ((state g old).now.trees 0) ≡ Int n ∷ []) × (n ≢ pos 3)
+  -- with the tables of a store, of version 2 or of version 3, `meta` decides
+  pub unmarked : HasCleanDisk (state g new) → HasStoreTables old.schema → cause ≡ fault.NotAStore → length ((state g old).now.trees 0) ≢ 1
+  pub version : HasCleanDisk (state g new) → (n : ℤ) → HasStoreTables old.schema → cause ≡ fault.Version n → IsOfVersion n (state g old).now.trees
   -- with other tables it is what the database tells, if one of them has a name of ours
-  pub other : old.schema ≢ no_schema → old.schema ≢ store_schema → has_our_name old.schema ≡ false → cause ≡ fault.Refused
-  pub told : HasCleanDisk (state g new) → old.schema ≢ no_schema → old.schema ≢ store_schema → IsTrue (has_our_name old.schema) → (found : Result (Vec Row Global) Error) × TellsAs g old found × (cause ≡ told_cause found)
+  pub other : old.schema ≢ no_schema → (HasStoreTables old.schema → ⊥) → has_our_name old.schema ≡ false → cause ≡ fault.Refused
+  pub told : HasCleanDisk (state g new) → old.schema ≢ no_schema → (HasStoreTables old.schema → ⊥) → IsTrue (has_our_name old.schema)
+      → (found : Result (Vec Row Global) Error) × TellsAs g old found × (cause ≡ told_cause found)
 
--- a crash leaves what it could leave before, or an empty store in a database that had no object
-abbrev pub LeavesEmpty : {S : Type 0} → Ghosts S → Held S → Held S → Type 0
-LeavesEmpty g old new = Survives (state g old) (state g new) (λ db. IsTrue (state g old).is_open → (old.schema ≡ no_schema) × IsStored db nothing_held)
+-- the store that is made of a database without objects, and of a store of version 2
+abbrev pub IsMadeOf : Database → Trees → Type 0
+IsMadeOf old db =
+    ((old.schema ≡ no_schema) × IsStored db nothing_held) ⊎ ((old.schema ≡ older_schema) × IsOlder old.trees × IsStored db (older_value old.trees))
+
+-- a crash leaves what it could leave before, or that store whole
+abbrev pub LeavesMade : {S : Type 0} → Ghosts S → Held S → Held S → Type 0
+LeavesMade g old new = Survives (state g old) (state g new) (λ db. IsTrue (state g old).is_open → IsMadeOf (state g old).now db)

@@ -4,6 +4,7 @@ pub mod Changes
 pub mod Found
 pub mod Kept
 pub mod Made
+pub mod Older
 pub mod Opened
 pub mod Packed
 pub mod Range

@@ -1,5 +1,5 @@
 -- How the tables of a store are made.
-use Rattle.std.specs.Prelude.{◌≡◌, Result, Ok, Err, ℕ, false, List, []}
+use Rattle.std.specs.Prelude.{◌≡◌, Result, Ok, Err, ℕ, true, false, List, [], IsTrue, OnOk}
 use Rattle.std.specs.List.{AllByRecursion}
 use Rattle.sqlite.specs.Tree.{Trees}
 use Rattle.sqlite.specs.Schema.{Schema}
@@ -13,8 +13,13 @@ use Rattle.sqlite.specs.Does.{lacks_sequence}
 use Rattle.sqlite.specs.Given.{IsPlain}
 use Rattle.sqlite_resolve.specs.declared.compiled.Compiled.{Compiled}
 use Rattle.sqlite_resolve.specs.declared.error.CompileError.{CompileError}
-use Rattle.sqlite.specs.State.{text_of}
+use Rattle.sqlite.specs.State.{text_of, HasCleanDisk, Shows}
+use Rattle.sqlite.specs.Store.{Ghosts}
+use Rattle.sqlite.specs.Held.{Held, state}
+use Rattle.ft_store.specs.declared.fault.StoreFault.{StoreFault}
 use Rattle.sqlite.specs.Effect.{Database, IsDatabase}
+use Rattle.ft_store.specs.Tables.{store_schema}
+use Rattle.ft_store.specs.Calls.{AreNumbered}
 
 abbrev pub command_of : Result Compiled CompileError → Command
 command_of (Ok c) = c.command
@@ -40,3 +45,21 @@ pub record Makes (schema : Schema) (text : List ℕ) (table : Table) : Type 0 wh
   pub whole : statement_of text (understood schema text) ≡ text
   pub defined : table_defined_by text ≡ Ok table
   pub uncounted : lacks_sequence (created schema table) ≡ false
+
+-- the tables of a store, with their rules kept, whatever `meta` has
+pub record IsTabled (db : Database) : Type 0 where
+  pub schema : db.schema ≡ store_schema
+  pub sound : IsDatabase db
+  pub numbered : AreNumbered store_schema.tables db.trees
+
+-- the same, where `meta` has no row
+pub record IsUnmarked (db : Database) : Type 0 where
+  pub tabled : IsTabled db
+  pub unmarked : db.trees 0 ≡ []
+
+-- What an answer of Ok means in a transaction where the disk did what it was told: of a database with the one property
+-- the statements made one with the other, and nothing is committed.
+abbrev pub MakesOnOk : {S : Type 0} → Ghosts S → Held S → Held S → Result (Unit {0}) StoreFault → (Database → Type 0) → (Database → Database → Type 0) → Type 0
+MakesOnOk g old new result Before After =
+    HasCleanDisk (state g new) → IsTrue (state g old).in_transaction → (IsTrue (state g old).is_open → Before (state g old).now)
+    → OnOk result (After (state g old).now (state g new).now × Shows (state g old) (state g new) (state g new).now (state g old).committed true)

@@ -8,7 +8,7 @@ use Rattle.sqlite.specs.Collation.TheVariants.{Binary}
 use Rattle.sqlite_value.specs.Keys.{ascending}
 use Rattle.sqlite.specs.Listing.{understood, reads_listing}
 use Rattle.sqlite.specs.Given.{IsPlain}
-use Rattle.ft_store.specs.Tables.{store_schema}
+use Rattle.sqlite.specs.Schema.{Schema}
 use Rattle.ft_store.specs.Made.{command_of}
 
 -- the query of the rowids of a tree, in their order
@@ -25,12 +25,12 @@ rowids_of tree = record {
   offset = lit (Int (pos 0));
 }
 
--- over the tables of a store the text is that query
-pub record Scans (text : List ℕ) (tree : ℕ) : Type 0 where
+-- over the tables of this schema the text is that query
+pub record Scans (schema : Schema) (text : List ℕ) (tree : ℕ) : Type 0 where
   pub names : List (List ℕ)
-  pub is : command_of (understood store_schema text) ≡ Select (record { lets = []; body = rowids_of tree }) names
-  pub plain : IsPlain (understood store_schema text)
-  pub unlisted : reads_listing store_schema text ≡ false
+  pub is : command_of (understood schema text) ≡ Select (record { lets = []; body = rowids_of tree }) names
+  pub plain : IsPlain (understood schema text)
+  pub unlisted : reads_listing schema text ≡ false
 
 -- the tree of each of the eight tables, in the order of the schema
 abbrev pub tree_at : ℕ → ℕ

@@ -1,16 +1,17 @@
 //! Whether a database is taken as a store.
-ghost use Rattle.std.specs.Prelude.{◌≡◌, ◌≢◌, false, true, Err, IsTrue, IfErr, OnOk};
+ghost use Rattle.std.specs.Prelude.{◌≡◌, false, IsTrue, IfErr, OnOk};
 ghost use Rattle.std.specs.List.{list_any};
 ghost use Rattle.sqlite.specs.State.{HasCleanDisk, Survives};
 ghost use Rattle.sqlite.specs.Held.{state};
 ghost use Rattle.sqlite_schema.specs.Names.{same_name};
-ghost use Rattle.ft_store.specs.Adopted.{TellsAs, rows_cause, error_cause, told_cause, our_names, has_our_name, IsTaken, IsNotTaken, LeavesEmpty};
+ghost use Rattle.ft_store.specs.Adopted.{TellsAs, rows_cause, error_cause, told_cause, our_names, has_our_name, IsAdoptFault, IsTaken, IsNotTaken, LeavesMade};
 ghost use Rattle.ft_store.specs.Calls.{IsStoreIfOpen, Keeps};
 
 use crate::examine::examine;
 use crate::fault::StoreFault;
 use crate::make::make;
-use crate::same::{is_bare, is_store};
+use crate::migrate::take_older;
+use crate::same::{Layout, is_bare, layout_of};
 use sqlite::types::ValueRef;
 use sqlite::{Alter, Connection, Error as SqlError, ErrorCode, Row};
 use sqlite_schema::names::same_name;
@@ -32,11 +33,12 @@ fn version_answer<S: Alter>(conn: &mut Connection<S>) -> Result<Vec<Row>, SqlErr
 }
 
 fn cause_of_rows(rows: &[Row]) -> StoreFault
-    ensures { result ≡ rows_cause rows.now }
+    ensures is { result ≡ rows_cause rows.now }
+    ensures cause { IsAdoptFault result }
 {
     match rows {
         [row] => match row.get_ref(0) {
-            Ok(ValueRef::Int(3)) => StoreFault::Refused,
+            Ok(ValueRef::Int(2 | 3)) => StoreFault::Refused,
             Ok(ValueRef::Int(version)) => StoreFault::Version(version),
             _ => StoreFault::NotAStore,
         },
@@ -45,7 +47,8 @@ fn cause_of_rows(rows: &[Row]) -> StoreFault
 }
 
 fn cause_of_error(error: &SqlError) -> StoreFault
-    ensures { result ≡ error_cause error.now }
+    ensures is { result ≡ error_cause error.now }
+    ensures cause { IsAdoptFault result }
 {
     match error {
         SqlError::SqliteFailure(ErrorCode::OutOfMemory) => StoreFault::Memory,
@@ -60,7 +63,8 @@ fn cause_of_error(error: &SqlError) -> StoreFault
 }
 
 fn cause_told(found: &Result<Vec<Row>, SqlError>) -> StoreFault
-    ensures { result ≡ told_cause found.now }
+    ensures is { result ≡ told_cause found.now }
+    ensures cause { IsAdoptFault result }
 {
     match found {
         Ok(rows) => cause_of_rows(rows.as_slice()),
@@ -98,6 +102,7 @@ fn foreign<S: Alter>(conn: &mut Connection<S>) -> StoreFault
     requires settled { (state S.Store conn.old).in_transaction ≡ false }
     ensures none { has_our_name (state S.Store conn.old).now.schema ≡ false → result ≡ StoreFault.Refused }
     ensures told { HasCleanDisk (state S.Store conn.new) → IsTrue (has_our_name (state S.Store conn.old).now.schema) → (found : _) × TellsAs S.Store conn.old found × (result ≡ told_cause found) }
+    ensures cause { IsAdoptFault result }
     ensures kept { HasCleanDisk (state S.Store conn.new) → Keeps (state S.Store conn.old) (state S.Store conn.new) }
     ensures mode { (state S.Store conn.new).in_transaction ≡ false }
     ensures survives { Survives (state S.Store conn.old) (state S.Store conn.new) (λ _. ⊥) }
@@ -110,23 +115,25 @@ fn foreign<S: Alter>(conn: &mut Connection<S>) -> StoreFault
     }
 }
 
-/// Takes a database as a store. One without objects becomes an empty store, in one transaction.
+/// Takes a database as a store. One without objects becomes an empty store, and one of version 2 becomes one of version 3,
+/// each in one transaction.
 pub(crate) fn take<S: Alter>(conn: &mut Connection<S>) -> Result<(), StoreFault>
     requires settled { (state S.Store conn.old).in_transaction ≡ false }
     ensures store { OnOk result (IsStoreIfOpen (state S.Store conn.new)) }
     ensures taken { OnOk result (IsTaken S.Store conn.old conn.new) }
     ensures refused { IfErr result (IsNotTaken S.Store conn.old conn.new) }
     ensures mode { (state S.Store conn.new).in_transaction ≡ false }
-    ensures crash { LeavesEmpty S.Store conn.old conn.new }
+    ensures crash { LeavesMade S.Store conn.old conn.new }
 {
     let schema = conn.schema();
     let bare = is_bare(schema);
-    let ours = is_store(schema);
+    let layout = layout_of(schema);
     if bare {
         return make(conn);
     }
-    if ours {
-        return examine(conn);
+    match layout {
+        Some(Layout::Present) => examine(conn, Layout::Present),
+        Some(Layout::Older) => take_older(conn),
+        None => Err(foreign(conn)),
     }
-    Err(foreign(conn))
 }

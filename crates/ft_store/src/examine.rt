@@ -1,27 +1,34 @@
 //! Whether a database with the tables of a store is one.
-ghost use Rattle.std.specs.Prelude.{◌≡◌, ◌≢◌, false, ℕ, ℤ, ◌<◌, [], ◌∷◌, map, length, pos, MatchOption, IfSome, ◌<ℤ◌, Err, IsTrue, IfOk, IfErr, OnOk};
+ghost use Rattle.std.specs.Prelude.{◌≡◌, ◌≢◌, false, ℕ, ℤ, ◌<◌, [], ◌∷◌, map, length, MatchOption, IfSome, ◌<ℤ◌, Err, Some, None, IsTrue, IfOk, IfErr, OnOk};
 ghost use Rattle.sqlite.specs.State.{HasCleanDisk, Survives};
 ghost use Rattle.sqlite.specs.Held.{state};
 ghost use Rattle.sqlite.specs.Order.{column};
 ghost use Rattle.sqlite.specs.declared.types.Value.TheVariants.{Int};
-ghost use Rattle.ft_store.specs.Tables.{store_schema};
+ghost use Rattle.ft_store.specs.declared.same.Layout.{Layout};
 ghost use Rattle.ft_store.specs.Scan.{Scans, tree_at};
-ghost use Rattle.ft_store.specs.Calls.{HasOwnRowids, AreNumbered, IsStoreIfOpen, IsPlainFault, Keeps};
+ghost use Rattle.ft_store.specs.Older.{schema_of, tables_of, version_of, IsStoreBy};
+ghost use Rattle.ft_store.specs.Adopted.{IsAdoptFault, IsOtherVersion, IsOfVersion};
+ghost use Rattle.ft_store.specs.Calls.{HasOwnRowids, AreNumbered, IsPlainFault, Keeps};
 
 use crate::fault::StoreFault;
 use crate::read::select;
+use crate::same::Layout;
 use sqlite::{Alter, Connection, Row};
 
-/// The version that stores have.
-const VERSION: i64 = 3;
-
 /// How many tables a store has.
-const TABLES: usize = 8;
+fn tables_in(layout: Layout) -> usize
+    ensures { result ≡ tables_of layout }
+{
+    match layout {
+        Layout::Older => 7,
+        Layout::Present => 8,
+    }
+}
 
 /// The query of a table's rowids, in their order.
 fn rowids_query(at: usize) -> &'static str
-    requires { at < 8 }
-    ensures { Scans result.now (tree_at at) }
+    ensures { (layout : Layout) → at < tables_of layout
+        → Scans (schema_of layout) result.now (tree_at at) }
 {
     match at {
         0 => "SELECT rowid FROM meta ORDER BY rowid",
@@ -62,9 +69,13 @@ fn rises(rows: &[Row]) -> Result<bool, StoreFault>
 }
 
 /// Whether no two rows of a table have one rowid.
-fn is_numbered<S: Alter>(conn: &mut Connection<S>, at: usize) -> Result<bool, StoreFault>
-    requires within { at < 8 }
-    requires schema { HasCleanDisk (state S.Store conn.old) → IsTrue (state S.Store conn.old).is_open → (state S.Store conn.old).now.schema ≡ store_schema }
+fn is_numbered<S: Alter>(
+    conn: &mut Connection<S>,
+    layout: Layout,
+    at: usize,
+) -> Result<bool, StoreFault>
+    requires within { at < tables_of layout }
+    requires schema { HasCleanDisk (state S.Store conn.old) → IsTrue (state S.Store conn.old).is_open → (state S.Store conn.old).now.schema ≡ schema_of layout }
     requires settled { (state S.Store conn.old).in_transaction ≡ false }
     ensures own { HasCleanDisk (state S.Store conn.new) → IfOk result (λ b. IsTrue b → HasOwnRowids ((state S.Store conn.old).now.trees (tree_at at))) }
     ensures kept { HasCleanDisk (state S.Store conn.new) → Keeps (state S.Store conn.old) (state S.Store conn.new) }
@@ -89,8 +100,8 @@ fn only_number(rows: &[Row]) -> Result<Option<i64>, StoreFault>
 }
 
 /// The version, where `meta` has one row.
-fn version<S: Alter>(conn: &mut Connection<S>) -> Result<Option<i64>, StoreFault>
-    requires schema { HasCleanDisk (state S.Store conn.old) → IsTrue (state S.Store conn.old).is_open → (state S.Store conn.old).now.schema ≡ store_schema }
+fn version<S: Alter>(conn: &mut Connection<S>, layout: Layout) -> Result<Option<i64>, StoreFault>
+    requires schema { HasCleanDisk (state S.Store conn.old) → IsTrue (state S.Store conn.old).is_open → (state S.Store conn.old).now.schema ≡ schema_of layout }
     requires settled { (state S.Store conn.old).in_transaction ≡ false }
     ensures one { HasCleanDisk (state S.Store conn.new) → IfOk result (λ o. MatchOption o (length ((state S.Store conn.old).now.trees 0) ≢ 1) (λ n. map (λ r. column r 2) ((state S.Store conn.old).now.trees 0) ≡ Int n ∷ [])) }
     ensures kept { HasCleanDisk (state S.Store conn.new) → Keeps (state S.Store conn.old) (state S.Store conn.new) }
@@ -104,41 +115,65 @@ fn version<S: Alter>(conn: &mut Connection<S>) -> Result<Option<i64>, StoreFault
 }
 
 /// Whether no two rows of any table have one rowid.
-fn are_numbered<S: Alter>(conn: &mut Connection<S>) -> Result<bool, StoreFault>
-    requires schema { HasCleanDisk (state S.Store conn.old) → IsTrue (state S.Store conn.old).is_open → (state S.Store conn.old).now.schema ≡ store_schema }
+fn are_numbered<S: Alter>(conn: &mut Connection<S>, layout: Layout) -> Result<bool, StoreFault>
+    requires schema { HasCleanDisk (state S.Store conn.old) → IsTrue (state S.Store conn.old).is_open → (state S.Store conn.old).now.schema ≡ schema_of layout }
     requires settled { (state S.Store conn.old).in_transaction ≡ false }
-    ensures own { HasCleanDisk (state S.Store conn.new) → IfOk result (λ b. IsTrue b → AreNumbered store_schema.tables (state S.Store conn.old).now.trees) }
+    ensures own { HasCleanDisk (state S.Store conn.new) → IfOk result (λ b. IsTrue b → AreNumbered (schema_of layout).tables (state S.Store conn.old).now.trees) }
     ensures kept { HasCleanDisk (state S.Store conn.new) → Keeps (state S.Store conn.old) (state S.Store conn.new) }
+    ensures live { HasCleanDisk (state S.Store conn.new) → IsTrue (state S.Store conn.old).is_open
+        → OnOk result (IsTrue (state S.Store conn.new).is_open) }
     ensures fault { IfErr result IsPlainFault }
     ensures mode { (state S.Store conn.new).in_transaction ≡ false }
     ensures survives { Survives (state S.Store conn.old) (state S.Store conn.new) (λ _. IsTrue (state S.Store conn.old).is_open → ⊥) }
 {
-    for at in 0..TABLES {
-        if !is_numbered(conn, at)? {
+    for at in 0..tables_in(layout) {
+        if !is_numbered(conn, layout, at)? {
             return Ok(false);
         }
     }
     Ok(true)
 }
 
+/// What the version in `meta` says of a database with the tables of a store.
+fn judge(found: Option<i64>, layout: Layout) -> Result<(), StoreFault>
+    ensures marked { OnOk result (found ≡ Some (version_of layout)) }
+    ensures unmarked { result ≡ Err StoreFault.NotAStore → found ≡ None }
+    ensures version { (n : ℤ) → result ≡ Err (StoreFault.Version n)
+        → (found ≡ Some n) × IsOtherVersion n }
+    ensures cause { IfErr result IsAdoptFault }
+{
+    match (found, layout) {
+        (Some(2), Layout::Older) | (Some(3), Layout::Present) => Ok(()),
+        (Some(2 | 3), _) => Err(StoreFault::Refused),
+        (Some(other), _) => Err(StoreFault::Version(other)),
+        (None, _) => Err(StoreFault::NotAStore),
+    }
+}
+
 /// Whether a database with the tables of a store is a store. Nothing changes.
-pub(crate) fn examine<S: Alter>(conn: &mut Connection<S>) -> Result<(), StoreFault>
-    requires schema { HasCleanDisk (state S.Store conn.old) → IsTrue (state S.Store conn.old).is_open → (state S.Store conn.old).now.schema ≡ store_schema }
+pub(crate) fn examine<S: Alter>(conn: &mut Connection<S>, layout: Layout) -> Result<(), StoreFault>
+    requires schema { HasCleanDisk (state S.Store conn.old) → IsTrue (state S.Store conn.old).is_open
+        → (state S.Store conn.old).now.schema ≡ schema_of layout }
     requires settled { (state S.Store conn.old).in_transaction ≡ false }
-    ensures store { OnOk result (IsStoreIfOpen (state S.Store conn.new)) }
-    ensures unmarked { HasCleanDisk (state S.Store conn.new) → result ≡ Err StoreFault.NotAStore → length ((state S.Store conn.old).now.trees 0) ≢ 1 }
-    ensures version { HasCleanDisk (state S.Store conn.new) → (n : ℤ) → result ≡ Err (StoreFault.Version n) → (map (λ r. column r 2) ((state S.Store conn.old).now.trees 0) ≡ Int n ∷ []) × (n ≢ pos 3) }
-    ensures kept { HasCleanDisk (state S.Store conn.new) → Keeps (state S.Store conn.old) (state S.Store conn.new) }
+    ensures store { HasCleanDisk (state S.Store conn.new)
+        → OnOk result (IsStoreBy layout (state S.Store conn.new).now) }
+    ensures live { HasCleanDisk (state S.Store conn.new)
+        → OnOk result (IsTrue (state S.Store conn.new).is_open) }
+    ensures unmarked { HasCleanDisk (state S.Store conn.new) → result ≡ Err StoreFault.NotAStore
+        → length ((state S.Store conn.old).now.trees 0) ≢ 1 }
+    ensures version { HasCleanDisk (state S.Store conn.new)
+        → (n : ℤ) → result ≡ Err (StoreFault.Version n)
+        → IsOfVersion n (state S.Store conn.old).now.trees }
+    ensures cause { IfErr result IsAdoptFault }
+    ensures kept { HasCleanDisk (state S.Store conn.new)
+        → Keeps (state S.Store conn.old) (state S.Store conn.new) }
     ensures mode { (state S.Store conn.new).in_transaction ≡ false }
-    ensures survives { Survives (state S.Store conn.old) (state S.Store conn.new) (λ _. IsTrue (state S.Store conn.old).is_open → ⊥) }
+    ensures survives { Survives (state S.Store conn.old) (state S.Store conn.new)
+        (λ _. IsTrue (state S.Store conn.old).is_open → ⊥) }
 {
     let _schema = conn.schema();
-    match version(conn)? {
-        Some(VERSION) => {}
-        Some(other) => return Err(StoreFault::Version(other)),
-        None => return Err(StoreFault::NotAStore),
-    }
-    if are_numbered(conn)? {
+    judge(version(conn, layout)?, layout)?;
+    if are_numbered(conn, layout)? {
         Ok(())
     } else {
         Err(StoreFault::Refused)

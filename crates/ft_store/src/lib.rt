@@ -7,6 +7,7 @@ mod fault;
 mod files;
 mod lists;
 mod make;
+mod migrate;
 mod packed;
 mod read;
 mod rows;

@@ -5,11 +5,11 @@ ghost use Rattle.sqlite.specs.Held.{state};
 ghost use Rattle.sqlite.specs.Schema.{Schema};
 ghost use Rattle.sqlite.specs.Table.{Table};
 ghost use Rattle.sqlite.specs.Change.{created};
-ghost use Rattle.ft_store.specs.Tables.{no_schema, store_schema};
+ghost use Rattle.ft_store.specs.Tables.{no_schema};
 ghost use Rattle.ft_store.specs.Store.{nothing_held};
 ghost use Rattle.ft_store.specs.Rows.{value_of};
 ghost use Rattle.ft_store.specs.Calls.{IsPlainFault, IsStore, IsStored, Keeps, KeepsLast, LeavesNothing};
-ghost use Rattle.ft_store.specs.Made.{IsEmptyOf, Makes};
+ghost use Rattle.ft_store.specs.Made.{IsEmptyOf, IsUnmarked, Makes, MakesOnOk};
 
 use crate::fault::StoreFault;
 use crate::statements::run;
@@ -30,8 +30,8 @@ fn create<S: Alter>(tx: &mut Transaction<'_, S>, sql: &str) -> Result<(), StoreF
 /// The tables, without a row.
 fn create_all<S: Alter>(tx: &mut Transaction<'_, S>) -> Result<(), StoreFault>
     ensures same_reference { tx.new.conn.ghost_name ≡ tx.old.conn.ghost_name }
-    ensures steps { HasCleanDisk (state S.Store tx.new.conn.now) → IsTrue (state S.Store tx.old.conn.now).in_transaction → (IsTrue (state S.Store tx.old.conn.now).is_open → IsEmptyOf no_schema (state S.Store tx.old.conn.now).now)
-        → OnOk result (IsEmptyOf store_schema (state S.Store tx.new.conn.now).now × Shows (state S.Store tx.old.conn.now) (state S.Store tx.new.conn.now) (state S.Store tx.new.conn.now).now (state S.Store tx.old.conn.now).committed true) }
+    ensures steps { MakesOnOk S.Store tx.old.conn.now tx.new.conn.now result (IsEmptyOf no_schema)
+        (λ _ new. IsUnmarked new × (value_of new.trees ≡ nothing_held)) }
     ensures fault { IfErr result IsPlainFault }
     ensures kept { KeepsLast S.Store tx.old.conn.now tx.new.conn.now }
     ensures survives { LeavesNothing S.Store tx.old.conn.now tx.new.conn.now }
@@ -70,11 +70,11 @@ fn create_all<S: Alter>(tx: &mut Transaction<'_, S>) -> Result<(), StoreFault>
     )
 }
 
-/// Marks the tables with their version.
-fn mark<S: Alter>(tx: &mut Transaction<'_, S>) -> Result<(), StoreFault>
+/// Marks the tables of a store with their version.
+pub(crate) fn mark<S: Alter>(tx: &mut Transaction<'_, S>) -> Result<(), StoreFault>
     ensures same_reference { tx.new.conn.ghost_name ≡ tx.old.conn.ghost_name }
-    ensures steps { HasCleanDisk (state S.Store tx.new.conn.now) → IsTrue (state S.Store tx.old.conn.now).in_transaction → (IsTrue (state S.Store tx.old.conn.now).is_open → IsEmptyOf store_schema (state S.Store tx.old.conn.now).now)
-        → OnOk result (IsStore (state S.Store tx.new.conn.now).now × (value_of (state S.Store tx.new.conn.now).now.trees ≡ nothing_held) × Shows (state S.Store tx.old.conn.now) (state S.Store tx.new.conn.now) (state S.Store tx.new.conn.now).now (state S.Store tx.old.conn.now).committed true) }
+    ensures steps { MakesOnOk S.Store tx.old.conn.now tx.new.conn.now result IsUnmarked
+        (λ old new. IsStore new × (value_of new.trees ≡ value_of old.trees)) }
     ensures fault { IfErr result IsPlainFault }
     ensures kept { KeepsLast S.Store tx.old.conn.now tx.new.conn.now }
     ensures survives { LeavesNothing S.Store tx.old.conn.now tx.new.conn.now }

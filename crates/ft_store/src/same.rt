@@ -1,5 +1,5 @@
 //! Whether a schema is that of a store.
-ghost use Rattle.std.specs.Prelude.{◌≡◌, ◌↔◌, false, ℕ, List, [], ◌∷◌, codes, IsTrue};
+ghost use Rattle.std.specs.Prelude.{◌≡◌, ◌↔◌, false, ℕ, List, [], ◌∷◌, codes, IsTrue, MatchOption};
 ghost use Rattle.sqlite_schema.specs.declared.schema.Schema.{Schema};
 ghost use Rattle.ft_store.specs.Tables.{no_schema, store_schema, plain_order, case_order, a_column, a_table, number, key_index, meta_table, tab_table, col_table, cell_table, posting_table, sizes_table, noted_table, skip_table};
 ghost use Rattle.sqlite_schema.specs.Code.{term_to};
@@ -7,6 +7,7 @@ ghost use Rattle.sqlite.specs.declared.types.Value.TheVariants.{Null};
 ghost use Rattle.sqlite.specs.Term.{lit, col, op2};
 ghost use Rattle.sqlite.specs.Collation.TheVariants.{Binary};
 ghost use Rattle.sqlite_sql.specs.declared.ops.BinaryOp.TheVariants.{Or, Is};
+ghost use Rattle.ft_store.specs.Older.{older_schema, schema_of, HasStoreTables};
 ghost use Rattle.ft_store.specs.Same.{IsNamed, HasNoMore, IsKeyed, IsUnkeyed};
 
 use sqlite_schema::code::{Op, Terms};
@@ -14,6 +15,15 @@ use sqlite_schema::schema::{Column, Index, Kind, Schema, Table};
 use sqlite_sql::ops::BinaryOp;
 use sqlite_value::keys::Collation;
 use sqlite_value::value::Value;
+
+/// Which tables a store has.
+#[derive(Clone, Copy)]
+pub(crate) enum Layout {
+    /// Those of version 2, without `skip`.
+    Older,
+    /// Those of version 3.
+    Present,
+}
 
 /// Whether a database has no object.
 pub(crate) fn is_bare(schema: &Schema) -> bool
@@ -391,6 +401,17 @@ fn has_tables(tables: &[Table]) -> bool
     }
 }
 
+fn has_older_tables(tables: &[Table]) -> bool
+    ensures { IsTrue result ↔ (tables.now ≡ older_schema.tables) }
+{
+    match tables {
+        [meta, tab, col, cell, posting, sizes, noted] => {
+            are_listings(meta, tab, col) && are_contents(cell, posting, sizes) && is_noted(noted)
+        }
+        _ => false,
+    }
+}
+
 fn are_content_keys(tab: &Index, col: &Index, cell: &Index) -> bool
     ensures { IsTrue result ↔ ((tab.now ≡ key_index (codes "sqlite_autoindex_tab_1") 2 1 (2 ∷ []) case_order) × (col.now ≡ key_index (codes "sqlite_autoindex_col_1") 4 3 (1 ∷ 2 ∷ []) plain_order)
         × (cell.now ≡ key_index (codes "sqlite_autoindex_cell_1") 6 5 (1 ∷ 2 ∷ 3 ∷ []) plain_order)) }
@@ -407,11 +428,17 @@ fn are_list_keys(posting: &Index, sizes: &Index) -> bool
         && is_index(sizes, "sqlite_autoindex_sizes_1", 10, 9, &[1, 2, 3], 0)
 }
 
+fn is_note_key(noted: &Index) -> bool
+    ensures { IsTrue result
+        ↔ (noted.now ≡ key_index (codes "sqlite_autoindex_noted_1") 12 11 (1 ∷ []) case_order) }
+{
+    is_index(noted, "sqlite_autoindex_noted_1", 12, 11, &[1], 2)
+}
+
 fn are_note_keys(noted: &Index, skip: &Index) -> bool
     ensures { IsTrue result ↔ ((noted.now ≡ key_index (codes "sqlite_autoindex_noted_1") 12 11 (1 ∷ []) case_order) × (skip.now ≡ key_index (codes "sqlite_autoindex_skip_1") 14 13 (1 ∷ 2 ∷ []) plain_order)) }
 {
-    is_index(noted, "sqlite_autoindex_noted_1", 12, 11, &[1], 2)
-        && is_index(skip, "sqlite_autoindex_skip_1", 14, 13, &[1, 2], 0)
+    is_note_key(noted) && is_index(skip, "sqlite_autoindex_skip_1", 14, 13, &[1, 2], 0)
 }
 
 fn has_indexes(indexes: &[Index]) -> bool
@@ -427,11 +454,45 @@ fn has_indexes(indexes: &[Index]) -> bool
     }
 }
 
+fn has_older_indexes(indexes: &[Index]) -> bool
+    ensures { IsTrue result ↔ (indexes.now ≡ older_schema.indexes) }
+{
+    match indexes {
+        [tab, col, cell, posting, sizes, noted] => {
+            are_content_keys(tab, col, cell) && are_list_keys(posting, sizes) && is_note_key(noted)
+        }
+        _ => false,
+    }
+}
+
 /// Whether a database has the tables of a store and nothing else.
-pub(crate) fn is_store(schema: &Schema) -> bool
+fn is_store(schema: &Schema) -> bool
     ensures { IsTrue result ↔ (schema.now ≡ store_schema) }
 {
     has_tables(schema.tables.as_slice())
         && has_indexes(schema.indexes.as_slice())
         && schema.views.len() == 0
+}
+
+/// The same of the tables of version 2.
+fn is_older_store(schema: &Schema) -> bool
+    ensures { IsTrue result ↔ (schema.now ≡ older_schema) }
+{
+    has_older_tables(schema.tables.as_slice())
+        && has_older_indexes(schema.indexes.as_slice())
+        && schema.views.len() == 0
+}
+
+/// Which tables a store has that a database has, and nothing else.
+pub(crate) fn layout_of(schema: &Schema) -> Option<Layout>
+    ensures { MatchOption result (HasStoreTables schema.now → ⊥)
+        (λ layout. schema.now ≡ schema_of layout) }
+{
+    if is_store(schema) {
+        Some(Layout::Present)
+    } else if is_older_store(schema) {
+        Some(Layout::Older)
+    } else {
+        None
+    }
 }

@@ -11,7 +11,8 @@ ghost use Rattle.ft_store.specs.Store.{cell_key_cmp, list_key_cmp, name_cmp, not
 ghost use Rattle.ft_store.specs.Changes.{shown_change, CanApply};
 ghost use Rattle.ft_store.specs.Shown.{shown_cell, shown_size, shown_note, shown_entry, tables_listed, shown_table, last_docid_of, entries_of, AreWhole, SomeDamaged, AreNamedApart};
 ghost use Rattle.ft_store.specs.Calls.{IsPlainFault, IsReadFault, IsChangeFault, IsStored, Keeps};
-ghost use Rattle.ft_store.specs.Adopted.{IsTaken, IsNotTaken, LeavesEmpty};
+ghost use Rattle.ft_store.specs.Adopted.{IsTaken, IsNotTaken, LeavesMade};
+ghost use Rattle.ft_store.specs.Older.{IsOlder};
 
 use crate::adopt::take;
 use crate::fault::StoreFault;
@@ -117,14 +118,19 @@ impl<S: Alter> Store<S> {
     ghost use Rattle.ft_store.specs.Kept.{shows, value_in, more_rows};
 
     /// Takes a database that holds a store, as it is, or one without objects, which becomes an empty store in one
-    /// transaction. Any other is handed back as it was, and so is one in a transaction, which is refused.
+    /// transaction. A store of version 2 becomes one of version 3 that holds the same, also in one transaction. Any other
+    /// is handed back as it was, outside a transaction. One in a transaction is refused, and handed back in it.
     pub fn adopt(alloc: Global, conn: Connection<S>) -> Result<Store<S>, AdoptFault<S>>
         ensures taken { conn.in_transaction ≡ false → IfOk result (λ store. IsTaken S.Store conn store.held × (store.rows_read ≡ 0)) }
         ensures refused { conn.in_transaction ≡ false → IfErr result (λ fault. IsNotTaken S.Store conn fault.connection fault.cause) }
         ensures again { conn.in_transaction ≡ false → IfErr result (λ fault. HasCleanDisk (state S.Store fault.connection) → IsTrue (state S.Store conn).is_open → (v : StoreValue) → IsStored (state S.Store conn).now.trees v
             → (fault.cause ≢ StoreFault.NotAStore) × ((n : ℤ) → fault.cause ≢ StoreFault.Version n)) }
+        ensures again_older { conn.in_transaction ≡ false → IfErr result (λ fault.
+            HasCleanDisk (state S.Store fault.connection) → IsTrue (state S.Store conn).is_open
+            → IsOlder (state S.Store conn).now.trees
+            → (fault.cause ≢ StoreFault.NotAStore) × ((n : ℤ) → fault.cause ≢ StoreFault.Version n)) }
         ensures busy { IsTrue conn.in_transaction → MatchResult result (λ _. ⊥) (λ fault. (fault.connection ≡ conn) × (fault.cause ≡ StoreFault.Refused)) }
-        ensures crash { conn.in_transaction ≡ false → MatchResult result (λ store. LeavesEmpty S.Store conn store.held) (λ fault. LeavesEmpty S.Store conn fault.connection) }
+        ensures crash { conn.in_transaction ≡ false → MatchResult result (λ store. LeavesMade S.Store conn store.held) (λ fault. LeavesMade S.Store conn fault.connection) }
     {
         let mut conn = conn;
         let _schema = conn.schema();

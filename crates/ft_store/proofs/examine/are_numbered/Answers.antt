@@ -29,4 +29,4 @@ loop-at-preserved g c =
     )
 
 pub returns-clause-own : goal.returns-clause-own
-returns-clause-own g c clean holds = each_numbered (state g.S.Store c.args.conn.now).now.trees (λ i below. c.loop-at.invariant.1 clean i (omega (arith, c.loop-at-test.false, below)))
+returns-clause-own g c clean holds = each_numbered c.args.layout (state g.S.Store c.args.conn.now).now.trees (λ i below. c.loop-at.invariant.1 clean i (omega (arith, c.loop-at-test.false, below)))

@@ -2,7 +2,7 @@ use Rattle.std.proofs.Common.{arith}
 use Rattle.std.proofs.lemmas.Result.{on_ok_weaker}
 use Rattle.sqlite.specs.Held.{state}
 use Rattle.sqlite.specs.State.{HasCleanDisk}
-use Rattle.ft_store.proofs.MakeLemmas.{shows_then, makes_meta, makes_tab, makes_col, makes_cell, makes_posting, makes_sizes, makes_noted, makes_skip, is_store_schema}
+use Rattle.ft_store.proofs.MakeLemmas.{shows_then, makes_meta, makes_tab, makes_col, makes_cell, makes_posting, makes_sizes, makes_noted, makes_skip, is_store_schema, unmarked_of}
 use Rattle.ft_store.proofs.make.create_all.Goals as goal
 
 pub returns-clause-steps : goal.returns-clause-steps
@@ -27,4 +27,4 @@ returns-clause-steps g c clean inside was =
     let shown_5 = shows_then _ _ _ shown_4 step_5.1 in
     let shown_6 = shows_then _ _ _ shown_5 step_6.1 in
     let shown_7 = shows_then _ _ _ shown_6 step_7.1 in
-    on_ok_weaker c.create-8.result (λ f. let step_8 = f _ _ makes_skip (λ _. step_7.0) in (is_store_schema _ step_8.0, shows_then _ _ _ shown_7 step_8.1)) (c.create-8.ensures.steps clean step_7.1.mode)
+    on_ok_weaker c.create-8.result (λ f. let step_8 = f _ _ makes_skip (λ _. step_7.0) in (unmarked_of _ (is_store_schema _ step_8.0), shows_then _ _ _ shown_7 step_8.1)) (c.create-8.ensures.steps clean step_7.1.mode)

@@ -1,0 +1,89 @@
+-- How a store of version 2 becomes one of version 3.
+use Rattle.std.proofs.Common.{◌≡◌, ℕ, List, [], ◌∷◌, map, filter, not, Ok, refl, sym, ap, ◌∙◌, subst}
+use Rattle.std.specs.List.{AllByRecursion, list_all}
+use Rattle.std.specs.Ordering.{int_cmp}
+use Rattle.sqlite.specs.Order.{Row}
+use Rattle.sqlite.specs.Table.{Table}
+use Rattle.sqlite.specs.Term.{holds}
+use Rattle.sqlite.specs.Effect.{Database}
+use Rattle.sqlite.specs.Change.{created}
+use Rattle.sqlite.specs.Command.TheVariants.{Delete}
+use Rattle.sqlite.specs.Listing.{understood}
+use Rattle.sqlite.specs.State.{State, Executes}
+use Rattle.sqlite.proofs.Callers.{IsPlain, command_of}
+use Rattle.sqlite_catalog.specs.Listing.{IsSound}
+use Rattle.sqlite_tied.specs.Compute.{everything}
+use Rattle.sqlite_keyed.proofs.ListLemmas.{all_both, all-append}
+use Rattle.ft_store.specs.declared.same.Layout.TheVariants.{Older}
+use Rattle.ft_store.specs.Tables.{store_schema, meta_table, skip_table}
+use Rattle.ft_store.specs.Store.{cell_key_cmp, list_key_cmp, column_key_cmp, name_cmp}
+use Rattle.ft_store.specs.Rows.{keyed, table_entry, column_entry, skip_entry, cell_entry, list_entry, size_entry, note_entry, value_of}
+use Rattle.ft_store.specs.Calls.{HasOwnRowids, AreNumbered}
+use Rattle.ft_store.specs.Made.{Makes, IsTabled, IsUnmarked}
+use Rattle.ft_store.specs.Older.{older_schema, older_value, IsStoreBy, IsOlder}
+use Rattle.ft_store.proofs.TextLemmas.{table_query}
+use Rattle.ft_store.proofs.Texts.{make_skip_text, unmark_text}
+use Rattle.ft_store.proofs.ChangeLemmas.{deletes}
+use Rattle.ft_store.proofs.MakeLemmas.{creates}
+use Rattle.ft_store.proofs.StepLemmas.{shaped_after, same_rows, same_value}
+
+-- ---- the table that is added
+
+makes_skip : Makes older_schema make_skip_text (skip_table 0)
+unfolding understood everything Rattle.std.specs.Fmt.digits
+makes_skip = record { command = refl; plain = (refl, refl); whole = refl; defined = refl; uncounted = refl }
+
+with_skip : created older_schema (skip_table 0) ≡ store_schema
+unfolding Rattle.std.specs.Fmt.digits
+with_skip = refl
+
+pub adds : (old new : State) (count : ℕ) → IsStoreBy Older old.now → Executes make_skip_text [] old new (Ok count) → IsTabled new.now × (value_of new.now.trees ≡ older_value old.now.trees)
+adds old new count was h =
+    let it = creates old new make_skip_text older_schema (skip_table 0) count makes_skip was.schema h in
+    let rows = it.others in
+    let kept : AreNumbered older_schema.tables new.now.trees =
+    all_both (λ t. new.now.trees t.tree ≡ old.now.trees t.tree) (λ t. HasOwnRowids (old.now.trees t.tree)) (λ (t : Table). HasOwnRowids (new.now.trees t.tree)) (λ t e own. subst HasOwnRowids (sym e) own) older_schema.tables rows was.numbered in (
+      record {
+        schema = it.schema ∙ with_skip;
+        sound = it.sound;
+        numbered = all-append (λ (t : Table). HasOwnRowids (new.now.trees t.tree)) older_schema.tables (skip_table 13 ∷ []) kept (subst HasOwnRowids (sym it.empty) (tt, tt), tt);
+      },
+      same_value
+          (ap (λ r. keyed int_cmp (map table_entry r)) rows.1.0) (ap (λ r. keyed column_key_cmp (map column_entry r)) rows.1.1.0) (ap (λ r. keyed column_key_cmp (map skip_entry r)) it.empty)
+          (ap (λ r. keyed cell_key_cmp (map cell_entry r)) rows.1.1.1.0) (ap (λ r. keyed list_key_cmp (map list_entry r)) rows.1.1.1.1.0) (ap (λ r. keyed cell_key_cmp (map size_entry r)) rows.1.1.1.1.1.0)
+          (ap (λ r. keyed name_cmp (map note_entry r)) rows.1.1.1.1.1.1.0),
+    )
+
+-- ---- the version that is taken out
+
+unmark_is : command_of (understood store_schema unmark_text) ≡ Delete 0 (record { lets = []; body = table_query 0 [] (0 ∷ []) [] })
+unfolding understood everything
+unmark_is = refl
+
+unmark_plain : IsPlain (understood store_schema unmark_text)
+unfolding understood everything
+unmark_plain = (refl, refl)
+
+none_of : (rows : List Row) → filter (λ r. not (list_all (holds ([] ∷ r ∷ [])) [])) rows ≡ []
+none_of [] = refl
+none_of (r ∷ rows) = none_of rows
+
+pub unmarks : (old new : State) (count : ℕ) → IsTabled old.now → Executes unmark_text [] old new (Ok count) → IsUnmarked new.now × (value_of new.now.trees ≡ value_of old.now.trees)
+unmarks old new count was h =
+    let wrote = deletes old new unmark_text [] 0 (meta_table 0) [] count was.schema unmark_is unmark_plain refl refl was.numbered.0 h in
+    let empty = wrote.written ∙ none_of (old.now.trees 0) in (
+      record {
+        tabled = record {
+          schema = wrote.schema;
+          sound = wrote.sound;
+          numbered = shaped_after 0 old.now.trees new.now.trees store_schema.tables wrote.others was.numbered (subst HasOwnRowids (sym empty) (tt, tt));
+        };
+        unmarked = empty;
+      },
+      same_rows old.now.trees new.now.trees wrote.others.1,
+    )
+
+-- ---- what was looked at
+
+pub is_older : (db : Database) → IsStoreBy Older db → IsOlder db.trees
+is_older db it = record { sound = subst (λ s. IsSound s db.trees) it.schema it.sound; numbered = it.numbered; marked = it.marked }
