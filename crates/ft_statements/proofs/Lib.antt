@@ -5,3 +5,9 @@ pub mod StatementLemmas
 pub mod StatementRows
 pub mod DotRows
 pub mod TableLemmas
+pub mod GrammarBase
+pub mod GrammarFilters
+pub mod GrammarLists
+pub mod GrammarDrop
+pub mod GrammarInsert
+pub mod GrammarUpdate
