@@ -8,7 +8,7 @@ use Rattle.shell_text.specs.declared.words.SqlKind.TheVariants as kinds
 use Rattle.ft_statements.specs.Words.{Token, is_bare, is_mark, is_name, is_literal, is_keyword, is_symbol, name_of, literal_of}
 use Rattle.ft_statements.specs.Values.{is_number, number_of}
 use Rattle.ft_statements.specs.Reading.{◌>>=◌, Reads, whole, token_at, name_at, keyword_at, keywords_at, symbol_at, is_empty}
-use Rattle.ft_statements.specs.Grammar.{IsKeyword, IsSymbol, IsName, IsText, IsNumber, is_parenthesis}
+use Rattle.ft_statements.specs.Grammar.{IsKeyword, IsSymbol, IsName, IsText, IsNumber, is_parenthesis, FirstOf, first, second}
 
 -- ---- which word it is
 
@@ -138,8 +138,8 @@ whole_is (Some (y, [])) x e = ap (λ z. Some (z, [])) (some_inj e)
 whole_is (Some (y, t ∷ ts)) x e = cc
 
 pub either : {A P : Type 0} (a b : Option A) (x : A) → option_or a b ≡ Some x → (a ≡ Some x → P) → (a ≡ None → b ≡ Some x → P) → P
-either None b x e first second = second refl e
-either (Some y) b x e first second = first e
+either None b x e at_first later = later refl e
+either (Some y) b x e at_first later = at_first e
 
 module _ {B : Type 0} (P : List Token → Type 0) where
   pub from_keyword : (k : List ℕ) (ts : List Token) (f : List Token → Option B) (y : B) → (keyword_at k ts >>= f) ≡ Some y →
@@ -210,3 +210,24 @@ only_is g ts x e = token_is g ts x [] (whole_is (token_at g ts) x e)
 
 pub only_there : {A : Type 0} (g : Token → Option A) (t : Token) (x : A) → g t ≡ Some x → whole (token_at g (t ∷ [])) ≡ Some x
 only_there g t x is = ap whole (token_there g t [] x is)
+
+-- ---- steps side by side, and of two the first
+
+pub in_steps : {A B C : Type 0} (o : Option A) (f : A → Option B) (g : B → Option C) → ((o >>= f) >>= g) ≡ (o >>= λ x. f x >>= g)
+in_steps None f g = refl
+in_steps (Some x) f g = refl
+
+pub first_sound : {A : Type 0} {First Second : List Token → A → Type 0} (f g : List Token → Option A) →
+    ((us : List Token) (x : A) → f us ≡ Some x → First us x) → ((us : List Token) (x : A) → First us x → f us ≡ Some x) → ((us : List Token) (x : A) → g us ≡ Some x → Second us x) →
+    (us : List Token) (x : A) → option_or (f us) (g us) ≡ Some x → FirstOf First Second us x
+first_sound f g sound complete later us x e =
+    either (f us) (g us) x e (λ is. first (sound us x is)) λ none e1. second (λ y d. let is = complete us y d in cc) (later us x e1)
+
+pub first_complete : {A : Type 0} {First Second : List Token → A → Type 0} (f g : List Token → Option A) →
+    ((us : List Token) (x : A) → f us ≡ Some x → First us x) → ((us : List Token) (x : A) → First us x → f us ≡ Some x) → ((us : List Token) (x : A) → Second us x → g us ≡ Some x) →
+    (us : List Token) (x : A) → FirstOf First Second us x → option_or (f us) (g us) ≡ Some x
+first_complete f g sound complete later us x (first d) = ap (λ o. option_or o (g us)) (complete us x d)
+first_complete {A} f g sound complete later us x (second other d) = by_test (f us) refl where
+  by_test : (o : Option A) → f us ≡ o → option_or o (g us) ≡ Some x
+  by_test None is = later us x d
+  by_test (Some y) is = absurd (other y (sound us y is))

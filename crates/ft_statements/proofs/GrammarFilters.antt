@@ -123,7 +123,7 @@ pub key_there : (t : Token) (rest : List Token) → IsKey t → key_at (t ∷ re
 key_there t rest (inl is) = simp is
 key_there t rest (inr is) = simp (one_keyword (codes "rowid") (codes "docid") refl t is, is)
 
-from_key : {B : Type 0} (P : List Token → Type 0) (ts : List Token) (f : List Token → Option B) (y : B) → (key_at ts >>= f) ≡ Some y →
+pub from_key : {B : Type 0} (P : List Token → Type 0) (ts : List Token) (f : List Token → Option B) (y : B) → (key_at ts >>= f) ≡ Some y →
     ((t : Token) (rest : List Token) → IsKey t → f rest ≡ Some y → P (t ∷ rest)) → P ts
 from_key P ts f y e go = bound (key_at ts) f e λ rest is e1. let (t, is_key, are) = key_is ts rest is in subst P are (go t rest is_key e1)
 

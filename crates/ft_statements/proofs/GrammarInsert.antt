@@ -10,7 +10,7 @@ use Rattle.ft_statements.specs.Values.{value_at}
 use Rattle.ft_statements.specs.Reading.{◌>>=◌, Reads, whole, each, name_at, keyword_at, keywords_at, symbol_at, parenthesized, parts}
 use Rattle.ft_statements.specs.Insert.{special_of, special_where, only_name, only_literal, special, names_of, listed_at, listed_behind, columns_at, only_value, row_of, insert}
 use Rattle.ft_statements.specs.Grammar.{IsKeyword, IsSymbol, IsName, IsText, IsNumber, Alone, alone, Separated, InParens, in_parens, FirstOf, first, second, IsBalanced, IsPart, part_word, part_group, part_end, IsInteger, without_sign, with_plus, with_minus, IsValue, null_value, text_value, integer_value, IsSame, IsTask, rebuild, check, optimize, IsSpecial, special_command, AreColumns, all_columns, these_columns, IsInsert, insert_rows}
-use Rattle.ft_statements.proofs.GrammarBase.{Spelled, goes_on, finally, some_inj, bound, whole_is, either, from_keyword, from_keywords, from_token, from_spelled, keyword_there, keywords_there, token_there, only_is, only_there, one_symbol, keyword_no_symbol, name_no_symbol, text_no_symbol, number_no_symbol}
+use Rattle.ft_statements.proofs.GrammarBase.{Spelled, goes_on, finally, some_inj, bound, whole_is, either, from_keyword, from_keywords, from_token, from_spelled, keyword_there, keywords_there, token_there, only_is, only_there, one_symbol, keyword_no_symbol, name_no_symbol, text_no_symbol, number_no_symbol, first_sound, first_complete}
 use Rattle.ft_statements.proofs.GrammarFilters.{value_spelled, value_read}
 use Rattle.ft_statements.proofs.GrammarLists.{word_part, comma_plain, part_balanced, separated_balanced, list_sound, list_complete, from_parens, parens_read, parens_whole, whole_parens}
 
@@ -174,13 +174,7 @@ special_complete (special_command {a} {b} {name} {left} {column} {right} {values
 -- ---- of both, the first
 
 pub insert_first_sound : (ts : List Token) (c : Command) → option_or (special ts) (insert ts) ≡ Some c → FirstOf IsSpecial IsInsert ts c
-insert_first_sound ts c e =
-    either (special ts) (insert ts) c e (λ is. first (special_sound ts c is)) λ none e1.
-    second (λ y d. let is = special_complete d in cc) (insert_sound ts c e1)
+insert_first_sound = first_sound special insert special_sound (λ us x d. special_complete d) insert_sound
 
 pub insert_first_complete : {ts : List Token} {c : Command} → FirstOf IsSpecial IsInsert ts c → option_or (special ts) (insert ts) ≡ Some c
-insert_first_complete {ts} (first d) = ap (λ o. option_or o (insert ts)) (special_complete d)
-insert_first_complete {ts} {c} (second other d) = by_test (special ts) refl where
-  by_test : (o : Option Command) → special ts ≡ o → option_or o (insert ts) ≡ Some c
-  by_test None is = insert_complete d
-  by_test (Some y) is = absurd (other y (special_sound ts y is))
+insert_first_complete {ts} {c} d = first_complete special insert special_sound (λ us x d. special_complete d) (λ us x d. insert_complete d) ts c d

@@ -232,7 +232,7 @@ more_parts {ts} p comma is us =
 
 -- ---- lists
 
-part_follows : {ts us : List Token} → IsPart ts → IsPart us → IsPart (ts ++ us)
+pub part_follows : {ts us : List Token} → IsPart ts → IsPart us → IsPart (ts ++ us)
 part_follows part_end q = q
 part_follows (part_word other no_comma p) q = part_word other no_comma (part_follows p q)
 part_follows {us = us} (part_group {left} {inside} {ts} is_left b right is_right p) q =
@@ -260,16 +260,45 @@ separated_balanced is_part (then_comma {ts} {us} {x} p comma is more) = balanced
 pub word_part : (t : Token) → ((s : List ℕ) → is_symbol s t ≡ false) → IsPart (t ∷ [])
 word_part t other = part_word (λ j. other (codes "(") j || other (codes ")") j) (other (codes ",")) part_end
 
-joined_sound : {A : Type 0} {Part : List Token → A → Type 0} (f : List Token → Option A) → ((us : List Token) (x : A) → f us ≡ Some x → Part us x) →
-    {runs : List (List Token)} {ts : List Token} → Joined Anything runs ts → (xs : List A) → each f runs ≡ Some xs → Separated Part ts xs
-joined_sound {Part = Part} f sound (one_run {ts} a) xs e = bound (f ts) _ e λ x is e1. finally (Separated Part ts) (last_part (sound ts x is)) e1
+joined_sound : {A : Type 0} {P : List Token → Type 0} {Part : List Token → A → Type 0} (f : List Token → Option A) → ((us : List Token) (x : A) → P us → f us ≡ Some x → Part us x) →
+    {runs : List (List Token)} {ts : List Token} → Joined P runs ts → (xs : List A) → each f runs ≡ Some xs → Separated Part ts xs
+joined_sound {Part = Part} f sound (one_run {ts} a) xs e = bound (f ts) _ e λ x is e1. finally (Separated Part ts) (last_part (sound ts x a is)) e1
 joined_sound {Part = Part} f sound (then_run {ts} {us} {runs} a comma is_comma more) xs e =
     bound (f ts) _ e λ x is e1. bound (each f runs) _ e1 λ ys are e2.
-    finally (Separated Part (ts ++ comma ∷ us)) (then_comma (sound ts x is) comma is_comma (joined_sound f sound more ys are)) e2
+    finally (Separated Part (ts ++ comma ∷ us)) (then_comma (sound ts x a is) comma is_comma (joined_sound f sound more ys are)) e2
 
 pub list_sound : {A : Type 0} {Part : List Token → A → Type 0} (f : List Token → Option A) → ((us : List Token) (x : A) → f us ≡ Some x → Part us x) →
     (ts : List Token) (xs : List A) → each f (parts ts) ≡ Some xs → Separated Part ts xs
-list_sound f sound ts xs e = joined_sound f sound (parts_joined 0 ts) xs e
+list_sound f sound ts xs e = joined_sound f (λ us x _ is. sound us x is) (parts_joined 0 ts) xs e
+
+-- ---- the parts of words whose parentheses are balanced
+
+part_joins : {runs : List (List Token)} {ts : List Token} (us : List Token) → IsPart us → Joined IsPart runs ts → Joined IsPart (all_onto_first us runs) (us ++ ts)
+part_joins us p (one_run {ts} q) = subst (λ rs. Joined IsPart rs (us ++ ts)) (sym (onto_run us ts [])) (one_run (part_follows p q))
+part_joins us p (then_run {ts} {us = vs} {runs} q comma is more) =
+    subst (λ rs. Joined IsPart rs (us ++ (ts ++ comma ∷ vs))) (sym (onto_run us ts runs))
+      (subst (λ ws. Joined IsPart ((us ++ ts) ∷ runs) ws) (append_assoc us ts (comma ∷ vs)) (then_run (part_follows p q) comma is more))
+
+word_joined : (t : Token) (ts : List Token) → is_parenthesis t ≡ false → Joined IsPart (parts_at 0 ts) ts → (x : Bool) → is_symbol (codes ",") t ≡ x → Joined IsPart (parts_at 0 (t ∷ ts)) (t ∷ ts)
+word_joined t ts other more true is =
+    let here : parts_at 0 (t ∷ ts) ≡ [] ∷ parts_at 0 ts = λ j. cond (is j && 0 == 0) ([] ∷ parts_at (depth_same 0 t other j) ts) (onto_first t (parts_at (depth_same 0 t other j) ts)) in
+    subst (λ rs. Joined IsPart rs (t ∷ ts)) (sym here) (then_run part_end t is more)
+word_joined t ts other more false none =
+    let here : parts_at 0 (t ∷ ts) ≡ onto_first t (parts_at 0 ts) = parts_on 0 0 t ts (ap (λ b. b && 0 == 0) none) (depth_same 0 t other) in
+    subst (λ rs. Joined IsPart rs (t ∷ ts)) (sym here) (part_joins (t ∷ []) (part_word other none part_end) more)
+
+balanced_joined : {ts : List Token} → IsBalanced ts → Joined IsPart (parts_at 0 ts) ts
+balanced_joined balanced_end = one_run part_end
+balanced_joined (balanced_word {t} {ts} other b) = word_joined t ts other (balanced_joined b) (is_symbol (codes ",") t) refl
+balanced_joined (balanced_group {left} {inside} {ts} is_left b right is_right more) =
+    let group = left ∷ inside ++ right ∷ [] in
+    subst (λ rs. Joined IsPart rs (left ∷ inside ++ right ∷ ts)) (sym (group_on left inside right ts is_left b is_right))
+      (subst (λ ws. Joined IsPart (all_onto_first group (parts_at 0 ts)) (left ∷ ws)) (append_assoc inside (right ∷ []) ts)
+        (part_joins group (part_group is_left b right is_right part_end) (balanced_joined more)))
+
+pub balanced_list_sound : {A : Type 0} {Part : List Token → A → Type 0} (f : List Token → Option A) → ((us : List Token) (x : A) → IsPart us → f us ≡ Some x → Part us x) →
+    {ts : List Token} → IsBalanced ts → (xs : List A) → each f (parts ts) ≡ Some xs → Separated Part ts xs
+balanced_list_sound f sound b xs e = joined_sound f sound (balanced_joined b) xs e
 
 pub list_complete : {A : Type 0} {Part : List Token → A → Type 0} (f : List Token → Option A) → ((us : List Token) (x : A) → Part us x → f us ≡ Some x) →
     ((us : List Token) (x : A) → Part us x → IsPart us) → {ts : List Token} {xs : List A} → Separated Part ts xs → each f (parts ts) ≡ Some xs

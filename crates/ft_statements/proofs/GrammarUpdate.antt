@@ -23,7 +23,7 @@ delete_complete (delete_rows {a} {b} {name} {behind} {n} {filter} is_a is_b is_n
 
 -- ---- UPDATE
 
-key_part : (t : Token) {ts : List Token} → IsKey t → IsPart ts → IsPart (t ∷ ts)
+pub key_part : (t : Token) {ts : List Token} → IsKey t → IsPart ts → IsPart (t ∷ ts)
 key_part t (inl is) p = word_before t (keyword_no_symbol (codes "docid") t is) p
 key_part t (inr is) p = word_before t (keyword_no_symbol (codes "rowid") t is) p
 

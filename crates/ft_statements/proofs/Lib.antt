@@ -11,3 +11,4 @@ pub mod GrammarLists
 pub mod GrammarDrop
 pub mod GrammarInsert
 pub mod GrammarUpdate
+pub mod GrammarCreate
