@@ -12,3 +12,4 @@ pub mod GrammarDrop
 pub mod GrammarInsert
 pub mod GrammarUpdate
 pub mod GrammarCreate
+pub mod GrammarSelect
