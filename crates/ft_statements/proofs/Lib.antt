@@ -13,3 +13,6 @@ pub mod GrammarInsert
 pub mod GrammarUpdate
 pub mod GrammarCreate
 pub mod GrammarSelect
+pub mod GrammarCommand
+pub mod GrammarEnd
+pub mod GrammarClass

@@ -4,12 +4,14 @@
 -- Function". The sections named in quotes are of the SQLite document "SQLite FTS3 and FTS4 Extensions". That just these forms are
 -- read is an own choice.
 use Rattle.std.specs.Prelude.{◌≡◌, ℕ, ◌^◌, ◌<◌, ◌≤◌, ◌⊎◌, ℤ, pos, neg_ℤ, Bool, true, false, ◌||◌, List, [], ◌∷◌, ◌++◌, Option, Some, None, codes}
+use Rattle.std.specs.List.{Any}
 use Rattle.std.specs.Str.{str_eq_ignore_ascii_case}
 use Rattle.ft_content.specs.Content.{Cell, Null, Int, Text}
 use Rattle.ft_content.specs.Command.{Command, Create, Drop, Insert, Update, Delete, Select, Rebuild, Check, Optimize, Filter, Everything, OfDocid, Matching, Item, AllColumns, Named, OffsetsOf, Items, Counted, Listed}
 use Rattle.ft_statements.specs.Words.{Token, is_keyword, is_symbol, name_of, literal_of}
 use Rattle.ft_statements.specs.Values.{number_of}
 use Rattle.ft_statements.specs.Create.{Argument, Setting, Column, joined, settings_in, columns_in}
+use Rattle.ft_statements.specs.Statements.{Class, Plain, FullText}
 
 -- ---- single words
 
@@ -213,8 +215,9 @@ pub data IsSelect : List Token → Command → Type 0 where
       IsKeyword (codes "SELECT") a → AreItems items chosen → IsKeyword (codes "FROM") b → IsName name n → IsWhere behind filter → IsOrder order → AreLimits limits limit offset →
       IsSelect (a ∷ items ++ (b ∷ name ∷ behind ++ (order ++ limits))) (Select n chosen filter limit offset)
 
--- ---- all of them; what spells a special command is no INSERT
+-- ---- a command
 
+-- any of these; what spells a special command is no INSERT of a row
 pub data IsCommand : List Token → Command → Type 0 where
   as_create : {ts : List Token} {c : Command} → IsCreate ts c → IsCommand ts c
   as_drop : {ts : List Token} {c : Command} → IsDrop ts c → IsCommand ts c
@@ -222,3 +225,35 @@ pub data IsCommand : List Token → Command → Type 0 where
   as_update : {ts : List Token} {c : Command} → IsUpdate ts c → IsCommand ts c
   as_delete : {ts : List Token} {c : Command} → IsDelete ts c → IsCommand ts c
   as_select : {ts : List Token} {c : Command} → IsSelect ts c → IsCommand ts c
+
+-- command [;]
+pub data IsStatement : List Token → Command → Type 0 where
+  not_ended : {ts : List Token} {c : Command} → IsCommand ts c → IsStatement ts c
+  ended : {ts : List Token} {c : Command} → IsCommand ts c → (semicolon : Token) → IsSymbol (codes ";") semicolon → IsStatement (ts ++ semicolon ∷ []) c
+
+-- ---- which statements are full-text, where tables of these names are there
+
+-- a word behind which a table's name makes a statement full-text
+pub data IsLead : Token → Type 0 where
+  is_from : {t : Token} → IsKeyword (codes "FROM") t → IsLead t
+  is_into : {t : Token} → IsKeyword (codes "INTO") t → IsLead t
+  is_update : {t : Token} → IsKeyword (codes "UPDATE") t → IsLead t
+  is_table : {t : Token} → IsKeyword (codes "TABLE") t → IsLead t
+  is_join : {t : Token} → IsKeyword (codes "JOIN") t → IsLead t
+  is_exists : {t : Token} → IsKeyword (codes "EXISTS") t → IsLead t
+
+-- the name of one of the tables, in any case of ASCII letters
+pub data IsTable (tables : List (List ℕ)) : Token → Type 0 where
+  table_name : {t : Token} {name : List ℕ} → IsName t name → Any (IsSame name) tables → IsTable tables t
+
+-- CREATE VIRTUAL .. | .. lead table ..
+pub data IsFullText (tables : List (List ℕ)) : List Token → Type 0 where
+  makes_table : {a b : Token} {ts : List Token} → IsKeyword (codes "CREATE") a → IsKeyword (codes "VIRTUAL") b → IsFullText tables (a ∷ b ∷ ts)
+  names_table : (before : List Token) {lead table : Token} (behind : List Token) → IsLead lead → IsTable tables table → IsFullText tables (before ++ lead ∷ table ∷ behind)
+
+-- ---- classes
+
+-- a statement that isn't full-text is plain; a full-text one that spells no command has no class
+pub data HasClass (tables : List (List ℕ)) : List Token → Class → Type 0 where
+  plain_class : {ts : List Token} → ¬ IsFullText tables ts → HasClass tables ts Plain
+  full_text_class : {ts : List Token} {c : Command} → IsFullText tables ts → IsStatement ts c → HasClass tables ts (FullText c)
