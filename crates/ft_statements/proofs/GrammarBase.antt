@@ -1,14 +1,14 @@
 -- Reading one word, and what is read behind it.
-use Rattle.std.proofs.Common.{◌≡◌, ℕ, Bool, true, false, cond, ◌&&◌, ◌||◌, List, [], ◌∷◌, ◌++◌, Option, Some, None, refl, sym, ap, ◌∙◌, subst, codes, append-nil, bytes_eq}
+use Rattle.std.proofs.Common.{◌≡◌, ℕ, Bool, true, false, cond, ◌&&◌, List, [], ◌∷◌, ◌++◌, Option, Some, None, refl, sym, ap, ◌∙◌, subst, codes, bytes_eq}
 use Rattle.std.specs.Option.{option_or}
 use Rattle.std.specs.Str.{str_eq_ignore_ascii_case, str_to_ascii_lowercase}
 use Rattle.std.specs.Cmp.Lexicographic.{same_text}
 use Rattle.shell_text.specs.declared.words.SqlKind.{SqlKind}
 use Rattle.shell_text.specs.declared.words.SqlKind.TheVariants as kinds
-use Rattle.ft_statements.specs.Words.{Token, is_bare, is_mark, is_name, is_literal, is_keyword, is_symbol, name_of, literal_of}
-use Rattle.ft_statements.specs.Values.{is_number, number_of}
-use Rattle.ft_statements.specs.Reading.{◌>>=◌, Reads, whole, token_at, name_at, keyword_at, keywords_at, symbol_at, is_empty}
-use Rattle.ft_statements.specs.Grammar.{IsKeyword, IsSymbol, IsName, IsText, IsNumber, is_parenthesis, FirstOf, first, second}
+use Rattle.ft_statements.specs.Words.{Token, is_bare, is_mark, is_name, is_literal, is_keyword, is_symbol}
+use Rattle.ft_statements.specs.Values.{is_number}
+use Rattle.ft_statements.specs.Reading.{◌>>=◌, Reads, whole, token_at, keyword_at, keywords_at, symbol_at}
+use Rattle.ft_statements.specs.Grammar.{IsKeyword, IsSymbol, IsName, IsText, IsNumber, FirstOf, first, second}
 
 -- ---- which word it is
 

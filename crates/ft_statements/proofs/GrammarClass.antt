@@ -1,14 +1,14 @@
 -- Which statements are full-text, and their classes, are what is computed of them.
-use Rattle.std.proofs.Common.{◌≡◌, ℕ, Bool, true, false, cond, ◌&&◌, ◌||◌, ◌⊎◌, inl, inr, List, [], ◌∷◌, ◌++◌, Option, Some, None, is_some, option_map, refl, sym, ap, ◌∙◌, subst, codes}
-use Rattle.std.specs.List.{Any, list_any}
+use Rattle.std.proofs.Common.{◌≡◌, ℕ, Bool, true, false, cond, ◌&&◌, ◌||◌, List, [], ◌∷◌, ◌++◌, Option, Some, None, is_some, option_map, refl, sym, ap, ◌∙◌, codes}
+use Rattle.std.specs.List.{list_any}
 use Rattle.std.specs.Option.{option_map_or}
 use Rattle.std.proofs.lemmas.List.Folds.{Any-from_list_any, list_any-from_Any}
 use Rattle.ft_content.specs.Command.{Command}
 use Rattle.ft_statements.specs.Words.{Token, is_keyword, name_of}
-use Rattle.ft_statements.specs.Reading.{◌>>=◌, keyword_at, keywords_at}
+use Rattle.ft_statements.specs.Reading.{◌>>=◌, keywords_at}
 use Rattle.ft_statements.specs.Statements.{Class, Plain, FullText, command_of, without_end, leads, is_named, is_table, names_table, is_full_text, class_of}
-use Rattle.ft_statements.specs.Grammar.{IsKeyword, IsName, IsSame, IsCommand, IsStatement, not_ended, ended, IsLead, is_from, is_into, is_update, is_table as is_table_word, is_join, is_exists, IsTable, table_name, IsFullText, makes_table, names_table as names_one, HasClass, plain_class, full_text_class}
-use Rattle.ft_statements.proofs.GrammarBase.{goes_on, finally, some_inj, from_keywords, keywords_there}
+use Rattle.ft_statements.specs.Grammar.{IsCommand, IsStatement, not_ended, ended, IsLead, from_word, into_word, update_word, table_word, join_word, exists_word, IsTable, table_name, IsFullText, makes_virtual, names_one, HasClass, plain_class, full_text_class}
+use Rattle.ft_statements.proofs.GrammarBase.{finally, some_inj, from_keywords, keywords_there}
 use Rattle.ft_statements.proofs.GrammarCommand.{command_sound, command_complete}
 use Rattle.ft_statements.proofs.GrammarEnd.{command_kept, end_gone, EndOf, no_end, one_end, end_is}
 
@@ -31,12 +31,12 @@ lead_sound : (t : Token) → leads t ≡ true → IsLead t
 lead_sound t e = by_test (is_keyword (codes "FROM") t) refl (is_keyword (codes "INTO") t) refl (is_keyword (codes "UPDATE") t) refl (is_keyword (codes "TABLE") t) refl (is_keyword (codes "JOIN") t) refl (is_keyword (codes "EXISTS") t) refl e where
   by_test : (a : Bool) → is_keyword (codes "FROM") t ≡ a → (b : Bool) → is_keyword (codes "INTO") t ≡ b → (c : Bool) → is_keyword (codes "UPDATE") t ≡ c →
       (d : Bool) → is_keyword (codes "TABLE") t ≡ d → (x : Bool) → is_keyword (codes "JOIN") t ≡ x → (y : Bool) → is_keyword (codes "EXISTS") t ≡ y → (a || b || c || d || x || y) ≡ true → IsLead t
-  by_test true is b _ c _ d _ x _ y _ e1 = is_from is
-  by_test false _ true is c _ d _ x _ y _ e1 = is_into is
-  by_test false _ false _ true is d _ x _ y _ e1 = is_update is
-  by_test false _ false _ false _ true is x _ y _ e1 = is_table_word is
-  by_test false _ false _ false _ false _ true is y _ e1 = is_join is
-  by_test false _ false _ false _ false _ false _ true is e1 = is_exists is
+  by_test true is b _ c _ d _ x _ y _ e1 = from_word is
+  by_test false _ true is c _ d _ x _ y _ e1 = into_word is
+  by_test false _ false _ true is d _ x _ y _ e1 = update_word is
+  by_test false _ false _ false _ true is x _ y _ e1 = table_word is
+  by_test false _ false _ false _ false _ true is y _ e1 = join_word is
+  by_test false _ false _ false _ false _ false _ true is e1 = exists_word is
   by_test false _ false _ false _ false _ false _ false _ e1 = cc
 
 or_true : (a : Bool) → (a || true) ≡ true
@@ -50,12 +50,12 @@ or_right : (a b : Bool) → b ≡ true → (a || b) ≡ true
 or_right a b is = ap (λ x. a || x) is ∙ or_true a
 
 lead_complete : {t : Token} → IsLead t → leads t ≡ true
-lead_complete (is_from {t} is) = simp is
-lead_complete (is_into {t} is) = simp (is, or_true)
-lead_complete (is_update {t} is) = simp (is, or_true)
-lead_complete (is_table_word {t} is) = simp (is, or_true)
-lead_complete (is_join {t} is) = simp (is, or_true)
-lead_complete (is_exists {t} is) = simp (is, or_true)
+lead_complete (from_word {t} is) = simp is
+lead_complete (into_word {t} is) = simp (is, or_true)
+lead_complete (update_word {t} is) = simp (is, or_true)
+lead_complete (table_word {t} is) = simp (is, or_true)
+lead_complete (join_word {t} is) = simp (is, or_true)
+lead_complete (exists_word {t} is) = simp (is, or_true)
 
 -- ---- the name of a table
 
@@ -101,7 +101,7 @@ names_complete tables (t ∷ u ∷ us) {lead} {table} behind is_lead is =
 virtual_sound : (tables : List (List ℕ)) (ts rest : List Token) → keywords_at (codes "CREATE" ∷ codes "VIRTUAL" ∷ []) ts ≡ Some rest → IsFullText tables ts
 virtual_sound tables ts rest e =
     from_keywords (IsFullText tables) (codes "CREATE") (codes "VIRTUAL" ∷ []) ts (λ us. Some us) rest (ap (λ o. o >>= λ us. Some us) e) λ a r1 is_a e1.
-    from_keywords (λ r. IsFullText tables (a ∷ r)) (codes "VIRTUAL") [] r1 (λ us. Some us) rest e1 λ b r2 is_b e2. makes_table is_a is_b
+    from_keywords (λ r. IsFullText tables (a ∷ r)) (codes "VIRTUAL") [] r1 (λ us. Some us) rest e1 λ b r2 is_b e2. makes_virtual is_a is_b
 
 from_names : {tables : List (List ℕ)} {ts : List Token} → NamesOne tables ts → IsFullText tables ts
 from_names (names_at before behind is_lead is) = names_one before behind is_lead is
@@ -113,7 +113,7 @@ full_text_sound tables ts e = by_test (keywords_at (codes "CREATE" ∷ codes "VI
   by_test None none e1 = from_names (names_sound tables ts e1)
 
 full_text_complete : {tables : List (List ℕ)} {ts : List Token} → IsFullText tables ts → is_full_text tables ts ≡ true
-full_text_complete {tables} (makes_table {a} {b} {ts} is_a is_b) =
+full_text_complete {tables} (makes_virtual {a} {b} {ts} is_a is_b) =
     or_left _ (names_table tables (a ∷ b ∷ ts)) (ap is_some (keywords_there (codes "CREATE") (codes "VIRTUAL" ∷ []) a (b ∷ ts) ts is_a (keywords_there (codes "VIRTUAL") [] b ts ts is_b refl)))
 full_text_complete {tables} (names_one before {lead} {table} behind is_lead is) =
     or_right (is_some (keywords_at (codes "CREATE" ∷ codes "VIRTUAL" ∷ []) (before ++ lead ∷ table ∷ behind))) _ (names_complete tables before behind is_lead is)

@@ -1,16 +1,15 @@
 -- What words spell is what is read of them.
-use Rattle.std.proofs.Common.{◌≡◌, ℕ, Bool, true, false, cond, List, [], ◌∷◌, ◌++◌, Option, Some, None, refl, sym, ap, ◌∙◌, codes}
+use Rattle.std.proofs.Common.{◌≡◌, ℕ, false, cond, List, [], ◌∷◌, ◌++◌, Option, Some, None, refl, sym, ap, ◌∙◌, codes}
 use Rattle.std.specs.Option.{option_or}
 use Rattle.std.specs.Str.{str_eq_ignore_ascii_case}
 use Rattle.ft_content.specs.Command.{Command}
-use Rattle.ft_statements.specs.Words.{Token, is_keyword}
-use Rattle.ft_statements.specs.Reading.{◌>>=◌}
+use Rattle.ft_statements.specs.Words.{Token}
 use Rattle.ft_statements.specs.Create.{create, drop_table as drop}
 use Rattle.ft_statements.specs.Insert.{special, insert}
 use Rattle.ft_statements.specs.Change.{update, delete}
 use Rattle.ft_statements.specs.Select.{select}
 use Rattle.ft_statements.specs.Statements.{command_of}
-use Rattle.ft_statements.specs.Grammar.{IsKeyword, FirstOf, first, second, IsCreate, create_table, IsDrop, drop_table, IsSpecial, special_command, IsInsert, insert_rows, IsUpdate, update_rows, IsDelete, delete_rows, IsSelect, select_rows, IsCommand, as_create, as_drop, as_insert, as_update, as_delete, as_select}
+use Rattle.ft_statements.specs.Grammar.{IsKeyword, FirstOf, first, second, IsDrop, drop_table, IsSpecial, special_command, IsInsert, insert_rows, IsUpdate, update_rows, IsDelete, delete_rows, IsSelect, select_rows, IsCommand, as_create, as_drop, as_insert, as_update, as_delete, as_select}
 use Rattle.ft_statements.proofs.GrammarBase.{stops, some_inj, either, one_keyword}
 use Rattle.ft_statements.proofs.GrammarCreate.{create_sound, create_complete}
 use Rattle.ft_statements.proofs.GrammarDrop.{drop_sound, drop_complete}

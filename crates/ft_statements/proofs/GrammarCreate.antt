@@ -4,8 +4,8 @@ use Rattle.std.specs.Option.{option_or}
 use Rattle.ft_content.specs.Command.{Command, Create}
 use Rattle.ft_statements.specs.Words.{Token, is_keyword, is_symbol, is_name, bare, name_of, literal_of}
 use Rattle.ft_statements.specs.Reading.{◌>>=◌, whole, each, name_at, keyword_at, keywords_at, symbol_at, optional, parenthesized, parts}
-use Rattle.ft_statements.specs.Create.{Argument, Column, tokenizer_of, tokenizer, setting as setting_of, column, argument_of, settings_in, columns_in, arguments_of, arguments, create}
-use Rattle.ft_statements.specs.Grammar.{IsKeyword, IsSymbol, IsName, IsText, Separated, InParens, in_parens, FirstOf, IsBalanced, balanced_end, IsPart, IsTokenizer, with_sign, no_sign, IsSetting, setting, IsColumn, named_column, text_column, IsArgument, argument, AreArguments, no_arguments, empty_parens, some_arguments, IsIfNew, always, if_new, IsCreate, create_table}
+use Rattle.ft_statements.specs.Create.{Argument, tokenizer_of, tokenizer, setting as setting_of, column, argument_of, settings_in, columns_in, arguments_of, arguments, create}
+use Rattle.ft_statements.specs.Grammar.{IsKeyword, IsSymbol, in_parens, FirstOf, IsBalanced, balanced_end, IsPart, IsTokenizer, with_sign, no_sign, IsSetting, setting, IsColumn, named_column, text_column, IsArgument, argument, AreArguments, no_arguments, empty_parens, some_arguments, IsIfNew, always, if_new, IsCreate, create_table}
 use Rattle.ft_statements.proofs.GrammarBase.{goes_on, finally, some_inj, bound, either, from_keyword, from_keywords, from_token, from_symbol, keyword_there, keywords_there, symbol_there, token_there, one_keyword, text_kind, first_sound, first_complete}
 use Rattle.ft_statements.proofs.GrammarLists.{separated_balanced, balanced_list_sound, list_complete, parens_whole, whole_parens}
 
@@ -116,15 +116,15 @@ create_sound ts command e =
     from_keywords (λ r. IsCreate (a ∷ r) command) (codes "VIRTUAL") (codes "TABLE" ∷ []) r1 _ command e1 λ b r2 is_b e2.
     from_keywords (λ r. IsCreate (a ∷ b ∷ r) command) (codes "TABLE") [] r2 _ command e2 λ c r3 is_c e3.
     by_test a b c r3 is_a is_b is_c (keywords_at if_words r3) refl e3 where
-  by_test : (a b c : Token) (r : List Token) → IsKeyword (codes "CREATE") a → IsKeyword (codes "VIRTUAL") b → IsKeyword (codes "TABLE") c → (o : Option (List Token)) → keywords_at if_words r ≡ o →
-      (name_at (optional o r).1 >>= λ table. keyword_at (codes "USING") table.1 >>= λ using. name_at using >>= λ kind. arguments kind.1 >>= λ given. Some (Create table.0 kind.0 (settings_in given) (columns_in given) (optional o r).0)) ≡ Some command →
-      IsCreate (a ∷ b ∷ c ∷ r) command
-  by_test a b c r is_a is_b is_c None other e1 = named_sound a b c [] r false command is_a is_b is_c always e1
-  by_test a b c r is_a is_b is_c (Some rest) there e1 =
-      from_keywords (λ us. IsCreate (a ∷ b ∷ c ∷ us) command) (codes "IF") (codes "NOT" ∷ codes "EXISTS" ∷ []) r (λ us. Some us) rest (ap (λ o. o >>= λ us. Some us) there) λ i r1 is_i e2.
-      from_keywords (λ us. IsCreate (a ∷ b ∷ c ∷ i ∷ us) command) (codes "NOT") (codes "EXISTS" ∷ []) r1 (λ us. Some us) rest e2 λ k r2 is_k e3.
-      from_keywords (λ us. IsCreate (a ∷ b ∷ c ∷ i ∷ k ∷ us) command) (codes "EXISTS") [] r2 (λ us. Some us) rest e3 λ l r3 is_l e4.
-      subst (λ us. IsCreate (a ∷ b ∷ c ∷ i ∷ k ∷ l ∷ us) command) (sym (some_inj e4)) (named_sound a b c (i ∷ k ∷ l ∷ []) rest true command is_a is_b is_c (if_new is_i is_k is_l) e1)
+      by_test : (a b c : Token) (r : List Token) → IsKeyword (codes "CREATE") a → IsKeyword (codes "VIRTUAL") b → IsKeyword (codes "TABLE") c → (o : Option (List Token)) → keywords_at if_words r ≡ o →
+          (name_at (optional o r).1 >>= λ table. keyword_at (codes "USING") table.1 >>= λ using. name_at using >>= λ kind. arguments kind.1 >>= λ given. Some (Create table.0 kind.0 (settings_in given) (columns_in given) (optional o r).0)) ≡ Some command →
+          IsCreate (a ∷ b ∷ c ∷ r) command
+      by_test a b c r is_a is_b is_c None other e1 = named_sound a b c [] r false command is_a is_b is_c always e1
+      by_test a b c r is_a is_b is_c (Some rest) there e1 =
+          from_keywords (λ us. IsCreate (a ∷ b ∷ c ∷ us) command) (codes "IF") (codes "NOT" ∷ codes "EXISTS" ∷ []) r (λ us. Some us) rest (ap (λ o. o >>= λ us. Some us) there) λ i r1 is_i e2.
+          from_keywords (λ us. IsCreate (a ∷ b ∷ c ∷ i ∷ us) command) (codes "NOT") (codes "EXISTS" ∷ []) r1 (λ us. Some us) rest e2 λ k r2 is_k e3.
+          from_keywords (λ us. IsCreate (a ∷ b ∷ c ∷ i ∷ k ∷ us) command) (codes "EXISTS") [] r2 (λ us. Some us) rest e3 λ l r3 is_l e4.
+          subst (λ us. IsCreate (a ∷ b ∷ c ∷ i ∷ k ∷ l ∷ us) command) (sym (some_inj e4)) (named_sound a b c (i ∷ k ∷ l ∷ []) rest true command is_a is_b is_c (if_new is_i is_k is_l) e1)
 
 -- a name that is no IF NOT EXISTS, since USING stands behind it
 no_if : (name using : Token) (rest : List Token) → IsKeyword (codes "USING") using → keywords_at if_words (name ∷ using ∷ rest) ≡ None
@@ -139,16 +139,16 @@ if_read always name using rest is = ap (λ o. optional o (name ∷ using ∷ res
 if_read (if_new {a} {b} {c} is_a is_b is_c) name using rest is =
     let behind = name ∷ using ∷ rest in
     ap (λ o. optional o (a ∷ b ∷ c ∷ behind))
-      (keywords_there (codes "IF") (codes "NOT" ∷ codes "EXISTS" ∷ []) a (b ∷ c ∷ behind) behind is_a
-      (keywords_there (codes "NOT") (codes "EXISTS" ∷ []) b (c ∷ behind) behind is_b (keywords_there (codes "EXISTS") [] c behind behind is_c refl)))
+    (keywords_there (codes "IF") (codes "NOT" ∷ codes "EXISTS" ∷ []) a (b ∷ c ∷ behind) behind is_a
+    (keywords_there (codes "NOT") (codes "EXISTS" ∷ []) b (c ∷ behind) behind is_b (keywords_there (codes "EXISTS") [] c behind behind is_c refl)))
 
 pub create_complete : {ts : List Token} {command : Command} → IsCreate ts command → create ts ≡ Some command
 create_complete (create_table {a} {b} {c} name using kind {is_new} {arguments = words} {n} {k} {new} {given} is_a is_b is_c i is_n is_u is_k d) =
     let behind = name ∷ using ∷ kind ∷ words in
     let rest = is_new ++ behind in
     goes_on _ (keywords_there (codes "CREATE") (codes "VIRTUAL" ∷ codes "TABLE" ∷ []) a (b ∷ c ∷ rest) rest is_a
-        (keywords_there (codes "VIRTUAL") (codes "TABLE" ∷ []) b (c ∷ rest) rest is_b (keywords_there (codes "TABLE") [] c rest rest is_c refl)))
-      (ap (λ p. name_at p.1 >>= λ table. keyword_at (codes "USING") table.1 >>= λ using. name_at using >>= λ kind. arguments kind.1 >>= λ given. Some (Create table.0 kind.0 (settings_in given) (columns_in given) p.0)) (if_read i name using (kind ∷ words) is_u)
-      ∙ goes_on _ (token_there name_of name (using ∷ kind ∷ words) n is_n)
-        (goes_on _ (keyword_there (codes "USING") using (kind ∷ words) is_u)
-        (goes_on _ (token_there name_of kind words k is_k) (goes_on _ (arguments_complete d) refl))))
+    (keywords_there (codes "VIRTUAL") (codes "TABLE" ∷ []) b (c ∷ rest) rest is_b (keywords_there (codes "TABLE") [] c rest rest is_c refl)))
+    (ap (λ p. name_at p.1 >>= λ table. keyword_at (codes "USING") table.1 >>= λ using. name_at using >>= λ kind. arguments kind.1 >>= λ given. Some (Create table.0 kind.0 (settings_in given) (columns_in given) p.0)) (if_read i name using (kind ∷ words) is_u)
+    ∙ goes_on _ (token_there name_of name (using ∷ kind ∷ words) n is_n)
+    (goes_on _ (keyword_there (codes "USING") using (kind ∷ words) is_u)
+    (goes_on _ (token_there name_of kind words k is_k) (goes_on _ (arguments_complete d) refl))))

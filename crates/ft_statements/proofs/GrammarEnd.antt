@@ -1,5 +1,5 @@
 -- No command ends with a semicolon, so one that stands there ends the statement.
-use Rattle.std.proofs.Common.{◌≡◌, ℕ, Bool, true, false, cond, ◌⊎◌, inl, inr, List, [], ◌∷◌, ◌++◌, Option, refl, sym, ap, ◌∙◌, subst, codes, ℤ, append-nil}
+use Rattle.std.proofs.Common.{◌≡◌, ℕ, Bool, true, false, cond, inl, inr, List, [], ◌∷◌, ◌++◌, Option, refl, sym, ap, subst, codes, ℤ, append-nil}
 use Rattle.ft_content.specs.Content.{Cell}
 use Rattle.ft_content.specs.Command.{Command, Filter}
 use Rattle.ft_statements.specs.Words.{Token, is_symbol}

@@ -1,14 +1,14 @@
 -- Values and filters are read as the grammar spells them.
-use Rattle.std.proofs.Common.{◌≡◌, ℕ, ◌<◌, ◌≤◌, ◌^◌, ◌-◌, Bool, true, false, cond, ◌⊎◌, inl, inr, List, [], ◌∷◌, ◌++◌, Option, Some, None, refl, sym, ap, ◌∙◌, subst, codes, ℤ, pos, neg_ℤ, nat_le, leb-true, le-leb, arith, append-nil}
+use Rattle.std.proofs.Common.{◌≡◌, ℕ, ◌<◌, ◌≤◌, ◌^◌, ◌-◌, Bool, true, false, cond, inl, inr, List, [], ◌∷◌, ◌++◌, Option, Some, None, refl, sym, ap, ◌∙◌, subst, codes, ℤ, pos, neg_ℤ, nat_le, leb-true, le-leb, arith, append-nil}
 use Rattle.std.specs.Option.{option_or}
 use Rattle.ft_content.specs.Content.{Cell, Null, Int, Text}
-use Rattle.ft_content.specs.Command.{Filter, Everything, OfDocid, Matching}
+use Rattle.ft_content.specs.Command.{Filter}
 use Rattle.ft_statements.specs.Words.{Token, is_keyword, is_symbol, name_of, literal_of}
-use Rattle.ft_statements.specs.Values.{number_of, signed, integer_of, signed_at, sign_at, integer_at, value_at, count_of}
-use Rattle.ft_statements.specs.Reading.{◌>>=◌, Reads, whole, token_at, name_at, literal_at, keyword_at, symbol_at}
+use Rattle.ft_statements.specs.Values.{number_of, integer_of, signed_at, sign_at, integer_at, value_at}
+use Rattle.ft_statements.specs.Reading.{◌>>=◌, Reads, whole, token_at, literal_at, keyword_at}
 use Rattle.ft_statements.specs.Change.{key_at, docid_at, match_at, filter_at, filter_behind, where_at}
-use Rattle.ft_statements.specs.Grammar.{IsKeyword, IsSymbol, IsName, IsText, IsNumber, IsKey, IsInteger, without_sign, with_plus, with_minus, IsValue, null_value, text_value, integer_value, IsFilter, of_docid, of_match, IsWhere, no_filter, where_filter}
-use Rattle.ft_statements.proofs.GrammarBase.{Spelled, token_is, token_there, from_spelled, goes_on, stops, finally, some_inj, bound, whole_is, either, from_keyword, from_symbol, from_token, keyword_no_symbol, name_no_symbol, text_no_symbol, number_no_symbol, symbol_no_keyword, text_no_keyword, number_no_keyword, text_kind, number_kind, symbol_kind, one_keyword, one_symbol}
+use Rattle.ft_statements.specs.Grammar.{IsNumber, IsKey, IsInteger, without_sign, with_plus, with_minus, IsValue, null_value, text_value, integer_value, IsFilter, of_docid, of_match, IsWhere, no_filter, where_filter}
+use Rattle.ft_statements.proofs.GrammarBase.{Spelled, token_is, token_there, from_spelled, goes_on, stops, finally, some_inj, bound, whole_is, either, from_keyword, from_symbol, from_token, keyword_no_symbol, number_no_symbol, symbol_no_keyword, text_no_keyword, number_no_keyword, number_kind, symbol_kind, one_keyword, one_symbol}
 
 -- ---- numbers
 
@@ -154,7 +154,7 @@ no_key t rest f none = by_test (is_keyword (codes "docid") t) (is_keyword (codes
 filter_read : {us : List Token} {x : Filter} → IsFilter us x → (rest : List Token) → filter_at (us ++ rest) ≡ Some (x, rest)
 filter_read (of_docid {key} {sign} {ts} {n} is_key is is_n) rest =
     ap (λ o. option_or o (match_at (key ∷ sign ∷ ts ++ rest)))
-      (goes_on _ (key_there key (sign ∷ ts ++ rest) is_key) (goes_on _ (ap (λ b. cond b (Some (ts ++ rest)) None) is) (goes_on _ (integer_read is_n rest) refl)))
+    (goes_on _ (key_there key (sign ∷ ts ++ rest) is_key) (goes_on _ (ap (λ b. cond b (Some (ts ++ rest)) None) is) (goes_on _ (integer_read is_n rest) refl)))
 filter_read (of_match {name} {match} {query} {n} {q} is_name is_match is_q) rest =
     let none : docid_at (name ∷ match ∷ query ∷ rest) ≡ None = no_key name (match ∷ query ∷ rest) _ (stops _ (ap (λ b. cond b (Some (query ∷ rest)) None) (keyword_no_symbol (codes "MATCH") match is_match (codes "=")))) in
     ap (λ o. option_or o (match_at (name ∷ match ∷ query ∷ rest))) none

@@ -4,16 +4,15 @@ use Rattle.std.specs.Option.{option_or}
 use Rattle.std.specs.Str.{str_eq_ignore_ascii_case, str_to_ascii_lowercase}
 use Rattle.std.specs.Cmp.Lexicographic.{same_text}
 use Rattle.ft_content.specs.Content.{Cell}
-use Rattle.ft_content.specs.Command.{Command, Insert, Rebuild, Check, Optimize}
-use Rattle.ft_statements.specs.Words.{Token, is_keyword, is_symbol, name_of, literal_of}
+use Rattle.ft_content.specs.Command.{Command, Rebuild, Check, Optimize}
+use Rattle.ft_statements.specs.Words.{Token, is_symbol, name_of, literal_of}
 use Rattle.ft_statements.specs.Values.{value_at}
-use Rattle.ft_statements.specs.Reading.{◌>>=◌, Reads, whole, each, name_at, keyword_at, keywords_at, symbol_at, parenthesized, parts}
+use Rattle.ft_statements.specs.Reading.{whole, each, symbol_at, parenthesized, parts}
 use Rattle.ft_statements.specs.Insert.{special_of, special_where, only_name, only_literal, special, names_of, listed_at, listed_behind, columns_at, only_value, row_of, insert}
-use Rattle.ft_statements.specs.Grammar.{IsKeyword, IsSymbol, IsName, IsText, IsNumber, Alone, alone, Separated, InParens, in_parens, FirstOf, first, second, IsBalanced, IsPart, part_word, part_group, part_end, IsInteger, without_sign, with_plus, with_minus, IsValue, null_value, text_value, integer_value, IsSame, IsTask, rebuild, check, optimize, IsSpecial, special_command, AreColumns, all_columns, these_columns, IsInsert, insert_rows}
-use Rattle.ft_statements.proofs.GrammarBase.{Spelled, goes_on, finally, some_inj, bound, whole_is, either, from_keyword, from_keywords, from_token, from_spelled, keyword_there, keywords_there, token_there, only_is, only_there, one_symbol, keyword_no_symbol, name_no_symbol, text_no_symbol, number_no_symbol, first_sound, first_complete}
+use Rattle.ft_statements.specs.Grammar.{IsSymbol, IsName, Alone, alone, Separated, InParens, in_parens, FirstOf, IsPart, part_word, part_group, part_end, IsInteger, without_sign, with_plus, with_minus, IsValue, null_value, text_value, integer_value, IsSame, IsTask, rebuild, check, optimize, IsSpecial, special_command, AreColumns, all_columns, these_columns, IsInsert, insert_rows}
+use Rattle.ft_statements.proofs.GrammarBase.{Spelled, goes_on, finally, bound, whole_is, from_keyword, from_keywords, from_token, from_spelled, keyword_there, keywords_there, token_there, only_is, only_there, one_symbol, keyword_no_symbol, name_no_symbol, text_no_symbol, number_no_symbol, first_sound, first_complete}
 use Rattle.ft_statements.proofs.GrammarFilters.{value_spelled, value_read}
-use Rattle.ft_statements.proofs.GrammarLists.{word_part, comma_plain, part_balanced, separated_balanced, list_sound, list_complete, from_parens, parens_read, parens_whole, whole_parens}
-
+use Rattle.ft_statements.proofs.GrammarLists.{word_part, part_balanced, separated_balanced, list_sound, list_complete, from_parens, parens_read, parens_whole, whole_parens}
 
 -- ---- names
 
@@ -71,7 +70,7 @@ listed_spelled ts x rest e =
     from_parens (λ us. Spelled AreColumns us x rest) ts _ _ e λ left inside right behind is_left b is_right e1.
     bound (names_of inside) _ e1 λ names are e2.
     finally (λ p. Spelled AreColumns (left ∷ inside ++ right ∷ behind) p.0 p.1)
-      (record { words = left ∷ inside ++ right ∷ []; spell = these_columns (in_parens is_left (list_sound only_name name_sound inside names are) right is_right); are = ap (λ us. left ∷ us) (append_assoc inside (right ∷ []) behind) }) e2
+    (record { words = left ∷ inside ++ right ∷ []; spell = these_columns (in_parens is_left (list_sound only_name name_sound inside names are) right is_right); are = ap (λ us. left ∷ us) (append_assoc inside (right ∷ []) behind) }) e2
 
 columns_spelled : (ts : List Token) (x : Option (List (List ℕ))) (rest : List Token) → columns_at ts ≡ Some (x, rest) → Spelled AreColumns ts x rest
 columns_spelled ts x rest e = by_test (symbol_at (codes "(") ts) e where
@@ -104,10 +103,10 @@ insert_complete (insert_rows {a} {b} {name} values {columns} {rows} {n} {names} 
     let behind = columns ++ values ∷ rows in
     let none : symbol_at (codes "(") (values ∷ rows) ≡ None = ap (λ b. cond b (Some rows) None) (keyword_no_symbol (codes "VALUES") values is_v (codes "(")) in
     goes_on _ (keywords_there (codes "INSERT") (codes "INTO" ∷ []) a (b ∷ name ∷ behind) (name ∷ behind) is_a (keywords_there (codes "INTO") [] b (name ∷ behind) (name ∷ behind) is_b refl))
-      (goes_on _ (token_there name_of name behind n is_n)
-      (goes_on _ (columns_read d (values ∷ rows) none)
-      (goes_on _ (keyword_there (codes "VALUES") values rows is_v)
-      (goes_on _ (list_complete row_of row_complete row_part r) refl))))
+    (goes_on _ (token_there name_of name behind n is_n)
+    (goes_on _ (columns_read d (values ∷ rows) none)
+    (goes_on _ (keyword_there (codes "VALUES") values rows is_v)
+    (goes_on _ (list_complete row_of row_complete row_part r) refl))))
 
 -- ---- the special commands
 
@@ -150,26 +149,26 @@ special_sound ts c e =
     from_parens (λ r. IsSpecial (a ∷ b ∷ name ∷ r) c) r3 _ c e3 λ left inside right r4 is_left b1 is_right e4.
     bound (only_name inside) _ e4 λ k is_k e5. let (column, is_column, are) = only_is name_of inside k is_k in
     subst (λ us. IsSpecial (a ∷ b ∷ name ∷ left ∷ us ++ right ∷ r4) c) are (
-      from_keyword (λ r. IsSpecial (a ∷ b ∷ name ∷ left ∷ column ∷ right ∷ r) c) (codes "VALUES") r4 _ c e5 λ values r5 is_v e6.
-      bound (whole (parenthesized r5)) _ e6 λ row is_row e7. bound (only_literal row) _ e7 λ w is_w e8.
-      parens_whole r5 row is_row λ open_row close_row is_open b2 is_close all.
-      let (word, is_word, alone_is) = only_is literal_of row w is_w in
-      let (same, task) = same_is n k w c e8 in
-      subst (λ us. IsSpecial (a ∷ b ∷ name ∷ left ∷ column ∷ right ∷ values ∷ us) c) all (
-        subst (λ us. IsSpecial (a ∷ b ∷ name ∷ left ∷ column ∷ right ∷ values ∷ open_row ∷ us ++ close_row ∷ []) c) alone_is
-          (special_command is_a is_b is_n is_left is_column is_right is_v is_open is_word is_close same task)))
+    from_keyword (λ r. IsSpecial (a ∷ b ∷ name ∷ left ∷ column ∷ right ∷ r) c) (codes "VALUES") r4 _ c e5 λ values r5 is_v e6.
+    bound (whole (parenthesized r5)) _ e6 λ row is_row e7. bound (only_literal row) _ e7 λ w is_w e8.
+    parens_whole r5 row is_row λ open_row close_row is_open b2 is_close all.
+    let (word, is_word, alone_is) = only_is literal_of row w is_w in
+    let (same, task) = same_is n k w c e8 in
+    subst (λ us. IsSpecial (a ∷ b ∷ name ∷ left ∷ column ∷ right ∷ values ∷ us) c) all (
+    subst (λ us. IsSpecial (a ∷ b ∷ name ∷ left ∷ column ∷ right ∷ values ∷ open_row ∷ us ++ close_row ∷ []) c) alone_is
+    (special_command is_a is_b is_n is_left is_column is_right is_v is_open is_word is_close same task)))
 
 pub special_complete : {ts : List Token} {c : Command} → IsSpecial ts c → special ts ≡ Some c
 special_complete (special_command {a} {b} {name} {left} {column} {right} {values} {open_row} {word} {close_row} {n} {c = k} {w} {command} is_a is_b is_n is_left is_column is_right is_v is_open is_word is_close same task) =
     let row = open_row ∷ word ∷ close_row ∷ [] in
     let behind = left ∷ column ∷ right ∷ values ∷ row in
     goes_on _ (keywords_there (codes "INSERT") (codes "INTO" ∷ []) a (b ∷ name ∷ behind) (name ∷ behind) is_a (keywords_there (codes "INTO") [] b (name ∷ behind) (name ∷ behind) is_b refl))
-      (goes_on _ (token_there name_of name behind n is_n)
-      (goes_on _ (parens_read left (column ∷ []) right (values ∷ row) is_left (part_balanced (word_part column (name_no_symbol column k is_column))) is_right)
-      (goes_on _ (only_there name_of column k is_column)
-      (goes_on _ (keyword_there (codes "VALUES") values row is_v)
-      (goes_on _ (whole_parens open_row (word ∷ []) close_row is_open (part_balanced (word_part word (text_no_symbol word w is_word))) is_close)
-      (goes_on _ (only_there literal_of word w is_word) (ap (λ b. cond b (special_of n w) None) same ∙ task_complete task)))))))
+    (goes_on _ (token_there name_of name behind n is_n)
+    (goes_on _ (parens_read left (column ∷ []) right (values ∷ row) is_left (part_balanced (word_part column (name_no_symbol column k is_column))) is_right)
+    (goes_on _ (only_there name_of column k is_column)
+    (goes_on _ (keyword_there (codes "VALUES") values row is_v)
+    (goes_on _ (whole_parens open_row (word ∷ []) close_row is_open (part_balanced (word_part word (text_no_symbol word w is_word))) is_close)
+    (goes_on _ (only_there literal_of word w is_word) (ap (λ b. cond b (special_of n w) None) same ∙ task_complete task)))))))
 
 -- ---- of both, the first
 

@@ -1,10 +1,10 @@
 -- Parentheses and commas: what stands between them is what was read.
 use Rattle.std.proofs.Common.{◌≡◌, ℕ, zero, suc, ◌+◌, ◌-◌, Bool, true, false, cond, ◌&&◌, ◌||◌, ◌==◌, List, [], ◌∷◌, ◌++◌, length, take, slice_get, Option, Some, None, refl, sym, ap, ◌∙◌, subst, codes, append_assoc, append-nil, arith, ne_eqb, add-one, sub-one}
 use Rattle.std.specs.List.{onto_first}
-use Rattle.ft_statements.specs.Words.{Token, is_symbol, all_but_last}
-use Rattle.ft_statements.specs.Reading.{◌>>=◌, Reads, whole, each, symbol_at, depth_after, onto_read, closed, parenthesized, parts_at, parts, front_and_last, with_last}
-use Rattle.ft_statements.specs.Grammar.{IsSymbol, is_parenthesis, IsBalanced, balanced_end, balanced_word, balanced_group, IsPart, part_end, part_word, part_group, Separated, last_part, then_comma, InParens, in_parens}
-use Rattle.ft_statements.proofs.GrammarBase.{Spelled, goes_on, stops, finally, some_inj, bound, whole_is, from_symbol, one_symbol}
+use Rattle.ft_statements.specs.Words.{Token, is_symbol}
+use Rattle.ft_statements.specs.Reading.{◌>>=◌, Reads, whole, each, depth_after, onto_read, closed, parenthesized, parts_at, parts, with_last}
+use Rattle.ft_statements.specs.Grammar.{IsSymbol, is_parenthesis, IsBalanced, balanced_end, balanced_word, balanced_group, IsPart, part_end, part_word, part_group, Separated, last_part, then_comma}
+use Rattle.ft_statements.proofs.GrammarBase.{goes_on, finally, some_inj, bound, whole_is, from_symbol, one_symbol}
 
 -- ---- how deep words stand
 
@@ -61,10 +61,10 @@ balanced_closed (balanced_word {t} {ts} other b) d rest =
 balanced_closed (balanced_group {left} {inside} {ts} is_left b right is_right more) d rest =
     let no_right = one_symbol (codes "(") (codes ")") refl left is_left in
     let first : closed d (left ∷ inside ++ (right ∷ ts ++ rest)) ≡ onto_read left (closed (d + 1) (inside ++ (right ∷ ts ++ rest))) =
-          closed_on d (d + 1) left (inside ++ (right ∷ ts ++ rest)) (ap (λ b. b && d == 0) no_right) (depth_up d left is_left) in
+    closed_on d (d + 1) left (inside ++ (right ∷ ts ++ rest)) (ap (λ b. b && d == 0) no_right) (depth_up d left is_left) in
     let in_group : closed (d + 1) (inside ++ (right ∷ ts ++ rest)) ≡ all_onto inside (closed (d + 1) (right ∷ ts ++ rest)) = balanced_closed b (d + 1) (right ∷ ts ++ rest) in
     let last : closed (d + 1) (right ∷ ts ++ rest) ≡ all_onto (right ∷ ts) (closed d rest) =
-          closed_on (d + 1) d right (ts ++ rest) (and_none _ _ (deep d)) (depth_down d right is_right) ∙ ap (onto_read right) (balanced_closed more d rest) in
+    closed_on (d + 1) d right (ts ++ rest) (and_none _ _ (deep d)) (depth_down d right is_right) ∙ ap (onto_read right) (balanced_closed more d rest) in
     ap (λ us. closed d (left ∷ us)) (append_assoc inside (right ∷ ts) rest)
     ∙ first
     ∙ ap (onto_read left) (in_group ∙ ap (all_onto inside) last ∙ sym (all_onto-append inside (right ∷ ts) (closed d rest)))
@@ -145,8 +145,8 @@ from_parens P ts f y e go =
     from_symbol P (codes "(") ts (closed 0) r is λ left behind is_left e2.
     let c = closed_is zero behind r.0 r.1 e2 in
     subst (λ us. P (left ∷ us)) c.are (go left r.0 c.right r.1 is_left (is_balanced c.closes) c.is_right e1) where
-  is_balanced : {us : List Token} → Closes zero us → IsBalanced us
-  is_balanced (closes_none b) = b
+      is_balanced : {us : List Token} → Closes zero us → IsBalanced us
+      is_balanced (closes_none b) = b
 
 -- ---- commas
 
@@ -193,10 +193,10 @@ balanced_parts (balanced_word {t} {ts} other b) d rest =
     parts_on (d + 1) (d + 1) t (ts ++ rest) (and_none _ _ (deep d)) (depth_same (d + 1) t other) ∙ ap (onto_first t) (balanced_parts b d rest)
 balanced_parts (balanced_group {left} {inside} {ts} is_left b right is_right more) d rest =
     let first : parts_at (d + 1) (left ∷ inside ++ (right ∷ ts ++ rest)) ≡ onto_first left (parts_at (d + 1 + 1) (inside ++ (right ∷ ts ++ rest))) =
-          parts_on (d + 1) (d + 1 + 1) left (inside ++ (right ∷ ts ++ rest)) (and_none _ _ (deep d)) (depth_up (d + 1) left is_left) in
+    parts_on (d + 1) (d + 1 + 1) left (inside ++ (right ∷ ts ++ rest)) (and_none _ _ (deep d)) (depth_up (d + 1) left is_left) in
     let in_group : parts_at (d + 1 + 1) (inside ++ (right ∷ ts ++ rest)) ≡ all_onto_first inside (parts_at (d + 1 + 1) (right ∷ ts ++ rest)) = balanced_parts b (d + 1) (right ∷ ts ++ rest) in
     let last : parts_at (d + 1 + 1) (right ∷ ts ++ rest) ≡ all_onto_first (right ∷ ts) (parts_at (d + 1) rest) =
-          parts_on (d + 1 + 1) (d + 1) right (ts ++ rest) (and_none _ _ (deep (d + 1))) (depth_down (d + 1) right is_right) ∙ ap (onto_first right) (balanced_parts more d rest) in
+    parts_on (d + 1 + 1) (d + 1) right (ts ++ rest) (and_none _ _ (deep (d + 1))) (depth_down (d + 1) right is_right) ∙ ap (onto_first right) (balanced_parts more d rest) in
     ap (λ us. parts_at (d + 1) (left ∷ us)) (append_assoc inside (right ∷ ts) rest)
     ∙ first
     ∙ ap (onto_first left) (in_group ∙ ap (all_onto_first inside) last ∙ sym (all_onto_first-append inside (right ∷ ts) (parts_at (d + 1) rest)))
@@ -207,7 +207,7 @@ group_on : (left : Token) (inside : List Token) (right : Token) (rest : List Tok
 group_on left inside right rest is_left b is_right =
     let no_comma = one_symbol (codes "(") (codes ",") refl left is_left in
     let first : parts_at 0 (left ∷ inside ++ right ∷ rest) ≡ onto_first left (parts_at (0 + 1) (inside ++ right ∷ rest)) =
-          parts_on 0 (0 + 1) left (inside ++ right ∷ rest) (ap (λ b. b && 0 == 0) no_comma) (depth_up 0 left is_left) in
+    parts_on 0 (0 + 1) left (inside ++ right ∷ rest) (ap (λ b. b && 0 == 0) no_comma) (depth_up 0 left is_left) in
     let last : parts_at (0 + 1) (right ∷ rest) ≡ onto_first right (parts_at 0 rest) = parts_on (0 + 1) 0 right rest (and_none _ _ (deep 0)) (depth_down 0 right is_right) in
     first ∙ ap (onto_first left) (balanced_parts b 0 (right ∷ rest) ∙ ap (all_onto_first inside) last ∙ sym (all_onto_first-append inside (right ∷ []) (parts_at 0 rest)))
 
@@ -277,7 +277,7 @@ part_joins : {runs : List (List Token)} {ts : List Token} (us : List Token) → 
 part_joins us p (one_run {ts} q) = subst (λ rs. Joined IsPart rs (us ++ ts)) (sym (onto_run us ts [])) (one_run (part_follows p q))
 part_joins us p (then_run {ts} {us = vs} {runs} q comma is more) =
     subst (λ rs. Joined IsPart rs (us ++ (ts ++ comma ∷ vs))) (sym (onto_run us ts runs))
-      (subst (λ ws. Joined IsPart ((us ++ ts) ∷ runs) ws) (append_assoc us ts (comma ∷ vs)) (then_run (part_follows p q) comma is more))
+    (subst (λ ws. Joined IsPart ((us ++ ts) ∷ runs) ws) (append_assoc us ts (comma ∷ vs)) (then_run (part_follows p q) comma is more))
 
 word_joined : (t : Token) (ts : List Token) → is_parenthesis t ≡ false → Joined IsPart (parts_at 0 ts) ts → (x : Bool) → is_symbol (codes ",") t ≡ x → Joined IsPart (parts_at 0 (t ∷ ts)) (t ∷ ts)
 word_joined t ts other more true is =
@@ -293,8 +293,8 @@ balanced_joined (balanced_word {t} {ts} other b) = word_joined t ts other (balan
 balanced_joined (balanced_group {left} {inside} {ts} is_left b right is_right more) =
     let group = left ∷ inside ++ right ∷ [] in
     subst (λ rs. Joined IsPart rs (left ∷ inside ++ right ∷ ts)) (sym (group_on left inside right ts is_left b is_right))
-      (subst (λ ws. Joined IsPart (all_onto_first group (parts_at 0 ts)) (left ∷ ws)) (append_assoc inside (right ∷ []) ts)
-        (part_joins group (part_group is_left b right is_right part_end) (balanced_joined more)))
+    (subst (λ ws. Joined IsPart (all_onto_first group (parts_at 0 ts)) (left ∷ ws)) (append_assoc inside (right ∷ []) ts)
+    (part_joins group (part_group is_left b right is_right part_end) (balanced_joined more)))
 
 pub balanced_list_sound : {A : Type 0} {Part : List Token → A → Type 0} (f : List Token → Option A) → ((us : List Token) (x : A) → IsPart us → f us ≡ Some x → Part us x) →
     {ts : List Token} → IsBalanced ts → (xs : List A) → each f (parts ts) ≡ Some xs → Separated Part ts xs
@@ -311,8 +311,8 @@ pub parens_whole : {P : Type 0} (ts inside : List Token) → whole (parenthesize
     ((left right : Token) → IsSymbol (codes "(") left → IsBalanced inside → IsSymbol (codes ")") right → left ∷ inside ++ right ∷ [] ≡ ts → P) → P
 parens_whole {P} ts inside e go =
     from_parens (λ us. us ≡ ts → P) ts (λ r. Some r) (inside, []) (ap (λ o. o >>= λ r. Some r) (whole_is (parenthesized ts) inside e))
-      (λ left us right rest is_left b is_right e1. let same : (us, rest) ≡ (inside, []) = some_inj e1 in
-         λ are. go left right is_left (subst IsBalanced (ap (λ p. p.0) same) b) is_right (ap (λ p. left ∷ p.0 ++ right ∷ p.1) (sym same) ∙ are)) refl
+    (λ left us right rest is_left b is_right e1. let same : (us, rest) ≡ (inside, []) = some_inj e1 in
+    λ are. go left right is_left (subst IsBalanced (ap (λ p. p.0) same) b) is_right (ap (λ p. left ∷ p.0 ++ right ∷ p.1) (sym same) ∙ are)) refl
 
 pub whole_parens : (left : Token) (ts : List Token) (right : Token) → IsSymbol (codes "(") left → IsBalanced ts → IsSymbol (codes ")") right → whole (parenthesized (left ∷ ts ++ right ∷ [])) ≡ Some ts
 whole_parens left ts right is_left b is_right = ap whole (parens_read left ts right [] is_left b is_right)
@@ -341,18 +341,20 @@ with_last_more {A} {B} f g p q ps =
     (λ j. (slice_get (p ∷ q ∷ ps) (m j) >>= split (take (m j) (p ∷ q ∷ ps))) >>= λ r. finish r.0 r.1)
     ∙ by_last (slice_get (q ∷ ps) (length ps)) (take (length ps) (q ∷ ps))
     ∙ sym (λ j. f p >>= λ x. ((slice_get (q ∷ ps) (n j) >>= split (take (n j) (q ∷ ps))) >>= λ r. finish r.0 r.1) >>= first_of x) where
-  finish : List (List Token) → List Token → Option (List A × B)
-  finish front last = each f front >>= λ xs. g last >>= last_of xs
-  by_steps : (a : Option A) (o : Option (List A)) (r : Option (A × B)) →
-      ((a >>= λ y. o >>= λ ys. Some (y ∷ ys)) >>= λ xs. r >>= last_of xs) ≡ (a >>= λ x. (o >>= λ xs. r >>= last_of xs) >>= first_of x)
-  by_steps None o r = refl
-  by_steps (Some x) None r = refl
-  by_steps (Some x) (Some xs) None = refl
-  by_steps (Some x) (Some xs) (Some r) = refl
-  by_last : (o : Option (List Token)) (front : List (List Token)) →
-      ((o >>= split (p ∷ front)) >>= λ r. finish r.0 r.1) ≡ (f p >>= λ x. ((o >>= split front) >>= λ r. finish r.0 r.1) >>= first_of x)
-  by_last None front = sym (nothing (f p))
-  by_last (Some last) front = by_steps (f p) (each f front) (g last)
+      finish : List (List Token) → List Token → Option (List A × B)
+      finish front last = each f front >>= λ xs. g last >>= last_of xs
+
+      by_steps : (a : Option A) (o : Option (List A)) (r : Option (A × B)) →
+          ((a >>= λ y. o >>= λ ys. Some (y ∷ ys)) >>= λ xs. r >>= last_of xs) ≡ (a >>= λ x. (o >>= λ xs. r >>= last_of xs) >>= first_of x)
+      by_steps None o r = refl
+      by_steps (Some x) None r = refl
+      by_steps (Some x) (Some xs) None = refl
+      by_steps (Some x) (Some xs) (Some r) = refl
+
+      by_last : (o : Option (List Token)) (front : List (List Token)) →
+          ((o >>= split (p ∷ front)) >>= λ r. finish r.0 r.1) ≡ (f p >>= λ x. ((o >>= split front) >>= λ r. finish r.0 r.1) >>= first_of x)
+      by_last None front = sym (nothing (f p))
+      by_last (Some last) front = by_steps (f p) (each f front) (g last)
 
 with_last_one : {A B : Type 0} (f : List Token → Option A) (g : List Token → Option (A × B)) (p : List Token) → with_last f g (p ∷ []) ≡ (g p >>= last_of [])
 with_last_one f g p = refl
@@ -380,7 +382,7 @@ joined_followed Part Behind f g sound last_sound (then_run {ts} {us} {runs} a co
     bound (f ts) _ (sym (with_last_joined f g ts more) ∙ e) λ x is e1. bound (with_last f g runs) _ e1 λ r later e2.
     let s = joined_followed Part Behind f g sound last_sound more r.0 r.1 later in
     finally (λ p. Followed (Separated Part) Behind (ts ++ comma ∷ us) p.0 p.1)
-      (record { words = ts ++ comma ∷ s.words; behind = s.behind; spell = then_comma (sound ts x is) comma is_comma s.spell; follows = s.follows; are = append_assoc ts (comma ∷ s.words) s.behind ∙ ap (λ ws. ts ++ comma ∷ ws) s.are }) e2
+    (record { words = ts ++ comma ∷ s.words; behind = s.behind; spell = then_comma (sound ts x is) comma is_comma s.spell; follows = s.follows; are = append_assoc ts (comma ∷ s.words) s.behind ∙ ap (λ ws. ts ++ comma ∷ ws) s.are }) e2
 
 pub followed_sound : {A B : Type 0} (Part : List Token → A → Type 0) (Behind : List Token → B → Type 0) (f : List Token → Option A) (g : List Token → Option (A × B)) →
     ((us : List Token) (x : A) → f us ≡ Some x → Part us x) → ((us : List Token) (x : A) (b : B) → g us ≡ Some (x, b) → Followed Part Behind us x b) →

@@ -1,16 +1,15 @@
 -- SELECT is read as the grammar spells it.
-use Rattle.std.proofs.Common.{◌≡◌, ℕ, ◌<◌, ◌≤◌, ◌^◌, ◌-◌, Bool, true, false, cond, ◌||◌, List, [], ◌∷◌, ◌++◌, Option, Some, None, refl, sym, ap, ◌∙◌, subst, codes, nat_le, leb-true, le-leb, arith, append_assoc, append-nil}
+use Rattle.std.proofs.Common.{◌≡◌, ℕ, ◌^◌, ◌-◌, Bool, true, false, cond, ◌||◌, List, [], ◌∷◌, ◌++◌, Option, Some, None, refl, sym, ap, ◌∙◌, subst, codes, nat_le, leb-true, le-leb, arith, append_assoc, append-nil}
 use Rattle.std.specs.Option.{option_or}
 use Rattle.std.specs.Str.{str_eq_ignore_ascii_case}
-use Rattle.ft_content.specs.Command.{Command, Item, Items, AllColumns, Named, OffsetsOf, Counted, Listed, Select}
-use Rattle.ft_statements.specs.Words.{Token, is_keyword, is_symbol, name_of}
+use Rattle.ft_content.specs.Command.{Command, Item, Items, AllColumns, Named, OffsetsOf, Counted}
+use Rattle.ft_statements.specs.Words.{Token, is_keyword, name_of}
 use Rattle.ft_statements.specs.Values.{number_of, count_of}
-use Rattle.ft_statements.specs.Reading.{◌>>=◌, Reads, whole, keyword_at, keywords_at, symbol_at, optional, closed, parenthesized, parts, only}
+use Rattle.ft_statements.specs.Reading.{◌>>=◌, whole, keyword_at, keywords_at, symbol_at, optional, closed, parenthesized, parts, only}
 use Rattle.ft_statements.specs.Insert.{only_name}
-use Rattle.ft_statements.specs.Change.{key_at, where_at}
 use Rattle.ft_statements.specs.Select.{star_at, offsets_at, named_at, item_at, whole_item, items_of, count_at, list_at, selection_at, order_behind, order_at, offset_of, limits_of, select}
-use Rattle.ft_statements.specs.Grammar.{IsKeyword, IsSymbol, IsName, IsNumber, IsKey, Separated, last_part, then_comma, IsPart, part_word, part_group, part_end, IsItem, star_item, offsets_item, named_item, AreItems, counted, listed, IsOrder, no_order, order_by, order_rising, IsCount, count, AreLimits, no_limit, limit_to, limit_from, IsWhere, IsSelect, select_rows}
-use Rattle.ft_statements.proofs.GrammarBase.{Spelled, goes_on, stops, finally, some_inj, bound, whole_is, either, from_keyword, from_keywords, from_token, from_symbol, from_spelled, keyword_there, keywords_there, symbol_there, token_there, only_is, only_there, one_keyword, one_symbol, keyword_no_symbol, name_no_symbol, number_no_symbol, symbol_no_keyword, in_steps}
+use Rattle.ft_statements.specs.Grammar.{IsKeyword, IsSymbol, IsNumber, IsKey, Separated, last_part, then_comma, IsPart, part_word, part_group, part_end, IsItem, star_item, offsets_item, named_item, AreItems, counted, listed, IsOrder, no_order, order_by, order_rising, IsCount, count, AreLimits, no_limit, limit_to, limit_from, IsWhere, IsSelect, select_rows}
+use Rattle.ft_statements.proofs.GrammarBase.{Spelled, goes_on, stops, finally, some_inj, bound, whole_is, either, from_keyword, from_keywords, from_token, from_symbol, from_spelled, keyword_there, keywords_there, token_there, only_is, only_there, one_keyword, one_symbol, keyword_no_symbol, name_no_symbol, number_no_symbol, symbol_no_keyword, in_steps}
 use Rattle.ft_statements.proofs.GrammarFilters.{from_key, key_there, where_spelled, where_read}
 use Rattle.ft_statements.proofs.GrammarLists.{word_part, word_before, part_balanced, part_follows, Followed, followed_sound, followed_complete, from_parens, parens_read}
 use Rattle.ft_statements.proofs.GrammarUpdate.{key_part, where_part}
@@ -29,7 +28,7 @@ offsets_spelled ts x rest e =
     from_parens (λ us. Spelled IsItem (word ∷ us) x rest) behind _ _ e1 λ left inside right later is_left b is_right e2.
     bound (only_name inside) _ e2 λ n is_n e3. let (name, is_name, are) = only_is name_of inside n is_n in
     subst (λ us. Spelled IsItem (word ∷ left ∷ us ++ right ∷ later) x rest) are
-      (finally (λ p. Spelled IsItem (word ∷ left ∷ name ∷ right ∷ later) p.0 p.1) (record { words = word ∷ left ∷ name ∷ right ∷ []; spell = offsets_item is_word is_left is_name is_right; are = refl }) e3)
+    (finally (λ p. Spelled IsItem (word ∷ left ∷ name ∷ right ∷ later) p.0 p.1) (record { words = word ∷ left ∷ name ∷ right ∷ []; spell = offsets_item is_word is_left is_name is_right; are = refl }) e3)
 
 named_spelled : (ts : List Token) (x : Item) (rest : List Token) → named_at ts ≡ Some (x, rest) → Spelled IsItem ts x rest
 named_spelled ts x rest e =
@@ -64,7 +63,7 @@ counted_spelled ts x rest e =
     from_parens (λ us. Spelled AreItems (word ∷ us) x rest) behind _ _ e1 λ left inside right later is_left b is_right e2.
     bound (whole (star_at inside)) _ e2 λ s is_s e3. let (star, is_star, are) = star_is inside s is_s in
     subst (λ us. Spelled AreItems (word ∷ left ∷ us ++ right ∷ later) x rest) are
-      (finally (λ p. Spelled AreItems (word ∷ left ∷ star ∷ right ∷ later) p.0 p.1) (record { words = word ∷ left ∷ star ∷ right ∷ []; spell = counted is_word is_left is_star is_right; are = refl }) e3)
+    (finally (λ p. Spelled AreItems (word ∷ left ∷ star ∷ right ∷ later) p.0 p.1) (record { words = word ∷ left ∷ star ∷ right ∷ []; spell = counted is_word is_left is_star is_right; are = refl }) e3)
 
 list_spelled : (ts : List Token) (x : Items) (rest : List Token) → list_at ts ≡ Some (x, rest) → Spelled AreItems ts x rest
 unfolding items_of
@@ -94,9 +93,9 @@ item_read (offsets_item {word} {left} {name} {right} {n} is_word is_left is_name
     let all = word ∷ left ∷ name ∷ right ∷ rest in
     let no_star : star_at all ≡ None = ap (λ b. cond b (Some (left ∷ name ∷ right ∷ rest)) None >>= λ rest. Some (AllColumns, rest)) (keyword_no_symbol (codes "offsets") word is_word (codes "*")) in
     let call : offsets_at all ≡ Some (OffsetsOf n, rest) =
-          goes_on _ (goes_on parenthesized (keyword_there (codes "offsets") word (left ∷ name ∷ right ∷ rest) is_word)
-              (parens_read left (name ∷ []) right rest is_left (part_balanced (word_part name (name_no_symbol name n is_name))) is_right))
-            (goes_on _ (only_there name_of name n is_name) refl) in
+    goes_on _ (goes_on parenthesized (keyword_there (codes "offsets") word (left ∷ name ∷ right ∷ rest) is_word)
+    (parens_read left (name ∷ []) right rest is_left (part_balanced (word_part name (name_no_symbol name n is_name))) is_right))
+    (goes_on _ (only_there name_of name n is_name) refl) in
     λ j. option_or (no_star j) (option_or (call j) (named_at all))
 item_read (named_item {name} {n} is) rest none =
     let all = name ∷ rest in
@@ -138,9 +137,9 @@ selection_read (counted {word} {left} {star} {right} is_word is_left is_star is_
     let all = word ∷ left ∷ star ∷ right ∷ rest in
     let stars : whole (star_at (star ∷ [])) ≡ Some AllColumns = ap (λ b. whole (cond b (Some []) None >>= λ rest. Some (AllColumns, rest))) is_star in
     let call : count_at all ≡ Some (Counted, rest) =
-          goes_on _ (goes_on parenthesized (keyword_there (codes "count") word (left ∷ star ∷ right ∷ rest) is_word)
-              (parens_read left (star ∷ []) right rest is_left (part_balanced (star_part star is_star)) is_right))
-            (goes_on _ stars refl) in
+    goes_on _ (goes_on parenthesized (keyword_there (codes "count") word (left ∷ star ∷ right ∷ rest) is_word)
+    (parens_read left (star ∷ []) right rest is_left (part_balanced (star_part star is_star)) is_right))
+    (goes_on _ stars refl) in
     ap (λ o. option_or o (list_at all)) call
 selection_read (listed {ts} {items} d) rest none p =
     ap (λ o. option_or o (list_at (ts ++ rest))) (items_no_count d rest none)
@@ -170,7 +169,7 @@ order_spelled ts rest e = by_test (keywords_at (codes "ORDER" ∷ codes "BY" ∷
       from_keywords (λ us. Ordered us rest) (codes "ORDER") (codes "BY" ∷ []) ts (λ us. Some us) r (ap (λ o. o >>= λ us. Some us) there) λ a r1 is_a e2.
       from_keywords (λ us. Ordered (a ∷ us) rest) (codes "BY") [] r1 (λ us. Some us) r e2 λ b r2 is_b e3.
       subst (λ us. Ordered (a ∷ b ∷ us) rest) (sym (some_inj e3))
-        (from_key (λ us. Ordered (a ∷ b ∷ us) rest) r _ rest e1 λ key behind is_key e4. rising_spelled a b key behind rest is_a is_b is_key (some_inj e4))
+      (from_key (λ us. Ordered (a ∷ b ∷ us) rest) r _ rest e1 λ key behind is_key e4. rising_spelled a b key behind rest is_a is_b is_key (some_inj e4))
 
 -- ---- LIMIT and OFFSET
 
@@ -206,8 +205,8 @@ limits_read no_limit = refl
 limits_read (limit_to {a} {t} {n} is_a c) = goes_on _ (keyword_there (codes "LIMIT") a (t ∷ []) is_a) (goes_on _ (token_there count_of t [] n (count_there c)) refl)
 limits_read (limit_from {a} {t} {b} {u} {n} {m} is_a c is_b d) =
     goes_on _ (keyword_there (codes "LIMIT") a (t ∷ b ∷ u ∷ []) is_a)
-      (goes_on _ (token_there count_of t (b ∷ u ∷ []) n (count_there c))
-      (goes_on _ (goes_on (only count_of) (keyword_there (codes "OFFSET") b (u ∷ []) is_b) (only_there count_of u m (count_there d))) refl))
+    (goes_on _ (token_there count_of t (b ∷ u ∷ []) n (count_there c))
+    (goes_on _ (goes_on (only count_of) (keyword_there (codes "OFFSET") b (u ∷ []) is_b) (only_there count_of u m (count_there d))) refl))
 
 -- what stands behind the filter begins with no such word
 no_word : (k : List ℕ) → str_eq_ignore_ascii_case (codes "LIMIT") k ≡ false → {ts : List Token} {l : Option ℕ} {o : ℕ} → AreLimits ts l o → keyword_at k ts ≡ None
@@ -261,7 +260,7 @@ select_sound ts c e =
     bound (order_at r5) _ e5 λ r6 is_o e6. let o = order_spelled r5 r6 is_o in
     bound (limits_of r6) _ e6 λ r is_l e7.
     subst (λ us. IsSelect (a ∷ items ++ (b ∷ name ∷ behind ++ us)) c) o.are
-      (finally (IsSelect (a ∷ items ++ (b ∷ name ∷ behind ++ (o.words ++ r6)))) (select_rows b name is_a d is_b is_n w o.spell (limits_sound r6 r.0 r.1 is_l)) e7)
+    (finally (IsSelect (a ∷ items ++ (b ∷ name ∷ behind ++ (o.words ++ r6)))) (select_rows b name is_a d is_b is_n w o.spell (limits_sound r6 r.0 r.1 is_l)) e7)
 
 pub select_complete : {ts : List Token} {c : Command} → IsSelect ts c → select ts ≡ Some c
 select_complete (select_rows {a} b name {items} {behind} {order} {limits} {chosen} {n} {filter} {limit} {offset} is_a d is_b is_n w o l) =
@@ -270,9 +269,9 @@ select_complete (select_rows {a} b name {items} {behind} {order} {limits} {chose
     let no_paren : symbol_at (codes "(") rest ≡ None = ap (λ x. cond x (Some (name ∷ behind ++ after)) None) (keyword_no_symbol (codes "FROM") b is_b (codes "(")) in
     let is_part : IsPart rest = word_before b (keyword_no_symbol (codes "FROM") b is_b) (word_before name (name_no_symbol name n is_n) (part_follows (where_part w) (part_follows (order_part o) (limits_part l)))) in
     goes_on _ (keyword_there (codes "SELECT") a (items ++ rest) is_a)
-      (goes_on _ (selection_read d rest no_paren is_part)
-      (goes_on _ (keyword_there (codes "FROM") b (name ∷ behind ++ after) is_b)
-      (goes_on _ (token_there name_of name (behind ++ after) n is_n)
-      (goes_on _ (where_read w after (no_where o l))
-      (goes_on _ (order_read o l)
-      (goes_on _ (limits_read l) refl))))))
+    (goes_on _ (selection_read d rest no_paren is_part)
+    (goes_on _ (keyword_there (codes "FROM") b (name ∷ behind ++ after) is_b)
+    (goes_on _ (token_there name_of name (behind ++ after) n is_n)
+    (goes_on _ (where_read w after (no_where o l))
+    (goes_on _ (order_read o l)
+    (goes_on _ (limits_read l) refl))))))

@@ -1,11 +1,11 @@
 -- UPDATE and DELETE are read as the grammar spells them.
-use Rattle.std.proofs.Common.{◌≡◌, ℕ, Bool, true, false, cond, ◌||◌, ◌⊎◌, inl, inr, List, [], ◌∷◌, ◌++◌, Option, Some, None, refl, sym, ap, ◌∙◌, subst, codes, append-nil}
-use Rattle.ft_statements.specs.Words.{Token, is_symbol, name_of}
-use Rattle.ft_statements.specs.Reading.{◌>>=◌, Reads, whole, parts}
+use Rattle.std.proofs.Common.{◌≡◌, ℕ, ◌||◌, inl, inr, List, [], ◌∷◌, ◌++◌, Some, refl, sym, ap, ◌∙◌, subst, codes, append-nil}
+use Rattle.ft_statements.specs.Words.{Token, name_of}
+use Rattle.ft_statements.specs.Reading.{whole, parts}
 use Rattle.ft_statements.specs.Change.{set_at, whole_set, last_set, sets_of, update, delete, where_at}
 use Rattle.ft_content.specs.Content.{Cell}
-use Rattle.ft_content.specs.Command.{Command, Delete, Update, Filter}
-use Rattle.ft_statements.specs.Grammar.{IsKeyword, IsSymbol, IsName, IsText, IsKey, IsPart, part_word, part_end, IsValue, IsFilter, of_docid, of_match, IsWhere, no_filter, where_filter, IsSet, set_column, IsUpdate, update_rows, IsDelete, delete_rows}
+use Rattle.ft_content.specs.Command.{Command, Filter}
+use Rattle.ft_statements.specs.Grammar.{IsSymbol, IsKey, IsPart, part_word, part_end, IsValue, IsFilter, of_docid, of_match, IsWhere, no_filter, where_filter, IsSet, set_column, IsUpdate, update_rows, IsDelete, delete_rows}
 use Rattle.ft_statements.proofs.GrammarFilters.{value_spelled, value_read, where_whole, whole_where}
 use Rattle.ft_statements.proofs.GrammarLists.{word_part, word_before, Followed, followed_sound, followed_complete}
 use Rattle.ft_statements.proofs.GrammarInsert.{integer_part, value_part}
@@ -78,6 +78,6 @@ pub update_complete : {ts : List Token} {c : Command} → IsUpdate ts c → upda
 update_complete (update_rows {a} {name} {b} {sets} {behind} {n} {values} {filter} is_a is_n is_b d w) =
     let rest = sets ++ behind in
     goes_on _ (keyword_there (codes "UPDATE") a (name ∷ b ∷ rest) is_a)
-      (goes_on _ (token_there name_of name (b ∷ rest) n is_n)
-      (goes_on _ (keyword_there (codes "SET") b rest is_b)
-      (goes_on _ (followed_complete IsSet whole_set last_set behind filter whole_set_read (λ us x p. goes_on _ (set_read us x p behind) (goes_on _ (whole_where w) refl)) set_part (where_part w) d) refl)))
+    (goes_on _ (token_there name_of name (b ∷ rest) n is_n)
+    (goes_on _ (keyword_there (codes "SET") b rest is_b)
+    (goes_on _ (followed_complete IsSet whole_set last_set behind filter whole_set_read (λ us x p. goes_on _ (set_read us x p behind) (goes_on _ (whole_where w) refl)) set_part (where_part w) d) refl)))

@@ -16,3 +16,4 @@ pub mod GrammarSelect
 pub mod GrammarCommand
 pub mod GrammarEnd
 pub mod GrammarClass
+pub mod GrammarRows
