@@ -17,3 +17,6 @@ pub mod GrammarCommand
 pub mod GrammarEnd
 pub mod GrammarClass
 pub mod GrammarRows
+pub mod GrammarDots
+pub mod GrammarDotRows
+pub mod DotLemmas

@@ -15,3 +15,4 @@ pub mod Texts
 pub mod Replies
 pub mod Settings
 pub mod Grammar
+pub mod DotGrammar
