@@ -6,65 +6,65 @@ use Rattle.shell_text.specs.declared.settings.Mode.TheVariants as mode
 use Rattle.ft_statements.specs.Dots.{SetMode, SetHeaders, Print, Importing, Usage, Unknown, Nothing, dot_command_of, print_command, run_command, table_command}
 use lib.Utf8
 
-mode_csv : dot_command_of (dot_words_of (codes "mode csv")) ≡ SetMode mode.Csv
+pub mode_csv : dot_command_of (dot_words_of (codes "mode csv")) ≡ SetMode mode.Csv
 unfolding dot_turn dot_words_from chars lib.Utf8.encode dot_command_of print_command run_command table_command
 mode_csv = refl
 
-mode_usage : dot_command_of (dot_words_of (codes "mode")) ≡ Usage (codes ".mode list|csv|column|quote")
+pub mode_usage : dot_command_of (dot_words_of (codes "mode")) ≡ Usage (codes ".mode list|csv|column|quote")
 unfolding dot_turn dot_words_from chars lib.Utf8.encode dot_command_of print_command run_command table_command
 mode_usage = refl
 
-header_usage : dot_command_of (dot_words_of (codes "header maybe")) ≡ Usage (codes ".headers BOOL")
+pub header_usage : dot_command_of (dot_words_of (codes "header maybe")) ≡ Usage (codes ".headers BOOL")
 unfolding dot_turn dot_words_from chars lib.Utf8.encode dot_command_of print_command run_command table_command
 header_usage = refl
 
-headers_on : dot_command_of (dot_words_of (codes "headers ON")) ≡ SetHeaders true
+pub headers_on : dot_command_of (dot_words_of (codes "headers ON")) ≡ SetHeaders true
 unfolding dot_turn dot_words_from chars lib.Utf8.encode dot_command_of print_command run_command table_command
 headers_on = refl
 
-import_two : dot_command_of (dot_words_of (codes "import --skip 1 --csv 'a b.csv' t")) ≡ Importing (record { csv = true; skip = Some 1; file = codes "a b.csv"; table = codes "t" })
+pub import_two : dot_command_of (dot_words_of (codes "import --skip 1 --csv 'a b.csv' t")) ≡ Importing (record { csv = true; skip = Some 1; file = codes "a b.csv"; table = codes "t" })
 unfolding dot_turn dot_words_from chars lib.Utf8.encode dot_command_of print_command run_command table_command
 import_two = refl
 
-import_twice : dot_command_of (dot_words_of (codes "import --csv --csv t")) ≡ Usage (codes ".import [--csv] [--skip N] FILE TABLE")
+pub import_twice : dot_command_of (dot_words_of (codes "import --csv --csv t")) ≡ Usage (codes ".import [--csv] [--skip N] FILE TABLE")
 unfolding dot_turn dot_words_from chars lib.Utf8.encode dot_command_of print_command run_command table_command
 import_twice = refl
 
-import_skip : dot_command_of (dot_words_of (codes "import --skip 1000001 f t")) ≡ Usage (codes ".import [--csv] [--skip N] FILE TABLE")
+pub import_skip : dot_command_of (dot_words_of (codes "import --skip 1000001 f t")) ≡ Usage (codes ".import [--csv] [--skip N] FILE TABLE")
 unfolding dot_turn dot_words_from chars lib.Utf8.encode dot_command_of print_command run_command table_command
 import_skip = refl
 
-print_words : dot_command_of (dot_words_of (codes "print a 'b c'")) ≡ Print (codes "a" ∷ codes "b c" ∷ [])
+pub print_words : dot_command_of (dot_words_of (codes "print a 'b c'")) ≡ Print (codes "a" ∷ codes "b c" ∷ [])
 unfolding dot_turn dot_words_from chars lib.Utf8.encode dot_command_of print_command run_command table_command
 print_words = refl
 
-quit_more : dot_command_of (dot_words_of (codes "exit 1")) ≡ Usage (codes ".exit")
+pub quit_more : dot_command_of (dot_words_of (codes "exit 1")) ≡ Usage (codes ".exit")
 unfolding dot_turn dot_words_from chars lib.Utf8.encode dot_command_of print_command run_command table_command
 quit_more = refl
 
-nothing : dot_command_of (dot_words_of (codes "  ")) ≡ Nothing
+pub nothing : dot_command_of (dot_words_of (codes "  ")) ≡ Nothing
 unfolding dot_turn dot_words_from chars lib.Utf8.encode dot_command_of print_command run_command table_command
 nothing = refl
 
-unknown : dot_command_of (dot_words_of (codes "nosuch")) ≡ Unknown
+pub unknown : dot_command_of (dot_words_of (codes "nosuch")) ≡ Unknown
 unfolding dot_turn dot_words_from chars lib.Utf8.encode dot_command_of print_command run_command table_command
 unknown = refl
 
 -- the words are read before the name
-quoted_name : dot_command_of (dot_words_of (codes "'mode' list")) ≡ SetMode mode.List
+pub quoted_name : dot_command_of (dot_words_of (codes "'mode' list")) ≡ SetMode mode.List
 unfolding dot_turn dot_words_from chars lib.Utf8.encode dot_command_of print_command run_command table_command
 quoted_name = refl
 
 -- an option stands before FILE
-import_option_last : dot_command_of (dot_words_of (codes "import f --csv t")) ≡ Usage (codes ".import [--csv] [--skip N] FILE TABLE")
+pub import_option_last : dot_command_of (dot_words_of (codes "import f --csv t")) ≡ Usage (codes ".import [--csv] [--skip N] FILE TABLE")
 unfolding dot_turn dot_words_from chars lib.Utf8.encode dot_command_of print_command run_command table_command
 import_option_last = refl
 
-bail_word : dot_command_of (dot_words_of (codes "bail 2")) ≡ Usage (codes ".bail BOOL")
+pub bail_word : dot_command_of (dot_words_of (codes "bail 2")) ≡ Usage (codes ".bail BOOL")
 unfolding dot_turn dot_words_from chars lib.Utf8.encode dot_command_of print_command run_command table_command
 bail_word = refl
 
 -- names are exact
-capital_name : dot_command_of (dot_words_of (codes "Mode csv")) ≡ Unknown
+pub capital_name : dot_command_of (dot_words_of (codes "Mode csv")) ≡ Unknown
 unfolding dot_turn dot_words_from chars lib.Utf8.encode dot_command_of print_command run_command table_command
 capital_name = refl

@@ -12,176 +12,194 @@ use Rattle.ft_statements.specs.Statements.{Plain, FullText, class_of, command_of
 use Rattle.ft_statements.specs.Plain.{asks, made_name}
 use lib.Utf8
 
-create_fts5 : class_of (codes "x" ∷ codes "mail" ∷ codes "d" ∷ []) (tokens_of (codes "CREATE VIRTUAL TABLE x USING fts5(a);")) ≡ Some (FullText (Create (codes "x") (codes "fts5") [] (codes "a" ∷ []) false))
+pub create_fts5 : class_of (codes "x" ∷ codes "mail" ∷ codes "d" ∷ []) (tokens_of (codes "CREATE VIRTUAL TABLE x USING fts5(a);")) ≡ Some (FullText (Create (codes "x") (codes "fts5") [] (codes "a" ∷ []) false))
 unfolding pieces_from turn begun chars lib.Utf8.encode class_of command_of where_at item_at items_of selection_at order_at limits_of
 create_fts5 = refl
 
-create_porter : class_of (codes "x" ∷ codes "mail" ∷ codes "d" ∷ []) (tokens_of (codes "CREATE VIRTUAL TABLE x USING fts4(a, tokenize=porter);")) ≡ Some (FullText (Create (codes "x") (codes "fts4") ((codes "tokenize", codes "porter") ∷ []) (codes "a" ∷ []) false))
+pub create_porter : class_of (codes "x" ∷ codes "mail" ∷ codes "d" ∷ []) (tokens_of (codes "CREATE VIRTUAL TABLE x USING fts4(a, tokenize=porter);")) ≡ Some (FullText (Create (codes "x") (codes "fts4") ((codes "tokenize", codes "porter") ∷ []) (codes "a" ∷ []) false))
 unfolding pieces_from turn begun chars lib.Utf8.encode class_of command_of where_at item_at items_of selection_at order_at limits_of
 create_porter = refl
 
-create_tokenize_words : class_of (codes "x" ∷ codes "mail" ∷ codes "d" ∷ []) (tokens_of (codes "create virtual table if not exists \"y\"\"z\" using FTS4(tokenize simple 'x' \"p q\");")) ≡ Some (FullText (Create (codes "y\"z") (codes "FTS4") ((codes "tokenize", codes "simple x p q") ∷ []) [] true))
+pub create_tokenize_words : class_of (codes "x" ∷ codes "mail" ∷ codes "d" ∷ []) (tokens_of (codes "create virtual table if not exists \"y\"\"z\" using FTS4(tokenize simple 'x' \"p q\");")) ≡ Some (FullText (Create (codes "y\"z") (codes "FTS4") ((codes "tokenize", codes "simple x p q") ∷ []) [] true))
 unfolding pieces_from turn begun chars lib.Utf8.encode class_of command_of where_at item_at items_of selection_at order_at limits_of
 create_tokenize_words = refl
 
-create_prefix : class_of (codes "x" ∷ codes "mail" ∷ codes "d" ∷ []) (tokens_of (codes "CREATE VIRTUAL TABLE x USING fts4(a, prefix=\"2\");")) ≡ Some (FullText (Create (codes "x") (codes "fts4") ((codes "prefix", codes "2") ∷ []) (codes "a" ∷ []) false))
+pub create_prefix : class_of (codes "x" ∷ codes "mail" ∷ codes "d" ∷ []) (tokens_of (codes "CREATE VIRTUAL TABLE x USING fts4(a, prefix=\"2\");")) ≡ Some (FullText (Create (codes "x") (codes "fts4") ((codes "prefix", codes "2") ∷ []) (codes "a" ∷ []) false))
 unfolding pieces_from turn begun chars lib.Utf8.encode class_of command_of where_at item_at items_of selection_at order_at limits_of
 create_prefix = refl
 
-create_types : class_of (codes "x" ∷ codes "mail" ∷ codes "d" ∷ []) (tokens_of (codes "CREATE VIRTUAL TABLE x USING fts4(a TEXT NOT NULL, b CHECK(length(b)<9));")) ≡ Some (FullText (Create (codes "x") (codes "fts4") [] (codes "a" ∷ codes "b" ∷ []) false))
+pub create_types : class_of (codes "x" ∷ codes "mail" ∷ codes "d" ∷ []) (tokens_of (codes "CREATE VIRTUAL TABLE x USING fts4(a TEXT NOT NULL, b CHECK(length(b)<9));")) ≡ Some (FullText (Create (codes "x") (codes "fts4") [] (codes "a" ∷ codes "b" ∷ []) false))
 unfolding pieces_from turn begun chars lib.Utf8.encode class_of command_of where_at item_at items_of selection_at order_at limits_of
 create_types = refl
 
 -- commas in parentheses end no argument
-create_decimal : class_of (codes "x" ∷ codes "mail" ∷ codes "d" ∷ []) (tokens_of (codes "CREATE VIRTUAL TABLE x USING fts4([a b] DECIMAL(10, 2), 'c')")) ≡ Some (FullText (Create (codes "x") (codes "fts4") [] (codes "a b" ∷ codes "c" ∷ []) false))
+pub create_decimal : class_of (codes "x" ∷ codes "mail" ∷ codes "d" ∷ []) (tokens_of (codes "CREATE VIRTUAL TABLE x USING fts4([a b] DECIMAL(10, 2), 'c')")) ≡ Some (FullText (Create (codes "x") (codes "fts4") [] (codes "a b" ∷ codes "c" ∷ []) false))
 unfolding pieces_from turn begun chars lib.Utf8.encode class_of command_of where_at item_at items_of selection_at order_at limits_of
 create_decimal = refl
 
-create_not_indexed : class_of [] (tokens_of (codes "CREATE VIRTUAL TABLE n USING fts4(a, b, notindexed=b, NotIndexed=[a b] c)")) ≡ Some (FullText (Create (codes "n") (codes "fts4") ((codes "notindexed", codes "b") ∷ (codes "NotIndexed", codes "a b c") ∷ []) (codes "a" ∷ codes "b" ∷ []) false))
+pub create_not_indexed : class_of [] (tokens_of (codes "CREATE VIRTUAL TABLE n USING fts4(a, b, notindexed=b, NotIndexed=[a b] c)")) ≡ Some (FullText (Create (codes "n") (codes "fts4") ((codes "notindexed", codes "b") ∷ (codes "NotIndexed", codes "a b c") ∷ []) (codes "a" ∷ codes "b" ∷ []) false))
 unfolding pieces_from turn begun chars lib.Utf8.encode class_of command_of where_at item_at items_of selection_at order_at limits_of
 create_not_indexed = refl
 
 -- nothing is doubled between square brackets
-create_bracket : class_of [] (tokens_of (codes "CREATE VIRTUAL TABLE [a[[b] USING fts4")) ≡ Some (FullText (Create (codes "a[[b") (codes "fts4") [] [] false))
+pub create_bracket : class_of [] (tokens_of (codes "CREATE VIRTUAL TABLE [a[[b] USING fts4")) ≡ Some (FullText (Create (codes "a[[b") (codes "fts4") [] [] false))
 unfolding pieces_from turn begun chars lib.Utf8.encode class_of command_of where_at item_at items_of selection_at order_at limits_of
 create_bracket = refl
 
-create_none : class_of (codes "x" ∷ codes "mail" ∷ codes "d" ∷ []) (tokens_of (codes "CREATE VIRTUAL TABLE d USING fts4;")) ≡ Some (FullText (Create (codes "d") (codes "fts4") [] [] false))
+pub create_none : class_of (codes "x" ∷ codes "mail" ∷ codes "d" ∷ []) (tokens_of (codes "CREATE VIRTUAL TABLE d USING fts4;")) ≡ Some (FullText (Create (codes "d") (codes "fts4") [] [] false))
 unfolding pieces_from turn begun chars lib.Utf8.encode class_of command_of where_at item_at items_of selection_at order_at limits_of
 create_none = refl
 
-create_empty : class_of (codes "x" ∷ codes "mail" ∷ codes "d" ∷ []) (tokens_of (codes "CREATE VIRTUAL TABLE docs USING fts4();")) ≡ Some (FullText (Create (codes "docs") (codes "fts4") [] [] false))
+pub create_empty : class_of (codes "x" ∷ codes "mail" ∷ codes "d" ∷ []) (tokens_of (codes "CREATE VIRTUAL TABLE docs USING fts4();")) ≡ Some (FullText (Create (codes "docs") (codes "fts4") [] [] false))
 unfolding pieces_from turn begun chars lib.Utf8.encode class_of command_of where_at item_at items_of selection_at order_at limits_of
 create_empty = refl
 
-create_comma : class_of (codes "x" ∷ codes "mail" ∷ codes "d" ∷ []) (tokens_of (codes "CREATE VIRTUAL TABLE docs USING fts4(a,);")) ≡ None
+pub create_comma : class_of (codes "x" ∷ codes "mail" ∷ codes "d" ∷ []) (tokens_of (codes "CREATE VIRTUAL TABLE docs USING fts4(a,);")) ≡ None
 unfolding pieces_from turn begun chars lib.Utf8.encode class_of command_of where_at item_at items_of selection_at order_at limits_of
 create_comma = refl
 
-create_unbalanced : class_of (codes "x" ∷ codes "mail" ∷ codes "d" ∷ []) (tokens_of (codes "CREATE VIRTUAL TABLE docs USING fts4(a));")) ≡ None
+pub create_unbalanced : class_of (codes "x" ∷ codes "mail" ∷ codes "d" ∷ []) (tokens_of (codes "CREATE VIRTUAL TABLE docs USING fts4(a));")) ≡ None
 unfolding pieces_from turn begun chars lib.Utf8.encode class_of command_of where_at item_at items_of selection_at order_at limits_of
 create_unbalanced = refl
 
-insert : class_of (codes "x" ∷ codes "mail" ∷ codes "d" ∷ []) (tokens_of (codes "INSERT INTO x VALUES('p');")) ≡ Some (FullText (Insert (codes "x") None ((Text (codes "p") ∷ []) ∷ [])))
+-- without a word behind the sign it is a setting, without a sign a column
+pub create_tokenize_empty : class_of (codes "x" ∷ codes "mail" ∷ codes "d" ∷ []) (tokens_of (codes "CREATE VIRTUAL TABLE x USING fts4(tokenize=, tokenize)")) ≡ Some (FullText (Create (codes "x") (codes "fts4") ((codes "tokenize", []) ∷ []) (codes "tokenize" ∷ []) false))
+unfolding pieces_from turn begun chars lib.Utf8.encode class_of command_of where_at item_at items_of selection_at order_at limits_of
+create_tokenize_empty = refl
+
+pub create_open : class_of (codes "x" ∷ codes "mail" ∷ codes "d" ∷ []) (tokens_of (codes "CREATE VIRTUAL TABLE docs USING fts4(a(b);")) ≡ None
+unfolding pieces_from turn begun chars lib.Utf8.encode class_of command_of where_at item_at items_of selection_at order_at limits_of
+create_open = refl
+
+pub insert : class_of (codes "x" ∷ codes "mail" ∷ codes "d" ∷ []) (tokens_of (codes "INSERT INTO x VALUES('p');")) ≡ Some (FullText (Insert (codes "x") None ((Text (codes "p") ∷ []) ∷ [])))
 unfolding pieces_from turn begun chars lib.Utf8.encode class_of command_of where_at item_at items_of selection_at order_at limits_of
 insert = refl
 
-insert_columns : class_of (codes "x" ∷ codes "mail" ∷ codes "d" ∷ []) (tokens_of (codes "INSERT INTO X(docid, rowid, a) VALUES(1, -2, 'p'),(NULL,+3,'it''s');")) ≡ Some (FullText (Insert (codes "X") (Some (codes "docid" ∷ codes "rowid" ∷ codes "a" ∷ [])) ((Int (pos 1) ∷ Int (negsuc 1) ∷ Text (codes "p") ∷ []) ∷ (Null ∷ Int (pos 3) ∷ Text (codes "it's") ∷ []) ∷ [])))
+pub insert_columns : class_of (codes "x" ∷ codes "mail" ∷ codes "d" ∷ []) (tokens_of (codes "INSERT INTO X(docid, rowid, a) VALUES(1, -2, 'p'),(NULL,+3,'it''s');")) ≡ Some (FullText (Insert (codes "X") (Some (codes "docid" ∷ codes "rowid" ∷ codes "a" ∷ [])) ((Int (pos 1) ∷ Int (negsuc 1) ∷ Text (codes "p") ∷ []) ∷ (Null ∷ Int (pos 3) ∷ Text (codes "it's") ∷ []) ∷ [])))
 unfolding pieces_from turn begun chars lib.Utf8.encode class_of command_of where_at item_at items_of selection_at order_at limits_of
 insert_columns = refl
 
-insert_least : class_of (codes "x" ∷ codes "mail" ∷ codes "d" ∷ []) (tokens_of (codes "INSERT INTO d VALUES(-9223372036854775808)")) ≡ Some (FullText (Insert (codes "d") None ((Int (negsuc 9223372036854775807) ∷ []) ∷ [])))
+pub insert_least : class_of (codes "x" ∷ codes "mail" ∷ codes "d" ∷ []) (tokens_of (codes "INSERT INTO d VALUES(-9223372036854775808)")) ≡ Some (FullText (Insert (codes "d") None ((Int (negsuc 9223372036854775807) ∷ []) ∷ [])))
 unfolding pieces_from turn begun chars lib.Utf8.encode class_of command_of where_at item_at items_of selection_at order_at limits_of
 insert_least = refl
 
-insert_large : class_of (codes "x" ∷ codes "mail" ∷ codes "d" ∷ []) (tokens_of (codes "INSERT INTO d VALUES(9223372036854775808)")) ≡ None
+pub insert_large : class_of (codes "x" ∷ codes "mail" ∷ codes "d" ∷ []) (tokens_of (codes "INSERT INTO d VALUES(9223372036854775808)")) ≡ None
 unfolding pieces_from turn begun chars lib.Utf8.encode class_of command_of where_at item_at items_of selection_at order_at limits_of
 insert_large = refl
 
-insert_select : class_of (codes "x" ∷ codes "mail" ∷ codes "d" ∷ []) (tokens_of (codes "INSERT INTO d SELECT a FROM p")) ≡ None
+pub insert_select : class_of (codes "x" ∷ codes "mail" ∷ codes "d" ∷ []) (tokens_of (codes "INSERT INTO d SELECT a FROM p")) ≡ None
 unfolding pieces_from turn begun chars lib.Utf8.encode class_of command_of where_at item_at items_of selection_at order_at limits_of
 insert_select = refl
 
-rebuild : class_of (codes "x" ∷ codes "mail" ∷ codes "d" ∷ []) (tokens_of (codes "INSERT INTO d(d) VALUES('Rebuild');")) ≡ Some (FullText (Rebuild (codes "d")))
+pub rebuild : class_of (codes "x" ∷ codes "mail" ∷ codes "d" ∷ []) (tokens_of (codes "INSERT INTO d(d) VALUES('Rebuild');")) ≡ Some (FullText (Rebuild (codes "d")))
 unfolding pieces_from turn begun chars lib.Utf8.encode class_of command_of where_at item_at items_of selection_at order_at limits_of
 rebuild = refl
 
-not_special : class_of (codes "x" ∷ codes "mail" ∷ codes "d" ∷ []) (tokens_of (codes "INSERT INTO d(d) VALUES('merge=1,2');")) ≡ Some (FullText (Insert (codes "d") (Some (codes "d" ∷ [])) ((Text (codes "merge=1,2") ∷ []) ∷ [])))
+pub not_special : class_of (codes "x" ∷ codes "mail" ∷ codes "d" ∷ []) (tokens_of (codes "INSERT INTO d(d) VALUES('merge=1,2');")) ≡ Some (FullText (Insert (codes "d") (Some (codes "d" ∷ [])) ((Text (codes "merge=1,2") ∷ []) ∷ [])))
 unfolding pieces_from turn begun chars lib.Utf8.encode class_of command_of where_at item_at items_of selection_at order_at limits_of
 not_special = refl
 
+-- two rows are no special command
+pub special_rows : class_of (codes "x" ∷ codes "mail" ∷ codes "d" ∷ []) (tokens_of (codes "INSERT INTO d(d) VALUES('optimize'), ('optimize')")) ≡ Some (FullText (Insert (codes "d") (Some (codes "d" ∷ [])) ((Text (codes "optimize") ∷ []) ∷ (Text (codes "optimize") ∷ []) ∷ [])))
+unfolding pieces_from turn begun chars lib.Utf8.encode class_of command_of where_at item_at items_of selection_at order_at limits_of
+special_rows = refl
+
 -- any Word is a name where a name is wanted
-update : class_of (codes "x" ∷ codes "mail" ∷ codes "d" ∷ []) (tokens_of (codes "UPDATE d SET x='green', where = NULL WHERE docid=-1;")) ≡ Some (FullText (Update (codes "d") ((codes "x", Text (codes "green")) ∷ (codes "where", Null) ∷ []) (OfDocid (negsuc 0))))
+pub update : class_of (codes "x" ∷ codes "mail" ∷ codes "d" ∷ []) (tokens_of (codes "UPDATE d SET x='green', where = NULL WHERE docid=-1;")) ≡ Some (FullText (Update (codes "d") ((codes "x", Text (codes "green")) ∷ (codes "where", Null) ∷ []) (OfDocid (negsuc 0))))
 unfolding pieces_from turn begun chars lib.Utf8.encode class_of command_of where_at item_at items_of selection_at order_at limits_of
 update = refl
 
-update_open : class_of (codes "x" ∷ codes "mail" ∷ codes "d" ∷ []) (tokens_of (codes "UPDATE d SET x=1,")) ≡ None
+pub update_open : class_of (codes "x" ∷ codes "mail" ∷ codes "d" ∷ []) (tokens_of (codes "UPDATE d SET x=1,")) ≡ None
 unfolding pieces_from turn begun chars lib.Utf8.encode class_of command_of where_at item_at items_of selection_at order_at limits_of
 update_open = refl
 
-delete : class_of (codes "x" ∷ codes "mail" ∷ codes "d" ∷ []) (tokens_of (codes "DELETE FROM d WHERE x MATCH 'red';")) ≡ Some (FullText (Delete (codes "d") (Matching (codes "x") (codes "red"))))
+pub delete : class_of (codes "x" ∷ codes "mail" ∷ codes "d" ∷ []) (tokens_of (codes "DELETE FROM d WHERE x MATCH 'red';")) ≡ Some (FullText (Delete (codes "d") (Matching (codes "x") (codes "red"))))
 unfolding pieces_from turn begun chars lib.Utf8.encode class_of command_of where_at item_at items_of selection_at order_at limits_of
 delete = refl
 
-delete_or : class_of (codes "x" ∷ codes "mail" ∷ codes "d" ∷ []) (tokens_of (codes "DELETE FROM d WHERE docid=1 OR docid=2;")) ≡ None
+pub delete_or : class_of (codes "x" ∷ codes "mail" ∷ codes "d" ∷ []) (tokens_of (codes "DELETE FROM d WHERE docid=1 OR docid=2;")) ≡ None
 unfolding pieces_from turn begun chars lib.Utf8.encode class_of command_of where_at item_at items_of selection_at order_at limits_of
 delete_or = refl
 
-select_nope : class_of (codes "x" ∷ codes "mail" ∷ codes "d" ∷ []) (tokens_of (codes "SELECT nope FROM x;")) ≡ Some (FullText (Select (codes "x") (Listed (Named (codes "nope") ∷ [])) Everything None 0))
+pub select_nope : class_of (codes "x" ∷ codes "mail" ∷ codes "d" ∷ []) (tokens_of (codes "SELECT nope FROM x;")) ≡ Some (FullText (Select (codes "x") (Listed (Named (codes "nope") ∷ [])) Everything None 0))
 unfolding pieces_from turn begun chars lib.Utf8.encode class_of command_of where_at item_at items_of selection_at order_at limits_of
 select_nope = refl
 
-select_offsets : class_of (codes "x" ∷ codes "mail" ∷ codes "d" ∷ []) (tokens_of (codes "SELECT docid, offsets(mail), * FROM mail WHERE mail MATCH 'world' ORDER BY rowid ASC LIMIT 2 OFFSET 1;")) ≡ Some (FullText (Select (codes "mail") (Listed (Named (codes "docid") ∷ OffsetsOf (codes "mail") ∷ AllColumns ∷ [])) (Matching (codes "mail") (codes "world")) (Some 2) 1))
+pub select_offsets : class_of (codes "x" ∷ codes "mail" ∷ codes "d" ∷ []) (tokens_of (codes "SELECT docid, offsets(mail), * FROM mail WHERE mail MATCH 'world' ORDER BY rowid ASC LIMIT 2 OFFSET 1;")) ≡ Some (FullText (Select (codes "mail") (Listed (Named (codes "docid") ∷ OffsetsOf (codes "mail") ∷ AllColumns ∷ [])) (Matching (codes "mail") (codes "world")) (Some 2) 1))
 unfolding pieces_from turn begun chars lib.Utf8.encode class_of command_of where_at item_at items_of selection_at order_at limits_of
 select_offsets = refl
 
-select_two : class_of (codes "x" ∷ codes "mail" ∷ codes "d" ∷ []) (tokens_of (codes "SELECT a FROM x, x;")) ≡ None
+pub select_two : class_of (codes "x" ∷ codes "mail" ∷ codes "d" ∷ []) (tokens_of (codes "SELECT a FROM x, x;")) ≡ None
 unfolding pieces_from turn begun chars lib.Utf8.encode class_of command_of where_at item_at items_of selection_at order_at limits_of
 select_two = refl
 
-select_count : class_of (codes "x" ∷ codes "mail" ∷ codes "d" ∷ []) (tokens_of (codes "SELECT count(*) FROM d LIMIT 0")) ≡ Some (FullText (Select (codes "d") Counted Everything (Some 0) 0))
+pub select_count : class_of (codes "x" ∷ codes "mail" ∷ codes "d" ∷ []) (tokens_of (codes "SELECT count(*) FROM d LIMIT 0")) ≡ Some (FullText (Select (codes "d") Counted Everything (Some 0) 0))
 unfolding pieces_from turn begun chars lib.Utf8.encode class_of command_of where_at item_at items_of selection_at order_at limits_of
 select_count = refl
 
-select_count_column : class_of (codes "x" ∷ codes "mail" ∷ codes "d" ∷ []) (tokens_of (codes "SELECT count, from FROM d")) ≡ Some (FullText (Select (codes "d") (Listed (Named (codes "count") ∷ Named (codes "from") ∷ [])) Everything None 0))
+pub select_count_column : class_of (codes "x" ∷ codes "mail" ∷ codes "d" ∷ []) (tokens_of (codes "SELECT count, from FROM d")) ≡ Some (FullText (Select (codes "d") (Listed (Named (codes "count") ∷ Named (codes "from") ∷ [])) Everything None 0))
 unfolding pieces_from turn begun chars lib.Utf8.encode class_of command_of where_at item_at items_of selection_at order_at limits_of
 select_count_column = refl
 
-select_count_more : class_of (codes "x" ∷ codes "mail" ∷ codes "d" ∷ []) (tokens_of (codes "SELECT count(*), a FROM d")) ≡ None
+pub select_count_more : class_of (codes "x" ∷ codes "mail" ∷ codes "d" ∷ []) (tokens_of (codes "SELECT count(*), a FROM d")) ≡ None
 unfolding pieces_from turn begun chars lib.Utf8.encode class_of command_of where_at item_at items_of selection_at order_at limits_of
 select_count_more = refl
 
-select_desc : class_of (codes "x" ∷ codes "mail" ∷ codes "d" ∷ []) (tokens_of (codes "SELECT a FROM d ORDER BY docid DESC")) ≡ None
+pub select_desc : class_of (codes "x" ∷ codes "mail" ∷ codes "d" ∷ []) (tokens_of (codes "SELECT a FROM d ORDER BY docid DESC")) ≡ None
 unfolding pieces_from turn begun chars lib.Utf8.encode class_of command_of where_at item_at items_of selection_at order_at limits_of
 select_desc = refl
 
-select_alias : class_of (codes "x" ∷ codes "mail" ∷ codes "d" ∷ []) (tokens_of (codes "SELECT a AS b FROM d")) ≡ None
+pub select_limit_comma : class_of (codes "x" ∷ codes "mail" ∷ codes "d" ∷ []) (tokens_of (codes "SELECT a FROM d LIMIT 1, 2")) ≡ None
+unfolding pieces_from turn begun chars lib.Utf8.encode class_of command_of where_at item_at items_of selection_at order_at limits_of
+select_limit_comma = refl
+
+pub select_alias : class_of (codes "x" ∷ codes "mail" ∷ codes "d" ∷ []) (tokens_of (codes "SELECT a AS b FROM d")) ≡ None
 unfolding pieces_from turn begun chars lib.Utf8.encode class_of command_of where_at item_at items_of selection_at order_at limits_of
 select_alias = refl
 
-drop : class_of (codes "x" ∷ codes "mail" ∷ codes "d" ∷ []) (tokens_of (codes "DROP TABLE IF EXISTS d;")) ≡ Some (FullText (Drop (codes "d") true))
+pub drop : class_of (codes "x" ∷ codes "mail" ∷ codes "d" ∷ []) (tokens_of (codes "DROP TABLE IF EXISTS d;")) ≡ Some (FullText (Drop (codes "d") true))
 unfolding pieces_from turn begun chars lib.Utf8.encode class_of command_of where_at item_at items_of selection_at order_at limits_of
 drop = refl
 
 -- no table is named, so it is plain
-drop_if : class_of (codes "x" ∷ codes "mail" ∷ codes "d" ∷ []) (tokens_of (codes "DROP TABLE IF EXISTS")) ≡ Some Plain
+pub drop_if : class_of (codes "x" ∷ codes "mail" ∷ codes "d" ∷ []) (tokens_of (codes "DROP TABLE IF EXISTS")) ≡ Some Plain
 unfolding pieces_from turn begun chars lib.Utf8.encode class_of command_of where_at item_at items_of selection_at order_at limits_of
 drop_if = refl
 
 -- a plain table may not be made over a full-text one
-create_hidden : class_of (codes "x" ∷ codes "mail" ∷ codes "d" ∷ []) (tokens_of (codes "CREATE TABLE d(a);")) ≡ None
+pub create_hidden : class_of (codes "x" ∷ codes "mail" ∷ codes "d" ∷ []) (tokens_of (codes "CREATE TABLE d(a);")) ≡ None
 unfolding pieces_from turn begun chars lib.Utf8.encode class_of command_of where_at item_at items_of selection_at order_at limits_of
 create_hidden = refl
 
-plain : class_of (codes "x" ∷ codes "mail" ∷ codes "d" ∷ []) (tokens_of (codes "SELECT a FROM p;")) ≡ Some Plain
+pub plain : class_of (codes "x" ∷ codes "mail" ∷ codes "d" ∷ []) (tokens_of (codes "SELECT a FROM p;")) ≡ Some Plain
 unfolding pieces_from turn begun chars lib.Utf8.encode class_of command_of where_at item_at items_of selection_at order_at limits_of
 plain = refl
 
-plain_text : class_of (codes "x" ∷ codes "mail" ∷ codes "d" ∷ []) (tokens_of (codes "SELECT 'FROM d';")) ≡ Some Plain
+pub plain_text : class_of (codes "x" ∷ codes "mail" ∷ codes "d" ∷ []) (tokens_of (codes "SELECT 'FROM d';")) ≡ Some Plain
 unfolding pieces_from turn begun chars lib.Utf8.encode class_of command_of where_at item_at items_of selection_at order_at limits_of
 plain_text = refl
 
-two_ends : class_of (codes "x" ∷ codes "mail" ∷ codes "d" ∷ []) (tokens_of (codes "DELETE FROM d;;")) ≡ None
+pub two_ends : class_of (codes "x" ∷ codes "mail" ∷ codes "d" ∷ []) (tokens_of (codes "DELETE FROM d;;")) ≡ None
 unfolding pieces_from turn begun chars lib.Utf8.encode class_of command_of where_at item_at items_of selection_at order_at limits_of
 two_ends = refl
 
 -- a byte of a character past ASCII is part of a name, and stands in a text as it is
-wide_characters : class_of (codes "d" ∷ []) (tokens_of (encode_utf8_all (codes "INSERT INTO d(é) VALUES('日''本')"))) ≡ Some (FullText (Insert (codes "d") (Some (encode_utf8_all (codes "é") ∷ [])) ((Text (encode_utf8_all (codes "日'本")) ∷ []) ∷ [])))
+pub wide_characters : class_of (codes "d" ∷ []) (tokens_of (encode_utf8_all (codes "INSERT INTO d(é) VALUES('日''本')"))) ≡ Some (FullText (Insert (codes "d") (Some (encode_utf8_all (codes "é") ∷ [])) ((Text (encode_utf8_all (codes "日'本")) ∷ []) ∷ [])))
 unfolding pieces_from turn begun chars lib.Utf8.encode class_of command_of where_at item_at items_of selection_at order_at limits_of
 wide_characters = refl
 
 -- the module, the options' names and the special command's words are kept in their spelling
-integrity_check : class_of (codes "d" ∷ []) (tokens_of (codes "insert into D(\"d\") values ('INTEGRITY-check')")) ≡ Some (FullText (Check (codes "D")))
+pub integrity_check : class_of (codes "d" ∷ []) (tokens_of (codes "insert into D(\"d\") values ('INTEGRITY-check')")) ≡ Some (FullText (Check (codes "D")))
 unfolding pieces_from turn begun chars lib.Utf8.encode class_of command_of where_at item_at items_of selection_at order_at limits_of
 integrity_check = refl
 
 -- a keyword in quotation marks is none
-quoted_docid : class_of (codes "d" ∷ []) (tokens_of (codes "SELECT \"docid\" FROM d WHERE \"docid\" = 1")) ≡ None
+pub quoted_docid : class_of (codes "d" ∷ []) (tokens_of (codes "SELECT \"docid\" FROM d WHERE \"docid\" = 1")) ≡ None
 unfolding pieces_from turn begun chars lib.Utf8.encode class_of command_of where_at item_at items_of selection_at order_at limits_of
 quoted_docid = refl
 
 -- a table behind JOIN makes a statement full-text, and this one spells no command
-joined_table : class_of (codes "d" ∷ []) (tokens_of (codes "SELECT a FROM p JOIN [D]")) ≡ None
+pub joined_table : class_of (codes "d" ∷ []) (tokens_of (codes "SELECT a FROM p JOIN [D]")) ≡ None
 unfolding pieces_from turn begun chars lib.Utf8.encode class_of command_of where_at item_at items_of selection_at order_at limits_of
 joined_table = refl
 

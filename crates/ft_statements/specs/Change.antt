@@ -1,7 +1,5 @@
--- Filters, UPDATE and DELETE ("Populating FTS Tables", "Simple FTS Queries"). Just these forms are read (own choice):
---   UPDATE NAME SET NAME = value {, NAME = value} [WHERE filter]
---   DELETE FROM NAME [WHERE filter]
--- where a filter is docid = number, rowid = number, or NAME MATCH TEXT.
+-- Filters, UPDATE and DELETE ("Populating FTS Tables", "Simple FTS Queries"), read step by step. That the forms of Grammar are read
+-- so, and no others, is a law.
 use Rattle.std.specs.Prelude.{ℕ, List, [], ◌∷◌, Option, Some, None, codes}
 use Rattle.std.specs.Option.{option_or}
 use Rattle.ft_content.specs.Content.{Cell}

@@ -1,7 +1,5 @@
--- CREATE VIRTUAL TABLE and DROP TABLE ("Creating and Destroying FTS Tables" of the SQLite document "SQLite FTS3 and FTS4
--- Extensions"). Just these forms are read (own choice):
---   CREATE VIRTUAL TABLE [IF NOT EXISTS] NAME USING NAME [ ( [arg {, arg}] ) ]
---   DROP TABLE [IF EXISTS] NAME
+-- CREATE VIRTUAL TABLE and DROP TABLE, read step by step ("Creating and Destroying FTS Tables" of the SQLite document "SQLite FTS3
+-- and FTS4 Extensions"). That the forms of Grammar are read so, and no others, is a law.
 use Rattle.std.specs.Prelude.{ℕ, List, [], ◌∷◌, map, Option, Some, None, codes}
 use Rattle.std.specs.List.{join_with_byte}
 use Rattle.std.specs.Option.{option_or}

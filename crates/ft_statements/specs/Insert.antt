@@ -1,7 +1,5 @@
--- INSERT ("Populating FTS Tables") and the special commands ("Special Commands For FTS3 and FTS4"). Just these forms are read (own
--- choice):
---   INSERT INTO NAME ( NAME ) VALUES ( TEXT )            a special command
---   INSERT INTO NAME [ ( NAME {, NAME} ) ] VALUES row {, row}        where a row is ( value {, value} )
+-- INSERT ("Populating FTS Tables") and the special commands ("Special Commands For FTS3 and FTS4"), read step by step. That the forms
+-- of Grammar are read so, and no others, is a law.
 use Rattle.std.specs.Prelude.{ℕ, List, [], ◌∷◌, Option, Some, None, if◌then◌else◌, codes}
 use Rattle.std.specs.Str.{str_eq_ignore_ascii_case}
 use Rattle.ft_content.specs.Content.{Cell}

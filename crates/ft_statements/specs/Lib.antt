@@ -14,3 +14,5 @@ pub mod DotViews
 pub mod Texts
 pub mod Replies
 pub mod Settings
+pub mod Grammar
+pub mod DotGrammar

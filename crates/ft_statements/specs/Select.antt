@@ -1,6 +1,5 @@
--- SELECT ("Simple FTS Queries", "The Offsets Function"). Just this form is read (own choice):
---   SELECT items FROM NAME [WHERE filter] [ORDER BY key [ASC]] [LIMIT n [OFFSET n]]
--- where items are count ( * ), or some of *, offsets ( NAME ) and NAME.
+-- SELECT ("Simple FTS Queries", "The Offsets Function"), read step by step. That the form of Grammar is read so, and no other, is a
+-- law.
 use Rattle.std.specs.Prelude.{ℕ, List, [], ◌∷◌, Option, Some, None, codes}
 use Rattle.std.specs.Option.{option_or}
 use Rattle.ft_content.specs.Command.{Command, Item, Items, AllColumns, Named, OffsetsOf, Counted, Listed, Select}

@@ -3,6 +3,7 @@ ghost use Rattle.std.specs.Prelude.{◌≡◌, codes, map, string_bytes, option_
 ghost use Rattle.std.specs.Char.{is_ascii_digit};
 ghost use Rattle.std.specs.List.{list_all};
 ghost use Rattle.ft_statements.specs.Dots as forms;
+ghost use Rattle.ft_statements.specs.DotGrammar.{Says};
 ghost use Rattle.ft_statements.specs.DotViews.{command_as, import_as, words_left, csv_words, skip_words};
 
 use crate::values::digits_value;
@@ -356,10 +357,9 @@ fn table_command(
     }
 }
 
-/// The command that a dot line's words make. A line without words is none; a known name with a wrong number or form of words
-/// is told how it is used; any other name is unknown.
+// The command that a dot line's words make, by its name.
 #[tactic(auto, unfolding(crate::specs::Dots::dot_command_of))]
-pub fn dot_command(alloc: Global, words: &[String]) -> Result<DotCommand, AllocError>
+fn line_command(alloc: Global, words: &[String]) -> Result<DotCommand, AllocError>
     ensures { IfOk result (λ command. command_as command ≡ forms.dot_command_of (map string_bytes words.now)) }
 {
     let [name, words @ ..] = words else {
@@ -376,4 +376,13 @@ pub fn dot_command(alloc: Global, words: &[String]) -> Result<DotCommand, AllocE
         return Ok(command);
     }
     Ok(DotCommand::Unknown)
+}
+
+/// The command that a dot line's words make, as their grammar says. A line without words is none; a known name with a wrong
+/// number or form of words is told how it is used; any other name is unknown.
+pub fn dot_command(alloc: Global, words: &[String]) -> Result<DotCommand, AllocError>
+    ensures command { IfOk result (λ command. command_as command ≡ forms.dot_command_of (map string_bytes words.now)) }
+    ensures says { IfOk result (λ command. Says (map string_bytes words.now) (command_as command)) }
+{
+    line_command(alloc, words)
 }

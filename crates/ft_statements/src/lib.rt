@@ -5,6 +5,7 @@ mod change;
 mod create;
 mod dots;
 mod insert;
+mod laws;
 mod plain;
 mod reading;
 mod replies;
@@ -17,6 +18,7 @@ mod values;
 mod words;
 
 pub use crate::dots::{DotCommand, Import, dot_command};
+pub use crate::laws::{dot_lines_by_grammar, one_class_each, statements_by_grammar};
 pub use crate::plain::{PlainStatement, read_plain};
 pub use crate::replies::write_reply;
 pub use crate::setting::{apply, print_text};

@@ -7,6 +7,7 @@ ghost use Rattle.ft_statements.specs.declared.statement.StatementFault.TheVarian
 ghost use Rattle.ft_statements.specs.Words as tokens;
 ghost use Rattle.ft_statements.specs.Reading as reading;
 ghost use Rattle.ft_statements.specs.Statements as forms;
+ghost use Rattle.ft_statements.specs.Grammar.{HasClass};
 ghost use Rattle.ft_statements.specs.Views.{seen, plain};
 ghost use Rattle.ft_statements.specs.Classes.{class_as};
 
@@ -154,10 +155,11 @@ fn is_full_text(
     names_table(alloc, tables, words)
 }
 
-/// The class of a statement, where these full-text tables are there. A full-text statement is one that begins with CREATE
-/// VIRTUAL or names one of the tables directly behind FROM, INTO, UPDATE, TABLE, JOIN or EXISTS; one that spells no command
-/// is refused as `Syntax`. Any other is plain. The words are those of the text.
-#[tactic(auto, unfolding(crate::specs::Statements::class_of))]
+/// The class of a statement, where these full-text tables are there, as the grammar of full-text statements spells it. A
+/// full-text statement is one that begins with CREATE VIRTUAL or names one of the tables directly behind FROM, INTO, UPDATE,
+/// TABLE, JOIN or EXISTS; one that spells no command has no class and is refused as `Syntax`. Any other is plain. The words
+/// are those of the text.
+#[tactic(auto, unfolding(crate::specs::Statements::class_of), using(crate::proofs::GrammarClass::class_sound, crate::proofs::GrammarClass::no_class_is))]
 pub fn read_statement(
     alloc: Global,
     text: &str,
@@ -167,6 +169,10 @@ pub fn read_statement(
     requires { words.now ≡ words_of text.now }
     ensures class { IfOk result (λ class. forms.class_of (views.info_names tables.now) (tokens.tokens_of text.now) ≡ Some (class_as class)) }
     ensures syntax { IsErrOf result StatementFault.Syntax → forms.class_of (views.info_names tables.now) (tokens.tokens_of text.now) ≡ None }
+    ensures spelled { IfOk result (λ class.
+        HasClass (views.info_names tables.now) (tokens.tokens_of text.now) (class_as class)) }
+    ensures unspelled { IsErrOf result StatementFault.Syntax → (class : forms.Class) →
+        ¬ HasClass (views.info_names tables.now) (tokens.tokens_of text.now) class }
 {
     let pieces = pieces_of(alloc, text, words)?;
     let pieces = pieces.as_slice();
