@@ -1,8 +1,8 @@
-"""What the verdict on a crate's edits depends on, as digests, and the file must-fail/tried.md in which those stand under which all were last refused.
+"""What the verdict on a crate's edits depends on, as digests, and the file must-fail/tried.md with those under which all were last refused.
 
 own     the crate's sources and edits, its line in crates.txt and the kit
 below   the sources and lines of the crates below it
-faces   what it can know of those: their texts without bodies, their definitions and lemmas, and all modules that the kit made of them but those of bodies
+faces   what it can know of those: their texts without bodies, their definitions and lemmas, and what the kit made of them but for bodies
 """
 import functools
 import hashlib

@@ -8,6 +8,7 @@ OPEN_TO_ALL = ("const", "ghost", "async")
 # What a new text has where it may be more than another body: an item beside the function or in it, or a comment that swallows text.
 ITEM = re.compile(r"\b(fn|impl|use|mod|const|static|trait|struct|enum|type|extern|macro_rules)\b|/\*")
 OPEN_GOAL = re.compile(r"note: (?:\./)?(src/\S+?):(\d+):\d+: it is not proved ")
+ERROR = re.compile(r"(?:\./)?(src/\S+?):(\d+):\d+: error\b")
 FUNCTION = re.compile(r"fn (\S+): (.*)")
 # What is said of a proof where something that it names is gone, in the words by which `rt` knows that.
 GONE = re.compile(r"has no field|is not in scope|has no `|was not admitted")
@@ -33,7 +34,9 @@ class Body:
 
 
 class Edit:
-    """An edit: its file, its changes, each a path, an old and a new text, and the function in whose body alone they stand; None where `rt` has to try it."""
+    """An edit: its file, its changes, each a path, an old and a new text, and the function in whose body alone they stand.
+
+    The body is None where they stand elsewhere: then `rt` has to try the edit."""
 
     def __init__(self, rt, crate, file):
         self.file, self.name = file, os.path.basename(file)
@@ -80,8 +83,9 @@ def is_closed(text):
 
 
 def body_at(path, text, place):
-    """Returns the innermost function in whose body the place of the text stands. In rt fmt's layout the line that opens a body and the brace that closes it
-    stand right under the head."""
+    """Returns the innermost function in whose body the place of the text stands.
+
+    In rt fmt's layout the line that opens a body and the brace that closes it stand right under the head."""
     lines, at = text.split("\n"), text.count("\n", 0, place)
     first = next((it for it in range(at, -1, -1) if HEAD.match(lines[it])), None)
     if first is None:
@@ -98,7 +102,9 @@ def body_at(path, text, place):
 
 
 def texts_with(crate, edits):
-    """Returns the text of each changed file with all the changes, by their places in the file as it is: the new text of one may have the old one of another."""
+    """Returns the text of each changed file with all the changes.
+
+    They go by their places in the file as it is, since the new text of one may have the old one of another."""
     texts = {path: text_of(f"{crate.folder}/{path}") for edit in edits for path, _, _ in edit.changes}
     placed = [(texts[path].index(old), path, old, new) for edit in edits for path, old, new in edit.changes]
     for at, path, old, new in sorted(placed, reverse=True):
@@ -117,12 +123,23 @@ def apart(edits):
 
 def open_goals(lines):
     """Returns the file and the line of each goal of a function that the prover calls not proved."""
-    return [(it[1], int(it[2])) for it in map(OPEN_GOAL.match, lines) if it]
+    return places(OPEN_GOAL, lines)
+
+
+def unreadable(lines, edits):
+    """Returns the edits in whose bodies a text stands that can't be read."""
+    errors = places(ERROR, lines)
+    return [it for it in edits if any(it.body.holds(*place) for place in errors)]
+
+
+def places(pattern, lines):
+    return [(it[1], int(it[2])) for it in map(pattern.match, lines) if it]
 
 
 def refused_in(lines, body):
-    """Returns the line by which the prover refuses the function itself: a goal of its own is open, or the written proof of one is wrong. A function that is not
-    proved for a callee's sake alone has neither; where a proof of its own names what is gone, that is not told here."""
+    """Returns the line by which the prover refuses the function itself: a goal of its own is open, or the written proof of one is wrong.
+
+    A function that is not proved for a callee's sake alone has neither. None where a proof of its own names what is gone."""
     paths = [it[1].split("::")[1:] for it in map(FUNCTION.match, lines) if it]
     alike = [it for it in paths if it[: len(body.module)] == body.module and it[-1] == body.name]
     goals = []

@@ -8,7 +8,6 @@ import sys
 import tempfile
 import threading
 
-sys.dont_write_bytecode = True
 RT = os.environ.get("RT", "rt")
 # What a check may take of memory, in bytes.
 MEMORY = 7_000_000_000
@@ -37,8 +36,9 @@ def jobs(rt):
 
 
 def prove(crate, flags):
-    """Proves a crate whose libraries are proved, where it has changed or nothing is kept of its check, and returns what was said if that fails. An rlib
-    is written of a proved crate alone."""
+    """Proves a crate whose libraries are proved, where it has changed or nothing is kept of its check, and returns what was said if that fails.
+
+    An rlib is written of a proved crate alone."""
     with PROVING[crate.folder], tempfile.TemporaryFile("w+", errors="replace") as crate.out:
         os.makedirs(f"{crate.folder}/out", exist_ok=True)
         if not crate.has_kept():
