@@ -99,6 +99,6 @@ def write(crate, now):
 
 
 def withdraw(crate, now):
-    """Takes back what is written, where it says that all edits were refused on this very state."""
-    if is_current(crate, now, "own", "below"):
+    """Takes back what is written, where it would be taken to say that all edits are refused on this state."""
+    if is_current(crate, now, "own", "below") or is_current(crate, now, "own", "faces"):
         os.remove(f"{crate.folder}/{TRIED}")
