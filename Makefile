@@ -4,7 +4,7 @@
 PREFIX ?= /usr/local
 export RT ?= rt
 # How many checks run side by side: one a processor, where 7 GB of memory are free for each.
-RT_JOBS ?= $(or $(shell tests/gate/jobs),1)
+RT_JOBS ?= $(or $(shell RT='$(RT)' tests/gate/jobs),1)
 # `make wrong-bodies CRATE=ft_line` tries the edits of that crate, whatever is written of it.
 CRATE ?=
 # Flags of the checks by which `make` proves, as `--jobs 1`. Without them `rt` chooses how many processors a check takes.

@@ -62,8 +62,8 @@ def face(library):
     with open(f"{library.rlib}/toolchain/made.json", encoding="utf-8") as it:
         rows = [json.loads(line) for line in it if line.startswith("[")]
     # a module's name is the first word of its row, the digest of what it says the fourth; the body of a const fn may be known above
-    functions = {it[0][: -len("/Statement")] for it in rows if it[0].endswith("/Statement")}
-    functions = {it for it in functions if it.split("/")[-1] not in const_functions(library)}
+    functions, constant = {it[0][: -len("/Statement")] for it in rows if it[0].endswith("/Statement")}, const_functions(library)
+    functions = {it for it in functions if it.split("/")[-1] not in constant}
     is_of_body = lambda name: OF_BODY.match(name) and OF_BODY.match(name)[1] in functions
     return library.name, [it for it in texts if not PROOF.match(it[0])], [(it[0], it[3]) for it in rows if not is_of_body(it[0])]
 
