@@ -1,33 +1,55 @@
-# ft4sh: `make` builds the program and runs the demonstration, `make test` is every test, `make install` copies the program and its
-# manual page.
+# ft4sh: `make` proves and builds the program and runs the demonstration, `make test` is every proof and test, with the edits that must fail
+# of the crates where something changed, `make wrong-bodies` tries such edits alone, `make test-all` is everything from nothing, and
+# `make install` copies the program and its manual page.
 PREFIX ?= /usr/local
-RT ?= rt
-# How many checks of the gate run side by side. Each takes up to 8 GB.
-RT_JOBS ?= 3
+export RT ?= rt
+# How many checks run side by side: one a processor, where 7 GB of memory are free for each.
+RT_JOBS ?= $(or $(shell RT='$(RT)' tests/gate/jobs),1)
+# `make wrong-bodies CRATE=ft_line` tries the edits of that crate, whatever is written of it.
+CRATE ?=
+# Flags of the checks by which `make` proves, as `--jobs 1`. Without them `rt` chooses how many processors a check takes.
+CHECK_FLAGS ?=
 
-.PHONY: all build demo test install clean
+CRATES := $(shell sed -n 's/^\([a-z0-9_]*\):.*/\1/p' crates.txt)
+LIBRARIES := $(filter-out $(patsubst crates/%/src/main.rt,%,$(wildcard crates/*/src/main.rt)),$(CRATES))
+# The crates of the repository that a crate stands on.
+below = $(filter $(CRATES),$(shell sed -n 's/^$(1)://p' crates.txt))
+side_by_side = $(MAKE) --no-print-directory -j$(RT_JOBS)
+
+.PHONY: all build demo test test-all wrong-bodies install clean $(CRATES:%=prove-%)
 
 all: demo
 
 # Proves the program and the crates below it, and builds it.
 build:
+	$(side_by_side) $(addprefix prove-,$(call below,ft_main))
 	cd crates/ft_main && $(RT) run < stdin > /dev/null
 	mkdir -p bin
 	cp crates/ft_main/out/ft_main bin/ft4sh
+
+# `prove-NAME` proves a library, behind those that it stands on.
+$(foreach it,$(CRATES),$(eval prove-$(it): $(addprefix prove-,$(call below,$(it)))))
+$(LIBRARIES:%=prove-%): prove-%:
+	@tests/gate/prove $* $(CHECK_FLAGS)
 
 # Loads the log of a harbour, searches it and changes it: examples/search.sql.
 demo: build
 	@cd examples && ../bin/ft4sh < search.sql
 
-# Every proof from nothing, the edits that must fail, the tests, and the program as two compilers build it; then what the program that
-# this left writes for the scripts of tests/, the examples of the manual and the demonstration; and a session with each of its
-# allocations refused in turn, where there are a C compiler and Python.
+# Every proof from nothing, the tests, the program as two compilers build it, and the edits that must fail of each crate where something
+# changed since they were refused; then what the program that this left writes for the scripts of tests/, the examples of the manual and the
+# demonstration; and a session with each of its allocations refused in turn, where there are a C compiler and Python.
 test:
-	RT_JOBS=$(RT_JOBS) $(RT) ci
-	tests/run crates/ft_main/out/ft_main
-	tests/manual crates/ft_main/out/ft_main
-	cd examples && ../crates/ft_main/out/ft_main < search.sql | diff search.out -
-	tests/memory crates/ft_main/out/ft_main
+	RT_JOBS=$(RT_JOBS) tests/gate/run
+
+# The same with the edits of every crate.
+test-all:
+	RT_JOBS=$(RT_JOBS) tests/gate/run --all
+
+# Tries the edits that must fail of the crates where something changed since they were refused, and writes where all were refused.
+wrong-bodies:
+	@crates="$(or $(CRATE),$$(tests/wrong-bodies --stale))"; [ -z "$$crates" ] || $(side_by_side) $$(printf 'prove-%s ' $$crates)
+	RT_JOBS=$(RT_JOBS) tests/wrong-bodies $(CRATE)
 
 install: build
 	mkdir -p "$(DESTDIR)$(PREFIX)/bin" "$(DESTDIR)$(PREFIX)/share/man/man1"
