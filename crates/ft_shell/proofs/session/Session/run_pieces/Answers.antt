@@ -47,7 +47,7 @@ returns-in_err-flush-2-clause-err g c =
     let cause : c.in_err-flush-2.field-0.0 ≡ causes.Write = c.in_err-flush-2.ensures.fault in
     if_err_at _ c.from_residual-in_err-flush-2.result c.in_err-flush-2.field-0.0 is
     (stops_at_flush g.P.Store g.S.Store c.in_err-flush-2.field-0.0 (2 ^ 30) c.loop-total.total _ c.in_ok-read.read _ _ _ _ _ _ _ _ _ _ _ refl (so_far_kept g.P.Store g.S.Store (2 ^ 30) c.loop-total.total _ _ _ _ _ _ c.loop-total.invariant.run c.flush.ensures.bytes) c.loop-total.invariant.goes c.loop-total-test.true refl c.in_ok-read.ensures.ok
-    (some_or_none c.in_ok-read.read) c.flush-2.ensures.bytes cause)
+    (some_or_none c.in_ok-read.read) c.flush-then-is_over.ensures.bytes cause)
 
 pub returns-in_err-flush-2-clause-source : goal.returns-in_err-flush-2-clause-source
 returns-in_err-flush-2-clause-source g c = λ name. c.read_piece.ensures.source name ∙ c.loop-total.invariant.source name
@@ -55,7 +55,7 @@ returns-in_err-flush-2-clause-source g c = λ name. c.read_piece.ensures.source 
 pub returns-then-is_over-clause-ok : goal.returns-then-is_over-clause-ok
 returns-then-is_over-clause-ok g c =
     completes g.P.Store g.S.Store (2 ^ 30) c.loop-total.total _ c.in_ok-read.read _ _ _ _ _ _ _ _ _ _ _ refl (so_far_kept g.P.Store g.S.Store (2 ^ 30) c.loop-total.total _ _ _ _ _ _ c.loop-total.invariant.run c.flush.ensures.bytes) c.loop-total.invariant.goes c.loop-total-test.true refl c.in_ok-read.ensures.ok
-    (c.is_over.ensures.over c.if-is_over.true) c.flush-2.ensures.bytes c.is_over.ensures.fits
+    (c.is_over.ensures.over c.if-is_over.true) c.flush-then-is_over.ensures.bytes c.is_over.ensures.fits
 
 pub returns-then-is_over-clause-source : goal.returns-then-is_over-clause-source
 returns-then-is_over-clause-source g c = λ name. c.read_piece.ensures.source name ∙ c.loop-total.invariant.source name
