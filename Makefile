@@ -3,7 +3,8 @@
 # `make install` copies the program and its manual page.
 PREFIX ?= /usr/local
 export RT ?= rt
-# How many checks run side by side: one a processor, where 7 GB of memory are free for each.
+# How many checks `make` and `make wrong-bodies` run side by side: one a processor, where 7 GB of memory are free for each. `make test` hands
+# it on only where it is given: by itself `rt ci` gives the processors that no other crate waits for to one proof, and looks at the memory.
 RT_JOBS ?= $(or $(shell RT='$(RT)' tests/gate/jobs),1)
 # `make wrong-bodies CRATE=ft_line` tries the edits of that crate, whatever is written of it.
 CRATE ?=
@@ -38,13 +39,14 @@ demo: build
 
 # Every proof from nothing, the tests, the program as two compilers build it, and the edits that must fail of each crate where something
 # changed since they were refused; then what the program that this left writes for the scripts of tests/, the examples of the manual and the
-# demonstration; and a session with each of its allocations refused in turn, where there are a C compiler and Python.
+# demonstration; and, where there are a C compiler and Python, the program with each of its allocations refused, stopped at each of its
+# writes, killed, and over damaged files.
 test:
-	RT_JOBS=$(RT_JOBS) tests/gate/run
+	tests/gate/run
 
 # The same with the edits of every crate.
 test-all:
-	RT_JOBS=$(RT_JOBS) tests/gate/run --all
+	tests/gate/run --all
 
 # Tries the edits that must fail of the crates where something changed since they were refused, and writes where all were refused.
 wrong-bodies:
