@@ -1,4 +1,4 @@
--- Why a database that is not a store is not taken (own choice).
+-- Which databases are taken as stores, and why others are not (own choice).
 use Rattle.std.specs.Prelude.{◌≡◌, ◌≢◌, ◌⊎◌, ◌||◌, ℤ, pos, false, length, map, IsTrue, Bool, if◌then◌else◌, List, [], ◌∷◌, true, Result, Ok, Err, Vec}
 use Rattle.std.specs.List.{list_any}
 use Rattle.std.specs.Ordering.{int_eq}
@@ -19,7 +19,6 @@ use Rattle.sqlite.specs.Held.{Held, state}
 use Rattle.std.specs.Prelude.{codes, ℕ}
 use Rattle.ft_store.specs.Tables.{no_schema, store_schema}
 use Rattle.ft_store.specs.Store.{nothing_held}
-use Rattle.ft_store.specs.Rows.{value_of}
 use Rattle.ft_store.specs.Calls.{IsPlainFault, IsStored, Keeps}
 use Rattle.ft_store.specs.Older.{older_schema, HasStoreTables, IsOlder, older_value}
 use Rattle.sqlite.specs.Tree.{Trees}
@@ -82,14 +81,15 @@ IsOtherVersion n = (n ≢ pos 2) × (n ≢ pos 3)
 abbrev pub IsOfVersion : ℤ → Trees → Type 0
 IsOfVersion n db = (map (λ (r : Row). column r 2) (db 0) ≡ Int n ∷ []) × IsOtherVersion n
 
--- A database is taken as a store. One that had no object holds the empty store then, and a store of version 2 holds what it
--- held; any other has the tables of a store, and is as it was.
+-- What is made of a database: of one without objects the empty store, and of a store of version 2 a store that holds the same.
+abbrev pub IsMadeOf : Database → Trees → Type 0
+IsMadeOf old db =
+    ((old.schema ≡ no_schema) × IsStored db nothing_held) ⊎ ((old.schema ≡ older_schema) × IsOlder old.trees × IsStored db (older_value old.trees))
+
+-- A database is taken as a store: one that has the tables of a store stays as it is, and of any other a store is made.
 pub record IsTaken {S : Type 0} (g : Ghosts S) (old new : Held S) : Type 0 where
-  pub bare : HasCleanDisk (state g new) → IsTrue (state g new).is_open → old.schema ≡ no_schema → value_of (state g new).now.trees ≡ nothing_held
   pub held : HasCleanDisk (state g new) → IsTrue (state g new).is_open → old.schema ≡ store_schema → (state g new).now ≡ (state g old).now
-  pub older : HasCleanDisk (state g new) → IsTrue (state g new).is_open → old.schema ≡ older_schema
-      → IsOlder (state g old).now.trees × (value_of (state g new).now.trees ≡ older_value (state g old).now.trees)
-  pub known : HasCleanDisk (state g new) → IsTrue (state g new).is_open → old.schema ≢ no_schema → HasStoreTables old.schema
+  pub made : HasCleanDisk (state g new) → IsTrue (state g new).is_open → old.schema ≢ store_schema → IsMadeOf (state g old).now (state g new).now.trees
 
 -- A database is not taken, and is as it was, outside a transaction.
 pub record IsNotTaken {S : Type 0} (g : Ghosts S) (old new : Held S) (cause : StoreFault) : Type 0 where
@@ -105,11 +105,6 @@ pub record IsNotTaken {S : Type 0} (g : Ghosts S) (old new : Held S) (cause : St
   pub other : old.schema ≢ no_schema → (HasStoreTables old.schema → ⊥) → has_our_name old.schema ≡ false → cause ≡ fault.Refused
   pub told : HasCleanDisk (state g new) → old.schema ≢ no_schema → (HasStoreTables old.schema → ⊥) → IsTrue (has_our_name old.schema)
       → (found : Result (Vec Row Global) Error) × TellsAs g old found × (cause ≡ told_cause found)
-
--- the store that is made of a database without objects, and of a store of version 2
-abbrev pub IsMadeOf : Database → Trees → Type 0
-IsMadeOf old db =
-    ((old.schema ≡ no_schema) × IsStored db nothing_held) ⊎ ((old.schema ≡ older_schema) × IsOlder old.trees × IsStored db (older_value old.trees))
 
 -- a crash leaves what it could leave before, or that store whole
 abbrev pub LeavesMade : {S : Type 0} → Ghosts S → Held S → Held S → Type 0
