@@ -5,12 +5,14 @@
 - The disk fails from each write on: what was answered is there, what was refused is not, and every table is sound.
 - The input fails from each read on: what was read whole ran, and nothing else. An output fails from each write on: what was written is a front of
   what is due, and a front of the lines ran.
+- An input is cut after each of its bytes: the run ends well, with its own fault lines at most, and every table is sound.
 It needs a C compiler.
 """
 import collections
 import concurrent.futures
 import functools
 import os
+import re
 import shutil
 import subprocess
 import sys
@@ -49,6 +51,22 @@ INSERT INTO mail VALUES('red', 'green');
 SELECT nope FROM mail;
 .tables
 """.strip("\n").split("\n")
+# An input with texts of several bytes and of several lines, which is cut after each byte.
+CUT = """
+CREATE VIRTUAL TABLE m USING fts4(a, b);
+INSERT INTO m VALUES('日本', 'it''s'),('p,"q', NULL),('u
+v', 7);
+.nullvalue -
+.mode csv
+SELECT * FROM m;
+.mode column
+SELECT docid, a, b FROM m;
+.mode quote
+SELECT docid, b FROM m;
+SELECT x'abcd', NULL, 7;
+SELECT 1.5;
+.nosuch
+""".lstrip("\n").encode()
 SEEN = """
 .tables
 SELECT docid, * FROM d;
@@ -63,7 +81,9 @@ SELECT * FROM noted;
 INSERT INTO d(d) VALUES('integrity-check');
 INSERT INTO mail(mail) VALUES('integrity-check');
 INSERT INTO e(e) VALUES('integrity-check');
+INSERT INTO m(m) VALUES('integrity-check');
 """.strip("\n").split("\n")
+OWN_LINE = re.compile(r"Error: near line \d+: .+")
 UNSOUND = ("database disk image is malformed", "full-text index is unsound", "unable to open")
 
 Ran = collections.namedtuple("Ran", "out err status")
@@ -77,7 +97,7 @@ class Rooms:
 
     def run(self, room, lines, **env):
         env = {"LD_PRELOAD": self.library, **{name: str(it) for name, it in env.items()}} if env else {}
-        given = ("\n".join(lines) + "\n" if isinstance(lines, list) else lines).encode()
+        given = "".join(f"{it}\n" for it in lines).encode() if isinstance(lines, list) else lines
         ran = subprocess.run([self.program, "a.db"], input=given, cwd=room, env=env, capture_output=True, timeout=120)
         return Ran(ran.stdout.decode(errors="replace"), ran.stderr.decode(errors="replace"), ran.returncode)
 
@@ -132,6 +152,13 @@ def cut(rooms, lines, states, whole, stream, at):
     return None if fine else f"{ran} {left}"
 
 
+def cut_short(rooms, at):
+    """Says what is wrong where the input is cut after so many bytes, or None."""
+    ran, _, left, is_sound = rooms.after(CUT[:at])
+    is_well = ran.status == (1 if ran.err else 0) and all(OWN_LINE.fullmatch(it) for it in ran.err.split("\n")[:-1])
+    return None if is_well and is_sound else f"{ran} {left}"
+
+
 def tries(rooms):
     """Yields what is tried, and a call that says what is wrong with it."""
     before, _ = rooms.seen(rooms.first)
@@ -149,6 +176,8 @@ def tries(rooms):
         _, calls, _, _ = rooms.after(SESSION, STREAM=stream, PIECE=7)
         for at in range(1, calls + 1):
             yield f"stream {stream} fails from call {at} of {calls} on", functools.partial(cut, rooms, SESSION, states, whole, stream, at)
+    for at in range(len(CUT) + 1):
+        yield f"the input is cut after {at} bytes", functools.partial(cut_short, rooms, at)
 
 
 def prepare(program, room):
@@ -172,7 +201,7 @@ def main(program):
         wrong = [(name, why) for (name, _), why in zip(all_of_them, pool.map(lambda it: it[1](), all_of_them)) if why]
     for name, why in wrong[:20]:
         print(f"{name}: {why}")
-    print(f"{len(all_of_them)} stops and failing calls, of which {len(wrong)} show")
+    print(f"{len(all_of_them)} stops, failing calls and cut inputs, of which {len(wrong)} show")
     sys.exit(bool(wrong))
 
 

@@ -1,13 +1,13 @@
 -- What the turns of a session call of the full-text tables.
 use Rattle.std.proofs.Common.{◌≡◌, ℕ, Bool, true, false, List, [], ◌∷◌, ◌++◌, Option, Some, None, refl, sym, ap, subst, ◌⊎◌, inl, inr}
-use Rattle.std.specs.Prelude.{MatchBool, Result, Ok, Err, IfOk, IfErr, codes, map, take}
+use Rattle.std.specs.Prelude.{MatchBool, codes, map}
 use Rattle.sqlite.specs.Store.{Ghosts}
 use Rattle.sqlite.specs.Held.{Held}
 use Rattle.shell_text.specs.Print.{Look}
-use Rattle.shell_text.specs.Units.{Member, Sql, Dot, Fault, members_of}
+use Rattle.shell_text.specs.Units.{Member, Sql, Dot, Fault}
 use Rattle.shell_text.specs.Dot.{dot_words_of}
 use Rattle.shell_text.specs.Words.{is_unclosed}
-use Rattle.ft_index.specs.Kept.{Known, Call, Executed, Noted, DoesCall, KeptByCalls, OnlyLooks, Runs, Holds, IsUp}
+use Rattle.ft_index.specs.Kept.{Known, Call, Executed, Noted, DoesCall, OnlyLooks, Runs}
 use Rattle.ft_statements.specs.Words.{tokens_of}
 use Rattle.ft_statements.specs.Plain.{asks, made_name}
 use Rattle.ft_shell.specs.Shell.{Shell}
@@ -15,7 +15,7 @@ use Rattle.ft_shell.specs.Told.{Told, Deeds, and_then, lacks_memory, blames}
 use Rattle.ft_content.specs.Command.{Insert}
 use Rattle.ft_statements.specs.Dots.{DotCommand, Import, Nothing, SetMode, SetHeaders, SetSeparator, SetNull, SetEcho, SetBail, Print, Importing, Tables, Quit, Usage, Unknown, dot_command_of}
 use Rattle.ft_shell.specs.DotTurns.{DotTurn}
-use Rattle.ft_shell.specs.FullTextTurns.{FullTextTurn, MaybeNotes, NoteTurn, reply_told}
+use Rattle.ft_shell.specs.FullTextTurns.{MaybeNotes, NoteTurn}
 use Rattle.ft_shell.specs.Imports.{delimiter_of, fitted, warnings}
 use Rattle.ft_shell.specs.ImportTurns.{BytesTurn, DelimitedTurn, FileTurn, IntoNamed, IntoNew, PlainImport, TextImport, columns_in, kept, records_in, executed, no_memory, no_header, too_wide, declined, there, new_table, untried, read, no_text, fetched, unfetched, fetch_words}
 use Rattle.ft_shell.specs.TablesTurns.{TablesTurn}
@@ -27,10 +27,6 @@ use Rattle.ft_shell.specs.StatementTurns.{ClassTurn, Declines, StatementTurn, ta
 use Rattle.ft_shell.specs.TurnCalls.{MayNote, MayRead, NoCall, CallsOf, CallsOfClass, CallsOfDot, CallsOfImport, HasRecords, OneCommand, behind_stop}
 use Rattle.ft_shell.specs.Sources.{Files, Gives}
 use Rattle.ft_shell.specs.Turns.{Body, Turns}
-use Rattle.ft_content.specs.Deserved.{Contents}
-use Rattle.ft_shell.specs.declared.session.Status.{Status}
-use Rattle.ft_shell.specs.declared.session.RunFault.{RunFault}
-use Rattle.ft_shell.specs.Runs.{Completes, Console, IsFront, IsWhole, Stops}
 
 -- ---- calls
 

@@ -1,6 +1,6 @@
 -- What runs leave, by the calls that their turns made.
-use Rattle.std.proofs.Common.{◌≡◌, ℕ, ℤ, Bool, true, false, cond, List, [], ◌∷◌, ◌++◌, Option, Some, None, Result, Ok, Err, refl, ap, sym, subst, ◌∙◌, ◌⊎◌, inl, inr, append-nil, append_assoc, ◌^◌}
-use Rattle.std.specs.Prelude.{IfOk, IfErr, IsTrue, MatchBool, is_ok, map, take}
+use Rattle.std.proofs.Common.{◌≡◌, ℕ, Bool, true, false, List, [], ◌∷◌, ◌++◌, Option, Some, None, Result, Ok, Err, refl, ap, sym, subst, ◌∙◌, ◌⊎◌, inl, inr, append-nil, append_assoc, ◌^◌}
+use Rattle.std.specs.Prelude.{IfOk, IfErr, IsTrue, MatchBool, map, take}
 use Rattle.sqlite.specs.Store.{Ghosts}
 use Rattle.shell_text.specs.Print.{Look}
 use Rattle.shell_text.specs.Dot.{dot_words_of}
@@ -11,7 +11,7 @@ use Rattle.ft_content.specs.declared.fault.Fault.{Fault}
 use Rattle.ft_content.specs.Command.{Command, Filter, Insert, Items, Reply, Select}
 use Rattle.ft_content.specs.Deserved.{Contents, deserved}
 use Rattle.ft_content.specs.Step.{after, reply_to, step, step_by}
-use Rattle.ft_index.specs.Kept.{Known, Call, Executed, Noted, Runs, IsUp, Holds, KeptByCalls, NoneGetsUnsound, accepted, left_by, AreAnswered, is_outside, value_of}
+use Rattle.ft_index.specs.Kept.{Known, Call, Executed, Noted, Runs, IsUp, KeptByCalls, NoneGetsUnsound, accepted, left_by, AreAnswered, is_outside, value_of}
 use Rattle.ft_statements.specs.Words.{tokens_of}
 use Rattle.ft_statements.specs.Statements.{Class, Plain, FullText, class_of}
 use Rattle.ft_statements.specs.Dots.{DotCommand, Import, Nothing, SetMode, SetHeaders, SetSeparator, SetNull, SetEcho, SetBail, Print, Importing, Tables, Quit, Usage, Unknown, dot_command_of}
@@ -27,7 +27,7 @@ use Rattle.ft_shell.specs.Told.{Told, Deeds, Tells, idle, and_then, told_by, say
 use Rattle.ft_shell.specs.TurnCalls.{MayNote, MayRead, CallsOf, CallsOfClass, CallsOfDot, CallsOfImport, behind_stop}
 use Rattle.ft_shell.specs.Turns.{Turn, Turns}
 use Rattle.ft_shell.specs.Runs.{Completes, Console, IsFront, IsWhole, Stops}
-use Rattle.ft_shell.specs.Promise.{Ran, AllRan, none_ran, last_ran, first_ran, Reached, Lists, Keeps, KeptByRuns, RanAndKept, parts_of}
+use Rattle.ft_shell.specs.Promise.{Ran, AllRan, none_ran, last_ran, first_ran, Reached, Lists, KeptByRuns, RanAndKept, parts_of}
 use Rattle.ft_shell.proofs.CallsLemmas.{runs_join, turns_made}
 use Rattle.ft_shell.proofs.TurnsLemmas.{assoc_then, idle_then, turns_one, turns_then}
 use Rattle.ft_shell.specs.Broken.{Broken, not_begun, not_echoed, not_told}

@@ -1,5 +1,5 @@
 -- What runs of a session leave of the full-text tables (own choice).
-use Rattle.std.specs.Prelude.{ℕ, ℤ, ◌≡◌, ◌⊎◌, List, [], ◌∷◌, ◌++◌, Option, Result, Ok, Err, IsTrue}
+use Rattle.std.specs.Prelude.{ℕ, ℤ, ◌≡◌, ◌⊎◌, List, ◌∷◌, ◌++◌, Option, Result, Ok, Err, IsTrue}
 use Rattle.std.specs.List.{list_any}
 use Rattle.sqlite.specs.Store.{Ghosts}
 use Rattle.shell_text.specs.Units.{Member, Sql}

@@ -1,5 +1,5 @@
 -- piece by piece, up to the end of the input
-use Rattle.std.proofs.Common.{rules, ◌≡◌, ◌^◌, ◌++◌, ◌∙◌, Err, length, drop, sym, ap, refl, arith, length-append}
+use Rattle.std.proofs.Common.{rules, ◌≡◌, ◌^◌, ◌++◌, ◌∙◌, Err, length, drop, ap, refl, arith, length-append}
 use Rattle.std.proofs.lemmas.List.{length-take-le}
 use Rattle.ft_shell.specs.declared.session.RunFault.TheVariants as causes
 use Rattle.ft_shell.specs.Feeds.{Fed}
