@@ -1,8 +1,9 @@
 """Stops the program at each of its writes, and has its disk, its input and its outputs fail at each of their calls: calls.py PROGRAM.
 
 - A run of one command on a FILE is stopped at each write of a file, before it and within it, and the file is opened again: every table is
-  sound, and all is as before the command or as after it; and as after it where it was answered.
-- The disk fails from each write on: what was answered is there, what was refused is not, and every table is sound.
+  sound, and all is as before the command or as after it; and as after it where it was answered. A plain table that was made may not be
+  noted yet: the two files are not in step.
+- The disk fails from each write on: all is as before the command or as after it, what was answered is there, and every table is sound.
 - The input fails from each read on: what was read whole ran, and nothing else. An output fails from each write on: what was written is a front of
   what is due, and a front of the lines ran.
 - An input is cut after each of its bytes: the run ends well, with its own fault lines at most, and every table is sound.
@@ -37,6 +38,8 @@ CREATE TABLE noted(a);
 .import --csv records.csv made
 .import --csv records.csv plain
 """.strip("\n").split("\n")
+# Those that make a plain table, which is noted in the other file.
+PLAIN_TABLES = ("CREATE TABLE noted(a);", ".import --csv records.csv made")
 RECORDS = "subject,body\nx y\nz,w\n"
 # The inputs whose streams fail, and what the state is seen by.
 SESSION = """
@@ -119,10 +122,16 @@ class Rooms:
             return ran, count, *self.seen(room)
 
 
+def allowed(command, before, after):
+    """What may be there: all as before the command, or as after it; a plain table that it made may not be listed yet."""
+    unlisted = Ran(before.out.split("\n")[0] + "\n" + after.out.split("\n", 1)[1], after.err, after.status)
+    return (before, after, unlisted) if command in PLAIN_TABLES else (before, after)
+
+
 def stopped(rooms, command, before, after, at, how):
     """Says what is wrong where the command is stopped at this write, or None."""
     ran, _, left, is_sound = rooms.after([command, ".print answered"], FILES=1, AT=at, HOW=how)
-    if not is_sound or left not in (before, after):
+    if not is_sound or left not in allowed(command, before, after):
         return f"{left}"
     return "it was answered, and is not there" if "answered" in ran.out and left != after else None
 
@@ -130,7 +139,7 @@ def stopped(rooms, command, before, after, at, how):
 def failing(rooms, command, before, after, at):
     """Says what is wrong where the disk fails from this write on, or None."""
     ran, _, left, is_sound = rooms.after([command], FILES=1, AT=at, HOW="fail")
-    if not is_sound or left not in (before, after):
+    if not is_sound or left not in allowed(command, before, after):
         return f"{ran} {left}"
     if ran.status == 0 and not ran.err and left != after:
         return f"no fault was told, and it is not there: {left}"

@@ -108,8 +108,11 @@ def damage(draw, room, stale):
 
 
 def prepare(program, room, draw):
-    """Makes the file with its log, and returns an old log of it."""
+    """Makes the file, and a log with changes that the file has not got yet, and returns an old log of it."""
     lines = statements(draw)
+    begun = lines[: len(lines) * 2 // 3]
+    subprocess.run([program, "a.db"], cwd=room, input="\n".join(begun) + "\n", text=True, check=True, timeout=60)
+    lines = lines[len(begun) :]
     ran = subprocess.Popen([program, "a.db"], cwd=room, stdin=subprocess.PIPE, stdout=subprocess.PIPE, text=True)
     for number, line in enumerate(lines):
         ran.stdin.write(f"{line}\n.print {number}\n")
