@@ -3,6 +3,7 @@
 - A run of one command on a FILE is stopped at each write of a file, before it and within it, and the file is opened again: every table is
   sound, and all is as before the command or as after it; and as after it where it was answered. A plain table that was made may not be
   noted yet: the two files are not in step.
+- The same of a run that opens a store of version 2, from which one of version 3 is made: it is one of the two, and holds the same.
 - The disk fails from each write on: all is as before the command or as after it, what was answered is there, and every table is sound.
 - The input fails from each read on: what was read whole ran, and nothing else. An output fails from each write on: what was written is a front of
   what is due, and a front of the lines ran.
@@ -38,6 +39,9 @@ CREATE TABLE noted(a);
 .import --csv records.csv made
 .import --csv records.csv plain
 """.strip("\n").split("\n")
+# What makes a store one of version 2, and a run that does nothing but open it.
+OLDER = ["DROP TABLE skip;", "UPDATE meta SET version = 2;"]
+OPEN = ".print open"
 # Those that make a plain table, which is noted in the other file.
 PLAIN_TABLES = ("CREATE TABLE noted(a);", ".import --csv records.csv made")
 RECORDS = "subject,body\nx y\nz,w\n"
@@ -95,19 +99,30 @@ Ran = collections.namedtuple("Ran", "out err status")
 class Rooms:
     """Runs the program in folders that begin as copies of one."""
 
-    def __init__(self, program, library, first):
-        self.program, self.library, self.first = program, library, first
+    def __init__(self, program, library, first, is_older=False):
+        self.program, self.library, self.first, self.is_older = program, library, first, is_older
 
-    def run(self, room, lines, **env):
+    def run(self, room, lines, file="a.db", **env):
         env = {"LD_PRELOAD": self.library, **{name: str(it) for name, it in env.items()}} if env else {}
         given = "".join(f"{it}\n" for it in lines).encode() if isinstance(lines, list) else lines
-        ran = subprocess.run([self.program, "a.db"], input=given, cwd=room, env=env, capture_output=True, timeout=120)
+        ran = subprocess.run([self.program, file], input=given, cwd=room, env=env, capture_output=True, timeout=120)
         return Ran(ran.stdout.decode(errors="replace"), ran.stderr.decode(errors="replace"), ran.returncode)
 
     def seen(self, room):
-        """What is there, and whether every table is sound."""
+        """What is there, and whether every table is sound. A store of version 2 is of that or of ours before it is opened, and of ours after it."""
+        version = self.version(room) if self.is_older else "3"
         ran = self.run(room, SEEN)
+        if version not in ("2", "3") or self.is_older and self.version(room) != "3":
+            return f"version {version}", False
         return ran, not any(it in ran.err for it in UNSOUND)
+
+    def version(self, room):
+        """The version of the store, as a copy of its files has it."""
+        with tempfile.TemporaryDirectory() as copy:
+            for name in ("a.db-fts4", "a.db-fts4-wal"):
+                if os.path.exists(f"{room}/{name}"):
+                    shutil.copyfile(f"{room}/{name}", f"{copy}/{name}")
+            return self.run(copy, ["SELECT version FROM meta;"], file="a.db-fts4").out.strip()
 
     def after(self, lines, **env):
         """Runs lines on a copy of the first folder, and returns the run, how many calls it made, and what is there then."""
@@ -168,9 +183,21 @@ def cut_short(rooms, at):
     return None if is_well and is_sound else f"{ran} {left}"
 
 
-def tries(rooms):
+def tries_of_opening(older, before):
+    """Yields what is tried of a run that opens a store of version 2."""
+    _, writes, _, _ = older.after([OPEN], FILES=1)
+    for at in range(1, writes + 1):
+        for how in ("kill", "half"):
+            yield f"an opening of version 2 is stopped ({how}) at write {at} of {writes}", functools.partial(stopped, older, OPEN, before, before, at, how)
+        yield f"an opening of version 2 with a disk that fails from write {at} on", functools.partial(failing, older, OPEN, before, before, at)
+
+
+def tries(rooms, older):
     """Yields what is tried, and a call that says what is wrong with it."""
-    before, _ = rooms.seen(rooms.first)
+    with tempfile.TemporaryDirectory() as room:
+        shutil.copytree(rooms.first, room, dirs_exist_ok=True)
+        before, _ = rooms.seen(room)
+    yield from tries_of_opening(older, before)
     for command in COMMANDS:
         _, writes, after, is_sound = rooms.after([command, ".print answered"], FILES=1)
         if not is_sound or after == before and "rebuild" not in command:
@@ -190,7 +217,7 @@ def tries(rooms):
 
 
 def prepare(program, room):
-    """Makes the library that stops and fails, and the folder on which all runs begin."""
+    """Makes the library that stops and fails, and the folders on which runs begin: the second has the same in a store of version 2."""
     source = os.path.join(os.path.dirname(os.path.abspath(__file__)), "calls.c")
     subprocess.run(["cc", "-O1", "-shared", "-fPIC", "-o", f"{room}/calls.so", source, "-ldl"], check=True)
     os.mkdir(f"{room}/first")
@@ -200,13 +227,17 @@ def prepare(program, room):
     begun = rooms.run(rooms.first, BEGIN)
     if begun.err or begun.status:
         sys.exit(f"the first lines: {begun}")
-    return rooms
+    older = Rooms(program, f"{room}/calls.so", f"{room}/older", is_older=True)
+    shutil.copytree(rooms.first, older.first)
+    begun = older.run(older.first, OLDER, file="a.db-fts4")
+    if begun.err or begun.status or older.version(older.first) != "2":
+        sys.exit(f"a store of version 2: {begun}")
+    return rooms, older
 
 
 def main(program):
     with tempfile.TemporaryDirectory() as room, concurrent.futures.ThreadPoolExecutor(os.cpu_count()) as pool:
-        rooms = prepare(os.path.abspath(program), room)
-        all_of_them = list(tries(rooms))
+        all_of_them = list(tries(*prepare(os.path.abspath(program), room)))
         wrong = [(name, why) for (name, _), why in zip(all_of_them, pool.map(lambda it: it[1](), all_of_them)) if why]
     for name, why in wrong[:20]:
         print(f"{name}: {why}")
