@@ -1,5 +1,6 @@
-"""Stops the program at each of its writes, and has its disk, its input and its outputs fail at each of their calls: calls.py PROGRAM.
+"""Stops the program at each of its writes, and has its disk, its input and its outputs fail at each of their calls: calls.py PROGRAM [TEXT].
 
+Of what is listed here all is tried, or what TEXT is in the name of.
 - A run of one command on a FILE is stopped at each write of a file, before it and within it, and the file is opened again: every table is
   sound, and all is as before the command or as after it; and as after it where it was answered. A plain table that was made may not be
   noted yet: the two files are not in step.
@@ -235,9 +236,9 @@ def prepare(program, room):
     return rooms, older
 
 
-def main(program):
+def main(program, text=""):
     with tempfile.TemporaryDirectory() as room, concurrent.futures.ThreadPoolExecutor(os.cpu_count()) as pool:
-        all_of_them = list(tries(*prepare(os.path.abspath(program), room)))
+        all_of_them = [it for it in tries(*prepare(os.path.abspath(program), room)) if text in it[0]]
         wrong = [(name, why) for (name, _), why in zip(all_of_them, pool.map(lambda it: it[1](), all_of_them)) if why]
     for name, why in wrong[:20]:
         print(f"{name}: {why}")
@@ -246,4 +247,4 @@ def main(program):
 
 
 if __name__ == "__main__":
-    main(sys.argv[1])
+    main(*sys.argv[1:])
