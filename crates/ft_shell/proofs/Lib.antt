@@ -8,6 +8,7 @@ pub mod RanLemmas
 pub mod RunLemmas
 pub mod PieceLemmas
 pub mod CallsLemmas
+pub mod Spelled
 pub mod PromiseLemmas
 pub mod TurnsLemmas
 pub mod TablesLemmas

@@ -24,11 +24,12 @@ use Rattle.ft_shell.specs.ImportTurns.{columns_in, kept, records_in}
 use Rattle.ft_shell.specs.FullTextTurns.{reply_told}
 use Rattle.ft_shell.specs.StatementTurns.{table_names}
 use Rattle.ft_shell.specs.Told.{Told, Deeds, Tells, idle, and_then, told_by, says, echoed, lacks_memory}
-use Rattle.ft_shell.specs.TurnCalls.{MayNote, MayRead, CallsOf, CallsOfClass, CallsOfDot, CallsOfImport, behind_stop}
+use Rattle.ft_shell.specs.DotTurns.{behind_stop}
+use Rattle.ft_shell.proofs.Spelled.{MayNote, MayRead, CallsOf, CallsOfClass, CallsOfDot, CallsOfImport}
 use Rattle.ft_shell.specs.Turns.{Turn, Turns}
 use Rattle.ft_shell.specs.Runs.{Completes, Console, IsFront, IsWhole, Stops}
 use Rattle.ft_shell.specs.Promise.{Ran, AllRan, none_ran, last_ran, first_ran, Reached, Lists, KeptByRuns, RanAndKept, parts_of}
-use Rattle.ft_shell.proofs.CallsLemmas.{runs_join, turns_made}
+use Rattle.ft_shell.proofs.CallsLemmas.{runs_join, turn_spelled, turns_made}
 use Rattle.ft_shell.proofs.TurnsLemmas.{assoc_then, idle_then, turns_one, turns_then}
 use Rattle.ft_shell.specs.Broken.{Broken, not_begun, not_echoed, not_told}
 use Rattle.ft_shell.specs.Sources.{Files}
@@ -201,14 +202,14 @@ module _ {P S : Type 0} (g : Ghosts P) (h : Ghosts S) where
           MatchBool stops ((new ≡ mid) × (all ≡ first)) ((later : Deeds) × Turns g h members mid new later × (all ≡ and_then first later)) → At (From old) all before command answer more new.known
       go next true ended (same, all_is) =
           let own : first.calls ≡ before ++ Executed command answer ∷ more = sym (ap (λ (d : Deeds). d.calls) all_is) ∙ is in
-          let alone = few_is first.calls before more command answer (few member old turn.body first.calls turn.spelled) own in
+          let alone = few_is first.calls before more command answer (few member old turn.body first.calls (turn_spelled g h member old mid first turn)) own in
           here (own ∙ ap (λ m. before ++ Executed command answer ∷ m) alone.1) alone.0 (subst (λ m. Runs h mid.known m new.known) (sym alone.1) (ap (λ (s : Shell P S). s.known) same)) idle
           (ap (λ (d : Deeds). d.out) all_is ∙ sym (append-nil first.out)) (ap (λ (d : Deeds). d.err) all_is ∙ sym (append-nil first.err))
       go next false goes (later, turns, all_is) = cut (split_at first.calls later.calls before more (Executed command answer) (sym (ap (λ (d : Deeds). d.calls) all_is) ∙ is))
         where
           cut : ((m : List Call) × (first.calls ≡ before ++ Executed command answer ∷ m) × (more ≡ m ++ later.calls)) ⊎ ((b : List Call) × (before ≡ first.calls ++ b) × (later.calls ≡ b ++ Executed command answer ∷ more)) → At (From old) all before command answer more new.known
           cut (inl (m, own, left)) =
-              let alone = few_is first.calls before m command answer (few member old turn.body first.calls turn.spelled) own in
+              let alone = few_is first.calls before m command answer (few member old turn.body first.calls (turn_spelled g h member old mid first turn)) own in
               here (own ∙ ap (λ k. before ++ Executed command answer ∷ k) alone.1) alone.0 (subst (λ k. Runs h mid.known k new.known) (sym (left ∙ ap (λ k. k ++ later.calls) alone.1)) (turns_made g h members mid new later turns)) later
               (ap (λ (d : Deeds). d.out) all_is) (ap (λ (d : Deeds). d.err) all_is)
           cut (inr (b, front, left)) =
@@ -379,8 +380,8 @@ module _ (table : List ℕ) (items : Items) (filter : Filter) (limit : Option �
   select_lists {P} {S} g h old new all before more it = go it.member it.turn
     where
       go : (member : Member) → Turn g h member it.was it.now it.own → Lists g h old all before more new reply
-      go (units.Fault line fault) turn = absurd (not_none (none_of selected (sym it.only ∙ turn.spelled)))
-      go (Dot line text) turn = absurd (select_dot line it.was turn.body (dot_command_of (dot_words_of (behind_stop text))) (subst (λ calls. CallsOfDot line it.was turn.body calls (dot_command_of (dot_words_of (behind_stop text)))) it.only turn.spelled))
+      go (units.Fault line fault) turn = absurd (not_none (none_of selected (sym it.only ∙ turn_spelled g h (units.Fault line fault) it.was it.now it.own turn)))
+      go (Dot line text) turn = absurd (select_dot line it.was turn.body (dot_command_of (dot_words_of (behind_stop text))) (subst (λ calls. CallsOfDot line it.was turn.body calls (dot_command_of (dot_words_of (behind_stop text)))) it.only (turn_spelled g h (Dot line text) it.was it.now it.own turn)))
       go (Sql line text) turn = record {
         line = line;
         text = text;
@@ -393,7 +394,7 @@ module _ (table : List ℕ) (items : Items) (filter : Filter) (limit : Option �
         calls = it.calls;
         turn = turn;
         ends = it.ends;
-        prints = told (select_sql line text it.was turn.body (subst (λ calls. CallsOf (Sql line text) it.was turn.body calls) it.only turn.spelled));
+        prints = told (select_sql line text it.was turn.body (subst (λ calls. CallsOf (Sql line text) it.was turn.body calls) it.only (turn_spelled g h (Sql line text) it.was it.now it.own turn)));
         out = it.out;
         err = it.err;
       }

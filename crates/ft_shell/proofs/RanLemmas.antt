@@ -5,18 +5,17 @@ use Rattle.std.specs.Io.KnownBytes.{Appends}
 use Rattle.sqlite.specs.Store.{Ghosts}
 use Rattle.shell_text.specs.declared.units.UnitKind.{UnitKind}
 use Rattle.shell_text.specs.declared.units.UnitKind.TheVariants as kinds
-use Rattle.shell_text.specs.Units.{Member, Sql, Dot}
+use Rattle.shell_text.specs.Units.{Member}
 use Rattle.shell_text.specs.Splitting.{member_as}
 use Rattle.ft_shell.specs.declared.session.RunFault.{RunFault}
 use Rattle.ft_shell.specs.declared.session.RunFault.TheVariants as causes
 use Rattle.ft_shell.specs.Shell.{Shell}
 use Rattle.ft_shell.specs.Told.{Told, Deeds, deeds_of, idle, and_then, echo_text, echoed}
-use Rattle.ft_shell.specs.Turns.{Body, Turn, echo_of}
+use Rattle.ft_shell.specs.Turns.{Body, Turn, calls_in, echo_of}
 use Rattle.ft_shell.specs.Broken.{Broken, not_begun, not_echoed, not_told}
 use Rattle.shell_text.specs.Print.{Look}
 use Rattle.ft_shell.specs.Writing.{AppendsUpTo, Sends}
 use Rattle.ft_shell.specs.Ran.{Moment, Did, Cut, Passes, Breaks, Runs}
-use Rattle.ft_shell.proofs.CallsLemmas.{body_calls}
 use Rattle.ft_shell.proofs.WriteLemmas.{appends_then, appends_same}
 use Rattle.ft_shell.proofs.TurnsLemmas.{assoc_then, turns_then, turns_one}
 
@@ -201,10 +200,6 @@ unit_echo look kinds.Sql line text = refl
 unit_echo look kinds.Dot line text = refl
 
 -- a unit's turn: its text is echoed before what it tells
-pub unit_turned : {P S : Type 0} (g : Ghosts P) (h : Ghosts S) (kind : UnitKind) (line : ℕ) (text : List ℕ) (old new : Shell P S) (body : Told) → (done : Body g h (member_as kind line text) old new body) → Turn g h (member_as kind line text) old new (deeds_of (echoed old.look text body) (body_calls g h (member_as kind line text) old new body done).0)
-unit_turned g h kinds.Sql line text old new body done =
-    let called = body_calls g h (Sql line text) old new body done in
-    record { body = body; done = done; tells = refl; spelled = called.1; made = called.2 }
-unit_turned g h kinds.Dot line text old new body done =
-    let called = body_calls g h (Dot line text) old new body done in
-    record { body = body; done = done; tells = refl; spelled = called.1; made = called.2 }
+pub unit_turned : {P S : Type 0} (g : Ghosts P) (h : Ghosts S) (kind : UnitKind) (line : ℕ) (text : List ℕ) (old new : Shell P S) (body : Told) → (done : Body g h (member_as kind line text) old new body) → Turn g h (member_as kind line text) old new (deeds_of (echoed old.look text body) (calls_in g h (member_as kind line text) old new body done))
+unit_turned g h kinds.Sql line text old new body done = record { body = body; done = done; tells = refl; calls = refl }
+unit_turned g h kinds.Dot line text old new body done = record { body = body; done = done; tells = refl; calls = refl }

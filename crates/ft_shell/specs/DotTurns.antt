@@ -1,5 +1,5 @@
 -- What a dot-command does in a session ("Special commands to sqlite3 (dot-commands)" of "Command Line Shell For SQLite").
-use Rattle.std.specs.Prelude.{ℕ, ◌≡◌, true, MatchBool, codes}
+use Rattle.std.specs.Prelude.{ℕ, ◌≡◌, ◌==◌, true, if◌then◌else◌, MatchBool, List, [], ◌∷◌, codes}
 use Rattle.sqlite.specs.Store.{Ghosts}
 use Rattle.shell_text.specs.Print.{Look}
 use Rattle.ft_shell.specs.Shell.{Shell}
@@ -9,6 +9,11 @@ use Rattle.ft_statements.specs.Settings.{look_after, may_set, print_text}
 use Rattle.ft_shell.specs.TablesTurns.{TablesTurn}
 use Rattle.ft_shell.specs.ImportTurns.{ImportTurn}
 use Rattle.ft_shell.specs.Told.{Told, silent, says, blames}
+
+-- what stands behind the full stop at its front
+abbrev pub behind_stop : List ℕ → List ℕ
+behind_stop [] = []
+behind_stop (b ∷ text) = if b == 0x2E then text else b ∷ text
 
 -- the session ends there
 abbrev pub quits : Told

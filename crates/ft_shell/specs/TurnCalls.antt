@@ -1,78 +1,116 @@
--- What the turn of a member calls of the full-text tables: the command that a full-text statement spells, or the one Insert of an import.
--- All of it is our own choice.
-use Rattle.std.specs.Prelude.{ℕ, ◌≡◌, ◌⊎◌, Bool, false, MatchBool, ◌==◌, if◌then◌else◌, List, [], ◌∷◌, map, Option, Some, None, Result}
-use Rattle.csv.specs.Reading.{AreRecords, strip_bom}
-use Rattle.csv.specs.declared.parser.State.TheVariants as csv
+-- The calls that a turn makes of the full-text tables, read off the turn: each command that it executes, with the answer that it has, and
+-- each note. All of it is our own choice.
+use Rattle.std.proofs.Common.{inl, inr}
+use Rattle.std.specs.Prelude.{ℕ, ◌≡◌, Bool, true, false, MatchBool, List, [], ◌∷◌, map, codes, Option, Some, None}
+use Rattle.sqlite.specs.Store.{Ghosts}
+use Rattle.sqlite.specs.Held.{Held}
 use Rattle.shell_text.specs.Print.{Look}
-use Rattle.shell_text.specs.Units.{Member, Sql, Dot, Fault}
-use Rattle.shell_text.specs.Dot.{dot_words_of}
-use Rattle.shell_text.specs.Records.{csv_reader}
 use Rattle.shell_text.specs.Words.{is_unclosed}
-use Rattle.ft_content.specs.declared.fault.Fault.{Fault as Cause}
-use Rattle.ft_content.specs.Command.{Command, Insert, Reply}
-use Rattle.ft_index.specs.Kept.{Call, Executed, Noted}
+use Rattle.ft_content.specs.Command.{Insert}
+use Rattle.ft_index.specs.Kept.{Known, Call, Executed, Noted}
 use Rattle.ft_statements.specs.Words.{tokens_of}
+use Rattle.ft_statements.specs.Plain.{asks, made_name}
 use Rattle.ft_statements.specs.Statements.{Class, Plain, FullText, class_of}
-use Rattle.ft_statements.specs.Dots.{DotCommand, Import, Importing, Tables, dot_command_of}
-use Rattle.ft_statements.specs.Plain.{made_name}
+use Rattle.ft_statements.specs.Dots.{DotCommand, Import, Nothing, SetMode, SetHeaders, SetSeparator, SetNull, SetEcho, SetBail, Print, Importing, Tables, Quit, Usage, Unknown}
 use Rattle.ft_shell.specs.Shell.{Shell}
-use Rattle.ft_shell.specs.Sources.{Files, Gives}
-use Rattle.ft_shell.specs.Imports.{delimiter_of, fitted, warnings}
-use Rattle.ft_shell.specs.FullTextTurns.{reply_told}
-use Rattle.ft_shell.specs.StatementTurns.{table_names}
-use Rattle.ft_shell.specs.ImportTurns.{columns_in, insert_told, kept, records_in}
-use Rattle.ft_shell.specs.Told.{Told, blames, Tells}
+use Rattle.ft_shell.specs.Sources.{Files}
+use Rattle.ft_shell.specs.Imports.{delimiter_of, fitted}
+use Rattle.ft_shell.specs.FullTextTurns.{MaybeNotes}
+use Rattle.ft_shell.specs.PlainStatements.{CommandTurn, QueryTurn, done, refused}
+use Rattle.ft_shell.specs.StatementTurns.{ClassTurn, Declines, StatementTurn, table_names}
+use Rattle.ft_shell.specs.DotTurns.{DotTurn}
+use Rattle.ft_shell.specs.ImportTurns as imports
+use Rattle.ft_shell.specs.ImportTurns.{BytesTurn, DelimitedTurn, FileTurn, IntoNamed, IntoNew, PlainImport, TextImport, columns_in, kept, records_in}
+use Rattle.ft_shell.specs.Told.{Told}
 
--- nothing is called, or the table that is made, if one may be, is noted once
-abbrev pub MayNote : Option (List ℕ) → List Call → Type 0
-MayNote None calls = calls ≡ []
-MayNote (Some name) calls = (calls ≡ []) ⊎ ((is_done : Bool) × (calls ≡ Noted name is_done ∷ []))
+module _ {S : Type 0} (h : Ghosts S) (look : Look) (line : ℕ) where
+  -- the name of a plain table that was made is noted
+  abbrev pub note_in : (name : Option (List ℕ)) (before after : Known S) (told : Told) → MaybeNotes h look line name before after told → List Call
+  note_in None before after told it = []
+  note_in (Some name) before after told it = Noted name it.is_noted ∷ []
 
--- nothing is called, or the noted names are read, which leaves what a note leaves that is refused
-abbrev pub MayRead : List Call → Type 0
-MayRead calls = (calls ≡ []) ⊎ (calls ≡ Noted [] false ∷ [])
+  -- all records go into a full-text table by one Insert
+  abbrev pub text_in : (what : Import) (n : ℕ) (rows : List (ℕ × List (List ℕ))) (before after : Known S) (told : Told) → TextImport h look line what n rows before after told → List Call
+  text_in what n rows before after told (imports.executed it) = Executed (Insert what.table None (map (fitted n) (records_in rows))) it.answer ∷ []
+  text_in what n rows before after told (imports.no_memory same is) = []
 
--- the records that `csv` reads in the bytes of the file that an import names
-pub record HasRecords (look : Look) (holds : Files) (what : Import) (found : List (List (List ℕ))) : Type 0 where
-  pub delimiter : ℕ
-  pub parts : delimiter_of what.csv look ≡ Some delimiter
-  pub bytes : List ℕ
-  pub gives : Gives holds what.file bytes
-  pub are : AreRecords (csv_reader delimiter) csv.StartRecord (strip_bom bytes) found
+module _ {P S : Type 0} (g : Ghosts P) (h : Ghosts S) (look : Look) (line : ℕ) where
+  -- ---- statements
 
-module _ (look : Look) (line : ℕ) (told : Told) (calls : List Call) where
-  -- the command is executed once, and this is told of its answer; or nothing is called, and a fault line says why
-  abbrev pub OneCommand : Command → (Result Reply Cause → Told) → Type 0
-  OneCommand command due = (answer : Result Reply Cause) × (calls ≡ Executed command answer ∷ []) × Tells look line (due answer) told
+  module _ (text : List ℕ) (old new : Held P) (before after : Known S) (told : Told) where
+    abbrev pub command_in : (name : Option (List ℕ)) → CommandTurn g h look line text name old new before after told → List Call
+    command_in name (done count is notes) = note_in h look line name before after told notes
+    command_in name (refused e is same tells) = []
 
-  abbrev pub NoCall : Type 0
-  NoCall = (calls ≡ []) × (why : List ℕ) × (told ≡ blames look line why)
+    abbrev pub plain_in : (is_query : Bool) → MatchBool is_query (QueryTurn g look line text old new told × (after ≡ before)) (CommandTurn g h look line text (made_name (tokens_of text)) old new before after told) → List Call
+    plain_in true it = []
+    plain_in false it = command_in (made_name (tokens_of text)) it
 
-  -- a full-text statement's command is executed, and the name of the table that a plain one makes is noted
-  abbrev pub CallsOfClass : Option (List ℕ) → Option Class → Type 0
-  CallsOfClass made None = calls ≡ []
-  CallsOfClass made (Some Plain) = MayNote made calls
-  CallsOfClass made (Some (FullText command)) = OneCommand command (reply_told look line) ⊎ NoCall
+    -- a full-text statement executes its command
+    abbrev pub class_in : (class : Option Class) → ClassTurn g h look line text old new before after told class → List Call
+    class_in None it = []
+    class_in (Some Plain) it = plain_in (asks (tokens_of text)) it
+    class_in (Some (FullText command)) it = Executed command it.1.answer ∷ []
 
-  -- the records go into a full-text table by one Insert; a plain table that is made for them is noted
-  abbrev pub CallsOfImport : Files → Import → Option ℕ → Type 0
-  CallsOfImport holds what None = MayNote (Some what.table) calls
-  CallsOfImport holds what (Some n) =
-      ((found : List (List (List ℕ))) × HasRecords look holds what found
-      × OneCommand (Insert what.table None (map (fitted n) (records_in (kept what.skip found)))) (insert_told look line (warnings what.file n (kept what.skip found)))) ⊎ NoCall
+    abbrev pub closed_in : (is_open : Bool) → MatchBool is_open (Declines g h look line text old new before after told (codes "incomplete input")) (ClassTurn g h look line text old new before after told (class_of (table_names before) (tokens_of text))) → List Call
+    closed_in true it = []
+    closed_in false it = class_in (class_of (table_names before) (tokens_of text)) it
 
--- what stands behind the full stop at its front
-abbrev pub behind_stop : List ℕ → List ℕ
-behind_stop [] = []
-behind_stop (b ∷ text) = if b == 0x2E then text else b ∷ text
+    abbrev pub statement_in : StatementTurn g h look line text old new before after told → List Call
+    statement_in (inl it) = closed_in (is_unclosed text) it
+    statement_in (inr nothing) = []
 
--- what a member calls, over the tables and the files that are there, where this is told of it
-abbrev pub CallsOfDot : {P S : Type 0} → ℕ → Shell P S → Told → List Call → DotCommand → Type 0
-CallsOfDot line old told calls (Importing what) = CallsOfImport old.look line told calls old.holds what (columns_in old.known.tables what.table)
-CallsOfDot line old told calls Tables = MayRead calls
-CallsOfDot line old told calls _ = calls ≡ []
+  -- ---- imports
 
-abbrev pub CallsOf : {P S : Type 0} → Member → Shell P S → Told → List Call → Type 0
-CallsOf (Fault line fault) old told calls = calls ≡ []
-CallsOf (Sql line text) old told calls = MatchBool (is_unclosed text) (calls ≡ []) (CallsOfClass old.look line told calls (made_name (tokens_of text)) (class_of (table_names old.known) (tokens_of text)))
-CallsOf (Dot line text) old told calls = CallsOfDot line old told calls (dot_command_of (dot_words_of (behind_stop text)))
+  module _ (what : Import) (rows : List (ℕ × List (List ℕ))) (old new : Held P) (before after : Known S) (told : Told) where
+    -- a table that is made for them is noted
+    abbrev pub new_in : IntoNew g look line what rows h old new before after told → List Call
+    new_in (imports.no_header none same is_same is) = []
+    new_in (imports.too_wide first rest are wide same is_same is) = []
+    new_in (imports.made first rest are narrow commits notes) = Noted what.table notes.1.is_noted ∷ []
+    new_in (imports.declined first rest are narrow why is_same is) = []
+    new_in (imports.no_memory is_same is) = []
+
+  module _ (what : Import) (rows : List (ℕ × List (List ℕ))) (old new : Held P) (before after : Known S) (told : Told) where
+    abbrev pub table_in : PlainImport g look line what rows h old new before after told → List Call
+    table_in (imports.there found tries same it) = []
+    table_in (imports.new_table found tries it) = new_in what rows found new before after told it
+    table_in (imports.untried tries same is) = []
+
+  module _ (what : Import) (old new : Held P) (before after : Known S) (told : Told) where
+    abbrev pub named_in : (rows : List (ℕ × List (List ℕ))) (n : Option ℕ) → IntoNamed g h look line what old new before after told rows n → List Call
+    named_in rows (Some n) it = text_in h look line what n rows before after told it.1
+    named_in rows None it = table_in what rows old new before after told it
+
+    abbrev pub bytes_in : (delimiter : ℕ) (bytes : List ℕ) → BytesTurn g h look line what old new before after told delimiter bytes → List Call
+    bytes_in delimiter bytes (imports.read found are (inl it)) = named_in (kept what.skip found) (columns_in before.tables what.table) it
+    bytes_in delimiter bytes (imports.read found are (inr nothing)) = []
+    bytes_in delimiter bytes (imports.no_text is nothing) = []
+    bytes_in delimiter bytes (imports.no_memory nothing) = []
+
+    abbrev pub file_in : (holds : Files) (delimiter : ℕ) → FileTurn g h look line what old new before after told holds delimiter → List Call
+    file_in holds delimiter (imports.fetched bytes gives it) = bytes_in delimiter bytes it
+    file_in holds delimiter (imports.unfetched fault allowed nothing) = []
+
+    abbrev pub delimited_in : (holds : Files) (delimiter : Option ℕ) → DelimitedTurn g h look line what old new before after told holds delimiter → List Call
+    delimited_in holds None nothing = []
+    delimited_in holds (Some delimiter) it = file_in holds delimiter it
+
+-- ---- dot-commands
+
+module _ {P S : Type 0} (g : Ghosts P) (h : Ghosts S) (line : ℕ) (old new : Shell P S) (told : Told) where
+  -- `.tables` reads the noted names, which leaves what a note leaves that is refused
+  abbrev pub dot_in : (command : DotCommand) → DotTurn g h line old new told command → List Call
+  dot_in (Importing what) it = delimited_in g h old.look line what old.plain new.plain old.known new.known told old.holds (delimiter_of what.csv old.look) it.1
+  dot_in Tables it = Noted [] false ∷ []
+  dot_in Nothing it = []
+  dot_in (SetMode mode) it = []
+  dot_in (SetHeaders shown) it = []
+  dot_in (SetSeparator text) it = []
+  dot_in (SetNull text) it = []
+  dot_in (SetEcho on) it = []
+  dot_in (SetBail on) it = []
+  dot_in (Print words) it = []
+  dot_in Quit it = []
+  dot_in (Usage text) it = []
+  dot_in Unknown it = []

@@ -1,5 +1,6 @@
 -- A session: the turns of an input's members, one after the other, each from what the turn before it left. What a unit is told as is
 -- that of its kind; echo and bail are of the section "Special commands to sqlite3 (dot-commands)" of "Command Line Shell For SQLite".
+use Rattle.std.proofs.Common.{inl, inr}
 use Rattle.std.specs.Prelude.{ℕ, ◌≡◌, ◌⊎◌, MatchBool, List, [], ◌∷◌, ◌++◌, take, drop}
 use Rattle.sqlite.specs.Store.{Ghosts}
 use Rattle.shell_text.specs.Units.{Member, Sql, Dot, Fault, members_of}
@@ -7,10 +8,10 @@ use Rattle.shell_text.specs.Dot.{dot_words_of}
 use Rattle.ft_shell.specs.Shell.{Shell}
 use Rattle.ft_statements.specs.Texts.{split_text}
 use Rattle.ft_statements.specs.Dots.{DotCommand, dot_command_of}
-use Rattle.ft_shell.specs.DotTurns.{DotTurn}
+use Rattle.ft_shell.specs.DotTurns.{DotTurn, behind_stop}
 use Rattle.ft_shell.specs.StatementTurns.{StatementTurn}
-use Rattle.ft_index.specs.Kept.{Runs}
-use Rattle.ft_shell.specs.TurnCalls.{CallsOf, behind_stop}
+use Rattle.ft_index.specs.Kept.{Call}
+use Rattle.ft_shell.specs.TurnCalls.{dot_in, statement_in}
 use Rattle.ft_shell.specs.Told.{Told, Deeds, told_by, idle, and_then, blames, echo_text, echoed, lacks_memory}
 use Rattle.shell_text.specs.Print.{Look}
 
@@ -31,6 +32,13 @@ module _ {P S : Type 0} (g : Ghosts P) (h : Ghosts S) where
   Body (Sql line text) old new told = (new.look ≡ old.look) × (new.holds ≡ old.holds) × StatementTurn g h old.look line text old.plain new.plain old.known new.known told
   Body (Dot line text) old new told = DotOrLacks line old new told (dot_command_of (dot_words_of (behind_stop text)))
 
+  -- the calls that this makes of the full-text tables
+  abbrev pub calls_in : (member : Member) (old new : Shell P S) (told : Told) → Body member old new told → List Call
+  calls_in (Fault line fault) old new told it = []
+  calls_in (Sql line text) old new told it = statement_in g h old.look line text old.plain new.plain old.known new.known told it.2
+  calls_in (Dot line text) old new told (inl it) = dot_in g h line old new told (dot_command_of (dot_words_of (behind_stop text))) it
+  calls_in (Dot line text) old new told (inr nothing) = []
+
   -- the text of a unit is echoed where echo is on
   abbrev pub Echoed : Member → Shell P S → Told → Told → Type 0
   Echoed (Fault line fault) old body told = told ≡ body
@@ -42,8 +50,7 @@ module _ {P S : Type 0} (g : Ghosts P) (h : Ghosts S) where
     pub body : Told
     pub done : Body member old new body
     pub tells : Echoed member old body (told_by all)
-    pub spelled : CallsOf member old body all.calls
-    pub made : Runs h old.known all.calls new.known
+    pub calls : all.calls ≡ calls_in member old new body done
 
   -- the turns of members, one after the other, up to one that ends the session
   abbrev pub Turns : List Member → Shell P S → Shell P S → Deeds → Type 0

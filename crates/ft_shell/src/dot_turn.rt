@@ -7,9 +7,8 @@ ghost use Rattle.ft_statements.specs.Texts as texts;
 ghost use Rattle.ft_statements.specs.Settings as settings_forms;
 ghost use Rattle.ft_statements.specs.DotViews.{command_as};
 ghost use Rattle.ft_statements.specs.Dots.{dot_command_of};
-ghost use Rattle.ft_shell.specs.DotTurns.{Sets};
+ghost use Rattle.ft_shell.specs.DotTurns.{Sets, behind_stop};
 ghost use Rattle.ft_shell.specs.Turns.{DotOrLacks};
-ghost use Rattle.ft_shell.specs.TurnCalls.{behind_stop};
 
 use crate::import::import_turn;
 use crate::listing::tables_turn;

@@ -20,5 +20,5 @@ returns g c = λ holds.
     let e = g.E.Write.contents c.args.err.now in
     subst (λ s. Runs g.P.Store g.S.Store c.tell.result (λ (rest : List Member). Fault c.args.refusal.now.line c.args.refusal.now.fault ∷ rest) (λ rest. rest) (record { shell = lent s holds; status = c.args.status.now; out = a; err = e }) (record { shell = lent s holds; status = c.tell.new.status; out = g.O.Write.contents c.tell.new.out; err = g.E.Write.contents c.tell.new.err })) c.self.view_is
     (runs_turn g.P.Store g.S.Store c.tell.result (Fault c.args.refusal.now.line c.args.refusal.now.fault) (record { shell = old; status = c.args.status.now; out = a; err = e }) (record { shell = old; status = c.tell.new.status; out = g.O.Write.contents c.tell.new.out; err = g.E.Write.contents c.tell.new.err }) (deeds_of told []) a told.out
-    (record { body = told; done = (refl, due); tells = refl; spelled = refl; made = refl })
+    (record { body = told; done = (refl, due); tells = refl; calls = refl })
     refl (appends_same a) c.tell.ensures.out c.tell.ensures.err c.tell.ensures.fault c.tell.ensures.faults c.tell.ensures.quit)

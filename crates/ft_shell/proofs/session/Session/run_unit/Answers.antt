@@ -6,11 +6,10 @@ use Rattle.shell_text.specs.Units.{Member}
 use Rattle.shell_text.specs.Splitting.{member_of_unit}
 use Rattle.ft_shell.specs.Shell.{Shell, lent}
 use Rattle.ft_shell.specs.Told.{deeds_of, echo_text, echoed}
-use Rattle.ft_shell.specs.Turns.{echo_of}
+use Rattle.ft_shell.specs.Turns.{calls_in, echo_of}
 use Rattle.ft_shell.specs.ToldViews.{told_as}
 use Rattle.ft_shell.specs.Writing.{AppendsUpTo}
 use Rattle.ft_shell.specs.Ran.{Runs}
-use Rattle.ft_shell.proofs.CallsLemmas.{body_calls}
 use Rattle.ft_shell.proofs.RanLemmas.{breaks_echo, runs_err, runs_turn, unit_echo, unit_turned}
 use Rattle.ft_shell.proofs.session.Session.run_unit.Goals as goal
 
@@ -43,7 +42,7 @@ returns-clause-runs g c =
     let old : Shell g.row.P.Denot g.row.S.Denot = record { look = c.self.inside.settings; plain = c.self.inside.plain; known = c.self.inside.fulltext; holds = held } in
     let new : Shell g.row.P.Denot g.row.S.Denot = record { look = c.unit_turn-told.new.settings; plain = c.unit_turn-told.new.plain; known = c.unit_turn-told.new.fulltext; holds = g.F.Source.holds c.unit_turn-told.new.source } in
     let body = told_as c.unit_turn-told.result in
-    let calls = (body_calls g.P.Store g.S.Store (member_of_unit c.args.unit.now) old new body c.unit_turn-told.ensures.body).0 in
+    let calls = calls_in g.P.Store g.S.Store (member_of_unit c.args.unit.now) old new body c.unit_turn-told.ensures.body in
     let spoken : Appends a b (if c.echo.result then text ++ 10 ∷ [] else []) = subst (λ t. Appends a b (if c.echo.result then t ++ 10 ∷ [] else [])) c.as_str.ensures.value c.in_ok-echo_text.ensures.out in
     let spells = unit_echo old.look c.args.unit.now.kind c.args.unit.now.line text in
     let first : Appends a b (echo_text old.look text) = subst (λ on. Appends a b (if on then text ++ 10 ∷ [] else [])) c.echo.ensures spoken in
