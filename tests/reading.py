@@ -3,7 +3,8 @@
 The promise is the clauses of some functions; the modules of definitions that it reaches are those that these clauses name, and those that
 these import. Each of them has to stand in a row of the page, and each row `| name | file:line | .. |` has to name the line on which its file
 defines the name. A row may name a contract too, with its edit, which has to be there. The page says how many modules and lines there are.
-What is missing is said in one line each; with --mend the numbers of lines and modules are put right instead.
+In the table of rules of docs/ARCHITECTURE.md a file that is named has to be there, with the names that stand behind it, and so have edits and
+tests. What is missing is said in one line each; with --mend the numbers of lines and modules are put right instead.
 """
 import os
 import re
@@ -11,6 +12,7 @@ import sys
 
 ROOT = os.path.dirname(os.path.dirname(os.path.abspath(__file__)))
 PAGE = "docs/READING.md"
+RULES = ("docs/ARCHITECTURE.md", "## Where a rule stands")
 # Where the promise stands: a heading's word in the page, a file, and the functions in it whose clauses say it.
 PROMISES = [
     ("commands", "crates/ft_index/src/full_text.rt", ["kept_by_calls"]),
@@ -106,6 +108,39 @@ def counts():
     return told
 
 
+def rule_complaints(cell):
+    """What isn't there of a cell of the table of rules: files, the names behind each, edits and tests."""
+    folder, source = "", ""
+    for span in re.findall(r"`([^`]+)`", cell):
+        if span.endswith((".antt", ".rt")):
+            path = f"crates/{span}" if "/" in span else f"{folder}/{span}"
+            folder, source = os.path.dirname(path), ""
+            if not os.path.isfile(os.path.join(ROOT, path)):
+                yield f"names {path}, which isn't there"
+                continue
+            source = "\n".join(lines_of(path))
+        elif span.endswith(".edit"):
+            crate = re.search(rf"`{re.escape(span)}`[^|;]*? of `(\w+)`", cell)
+            if not crate or is_gone(f"{crate[1]}/must-fail/{span}"):
+                yield f"names {span}, which isn't there"
+        elif span.startswith("tests/"):
+            folder_of_it, name = os.path.split(span)
+            if not any(file.split(".")[0] == name for file in os.listdir(os.path.join(ROOT, folder_of_it))):
+                yield f"names {span}, which isn't there"
+        elif source and not re.search(rf"(?<!\w){re.escape(span)}(?!\w)", source):
+            yield f"names {span}, which {path} doesn't have"
+
+
+def rules_complaints():
+    """What is wrong with the table of rules."""
+    page, heading = RULES
+    lines = lines_of(page)
+    if heading not in lines:
+        return [f"{page} has no table of rules"]
+    table = [line for line in lines[lines.index(heading) :] if line.startswith("| ")]
+    return [f"{page} {complaint}" for line in table for cell in line.split("|") for complaint in rule_complaints(cell)]
+
+
 def looked_at(text, told):
     """The page with its numbers put right, what was wrong with them, and what can't be put right."""
     wrong, missing, right = [], [], []
@@ -139,11 +174,12 @@ def main(mends):
         with open(os.path.join(ROOT, PAGE), "w", encoding="utf-8") as page:
             page.write("\n".join(right))
         wrong = []
-    for complaint in wrong + missing:
-        print(f"{PAGE} {complaint}")
+    complaints = [f"{PAGE} {complaint}" for complaint in wrong + missing] + rules_complaints()
+    for complaint in complaints:
+        print(complaint)
     rows = sum(1 for line in text if ROW.match(line))
-    print(f"{PAGE}: {rows} rows, {len(modules)} modules of the promise, {len(wrong + missing)} complaints")
-    return 1 if wrong + missing else 0
+    print(f"{PAGE}: {rows} rows, {len(modules)} modules of the promise, {len(complaints)} complaints")
+    return 1 if complaints else 0
 
 
 if __name__ == "__main__":
