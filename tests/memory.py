@@ -51,7 +51,7 @@ UNNOTED = {
     "session": {10: ("made   mail   plain\n", "made  mail\n"), 14: ("made   mail   plain\n", "mail   plain\n")},
     "import": {2: ("mail  p\n", "mail\n")},
 }
-REFUSED = re.compile(r"Error: near line (\d+): (out of memory|disk I/O error|full-text store refused)\n")
+REFUSED = re.compile(r"Error: near line (\d+): (out of memory|disk I/O error|full-text store refused|import refused)\n")
 EARLY = ("Error: out of memory\n", "Error: unable to open database\n", "Error: unable to open full-text store\n", "ft4sh: out of memory\n")
 
 Ran = collections.namedtuple("Ran", "out err status")
