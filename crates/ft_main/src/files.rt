@@ -15,23 +15,18 @@ use ft_store::{Store, StoreFault, open_database};
 use ram_disk::{Ram, open_ram};
 use sqlite::{Connection, File, FileStore, Unknown};
 use std::alloc::{AllocError, Global};
-use thiserror::Error;
 
-/// Why a database is not opened. What it displays is the program's own line.
-#[derive(Clone, Copy, Debug, PartialEq, Eq, Error)]
+/// Why a database is not opened.
+#[derive(Clone, Copy, Debug, PartialEq, Eq)]
 pub(crate) enum OpenFault {
-    #[error("Error: unable to open database")]
     Database,
-    #[error("Error: not a full-text store")]
     NotAStore,
-    #[error("Error: full-text store of version {0}")]
     Version(i64),
-    #[error("Error: unable to open full-text store")]
     Store,
 }
 
-/// What is told of a store that is not opened.
-pub(crate) fn store_fault(cause: StoreFault) -> OpenFault
+// What is told of a store that is not opened.
+fn store_fault(cause: StoreFault) -> OpenFault
     ensures { result ≡ forms.fault_of cause }
 {
     match cause {
@@ -48,11 +43,8 @@ fn store_path(alloc: Global, path: &str) -> Result<String, AllocError>
     format!(in alloc; "{path}-fts4")
 }
 
-/// The plain tables in a file, which is made where it isn't there.
-pub(crate) fn open_plain(
-    rt: &HostRuntime,
-    path: &str,
-) -> Result<Connection<FileStore<File>>, OpenFault>
+// The plain tables in a file, which is made where it isn't there.
+fn open_plain(rt: &HostRuntime, path: &str) -> Result<Connection<FileStore<File>>, OpenFault>
     ensures opened { IfOk result (λ conn. HasCleanDisk (file_state conn) → IsOpened conn) }
     ensures fresh { IfOk result IsNew }
     ensures refused { IfErr result (λ f. f ≡ fault.Database) }
@@ -63,9 +55,9 @@ pub(crate) fn open_plain(
     }
 }
 
-/// The full-text store in the file beside that of the plain tables, which is made where it isn't there, with the access that
-/// the other has.
-pub(crate) fn open_store(rt: &HostRuntime, path: &str) -> Result<Store<FileStore<File>>, OpenFault>
+// The full-text store in the file beside that of the plain tables, which is made where it isn't there, with the access that
+// the other has.
+fn open_store(rt: &HostRuntime, path: &str) -> Result<Store<FileStore<File>>, OpenFault>
     ensures unread { IfOk result (λ store. store.rows_read ≡ 0) }
     ensures refused { IfErr result (λ f. (cause : StoreFault) × (f ≡ forms.fault_of cause)) }
 {
@@ -81,8 +73,8 @@ pub(crate) fn open_store(rt: &HostRuntime, path: &str) -> Result<Store<FileStore
     }
 }
 
-/// No plain tables, in memory. The statements know the time.
-pub(crate) fn plain_in_memory(rt: &HostRuntime) -> Result<Connection<FileStore<Ram>>, OpenFault>
+// No plain tables, in memory. The statements know the time.
+fn plain_in_memory(rt: &HostRuntime) -> Result<Connection<FileStore<Ram>>, OpenFault>
     ensures empty { IfOk result (λ conn. IsEmpty (file_state conn)) }
     ensures clean { IfOk result (λ conn. HasCleanDisk (file_state conn)) }
     ensures fresh { IfOk result IsNew }
@@ -97,8 +89,8 @@ pub(crate) fn plain_in_memory(rt: &HostRuntime) -> Result<Connection<FileStore<R
     }
 }
 
-/// An empty full-text store in memory.
-pub(crate) fn store_in_memory(alloc: Global) -> Result<Store<FileStore<Ram>>, OpenFault>
+// An empty full-text store in memory.
+fn store_in_memory(alloc: Global) -> Result<Store<FileStore<Ram>>, OpenFault>
     ensures empty { IfOk result (λ store. value_in over_files store ≡ nothing_held) }
     ensures clean { IfOk result (λ store. HasCleanDisk (shows over_files store)) }
     ensures unread { IfOk result (λ store. store.rows_read ≡ 0) }
@@ -108,4 +100,30 @@ pub(crate) fn store_in_memory(alloc: Global) -> Result<Store<FileStore<Ram>>, Op
         Ok(store) => Ok(store),
         Err(_) => Err(OpenFault::Store),
     }
+}
+
+/// Both databases in files: that of the plain tables at the path, and the full-text store beside it.
+pub(crate) fn open_files(
+    rt: &HostRuntime,
+    path: &str,
+) -> Result<(Connection<FileStore<File>>, Store<FileStore<File>>), OpenFault>
+    ensures opened { IfOk result (λ both. HasCleanDisk (file_state both.0) → IsOpened both.0) }
+    ensures unread { IfOk result (λ both. both.1.rows_read ≡ 0) }
+{
+    let plain = open_plain(rt, path)?;
+    let store = open_store(rt, path)?;
+    Ok((plain, store))
+}
+
+/// Two empty databases in memory.
+pub(crate) fn open_in_memory(
+    rt: &HostRuntime,
+) -> Result<(Connection<FileStore<Ram>>, Store<FileStore<Ram>>), OpenFault>
+    ensures plain { IfOk result (λ both. IsEmpty (file_state both.0)) }
+    ensures store { IfOk result (λ both. value_in over_files both.1 ≡ nothing_held) }
+    ensures clean { IfOk result (λ both. HasCleanDisk (file_state both.0) × HasCleanDisk (shows over_files both.1)) }
+{
+    let plain = plain_in_memory(rt)?;
+    let store = store_in_memory(rt.alloc())?;
+    Ok((plain, store))
 }

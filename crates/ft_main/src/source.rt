@@ -1,10 +1,13 @@
 //! The files of the system, as an import reads them.
 
-ghost use Rattle.std.specs.Prelude.{None, true};
+ghost use Rattle.ft_main.specs.Reading.{unknown_files, AreAll, IsRefused};
+ghost use Rattle.ft_main.specs.Reading as forms;
+ghost use Rattle.std.specs.Prelude.{◌≡◌, IfOk, IfErr};
+ghost use Rattle.std.specs.IoError.{error_kind};
 
 use ft_shell::{Source, SourceFault};
 use std::alloc::Global;
-use std::fs::{self, File};
+use std::fs;
 use std::io::{self, ErrorKind, Read};
 
 // The most bytes of a file that is imported: 64 MiB.
@@ -17,7 +20,9 @@ pub(crate) struct SystemFiles<'a> {
 }
 
 // Why a file that isn't opened or read is not there.
-fn fault_of(error: io::Error) -> SourceFault {
+fn fault_of(error: io::Error) -> SourceFault
+    ensures { result ≡ forms.fault_of (error_kind error) }
+{
     match error.kind() {
         ErrorKind::NotFound => SourceFault::Missing,
         ErrorKind::OutOfMemory => SourceFault::Memory,
@@ -25,21 +30,21 @@ fn fault_of(error: io::Error) -> SourceFault {
     }
 }
 
-// The bytes of a file, to its end.
-fn read_all(alloc: Global, file: File) -> Result<Vec<u8>, SourceFault> {
+// The bytes of a reader, to its end. At most 64 MiB and one byte are read.
+fn read_all<R: Read + Drop>(alloc: Global, reader: R) -> Result<Vec<u8>, SourceFault>
+    ensures whole { IfOk result (λ bytes. AreAll (R.remaining reader) bytes.items) }
+    ensures refused { IfErr result (IsRefused (R.remaining reader)) }
+{
     let mut bytes = Vec::new(alloc);
-    let count = file
-        .take(MOST_BYTES + 1)
-        .read_to_end(&mut bytes)
-        .map_err(|e| fault_of(e))?;
-    if count as u64 > MOST_BYTES {
-        return Err(SourceFault::TooBig);
+    match reader.take(MOST_BYTES + 1).read_to_end(&mut bytes) {
+        Ok(count) if count as u64 > MOST_BYTES => Err(SourceFault::TooBig),
+        Ok(_) => Ok(bytes),
+        Err(error) => Err(fault_of(error)),
     }
-    Ok(bytes)
 }
 
 impl Source for SystemFiles<'_> {
-    ghost holds = { λ files name. record { bytes = None; may_refuse = λ fault. true } };
+    ghost holds = { λ files. unknown_files };
 
     fn fetch(&mut self, alloc: Global, name: &str) -> Result<Vec<u8>, SourceFault> {
         let file = fs::open(self.rt, name).map_err(|e| fault_of(e))?;

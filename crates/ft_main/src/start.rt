@@ -1,12 +1,18 @@
 //! The program: its words, its databases, its inputs and its status.
 
-use crate::files::{OpenFault, open_plain, open_store, plain_in_memory, store_in_memory};
+ghost use Rattle.std.specs.Prelude.{◌≡◌, map, Some, IfSome, string_bytes};
+ghost use Rattle.sqlite.specs.Files.{over_files};
+ghost use Rattle.ft_shell.specs.Writing.{AppendsUpTo};
+ghost use Rattle.ft_main.specs.Inputs.{due, RunsInTurn, RunsAndKeeps, Closes, OpensAndRuns, RunsOn, opening_line};
+ghost use Rattle.ft_main.specs.Inputs as forms;
+
+use crate::files::{OpenFault, open_files, open_in_memory};
 use crate::source::SystemFiles;
 use ft_index::FullText;
 use ft_line::{Line, LineFault, read_line};
 use ft_shell::{RunFault, Session, Status};
 use ft_store::Store;
-use shell_text::Settings;
+use shell_text::{Settings, write_out};
 use sqlite::{Alter, Connection, FileStore};
 use sqlite_disk::Disk;
 use std::alloc::Global;
@@ -67,10 +73,18 @@ fn run_line<R: Read, O: Write, E: Write>(
         inputs,
     } = line;
     match file {
-        None => in_memory(rt, settings, inputs.as_slice(), input, out, err),
-        Some(path) => on_files(
+        None => on_databases(
             rt,
-            path.as_str(),
+            open_in_memory(rt),
+            settings,
+            inputs.as_slice(),
+            input,
+            out,
+            err,
+        ),
+        Some(path) => on_databases(
+            rt,
+            open_files(rt, path.as_str()),
             settings,
             inputs.as_slice(),
             input,
@@ -80,41 +94,21 @@ fn run_line<R: Read, O: Write, E: Write>(
     }
 }
 
-// Runs over two empty databases in memory.
-fn in_memory<R: Read, O: Write, E: Write>(
+// Runs the inputs over two databases, if they are opened.
+fn on_databases<D: Disk + Drop, R: Read, O: Write, E: Write>(
     rt: &HostRuntime,
+    opened: Result<(Connection<FileStore<D>>, Store<FileStore<D>>), OpenFault>,
     settings: Settings,
     inputs: &[String],
     input: &mut R,
     out: &mut O,
     err: &mut E,
-) -> u8 {
-    let plain = match plain_in_memory(rt) {
-        Ok(plain) => plain,
-        Err(fault) => return tell(err, fault),
-    };
-    match store_in_memory(rt.alloc()) {
-        Ok(store) => over(rt, plain, store, settings, inputs, input, out, err),
-        Err(fault) => tell(err, fault),
-    }
-}
-
-// Runs over a file of plain tables, and the one beside it of full-text tables.
-fn on_files<R: Read, O: Write, E: Write>(
-    rt: &HostRuntime,
-    path: &str,
-    settings: Settings,
-    inputs: &[String],
-    input: &mut R,
-    out: &mut O,
-    err: &mut E,
-) -> u8 {
-    let plain = match open_plain(rt, path) {
-        Ok(plain) => plain,
-        Err(fault) => return tell(err, fault),
-    };
-    match open_store(rt, path) {
-        Ok(store) => over(rt, plain, store, settings, inputs, input, out, err),
+) -> u8
+    ensures { RunsOn over_files over_files settings opened (due (map string_bytes inputs.now) (R.remaining input.old))
+        (record { out = O.contents out.old; err = E.contents err.old }) (record { out = O.contents out.new; err = E.contents err.new }) result }
+{
+    match opened {
+        Ok((plain, store)) => over(rt, plain, store, settings, inputs, input, out, err),
         Err(fault) => tell(err, fault),
     }
 }
@@ -129,13 +123,16 @@ fn over<D: Disk + Drop, R: Read, O: Write, E: Write>(
     input: &mut R,
     out: &mut O,
     err: &mut E,
-) -> u8 {
+) -> u8
+    ensures { OpensAndRuns over_files over_files settings plain store (due (map string_bytes inputs.now) (R.remaining input.old))
+        (record { out = O.contents out.old; err = E.contents err.old }) (record { out = O.contents out.new; err = E.contents err.new }) result }
+{
     let Ok(fulltext) = FullText::new(rt.alloc(), store) else {
         return tell(err, OpenFault::Store);
     };
     let mut session = session_over(rt.alloc(), plain, fulltext, settings);
     let mut files = SystemFiles { rt };
-    let ended = run_all(&mut session, inputs, input, out, err, &mut files);
+    let ended = run_all_on(&mut session, inputs, input, out, err, &mut files);
     close(session);
     status_of(ended, err)
 }
@@ -145,7 +142,9 @@ fn session_over<D: Disk + Drop>(
     plain: Connection<FileStore<D>>,
     fulltext: FullText<FileStore<D>>,
     settings: Settings,
-) -> Session<FileStore<D>, FileStore<D>> {
+) -> Session<FileStore<D>, FileStore<D>>
+    ensures { result ≡ record { look = settings; plain = plain; known = fulltext } }
+{
     Session::new(alloc, plain, fulltext, settings)
 }
 
@@ -156,28 +155,70 @@ fn close<D: Disk + Drop>(session: Session<FileStore<D>, FileStore<D>>) {
     let _ = fulltext.into_store().into_connection().close();
 }
 
+// The program's own line for a fault that ended a run.
+fn own_line(fault: RunFault) -> &'static str
+    ensures { result.now ≡ forms.own_line fault }
+{
+    match fault {
+        RunFault::Read => "Error: input fault\n",
+        RunFault::Write => "Error: output fault\n",
+        RunFault::TooMuch => "Error: input too large\n",
+        RunFault::Memory => "Error: out of memory\n",
+    }
+}
+
+// Writes a line as far as the writer takes it.
+fn write_line<W: Write>(to: &mut W, line: &str)
+    ensures { AppendsUpTo (W.contents to.old) (W.contents to.new) line.now }
+{
+    let _ = write_out(to, line.as_bytes());
+}
+
 // The program's status for how its run ended.
-fn status_of<E: Write>(ended: Result<Status, RunFault>, err: &mut E) -> u8 {
+fn status_of<E: Write>(ended: Result<Status, RunFault>, err: &mut E) -> u8
+    ensures { Closes ended (E.contents err.old) (E.contents err.new) result }
+{
     match ended {
         Ok(status) if status.faults == 0 => FINE,
         Ok(_) => FAULTY,
         Err(fault) => {
-            let _ = writeln!(err, "Error: {fault}");
+            write_line(err, own_line(fault));
             FAULTY
         }
     }
 }
 
-// Runs the texts that were given, or else the input. Of the two stores one is named at a time: to name both in one call
-// takes more steps than the checker has.
-fn run_all<S: Alter, D: Disk + Drop, R: Read, O: Write, E: Write>(
+// Runs the inputs over a plain database in files. Of the two stores one is named at a time: to name both in one call takes more
+// steps than the checker has.
+fn run_all_on<S: Alter, D: Disk + Drop, R: Read, O: Write, E: Write>(
     session: &mut Session<FileStore<D>, S>,
     inputs: &[String],
     input: &mut R,
     out: &mut O,
     err: &mut E,
     files: &mut SystemFiles<'_>,
-) -> Result<Status, RunFault> {
+) -> Result<Status, RunFault>
+    ensures { RunsAndKeeps over_files S.Store (due (map string_bytes inputs.now) (R.remaining input.old)) result
+        (record { parts = session.old; on = record { out = O.contents out.old; err = E.contents err.old } })
+        (record { parts = session.new; on = record { out = O.contents out.new; err = E.contents err.new } }) }
+{
+    run_all(session, inputs, input, out, err, files)
+}
+
+// Runs the texts that were given, or else the input.
+fn run_all<P: Alter, S: Alter, R: Read, O: Write, E: Write>(
+    session: &mut Session<P, S>,
+    inputs: &[String],
+    input: &mut R,
+    out: &mut O,
+    err: &mut E,
+    files: &mut SystemFiles<'_>,
+) -> Result<Status, RunFault>
+    ensures { RunsAndKeeps P.Store S.Store (due (map string_bytes inputs.now) (R.remaining input.old)) result
+        (record { parts = session.old; on = record { out = O.contents out.old; err = E.contents err.old } })
+        (record { parts = session.new; on = record { out = O.contents out.new; err = E.contents err.new } }) }
+{
+    Session::<P, S>::kept_by_runs();
     if inputs.is_empty() {
         session.run(input, out, err, files)
     } else {
@@ -186,13 +227,17 @@ fn run_all<S: Alter, D: Disk + Drop, R: Read, O: Write, E: Write>(
 }
 
 // Runs texts in turn, each as an input of its own, until one ends the session.
-fn run_texts<S: Alter, D: Disk + Drop, O: Write, E: Write>(
-    session: &mut Session<FileStore<D>, S>,
+fn run_texts<P: Alter, S: Alter, O: Write, E: Write>(
+    session: &mut Session<P, S>,
     inputs: &[String],
     out: &mut O,
     err: &mut E,
     files: &mut SystemFiles<'_>,
-) -> Result<Status, RunFault> {
+) -> Result<Status, RunFault>
+    ensures { RunsInTurn P.Store S.Store (map Some (map string_bytes inputs.now)) result
+        (record { parts = session.old; on = record { out = O.contents out.old; err = E.contents err.old } })
+        (record { parts = session.new; on = record { out = O.contents out.new; err = E.contents err.new } }) }
+{
     let mut faults: u64 = 0;
     for text in inputs {
         let mut bytes = text.as_bytes();
@@ -209,7 +254,17 @@ fn run_texts<S: Alter, D: Disk + Drop, O: Write, E: Write>(
 }
 
 // Writes why a database is not opened.
-fn tell<E: Write>(err: &mut E, fault: OpenFault) -> u8 {
-    let _ = writeln!(err, "{fault}");
+fn tell<E: Write>(err: &mut E, fault: OpenFault) -> u8
+    ensures line { IfSome (opening_line fault) (AppendsUpTo (E.contents err.old) (E.contents err.new)) }
+    ensures status { result ≡ 1 }
+{
+    match fault {
+        OpenFault::Database => write_line(err, "Error: unable to open database\n"),
+        OpenFault::NotAStore => write_line(err, "Error: not a full-text store\n"),
+        OpenFault::Store => write_line(err, "Error: unable to open full-text store\n"),
+        OpenFault::Version(number) => {
+            let _ = writeln!(err, "Error: full-text store of version {number}");
+        }
+    }
     FAULTY
 }

@@ -1,0 +1,9 @@
+-- one byte more than the most is asked for
+use Rattle.std.proofs.Common.{rules, ◌≤◌, ◌^◌, length, arith}
+use Rattle.ft_main.proofs.ReadingLemmas.{all_taken}
+use Rattle.ft_main.proofs.source.read_all.Goals as goal
+
+pub returns-in-Ok-2-clause-whole : goal.returns-in-Ok-2-clause-whole
+returns-in-Ok-2-clause-whole g c =
+    let few : length c.read_to_end.new.buf.items ≤ 2 ^ 26 = search (rules, c.in-Ok.ensures.ok, c.if-count-gt-MOST_BYTES.false, c.read_to_end.new.buf.ok.0) in
+    all_taken g.R.Read.remaining c.take.result c.args.reader c.new-bytes.result.items c.read_to_end.new.buf.items c.take.ensures.limit c.take.ensures.inner c.new-bytes.ensures.items c.in-Ok-2.ensures.bytes few

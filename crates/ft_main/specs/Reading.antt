@@ -1,0 +1,25 @@
+-- The bytes of a file that is imported (own choice).
+use Rattle.std.specs.Prelude.{ℕ, ◌≡◌, ◌⊎◌, ◌<◌, ◌≤◌, ◌^◌, true, List, length, Option, None, IfSome}
+use Rattle.std.specs.declared.io.ErrorKind.{ErrorKind}
+use Rattle.std.specs.declared.io.ErrorKind.TheVariants as kind
+use Rattle.ft_shell.specs.declared.source.SourceFault.{SourceFault}
+use Rattle.ft_shell.specs.declared.source.SourceFault.TheVariants as fault
+use Rattle.ft_shell.specs.Sources.{Files}
+
+-- nothing is known of the files of the system
+abbrev pub unknown_files : Files
+unknown_files name = record { bytes = None; may_refuse = λ fault. true }
+
+-- what is told of a reader's own fault
+abbrev pub fault_of : ErrorKind → SourceFault
+fault_of kind.NotFound = fault.Missing
+fault_of kind.OutOfMemory = fault.Memory
+fault_of _ = fault.Read
+
+-- the bytes are all that a reader had, where these are known, and at most 64 MiB
+abbrev pub AreAll : Option (List ℕ) → List ℕ → Type 0
+AreAll known bytes = (length bytes ≤ 2 ^ 26) × IfSome known (λ all. bytes ≡ all)
+
+-- It is too big only where the reader had more; any other fault is one of its own.
+abbrev pub IsRefused : Option (List ℕ) → SourceFault → Type 0
+IsRefused known why = ((why ≡ fault.TooBig) × IfSome known (λ all. 2 ^ 26 < length all)) ⊎ ((own : ErrorKind) × (why ≡ fault_of own))
