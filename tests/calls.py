@@ -193,28 +193,44 @@ def tries_of_opening(older, before):
         yield f"an opening of version 2 with a disk that fails from write {at} on", functools.partial(failing, older, OPEN, before, before, at)
 
 
-def tries(rooms, older):
-    """Yields what is tried, and a call that says what is wrong with it."""
-    with tempfile.TemporaryDirectory() as room:
-        shutil.copytree(rooms.first, room, dirs_exist_ok=True)
-        before, _ = rooms.seen(room)
-    yield from tries_of_opening(older, before)
-    for command in COMMANDS:
-        _, writes, after, is_sound = rooms.after([command, ".print answered"], FILES=1)
-        if not is_sound or after == before and "rebuild" not in command:
-            yield f"{command}: it does nothing", lambda after=after: str(after)
-        for at in range(1, writes + 1):
-            for how in ("kill", "half"):
-                yield f"{command} is stopped ({how}) at write {at} of {writes}", functools.partial(stopped, rooms, command, before, after, at, how)
-            yield f"{command} with a disk that fails from write {at} on", functools.partial(failing, rooms, command, before, after, at)
+def tries_of_command(rooms, before, command):
+    """Yields what is tried of a run of one command."""
+    _, writes, after, is_sound = rooms.after([command, ".print answered"], FILES=1)
+    if not is_sound or after == before and "rebuild" not in command:
+        yield f"{command}: it does nothing", lambda: str(after)
+    for at in range(1, writes + 1):
+        for how in ("kill", "half"):
+            yield f"{command} is stopped ({how}) at write {at} of {writes}", functools.partial(stopped, rooms, command, before, after, at, how)
+        yield f"{command} with a disk that fails from write {at} on", functools.partial(failing, rooms, command, before, after, at)
+
+
+def tries_of_streams(rooms):
+    """Yields what is tried of a run whose input or output fails."""
     states = [rooms.after(SESSION[:number])[2] for number in range(len(SESSION) + 1)]
     whole, _, _, _ = rooms.after(SESSION)
     for stream in (0, 1, 2):
         _, calls, _, _ = rooms.after(SESSION, STREAM=stream, PIECE=7)
         for at in range(1, calls + 1):
             yield f"stream {stream} fails from call {at} of {calls} on", functools.partial(cut, rooms, SESSION, states, whole, stream, at)
+
+
+def tries_of_cuts(rooms):
+    """Yields what is tried of an input that is cut."""
     for at in range(len(CUT) + 1):
         yield f"the input is cut after {at} bytes", functools.partial(cut_short, rooms, at)
+
+
+def tries(rooms, older, text):
+    """Yields what is tried, and a call that says what is wrong with it: all whose name has the text."""
+    with tempfile.TemporaryDirectory() as room:
+        shutil.copytree(rooms.first, room, dirs_exist_ok=True)
+        before, _ = rooms.seen(room)
+    parts = {"an opening of version 2": functools.partial(tries_of_opening, older, before)}
+    parts.update((it, functools.partial(tries_of_command, rooms, before, it)) for it in COMMANDS)
+    parts.update({"stream": functools.partial(tries_of_streams, rooms), "the input is cut": functools.partial(tries_of_cuts, rooms)})
+    # (a text that begins as the names of one part do is of that part alone)
+    for part in [parts[it] for it in parts if text.startswith(it)] or parts.values():
+        yield from (it for it in part() if text in it[0])
 
 
 def prepare(program, room):
@@ -238,7 +254,7 @@ def prepare(program, room):
 
 def main(program, text=""):
     with tempfile.TemporaryDirectory() as room, concurrent.futures.ThreadPoolExecutor(os.cpu_count()) as pool:
-        all_of_them = [it for it in tries(*prepare(os.path.abspath(program), room)) if text in it[0]]
+        all_of_them = list(tries(*prepare(os.path.abspath(program), room), text))
         wrong = [(name, why) for (name, _), why in zip(all_of_them, pool.map(lambda it: it[1](), all_of_them)) if why]
     for name, why in wrong[:20]:
         print(f"{name}: {why}")

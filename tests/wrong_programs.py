@@ -4,14 +4,11 @@ A program that isn't proved can't be built, so each wrong one is the right one b
 CASES says for each test, or for those alone of one TEST, which one it is, and what the test must say of it. The wrappers are this file, too:
 wrong_programs.py --as KIND PROGRAM [WORD ..].
 """
-import concurrent.futures
-import ctypes
 import os
 import re
 import signal
 import subprocess
 import sys
-import tempfile
 
 HERE = os.path.dirname(os.path.abspath(__file__))
 FAULT = re.compile(rb"(Error|ft4sh): ")
@@ -22,6 +19,8 @@ SKIP = "CREATE TABLE skip(tab INTEGER NOT NULL, col INTEGER NOT NULL, UNIQUE(tab
 
 
 def die_with_parent():
+    import ctypes  # (here, since a wrapper starts often)
+
     ctypes.CDLL(None).prctl(1, signal.SIGKILL)
 
 
@@ -114,13 +113,13 @@ WRAPPERS = {
 # Which wrong program, which test with its words behind PROGRAM, and what the test says of it.
 CASES = [
     (hushes_faults, "memory", ["997", "2500"], r"session, allocation \d+: "),
-    (commits_row_by_row, "calls", ["INSERT INTO d VALUES('blue plum'),('red fig'); is stopped"], r"is stopped \((kill|half)\) at write"),
-    (answers_first, "calls", ["INSERT INTO d VALUES('blue plum'),('red fig'); is stopped"], "it was answered, and is not there"),
-    (hushes_faults, "calls", ["UPDATE d SET x='green' WHERE docid=1; with a disk that fails"], "no fault was told, and it is not there"),
-    (hushes_faults, "calls", ["stream 0 fails"], "stream 0 fails from call"),
-    (hushes_faults, "calls", ["stream 1 fails"], "stream 1 fails from call"),
-    (wants_whole_characters, "calls", ["the input is cut after"], r"the input is cut after \d+ bytes"),
-    (migrates_by_two, "calls", ["an opening of version 2 is stopped"], "an opening of version 2 is stopped"),
+    (commits_row_by_row, "calls", ["INSERT INTO d VALUES('blue plum'),('red fig'); is stopped (kill)"], r"is stopped \(kill\) at write"),
+    (answers_first, "calls", ["INSERT INTO d VALUES('blue plum'),('red fig'); is stopped (kill)"], "it was answered, and is not there"),
+    (hushes_faults, "calls", ["UPDATE d SET x='green' WHERE docid=1; with a disk that fails from write 2 on"], "no fault was told, and it is not there"),
+    (hushes_faults, "calls", ["stream 0 fails from call 9 of"], "stream 0 fails from call 9"),
+    (hushes_faults, "calls", ["stream 1 fails from call 1 of"], "stream 1 fails from call 1"),
+    (wants_whole_characters, "calls", ["the input is cut after 64 bytes"], "the input is cut after 64 bytes"),
+    (migrates_by_two, "calls", ["an opening of version 2 is stopped (kill)"], "an opening of version 2 is stopped"),
     (answers_first, "kills", ["1", "6"], "were answered"),
     (trusts_the_index, "damages", ["1", "60"], "is answered, and integrity-check says"),
     (trusts_the_index, "run", ["files_with_damage"], "tests/files_with_damage"),
@@ -138,7 +137,7 @@ def wrong_program(room, kind, program):
     """Makes the wrong program, and returns its path."""
     path = f"{room}/{kind.__name__}"
     with open(path, "w", encoding="utf-8") as it:
-        it.write(f'#!/bin/sh\nexec "{sys.executable}" -B "{os.path.abspath(__file__)}" --as {kind.__name__} "{program}" "$@"\n')
+        it.write(f'#!/bin/sh\nexec "{sys.executable}" -S -E -B "{os.path.abspath(__file__)}" --as {kind.__name__} "{program}" "$@"\n')
     os.chmod(path, 0o755)
     return path
 
@@ -154,6 +153,9 @@ def unseen(room, program, case):
 
 
 def main(program, only=None):
+    import concurrent.futures
+    import tempfile
+
     cases = [it for it in CASES if only in (None, it[1])]
     with tempfile.TemporaryDirectory() as room:
         with concurrent.futures.ThreadPoolExecutor(2) as pool:
