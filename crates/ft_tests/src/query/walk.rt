@@ -1,7 +1,8 @@
 //! Walks over the words of some documents: what they find, in how many steps, and that a call without memory may be made again.
+//! `tests/memory_of_queries` refuses each of their allocations alone.
 use super::expect;
 use super::words::{Texts, words_of};
-use ft_query::{Hit, ListFault, Lists, Matches, Offset, Query, offsets_text, parse};
+use ft_query::{Hit, ListFault, Lists, Matches, Offset, Query, QueryFault, offsets_text, parse};
 use std::alloc::{AllocError, Global};
 use std::test::Fail;
 
@@ -14,7 +15,10 @@ fn next(matches: &mut Matches<'_>) -> Result<Option<Hit>, Fail> {
     if matches.steps() != steps {
         return Err("a refused call took steps")?;
     }
-    Ok(matches.next()?)
+    match matches.next() {
+        Ok(hit) => Ok(hit),
+        Err(_) => Err("refused twice")?,
+    }
 }
 
 // A walk, also where the first call lacks memory.
@@ -36,10 +40,15 @@ fn names_of(alloc: Global, columns: &[&str]) -> Result<Vec<String>, AllocError> 
     Ok(names)
 }
 
-// The query of a text that is one, or is none.
+// The query of a text that is one, or is none, also where the first call lacks memory.
 fn query_of(alloc: Global, columns: &[&str], text: &str) -> Result<Option<Query>, Fail> {
-    match parse(alloc, text, &names_of(alloc, columns)?, None) {
+    let names = names_of(alloc, columns)?;
+    if let Ok(query) = parse(alloc, text, &names, None) {
+        return Ok(query);
+    }
+    match parse(alloc, text, &names, None) {
         Ok(query) => Ok(query),
+        Err(QueryFault::Memory) => Err("refused twice")?,
         Err(fault) => Err(fault)?,
     }
 }
