@@ -2,7 +2,8 @@
 
 use super::marks;
 use super::worked::{Seen, answers_over, made};
-use crate::store::with_rows;
+use crate::session::Row;
+use crate::store::{entries, with_rows};
 use ft_store::Store;
 use sqlite::Alter;
 use std::alloc::Global;
@@ -45,7 +46,32 @@ fn tables_are_marked(rt: HostRuntime) -> Result<(), Fail> {
         let seen = marks_after(alloc, Store::open_memory(alloc)?, texts)?;
         assert_eq!(&rt; seen, (1, sound, sound));
     }
-    assert_eq!(&rt; marks(alloc, Store::open_memory(alloc)?)?, (0, true, true));
+    Ok(())
+}
+
+// A list of places of a table that isn't there.
+const STRAY: &str = "INSERT INTO posting VALUES (1, 'red', 1, x'00000003')";
+
+// The number and the entries of a table that is made in a store without tables.
+fn made_alone<S: Alter + Drop>(alloc: Global, store: Store<S>) -> Result<(i64, String), Fail> {
+    let mut store = made(alloc, store, "CREATE VIRTUAL TABLE d USING fts4(x);\n")?;
+    let number = match store.tables()?.as_slice() {
+        [table] => table.id,
+        _ => 0,
+    };
+    Ok((number, entries(&mut store, alloc)?))
+}
+
+#[test]
+fn no_row_of_a_table_waits_for_it(rt: HostRuntime) -> Result<(), Fail> {
+    let alloc = rt.alloc();
+    for row in ["DELETE FROM noted", STRAY] {
+        let store = with_rows(alloc, Store::open_memory(alloc)?, row)?;
+        assert_eq!(&rt; marks(alloc, store)?, (0, true, true));
+        let store = with_rows(alloc, Store::open_memory(alloc)?, row)?;
+        let (number, entries) = made_alone(alloc, store)?;
+        assert_eq!(&rt; (number, entries.as_str()), (1, ""));
+    }
     Ok(())
 }
 
@@ -53,19 +79,30 @@ fn tables_are_marked(rt: HostRuntime) -> Result<(), Fail> {
 const RED: &str = "CREATE VIRTUAL TABLE d USING fts4(x);\n\
     INSERT INTO d VALUES('red'),('red blue');\n";
 
-// What is answered to the input once the store of the two documents was changed so, and whether all tables are sound then.
+// A table of two columns.
+const PAIR: &str = "CREATE VIRTUAL TABLE d USING fts4(x, y);\n\
+    INSERT INTO d VALUES('red', 'blue');\n";
+
+// That table, and another.
+const BOTH: &str = "CREATE VIRTUAL TABLE d USING fts4(x);\n\
+    INSERT INTO d VALUES('red'),('red blue');\n\
+    CREATE VIRTUAL TABLE e USING fts4(x);\n\
+    INSERT INTO e VALUES('red');\n";
+
+// What is answered to the input once the store that another input made was changed so, and whether all tables are sound then.
 fn answers_after<S: Alter + Drop>(
     alloc: Global,
     store: Store<S>,
+    begun: &str,
     damage: &str,
     input: &str,
 ) -> Result<(Seen, bool), Fail> {
-    let store = with_rows(alloc, made(alloc, store, RED)?, damage)?;
+    let store = with_rows(alloc, made(alloc, store, begun)?, damage)?;
     answers_over(alloc, store, input)
 }
 
 // What an index that isn't that of the documents answers, until it is made again.
-const MENDED: (&str, &str, &str) = (
+const MENDED: Row = (
     "SELECT docid FROM d WHERE d MATCH 'red';\n\
      INSERT INTO d(d) VALUES('integrity-check');\n\
      INSERT INTO d(d) VALUES('rebuild');\n\
@@ -78,7 +115,7 @@ const MENDED: (&str, &str, &str) = (
 );
 
 // What rows that aren't those of documents answer, until the table is dropped.
-const LOST: (&str, &str, &str) = (
+const LOST: Row = (
     "SELECT docid FROM d WHERE d MATCH 'red';\n\
      INSERT INTO d(d) VALUES('integrity-check');\n\
      INSERT INTO d(d) VALUES('rebuild');\n\
@@ -91,30 +128,106 @@ const LOST: (&str, &str, &str) = (
      Error: near line 3: database disk image is malformed\n",
 );
 
+// What a table answers beside one with a damaged index.
+const SPARED: Row = (
+    "SELECT docid FROM e WHERE e MATCH 'red';\n\
+     INSERT INTO e VALUES('red');\n\
+     UPDATE e SET x='red' WHERE docid=1;\n\
+     DELETE FROM e;\n\
+     SELECT docid FROM d WHERE d MATCH 'red';\n\
+     INSERT INTO d VALUES('green red');\n\
+     UPDATE d SET x='red green' WHERE docid=1;\n\
+     DELETE FROM d WHERE d MATCH 'blue';\n\
+     INSERT INTO d(d) VALUES('rebuild');\n\
+     INSERT INTO d(d) VALUES('optimize');\n\
+     INSERT INTO d(d) VALUES('integrity-check');\n\
+     SELECT docid, offsets(d) FROM d WHERE d MATCH 'green';\n\
+     DROP TABLE d;\n",
+    "1\n\
+     2\n\
+     1|0 0 4 5\n\
+     3|0 0 0 5\n",
+    "Error: near line 1: full-text index is unsound\n\
+     Error: near line 2: full-text index is unsound\n\
+     Error: near line 3: full-text index is unsound\n\
+     Error: near line 4: full-text index is unsound\n",
+);
+
+// What a store begins with, its damage, what is answered then, and whether all tables are sound at the end.
+const DAMAGES: [(&str, &str, Row, bool); 13] = [
+    (
+        RED,
+        "DELETE FROM posting WHERE term = 'red' AND docid = 2",
+        MENDED,
+        true,
+    ),
+    (
+        RED,
+        "UPDATE posting SET list = x'' WHERE docid = 1",
+        MENDED,
+        true,
+    ),
+    (
+        RED,
+        "UPDATE posting SET list = x'000106' WHERE docid = 1",
+        MENDED,
+        true,
+    ),
+    (
+        RED,
+        "UPDATE posting SET list = x'800001060501051805' WHERE docid = 1",
+        MENDED,
+        true,
+    ),
+    (
+        RED,
+        "UPDATE posting SET list = x'00010600' WHERE docid = 1",
+        MENDED,
+        true,
+    ),
+    (
+        RED,
+        "UPDATE posting SET list = x'0001060500000105' WHERE docid = 1",
+        MENDED,
+        true,
+    ),
+    (
+        RED,
+        "UPDATE posting SET list = x'64000001' WHERE docid = 1",
+        MENDED,
+        true,
+    ),
+    (
+        RED,
+        "UPDATE posting SET list = x'63000001' WHERE term = 'blue'",
+        MENDED,
+        true,
+    ),
+    (
+        RED,
+        "UPDATE sizes SET n = n + 1 WHERE docid = 2",
+        MENDED,
+        true,
+    ),
+    (
+        RED,
+        "UPDATE cell SET docid = 2, col = 1 WHERE docid = 1",
+        LOST,
+        true,
+    ),
+    (RED, "INSERT INTO skip VALUES (1, 5)", LOST, true),
+    (PAIR, "DELETE FROM cell WHERE col = 1", LOST, true),
+    (BOTH, "DELETE FROM posting WHERE tab = 2", SPARED, false),
+];
+
 #[test]
 fn damage_is_told_and_mended(rt: HostRuntime) -> Result<(), Fail> {
     let alloc = rt.alloc();
-    for (damage, (input, out, err)) in [
-        (
-            "DELETE FROM posting WHERE term = 'red' AND docid = 2",
-            MENDED,
-        ),
-        (
-            "UPDATE posting SET list = x'63000001' WHERE term = 'blue'",
-            MENDED,
-        ),
-        (
-            "UPDATE posting SET list = x'800001060501051805' WHERE docid = 1",
-            MENDED,
-        ),
-        ("UPDATE sizes SET n = n + 1 WHERE docid = 2", MENDED),
-        ("UPDATE cell SET docid = 2, col = 1 WHERE docid = 1", LOST),
-        ("INSERT INTO skip VALUES (1, 5)", LOST),
-    ] {
+    for (begun, damage, (input, out, err), is_sound) in DAMAGES {
         let store = Store::open_memory(alloc)?;
-        let (seen, all) = answers_after(alloc, store, damage, input)?;
+        let (seen, all) = answers_after(alloc, store, begun, damage, input)?;
         seen.is(&rt, out, err);
-        assert!(&rt; all);
+        assert_eq!(&rt; all, is_sound, "{damage}");
     }
     Ok(())
 }

@@ -69,6 +69,7 @@ fn other_databases_are_handed_back(rt: HostRuntime) -> Result<(), Fail> {
 fn other_versions_are_told(rt: HostRuntime) -> Result<(), Fail> {
     for (texts, cause) in [
         ("UPDATE meta SET version = 9", StoreFault::Version(9)),
+        ("UPDATE meta SET version = 7", StoreFault::Version(7)),
         ("UPDATE meta SET version = 4", StoreFault::Version(4)),
         ("UPDATE meta SET version = -1", StoreFault::Version(-1)),
         ("UPDATE meta SET version = 1", StoreFault::Version(1)),
