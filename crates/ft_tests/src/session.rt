@@ -1,5 +1,6 @@
 //! Sessions over memory databases: worked inputs, with every byte that they write.
 
+use crate::index::taken;
 use ft_index::FullText;
 use ft_shell::{RunFault, Session, Source, SourceFault, Status};
 use ft_store::Store;
@@ -12,12 +13,10 @@ use std::io::{self, Read, Write};
 use std::process::Abort;
 use std::test::Fail;
 
-pub(crate) mod commands;
 mod ends;
-pub(crate) mod queries;
 mod turns;
 
-// Two files: one with records of all lengths, and an empty one.
+// Two files: one with records of all lengths, and an empty one. Any other is refused, for a cause that its name says.
 #[derive(Drop)]
 struct TwoFiles;
 
@@ -30,6 +29,9 @@ impl Source for TwoFiles {
         let bytes = match name {
             "one.csv" => b"subject,body\nx y\nz,w,v\n".as_slice(),
             "none.csv" => b"".as_slice(),
+            "unread.csv" => return Err(SourceFault::Read),
+            "big.csv" => return Err(SourceFault::TooBig),
+            "lacking.csv" => return Err(SourceFault::Memory),
             _ => return Err(SourceFault::Missing),
         };
         match bytes.to_vec(alloc) {
@@ -67,9 +69,7 @@ fn session_over<D: Disk + Drop>(
     plain: Connection<FileStore<D>>,
     store: Store<FileStore<D>>,
 ) -> Result<Session<FileStore<D>, FileStore<D>>, Fail> {
-    let Ok(fulltext) = FullText::new(alloc, store) else {
-        return Err(Fail::new("no full-text tables"));
-    };
+    let fulltext = taken(alloc, store)?;
     Ok(new_session(alloc, plain, fulltext))
 }
 
@@ -95,6 +95,15 @@ fn ran_over<D: Disk + Drop, R: Read, O: Write>(
 }
 
 // Of the two stores one is named at a time: to name both in one call takes more steps than the checker has.
+fn run_once<S: Alter, D: Disk + Drop, R: Read, O: Write>(
+    session: &mut Session<FileStore<D>, S>,
+    reader: &mut R,
+    out: &mut O,
+    err: &mut Vec<u8>,
+) -> Result<Status, RunFault> {
+    session.run(reader, out, err, &mut TwoFiles)
+}
+
 fn run_both<S: Alter, D: Disk + Drop, R: Read, O: Write>(
     alloc: Global,
     session: &mut Session<FileStore<D>, S>,
@@ -103,10 +112,10 @@ fn run_both<S: Alter, D: Disk + Drop, R: Read, O: Write>(
     second: &[u8],
 ) -> Result<Ended, Fail> {
     let mut err: Vec<u8> = Vec::new(alloc);
-    let status = session.run(reader, out, &mut err, &mut TwoFiles);
+    let status = run_once(session, reader, out, &mut err);
     let mut next: Vec<u8> = Vec::new(alloc);
     let mut rest = second;
-    session.run(&mut rest, &mut next, &mut err, &mut TwoFiles)?;
+    run_once(session, &mut rest, &mut next, &mut err)?;
     Ok(Ended { status, err, next })
 }
 

@@ -199,14 +199,19 @@ fn missing_tables_are_told(rt: HostRuntime) -> Result<(), Fail> {
     Ok(())
 }
 
+fn push_documents(input: &mut String) -> Result<(), AllocError> {
+    for _ in 0..999 {
+        input.push_str(",('a')")?;
+    }
+    Ok(())
+}
+
 // 999 documents `a`, one `rare`, and then this statement.
 fn thousand_and(alloc: Global, last: &str) -> Result<String, AllocError> {
     let mut input = "CREATE VIRTUAL TABLE d USING fts4(x);\nINSERT INTO d VALUES('rare')".to_string(
         alloc,
     )?;
-    for _ in 0..999 {
-        input.push_str(",('a')")?;
-    }
+    push_documents(&mut input)?;
     input.push_str(";\n")?;
     input.push_str(last)?;
     Ok(input)

@@ -1,8 +1,8 @@
 //! Worked inputs with each statement as a command: on full-text tables over a store, and on lists of documents.
 
 use super::plain::PlainTables;
-use super::{marks, taken};
-use crate::session::{Row, commands, queries};
+use super::{commands, queries, taken};
+use crate::session::Row;
 use ft_index::{Command, Fault, FullText, Reply, TableInfo};
 use ft_statements::{
     Class, StatementFault, fault_line, fault_text, read_statement, statement_text, write_reply,
@@ -11,7 +11,6 @@ use ft_store::Store;
 use shell_text::{Settings, sql_words};
 use sqlite::Alter;
 use std::alloc::Global;
-use std::fs;
 use std::process::Abort;
 use std::test::Fail;
 
@@ -140,6 +139,15 @@ pub(crate) fn answers_over<S: Alter + Drop>(
     Ok((seen, tables.check_all()?))
 }
 
+/// Whether all statements of an input are executed.
+pub(crate) fn are_done<S: Alter>(
+    alloc: Global,
+    tables: &mut FullText<S>,
+    input: &str,
+) -> Result<bool, Fail> {
+    Ok(answers(alloc, tables, input)?.err.is_empty())
+}
+
 /// The store after an input of which nothing is refused.
 pub(crate) fn made<S: Alter + Drop>(
     alloc: Global,
@@ -147,8 +155,7 @@ pub(crate) fn made<S: Alter + Drop>(
     input: &str,
 ) -> Result<Store<S>, Fail> {
     let mut tables = taken(alloc, store)?;
-    let seen = answers(alloc, &mut tables, input)?;
-    if !seen.err.is_empty() {
+    if !are_done(alloc, &mut tables, input)? {
         return Err(Fail::new("refused"));
     }
     Ok(tables.into_store())
@@ -173,31 +180,4 @@ fn commands_are_answered(rt: HostRuntime) -> Result<(), Fail> {
 #[test]
 fn queries_are_answered(rt: HostRuntime) -> Result<(), Fail> {
     all_hold(&rt, rt.alloc(), &queries::ROWS)
-}
-
-// Empties the files of a database, which an earlier run may have left: the database and its log.
-fn empty(rt: &HostRuntime, path: &str) -> Result<(), Fail> {
-    let log = format!(in rt.alloc(); "{path}-wal")?;
-    fs::write(rt, path, "")?;
-    fs::write(rt, log.as_str(), "")?;
-    Ok(())
-}
-
-// A store in a file answers these inputs so, and is taken again with sound tables.
-fn all_hold_in_files(abort: &impl Abort, rt: &HostRuntime, rows: &[Row]) -> Result<(), Fail> {
-    let alloc = rt.alloc();
-    for (number, (input, out, err)) in rows.iter().enumerate() {
-        let path = format!(in alloc; "commands{number}.db")?;
-        empty(rt, path.as_str())?;
-        let (seen, _) = answers_over(alloc, Store::open_file(rt, path.as_str())?, input)?;
-        seen.is(abort, out, err);
-        let (_, _, all) = marks(alloc, Store::open_file(rt, path.as_str())?)?;
-        assert!(abort; all);
-    }
-    Ok(())
-}
-
-#[test]
-fn commands_are_answered_in_files(rt: HostRuntime) -> Result<(), Fail> {
-    all_hold_in_files(&rt, &rt, &commands::ROWS)
 }

@@ -4,7 +4,7 @@ use super::{Row, all_hold, holds};
 use std::test::Fail;
 
 // Inputs with what they write and their fault lines.
-const ROWS: [Row; 12] = [
+const ROWS: [Row; 13] = [
     // last line without end
     (
         "CREATE VIRTUAL TABLE d USING fts4;\n\
@@ -171,6 +171,48 @@ const ROWS: [Row; 12] = [
         "Error: near line 3: import refused\n\
          Error: near line 5: import refused\n\
          Error: near line 8: bad separator\n",
+    ),
+    // files that are not fetched
+    (
+        "CREATE VIRTUAL TABLE f USING fts4(a, b);\n\
+         INSERT INTO f VALUES('x', 'y');\n\
+         CREATE TABLE p(a, b);\n\
+         INSERT INTO p VALUES(1, 'z');\n\
+         .import --csv no.csv f\n\
+         .import --csv no.csv p\n\
+         .import --csv no.csv q\n\
+         .import --csv unread.csv f\n\
+         .import --csv unread.csv p\n\
+         .import --csv unread.csv q\n\
+         .import --csv big.csv f\n\
+         .import --csv big.csv p\n\
+         .import --csv big.csv q\n\
+         .import --csv lacking.csv f\n\
+         .import --csv lacking.csv p\n\
+         .import --csv lacking.csv q\n\
+         .tables\n\
+         SELECT docid, * FROM f;\n\
+         SELECT docid, offsets(f) FROM f WHERE f MATCH 'x OR y';\n\
+         INSERT INTO f(f) VALUES('integrity-check');\n\
+         SELECT * FROM p;\n\
+         CREATE TABLE q(c);\n\
+         SELECT * FROM q;\n",
+        "f  p\n\
+         1|x|y\n\
+         1|0 0 0 1 1 1 0 1\n\
+         1|z\n",
+        "Error: near line 5: cannot read file\n\
+         Error: near line 6: cannot read file\n\
+         Error: near line 7: cannot read file\n\
+         Error: near line 8: cannot read file\n\
+         Error: near line 9: cannot read file\n\
+         Error: near line 10: cannot read file\n\
+         Error: near line 11: file too big\n\
+         Error: near line 12: file too big\n\
+         Error: near line 13: file too big\n\
+         Error: near line 14: out of memory\n\
+         Error: near line 15: out of memory\n\
+         Error: near line 16: out of memory\n",
     ),
     // answers of plain queries
     (

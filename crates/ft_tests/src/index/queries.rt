@@ -1,7 +1,6 @@
-//! What a MATCH finds in a session.
+//! What a MATCH finds.
 
-use super::{Row, all_hold};
-use std::test::Fail;
+use crate::session::Row;
 
 /// Inputs of a statement a line, with what they write and their fault lines.
 pub(crate) const ROWS: [Row; 15] = [
@@ -209,8 +208,3 @@ pub(crate) const ROWS: [Row; 15] = [
         "Error: near line 10: docid already exists: 3\n",
     ),
 ];
-
-#[test]
-fn finds_what_a_match_accepts(rt: HostRuntime) -> Result<(), Fail> {
-    all_hold(&rt, rt.alloc(), &ROWS)
-}

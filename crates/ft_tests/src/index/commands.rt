@@ -1,7 +1,6 @@
-//! Commands on full-text tables in a session, and those that are refused.
+//! Commands on full-text tables, and those that are refused.
 
-use super::{Row, all_hold};
-use std::test::Fail;
+use crate::session::Row;
 
 /// Inputs of a statement a line, with what they write and their fault lines.
 pub(crate) const ROWS: [Row; 5] = [
@@ -74,8 +73,3 @@ pub(crate) const ROWS: [Row; 5] = [
          Error: near line 11: unsupported full-text statement\n",
     ),
 ];
-
-#[test]
-fn answers_commands(rt: HostRuntime) -> Result<(), Fail> {
-    all_hold(&rt, rt.alloc(), &ROWS)
-}
