@@ -7,6 +7,7 @@ mod damage;
 mod plain;
 mod queries;
 mod scan;
+mod stops;
 mod worked;
 
 use ft_index::{FullText, TableInfo};
