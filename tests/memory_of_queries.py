@@ -22,7 +22,7 @@ TESTS = (
     "query::walk::first_terms",
     "query::walk::steps_are_bounded",
 )
-WANT = "AllocError"
+WANT = ("AllocError", "AllocFailed")
 
 Ran = collections.namedtuple("Ran", "out err status")
 
@@ -39,7 +39,7 @@ def judge(ran, whole):
     """Says which of the cases holds, or None."""
     if ran == whole:
         return "found the same"
-    if ran.status != 0 and WANT in ran.out + ran.err:
+    if ran.status != 0 and any(it in ran.out + ran.err for it in WANT):
         return "ended in want of memory"
     return None
 
