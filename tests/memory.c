@@ -33,10 +33,19 @@ void *realloc(void *block, size_t size) {
     return is_refused() ? NULL : next_realloc(block, size);
 }
 
+/* Of several processes, one in another, the one that makes most allocations tells. */
 __attribute__((destructor)) static void tell(void) {
     const char *path = getenv("COUNTED");
-    FILE *file = path ? fopen(path, "w") : NULL;
+    long all = count, told = -1;
+    FILE *file;
+    refused = 0;
+    file = path ? fopen(path, "r") : NULL;
+    if (file) {
+        if (fscanf(file, "%ld", &told) != 1) told = -1;
+        fclose(file);
+    }
+    file = path && all > told ? fopen(path, "w") : NULL;
     if (!file) return;
-    fprintf(file, "%ld\n", count);
+    fprintf(file, "%ld\n", all);
     fclose(file);
 }

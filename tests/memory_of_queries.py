@@ -46,10 +46,10 @@ def judge(ran, whole):
 
 def with_ample_memory(program, room, test):
     """The run with nothing refused, and how many allocations it makes."""
-    whole = run(program, room, test, counted=f"{room}/count")
+    whole = run(program, room, test, counted=f"{room}/{test}")
     if whole.status:
         sys.exit(f"{test} with ample memory: {whole}")
-    with open(f"{room}/count", encoding="utf-8") as file:
+    with open(f"{room}/{test}", encoding="utf-8") as file:
         return whole, int(file.read())
 
 
