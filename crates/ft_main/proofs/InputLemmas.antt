@@ -1,5 +1,5 @@
 -- Inputs that are run in turn.
-use Rattle.std.proofs.Common.{◌≡◌, ◌<◌, ◌≤◌, ◌+◌, ◌-◌, ◌^◌, ◌∙◌, ℕ, Bool, true, false, List, [], ◌∷◌, map, drop, get_or, length, Option, Some, None, Result, Ok, Err, min, refl, ap, sym, subst, arith, string_bytes, String, Global, zero, suc, inl, inr}
+use Rattle.std.proofs.Common.{◌≡◌, ◌<◌, ◌≤◌, ◌+◌, ◌-◌, ◌^◌, ◌∙◌, ℕ, Bool, true, false, List, [], ◌∷◌, map, drop, get_or, length, Option, Some, None, Result, Ok, Err, min, refl, ap, sym, subst, arith, string_bytes, String, Global, zero, suc, inr}
 use Rattle.std.specs.Prelude.{MatchBool, if◌then◌else◌, ◌==◌}
 use Rattle.std.proofs.lemmas.Bool.Decides.{nat_tests}
 use Rattle.std.proofs.lemmas.List.{drop_all, drop_more}

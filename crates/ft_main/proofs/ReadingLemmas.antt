@@ -1,5 +1,5 @@
 -- A reader's bytes up to one past the most.
-use Rattle.std.proofs.Common.{◌≡◌, ◌≤◌, ◌<◌, ◌^◌, ◌∙◌, ℕ, List, [], ◌++◌, ◌+◌, take, length, Option, Some, None, ap, subst, arith}
+use Rattle.std.proofs.Common.{◌≡◌, ◌≤◌, ◌^◌, ◌∙◌, ℕ, List, [], ◌++◌, ◌+◌, take, length, Option, Some, None, ap, subst, arith}
 use Rattle.std.specs.Prelude.{IfSome, option_map}
 use Rattle.std.proofs.lemmas.List.{length-take, take_all}
 use Rattle.std.specs.declared.io.traits.Take.{Take}

@@ -5,6 +5,7 @@ ghost use Rattle.sqlite.specs.Files.{over_files};
 ghost use Rattle.ft_shell.specs.Writing.{AppendsUpTo};
 ghost use Rattle.ft_main.specs.Inputs.{due, RunsInTurn, RunsAndKeeps, Closes, OpensAndRuns, RunsOn, opening_line};
 ghost use Rattle.ft_main.specs.Inputs as forms;
+ghost use Rattle.ft_main.specs.Memory.{RunsInMemory};
 
 use crate::files::{OpenFault, open_files, open_in_memory};
 use crate::source::SystemFiles;
@@ -73,15 +74,7 @@ fn run_line<R: Read, O: Write, E: Write>(
         inputs,
     } = line;
     match file {
-        None => on_databases(
-            rt,
-            open_in_memory(rt),
-            settings,
-            inputs.as_slice(),
-            input,
-            out,
-            err,
-        ),
+        None => in_memory(rt, settings, inputs.as_slice(), input, out, err),
         Some(path) => on_databases(
             rt,
             open_files(rt, path.as_str()),
@@ -92,6 +85,21 @@ fn run_line<R: Read, O: Write, E: Write>(
             err,
         ),
     }
+}
+
+// Runs the inputs over two empty databases in memory.
+fn in_memory<R: Read, O: Write, E: Write>(
+    rt: &HostRuntime,
+    settings: Settings,
+    inputs: &[String],
+    input: &mut R,
+    out: &mut O,
+    err: &mut E,
+) -> u8
+    ensures { RunsInMemory settings (due (map string_bytes inputs.now) (R.remaining input.old))
+        (record { out = O.contents out.old; err = E.contents err.old }) (record { out = O.contents out.new; err = E.contents err.new }) result }
+{
+    on_databases(rt, open_in_memory(rt), settings, inputs, input, out, err)
 }
 
 // Runs the inputs over two databases, if they are opened.

@@ -1,5 +1,5 @@
 -- one byte more than the most is asked for
-use Rattle.std.proofs.Common.{rules, ◌≤◌, ◌^◌, length, arith}
+use Rattle.std.proofs.Common.{rules, ◌≤◌, ◌^◌, length}
 use Rattle.ft_main.proofs.ReadingLemmas.{all_taken}
 use Rattle.ft_main.proofs.source.read_all.Goals as goal
 

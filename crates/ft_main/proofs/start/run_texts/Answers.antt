@@ -1,5 +1,5 @@
 -- one text after the other
-use Rattle.std.proofs.Common.{rules, ◌≡◌, ◌+◌, ◌-◌, ◌^◌, ◌∷◌, [], min, map, drop, Some, Err, true, false, string_bytes, subst}
+use Rattle.std.proofs.Common.{rules, ◌≡◌, ◌+◌, ◌-◌, ◌^◌, min, map, drop, Some, Err, true, false, string_bytes, subst}
 use Rattle.ft_main.specs.Inputs.{Stage}
 use Rattle.ft_main.proofs.InputLemmas.{SoFar, so_far_none, so_far_more, ends_by_fault, ends_by_quit, ends_at_end, next_text, no_text}
 use Rattle.ft_main.proofs.start.run_texts.Goals as goal
