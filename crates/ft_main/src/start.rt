@@ -5,7 +5,7 @@ ghost use Rattle.sqlite.specs.Files.{over_files};
 ghost use Rattle.ft_shell.specs.Writing.{AppendsUpTo};
 ghost use Rattle.ft_main.specs.Inputs.{due, RunsInTurn, RunsAndKeeps, Closes, OpensAndRuns, RunsOn, opening_line};
 ghost use Rattle.ft_main.specs.Inputs as forms;
-ghost use Rattle.ft_main.specs.Memory.{RunsInMemory};
+ghost use Rattle.ft_main.specs.Memory.{RunsInMemory, RunsLine, Starts};
 
 use crate::files::{OpenFault, open_files, open_in_memory};
 use crate::source::SystemFiles;
@@ -34,7 +34,10 @@ pub fn start<R: Read, O: Write, E: Write>(
     input: &mut R,
     out: &mut O,
     err: &mut E,
-) -> u8 {
+) -> u8
+    ensures { Starts (map (λ word. word.now) words.now) (R.remaining input.old)
+        (record { out = O.contents out.old; err = E.contents err.old }) (record { out = O.contents out.new; err = E.contents err.new }) result }
+{
     match read_line(rt.alloc(), words) {
         Ok(line) => run_line(rt, line, input, out, err),
         Err(fault) => refuse_line(&fault, out, err),
@@ -67,7 +70,10 @@ fn run_line<R: Read, O: Write, E: Write>(
     input: &mut R,
     out: &mut O,
     err: &mut E,
-) -> u8 {
+) -> u8
+    ensures { RunsLine line (R.remaining input.old)
+        (record { out = O.contents out.old; err = E.contents err.old }) (record { out = O.contents out.new; err = E.contents err.new }) result }
+{
     let Line {
         settings,
         file,
