@@ -12,6 +12,7 @@ use Rattle.ft_store.specs.Store.{nothing_held}
 use Rattle.ft_shell.specs.Promise.{IsOpen, Keeps}
 use Rattle.ft_line.specs.declared.line.Line.{Line}
 use Rattle.ft_line.specs.declared.line.LineFault.{LineFault}
+use Rattle.ft_line.specs.declared.line.LineFault.TheVariants as lines
 use Rattle.ft_line.specs.LineGives.{ReadsLine}
 use Rattle.ft_main.specs.declared.files.OpenFault.{OpenFault}
 use Rattle.ft_main.specs.Inputs.{NotOpened, Outputs, RunsOver, due}
@@ -35,7 +36,14 @@ RunsInMemory look inputs old new status =
 abbrev pub RunsLine : Line → Option (List ℕ) → Outputs → Outputs → ℕ → Type 0
 RunsLine line standard old new status = line.file ≡ None → RunsInMemory line.settings (due (map string_bytes line.inputs.items) standard) old new status
 
+-- Nothing is run of words that mean no line. The status is 2, but for the help, and nothing goes to the output but what `clap` says.
+abbrev pub RefusesLine : LineFault → Outputs → Outputs → ℕ → Type 0
+RefusesLine (lines.Words e) old new status = (status ≡ 0) ⊎ (status ≡ 2)
+RefusesLine lines.Conflict old new status = (status ≡ 2) × (new.out ≡ old.out)
+RefusesLine lines.BadSeparator old new status = (status ≡ 2) × (new.out ≡ old.out)
+RefusesLine lines.Memory old new status = (status ≡ 2) × (new.out ≡ old.out)
+
 -- The words mean a line, and it is run; or they mean none, or memory lacks to read them.
 abbrev pub Starts : List (List ℕ) → Option (List ℕ) → Outputs → Outputs → ℕ → Type 0
 Starts words standard old new status =
-    ((why : LineFault) × ReadsLine words (Err why)) ⊎ ((line : Line) × ReadsLine words (Ok line) × RunsLine line standard old new status)
+    ((why : LineFault) × ReadsLine words (Err why) × RefusesLine why old new status) ⊎ ((line : Line) × ReadsLine words (Ok line) × RunsLine line standard old new status)

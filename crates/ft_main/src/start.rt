@@ -5,7 +5,7 @@ ghost use Rattle.sqlite.specs.Files.{over_files};
 ghost use Rattle.ft_shell.specs.Writing.{AppendsUpTo};
 ghost use Rattle.ft_main.specs.Inputs.{due, RunsInTurn, RunsAndKeeps, Closes, OpensAndRuns, RunsOn, opening_line};
 ghost use Rattle.ft_main.specs.Inputs as forms;
-ghost use Rattle.ft_main.specs.Memory.{RunsInMemory, RunsLine, Starts};
+ghost use Rattle.ft_main.specs.Memory.{RefusesLine, RunsInMemory, RunsLine, Starts};
 
 use crate::files::{OpenFault, open_files, open_in_memory};
 use crate::source::SystemFiles;
@@ -45,7 +45,10 @@ pub fn start<R: Read, O: Write, E: Write>(
 }
 
 // Tells why the words say nothing; the help goes to the output.
-fn refuse_line<O: Write, E: Write>(fault: &LineFault, out: &mut O, err: &mut E) -> u8 {
+fn refuse_line<O: Write, E: Write>(fault: &LineFault, out: &mut O, err: &mut E) -> u8
+    ensures { RefusesLine fault.now (record { out = O.contents out.old; err = E.contents err.old })
+        (record { out = O.contents out.new; err = E.contents err.new }) result }
+{
     match fault {
         LineFault::Words(help) if !help.use_stderr() => {
             let _ = write!(out, "{help}");
