@@ -127,6 +127,8 @@ CASES = [
     (holds_back, "run", ["closed_output"], "tests/closed_output"),
     (opens_to_all, "run", ["files_access"], "644 people.db-fts4"),
     (hushes_faults, "run", ["files_in_use"], "tests/files_in_use"),
+    (hushes_faults, "run", ["import"], "tests/import: status 0, wanted 1"),
+    (hushes_faults, "run", ["limits_of_imports"], "tests/limits_of_imports"),
     (hushes_faults, "run", ["files_of_version_two"], "tests/files_of_version_two"),
     (hushes_faults, "run", ["files_that_may_not_grow"], "tests/files_that_may_not_grow"),
     (hushes_faults, "run", ["limits_of_lines"], "tests/limits_of_lines"),
