@@ -1,7 +1,7 @@
 """Refuses the allocations of the tests of queries one at a time: memory_of_queries.py PROGRAM.
 
-PROGRAM has the tests of the crate ft_tests: crates/ft_tests/out/ft_tests_tests, as `rt ci` and `rt test` leave it. Each of TESTS is run with
-each of its allocations refused alone. It makes a refused call of `parse`, `open` or `next` once more, so one of these holds:
+PROGRAM has the tests of the crate text_tests: crates/text_tests/out/text_tests_tests, as `rt ci` and `rt test` leave it. Each of TESTS is
+run with each of its allocations refused alone. It makes a refused call of `parse`, `open` or `next` once more, so one of these holds:
 - it finds what it finds with ample memory;
 - what was refused is none of those calls' own, and it ends in want of memory.
 It needs a C compiler.

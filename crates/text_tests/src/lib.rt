@@ -1,0 +1,7 @@
+//! The tests of the crates that stand on no database, by the names that they offer.
+#![tactic(auto)]
+
+#[cfg(test)]
+mod query;
+#[cfg(test)]
+mod shell;
