@@ -4,9 +4,7 @@ mod alike;
 mod changes;
 mod commands;
 mod damage;
-mod plain;
 mod queries;
-mod scan;
 mod stops;
 mod worked;
 

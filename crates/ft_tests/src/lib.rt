@@ -2,6 +2,8 @@
 #![tactic(auto)]
 
 #[cfg(test)]
+mod empty;
+#[cfg(test)]
 mod index;
 mod promise;
 #[cfg(test)]

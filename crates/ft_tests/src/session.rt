@@ -1,13 +1,11 @@
 //! Sessions over memory databases: worked inputs, with every byte that they write.
 
+use crate::empty::{Begins, InMemory};
 use crate::index::taken;
 use ft_index::FullText;
 use ft_shell::{RunFault, Session, Source, SourceFault, Status};
-use ft_store::Store;
-use ram_disk::open_ram;
 use shell_text::Settings;
-use sqlite::{Alter, Connection, FileStore};
-use sqlite_disk::Disk;
+use sqlite::{Alter, Connection};
 use std::alloc::Global;
 use std::io::{self, Read, Write};
 use std::process::Abort;
@@ -63,40 +61,20 @@ struct Ended {
     next: Vec<u8>,
 }
 
-// A session over both databases.
-fn session_over<D: Disk + Drop>(
-    alloc: Global,
-    plain: Connection<FileStore<D>>,
-    store: Store<FileStore<D>>,
-) -> Result<Session<FileStore<D>, FileStore<D>>, Fail> {
-    let fulltext = taken(alloc, store)?;
-    Ok(new_session(alloc, plain, fulltext))
+// A session over two databases that stand on the same.
+type Both<S> = Session<S, S>;
+
+fn session_of<S: Begins>(alloc: Global) -> Result<Both<S>, Fail> {
+    let fulltext = taken(alloc, S::store(alloc)?)?;
+    Ok(session_over(alloc, S::database(alloc)?, fulltext))
 }
 
-fn new_session<D: Disk + Drop>(
-    alloc: Global,
-    plain: Connection<FileStore<D>>,
-    fulltext: FullText<FileStore<D>>,
-) -> Session<FileStore<D>, FileStore<D>> {
+fn session_over<S: Alter>(alloc: Global, plain: Connection<S>, fulltext: FullText<S>) -> Both<S> {
     Session::new(alloc, plain, fulltext, Settings::new(alloc))
 }
 
-// A session over both databases, which runs an input and then a second one.
-fn ran_over<D: Disk + Drop, R: Read, O: Write>(
-    alloc: Global,
-    plain: Connection<FileStore<D>>,
-    store: Store<FileStore<D>>,
-    reader: &mut R,
-    out: &mut O,
-    second: &[u8],
-) -> Result<Ended, Fail> {
-    let mut session = session_over(alloc, plain, store)?;
-    run_both(alloc, &mut session, reader, out, second)
-}
-
-// Of the two stores one is named at a time: to name both in one call takes more steps than the checker has.
-fn run_once<S: Alter, D: Disk + Drop, R: Read, O: Write>(
-    session: &mut Session<FileStore<D>, S>,
+fn run_once<S: Alter, R: Read, O: Write>(
+    session: &mut Both<S>,
     reader: &mut R,
     out: &mut O,
     err: &mut Vec<u8>,
@@ -104,9 +82,9 @@ fn run_once<S: Alter, D: Disk + Drop, R: Read, O: Write>(
     session.run(reader, out, err, &mut TwoFiles)
 }
 
-fn run_both<S: Alter, D: Disk + Drop, R: Read, O: Write>(
+fn run_both<S: Alter, R: Read, O: Write>(
     alloc: Global,
-    session: &mut Session<FileStore<D>, S>,
+    session: &mut Both<S>,
     reader: &mut R,
     out: &mut O,
     second: &[u8],
@@ -119,21 +97,24 @@ fn run_both<S: Alter, D: Disk + Drop, R: Read, O: Write>(
     Ok(Ended { status, err, next })
 }
 
+// A session over empty databases, which runs an input and then a second one.
+fn ran_over<S: Begins, R: Read, O: Write>(
+    alloc: Global,
+    reader: &mut R,
+    out: &mut O,
+    second: &[u8],
+) -> Result<Ended, Fail> {
+    let mut session = session_of::<S>(alloc)?;
+    run_both(alloc, &mut session, reader, out, second)
+}
+
 fn ran<R: Read, O: Write>(
     alloc: Global,
     reader: &mut R,
     out: &mut O,
     second: &[u8],
 ) -> Result<Ended, Fail> {
-    let plain = open_ram(alloc)?;
-    ran_over(
-        alloc,
-        plain,
-        Store::open_memory(alloc)?,
-        reader,
-        out,
-        second,
-    )
+    ran_over::<InMemory, R, O>(alloc, reader, out, second)
 }
 
 // How many fault lines there are.

@@ -1,14 +1,25 @@
-//! A store of full-text rows in memory. What is done with one is generic in what it stands on: the checker then follows
-//! no way out of a call into the parts of a disk.
+//! A store of full-text rows in memory.
 
 mod adopting;
 mod packed;
 mod rows;
 
+use crate::empty::Begins;
 use ft_store::{CellRow, EntryRow, RowChange, Store, StoreFault, TabRow, Value};
-use sqlite::Alter;
+use sqlite::{Alter, Connection};
 use std::alloc::{AllocError, Global};
 use std::test::Fail;
+
+/// A database that is taken, and the store that it then is.
+pub(crate) fn adopted<S: Alter + Drop>(
+    alloc: Global,
+    conn: Connection<S>,
+) -> Result<Store<S>, Fail> {
+    match Store::adopt(alloc, conn) {
+        Ok(store) => Ok(store),
+        Err(_) => Err(Fail::new("no store")),
+    }
+}
 
 /// The store with these rows too, which are written as any SQL tool may write them.
 pub(crate) fn with_rows<S: Alter + Drop>(
@@ -18,10 +29,12 @@ pub(crate) fn with_rows<S: Alter + Drop>(
 ) -> Result<Store<S>, Fail> {
     let mut conn = store.into_connection();
     conn.execute_batch(texts)?;
-    match Store::adopt(alloc, conn) {
-        Ok(store) => Ok(store),
-        Err(_) => Err(Fail::new("no store")),
-    }
+    adopted(alloc, conn)
+}
+
+/// A store of these rows alone.
+pub(crate) fn begun<S: Begins>(alloc: Global, texts: &str) -> Result<Store<S>, Fail> {
+    with_rows(alloc, S::store(alloc)?, texts)
 }
 
 // One change by itself: the checker follows each way out of a call, and of a list of changes that may fail there are many.
@@ -87,15 +100,27 @@ fn cells<S: Alter>(store: &mut Store<S>, alloc: Global) -> Result<String, StoreF
     Ok(cells_text(alloc, rows.as_slice())?)
 }
 
-pub(crate) fn entries<S: Alter>(store: &mut Store<S>, alloc: Global) -> Result<String, StoreFault> {
+fn entries<S: Alter>(store: &mut Store<S>, alloc: Global) -> Result<String, StoreFault> {
     let rows = store.entries(1)?;
     Ok(entries_text(alloc, rows.as_slice())?)
 }
 
-pub(crate) fn sizes<S: Alter>(store: &mut Store<S>, alloc: Global) -> Result<String, StoreFault> {
+fn sizes<S: Alter>(store: &mut Store<S>, alloc: Global) -> Result<String, StoreFault> {
     let mut all = String::new(alloc);
     for row in store.sizes(1)? {
         write!(all, "{} {} {};", row.docid, row.column, row.n)?;
     }
     Ok(all)
+}
+
+/// What is read of all rows: the tables, and the cells, entries and sizes of the first.
+pub(crate) fn all_read<S: Alter>(
+    store: &mut Store<S>,
+    alloc: Global,
+) -> Result<String, StoreFault> {
+    let tables = store.tables()?;
+    let tables = tables_text(alloc, tables.as_slice())?;
+    let (cells, entries) = (cells(store, alloc)?, entries(store, alloc)?);
+    let sizes = sizes(store, alloc)?;
+    Ok(format!(in alloc; "{tables}|{cells}|{entries}|{sizes}")?)
 }

@@ -1,88 +1,56 @@
 //! The rows that commands leave, and those that they read.
 
 use super::taken;
-use super::worked::made;
-use crate::store::{entries, sizes};
-use ft_index::{Command, Fault, Filter, FullText, Value};
+use super::worked::begun;
+use crate::empty::{Begins, InMemory};
+use crate::store::all_read;
+use ft_index::{Command, Fault, Filter, FullText};
 use ft_store::Store;
 use sqlite::Alter;
 use std::alloc::{AllocError, Global};
 use std::test::Fail;
 
-// The entries and sizes of the first table.
-fn index_of<S: Alter + Drop>(alloc: Global, store: Store<S>) -> Result<(String, String), Fail> {
+fn rows_of<S: Alter + Drop>(alloc: Global, store: Store<S>) -> Result<String, Fail> {
     let mut store = store;
-    let entries = entries(&mut store, alloc)?;
-    Ok((entries, sizes(&mut store, alloc)?))
+    Ok(all_read(&mut store, alloc)?)
 }
 
-fn index_after<S: Alter + Drop>(
-    alloc: Global,
-    store: Store<S>,
-    input: &str,
-) -> Result<(String, String), Fail> {
-    index_of(alloc, made(alloc, store, input)?)
+fn rows_after<S: Begins>(alloc: Global, input: &str) -> Result<String, Fail> {
+    rows_of(alloc, begun::<S>(alloc, input)?)
 }
 
-// Inputs with the entries and sizes that they leave.
-const CHANGES: [(&str, &str, &str); 4] = [
+// Inputs with the tables, cells, entries and sizes that they leave.
+const CHANGES: [(&str, &str); 4] = [
     (
         "CREATE VIRTUAL TABLE d USING fts4(x);\n\
          INSERT INTO d VALUES('red apple'),('red pear');\n\
          UPDATE d SET x='green' WHERE docid=1;\n",
-        "green 1 0 0 0 5;pear 2 0 1 4 4;red 2 0 0 0 3;",
-        "1 0 1;2 0 2;",
+        "1 d 1 0;|1 0 'green';2 0 'red pear';|green 1 0 0 0 5;pear 2 0 1 4 4;red 2 0 0 0 3;|1 0 1;2 0 2;",
     ),
     (
         "CREATE VIRTUAL TABLE d USING fts4(x);\n\
          INSERT INTO d VALUES('red apple');\n\
          UPDATE d SET docid=9 WHERE docid=1;\n",
-        "apple 9 0 1 4 5;red 9 0 0 0 3;",
-        "9 0 2;",
+        "1 d 1 0;|9 0 'red apple';|apple 9 0 1 4 5;red 9 0 0 0 3;|9 0 2;",
     ),
     (
         "CREATE VIRTUAL TABLE d USING fts4(x);\n\
          INSERT INTO d VALUES('red apple');\n\
          UPDATE d SET x=NULL WHERE docid=1;\n",
-        "",
-        "",
+        "1 d 1 0;|1 0 NULL;||",
     ),
     (
         "CREATE VIRTUAL TABLE n USING fts4(a, b, notindexed=b);\n\
          INSERT INTO n VALUES('red', 'red blue');\n",
-        "red 1 0 0 0 3;",
-        "1 0 1;",
+        "1 n 2 1;|1 0 'red';1 1 'red blue';|red 1 0 0 0 3;|1 0 1;",
     ),
 ];
 
 #[test]
 fn commands_leave_these_rows(rt: HostRuntime) -> Result<(), Fail> {
-    let alloc = rt.alloc();
-    for (input, entries, sizes) in CHANGES {
-        let seen = index_after(alloc, Store::open_memory(alloc)?, input)?;
-        assert_eq!(&rt; seen.0.as_str(), entries);
-        assert_eq!(&rt; seen.1.as_str(), sizes);
+    for (input, rows) in CHANGES {
+        assert_eq!(&rt; rows_after::<InMemory>(rt.alloc(), input)?.as_str(), rows);
     }
-    Ok(())
-}
-
-// What is read of the table that the first of the inputs leaves: its second document, and the entries of a term and of a prefix.
-fn reads_after<S: Alter + Drop>(alloc: Global, store: Store<S>) -> Result<String, Fail> {
-    let (input, _, _) = CHANGES[0];
-    let mut store = made(alloc, store, input)?;
-    let tables = store.tables()?.len();
-    let document = store.document(1, 2)?;
-    let (term, prefix) = (store.term(1, "red")?.len(), store.prefix(1, "re")?.len());
-    Ok(format!(in alloc; "{tables} {document:?} {term} {prefix}")?)
-}
-
-#[test]
-fn changed_rows_are_read(rt: HostRuntime) -> Result<(), Fail> {
-    let alloc = rt.alloc();
-    assert_eq!(&rt;
-        reads_after(alloc, Store::open_memory(alloc)?)?.as_str(),
-        "1 [CellRow { docid: 2, column: 0, value: Text(\"red pear\") }] 1 1"
-    );
     Ok(())
 }
 
@@ -91,16 +59,11 @@ fn d(alloc: Global) -> Result<String, AllocError> {
     "d".to_string(alloc)
 }
 
-// The index after a command is executed on a table that the input makes.
-fn executed<S: Alter + Drop>(
-    alloc: Global,
-    store: Store<S>,
-    input: &str,
-    command: &Command,
-) -> Result<(String, String), Fail> {
-    let mut tables = taken(alloc, made(alloc, store, input)?)?;
+// The rows after a command is executed on a table that the input makes.
+fn executed<S: Begins>(alloc: Global, input: &str, command: &Command) -> Result<String, Fail> {
+    let mut tables = taken(alloc, begun::<S>(alloc, input)?)?;
     tables.execute(command)?;
-    index_of(alloc, tables.into_store())
+    rows_of(alloc, tables.into_store())
 }
 
 #[test]
@@ -112,39 +75,31 @@ fn an_insert_of_no_rows_does_nothing(rt: HostRuntime) -> Result<(), Fail> {
         rows: Vec::new(alloc),
     };
     let input = "CREATE VIRTUAL TABLE d USING fts4(x);\n";
-    let (entries, sizes) = executed(alloc, Store::open_memory(alloc)?, input, &insert)?;
-    assert_eq!(&rt; entries.as_str(), "");
-    assert_eq!(&rt; sizes.as_str(), "");
+    let rows = executed::<InMemory>(alloc, input, &insert)?;
+    assert_eq!(&rt; rows.as_str(), "1 d 1 0;|||");
     Ok(())
 }
 
-// The index after the changes are made that the plan of a command names.
-fn planned<S: Alter + Drop>(
-    alloc: Global,
-    store: Store<S>,
-    input: &str,
-    command: &Command,
-) -> Result<(String, String), Fail> {
-    let mut tables = taken(alloc, made(alloc, store, input)?)?;
+// The rows after the changes are made that the plan of a command names.
+fn planned<S: Begins>(alloc: Global, input: &str, command: &Command) -> Result<String, Fail> {
+    let mut tables = taken(alloc, begun::<S>(alloc, input)?)?;
     let changes = tables.plan(command)?;
     let mut store = tables.into_store();
     store.change(changes.as_slice())?;
-    index_of(alloc, store)
+    rows_of(alloc, store)
 }
 
-// Inputs with the entries and sizes that are left by the plan that deletes the first document.
-const DELETES: [(&str, &str, &str); 2] = [
+// Inputs with the rows that are left by the plan that deletes the first document.
+const DELETES: [(&str, &str); 2] = [
     (
         "CREATE VIRTUAL TABLE d USING fts4(x);\n\
          INSERT INTO d VALUES('red apple');\n",
-        "",
-        "",
+        "1 d 1 0;|||",
     ),
     (
         "CREATE VIRTUAL TABLE d USING fts4(x);\n\
          INSERT INTO d VALUES('red apple'),('red pear');\n",
-        "pear 2 0 1 4 4;red 2 0 0 0 3;",
-        "2 0 2;",
+        "1 d 1 0;|2 0 'red pear';|pear 2 0 1 4 4;red 2 0 0 0 3;|2 0 2;",
     ),
 ];
 
@@ -155,10 +110,8 @@ fn a_plan_is_what_is_done(rt: HostRuntime) -> Result<(), Fail> {
         table: d(alloc)?,
         filter: Filter::Docid(1),
     };
-    for (input, entries, sizes) in DELETES {
-        let seen = planned(alloc, Store::open_memory(alloc)?, input, &delete)?;
-        assert_eq!(&rt; seen.0.as_str(), entries);
-        assert_eq!(&rt; seen.1.as_str(), sizes);
+    for (input, rows) in DELETES {
+        assert_eq!(&rt; planned::<InMemory>(alloc, input, &delete)?.as_str(), rows);
     }
     Ok(())
 }
@@ -169,8 +122,8 @@ fn is_missed<S: Alter>(tables: &mut FullText<S>, command: &Command) -> bool {
 }
 
 // Whether commands on a table that isn't there are refused so. A shell never gives such a command: it takes it for a plain statement.
-fn are_missed<S: Alter + Drop>(alloc: Global, store: Store<S>) -> Result<bool, Fail> {
-    let mut tables = taken(alloc, store)?;
+fn are_missed<S: Begins>(alloc: Global) -> Result<bool, Fail> {
+    let mut tables = taken(alloc, S::store(alloc)?)?;
     let dropped = Command::Drop {
         table: d(alloc)?,
         if_there: false,
@@ -194,8 +147,7 @@ fn are_missed<S: Alter + Drop>(alloc: Global, store: Store<S>) -> Result<bool, F
 
 #[test]
 fn missing_tables_are_told(rt: HostRuntime) -> Result<(), Fail> {
-    let alloc = rt.alloc();
-    assert!(&rt; are_missed(alloc, Store::open_memory(alloc)?)?);
+    assert!(&rt; are_missed::<InMemory>(rt.alloc())?);
     Ok(())
 }
 
@@ -218,25 +170,21 @@ fn thousand_and(alloc: Global, last: &str) -> Result<String, AllocError> {
 }
 
 // How many rows the store was read for in all.
-fn rows_read_after<S: Alter + Drop>(
-    alloc: Global,
-    store: Store<S>,
-    last: &str,
-) -> Result<u64, Fail> {
+fn rows_read_after<S: Begins>(alloc: Global, last: &str) -> Result<u64, Fail> {
     let input = thousand_and(alloc, last)?;
-    Ok(made(alloc, store, input.as_str())?.rows_read())
+    Ok(begun::<S>(alloc, input.as_str())?.rows_read())
 }
 
 #[test]
 fn a_match_reads_what_it_answers(rt: HostRuntime) -> Result<(), Fail> {
     let alloc = rt.alloc();
-    let before = rows_read_after(alloc, Store::open_memory(alloc)?, "")?;
+    let before = rows_read_after::<InMemory>(alloc, "")?;
     for (last, more) in [
         ("SELECT docid FROM d WHERE d MATCH 'rare';\n", 1),
         ("SELECT count(*) FROM d WHERE d MATCH 'rare';\n", 1),
         ("SELECT docid, x FROM d WHERE d MATCH 'rare';\n", 2),
     ] {
-        let after = rows_read_after(alloc, Store::open_memory(alloc)?, last)?;
+        let after = rows_read_after::<InMemory>(alloc, last)?;
         assert_eq!(&rt; after.checked_sub(before), Some(more));
     }
     Ok(())

@@ -2,10 +2,9 @@
 
 use super::marks;
 use super::worked::{Seen, answers_over, made};
+use crate::empty::{Begins, InMemory};
 use crate::session::Row;
-use crate::store::{entries, with_rows};
-use ft_store::Store;
-use sqlite::Alter;
+use crate::store::{all_read, begun, with_rows};
 use std::alloc::Global;
 use std::test::Fail;
 
@@ -16,61 +15,67 @@ const TWO: &str = "INSERT INTO tab VALUES (1, 'd');
     INSERT INTO posting VALUES (1, 'red', 1, x'00000003'), (1, 'red', 2, x'00000003');
     INSERT INTO sizes VALUES (1, 1, 0, 1), (1, 2, 0, 1)";
 
-// The marks of the two documents after these statements.
-fn marks_after<S: Alter + Drop>(
-    alloc: Global,
-    store: Store<S>,
-    texts: &str,
-) -> Result<(usize, bool, bool), Fail> {
-    let store = with_rows(alloc, store, TWO)?;
-    marks(alloc, with_rows(alloc, store, texts)?)
-}
-
-#[test]
-fn tables_are_marked(rt: HostRuntime) -> Result<(), Fail> {
-    let alloc = rt.alloc();
-    for (texts, sound) in [
-        ("DELETE FROM noted", true),
-        ("DELETE FROM posting WHERE docid = 2", false),
-        ("UPDATE posting SET list = x'00' WHERE docid = 2", false),
-        (
-            "UPDATE posting SET list = x'63000001' WHERE docid = 2",
-            false,
-        ),
-        ("DELETE FROM sizes WHERE docid = 2", false),
-        ("UPDATE cell SET docid = 3 WHERE docid = 2", false),
-        ("UPDATE cell SET col = 1 WHERE docid = 2", false),
-        ("UPDATE col SET name = 'docid'", false),
-        ("INSERT INTO skip VALUES (1, 5)", false),
-    ] {
-        let seen = marks_after(alloc, Store::open_memory(alloc)?, texts)?;
-        assert_eq!(&rt; seen, (1, sound, sound));
-    }
-    Ok(())
-}
+// No change.
+const NONE: &str = "DELETE FROM noted";
 
 // A list of places of a table that isn't there.
 const STRAY: &str = "INSERT INTO posting VALUES (1, 'red', 1, x'00000003')";
 
-// The number and the entries of a table that is made in a store without tables.
-fn made_alone<S: Alter + Drop>(alloc: Global, store: Store<S>) -> Result<(i64, String), Fail> {
+// The marks of a store of these rows after these statements.
+fn marks_after<S: Begins>(
+    alloc: Global,
+    rows: &str,
+    texts: &str,
+) -> Result<(usize, bool, bool), Fail> {
+    marks(alloc, with_rows(alloc, begun::<S>(alloc, rows)?, texts)?)
+}
+
+// Rows, statements behind them, how many tables there are then, and whether all are sound.
+const MARKS: [(&str, &str, usize, bool); 11] = [
+    (NONE, NONE, 0, true),
+    (NONE, STRAY, 0, true),
+    (TWO, NONE, 1, true),
+    (TWO, "DELETE FROM posting WHERE docid = 2", 1, false),
+    (
+        TWO,
+        "UPDATE posting SET list = x'00' WHERE docid = 2",
+        1,
+        false,
+    ),
+    (
+        TWO,
+        "UPDATE posting SET list = x'63000001' WHERE docid = 2",
+        1,
+        false,
+    ),
+    (TWO, "DELETE FROM sizes WHERE docid = 2", 1, false),
+    (TWO, "UPDATE cell SET docid = 3 WHERE docid = 2", 1, false),
+    (TWO, "UPDATE cell SET col = 1 WHERE docid = 2", 1, false),
+    (TWO, "UPDATE col SET name = 'docid'", 1, false),
+    (TWO, "INSERT INTO skip VALUES (1, 5)", 1, false),
+];
+
+#[test]
+fn tables_are_marked(rt: HostRuntime) -> Result<(), Fail> {
+    for (rows, texts, count, sound) in MARKS {
+        let seen = marks_after::<InMemory>(rt.alloc(), rows, texts)?;
+        assert_eq!(&rt; seen, (count, sound, sound), "{texts}");
+    }
+    Ok(())
+}
+
+// What is read of all rows where a table is made in a store of these rows.
+fn made_beside<S: Begins>(alloc: Global, rows: &str) -> Result<String, Fail> {
+    let store = begun::<S>(alloc, rows)?;
     let mut store = made(alloc, store, "CREATE VIRTUAL TABLE d USING fts4(x);\n")?;
-    let number = match store.tables()?.as_slice() {
-        [table] => table.id,
-        _ => 0,
-    };
-    Ok((number, entries(&mut store, alloc)?))
+    Ok(all_read(&mut store, alloc)?)
 }
 
 #[test]
 fn no_row_of_a_table_waits_for_it(rt: HostRuntime) -> Result<(), Fail> {
-    let alloc = rt.alloc();
-    for row in ["DELETE FROM noted", STRAY] {
-        let store = with_rows(alloc, Store::open_memory(alloc)?, row)?;
-        assert_eq!(&rt; marks(alloc, store)?, (0, true, true));
-        let store = with_rows(alloc, Store::open_memory(alloc)?, row)?;
-        let (number, entries) = made_alone(alloc, store)?;
-        assert_eq!(&rt; (number, entries.as_str()), (1, ""));
+    for rows in [NONE, STRAY] {
+        let seen = made_beside::<InMemory>(rt.alloc(), rows)?;
+        assert_eq!(&rt; seen.as_str(), "1 d 1 0;|||", "{rows}");
     }
     Ok(())
 }
@@ -90,15 +95,14 @@ const BOTH: &str = "CREATE VIRTUAL TABLE d USING fts4(x);\n\
     INSERT INTO e VALUES('red');\n";
 
 // What is answered to the input once the store that another input made was changed so, and whether all tables are sound then.
-fn answers_after<S: Alter + Drop>(
+fn answers_after<S: Begins>(
     alloc: Global,
-    store: Store<S>,
-    begun: &str,
+    first: &str,
     damage: &str,
     input: &str,
 ) -> Result<(Seen, bool), Fail> {
-    let store = with_rows(alloc, made(alloc, store, begun)?, damage)?;
-    answers_over(alloc, store, input)
+    let store = made(alloc, S::store(alloc)?, first)?;
+    answers_over(alloc, with_rows(alloc, store, damage)?, input)
 }
 
 // What an index that isn't that of the documents answers, until it is made again.
@@ -223,9 +227,8 @@ const DAMAGES: [(&str, &str, Row, bool); 13] = [
 #[test]
 fn damage_is_told_and_mended(rt: HostRuntime) -> Result<(), Fail> {
     let alloc = rt.alloc();
-    for (begun, damage, (input, out, err), is_sound) in DAMAGES {
-        let store = Store::open_memory(alloc)?;
-        let (seen, all) = answers_after(alloc, store, begun, damage, input)?;
+    for (first, damage, (input, out, err), is_sound) in DAMAGES {
+        let (seen, all) = answers_after::<InMemory>(alloc, first, damage, input)?;
         seen.is(&rt, out, err);
         assert_eq!(&rt; all, is_sound, "{damage}");
     }

@@ -127,26 +127,36 @@ fn image_of(alloc: Global, files: &Disks) -> Result<Image, AllocError> {
     })
 }
 
-// What is left by statements of SQL.
-fn altered(alloc: Global, image: &Image, texts: &str) -> Result<Image, Fail> {
-    match opened(alloc, disks_of(alloc, image, NEVER, NEVER)?) {
-        Ok(conn) => Ok(image_of(alloc, &executed(conn, texts)?.into_store().close())?),
+// The database in files, which is opened.
+fn reopened<D: Disk + Drop>(
+    alloc: Global,
+    files: Files<D>,
+) -> Result<Connection<FileStore<D>>, Fail> {
+    match opened(alloc, files) {
+        Ok(conn) => Ok(conn),
         Err(_) => Err(Fail::new("not opened")),
     }
 }
 
-fn executed<S: Alter + Drop>(conn: Connection<S>, texts: &str) -> Result<Connection<S>, Fail> {
-    let mut conn = conn;
+// What statements of SQL leave of files.
+fn after<D: Disk + Drop>(alloc: Global, files: Files<D>, texts: &str) -> Result<Files<D>, Fail> {
+    let mut conn = reopened(alloc, files)?;
     conn.execute_batch(texts)?;
-    Ok(conn)
+    Ok(conn.into_store().close())
+}
+
+fn altered(alloc: Global, image: &Image, texts: &str) -> Result<Image, Fail> {
+    let left = after(alloc, disks_of(alloc, image, NEVER, NEVER)?, texts)?;
+    Ok(image_of(alloc, &left)?)
 }
 
 // The version and all rows of a store, each of whose tables has to be sound.
 fn seen(alloc: Global, image: &Image) -> Result<String, Fail> {
-    match opened(alloc, disks_of(alloc, image, NEVER, NEVER)?) {
-        Ok(conn) => seen_in(alloc, conn),
-        Err(_) => Err(Fail::new("not opened")),
-    }
+    seen_over(alloc, disks_of(alloc, image, NEVER, NEVER)?)
+}
+
+fn seen_over<D: Disk + Drop>(alloc: Global, files: Files<D>) -> Result<String, Fail> {
+    seen_in(alloc, reopened(alloc, files)?)
 }
 
 fn seen_in<S: Alter + Drop>(alloc: Global, conn: Connection<S>) -> Result<String, Fail> {

@@ -1,9 +1,10 @@
 //! Worked inputs with each statement as a command: on full-text tables over a store, and on lists of documents.
 
-use super::plain::PlainTables;
 use super::{commands, queries, taken};
+use crate::empty::{Begins, InMemory};
 use crate::session::Row;
 use ft_index::{Command, Fault, FullText, Reply, TableInfo};
+use ft_lists::ListTables;
 use ft_statements::{
     Class, StatementFault, fault_line, fault_text, read_statement, statement_text, write_reply,
 };
@@ -104,7 +105,7 @@ fn answers<S: Alter>(alloc: Global, tables: &mut FullText<S>, input: &str) -> Re
 
 fn run_plain_line(
     alloc: Global,
-    tables: &mut PlainTables,
+    tables: &mut ListTables,
     line: u64,
     text: &str,
     seen: &mut Seen,
@@ -118,7 +119,7 @@ fn run_plain_line(
 
 /// What lists of documents answer.
 pub(crate) fn plain_answers(alloc: Global, input: &str) -> Result<Seen, Fail> {
-    let mut tables = PlainTables::new(alloc);
+    let mut tables = ListTables::new(alloc);
     let mut seen = Seen::new(alloc);
     let mut line: u64 = 0;
     for text in input.lines() {
@@ -161,10 +162,20 @@ pub(crate) fn made<S: Alter + Drop>(
     Ok(tables.into_store())
 }
 
+/// A store in which an input was executed, of which nothing is refused.
+pub(crate) fn begun<S: Begins>(alloc: Global, input: &str) -> Result<Store<S>, Fail> {
+    made(alloc, S::store(alloc)?, input)
+}
+
+/// What the tables of an empty store answer, and whether all are sound then.
+pub(crate) fn answers_of<S: Begins>(alloc: Global, input: &str) -> Result<(Seen, bool), Fail> {
+    answers_over(alloc, S::store(alloc)?, input)
+}
+
 // A store in memory and lists of documents answer these inputs so.
 fn all_hold(rt: &impl Abort, alloc: Global, rows: &[Row]) -> Result<(), Fail> {
     for (input, out, err) in rows {
-        let (seen, all) = answers_over(alloc, Store::open_memory(alloc)?, input)?;
+        let (seen, all) = answers_of::<InMemory>(alloc, input)?;
         seen.is(rt, out, err);
         assert!(rt; all);
         plain_answers(alloc, input)?.is(rt, out, err);
@@ -173,11 +184,7 @@ fn all_hold(rt: &impl Abort, alloc: Global, rows: &[Row]) -> Result<(), Fail> {
 }
 
 #[test]
-fn commands_are_answered(rt: HostRuntime) -> Result<(), Fail> {
-    all_hold(&rt, rt.alloc(), &commands::ROWS)
-}
-
-#[test]
-fn queries_are_answered(rt: HostRuntime) -> Result<(), Fail> {
+fn commands_and_queries_are_answered(rt: HostRuntime) -> Result<(), Fail> {
+    all_hold(&rt, rt.alloc(), &commands::ROWS)?;
     all_hold(&rt, rt.alloc(), &queries::ROWS)
 }

@@ -231,18 +231,11 @@ const ROWS: [Row; 13] = [
     ),
 ];
 
-#[test]
-fn takes_each_turn(rt: HostRuntime) -> Result<(), Fail> {
-    all_hold(&rt, rt.alloc(), &ROWS)
-}
+const NO_TEXT: &[u8] = b"SELECT 1\n\xff\n;SELECT 2;\n";
 
 #[test]
-fn tells_bytes_that_are_no_text(rt: HostRuntime) -> Result<(), Fail> {
-    holds(
-        &rt,
-        rt.alloc(),
-        b"SELECT 1\n\xff\n;SELECT 2;\n",
-        "2\n",
-        "Error: near line 2: input is not UTF-8\n",
-    )
+fn takes_each_turn(rt: HostRuntime) -> Result<(), Fail> {
+    all_hold(&rt, rt.alloc(), &ROWS)?;
+    let told = "Error: near line 2: input is not UTF-8\n";
+    holds(&rt, rt.alloc(), NO_TEXT, "2\n", told)
 }

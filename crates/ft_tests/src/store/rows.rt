@@ -1,13 +1,10 @@
 //! Changes of rows, and the reads after them.
 
-use super::{
-    cells, cells_text, done, entries, entries_text, put_text, sizes, table_d, tables_text,
-    with_rows,
-};
+use super::{all_read, begun, cells_text, done, entries_text, put_text, table_d};
+use crate::empty::{Begins, InMemory};
 use ft_store::{RowChange, Spot, Store, StoreFault, Value};
 use sqlite::Alter;
 use std::alloc::{AllocError, Global};
-use std::process::Abort;
 use std::test::Fail;
 
 // The table 1, `d`, of one column `x`, with the documents 1, `green`, and 2, `red pear`.
@@ -30,46 +27,20 @@ fn put_term(alloc: Global, term: &str, docid: i64, size: i64) -> Result<RowChang
     Ok(RowChange::PutEntries(1, term, docid, spots))
 }
 
-fn reads_all<S: Alter>(rt: &impl Abort, alloc: Global, store: &mut Store<S>) -> Result<(), Fail> {
-    let tables = store.tables()?;
-    assert_eq!(rt; tables_text(alloc, tables.as_slice())?.as_str(), "1 d 1 0;");
-    let found = cells(store, alloc)?;
-    assert_eq!(rt; found.as_str(), "1 0 'green';2 0 'red pear';");
-    let found = entries(store, alloc)?;
-    assert_eq!(rt;
-        found.as_str(),
-        "green 1 0 0 0 5;pear 2 0 1 4 4;red 2 0 0 0 3;"
-    );
-    let found = sizes(store, alloc)?;
-    assert_eq!(rt; found.as_str(), "1 0 1;2 0 2;");
-    store.is_in_order();
-    Ok(())
-}
-
-fn reads_some<S: Alter>(rt: &impl Abort, alloc: Global, store: &mut Store<S>) -> Result<(), Fail> {
-    let rows = store.document(1, 2)?;
-    assert_eq!(rt;
-        cells_text(alloc, rows.as_slice())?.as_str(),
-        "2 0 'red pear';"
-    );
-    let rows = store.term(1, "red")?;
-    assert_eq!(rt;
-        entries_text(alloc, rows.as_slice())?.as_str(),
-        "red 2 0 0 0 3;"
-    );
-    let rows = store.prefix(1, "re")?;
-    assert_eq!(rt;
-        entries_text(alloc, rows.as_slice())?.as_str(),
-        "red 2 0 0 0 3;"
-    );
-    assert_eq!(rt; store.last_docid(1)?, Some(2));
-    assert_eq!(rt; store.last_docid(2)?, None);
-    assert_eq!(rt; store.rows_read(), 4);
-    Ok(())
+// What is read of some: a document, a term, a prefix, the last docids of two tables, and how many rows that were.
+fn some_read<S: Alter>(store: &mut Store<S>, alloc: Global) -> Result<String, StoreFault> {
+    let document = store.document(1, 2)?;
+    let document = cells_text(alloc, document.as_slice())?;
+    let (term, prefix) = (store.term(1, "red")?, store.prefix(1, "re")?);
+    let term = entries_text(alloc, term.as_slice())?;
+    let prefix = entries_text(alloc, prefix.as_slice())?;
+    let (last, none) = (store.last_docid(1)?, store.last_docid(2)?);
+    let count = store.rows_read();
+    Ok(format!(in alloc; "{document}|{term}|{prefix}|{last:?}|{none:?}|{count}")?)
 }
 
 // A document that changes, and one that goes.
-fn change_both<S: Alter>(alloc: Global, store: &mut Store<S>) -> Result<(), StoreFault> {
+fn change_both<S: Alter>(store: &mut Store<S>, alloc: Global) -> Result<(), StoreFault> {
     done(store, put_text(alloc, 1, "red")?)?;
     let green = String::from_str(alloc, "green")?;
     done(store, RowChange::DropEntries(1, green, 1))?;
@@ -80,50 +51,30 @@ fn change_both<S: Alter>(alloc: Global, store: &mut Store<S>) -> Result<(), Stor
     done(store, RowChange::PutCell(1, 3, 0, Value::Null))
 }
 
-fn changes<S: Alter>(rt: &impl Abort, alloc: Global, store: &mut Store<S>) -> Result<(), Fail> {
-    change_both(alloc, store)?;
-    let found = cells(store, alloc)?;
-    assert_eq!(rt; found.as_str(), "1 0 'red';3 0 NULL;");
-    let found = entries(store, alloc)?;
-    assert_eq!(rt;
-        found.as_str(),
-        "pear 2 0 1 4 4;red 1 0 0 0 3;red 2 0 0 0 3;"
-    );
-    let found = sizes(store, alloc)?;
-    assert_eq!(rt; found.as_str(), "1 0 7;");
-    Ok(())
-}
-
 // The table goes, and comes again without rows.
-fn clears<S: Alter>(rt: &impl Abort, alloc: Global, store: &mut Store<S>) -> Result<(), Fail> {
+fn renew<S: Alter>(store: &mut Store<S>, alloc: Global) -> Result<(), StoreFault> {
     done(store, RowChange::ClearIndex(1))?;
-    assert_eq!(rt; entries(store, alloc)?.as_str(), "");
-    assert_eq!(rt; sizes(store, alloc)?.as_str(), "");
     done(store, RowChange::DropTable(1))?;
-    done(store, table_d(alloc)?)?;
-    assert_eq!(rt; cells(store, alloc)?.as_str(), "");
-    Ok(())
+    done(store, table_d(alloc)?)
 }
 
 // A row of a list that can't be packed: no change of the call is made.
-fn refuses<S: Alter>(rt: &impl Abort, alloc: Global, store: &mut Store<S>) -> Result<(), Fail> {
+fn refuse<S: Alter>(store: &mut Store<S>, alloc: Global) -> Result<(), StoreFault> {
     let bad = put_term(alloc, "p", 1, 0)?;
-    let refused = store.change(&[RowChange::DropCells(1, 1), bad]);
-    assert_eq!(rt; refused, Err(StoreFault::Damaged));
-    let found = cells(store, alloc)?;
-    assert_eq!(rt; found.as_str(), "1 0 'green';2 0 'red pear';");
-    Ok(())
+    match store.change(&[RowChange::DropCells(1, 1), bad]) {
+        Err(StoreFault::Damaged) => Ok(()),
+        _ => Err(StoreFault::Refused),
+    }
 }
 
-fn notes<S: Alter>(rt: &impl Abort, alloc: Global, store: &mut Store<S>) -> Result<(), Fail> {
+// A name is noted, and again with other letters.
+fn noted_twice<S: Alter>(store: &mut Store<S>, alloc: Global) -> Result<String, StoreFault> {
     for name in ["Plain", "PLAIN"] {
         let name = String::from_str(alloc, name)?;
         done(store, RowChange::Note(name))?;
     }
     let names = store.noted()?;
-    assert_eq!(rt; names.len(), 1);
-    assert_eq!(rt; names[0].as_str(), "PLAIN");
-    Ok(())
+    Ok(format!(in alloc; "{names:?}")?)
 }
 
 // What is tried on a store with these rows, one by one.
@@ -133,39 +84,57 @@ enum Trial {
     ReadSome,
     Change,
     Clear,
+    Renew,
     Refuse,
     Note,
 }
 
-fn try_on<S: Alter + Drop>(
-    rt: &impl Abort,
+// What is read after a trial.
+fn read_after<S: Alter>(
+    store: &mut Store<S>,
     alloc: Global,
-    store: Store<S>,
     trial: Trial,
-) -> Result<(), Fail> {
-    let mut store = with_rows(alloc, store, PEARS)?;
+) -> Result<String, StoreFault> {
     match trial {
-        Trial::ReadAll => reads_all(rt, alloc, &mut store),
-        Trial::ReadSome => reads_some(rt, alloc, &mut store),
-        Trial::Change => changes(rt, alloc, &mut store),
-        Trial::Clear => clears(rt, alloc, &mut store),
-        Trial::Refuse => refuses(rt, alloc, &mut store),
-        Trial::Note => notes(rt, alloc, &mut store),
+        Trial::ReadAll => store.is_in_order(),
+        Trial::ReadSome => return some_read(store, alloc),
+        Trial::Change => change_both(store, alloc)?,
+        Trial::Clear => done(store, RowChange::ClearIndex(1))?,
+        Trial::Renew => renew(store, alloc)?,
+        Trial::Refuse => refuse(store, alloc)?,
+        Trial::Note => return noted_twice(store, alloc),
     }
+    all_read(store, alloc)
 }
+
+fn tried<S: Begins>(alloc: Global, trial: Trial) -> Result<String, Fail> {
+    let mut store = begun::<S>(alloc, PEARS)?;
+    Ok(read_after(&mut store, alloc, trial)?)
+}
+
+const FIRST: &str =
+    "1 d 1 0;|1 0 'green';2 0 'red pear';|green 1 0 0 0 5;pear 2 0 1 4 4;red 2 0 0 0 3;|1 0 1;2 0 2;";
+
+const TRIALS: [(Trial, &str); 7] = [
+    (Trial::ReadAll, FIRST),
+    (
+        Trial::ReadSome,
+        "2 0 'red pear';|red 2 0 0 0 3;|red 2 0 0 0 3;|Some(2)|None|4",
+    ),
+    (
+        Trial::Change,
+        "1 d 1 0;|1 0 'red';3 0 NULL;|pear 2 0 1 4 4;red 1 0 0 0 3;red 2 0 0 0 3;|1 0 7;",
+    ),
+    (Trial::Clear, "1 d 1 0;|1 0 'green';2 0 'red pear';||"),
+    (Trial::Renew, "1 d 1 0;|||"),
+    (Trial::Refuse, FIRST),
+    (Trial::Note, "[\"PLAIN\"]"),
+];
 
 #[test]
 fn reads_and_changes(rt: HostRuntime) -> Result<(), Fail> {
-    for trial in [
-        Trial::ReadAll,
-        Trial::ReadSome,
-        Trial::Change,
-        Trial::Clear,
-        Trial::Refuse,
-        Trial::Note,
-    ] {
-        let store = Store::open_memory(rt.alloc())?;
-        try_on(&rt, rt.alloc(), store, trial)?;
+    for (trial, want) in TRIALS {
+        assert_eq!(&rt; tried::<InMemory>(rt.alloc(), trial)?.as_str(), want);
     }
     Ok(())
 }

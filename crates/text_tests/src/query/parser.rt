@@ -170,14 +170,18 @@ fn refuses_what_reads_as_no_query(rt: HostRuntime) -> Result<(), Fail> {
     reads(rt.alloc(), &REFUSED)
 }
 
+// What a text of many like pieces reads as.
+fn read_repeated(alloc: Global, pieces: &Pieces<'_>) -> Result<String, AllocError> {
+    read(alloc, repeated(alloc, pieces)?.as_str(), None)
+}
+
 #[test]
 fn limits_stand_on_both_sides(rt: HostRuntime) -> Result<(), Fail> {
     let alloc = rt.alloc();
-    for (pieces, want) in LIMITS {
-        let text = repeated(alloc, &pieces)?;
+    for (pieces, want) in &LIMITS {
         expect(
             alloc,
-            read(alloc, text.as_str(), None)?.as_str(),
+            read_repeated(alloc, pieces)?.as_str(),
             want,
             pieces.1,
         )?;

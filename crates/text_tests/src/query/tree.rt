@@ -4,15 +4,14 @@ use std::alloc::{AllocError, Global};
 use std::test::Fail;
 
 fn word(alloc: Global, text: &str) -> Result<Phrase, AllocError> {
-    let mut terms: Vec<QueryTerm> = Vec::new(alloc);
-    terms.push(QueryTerm {
+    let term = QueryTerm {
         text: text.to_string(alloc)?,
         prefix: false,
         first: false,
-    })?;
+    };
     Ok(Phrase {
         filter: None,
-        terms,
+        terms: vec![in alloc; term]?,
     })
 }
 

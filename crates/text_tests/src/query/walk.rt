@@ -2,42 +2,45 @@
 //! `tests/memory_of_queries` refuses each of their allocations alone.
 use super::expect;
 use super::words::{Texts, words_of};
+use crate::names::names_of;
 use ft_query::{Hit, ListFault, Lists, Matches, Offset, Query, QueryFault, offsets_text, parse};
 use std::alloc::{AllocError, Global};
 use std::test::Fail;
 
+// What a call of `next` answers. It promises nothing, so that a caller has nothing to carry.
+fn asked(matches: &mut Matches<'_>) -> Option<Option<Hit>> {
+    matches.next().ok()
+}
+
 // The next hit, also where the first call lacks memory: that changes neither the hit nor the steps.
 fn next(matches: &mut Matches<'_>) -> Result<Option<Hit>, Fail> {
     let steps = matches.steps();
-    if let Ok(hit) = matches.next() {
+    if let Some(hit) = asked(matches) {
         return Ok(hit);
     }
     if matches.steps() != steps {
         return Err("a refused call took steps")?;
     }
-    match matches.next() {
-        Ok(hit) => Ok(hit),
-        Err(_) => Err("refused twice")?,
+    match asked(matches) {
+        Some(hit) => Ok(hit),
+        None => Err("refused twice")?,
     }
+}
+
+// A walk, if there is memory for it.
+fn opened<'q>(alloc: Global, query: &'q Query, documents: &[Texts<'_>]) -> Option<Matches<'q>> {
+    Matches::open(alloc, query, &mut words_of(documents)).ok()
 }
 
 // A walk, also where the first call lacks memory.
 fn open<'q>(alloc: Global, query: &'q Query, documents: &[Texts<'_>]) -> Result<Matches<'q>, Fail> {
-    if let Ok(matches) = Matches::open(alloc, query, &mut words_of(documents)) {
+    if let Some(matches) = opened(alloc, query, documents) {
         return Ok(matches);
     }
-    match Matches::open(alloc, query, &mut words_of(documents)) {
-        Ok(matches) => Ok(matches),
-        Err(_) => Err("no walk")?,
+    match opened(alloc, query, documents) {
+        Some(matches) => Ok(matches),
+        None => Err("no walk")?,
     }
-}
-
-fn names_of(alloc: Global, columns: &[&str]) -> Result<Vec<String>, AllocError> {
-    let mut names: Vec<String> = Vec::new(alloc);
-    for column in columns {
-        names.push(column.to_string(alloc)?)?;
-    }
-    Ok(names)
 }
 
 // The query of a text that is one, or is none, also where the first call lacks memory.

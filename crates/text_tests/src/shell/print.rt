@@ -1,5 +1,6 @@
 //! Grids in each mode, and writers that fail.
 
+use crate::names::names_of;
 use shell_text::{Cell, Grid, Mode, PrintFault, Settings, write_grid};
 use std::alloc::Global;
 use std::io;
@@ -73,14 +74,6 @@ fn row_of(alloc: Global, spelled: &[&str]) -> Result<Vec<Cell>, Fail> {
     Ok(row)
 }
 
-fn names_of(alloc: Global, spelled: &[&str]) -> Result<Vec<String>, Fail> {
-    let mut names = Vec::new(alloc);
-    for name in spelled {
-        names.push(String::from_str(alloc, name)?)?;
-    }
-    Ok(names)
-}
-
 // A grid of spelled rows.
 fn grid_of(alloc: Global, names: &[&str], spelled: &[&[&str]]) -> Result<Grid, Fail> {
     let names = names_of(alloc, names)?;
@@ -91,13 +84,19 @@ fn grid_of(alloc: Global, names: &[&str], spelled: &[&[&str]]) -> Result<Grid, F
     Ok(Grid { names, rows })
 }
 
-// Settings of a mode with a sign for NULL, and with a separator of its own where one is given.
-fn settings_of(alloc: Global, mode: Mode, separator: &str) -> Result<Settings, Fail> {
+// Settings with a sign for NULL. They promise nothing, so that a caller has nothing to carry.
+fn with_null(alloc: Global) -> Result<Settings, Fail> {
     let mut settings = Settings::new(alloc);
     settings.set_null("-")?;
+    Ok(settings)
+}
+
+// Settings of a mode with a sign for NULL, and with a separator of its own where one is given.
+fn settings_of(alloc: Global, mode: Mode, own: &str) -> Result<Settings, Fail> {
+    let mut settings = with_null(alloc)?;
     settings.set_mode(mode);
-    if !separator.is_empty() {
-        settings.set_separator(separator)?;
+    if !own.is_empty() {
+        settings.set_separator(own)?;
     }
     Ok(settings)
 }

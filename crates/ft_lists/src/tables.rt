@@ -1,6 +1,6 @@
-//! Commands over lists of documents, without a store or an index. A MATCH looks at the tokens of each document.
+//! Commands over lists of documents. A MATCH looks at the tokens of each document.
 
-use super::scan::{found_in, words_of};
+use crate::scan::{found_in, words_of};
 use ft_content::{
     Column, Command, Fault, Filter, Grid, Item, Items, Reply, TableInfo, Value, answer_names,
     count_rows, create_fault, cut, delete_tests, docid_for_row, insert_tests, item_row,
@@ -16,12 +16,12 @@ type Documents = BTreeMap<i64, Vec<Value>>;
 
 // A table with its documents.
 #[derive(Drop)]
-struct PlainTable {
+struct ListTable {
     info: TableInfo,
     documents: Documents,
 }
 
-impl PlainTable {
+impl ListTable {
     fn is_named(&self, name: &str) -> bool {
         self.info.name.as_str().eq_ignore_ascii_case(name)
     }
@@ -29,21 +29,21 @@ impl PlainTable {
 
 /// Tables with their documents.
 #[derive(Drop)]
-pub(crate) struct PlainTables {
+pub struct ListTables {
     alloc: Global,
-    tables: Vec<PlainTable>,
+    tables: Vec<ListTable>,
 }
 
-impl PlainTables {
-    pub(crate) fn new(alloc: Global) -> PlainTables {
-        PlainTables {
+impl ListTables {
+    pub fn new(alloc: Global) -> ListTables {
+        ListTables {
             alloc,
             tables: Vec::new(alloc),
         }
     }
 
     /// Executes a command as the other full-text tables do. Every table is sound.
-    pub(crate) fn execute(&mut self, command: &Command) -> Result<Reply, Fault> {
+    pub fn execute(&mut self, command: &Command) -> Result<Reply, Fault> {
         let alloc = self.alloc;
         match command {
             Command::Create { .. } => self.create(command)?,
@@ -72,7 +72,7 @@ impl PlainTables {
         Ok(Reply::Done)
     }
 
-    fn known(&self, name: &str) -> Result<&PlainTable, Fault> {
+    fn known(&self, name: &str) -> Result<&ListTable, Fault> {
         match self.tables.iter().find(|known| known.is_named(name)) {
             Some(known) => Ok(known),
             None => Err(Fault::NoSuchTable),
@@ -89,7 +89,7 @@ impl PlainTables {
     }
 
     /// The names of the tables, which is all that a Create or a reader of statements is told of them.
-    pub(crate) fn infos(&self) -> Result<Vec<TableInfo>, AllocError> {
+    pub fn infos(&self) -> Result<Vec<TableInfo>, AllocError> {
         let mut infos: Vec<TableInfo> = Vec::new(self.alloc);
         for known in &self.tables {
             let name = known.info.name.as_str();
@@ -120,7 +120,7 @@ impl PlainTables {
             return Ok(());
         }
         let columns = made_columns(self.alloc, options, names)?;
-        self.tables.push(PlainTable {
+        self.tables.push(ListTable {
             info: info_of(self.alloc, table, columns)?,
             documents: BTreeMap::new(self.alloc),
         })?;
@@ -212,7 +212,7 @@ fn has(documents: &Documents, docid: Option<i64>) -> bool {
 // The documents of a table and those of the rows.
 fn inserted(
     alloc: Global,
-    known: &PlainTable,
+    known: &ListTable,
     listed: Option<&[String]>,
     rows: &[Vec<Value>],
 ) -> Result<Documents, Fault> {
@@ -261,7 +261,7 @@ fn offsets_by(
 }
 
 // The documents that a filter chooses, by rising docid.
-fn chosen(alloc: Global, known: &PlainTable, filter: &Filter) -> Result<Vec<Chosen>, Fault> {
+fn chosen(alloc: Global, known: &ListTable, filter: &Filter) -> Result<Vec<Chosen>, Fault> {
     let columns = known.info.columns.as_slice();
     let query = match filter {
         Filter::Match { name, query } => {
@@ -285,7 +285,7 @@ fn is_chosen(all: &[Chosen], docid: i64) -> bool {
 
 fn updated(
     alloc: Global,
-    known: &PlainTable,
+    known: &ListTable,
     sets: &[(String, Value)],
     filter: &Filter,
 ) -> Result<Documents, Fault> {
@@ -312,7 +312,7 @@ fn updated(
     Ok(documents)
 }
 
-fn deleted(alloc: Global, known: &PlainTable, filter: &Filter) -> Result<Documents, Fault> {
+fn deleted(alloc: Global, known: &ListTable, filter: &Filter) -> Result<Documents, Fault> {
     let (name, columns) = (known.info.name.as_str(), known.info.columns.as_slice());
     if let Some(fault) = delete_tests(name, columns, filter) {
         return Err(fault);
@@ -329,7 +329,7 @@ fn deleted(alloc: Global, known: &PlainTable, filter: &Filter) -> Result<Documen
 
 fn item_rows(
     alloc: Global,
-    known: &PlainTable,
+    known: &ListTable,
     items: &[Item],
     answered: &[Chosen],
 ) -> Result<Vec<Vec<Value>>, AllocError> {
@@ -345,7 +345,7 @@ fn item_rows(
 }
 
 // Answers a Select, which the command is.
-fn select(alloc: Global, known: &PlainTable, command: &Command) -> Result<Reply, Fault> {
+fn select(alloc: Global, known: &ListTable, command: &Command) -> Result<Reply, Fault> {
     let Command::Select {
         items,
         filter,
