@@ -2,6 +2,7 @@
 
 mod adopting;
 mod groups;
+mod lists;
 mod packed;
 mod rows;
 
