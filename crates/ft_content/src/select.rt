@@ -46,8 +46,7 @@ fn any_unknown(table: &str, columns: &[Column], items: &[Item]) -> bool
     items.iter().any(|item| item_unknown(table, columns, item))
 }
 
-/// Whether offsets are among the items.
-pub fn any_offsets(items: &[Item]) -> bool
+fn any_offsets(items: &[Item]) -> bool
     ensures { result ≡ list_any deserved.is_offsets (map item_of items.now) }
 {
     items.iter().any(|item| is_offsets(item))

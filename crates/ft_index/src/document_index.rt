@@ -155,8 +155,7 @@ impl DocumentIndex {
             spots.push(spot)?;
             return Ok(());
         }
-        // most terms stand once in a document
-        let mut spots = Vec::with_capacity(self.alloc, 1)?;
+        let mut spots = Vec::new(self.alloc);
         spots.push(spot)?;
         self.lists.insert(key, spots)?;
         Ok(())

@@ -46,12 +46,11 @@ impl Mode {
     }
 }
 
-/// Whether a text may part the fields of CSV: one byte from U+0001 to U+007F other than a quotation mark, CR and LF. That
-/// is our own choice, since RFC 4180 has the comma alone.
-pub fn is_csv_separator(text: &str) -> bool
+// One byte from U+0001 to U+007F other than a quotation mark, CR and LF.
+pub(crate) fn is_csv_separator(text: &[u8]) -> bool
     ensures { result ≡ is_csv_separator text.now }
 {
-    match text.as_bytes() {
+    match text {
         [b] => *b > 0 && *b < 0x80 && !(*b == b'"' || *b == b'\r' || *b == b'\n'),
         _ => false,
     }
@@ -142,7 +141,7 @@ impl Settings {
         ensures err { OnErr result (self.new ≡ self.old) }
     {
         if let Mode::Csv = self.mode {
-            if !is_csv_separator(separator) {
+            if !is_csv_separator(separator.as_bytes()) {
                 return Err(SetFault::BadSeparator);
             }
         }
