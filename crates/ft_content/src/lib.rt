@@ -31,7 +31,7 @@ pub use laws::{
 pub use limit::cut;
 pub use names::{are_names, is_docid, names_clash, repeats_name};
 pub use query::read_query;
-pub use select::{answer_names, count_rows, delete_tests, item_row, select_tests};
+pub use select::{answer_names, any_offsets, count_rows, delete_tests, item_row, select_tests};
 pub use table::{Column, TableInfo};
 pub use update::{repeats_set, set_docid, update_tests, with_values};
 pub use value::{has_nul, is_too_long};

@@ -46,7 +46,8 @@ fn any_unknown(table: &str, columns: &[Column], items: &[Item]) -> bool
     items.iter().any(|item| item_unknown(table, columns, item))
 }
 
-fn any_offsets(items: &[Item]) -> bool
+/// Whether offsets are among the items.
+pub fn any_offsets(items: &[Item]) -> bool
     ensures { result ≡ list_any deserved.is_offsets (map item_of items.now) }
 {
     items.iter().any(|item| is_offsets(item))

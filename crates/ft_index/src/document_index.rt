@@ -155,7 +155,8 @@ impl DocumentIndex {
             spots.push(spot)?;
             return Ok(());
         }
-        let mut spots = Vec::new(self.alloc);
+        // most terms stand once in a document
+        let mut spots = Vec::with_capacity(self.alloc, 1)?;
         spots.push(spot)?;
         self.lists.insert(key, spots)?;
         Ok(())

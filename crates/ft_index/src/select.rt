@@ -1,8 +1,9 @@
 //! Answers of a Select.
-ghost use Rattle.std.specs.Prelude.{◌≡◌, ◌⊎◌, ◌+◌, ◌*◌, ◌<◌, ◌^◌, ℕ, List, [], Option, None, Some, map, option_map, length, pos, false, string_bytes, IsTrue, IfOk, IfErr, OnOk};
+ghost use Rattle.std.specs.Prelude.{◌≡◌, ◌⊎◌, ◌+◌, ◌*◌, ◌<◌, ◌^◌, ℕ, List, [], Option, None, Some, map, option_map, length, pos, true, false, string_bytes, IsTrue, IfOk, IfErr, OnOk};
 ghost use Rattle.std.specs.List.{list_any};
 ghost use Rattle.sqlite.specs.State.{HasCleanDisk};
 ghost use Rattle.ft_query.specs.Trees.{Tree, tree_of};
+ghost use Rattle.ft_query.specs.Occurs as occurs;
 ghost use Rattle.ft_query.specs.Occurs.{PlainHit};
 ghost use Rattle.ft_store.specs.Changes.{shown_value};
 ghost use Rattle.ft_store.specs.Kept.{shows, more_rows};
@@ -28,8 +29,8 @@ use crate::document::Document;
 use crate::matching::matched;
 use crate::names::{sound_place, sound_table};
 use ft_content::{
-    Column, Fault, Filter, Grid, Item, Items, Reply, TableInfo, Value, answer_names, count_rows,
-    cut, is_docid, item_row, read_query, select_tests,
+    Column, Fault, Filter, Grid, Item, Items, Reply, TableInfo, Value, answer_names, any_offsets,
+    count_rows, cut, is_docid, item_row, read_query, select_tests,
 };
 use ft_query::{Hit, Query, offsets_text};
 use ft_store::{RowChange, Store};
@@ -340,6 +341,18 @@ fn cell_rows<S: Alter>(
     Ok(rows)
 }
 
+// The text of a hit's offsets, if it is asked for.
+fn asked_offsets(alloc: Global, items: &[Item], hit: &Hit) -> Result<String, AllocError>
+    ensures { list_any deserved.is_offsets (map item_of items.now) ≡ true
+        → IfOk result (λ text. string_bytes text ≡ occurs.offsets_text hit.now.offsets.items) }
+{
+    if any_offsets(items) {
+        offsets_text(alloc, hit.offsets.as_slice())
+    } else {
+        Ok(String::new(alloc))
+    }
+}
+
 // The row of a hit with the cells of its document.
 fn hit_row(
     alloc: Global,
@@ -350,6 +363,8 @@ fn hit_row(
 ) -> Result<Vec<Value>, AllocError>
     ensures { IfOk result (λ row. cells_of row ≡ hit_cells (map column_of columns.now) (map item_of items.now) (λ docid. map shown_value cells.now) hit.now) }
 {
-    let offsets = offsets_text(alloc, hit.offsets.as_slice())?;
-    item_row(alloc, columns, items, hit.docid, cells, offsets.as_str())
+    let offsets = asked_offsets(alloc, items, hit)?;
+    let offsets = offsets.as_str();
+    let row = item_row(alloc, columns, items, hit.docid, cells, offsets)?;
+    Ok(row)
 }

@@ -2,6 +2,7 @@ pub mod Adopted
 pub mod Calls
 pub mod Changes
 pub mod Found
+pub mod Groups
 pub mod Kept
 pub mod Made
 pub mod Older

@@ -20,5 +20,5 @@ mod write;
 pub use fault::StoreFault;
 pub use files::open_database;
 pub use packed::packed_lists;
-pub use rows::{CellRow, EntryRow, RowChange, SizeRow, Spot, TabRow, Value};
+pub use rows::{CellRow, EntryRow, ListRow, RowChange, SizeRow, Spot, TabRow, Value};
 pub use store::{AdoptFault, Store};

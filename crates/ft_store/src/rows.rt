@@ -43,6 +43,13 @@ pub struct EntryRow {
     pub spot: Spot,
 }
 
+/// The places of one term in one document, of a term and a table that aren't told.
+#[derive(Debug, Drop)]
+pub struct ListRow {
+    pub docid: i64,
+    pub spots: Vec<Spot>,
+}
+
 /// How many tokens a cell of a known table has.
 #[derive(Clone, Copy, Debug, PartialEq, Eq)]
 pub struct SizeRow {

@@ -1,6 +1,8 @@
 //! A store of full-text rows in memory.
 
 mod adopting;
+mod groups;
+mod lists;
 mod packed;
 mod rows;
 

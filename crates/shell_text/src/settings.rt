@@ -46,11 +46,12 @@ impl Mode {
     }
 }
 
-// One byte from U+0001 to U+007F other than a quotation mark, CR and LF.
-pub(crate) fn is_csv_separator(text: &[u8]) -> bool
+/// Whether a text may part the fields of CSV: one byte from U+0001 to U+007F other than a quotation mark, CR and LF. That
+/// is our own choice, since RFC 4180 has the comma alone.
+pub fn is_csv_separator(text: &str) -> bool
     ensures { result ≡ is_csv_separator text.now }
 {
-    match text {
+    match text.as_bytes() {
         [b] => *b > 0 && *b < 0x80 && !(*b == b'"' || *b == b'\r' || *b == b'\n'),
         _ => false,
     }
@@ -141,7 +142,7 @@ impl Settings {
         ensures err { OnErr result (self.new ≡ self.old) }
     {
         if let Mode::Csv = self.mode {
-            if !is_csv_separator(separator.as_bytes()) {
+            if !is_csv_separator(separator) {
                 return Err(SetFault::BadSeparator);
             }
         }

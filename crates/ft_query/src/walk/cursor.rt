@@ -1,6 +1,6 @@
 // One term's list of documents, passed from front to back.
-ghost use Rattle.std.specs.Prelude.{◌≡◌, ◌+◌, ◌-◌, ◌^◌, ◌≤◌, None, map, min};
-ghost use Rattle.ft_query.specs.Documents.{plain_list};
+ghost use Rattle.std.specs.Prelude.{◌≡◌, ◌+◌, ◌-◌, ◌^◌, ◌≤◌, if◌then◌else◌, None, map, min};
+ghost use Rattle.ft_query.specs.Documents.{plain_list, is_filled};
 ghost use Rattle.ft_query.specs.Cursors.{lists_left, lists_kept, places_at, passed, least_of};
 
 use crate::lists::{DocList, Place};
@@ -43,9 +43,10 @@ impl Cursor {
         self.kept = self.at;
     }
 
-    /// The lesser of this docid and the next one here.
+    /// The lesser of this docid and the next one here, which is looked at if there is one.
     pub(crate) fn lesser(&self, docid: Option<i64>, steps: &mut Steps) -> Option<i64>
         ensures docid { result ≡ least_of docid (lists_left self.now) }
+        ensures looks { steps.new.taken ≡ (if is_filled (lists_left self.now) then min (steps.old.taken + 1) (2 ^ 64 - 1) else steps.old.taken) }
         ensures at_least { steps.old.taken ≤ steps.new.taken }
         ensures at_most { steps.new.taken ≤ steps.old.taken + 1 }
         ensures none { result ≡ None → steps.new.taken ≡ steps.old.taken }
