@@ -7,7 +7,7 @@ use Rattle.ft_query.specs.declared.query.QueryFault.{QueryFault}
 use Rattle.ft_query.specs.Trees.{Tree}
 use Rattle.ft_query.specs.Reads.{query_of}
 use Rattle.ft_query.specs.Occurs.{accepts, offsets_of, offsets_text}
-use Rattle.ft_store.specs.Store.{Cell, Null, Int, Text}
+use Rattle.ft_values.specs.Cells.{Cell, Null, Int, Text}
 use Rattle.ft_content.specs.Content.{Documents, Content, same_name, is_docid, names_of}
 use Rattle.ft_content.specs.Index.{document_postings}
 use Rattle.ft_content.specs.Command.{Filter, Everything, OfDocid, Matching, Item, AllColumns, Named, OffsetsOf, Items, Counted, Listed, Grid}

@@ -3,10 +3,10 @@
 use Rattle.std.specs.Prelude.{◌≡◌, ℕ, ◌+◌, Bool, false, cond, not, ◌&&◌, ◌||◌, List, [], ◌∷◌, map, length, nat_lt, nat_le, ◌==◌, codes, ℤ, pos, IsTrue}
 use Rattle.std.specs.List.{list_any, list_all, flat_map, enumerate_from}
 use Rattle.std.specs.Ordering.{int_cmp, int_eq}
-use Rattle.std.specs.Str.{str_eq_ignore_ascii_case}
 use Rattle.std.specs.Fmt.{signed_decimal}
 use Rattle.std.specs.FinMap.Entries.{is_sorted}
-pub use Rattle.ft_store.specs.Store.{Cell, Null, Int, Text}
+pub use Rattle.ft_values.specs.Cells.{Cell, Null, Int, Text}
+pub use Rattle.ft_values.specs.Names.{same_name}
 
 -- The text of a cell: nothing, the decimal text, or the text. A cell is NULL, an integer or a text (own choice).
 abbrev pub cell_text : Cell → List ℕ
@@ -26,10 +26,6 @@ Documents = List (ℤ × List Cell)
 pub record Content : Type 0 where
   pub columns : List Column
   pub documents : Documents
-
--- Names are compared without ASCII case (own choice, after SQLite's names).
-abbrev pub same_name : List ℕ → List ℕ → Bool
-same_name = str_eq_ignore_ascii_case
 
 -- docid goes by two names ("Populating FTS Tables"; the document's other names aren't taken, an own choice)
 abbrev pub is_docid : List ℕ → Bool

@@ -4,12 +4,12 @@ use Rattle.std.specs.Prelude.{ℕ, ◌-◌, ◌^◌, Bool, true, false, cond, no
 use Rattle.std.specs.List.{list_any, list_all, find, flat_map}
 use Rattle.std.specs.Ordering.{int_cmp, int_eq}
 use Rattle.std.specs.FinMap.Entries.{put, find as cells_at}
-use Rattle.ft_content.specs.declared.fault.Fault.{Fault}
-use Rattle.ft_content.specs.declared.fault.Fault.TheVariants as faults
+use Rattle.ft_values.specs.declared.fault.Fault.{Fault}
+use Rattle.ft_values.specs.declared.fault.Fault.TheVariants as faults
 use Rattle.ft_query.specs.declared.query.QueryFault.{QueryFault}
 use Rattle.ft_query.specs.declared.query.QueryFault.TheVariants.{Malformed, TooLarge, Memory}
 use Rattle.ft_query.specs.Trees.{Tree}
-use Rattle.ft_store.specs.Store.{Cell, Null, Int, Text}
+use Rattle.ft_values.specs.Cells.{Cell, Null, Int, Text}
 use Rattle.ft_content.specs.Content.{Column, Documents, Content, TableRows, same_name, is_docid, is_name, names_of, repeats_name, names_clash, is_too_long, has_nul}
 use Rattle.ft_content.specs.Command.{Filter, Everything, OfDocid, Matching, Item, AllColumns, Named, OffsetsOf, Items, Counted, Listed, Command, Create, Drop, Insert, Update, Delete, Select, Rebuild, Check, Optimize}
 use Rattle.ft_content.specs.Answer.{reading, chosen}

@@ -8,7 +8,7 @@ use Rattle.std.specs.FinMap.Entries.{put}
 use Rattle.ft_query.specs.Trees.{Tree}
 use Rattle.ft_query.specs.Documents.{Posting, Document, AreDocuments, documents_of, PlaceList, lists_with, place_count}
 use Rattle.ft_query.specs.Occurs.{PlainHit, hits_of, offsets_of}
-use Rattle.ft_store.specs.Store.{Cell}
+use Rattle.ft_values.specs.Cells.{Cell}
 use Rattle.ft_content.specs.Content.{Content, IsContent}
 use Rattle.ft_content.specs.Index.{document_tokens, document_postings, Spot, Entry, Key, StoredSpot, index_rows}
 use Rattle.ft_content.specs.Command.{Matching}

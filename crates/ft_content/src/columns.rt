@@ -8,7 +8,7 @@ ghost use Rattle.ft_content.specs.Views.{bare_content, filter_of, names_in};
 
 use crate::command::Filter;
 use crate::names::{is_docid, same_name};
-use crate::table::Column;
+use ft_values::Column;
 use std::alloc::{AllocError, Global};
 
 /// The place of the column of this name, if there is one.

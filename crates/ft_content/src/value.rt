@@ -1,11 +1,11 @@
 // Values of cells.
 ghost use Rattle.std.specs.Prelude.{◌≡◌, [], cond, slice_get, IfOk};
-ghost use Rattle.ft_store.specs.Changes.{shown_value};
+ghost use Rattle.ft_values.specs.Cells.{shown_value};
 ghost use Rattle.ft_content.specs.Content as content;
 ghost use Rattle.ft_content.specs.Deserved as deserved;
 
 use crate::names::is_docid;
-use ft_store::Value;
+use ft_values::Value;
 use std::alloc::{AllocError, Global};
 
 /// A copy of a value.

@@ -10,9 +10,9 @@ use Rattle.ft_store.specs.Rows.{value_of as value_in_trees}
 use Rattle.ft_store.specs.Store.{Change, all_applied}
 use Rattle.ft_store.specs.Changes.{shown_change}
 use Rattle.ft_store.specs.Kept.{StoreState, shows, value_in}
-use Rattle.ft_store.specs.declared.rows.RowChange.{RowChange}
-use Rattle.ft_content.specs.declared.fault.Fault.{Fault}
-use Rattle.ft_content.specs.declared.fault.Fault.TheVariants as faults
+use Rattle.ft_values.specs.declared.rows.RowChange.{RowChange}
+use Rattle.ft_values.specs.declared.fault.Fault.{Fault}
+use Rattle.ft_values.specs.declared.fault.Fault.TheVariants as faults
 use Rattle.ft_content.specs.Content.{Content, Documents, same_name}
 use Rattle.ft_content.specs.Command.{Command, Reply, Done}
 use Rattle.ft_content.specs.Views.{KnownTable}

@@ -21,7 +21,7 @@ use Rattle.sqlite_keyed.proofs.SortLemmas.{sorted_unique}
 use Rattle.ft_query.specs.declared.lists.Place.{Place}
 use Rattle.ft_query.specs.Documents.{Posting, Document, IsBefore, AreDocuments, PlaceList, is_filled, has_places, places_with, lists_with, place_count}
 use Rattle.ft_store.specs.Store.{ListKey, list_key_cmp}
-use Rattle.ft_store.specs.declared.rows.ListRow.{ListRow}
+use Rattle.ft_values.specs.declared.rows.ListRow.{ListRow}
 use Rattle.ft_store.specs.Shown.{shown_list, bare_list, spot_count}
 use Rattle.ft_store.proofs.SelectLemmas.{filter_passes}
 use Rattle.ft_store.proofs.TypedLemmas.{and_first, and_second}

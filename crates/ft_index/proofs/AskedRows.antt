@@ -2,7 +2,7 @@
 -- Function"; the searches are own examples.
 use Rattle.std.specs.Prelude.{◌≡◌, ℕ, true, List, [], ◌∷◌, Option, Some, None, pos, codes, refl}
 use Rattle.ft_query.specs.Reads.{query_of}
-use Rattle.ft_store.specs.Store.{Text}
+use Rattle.ft_values.specs.Cells.{Text}
 use Rattle.ft_content.specs.Content.{Content}
 use Rattle.ft_content.specs.Command.{Matching, AllColumns, Named, OffsetsOf, Items, Counted, Listed}
 use Rattle.ft_content.specs.Answer.{reading, chosen}

@@ -1,7 +1,7 @@
 -- Tests of a filter look at the columns of a content alone.
 use Rattle.std.proofs.Common.{◌≡◌, ℕ, List, [], map, Option, refl, ap, ◌∙◌}
 use Rattle.ft_query.specs.Trees.{Tree}
-use Rattle.ft_content.specs.declared.table.Column as source
+use Rattle.ft_values.specs.declared.table.Column as source
 use Rattle.ft_content.specs.Content.{Column, Content}
 use Rattle.ft_content.specs.Command.{Filter, Everything, OfDocid, Matching}
 use Rattle.ft_content.specs.Answer.{reading}

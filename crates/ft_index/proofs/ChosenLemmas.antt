@@ -11,7 +11,7 @@ use Rattle.std.proofs.lemmas.Bool.{and_parts}
 use Rattle.std.proofs.lemmas.Map.Lookups.{exact_signed}
 use Rattle.ft_query.specs.Occurs.{PlainHit}
 use Rattle.ft_query.specs.Trees.{Tree}
-use Rattle.ft_store.specs.Store.{Cell}
+use Rattle.ft_values.specs.Cells.{Cell}
 use Rattle.ft_content.specs.Content.{Content, Documents, IsContent}
 use Rattle.ft_content.specs.Command.{Filter, Everything, OfDocid}
 use Rattle.ft_content.specs.Answer.{is_chosen, chosen, query_in}

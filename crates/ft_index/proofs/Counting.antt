@@ -1,7 +1,7 @@
 -- Rows are counted of a Select alone.
 use Rattle.std.proofs.Common.{ℕ, List, Option, Result, Ok, Err}
 use Rattle.sqlite.specs.Store.{Ghosts}
-use Rattle.ft_content.specs.declared.fault.Fault.{Fault}
+use Rattle.ft_values.specs.declared.fault.Fault.{Fault}
 use Rattle.ft_content.specs.Command.{Command, Reply, Done, Rows}
 use Rattle.ft_content.specs.Deserved.{Contents}
 use Rattle.ft_index.specs.Kept.{Known}

@@ -11,7 +11,7 @@ use Rattle.ft_store.specs.Calls.{IsStored}
 use Rattle.ft_store.specs.Store.{Change, StoreValue, all_applied}
 use Rattle.ft_store.specs.Changes.{shown_change}
 use Rattle.ft_store.specs.Kept.{StoreState, shows, value_in}
-use Rattle.ft_store.specs.declared.rows.RowChange.{RowChange}
+use Rattle.ft_values.specs.declared.rows.RowChange.{RowChange}
 use Rattle.ft_content.specs.Command.{Command}
 use Rattle.ft_content.specs.Views.{KnownTable}
 use Rattle.ft_content.specs.Deserved.{Contents, deserved}

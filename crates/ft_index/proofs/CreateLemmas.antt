@@ -7,8 +7,8 @@ use Rattle.std.specs.declared.cmp.Ordering.TheVariants.{Less, Equal, Greater}
 use Rattle.std.specs.Ordering.{int_cmp, int_eq, is_lt, is_eq}
 use Rattle.std.specs.FinMap.Entries.{put, by_order}
 use Rattle.ft_store.specs.Store.{StoreValue, AreInOrder, AddTable, applied}
-use Rattle.ft_content.specs.declared.fault.Fault.{Fault}
-use Rattle.ft_content.specs.declared.table.TableInfo.{TableInfo}
+use Rattle.ft_values.specs.declared.fault.Fault.{Fault}
+use Rattle.ft_values.specs.declared.table.TableInfo.{TableInfo}
 use Rattle.ft_content.specs.Content.{IsContent, names_of, skipped_from}
 use Rattle.ft_content.specs.Command.{Command, Create, Done}
 use Rattle.ft_content.specs.Views.{KnownTable, known_info}

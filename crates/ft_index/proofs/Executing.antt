@@ -4,9 +4,9 @@ use Rattle.std.specs.Prelude.{IsTrue}
 use Rattle.sqlite.specs.Store.{Ghosts}
 use Rattle.ft_store.specs.Store.{AreInOrder, Change}
 use Rattle.ft_store.specs.Kept.{StoreState, value_in}
-use Rattle.ft_content.specs.declared.fault.Fault.{Fault}
-use Rattle.ft_content.specs.declared.fault.Fault.TheVariants as faults
-use Rattle.ft_content.specs.declared.table.TableInfo.{TableInfo}
+use Rattle.ft_values.specs.declared.fault.Fault.{Fault}
+use Rattle.ft_values.specs.declared.fault.Fault.TheVariants as faults
+use Rattle.ft_values.specs.declared.table.TableInfo.{TableInfo}
 use Rattle.ft_content.specs.Command.{Command, Create, Reply, Done}
 use Rattle.ft_content.specs.Views.{KnownTable, known_info}
 use Rattle.ft_content.specs.Deserved.{Contents, deserved}

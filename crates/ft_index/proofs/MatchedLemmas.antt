@@ -6,7 +6,7 @@ use Rattle.ft_query.specs.Trees.{Tree}
 use Rattle.ft_query.specs.Occurs.{PlainHit, accepts, hits_of}
 use Rattle.ft_query.proofs.Bridge.{postings_rise}
 use Rattle.ft_query.proofs.BridgeDocuments.{accepts_nothing}
-use Rattle.ft_store.specs.Store.{Cell}
+use Rattle.ft_values.specs.Cells.{Cell}
 use Rattle.ft_content.specs.Content.{Content, Documents, IsContent}
 use Rattle.ft_content.specs.Index.{document_postings}
 use Rattle.ft_content.specs.Command.{Matching}

@@ -8,7 +8,7 @@ use Rattle.sqlite.specs.Effect.{Database}
 use Rattle.sqlite.specs.Store.{Ghosts}
 use Rattle.ft_store.specs.Rows.{value_of}
 use Rattle.ft_store.specs.Kept.{StoreState, shows, value_in}
-use Rattle.ft_store.specs.declared.rows.TabRow.{TabRow}
+use Rattle.ft_values.specs.declared.rows.TabRow.{TabRow}
 use Rattle.ft_store.specs.Store.{StoreValue}
 use Rattle.ft_store.specs.Shown.{Listed, shown_table, table_listed, AreNamedApart}
 use Rattle.ft_content.specs.Content.{repeats_name}

@@ -7,13 +7,13 @@ use Rattle.std.specs.Cmp.{int_cmp_total, eq_by_cmp_equiv}
 use Rattle.sqlite.specs.State.{HasCleanDisk}
 use Rattle.sqlite.specs.Effect.{Database}
 use Rattle.sqlite.specs.Store.{Ghosts}
-use Rattle.ft_store.specs.declared.rows.CellRow as stored_cell
-use Rattle.ft_store.specs.declared.rows.TabRow.{TabRow}
+use Rattle.ft_values.specs.declared.rows.CellRow as stored_cell
+use Rattle.ft_values.specs.declared.rows.TabRow.{TabRow}
 use Rattle.ft_store.specs.Rows.{value_of}
 use Rattle.ft_store.specs.Store.{StoreValue, AreInOrder, Change, all_applied}
 use Rattle.ft_store.specs.Kept.{StoreState, shows, value_in}
-use Rattle.ft_content.specs.declared.fault.Fault.{Fault}
-use Rattle.ft_content.specs.declared.fault.Fault.TheVariants as faults
+use Rattle.ft_values.specs.declared.fault.Fault.{Fault}
+use Rattle.ft_values.specs.declared.fault.Fault.TheVariants as faults
 use Rattle.ft_content.specs.Content.{Content, TableRows, IsContent, content_rows, content_in, gathered, same_name}
 use Rattle.ft_content.specs.Index.{IndexRows, index_rows}
 use Rattle.ft_content.specs.Command.{Command, Rebuild, Done}

@@ -7,8 +7,8 @@ use Rattle.ft_query.specs.Trees.{Tree}
 use Rattle.ft_store.specs.Store.{StoreValue, AreInOrder}
 use Rattle.ft_store.specs.Rows.{value_of as value_of_trees}
 use Rattle.ft_store.specs.Kept.{StoreState, value_in, more_rows}
-use Rattle.ft_content.specs.declared.fault.Fault.{Fault}
-use Rattle.ft_content.specs.declared.fault.Fault.TheVariants as faults
+use Rattle.ft_values.specs.declared.fault.Fault.{Fault}
+use Rattle.ft_values.specs.declared.fault.Fault.TheVariants as faults
 use Rattle.ft_content.specs.Content.{Column, Content, content_rows, names_of, same_name}
 use Rattle.ft_content.specs.Command.{Filter, Everything, OfDocid, Matching, Item, AllColumns, Named, OffsetsOf, Items, Counted, Listed, Command, Select, Reply, Rows, Grid}
 use Rattle.ft_content.specs.Answer.{reading, column_place, item_headers, answer_names, answer}

@@ -11,7 +11,7 @@ use Rattle.std.proofs.lemmas.List.{drop-take, take_all, length-take, length-map}
 use Rattle.ft_query.specs.declared.walk.Hit.{Hit}
 use Rattle.ft_query.specs.Trees.{Tree}
 use Rattle.ft_query.specs.Occurs.{PlainHit, plain_hit, offsets_text}
-use Rattle.ft_store.specs.Store.{Cell, Null, Int, Text}
+use Rattle.ft_values.specs.Cells.{Cell, Null, Int, Text}
 use Rattle.ft_content.specs.Content.{Column, Content, Documents, IsContent, is_docid, is_cell, is_document}
 use Rattle.ft_content.specs.Command.{Filter, Everything, OfDocid, Matching, Item, AllColumns, Named, OffsetsOf, Items, Listed}
 use Rattle.ft_content.specs.Answer.{cells_with, named_cell, item_cells, offsets_cell, item_rows, column_place, cut, query_in, chosen}

@@ -13,11 +13,12 @@ use Rattle.ft_store.specs.Kept.{StoreState, shows, value_in}
 use Rattle.ft_store.specs.Rows.{value_of}
 use Rattle.ft_store.proofs.ChainLemmas.{kept_then, reads_then}
 use Rattle.ft_index.specs.DocumentsRead.{Looks}
-use Rattle.ft_store.specs.declared.rows.CellRow as stored_cell
-use Rattle.ft_store.specs.declared.rows.SizeRow as stored_size
-use Rattle.ft_store.specs.declared.rows.EntryRow as stored_entry
-use Rattle.ft_store.specs.declared.rows.TabRow.{TabRow}
-use Rattle.ft_store.specs.Store.{Cell, StoreValue, AreInOrder, CellKey, ListKey, cell_key_cmp, list_key_cmp}
+use Rattle.ft_values.specs.declared.rows.CellRow as stored_cell
+use Rattle.ft_values.specs.declared.rows.SizeRow as stored_size
+use Rattle.ft_values.specs.declared.rows.EntryRow as stored_entry
+use Rattle.ft_values.specs.declared.rows.TabRow.{TabRow}
+use Rattle.ft_values.specs.Cells.{Cell}
+use Rattle.ft_store.specs.Store.{StoreValue, AreInOrder, CellKey, ListKey, cell_key_cmp, list_key_cmp}
 use Rattle.ft_store.specs.Shown as shown
 use Rattle.ft_content.specs.Content.{Column, Content, IsContent, TableRows, content_rows, content_in}
 use Rattle.ft_content.specs.Index.{EntryRow, entry_rows, Key, StoredSpot, SizeRow, IndexRows, index_rows}

@@ -4,7 +4,7 @@ use Rattle.std.specs.Prelude.{is_none}
 use Rattle.std.specs.List.{AllByRecursion}
 use Rattle.std.specs.Ordering.{int_eq}
 use Rattle.ft_store.specs.Store.{StoreValue, AreInOrder, DropTable, applied}
-use Rattle.ft_content.specs.declared.fault.Fault.TheVariants as faults
+use Rattle.ft_values.specs.declared.fault.Fault.TheVariants as faults
 use Rattle.ft_content.specs.Content.{same_name}
 use Rattle.ft_content.specs.Command.{Drop, Done}
 use Rattle.ft_content.specs.Views.{KnownTable}

@@ -2,8 +2,8 @@
 use Rattle.std.specs.Prelude.{◌≡◌, ◌⊎◌, ℕ, ℤ, not, cond, filter, List, [], ◌∷◌, Option, Some, None, slice_get, IsTrue, false}
 use Rattle.std.specs.List.{find}
 use Rattle.std.specs.Ordering.{int_cmp, int_eq, is_lt}
-use Rattle.ft_content.specs.declared.fault.Fault.{Fault}
-use Rattle.ft_content.specs.declared.fault.Fault.TheVariants as faults
+use Rattle.ft_values.specs.declared.fault.Fault.{Fault}
+use Rattle.ft_values.specs.declared.fault.Fault.TheVariants as faults
 use Rattle.ft_content.specs.Content.{same_name}
 use Rattle.ft_content.specs.Views.{KnownTable}
 

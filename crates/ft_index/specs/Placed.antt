@@ -5,8 +5,8 @@ use Rattle.std.specs.declared.cmp.Ordering.{Ordering}
 use Rattle.std.specs.Ordering.{nat_cmp, int_cmp, int_eq, ordering_then}
 use Rattle.ft_query.specs.declared.lists.Place.{Place}
 use Rattle.ft_query.specs.Documents.{PlaceList}
-use Rattle.ft_store.specs.declared.rows.ListRow.{ListRow}
-use Rattle.ft_store.specs.declared.rows.Spot.{Spot}
+use Rattle.ft_values.specs.declared.rows.ListRow.{ListRow}
+use Rattle.ft_values.specs.declared.rows.Spot.{Spot}
 use Rattle.ft_index.specs.declared.doc_lists.Placed.{Placed}
 
 abbrev pub place_of : Spot → Place

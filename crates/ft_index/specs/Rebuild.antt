@@ -1,7 +1,8 @@
 -- The row changes that make the index of a table again ("The "rebuild" command"); their rows are an own choice.
 use Rattle.std.specs.Prelude.{◌≡◌, ◌≢◌, ℕ, true, false, cond, List, map, Option, Some, None, ℤ}
 use Rattle.std.specs.Ordering.{int_eq}
-use Rattle.ft_store.specs.Store.{Cell, StoreValue, AreInOrder, Change, all_applied}
+use Rattle.ft_values.specs.Cells.{Cell}
+use Rattle.ft_store.specs.Store.{StoreValue, AreInOrder, Change, all_applied}
 use Rattle.ft_content.specs.Content.{Column, Documents, Content, TableRows, IsContent, content_rows}
 use Rattle.ft_content.specs.Index.{index_rows}
 use Rattle.ft_content.specs.Views.{KnownTable, cells_of, column_of}

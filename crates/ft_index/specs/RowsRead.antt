@@ -3,7 +3,7 @@ use Rattle.std.specs.Prelude.{◌≡◌, ℕ, ◌+◌, ◌*◌, Bool, true, fals
 use Rattle.std.specs.List.{list_any}
 use Rattle.ft_query.specs.Trees.{Tree}
 use Rattle.ft_query.specs.Work.{entry_count}
-use Rattle.ft_content.specs.declared.fault.Fault.{Fault}
+use Rattle.ft_values.specs.declared.fault.Fault.{Fault}
 use Rattle.ft_content.specs.Content.{Content, is_docid}
 use Rattle.ft_content.specs.Command.{Filter, Matching, Item, AllColumns, Named, OffsetsOf, Items, Counted, Listed, Command, Select, Reply, Rows}
 use Rattle.ft_content.specs.Answer.{query_in, chosen, cut}

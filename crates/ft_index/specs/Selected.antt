@@ -5,7 +5,7 @@ use Rattle.sqlite.specs.Store.{Ghosts}
 use Rattle.ft_query.specs.declared.walk.Hit.{Hit}
 use Rattle.ft_query.specs.Trees.{Tree}
 use Rattle.ft_query.specs.Occurs.{offsets_text}
-use Rattle.ft_store.specs.Store.{Cell, Text}
+use Rattle.ft_values.specs.Cells.{Cell, Text}
 use Rattle.ft_store.specs.Kept.{StoreState}
 use Rattle.ft_content.specs.Content.{Column, Content}
 use Rattle.ft_content.specs.Command.{Filter, Item, Items}

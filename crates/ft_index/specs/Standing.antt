@@ -4,11 +4,11 @@ use Rattle.std.specs.declared.alloc.Global.{Global}
 use Rattle.std.specs.List.{AllByRecursion, list_all, list_any, flat_map}
 use Rattle.std.specs.Ordering.{int_cmp, int_eq, is_lt}
 use Rattle.std.specs.FinMap.Entries.{is_sorted}
-use Rattle.ft_store.specs.declared.rows.CellRow as stored
-use Rattle.ft_store.specs.declared.rows.EntryRow as entries
-use Rattle.ft_store.specs.declared.rows.SizeRow as sizes
-use Rattle.ft_store.specs.declared.rows.TabRow.{TabRow}
-use Rattle.ft_store.specs.Changes.{shown_value}
+use Rattle.ft_values.specs.declared.rows.CellRow as stored
+use Rattle.ft_values.specs.declared.rows.EntryRow as entries
+use Rattle.ft_values.specs.declared.rows.SizeRow as sizes
+use Rattle.ft_values.specs.declared.rows.TabRow.{TabRow}
+use Rattle.ft_values.specs.Cells.{shown_value}
 use Rattle.ft_content.specs.Content.{Cell, CellRow, Column, TableRows, Documents, Content, IsContent, content_rows, document_rows, is_cell, is_document}
 use Rattle.ft_content.specs.Index.{EntryRow, entry_rows, Key, StoredSpot, key_cmp, IndexRows, index_rows}
 use Rattle.ft_index.specs.RewriteRows.{same_spot, sized, sizes_of, lists_of}

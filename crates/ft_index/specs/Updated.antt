@@ -1,7 +1,7 @@
 -- The rewrites of an Update. All of it is our own choice.
 use Rattle.std.specs.Prelude.{◌≡◌, ℤ, ℕ, cond, List, [], ◌∷◌, ◌++◌, Option, Some, None}
 use Rattle.std.specs.Ordering.{int_cmp, int_eq, is_lt}
-use Rattle.ft_store.specs.Store.{Cell}
+use Rattle.ft_values.specs.Cells.{Cell}
 use Rattle.ft_content.specs.Content.{Column, Content}
 use Rattle.ft_content.specs.Command.{Filter}
 use Rattle.ft_content.specs.Answer.{chosen}

@@ -3,7 +3,7 @@ ghost use Rattle.std.specs.Prelude.{◌≡◌, ◌⊎◌, ◌↔◌, ℤ, ℕ, L
 ghost use Rattle.std.specs.List.{list_all};
 ghost use Rattle.sqlite.specs.State.{HasCleanDisk};
 ghost use Rattle.ft_store.specs.Kept.{shows, value_in};
-ghost use Rattle.ft_content.specs.declared.fault.Fault.TheVariants as faults;
+ghost use Rattle.ft_values.specs.declared.fault.Fault.TheVariants as faults;
 ghost use Rattle.ft_content.specs.Command as plain;
 ghost use Rattle.ft_content.specs.Views.{known_info, answer_of};
 ghost use Rattle.ft_content.specs.Deserved.{Held, Contents};
@@ -13,11 +13,11 @@ ghost use Rattle.ft_index.specs.Kept.{Stands, StoreHolds, AreSound, Executes, is
 ghost use Rattle.ft_index.specs.Opened.{IsNamed};
 ghost use Rattle.ft_index.specs.Tables.{table_rows, table_index};
 
-use crate::names::place_of;
 use crate::open::opened_tables;
 use crate::standing::{listed_table, read_standing};
 use ft_content::{Fault, Reply, TableInfo};
 use ft_store::{Store, StoreFault};
+use ft_values::table_place;
 use sqlite::Alter;
 use std::alloc::Global;
 
@@ -50,7 +50,7 @@ pub(crate) fn check_table<S: Alter>(
     ensures live { HasCleanDisk (shows S.Store store.new) → OnOk result (IsTrue (shows S.Store store.old).is_open → IsTrue (shows S.Store store.new).is_open) }
 {
     store.is_in_order();
-    let Some(place) = place_of(tables, table) else {
+    let Some(place) = table_place(tables, table) else {
         return Err(Fault::NoSuchTable);
     };
     let id = tables[place].id;

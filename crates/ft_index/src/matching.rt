@@ -8,7 +8,7 @@ ghost use Rattle.ft_query.specs.Occurs.{plain_hit, hits_of};
 ghost use Rattle.ft_query.specs.Walk.{StandsBefore};
 ghost use Rattle.ft_store.specs.Calls.{Keeps};
 ghost use Rattle.ft_store.specs.Kept.{shows, more_rows};
-ghost use Rattle.ft_content.specs.declared.fault.Fault.TheVariants as faults;
+ghost use Rattle.ft_values.specs.declared.fault.Fault.TheVariants as faults;
 ghost use Rattle.ft_content.specs.Content.{Content};
 ghost use Rattle.ft_content.specs.Meaning.{content_documents};
 ghost use Rattle.ft_content.specs.Command.{Matching};

@@ -23,12 +23,12 @@ use crate::change::change_rows;
 use crate::document::Document;
 use crate::document_index::DocumentIndex;
 use crate::documents::gathered;
-use crate::names::place_of;
 use crate::standing::listed_table;
 use crate::standing_rows::{is_content, listed_columns};
 use crate::told::mark_sound;
 use ft_content::{Column, Fault, Reply, TableInfo};
 use ft_store::{RowChange, Store, StoreFault, TabRow};
+use ft_values::table_place;
 use sqlite::Alter;
 use std::alloc::{AllocError, Global};
 
@@ -137,7 +137,7 @@ pub(crate) fn rebuild_changes<S: Alter>(
     ensures live { HasCleanDisk (shows S.Store store.new) → OnOk result (IsTrue (shows S.Store store.old).is_open → IsTrue (shows S.Store store.new).is_open) }
 {
     store.is_in_order();
-    let Some(place) = place_of(tables, table) else {
+    let Some(place) = table_place(tables, table) else {
         return Err(Fault::NoSuchTable);
     };
     let id = tables[place].id;
@@ -168,7 +168,7 @@ pub(crate) fn rebuild_table<S: Alter>(
     let changes = rebuild_changes(alloc, store, tables.as_slice(), table)?;
     change_rows(store, changes.as_slice())?;
     let known = tables.as_slice();
-    if let Some(place) = place_of(known, table) {
+    if let Some(place) = table_place(known, table) {
         let id = known[place].id;
         mark_sound(tables, id);
     }

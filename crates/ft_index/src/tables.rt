@@ -14,15 +14,15 @@ ghost use Rattle.ft_index.specs.Kept.{told_table, Executes};
 ghost use Rattle.ft_index.specs.Planned.{PlansOver, Makes, table_change};
 ghost use Rattle.ft_index.specs.Changed.{Changed, with_tables};
 ghost use Rattle.ft_index.specs.Found.{with_told};
-ghost use Rattle.ft_content.specs.declared.fault.Fault.TheVariants as faults;
+ghost use Rattle.ft_values.specs.declared.fault.Fault.TheVariants as faults;
 
 use crate::change::change_rows;
-use crate::names::place_of;
 use crate::told::{insert_table, remove_table};
 use ft_content::{
     Column, Fault, Reply, TableInfo, create_fault, free_id, made_columns, made_names,
 };
 use ft_store::{RowChange, Store};
+use ft_values::table_place;
 use sqlite::Alter;
 use std::alloc::{AllocError, Global};
 
@@ -50,7 +50,7 @@ pub(crate) fn made_table(
     ) {
         return Err(fault);
     }
-    if place_of(tables, table).is_some() {
+    if table_place(tables, table).is_some() {
         return Ok(None);
     }
     let name = String::from_str(alloc, table)?;
@@ -186,7 +186,7 @@ pub(crate) fn drop_changes(
     ensures { PlansOver tables.now (plain.Drop table.now if_there) result }
 {
     let mut changes = Vec::new(alloc);
-    match place_of(tables, table) {
+    match table_place(tables, table) {
         Some(place) => changes.push(RowChange::DropTable(tables[place].id))?,
         None if !if_there => return Err(Fault::NoSuchTable),
         None => {}
@@ -212,7 +212,7 @@ pub(crate) fn drop_table<S: Alter>(
     let changes = drop_changes(alloc, tables.as_slice(), table, if_there)?;
     change_rows(store, changes.as_slice())?;
     let known = tables.as_slice();
-    if let Some(place) = place_of(known, table) {
+    if let Some(place) = table_place(known, table) {
         let id = known[place].id;
         remove_table(tables, id);
     }

@@ -1,6 +1,6 @@
 -- Names of tables, as the code and as contracts see them.
 use Rattle.std.proofs.Common.{◌≡◌, List, map, Option, refl, ap, subst, ◌∙◌, [], ◌∷◌, string_bytes}
-use Rattle.ft_content.specs.declared.table.TableInfo.{TableInfo}
+use Rattle.ft_values.specs.declared.table.TableInfo.{TableInfo}
 use Rattle.ft_content.specs.Views.{KnownTable, known_info, info_names}
 use Rattle.ft_index.specs.Kept.{Known}
 use Rattle.ft_statements.specs.Words.{Token}

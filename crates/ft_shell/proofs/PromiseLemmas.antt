@@ -7,7 +7,7 @@ use Rattle.shell_text.specs.Dot.{dot_words_of}
 use Rattle.shell_text.specs.Units as units
 use Rattle.shell_text.specs.Units.{Member, Sql, Dot, members_of}
 use Rattle.shell_text.specs.Words.{is_unclosed}
-use Rattle.ft_content.specs.declared.fault.Fault.{Fault}
+use Rattle.ft_values.specs.declared.fault.Fault.{Fault}
 use Rattle.ft_content.specs.Command.{Command, Filter, Insert, Items, Reply, Select}
 use Rattle.ft_content.specs.Deserved.{Contents, deserved}
 use Rattle.ft_content.specs.Step.{after, reply_to, step, step_by}

@@ -8,7 +8,7 @@ use Rattle.shell_text.specs.Units.{Member, Sql, Dot, Fault}
 use Rattle.shell_text.specs.Dot.{dot_words_of}
 use Rattle.shell_text.specs.Records.{csv_reader}
 use Rattle.shell_text.specs.Words.{is_unclosed}
-use Rattle.ft_content.specs.declared.fault.Fault.{Fault as Cause}
+use Rattle.ft_values.specs.declared.fault.Fault.{Fault as Cause}
 use Rattle.ft_content.specs.Command.{Command, Insert, Reply}
 use Rattle.ft_index.specs.Kept.{Call, Executed, Noted}
 use Rattle.ft_statements.specs.Words.{tokens_of}

@@ -8,7 +8,7 @@ use Rattle.sqlite.specs.Store.{Ghosts}
 use Rattle.sqlite.specs.Held.{Held, state}
 use Rattle.shell_text.specs.Print.{Look}
 use Rattle.shell_text.specs.Records.{IsNoText, csv_reader}
-use Rattle.ft_content.specs.declared.fault.Fault.{Fault}
+use Rattle.ft_values.specs.declared.fault.Fault.{Fault}
 use Rattle.ft_content.specs.Command.{Command, Insert, Reply}
 use Rattle.ft_content.specs.Views.{KnownTable}
 use Rattle.ft_index.specs.Kept.{Known, Executes}

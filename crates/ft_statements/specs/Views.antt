@@ -10,7 +10,7 @@ use Rattle.ft_content.specs.declared.command.Item.{Item}
 use Rattle.ft_content.specs.Command as commands
 use Rattle.ft_content.specs.Content.{Cell}
 use Rattle.ft_content.specs.Views.{set_of, filter_of, item_of}
-use Rattle.ft_store.specs.declared.rows.Value.{Value}
+use Rattle.ft_values.specs.declared.rows.Value.{Value}
 use Rattle.ft_statements.specs.Words.{Token}
 use Rattle.ft_statements.specs.Reading.{Reads}
 use Rattle.ft_statements.specs.Create as forms

@@ -27,11 +27,12 @@ use Rattle.sqlite_catalog.specs.Listing.{IsSound}
 use Rattle.sqlite.proofs.Callers.{reads_as}
 use Rattle.sqlite_typed.proofs.TestLemmas.{by_order, at_texts, same_bytes, then_key, last_key, then_term, last_term}
 use Rattle.sqlite_keyed.proofs.ListLemmas.{map-map, filter-map}
-use Rattle.ft_store.specs.declared.rows.Spot.{Spot}
+use Rattle.ft_values.specs.declared.rows.Spot.{Spot}
 use Rattle.ft_store.specs.Packed.{spots_in}
 use Rattle.ft_store.specs.Tables.{store_schema}
-use Rattle.ft_store.specs.Store.{Cell, CellKey, ListKey, ColumnKey, cell_key_cmp, list_key_cmp, column_key_cmp, name_cmp}
-use Rattle.ft_store.specs.Store as store
+use Rattle.ft_values.specs.Cells.{Cell}
+use Rattle.ft_store.specs.Store.{CellKey, ListKey, ColumnKey, cell_key_cmp, list_key_cmp, column_key_cmp, name_cmp}
+use Rattle.ft_values.specs.Cells as cells
 use Rattle.ft_store.specs.Rows.{keyed, table_entry, column_entry, skip_entry, cell_entry, list_entry, size_entry, note_entry, value_of}
 use Rattle.sqlite_rules.specs.Edit.{id_in}
 use Rattle.ft_store.specs.Changes.{num_of, txt_of}
@@ -100,15 +101,15 @@ cell_total = then_total (on_total num_of value_cmp_total) (on_total txt_of value
 
 tied_values : (v w : Cell) → value_cmp (num_of v) (num_of w) ≡ Equal → value_cmp (txt_of v) (txt_of w) ≡ Equal → v ≡ w
 unfolding value_cmp
-tied_values store.Null store.Null n t = refl
-tied_values store.Null (store.Int b) n t = absurd (true≢false (sym (ap is_eq n)))
-tied_values store.Null (store.Text b) n t = absurd (true≢false (sym (ap is_eq t)))
-tied_values (store.Int a) store.Null n t = absurd (true≢false (sym (ap is_eq n)))
-tied_values (store.Int a) (store.Int b) n t = ap store.Int (tied_ints a b (sym (value_cmp-Int a b) ∙ n))
-tied_values (store.Int a) (store.Text b) n t = absurd (true≢false (sym (ap is_eq n)))
-tied_values (store.Text a) store.Null n t = absurd (true≢false (sym (ap is_eq t)))
-tied_values (store.Text a) (store.Int b) n t = absurd (true≢false (sym (ap is_eq n)))
-tied_values (store.Text a) (store.Text b) n t = ap store.Text (same_bytes a b (ap is_eq (sym (value_cmp-Text a b) ∙ t)))
+tied_values cells.Null cells.Null n t = refl
+tied_values cells.Null (cells.Int b) n t = absurd (true≢false (sym (ap is_eq n)))
+tied_values cells.Null (cells.Text b) n t = absurd (true≢false (sym (ap is_eq t)))
+tied_values (cells.Int a) cells.Null n t = absurd (true≢false (sym (ap is_eq n)))
+tied_values (cells.Int a) (cells.Int b) n t = ap cells.Int (tied_ints a b (sym (value_cmp-Int a b) ∙ n))
+tied_values (cells.Int a) (cells.Text b) n t = absurd (true≢false (sym (ap is_eq n)))
+tied_values (cells.Text a) cells.Null n t = absurd (true≢false (sym (ap is_eq t)))
+tied_values (cells.Text a) (cells.Int b) n t = absurd (true≢false (sym (ap is_eq n)))
+tied_values (cells.Text a) (cells.Text b) n t = ap cells.Text (same_bytes a b (ap is_eq (sym (value_cmp-Text a b) ∙ t)))
 
 tied_cells : (v w : Cell) → cell_cmp v w ≡ Equal → v ≡ w
 tied_cells v w h = tied_values v w (tied_first _ _ h) (tied_second _ _ h)

@@ -8,7 +8,7 @@ use Rattle.std.proofs.Common.{append_assoc, append-nil}
 use Rattle.sqlite.specs.Order.{Row}
 use Rattle.sqlite_keyed.proofs.ListLemmas.{all-append}
 use Rattle.sqlite_typed.proofs.TestLemmas.{same_bytes}
-use Rattle.ft_store.specs.declared.rows.Spot.{Spot}
+use Rattle.ft_values.specs.declared.rows.Spot.{Spot}
 use Rattle.ft_store.specs.Store.{ListKey, list_key_cmp, name_cmp}
 use Rattle.ft_store.specs.Shown.{bare_list, entries_with, entries_of, AreWhole, SomeDamaged}
 use Rattle.ft_store.proofs.TypedLemmas.{and_second}

@@ -9,8 +9,8 @@ use Rattle.std.proofs.lemmas.List.Concat.{flat_map-append}
 use Rattle.std.proofs.lemmas.List.Elements.{All-append}
 use Rattle.sqlite.specs.Order.{Row}
 use Rattle.sqlite.specs.State.{State, Executes, Shows, ExecutesInside, IsUnchanged}
-use Rattle.ft_store.specs.declared.rows.RowChange.{RowChange}
-use Rattle.ft_store.specs.declared.rows.RowChange.TheVariants as row
+use Rattle.ft_values.specs.declared.rows.RowChange.{RowChange}
+use Rattle.ft_values.specs.declared.rows.RowChange.TheVariants as row
 use Rattle.ft_store.specs.Store.{StoreValue, Change, list_key_cmp, all_applied}
 use Rattle.ft_store.specs.Rows.{value_of}
 use Rattle.ft_store.specs.Changes.{shown_change, CanApply}

@@ -22,8 +22,9 @@ use Rattle.sqlite.specs.State.{State, Executes, Shows}
 use Rattle.sqlite.specs.Values.{bound_value}
 use Rattle.sqlite_typed.proofs.TestLemmas.{at_ints, at_texts, then_term, last_term}
 use Rattle.ft_store.specs.Packed.{spots_in}
-use Rattle.ft_store.specs.Store.{Cell, cell_key_cmp, list_key_cmp, column_key_cmp, name_cmp}
-use Rattle.ft_store.specs.Store as store
+use Rattle.ft_values.specs.Cells.{Cell}
+use Rattle.ft_store.specs.Store.{cell_key_cmp, list_key_cmp, column_key_cmp, name_cmp}
+use Rattle.ft_values.specs.Cells as cells
 use Rattle.ft_store.specs.Groups.{Entry, entry_values, entry_spots, put_each, with_entries}
 use Rattle.ft_store.specs.Tables.{posting_table}
 use Rattle.ft_store.specs.Rows.{cell_in, list_entry, value_of}
@@ -73,30 +74,30 @@ then_tie o u p q = ap₂ ◌&&◌ p q ∙ both_tie o u
 -- ---- what a column makes of the value that is written to it
 
 cast_num : (v : Cell) → cast kind.Integer (num_of v) ≡ num_of v
-cast_num store.Null = cast_null
-cast_num (store.Int n) = cast_int n
-cast_num (store.Text t) = cast_null
+cast_num cells.Null = cast_null
+cast_num (cells.Int n) = cast_int n
+cast_num (cells.Text t) = cast_null
 
 cast_txt : (v : Cell) → cast kind.Text (txt_of v) ≡ txt_of v
-cast_txt store.Null = refl
-cast_txt (store.Int n) = refl
-cast_txt (store.Text t) = refl
+cast_txt cells.Null = refl
+cast_txt (cells.Int n) = refl
+cast_txt (cells.Text t) = refl
 
 same_again : (v : Cell) → cell_in (num_of v) (txt_of v) ≡ v
-same_again store.Null = refl
-same_again (store.Int n) = refl
-same_again (store.Text t) = refl
+same_again cells.Null = refl
+same_again (cells.Int n) = refl
+same_again (cells.Text t) = refl
 
 -- a parameter is bound as it is
 pub bound_num : (v : Cell) → bound_value (num_of v) ≡ num_of v
-bound_num store.Null = refl
-bound_num (store.Int n) = refl
-bound_num (store.Text t) = refl
+bound_num cells.Null = refl
+bound_num (cells.Int n) = refl
+bound_num (cells.Text t) = refl
 
 pub bound_txt : (v : Cell) → bound_value (txt_of v) ≡ txt_of v
-bound_txt store.Null = refl
-bound_txt (store.Int n) = refl
-bound_txt (store.Text t) = refl
+bound_txt cells.Null = refl
+bound_txt (cells.Int n) = refl
+bound_txt (cells.Text t) = refl
 
 -- a posting row as it is added, before it has a rowid
 abbrev list_row : Entry → Row

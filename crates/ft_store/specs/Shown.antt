@@ -6,14 +6,14 @@ use Rattle.std.specs.declared.alloc.Global.{Global}
 use Rattle.std.specs.Ordering.{int_eq, is_eq}
 use Rattle.std.specs.FinMap.Entries.{where_key}
 use Rattle.sqlite_value.specs.Keys.{without_case}
-use Rattle.ft_store.specs.declared.rows.CellRow.{CellRow}
-use Rattle.ft_store.specs.declared.rows.SizeRow.{SizeRow}
-use Rattle.ft_store.specs.declared.rows.EntryRow.{EntryRow}
-use Rattle.ft_store.specs.declared.rows.ListRow.{ListRow}
-use Rattle.ft_store.specs.declared.rows.Spot.{Spot}
-use Rattle.ft_store.specs.declared.rows.TabRow.{TabRow}
-use Rattle.ft_store.specs.Store.{Cell, CellKey, ListKey, ColumnKey, cell_key_cmp, list_key_cmp, column_key_cmp, name_cmp, StoreValue}
-use Rattle.ft_store.specs.Changes.{shown_value}
+use Rattle.ft_values.specs.declared.rows.CellRow.{CellRow}
+use Rattle.ft_values.specs.declared.rows.SizeRow.{SizeRow}
+use Rattle.ft_values.specs.declared.rows.EntryRow.{EntryRow}
+use Rattle.ft_values.specs.declared.rows.ListRow.{ListRow}
+use Rattle.ft_values.specs.declared.rows.Spot.{Spot}
+use Rattle.ft_values.specs.declared.rows.TabRow.{TabRow}
+use Rattle.ft_values.specs.Cells.{Cell, shown_value}
+use Rattle.ft_store.specs.Store.{CellKey, ListKey, ColumnKey, cell_key_cmp, list_key_cmp, column_key_cmp, name_cmp, StoreValue}
 
 abbrev pub shown_cell : ℤ → CellRow → CellKey × Cell
 shown_cell tab row = ((tab, row.docid, row.column), shown_value row.value)

@@ -7,7 +7,7 @@ use Rattle.std.specs.Cmp.Lexicographic.{slice_cmp}
 use Rattle.std.specs.List.{enumerate_from}
 use Rattle.std.specs.FinMap.Entries.{put, where_key, is_sorted}
 use Rattle.sqlite_value.specs.Keys.{without_case}
-use Rattle.ft_store.specs.declared.rows.Spot.{Spot}
+use Rattle.ft_values.specs.declared.rows.Spot.{Spot}
 
 -- what a cell holds
 pub data Cell : Type 0 where

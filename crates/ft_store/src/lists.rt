@@ -17,7 +17,7 @@ ghost use Rattle.ft_store.specs.Calls.{IsStoreIfOpen, IsPlainFault, IsReadFault,
 use crate::fault::StoreFault;
 use crate::packed::unpack;
 use crate::read::select;
-use crate::rows::{EntryRow, ListRow};
+use ft_values::{EntryRow, ListRow};
 use sqlite::types::ValueRef;
 use sqlite::{Alter, Connection, Row, params};
 use std::alloc::{AllocError, Global};

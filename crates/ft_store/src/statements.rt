@@ -11,12 +11,13 @@ ghost use Rattle.sqlite_value.specs.Keys.{without_case};
 ghost use Rattle.sqlite.specs.declared.types.Value.TheVariants.{Int};
 ghost use Rattle.ft_store.specs.Packed.{spots_in};
 ghost use Rattle.ft_store.specs.Store.{StoreValue, cell_key_cmp, list_key_cmp, column_key_cmp, name_cmp};
-ghost use Rattle.ft_store.specs.Changes.{shown_value, num_of, txt_of};
+ghost use Rattle.ft_values.specs.Cells.{shown_value};
+ghost use Rattle.ft_store.specs.Changes.{num_of, txt_of};
 ghost use Rattle.ft_store.specs.Calls.{IsPlainFault, StepsOnOk, AddsOnOk, KeepsLast, LeavesNothing};
 ghost use Rattle.ft_store.specs.Groups.{Entry, entry_values, with_entries, GoesOnOk};
 
 use crate::fault::StoreFault;
-use crate::rows::Value;
+use ft_values::Value;
 use sqlite::types::{ToSql, ValueRef};
 use sqlite::{Alter, Error as SqlError, ErrorCode, Transaction};
 

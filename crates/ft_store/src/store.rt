@@ -19,7 +19,7 @@ use crate::fault::StoreFault;
 use crate::files::open_for_store;
 use crate::lists::count_spots;
 use crate::make::make;
-use crate::rows::{CellRow, EntryRow, ListRow, RowChange, SizeRow, TabRow};
+use ft_values::{CellRow, EntryRow, ListRow, RowChange, SizeRow, TabRow};
 use crate::{lists, read, tables, write};
 use ram_disk::{Ram, open_ram};
 use sqlite::{Alter, Connection, File, FileFrom, FileStore, Start, Unknown};

@@ -5,8 +5,8 @@ use Rattle.ft_query.specs.declared.query.QueryFault.{QueryFault}
 use Rattle.ft_query.specs.declared.query.QueryFault.TheVariants as query
 use Rattle.ft_query.specs.Trees.{Tree}
 use Rattle.ft_query.specs.Reads.{query_of}
-use Rattle.ft_content.specs.declared.fault.Fault.{Fault}
-use Rattle.ft_content.specs.declared.fault.Fault.TheVariants as faults
+use Rattle.ft_values.specs.declared.fault.Fault.{Fault}
+use Rattle.ft_values.specs.declared.fault.Fault.TheVariants as faults
 use Rattle.ft_content.specs.Answer.{reading}
 use Rattle.ft_content.specs.Deserved.{reading_fault}
 use Rattle.ft_content.specs.Views.{bare_content}

@@ -1,9 +1,9 @@
 -- by the table, and what is written
 use Rattle.std.proofs.Common.{rules, ◌≡◌, ℕ, List, map, string_bytes, Err, Ok, Result, Vec, Global, sym, ap, subst, ◌∙◌, to_z-of_z, to_z, of_z, w64, FitsSigned}
 use Rattle.std.specs.Prelude.{All}
-use Rattle.ft_store.specs.declared.rows.RowChange.{RowChange}
+use Rattle.ft_values.specs.declared.rows.RowChange.{RowChange}
 use Rattle.ft_store.specs.Changes.{shown_change}
-use Rattle.ft_content.specs.declared.fault.Fault.{Fault}
+use Rattle.ft_values.specs.declared.fault.Fault.{Fault}
 use Rattle.ft_content.specs.Command as plain
 use Rattle.ft_content.specs.Views.{column_of, filter_of, known_info}
 use Rattle.ft_index.specs.declared.rewrite.Rewrite.{Rewrite}

@@ -1,7 +1,7 @@
 -- one row more
 use Rattle.std.proofs.Common.{◌≢◌, List, [], length, subst, arith, rules}
 use Rattle.std.specs.Prelude.{AllAdjacentBelow}
-use Rattle.ft_store.specs.declared.rows.Spot.{Spot}
+use Rattle.ft_values.specs.declared.rows.Spot.{Spot}
 use Rattle.ft_index.specs.Placed.{Precedes}
 use Rattle.ft_index.proofs.AskedLemmas.{IsRising, next_row, each_row, rows_in_order}
 use Rattle.ft_index.proofs.doc_lists.are_in_order.Goals as goal

@@ -1,6 +1,6 @@
 use Rattle.std.proofs.Common.{ℕ, ◌<◌, get_or}
 use Rattle.std.specs.Prelude.{AllAdjacentBelow}
-use Rattle.ft_store.specs.declared.rows.ListRow.{ListRow}
+use Rattle.ft_values.specs.declared.rows.ListRow.{ListRow}
 use Rattle.ft_index.proofs.AskedLemmas.{IsRising, IsEarlier}
 use Rattle.ft_index.proofs.doc_lists.are_in_order.Given as goal
 

@@ -1,7 +1,7 @@
 -- by what each command counts
 use Rattle.std.proofs.Common.{rules, ◌≡◌, ℕ, List, map, string_bytes, Result, sym, ap, subst, ◌∙◌}
 use Rattle.ft_content.specs.declared.command.Command.{Command}
-use Rattle.ft_content.specs.declared.table.TableInfo.{TableInfo}
+use Rattle.ft_values.specs.declared.table.TableInfo.{TableInfo}
 use Rattle.ft_content.specs.Command as plain
 use Rattle.ft_content.specs.Views.{known_info, items_of, filter_of, command_of, answer_of}
 use Rattle.ft_index.specs.Changed.{with_tables}

@@ -1,8 +1,8 @@
 -- by the table, and what is written
 use Rattle.std.proofs.Common.{rules, ◌≡◌, inr, ℕ, List, map, option_map, string_bytes, Err, Ok, Option, Result, Vec, Global, sym, ap, subst, ◌∙◌, to_z-of_z, to_z, of_z, w64, FitsSigned}
 use Rattle.std.specs.Prelude.{All}
-use Rattle.ft_store.specs.declared.rows.RowChange.{RowChange}
-use Rattle.ft_content.specs.declared.fault.Fault.{Fault}
+use Rattle.ft_values.specs.declared.rows.RowChange.{RowChange}
+use Rattle.ft_values.specs.declared.fault.Fault.{Fault}
 use Rattle.ft_content.specs.Command as plain
 use Rattle.ft_content.specs.Content.{Content}
 use Rattle.ft_content.specs.Views.{KnownTable, cells_of, column_of, known_info}

@@ -1,9 +1,9 @@
 -- by what an Optimize is answered
 use Rattle.std.proofs.Common.{rules, ◌≡◌, [], List, map, Ok, Err, Result, Vec, Global, sym, ap, subst}
-use Rattle.ft_store.specs.declared.rows.RowChange.{RowChange}
+use Rattle.ft_values.specs.declared.rows.RowChange.{RowChange}
 use Rattle.ft_store.specs.Store.{Change}
 use Rattle.ft_store.specs.Changes.{shown_change}
-use Rattle.ft_content.specs.declared.fault.Fault.{Fault}
+use Rattle.ft_values.specs.declared.fault.Fault.{Fault}
 use Rattle.ft_content.specs.declared.command.Reply.{Reply}
 use Rattle.ft_content.specs.Command as plain
 use Rattle.ft_content.specs.Views.{known_info, answer_of, reply_of}

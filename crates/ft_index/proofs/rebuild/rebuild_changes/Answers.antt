@@ -3,7 +3,7 @@ use Rattle.std.proofs.Common.{◌≡◌, inr, List, map, Some, None, refl, sym, 
 use Rattle.std.proofs.lemmas.Option.{slice_get_read, slice_get_within, same_Some}
 use Rattle.ft_store.specs.Kept.{value_in}
 use Rattle.ft_store.specs.Changes.{shown_change}
-use Rattle.ft_content.specs.declared.table.TableInfo.{TableInfo}
+use Rattle.ft_values.specs.declared.table.TableInfo.{TableInfo}
 use Rattle.ft_content.specs.Content.{Column, Documents, same_name}
 use Rattle.ft_content.specs.Views.{KnownTable, known_info, column_of}
 use Rattle.ft_index.specs.Opened.{IsNamed}
@@ -17,13 +17,13 @@ use Rattle.ft_index.proofs.rebuild.rebuild_changes.Goals as goal
 pub returns-in_default-clause-plan : goal.returns-in_default-clause-plan
 returns-in_default-clause-plan g c = λ clean contents held.
     let tables = map known_info c.args.tables.now in
-    let none = unplaced known_info (λ (t : KnownTable). same_name t.name c.args.table.now) c.args.tables.now (sym c.place_of.ensures ∙ c.in_default.is) in
+    let none = unplaced known_info (λ (t : KnownTable). same_name t.name c.args.table.now) c.args.tables.now (sym c.table_place.ensures ∙ c.in_default.is) in
     inr (rebuild_missing contents tables c.args.table.now held.told none)
 
 pub returns-in_default-2-clause-plan : goal.returns-in_default-2-clause-plan
 returns-in_default-2-clause-plan g c = λ clean contents held.
     let v = value_in g.S.Store c.args.store.now in
-    let s = placed known_info (λ (t : KnownTable). same_name t.name c.args.table.now) c.args.tables.now c.in-Some.place (sym c.place_of.ensures ∙ c.in-Some.is) in
+    let s = placed known_info (λ (t : KnownTable). same_name t.name c.args.table.now) c.args.tables.now c.in-Some.place (sym c.table_place.ensures ∙ c.in-Some.is) in
     let read = slice_get_read c.args.tables.now _ c.in-Some.place c.index-tables-place.result refl (slice_get_within c.args.tables.now c.in-Some.place s.item s.is) c.index-tables-place.is in
     let same : s.item ≡ c.index-tables-place.result = same_Some s.item c.index-tables-place.result (sym s.is ∙ read) in
     let fits : FitsSigned w64 c.index-tables-place.result.id = search rules in
@@ -37,7 +37,7 @@ returns-in_default-2-clause-plan g c = λ clean contents held.
 pub returns-clause-plan : goal.returns-clause-plan
 returns-clause-plan g c = λ clean contents held.
     let v = value_in g.S.Store c.args.store.now in
-    let s = placed known_info (λ (t : KnownTable). same_name t.name c.args.table.now) c.args.tables.now c.in-Some.place (sym c.place_of.ensures ∙ c.in-Some.is) in
+    let s = placed known_info (λ (t : KnownTable). same_name t.name c.args.table.now) c.args.tables.now c.in-Some.place (sym c.table_place.ensures ∙ c.in-Some.is) in
     let read = slice_get_read c.args.tables.now _ c.in-Some.place c.index-tables-place.result refl (slice_get_within c.args.tables.now c.in-Some.place s.item s.is) c.index-tables-place.is in
     let same : s.item ≡ c.index-tables-place.result = same_Some s.item c.index-tables-place.result (sym s.is ∙ read) in
     let fits : FitsSigned w64 c.index-tables-place.result.id = search rules in

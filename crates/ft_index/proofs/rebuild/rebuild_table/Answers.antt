@@ -7,11 +7,11 @@ use Rattle.ft_index.specs.Written.{PlansIn}
 use Rattle.ft_index.proofs.Crashing.{CommitsRows, crash_read, crash_written}
 use Rattle.ft_store.specs.Changes.{shown_change}
 use Rattle.ft_store.specs.Kept.{shows, value_in}
-use Rattle.ft_store.specs.declared.rows.RowChange.{RowChange}
-use Rattle.ft_content.specs.declared.fault.Fault.{Fault}
-use Rattle.ft_content.specs.declared.fault.Fault.TheVariants as faults
+use Rattle.ft_values.specs.declared.rows.RowChange.{RowChange}
+use Rattle.ft_values.specs.declared.fault.Fault.{Fault}
+use Rattle.ft_values.specs.declared.fault.Fault.TheVariants as faults
 use Rattle.ft_content.specs.declared.command.Reply.{Reply}
-use Rattle.ft_content.specs.declared.table.TableInfo.{TableInfo}
+use Rattle.ft_values.specs.declared.table.TableInfo.{TableInfo}
 use Rattle.ft_content.specs.Content.{same_name}
 use Rattle.ft_content.specs.Command as plain
 use Rattle.ft_content.specs.Deserved.{Contents}
@@ -68,15 +68,15 @@ returns-clause-executes g c =
     let plans : HasCleanDisk (shows g.S.Store mid) → (contents : Contents) → AreHeld value tables contents → PlansFrom contents command value (Ok changes) =
     λ clean contents held. subst (λ (r : Result (Vec RowChange Global) Fault). PlansFrom contents command value (changes_of r)) planned
     (c.rebuild_changes.ensures.plan clean contents (subst (λ ts. AreHeld value (map known_info ts) contents) (sym c.as_slice.ensures.value) held)) in
-    elim c.match-place_of.branch [
+    elim c.match-table_place.branch [
       | in-Some w ↦
           let here : c.as_slice-known.result.now ≡ c.args.tables.now.items = c.as_slice-known.ensures.value in
-          let s = placed known_info (λ (t : KnownTable). same_name t.name c.args.table.now) c.as_slice-known.result.now w.in-Some.place (sym c.place_of.ensures ∙ w.in-Some.is) in
+          let s = placed known_info (λ (t : KnownTable). same_name t.name c.args.table.now) c.as_slice-known.result.now w.in-Some.place (sym c.table_place.ensures ∙ w.in-Some.is) in
           let named = ap (λ ts. known_named (map known_info ts) c.args.table.now) (sym here) ∙ s.found in
           let fits : FitsSigned w64 w.index-known-place.result.id = search rules in
           let read = slice_get_read c.as_slice-known.result.now _ w.in-Some.place w.index-known-place.result refl (slice_get_within c.as_slice-known.result.now w.in-Some.place s.item s.is) w.index-known-place.is in
           let same : w.index-known-place.result ≡ s.item = same_Some w.index-known-place.result s.item (sym read ∙ s.is) in
-          let told : map known_info c.match-place_of.tables.items ≡ with_sound s.item.id tables =
+          let told : map known_info c.match-table_place.tables.items ≡ with_sound s.item.id tables =
           ap (λ (v : Vec TableInfo Global). map known_info v.items) w.tables-is ∙ w.mark_sound.ensures
           ∙ ap (λ (t : TableInfo). with_sound (to_z w64 (of_z w64 t.id)) tables) (sym w.index-known-place.is)
           ∙ ap (λ k. with_sound k tables) (to_z-of_z fits)
@@ -87,9 +87,9 @@ returns-clause-executes g c =
           (λ contents. rebuild_reply contents c.args.table.now))
       | in_default w ↦
           let here : c.as_slice-known.result.now ≡ c.args.tables.now.items = c.as_slice-known.ensures.value in
-          let none : c.place_of.result ≡ None = search rules in
-          let named = ap (λ ts. known_named (map known_info ts) c.args.table.now) (sym here) ∙ unplaced known_info (λ (t : KnownTable). same_name t.name c.args.table.now) c.as_slice-known.result.now (sym c.place_of.ensures ∙ none) in
-          let told : map known_info c.match-place_of.tables.items ≡ tables = ap (λ (v : Vec TableInfo Global). map known_info v.items) w.tables-is in
+          let none : c.table_place.result ≡ None = search rules in
+          let named = ap (λ ts. known_named (map known_info ts) c.args.table.now) (sym here) ∙ unplaced known_info (λ (t : KnownTable). same_name t.name c.args.table.now) c.as_slice-known.result.now (sym c.table_place.ensures ∙ none) in
+          let told : map known_info c.match-table_place.tables.items ≡ tables = ap (λ (v : Vec TableInfo Global). map known_info v.items) w.tables-is in
           subst (λ (ts : List KnownTable). Executes g.S.Store (with_tables c.args.store.now tables) command (Ok plain.Done) (with_tables c.change_rows.new.store ts)) (sym told)
           (executes_after g.S.Store c.args.store.now mid c.change_rows.new.store tables changes command c.rebuild_changes.ensures.looks tables plans changed
           (λ contents held fine. absurd (let no = sym fine ∙ rebuild_missing contents tables c.args.table.now held.told named in cc))
@@ -119,7 +119,7 @@ returns-in_err-change_rows-clause-crash g c =
 pub returns-clause-crash : goal.returns-clause-crash
 returns-clause-crash g c =
     let tables = map known_info c.args.tables.now.items in
-    let after = map known_info c.match-place_of.tables.items in
+    let after = map known_info c.match-table_place.tables.items in
     let command = plain.Rebuild c.args.table.now in
     let value = value_in g.S.Store c.args.store.now in
     let mid = c.rebuild_changes.new.store in

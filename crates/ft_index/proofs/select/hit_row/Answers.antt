@@ -2,8 +2,7 @@
 use Rattle.std.proofs.Common.{◌≡◌, map, ◌∙◌, to_z, of_z, w64, rules}
 use Rattle.std.specs.List.{flat_map}
 use Rattle.ft_query.specs.Occurs.{offsets_text}
-use Rattle.ft_store.specs.Store.{Text}
-use Rattle.ft_store.specs.Changes.{shown_value}
+use Rattle.ft_values.specs.Cells.{Text, shown_value}
 use Rattle.ft_content.specs.Answer.{cells_with}
 use Rattle.ft_content.specs.Views.{bare_content, item_of}
 use Rattle.ft_index.proofs.SelectRows.{offsets_if_asked}

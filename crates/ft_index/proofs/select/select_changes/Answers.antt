@@ -1,9 +1,9 @@
 -- by the table, and the query
 use Rattle.std.proofs.Common.{rules, ◌≡◌, ◌⊎◌, [], List, map, Ok, Err, None, Some, Result, Vec, Global, string_bytes, sym, ap, subst, ◌∙◌}
-use Rattle.ft_store.specs.declared.rows.RowChange.{RowChange}
+use Rattle.ft_values.specs.declared.rows.RowChange.{RowChange}
 use Rattle.ft_store.specs.Store.{Change}
 use Rattle.ft_store.specs.Changes.{shown_change}
-use Rattle.ft_content.specs.declared.fault.Fault.{Fault}
+use Rattle.ft_values.specs.declared.fault.Fault.{Fault}
 use Rattle.ft_content.specs.Command as plain
 use Rattle.ft_content.specs.Views.{known_info, items_of, filter_of}
 use Rattle.ft_index.specs.Found.{IsUnfit, IsSoundNamed}

@@ -2,9 +2,9 @@
 use Rattle.std.proofs.Common.{◌≡◌, ◌<◌, ◌∙◌, Option, Some, None, Result, Err, map, length, option_map, Bor, sym, ap, subst, rules}
 use Rattle.std.specs.Option.{option_copied}
 use Rattle.ft_query.specs.Trees.{Tree, tree_of}
-use Rattle.ft_content.specs.declared.fault.Fault.{Fault}
+use Rattle.ft_values.specs.declared.fault.Fault.{Fault}
 use Rattle.ft_content.specs.declared.command.Reply.{Reply}
-use Rattle.ft_content.specs.declared.table.TableInfo.{TableInfo}
+use Rattle.ft_values.specs.declared.table.TableInfo.{TableInfo}
 use Rattle.ft_content.specs.Command as plain
 use Rattle.ft_content.specs.Views.{KnownTable, known_info, column_of, items_of, filter_of, grid_of, answer_of}
 use Rattle.ft_index.specs.Changed.{with_tables}

@@ -1,16 +1,16 @@
 -- by what is made, and what the store does
 use Rattle.std.proofs.Common.{rules, ◌≡◌, ◌⊎◌, ◌∷◌, [], map, string_bytes, cond, Ok, Err, None, Some, Result, Vec, Global, refl, sym, ap, subst, ◌∙◌}
 use Rattle.std.specs.Prelude.{is_ok}
-use Rattle.ft_content.specs.declared.fault.Fault.{Fault}
+use Rattle.ft_values.specs.declared.fault.Fault.{Fault}
 use Rattle.ft_content.specs.declared.command.Reply.{Reply}
-use Rattle.ft_content.specs.declared.table.TableInfo.{TableInfo}
+use Rattle.ft_values.specs.declared.table.TableInfo.{TableInfo}
 use Rattle.ft_content.specs.Command as plain
 use Rattle.ft_content.specs.Views.{known_info, option_of, answer_of}
 use Rattle.ft_index.specs.Kept.{Known, Executes, told_table}
 use Rattle.ft_content.specs.Deserved.{Contents}
 use Rattle.ft_index.specs.Planned.{Makes, table_change}
 use Rattle.ft_index.specs.Found.{with_told}
-use Rattle.ft_content.specs.declared.fault.Fault.TheVariants as faults
+use Rattle.ft_values.specs.declared.fault.Fault.TheVariants as faults
 use Rattle.ft_index.specs.Changed.{Changed, with_tables}
 use Rattle.ft_index.proofs.Executing.{create_refused, create_nothing, create_adds, executes_refused}
 use Rattle.sqlite.specs.State.{Survives}

@@ -4,11 +4,11 @@ use Rattle.std.specs.Prelude.{is_ok}
 use Rattle.std.proofs.lemmas.Option.{slice_get_read, slice_get_within, same_Some}
 use Rattle.ft_store.specs.Changes.{shown_change}
 use Rattle.ft_store.specs.Kept.{value_in}
-use Rattle.ft_store.specs.declared.rows.RowChange.{RowChange}
-use Rattle.ft_content.specs.declared.fault.Fault.{Fault}
-use Rattle.ft_content.specs.declared.fault.Fault.TheVariants as faults
+use Rattle.ft_values.specs.declared.rows.RowChange.{RowChange}
+use Rattle.ft_values.specs.declared.fault.Fault.{Fault}
+use Rattle.ft_values.specs.declared.fault.Fault.TheVariants as faults
 use Rattle.ft_content.specs.declared.command.Reply.{Reply}
-use Rattle.ft_content.specs.declared.table.TableInfo.{TableInfo}
+use Rattle.ft_values.specs.declared.table.TableInfo.{TableInfo}
 use Rattle.ft_content.specs.Content.{same_name}
 use Rattle.ft_content.specs.Command as plain
 use Rattle.ft_content.specs.Deserved.{Contents}
@@ -65,13 +65,13 @@ returns-clause-executes g c =
     let plans : (contents : Contents) → AreHeld value tables contents → PlansFrom contents command value (Ok changes) =
     λ contents held. subst (λ (r : Result (Vec RowChange Global) Fault). PlansFrom contents command value (changes_of r)) planned
     (c.drop_changes.ensures value contents c.is_in_order.ensures.order (subst (λ ts. AreHeld value (map known_info ts) contents) (sym c.as_slice.ensures.value) held)) in
-    elim c.match-place_of.branch [
+    elim c.match-table_place.branch [
       | in-Some w ↦
           let here : c.as_slice-known.result.now ≡ c.args.tables.now.items = c.as_slice-known.ensures.value in
-          let s = placed known_info (λ (t : KnownTable). same_name t.name c.args.table.now) c.as_slice-known.result.now w.in-Some.place (sym c.place_of.ensures ∙ w.in-Some.is) in
+          let s = placed known_info (λ (t : KnownTable). same_name t.name c.args.table.now) c.as_slice-known.result.now w.in-Some.place (sym c.table_place.ensures ∙ w.in-Some.is) in
           let named = ap (λ ts. known_named (map known_info ts) c.args.table.now) (sym here) ∙ s.found in
           let fits : FitsSigned w64 w.index-known-place.result.id = search rules in
-          let told : map known_info c.match-place_of.tables.items ≡ without_told s.item.id tables =
+          let told : map known_info c.match-table_place.tables.items ≡ without_told s.item.id tables =
           ap (λ (v : Vec TableInfo Global). map known_info v.items) w.tables-is ∙ w.remove_table.ensures
           ∙ ap (λ (t : TableInfo). without_told (to_z w64 (of_z w64 t.id)) tables) (sym w.index-known-place.is)
           ∙ ap (λ k. without_told k tables) (to_z-of_z fits)
@@ -81,9 +81,9 @@ returns-clause-executes g c =
           (λ contents held. (told_dropped value tables contents c.args.table.now c.args.if_there (known_info s.item) c.is_in_order.ensures.order held named, drop_done contents c.args.table.now c.args.if_there)))
       | in_default w ↦
           let here : c.as_slice-known.result.now ≡ c.args.tables.now.items = c.as_slice-known.ensures.value in
-          let none : c.place_of.result ≡ None = search rules in
-          let named = ap (λ ts. known_named (map known_info ts) c.args.table.now) (sym here) ∙ unplaced known_info (λ (t : KnownTable). same_name t.name c.args.table.now) c.as_slice-known.result.now (sym c.place_of.ensures ∙ none) in
-          let told : map known_info c.match-place_of.tables.items ≡ tables = ap (λ (v : Vec TableInfo Global). map known_info v.items) w.tables-is in
+          let none : c.table_place.result ≡ None = search rules in
+          let named = ap (λ ts. known_named (map known_info ts) c.args.table.now) (sym here) ∙ unplaced known_info (λ (t : KnownTable). same_name t.name c.args.table.now) c.as_slice-known.result.now (sym c.table_place.ensures ∙ none) in
+          let told : map known_info c.match-table_place.tables.items ≡ tables = ap (λ (v : Vec TableInfo Global). map known_info v.items) w.tables-is in
           subst (λ (ts : List KnownTable). Executes g.S.Store (with_tables c.args.store.now tables) command (Ok plain.Done) (with_tables c.change_rows.new.store ts)) (sym told)
           (executes_planned g.S.Store c.args.store.now c.change_rows.new.store tables tables changes command plans changed
           (λ contents held. (told_spared value tables contents c.args.table.now c.args.if_there held named, drop_done contents c.args.table.now c.args.if_there)))

@@ -3,7 +3,7 @@ use Rattle.std.proofs.Common.{◌≡◌, not, List, [], ◌∷◌, map, cond, tr
 use Rattle.std.specs.Prelude.{filter}
 use Rattle.std.specs.Ordering.{int_eq}
 use Rattle.std.proofs.lemmas.Fn.{filter_same}
-use Rattle.ft_content.specs.declared.table.TableInfo.{TableInfo}
+use Rattle.ft_values.specs.declared.table.TableInfo.{TableInfo}
 use Rattle.ft_content.specs.Views.{known_info}
 use Rattle.ft_index.specs.Found.{without_told}
 use Rattle.ft_index.proofs.told.remove_table.Goals as goal

@@ -2,7 +2,7 @@
 use Rattle.std.proofs.Common.{string_bytes, sym, ◌∙◌, rules, tests}
 use Rattle.std.proofs.lemmas.Iterator.{YieldsList-from_slice}
 use Rattle.std.proofs.lemmas.Iterator.Search.{any_from_yields_List}
-use Rattle.ft_content.specs.declared.table.TableInfo.{TableInfo}
+use Rattle.ft_values.specs.declared.table.TableInfo.{TableInfo}
 use Rattle.ft_statements.specs.Statements.{is_named}
 use Rattle.ft_statements.proofs.StatementLemmas.{any_of_map}
 use Rattle.ft_statements.proofs.statement.has_table.Goals as goal

@@ -3,7 +3,7 @@ use Rattle.std.specs.Vec.{vec_items}
 use Rattle.std.proofs.lemmas.List.{length-map, get_or-map}
 use Rattle.sqlite.specs.Values.{bound}
 use Rattle.ft_store.specs.Groups.{entry_put}
-use Rattle.ft_store.specs.declared.rows.RowChange.{RowChange}
+use Rattle.ft_values.specs.declared.rows.RowChange.{RowChange}
 use Rattle.ft_store.proofs.GroupLemmas.{one_more_bound}
 use Rattle.ft_store.proofs.write.list_values.Goals as goal
 

@@ -4,7 +4,7 @@ use Rattle.std.proofs.lemmas.List.{map_push}
 use Rattle.std.proofs.lemmas.List.Elements.{All-more}
 use Rattle.ft_store.specs.Packed.{CanPack, packed_spots}
 use Rattle.ft_store.specs.Groups.{entry_put, PutsList}
-use Rattle.ft_store.specs.declared.rows.RowChange.{RowChange}
+use Rattle.ft_values.specs.declared.rows.RowChange.{RowChange}
 use Rattle.ft_store.proofs.GroupLemmas.{one_more_list}
 use Rattle.ft_store.proofs.write.packed_lists.Goals as goal
 

@@ -3,7 +3,7 @@ use Rattle.std.proofs.Common.{◌≡◌, ◌∷◌, [], ℕ, List, Result, Ok, E
 use Rattle.std.specs.Prelude.{is_ok, OnOk}
 use Rattle.sqlite.specs.Tree.{Trees}
 use Rattle.sqlite.specs.Store.{Ghosts}
-use Rattle.ft_content.specs.declared.fault.Fault.{Fault}
+use Rattle.ft_values.specs.declared.fault.Fault.{Fault}
 use Rattle.ft_store.specs.Store.{Change, Note, applied, all_applied}
 use Rattle.ft_store.specs.Calls.{IsStored}
 use Rattle.ft_store.specs.Kept.{shows, value_in}

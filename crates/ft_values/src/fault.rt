@@ -1,9 +1,7 @@
 // Why a full-text command is refused.
-ghost use Rattle.std.specs.Prelude.{◌≡◌, Some, Err};
-ghost use Rattle.ft_content.specs.declared.fault.Fault.TheVariants.{Memory};
+ghost use Rattle.std.specs.Prelude.{◌≡◌};
+ghost use Rattle.ft_values.specs.declared.fault.Fault.TheVariants.{Memory};
 
-use ft_query::QueryFault;
-use ft_store::StoreFault;
 use std::alloc::{AllocError, AllocFailed};
 use thiserror::Error;
 
@@ -73,32 +71,5 @@ impl<T: Drop> From<AllocFailed<T>> for Fault {
 
     fn from(_error: AllocFailed<T>) -> Fault {
         Fault::Memory
-    }
-}
-
-impl From<QueryFault> for Fault {
-    ghost use Rattle.ft_content.specs.Deserved.{reading_fault};
-
-    ghost from_gives = { λ query fault. reading_fault (Err query) ≡ Some fault };
-
-    fn from(fault: QueryFault) -> Fault {
-        match fault {
-            QueryFault::Malformed => Fault::Malformed,
-            QueryFault::TooLarge => Fault::TooLarge,
-            QueryFault::Memory => Fault::Memory,
-        }
-    }
-}
-
-impl From<StoreFault> for Fault {
-    ghost use Rattle.ft_content.specs.Views.{fault_of_read};
-
-    ghost from_gives = { λ store fault. fault ≡ fault_of_read store };
-
-    fn from(fault: StoreFault) -> Fault {
-        match fault {
-            StoreFault::Memory => Fault::Memory,
-            _ => Fault::Store,
-        }
     }
 }

@@ -2,10 +2,10 @@
 use Rattle.std.proofs.Common.{string_bytes, sym, ◌∙◌, rules, tests}
 use Rattle.std.proofs.lemmas.Iterator.{YieldsList-from_slice}
 use Rattle.std.proofs.lemmas.Iterator.Search.{any_from_yields_List}
-use Rattle.ft_content.specs.Content.{same_name}
-use Rattle.ft_content.specs.declared.table.TableInfo.{TableInfo}
-use Rattle.ft_content.proofs.Lists.{any_of_map}
-use Rattle.ft_content.proofs.tables.has_table.Goals as goal
+use Rattle.ft_values.specs.Names.{same_name}
+use Rattle.ft_values.specs.declared.table.TableInfo.{TableInfo}
+use Rattle.ft_values.proofs.Lists.{any_of_map}
+use Rattle.ft_values.proofs.names.has_table.Goals as goal
 
 pub returns : goal.returns
 returns c =
