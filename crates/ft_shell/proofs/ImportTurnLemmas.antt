@@ -15,8 +15,7 @@ use Rattle.ft_statements.specs.Dots.{Import}
 use Rattle.ft_shell.specs.PlainStatements.{IfClean}
 use Rattle.ft_shell.proofs.PlainImportLemmas.{all_kept, stays_all_kept}
 use Rattle.ft_shell.specs.PlainImports.{HasColumns, Stays, Keeps, import_steps, Declines, Uncounted}
-use Rattle.ft_shell.specs.ImportTurns.{kept, records_in, columns_in, fault_words, IntoTable, IntoNew, uncounted, declined, no_memory}
-use Rattle.ft_statements.specs.Statements.{is_named}
+use Rattle.ft_shell.specs.ImportTurns.{kept, records_in, fault_words, IntoTable, IntoNew, uncounted, declined, no_memory}
 use Rattle.ft_statements.specs.Views.{texts_of}
 use Rattle.ft_shell.specs.Told.{Told, blames, warned, followed, silent}
 
@@ -116,17 +115,3 @@ left_rows skip k records left is rest =
     let count : k ≡ min (unwrap_or skip 0) (length (map texts_of records)) = omega (arith, is, length-map records texts_of) in
     ap (λ rs. enumerate_from (k + 1) (map texts_of rs)) rest ∙ ap (enumerate_from (k + 1)) (sym (drop-map texts_of k records)) ∙ left_numbered skip k (map texts_of records) count
 
--- ---- the table that has the name
-
-pub named_here : (tables : List TableInfo) (i : ℕ) (table : TableInfo) (name : List ℕ) → i < length tables → table ≡ get_or tables i table → is_named name (string_bytes table.name) ≡ true →
-    columns_in (map known_info (drop i tables)) name ≡ Some (length table.columns.items)
-named_here tables i table name within is has =
-    ap (λ ts. columns_in (map known_info ts) name) (drop_more tables i table within ∙ ap (λ t. t ∷ drop (i + 1) tables) (sym is))
-    ∙ ap (λ b. if b then Some (length (map column_of table.columns.items)) else columns_in (map known_info (drop (i + 1) tables)) name) has
-    ∙ ap Some (length-map table.columns.items column_of)
-
-pub named_later : (tables : List TableInfo) (i : ℕ) (table : TableInfo) (name : List ℕ) → i < length tables → table ≡ get_or tables i table → is_named name (string_bytes table.name) ≡ false →
-    columns_in (map known_info (drop i tables)) name ≡ columns_in (map known_info (drop (i + 1) tables)) name
-named_later tables i table name within is lacks =
-    ap (λ ts. columns_in (map known_info ts) name) (drop_more tables i table within ∙ ap (λ t. t ∷ drop (i + 1) tables) (sym is))
-    ∙ ap (λ b. if b then Some (length (map column_of table.columns.items)) else columns_in (map known_info (drop (i + 1) tables)) name) lacks

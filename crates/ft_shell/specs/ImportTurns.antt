@@ -1,6 +1,6 @@
 -- What `.import` does in a session ("Importing files as CSV or other formats" of "Command Line Shell For SQLite"; that an import is one
 -- command, whole or not at all, that short records are filled with NULL and long ones cut, and each refusal, are own choices).
-use Rattle.std.specs.Prelude.{ℕ, ◌≡◌, ◌⊎◌, ◌<◌, ◌≤◌, List, [], ◌∷◌, length, map, drop, true, false, codes, Option, Some, None, unwrap_or, Result, Ok, Err, if◌then◌else◌}
+use Rattle.std.specs.Prelude.{ℕ, ◌≡◌, ◌⊎◌, ◌<◌, ◌≤◌, List, [], ◌∷◌, length, map, drop, true, false, codes, Option, Some, None, option_map, unwrap_or, Result, Ok, Err, if◌then◌else◌}
 use Rattle.std.specs.List.{enumerate_from}
 use Rattle.csv.specs.Reading.{AreRecords, strip_bom}
 use Rattle.csv.specs.declared.parser.State.TheVariants as csv
@@ -11,6 +11,7 @@ use Rattle.shell_text.specs.Records.{IsNoText, csv_reader}
 use Rattle.ft_values.specs.declared.fault.Fault.{Fault}
 use Rattle.ft_content.specs.Command.{Command, Insert, Reply}
 use Rattle.ft_content.specs.Views.{KnownTable}
+use Rattle.ft_index.specs.Found.{known_named}
 use Rattle.ft_index.specs.Kept.{Known, Executes}
 use Rattle.ft_index.specs.Crashes.{CommandSurvives}
 use Rattle.ft_statements.specs.Dots.{Import}
@@ -23,7 +24,6 @@ use Rattle.ft_shell.specs.PlainStatements.{IfClean}
 use Rattle.ft_shell.specs.Sources.{Files, Gives, Refuses}
 use Rattle.ft_shell.specs.declared.source.SourceFault.{SourceFault}
 use Rattle.ft_shell.specs.declared.source.SourceFault.TheVariants as sources
-use Rattle.ft_statements.specs.Statements.{is_named}
 use Rattle.ft_shell.specs.TablesTurns.{Tries}
 use Rattle.ft_statements.specs.Texts.{fault_text}
 use Rattle.ft_shell.specs.Told.{Told, blames, followed, lacks_memory, warned, Tells}
@@ -37,8 +37,7 @@ records_in rows = map (λ r. r.1) rows
 
 -- the number of columns of the first table that has this name, if one has
 abbrev pub columns_in : List KnownTable → List ℕ → Option ℕ
-columns_in [] name = None
-columns_in (t ∷ ts) name = if is_named name t.name then Some (length t.columns) else columns_in ts name
+columns_in tables name = option_map (λ (t : KnownTable). length t.columns) (known_named tables name)
 
 -- ---- into a full-text table
 

@@ -17,10 +17,11 @@ use crate::imports::{delimiter_of, fitted_row, warnings};
 use crate::plain_import::{ImportFault, column_count, import_records};
 use crate::readable::reads_table;
 use crate::source::{Source, SourceFault};
-use crate::told::Told;
+use crate::told::{FaultText, Told};
 use ft_content::{Command, Fault, TableInfo, Value};
 use ft_index::FullText;
 use ft_statements::Import;
+use ft_values::table_place;
 use shell_text::{RecordFault, Settings, read_records};
 use sqlite::{Alter, Connection};
 use std::alloc::{AllocError, Global};
@@ -160,12 +161,10 @@ fn left_records(
 fn columns_named(tables: &[TableInfo], name: &str) -> Option<usize>
     ensures { result ≡ columns_in (map known_info tables.now) name.now }
 {
-    for table in tables {
-        if name.eq_ignore_ascii_case(table.name.as_str()) {
-            return Some(table.columns.len());
-        }
+    match table_place(tables, name) {
+        Some(place) => Some(tables[place].columns.len()),
+        None => None,
     }
-    None
 }
 
 // Records into a full-text table with so many columns: one command.
@@ -376,22 +375,15 @@ fn noted_told<S: Alter>(
 {
     match full.note(table) {
         Ok(()) => warned(alloc, lines),
-        Err(Fault::Memory) => warned_and_blamed(alloc, settings, line, lines, "out of memory"),
-        Err(_) => warned_and_blamed(alloc, settings, line, lines, "table not noted"),
+        Err(Fault::Memory) => {
+            let text = FaultText::Fixed("out of memory");
+            Told::blames_behind(alloc, settings, line, lines, text)
+        }
+        Err(_) => {
+            let text = FaultText::Fixed("table not noted");
+            Told::blames_behind(alloc, settings, line, lines, text)
+        }
     }
-}
-
-// Warnings, and then a fault line.
-fn warned_and_blamed(
-    alloc: Global,
-    settings: &Settings,
-    line: u64,
-    lines: String,
-    text: &'static str,
-) -> Told
-    ensures { told_as result ≡ forms.followed (forms.warned (string_bytes lines)) (forms.blames settings.now line text.now) }
-{
-    Told::blames(alloc, settings, line, text).after_warnings(lines)
 }
 
 // The fault line of a file that is not fetched.

@@ -316,7 +316,7 @@ pub data IsLead : Token → Type 0 where
 
 -- the name of one of the tables, in any case of ASCII letters
 pub data IsTable (tables : List (List ℕ)) : Token → Type 0 where
-  table_name : {t : Token} {name : List ℕ} → IsName t name → Any (IsSame name) tables → IsTable tables t
+  table_name : {t : Token} {name : List ℕ} → IsName t name → Any (λ table. IsSame table name) tables → IsTable tables t
 
 -- CREATE VIRTUAL {word} | {word} lead table {word}
 pub data IsFullText (tables : List (List ℕ)) : List Token → Type 0 where

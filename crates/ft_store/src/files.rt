@@ -32,7 +32,7 @@ const MOST_CACHE: u64 = 20_000;
 
 // How many pages are logged before they are written into the database: a change of a document logs some 100 to 200, and each that
 // is written back costs once more. So the log has some 16 MB at the most, beside what the last command wrote.
-const CHECKPOINT_FRAMES: u64 = 4000;
+const CHECKPOINT_FRAMES: usize = 4000;
 
 // The files of a database, as they are opened.
 fn open_pair<S: Start>(rt: &HostRuntime, path: &str, start: S) -> Result<Files<FileFrom<S>>, Error>
