@@ -5,9 +5,9 @@ use Rattle.ft_values.specs.Cells.{Cell}
 
 -- all documents, the one with this docid, or those that a query on a table or a column accepts
 pub data Filter : Type 0 where
-  Everything : Filter
-  OfDocid : (docid : ℤ) → Filter
-  Matching : (name query : List ℕ) → Filter
+  All : Filter
+  Docid : (docid : ℤ) → Filter
+  Match : (name query : List ℕ) → Filter
 
 -- all columns, a column or docid, or the offsets of the filter's query
 pub data Item : Type 0 where

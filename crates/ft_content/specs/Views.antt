@@ -19,16 +19,16 @@ use Rattle.ft_content.specs.declared.command.Reply.TheVariants as replies
 use Rattle.ft_values.specs.declared.fault.Fault.{Fault}
 use Rattle.ft_values.specs.declared.fault.Fault.TheVariants as faults
 use Rattle.ft_values.specs.declared.table.Column.{Column}
-use Rattle.ft_values.specs.declared.table.TableInfo.{TableInfo}
+use Rattle.ft_values.specs.declared.table.TableInfo.{TableInfo as RustTableInfo}
 pub use Rattle.ft_values.specs.Names.{info_names, info_ids}
 use Rattle.ft_content.specs.Content as content
 use Rattle.ft_content.specs.Command as plain
 use Rattle.ft_content.specs.Deserved.{Contents}
 
 abbrev pub filter_of : Filter → plain.Filter
-filter_of filters.All = plain.Everything
-filter_of (filters.Docid docid) = plain.OfDocid docid
-filter_of (filters.Match name query) = plain.Matching (string_bytes name) (string_bytes query)
+filter_of filters.All = plain.All
+filter_of (filters.Docid docid) = plain.Docid docid
+filter_of (filters.Match name query) = plain.Match (string_bytes name) (string_bytes query)
 
 abbrev pub item_of : Item → plain.Item
 item_of item.All = plain.AllColumns
@@ -103,11 +103,11 @@ abbrev pub table_ids : Contents → List ℤ
 table_ids contents = map (λ t. t.0) contents
 
 -- what is known of a table without its rows
-pub record KnownTable : Type 0 where
+pub record TableInfo : Type 0 where
   pub id : ℤ
   pub name : List ℕ
   pub columns : List content.Column
   pub sound : Bool
 
-abbrev pub known_info : TableInfo → KnownTable
-known_info info = record { id = info.id; name = string_bytes info.name; columns = map column_of info.columns.items; sound = info.sound }
+abbrev pub shown_info : RustTableInfo → TableInfo
+shown_info info = record { id = info.id; name = string_bytes info.name; columns = map column_of info.columns.items; sound = info.sound }

@@ -2,7 +2,7 @@
 ghost use Rattle.std.specs.Prelude.{◌≡◌, ◌≢◌, map, option_map, string_bytes, Ok, Err, IfOk, IfErr, OnOk, None, Some};
 ghost use Rattle.ft_query.specs.Trees.{tree_of};
 ghost use Rattle.ft_content.specs.Content.{names_of};
-ghost use Rattle.ft_content.specs.Command.{Matching};
+ghost use Rattle.ft_content.specs.Command.{Match};
 ghost use Rattle.ft_content.specs.Answer.{reading};
 ghost use Rattle.ft_content.specs.Deserved.{query_fault, reading_fault};
 ghost use Rattle.ft_content.specs.Views.{bare_content};
@@ -45,8 +45,8 @@ pub fn read_query(
     text: &str,
 ) -> Result<Option<Query>, Fault>
     ensures query { IfOk result (λ query. reading (bare_content columns.now) name.now text.now ≡ Ok (option_map tree_of query)) }
-    ensures fine { OnOk result (query_fault (bare_content columns.now) (Matching name.now text.now) ≡ None) }
-    ensures fault { IfErr result (λ fault. fault ≢ Fault.Memory → query_fault (bare_content columns.now) (Matching name.now text.now) ≡ Some fault) }
+    ensures fine { OnOk result (query_fault (bare_content columns.now) (Match name.now text.now) ≡ None) }
+    ensures fault { IfErr result (λ fault. fault ≢ Fault.Memory → query_fault (bare_content columns.now) (Match name.now text.now) ≡ Some fault) }
 {
     let names = named_columns(alloc, columns)?;
     let default = column_place(columns, name);

@@ -13,7 +13,7 @@ use Rattle.ft_query.specs.Trees.{Tree}
 use Rattle.ft_query.specs.Occurs.{PlainHit, plain_hit, offsets_text}
 use Rattle.ft_values.specs.Cells.{Cell, Null, Int, Text}
 use Rattle.ft_content.specs.Content.{Column, Content, Documents, IsContent, is_docid, is_cell, is_document}
-use Rattle.ft_content.specs.Command.{Filter, Everything, OfDocid, Matching, Item, AllColumns, Named, OffsetsOf, Items, Listed}
+use Rattle.ft_content.specs.Command.{Filter, All, Docid, Match, Item, AllColumns, Named, OffsetsOf, Items, Listed}
 use Rattle.ft_content.specs.Answer.{cells_with, named_cell, item_cells, offsets_cell, item_rows, column_place, cut, query_in, chosen}
 use Rattle.ft_content.specs.Deserved.{is_match, is_offsets}
 use Rattle.ft_content.proofs.AnswerLemmas.{item_cells_are, cut_of_map}
@@ -205,9 +205,9 @@ no_offsets f items plainly asked = go (list_any is_offsets items) (ap (λ b. lis
     go false h = refl
 
 pub no_query : (content : Content) (f : Filter) → is_match f ≡ false → query_in content f ≡ None
-no_query content Everything h = refl
-no_query content (OfDocid docid) h = refl
-no_query content (Matching name text) h = absurd (let no = h in cc)
+no_query content All h = refl
+no_query content (Docid docid) h = refl
+no_query content (Match name text) h = absurd (let no = h in cc)
 
 item_cells_bare : (columns : List Column) (content : Content) (document : ℤ × List Cell) (items : List Item) → content.columns ≡ columns →
     flat_map (item_cells None (record { columns = columns; documents = [] }) document) items ≡ flat_map (item_cells None content document) items

@@ -1,5 +1,5 @@
 -- Posting rows, as the lists of places of documents that they mean (own choice).
-use Rattle.std.specs.Prelude.{◌≡◌, ℕ, ℤ, Bool, true, nat_lt, ◌==◌, ◌&&◌, ◌||◌, cond, List, [], ◌∷◌, map, nat_abs, IsPermutation, IsSorted}
+use Rattle.std.specs.Prelude.{◌≡◌, ℕ, ℤ, Bool, true, nat_lt, ◌==◌, ◌&&◌, ◌||◌, if◌then◌else◌, List, [], ◌∷◌, map, nat_abs, IsPermutation, IsSorted}
 use Rattle.std.specs.List.{prefix_len, flat_map}
 use Rattle.std.specs.declared.cmp.Ordering.{Ordering}
 use Rattle.std.specs.Ordering.{nat_cmp, int_cmp, int_eq, ordering_then}
@@ -52,7 +52,7 @@ run_with first ps = prefix_len (λ p. int_eq p.docid first.docid) ps
 -- Places one after another, as lists of documents: a place joins the list after it, if that has its docid.
 abbrev pub with_placed : Placed → List PlaceList → List PlaceList
 with_placed p [] = list_with p (p ∷ []) ∷ []
-with_placed p (l ∷ ls) = cond (int_eq p.docid l.docid) (record { docid = p.docid; places = place_in p ∷ l.places } ∷ ls) (list_with p (p ∷ []) ∷ l ∷ ls)
+with_placed p (l ∷ ls) = if int_eq p.docid l.docid then (record { docid = p.docid; places = place_in p ∷ l.places } ∷ ls) else (list_with p (p ∷ []) ∷ l ∷ ls)
 
 unfoldable pub by_docid : List Placed → List PlaceList
 by_docid [] = []

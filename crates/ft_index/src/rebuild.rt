@@ -7,7 +7,7 @@ ghost use Rattle.sqlite.specs.State.{HasCleanDisk};
 ghost use Rattle.ft_store.specs.Kept.{shows, value_in};
 ghost use Rattle.ft_content.specs.Content.{is_document};
 ghost use Rattle.ft_content.specs.Command as plain;
-ghost use Rattle.ft_content.specs.Views.{column_of, known_info, answer_of};
+ghost use Rattle.ft_content.specs.Views.{column_of, shown_info, answer_of};
 ghost use Rattle.ft_content.specs.Deserved.{Contents};
 ghost use Rattle.ft_index.specs.Changed.{with_tables};
 ghost use Rattle.ft_index.specs.Crashes.{CommandSurvives};
@@ -131,7 +131,7 @@ pub(crate) fn rebuild_changes<S: Alter>(
     tables: &[TableInfo],
     table: &str,
 ) -> Result<Vec<RowChange>, Fault>
-    ensures plan { HasCleanDisk (shows S.Store store.new) → (contents : Contents) → AreHeld (value_in S.Store store.old) (map known_info tables.now) contents
+    ensures plan { HasCleanDisk (shows S.Store store.new) → (contents : Contents) → AreHeld (value_in S.Store store.old) (map shown_info tables.now) contents
         → PlansFrom contents (plain.Rebuild table.now) (value_in S.Store store.old) (changes_of result) }
     ensures looks { Looks S.Store store.old store.new }
     ensures live { HasCleanDisk (shows S.Store store.new) → OnOk result (IsTrue (shows S.Store store.old).is_open → IsTrue (shows S.Store store.new).is_open) }
@@ -160,8 +160,8 @@ pub(crate) fn rebuild_table<S: Alter>(
     tables: &mut Vec<TableInfo>,
     table: &str,
 ) -> Result<Reply, Fault>
-    ensures executes { Executes S.Store (with_tables store.old (map known_info tables.old.items)) (plain.Rebuild table.now) (answer_of result) (with_tables store.new (map known_info tables.new.items)) }
-    ensures crash { CommandSurvives S.Store (with_tables store.old (map known_info tables.old.items)) (plain.Rebuild table.now) (with_tables store.new (map known_info tables.new.items)) }
+    ensures executes { Executes S.Store (with_tables store.old (map shown_info tables.old.items)) (plain.Rebuild table.now) (answer_of result) (with_tables store.new (map shown_info tables.new.items)) }
+    ensures crash { CommandSurvives S.Store (with_tables store.old (map shown_info tables.old.items)) (plain.Rebuild table.now) (with_tables store.new (map shown_info tables.new.items)) }
     ensures live { HasCleanDisk (shows S.Store store.new) → OnOk result (IsTrue (shows S.Store store.old).is_open → IsTrue (shows S.Store store.new).is_open) }
 {
     store.is_in_order();

@@ -4,7 +4,7 @@ ghost use Rattle.std.specs.List.{enumerate_from};
 ghost use Rattle.shell_text.specs.Print.{is_csv_separator};
 ghost use Rattle.ft_content.specs.Command.{Insert};
 ghost use Rattle.ft_content.specs.Views as views;
-ghost use Rattle.ft_content.specs.Views.{known_info};
+ghost use Rattle.ft_content.specs.Views.{shown_info};
 ghost use Rattle.ft_statements.specs.DotViews.{import_as};
 ghost use Rattle.ft_shell.specs.Imports.{fitted};
 ghost use Rattle.ft_shell.specs.ImportTurns.{columns_in, InsertTurn, TextImport, NotesAfter, IntoTable, IntoNew, PlainImport, fault_words, fetch_words, RecordsTurn, BytesTurn, FileTurn, ImportTurn};
@@ -31,16 +31,16 @@ pub(crate) fn import_turn<P: Alter, S: Alter, F: Source>(
     alloc: Global,
     settings: &Settings,
     plain: &mut Connection<P>,
-    full: &mut FullText<S>,
+    full_text: &mut FullText<S>,
     source: &mut F,
     what: &Import,
     line: u64,
 ) -> Told
-    ensures turn { ImportTurn P.Store S.Store settings.now line (import_as what.now) plain.old plain.new full.old full.new (told_as result) (F.holds source.old) }
+    ensures turn { ImportTurn P.Store S.Store settings.now line (import_as what.now) plain.old plain.new full_text.old full_text.new (told_as result) (F.holds source.old) }
     ensures source { (name : List ℕ) → F.holds source.new name ≡ F.holds source.old name }
 {
     match delimiter_of(what.csv, settings) {
-        Some(delimiter) => file_turn(alloc, settings, plain, full, source, what, line, delimiter),
+        Some(delimiter) => file_turn(alloc, settings, plain, full_text, source, what, line, delimiter),
         None => Told::blames(alloc, settings, line, "bad separator"),
     }
 }
@@ -50,14 +50,14 @@ fn file_turn<P: Alter, S: Alter, F: Source>(
     alloc: Global,
     settings: &Settings,
     plain: &mut Connection<P>,
-    full: &mut FullText<S>,
+    full_text: &mut FullText<S>,
     source: &mut F,
     what: &Import,
     line: u64,
     delimiter: u8,
 ) -> Told
     requires { is_csv_separator (delimiter ∷ []) ≡ true }
-    ensures turn { FileTurn P.Store S.Store settings.now line (import_as what.now) plain.old plain.new full.old full.new (told_as result) (F.holds source.old) delimiter }
+    ensures turn { FileTurn P.Store S.Store settings.now line (import_as what.now) plain.old plain.new full_text.old full_text.new (told_as result) (F.holds source.old) delimiter }
     ensures source { (name : List ℕ) → F.holds source.new name ≡ F.holds source.old name }
 {
     match source.fetch(alloc, what.file.as_str()) {
@@ -65,7 +65,7 @@ fn file_turn<P: Alter, S: Alter, F: Source>(
             alloc,
             settings,
             plain,
-            full,
+            full_text,
             what,
             line,
             delimiter,
@@ -80,17 +80,17 @@ fn bytes_turn<P: Alter, S: Alter>(
     alloc: Global,
     settings: &Settings,
     plain: &mut Connection<P>,
-    full: &mut FullText<S>,
+    full_text: &mut FullText<S>,
     what: &Import,
     line: u64,
     delimiter: u8,
     bytes: &[u8],
 ) -> Told
     requires { is_csv_separator (delimiter ∷ []) ≡ true }
-    ensures { BytesTurn P.Store S.Store settings.now line (import_as what.now) plain.old plain.new full.old full.new (told_as result) delimiter bytes.now }
+    ensures { BytesTurn P.Store S.Store settings.now line (import_as what.now) plain.old plain.new full_text.old full_text.new (told_as result) delimiter bytes.now }
 {
     match read_records(alloc, bytes, delimiter) {
-        Ok(records) => records_turn(alloc, settings, plain, full, what, line, records),
+        Ok(records) => records_turn(alloc, settings, plain, full_text, what, line, records),
         Err(RecordFault::NotUtf8) => Told::blames(alloc, settings, line, "file is not UTF-8"),
         Err(RecordFault::Memory) => Told::lacks_memory(alloc, settings, line),
     }
@@ -101,22 +101,22 @@ fn records_turn<P: Alter, S: Alter>(
     alloc: Global,
     settings: &Settings,
     plain: &mut Connection<P>,
-    full: &mut FullText<S>,
+    full_text: &mut FullText<S>,
     what: &Import,
     line: u64,
     records: Vec<Vec<String>>,
 ) -> Told
-    ensures { RecordsTurn P.Store S.Store settings.now line (import_as what.now) plain.old plain.new full.old full.new (told_as result) (map texts_of records.items) }
+    ensures { RecordsTurn P.Store S.Store settings.now line (import_as what.now) plain.old plain.new full_text.old full_text.new (told_as result) (map texts_of records.items) }
 {
     let skip = skipped(what.skip, records.len());
     let Ok(left) = left_records(alloc, records, skip) else {
         return Told::lacks_memory(alloc, settings, line);
     };
-    match columns_named(full.tables(), what.table.as_str()) {
+    match columns_named(full_text.tables(), what.table.as_str()) {
         Some(columns) => full_text_import(
             alloc,
             settings,
-            full,
+            full_text,
             what,
             line,
             columns,
@@ -127,7 +127,7 @@ fn records_turn<P: Alter, S: Alter>(
             alloc,
             settings,
             plain,
-            full,
+            full_text,
             what,
             line,
             skip + 1,
@@ -159,7 +159,7 @@ fn left_records(
 
 // How many columns the full-text table of this name has, if there is one.
 fn columns_named(tables: &[TableInfo], name: &str) -> Option<usize>
-    ensures { result ≡ columns_in (map known_info tables.now) name.now }
+    ensures { result ≡ columns_in (map shown_info tables.now) name.now }
 {
     match table_place(tables, name) {
         Some(place) => Some(tables[place].columns.len()),
@@ -171,7 +171,7 @@ fn columns_named(tables: &[TableInfo], name: &str) -> Option<usize>
 fn full_text_import<S: Alter>(
     alloc: Global,
     settings: &Settings,
-    full: &mut FullText<S>,
+    full_text: &mut FullText<S>,
     what: &Import,
     line: u64,
     columns: usize,
@@ -179,7 +179,7 @@ fn full_text_import<S: Alter>(
     records: Vec<Vec<String>>,
 ) -> Told
     requires { first + length records.items < 2 ^ 64 }
-    ensures { TextImport S.Store settings.now line (import_as what.now) columns (enumerate_from first (map texts_of records.items)) full.old full.new (told_as result) }
+    ensures { TextImport S.Store settings.now line (import_as what.now) columns (enumerate_from first (map texts_of records.items)) full_text.old full_text.new (told_as result) }
 {
     let Ok(lines) = warnings(
         alloc,
@@ -193,7 +193,7 @@ fn full_text_import<S: Alter>(
     let Ok(command) = insert_of(alloc, what.table.as_str(), columns, records) else {
         return Told::lacks_memory(alloc, settings, line);
     };
-    insert_told(alloc, settings, full, line, &command, lines)
+    insert_told(alloc, settings, full_text, line, &command, lines)
 }
 
 // The command that puts records into a full-text table with so many columns.
@@ -220,14 +220,14 @@ fn insert_of(
 fn insert_told<S: Alter>(
     alloc: Global,
     settings: &Settings,
-    full: &mut FullText<S>,
+    full_text: &mut FullText<S>,
     line: u64,
     command: &Command,
     lines: String,
 ) -> Told
-    ensures { InsertTurn S.Store settings.now line (views.command_of command.now) (string_bytes lines) full.old full.new (told_as result) }
+    ensures { InsertTurn S.Store settings.now line (views.command_of command.now) (string_bytes lines) full_text.old full_text.new (told_as result) }
 {
-    match full.execute(command) {
+    match full_text.execute(command) {
         Ok(_) => warned(alloc, lines),
         Err(fault) => fault_told(alloc, settings, line, fault),
     }
@@ -250,18 +250,18 @@ fn plain_import<P: Alter, S: Alter>(
     alloc: Global,
     settings: &Settings,
     plain: &mut Connection<P>,
-    full: &mut FullText<S>,
+    full_text: &mut FullText<S>,
     what: &Import,
     line: u64,
     first: usize,
     records: &[Vec<String>],
 ) -> Told
     requires { first + length records.now < 2 ^ 64 }
-    ensures { PlainImport P.Store settings.now line (import_as what.now) (enumerate_from first (map texts_of records.now)) S.Store plain.old plain.new full.old full.new (told_as result) }
+    ensures { PlainImport P.Store settings.now line (import_as what.now) (enumerate_from first (map texts_of records.now)) S.Store plain.old plain.new full_text.old full_text.new (told_as result) }
 {
     match reads_table(alloc, plain, what.table.as_str()) {
         Some(true) => into_table(alloc, settings, plain, what, line, first, records),
-        Some(false) => into_new_table(alloc, settings, plain, full, what, line, first, records),
+        Some(false) => into_new_table(alloc, settings, plain, full_text, what, line, first, records),
         None => Told::lacks_memory(alloc, settings, line),
     }
 }
@@ -308,21 +308,21 @@ fn into_new_table<P: Alter, S: Alter>(
     alloc: Global,
     settings: &Settings,
     plain: &mut Connection<P>,
-    full: &mut FullText<S>,
+    full_text: &mut FullText<S>,
     what: &Import,
     line: u64,
     first: usize,
     records: &[Vec<String>],
 ) -> Told
     requires { first + length records.now < 2 ^ 64 }
-    ensures { IntoNew P.Store settings.now line (import_as what.now) (enumerate_from first (map texts_of records.now)) S.Store plain.old plain.new full.old full.new (told_as result) }
+    ensures { IntoNew P.Store settings.now line (import_as what.now) (enumerate_from first (map texts_of records.now)) S.Store plain.old plain.new full_text.old full_text.new (told_as result) }
 {
     match records {
         [names, rest @ ..] => into_made_table(
             alloc,
             settings,
             plain,
-            full,
+            full_text,
             what,
             line,
             first,
@@ -338,7 +338,7 @@ fn into_made_table<P: Alter, S: Alter>(
     alloc: Global,
     settings: &Settings,
     plain: &mut Connection<P>,
-    full: &mut FullText<S>,
+    full_text: &mut FullText<S>,
     what: &Import,
     line: u64,
     first: usize,
@@ -346,7 +346,7 @@ fn into_made_table<P: Alter, S: Alter>(
     rest: &[Vec<String>],
 ) -> Told
     requires { first + 1 + length rest.now < 2 ^ 64 }
-    ensures { IntoNew P.Store settings.now line (import_as what.now) ((first, map string_bytes names.now) ∷ enumerate_from (first + 1) (map texts_of rest.now)) S.Store plain.old plain.new full.old full.new (told_as result) }
+    ensures { IntoNew P.Store settings.now line (import_as what.now) ((first, map string_bytes names.now) ∷ enumerate_from (first + 1) (map texts_of rest.now)) S.Store plain.old plain.new full_text.old full_text.new (told_as result) }
 {
     let table = what.table.as_str();
     let columns = names.len();
@@ -357,7 +357,7 @@ fn into_made_table<P: Alter, S: Alter>(
         return Told::lacks_memory(alloc, settings, line);
     };
     match import_records(alloc, plain, table, Some(names), columns, rest) {
-        Ok(()) => noted_told(alloc, settings, full, line, table, lines),
+        Ok(()) => noted_told(alloc, settings, full_text, line, table, lines),
         Err(fault) => refusal(alloc, settings, line, fault),
     }
 }
@@ -366,14 +366,14 @@ fn into_made_table<P: Alter, S: Alter>(
 fn noted_told<S: Alter>(
     alloc: Global,
     settings: &Settings,
-    full: &mut FullText<S>,
+    full_text: &mut FullText<S>,
     line: u64,
     table: &str,
     lines: String,
 ) -> Told
-    ensures { NotesAfter S.Store settings.now line table.now (string_bytes lines) full.old full.new (told_as result) }
+    ensures { NotesAfter S.Store settings.now line table.now (string_bytes lines) full_text.old full_text.new (told_as result) }
 {
-    match full.note(table) {
+    match full_text.note(table) {
         Ok(()) => warned(alloc, lines),
         Err(Fault::Memory) => {
             let text = FaultText::Fixed("out of memory");

@@ -7,7 +7,7 @@ ghost use Rattle.sqlite.specs.Held.{state};
 ghost use Rattle.sqlite.specs.State.{HasCleanDisk};
 ghost use Rattle.ft_shell.specs.declared.plain_import.ImportFault.TheVariants.{Refused, Memory};
 ghost use Rattle.ft_shell.specs.Imports.{creation_of, insertion_of};
-ghost use Rattle.ft_shell.specs.PlainImports.{HasColumns, IsOnlyBelow, Stays, Keeps, Prepare, Run, fitted_row, runs_of, insertions, import_steps, Does, IsRefused, DoesAll, Stops, CommitsAll, Declines, Uncounted, IsInside, KeepsLast};
+ghost use Rattle.ft_shell.specs.PlainImports.{HasColumns, IsOnlyBelow, Stays, CommitsNothing, Prepare, Run, fitted_row, runs_of, insertions, import_steps, Does, IsRefused, DoesAll, StopsAtStep, CommitsAll, Declines, Uncounted, IsInside, KeepsLast};
 ghost use Rattle.ft_shell.specs.PlainStatements.{IfClean};
 ghost use Rattle.ft_shell.specs.PlainStatements as turns;
 ghost use Rattle.ft_shell.specs.PlainImports as forms;
@@ -66,7 +66,7 @@ pub(crate) fn import_records<P: Alter>(
 ) -> Result<(), ImportFault>
     ensures done { OnOk result (CommitsAll P.Store (import_steps (option_map (λ n. map string_bytes n.now) names.entry) table.now columns (map texts_of records.now)) plain.old plain.new) }
     ensures declined { IsErrOf result ImportFault.Refused → Declines P.Store (import_steps (option_map (λ n. map string_bytes n.now) names.entry) table.now columns (map texts_of records.now)) plain.old plain.new }
-    ensures kept { OnErr result (IfClean P.Store plain.old plain.new (Keeps (state P.Store plain.old) (state P.Store plain.new))) }
+    ensures kept { OnErr result (IfClean P.Store plain.old plain.new (CommitsNothing (state P.Store plain.old) (state P.Store plain.new))) }
 {
     if !plain.is_autocommit() {
         return Err(ImportFault::Refused);
@@ -89,7 +89,7 @@ fn fill<P: Alter>(
     requires inside { IsInside P.Store tx.old.conn.now }
     ensures same_reference { tx.new.conn.ghost_name ≡ tx.old.conn.ghost_name }
     ensures done { OnOk result (DoesAll P.Store (import_steps (option_map (λ n. map string_bytes n.now) names.entry) table.now columns (map texts_of records.now)) tx.old.conn.now tx.new.conn.now) }
-    ensures refused { IsErrOf result ImportFault.Refused → Stops P.Store (import_steps (option_map (λ n. map string_bytes n.now) names.entry) table.now columns (map texts_of records.now)) tx.old.conn.now tx.new.conn.now }
+    ensures refused { IsErrOf result ImportFault.Refused → StopsAtStep P.Store (import_steps (option_map (λ n. map string_bytes n.now) names.entry) table.now columns (map texts_of records.now)) tx.old.conn.now tx.new.conn.now }
     ensures kept { KeepsLast P.Store tx.old.conn.now tx.new.conn.now }
     ensures inside { OnOk result (IsInside P.Store tx.new.conn.now) }
 {
@@ -111,7 +111,7 @@ fn make_and_insert<P: Alter>(
     requires inside { IsInside P.Store tx.old.conn.now }
     ensures same_reference { tx.new.conn.ghost_name ≡ tx.old.conn.ghost_name }
     ensures done { OnOk result (DoesAll P.Store (Run (creation_of table.now (map string_bytes names.now)) [] ∷ insertions table.now columns (map texts_of records.now)) tx.old.conn.now tx.new.conn.now) }
-    ensures refused { IsErrOf result ImportFault.Refused → Stops P.Store (Run (creation_of table.now (map string_bytes names.now)) [] ∷ insertions table.now columns (map texts_of records.now)) tx.old.conn.now tx.new.conn.now }
+    ensures refused { IsErrOf result ImportFault.Refused → StopsAtStep P.Store (Run (creation_of table.now (map string_bytes names.now)) [] ∷ insertions table.now columns (map texts_of records.now)) tx.old.conn.now tx.new.conn.now }
     ensures kept { KeepsLast P.Store tx.old.conn.now tx.new.conn.now }
     ensures inside { OnOk result (IsInside P.Store tx.new.conn.now) }
 {
@@ -149,7 +149,7 @@ fn insert_records<P: Alter>(
     requires inside { IsInside P.Store tx.old.conn.now }
     ensures same_reference { tx.new.conn.ghost_name ≡ tx.old.conn.ghost_name }
     ensures done { OnOk result (DoesAll P.Store (insertions table.now columns (map texts_of records.now)) tx.old.conn.now tx.new.conn.now) }
-    ensures refused { IsErrOf result ImportFault.Refused → Stops P.Store (insertions table.now columns (map texts_of records.now)) tx.old.conn.now tx.new.conn.now }
+    ensures refused { IsErrOf result ImportFault.Refused → StopsAtStep P.Store (insertions table.now columns (map texts_of records.now)) tx.old.conn.now tx.new.conn.now }
     ensures kept { KeepsLast P.Store tx.old.conn.now tx.new.conn.now }
     ensures inside { OnOk result (IsInside P.Store tx.new.conn.now) }
 {
@@ -188,7 +188,7 @@ fn insert_all<P: Alter>(
     requires inside { IsInside P.Store tx.old.conn.now }
     ensures same_reference { tx.new.conn.ghost_name ≡ tx.old.conn.ghost_name }
     ensures done { OnOk result ((text : List ℕ) → (HasCleanDisk (state P.Store tx.old.conn.now) → statement.now.text ≡ text) → DoesAll P.Store (runs_of text columns (map texts_of records.now)) tx.old.conn.now tx.new.conn.now) }
-    ensures refused { IsErrOf result ImportFault.Refused → (text : List ℕ) → (HasCleanDisk (state P.Store tx.old.conn.now) → statement.now.text ≡ text) → Stops P.Store (runs_of text columns (map texts_of records.now)) tx.old.conn.now tx.new.conn.now }
+    ensures refused { IsErrOf result ImportFault.Refused → (text : List ℕ) → (HasCleanDisk (state P.Store tx.old.conn.now) → statement.now.text ≡ text) → StopsAtStep P.Store (runs_of text columns (map texts_of records.now)) tx.old.conn.now tx.new.conn.now }
     ensures kept { KeepsLast P.Store tx.old.conn.now tx.new.conn.now }
     ensures inside { OnOk result (IsInside P.Store tx.new.conn.now) }
 {
@@ -252,7 +252,7 @@ pub(crate) fn column_count<P: Alter>(
 ) -> Result<usize, ImportFault>
     ensures counted { IfOk result (λ n. IfClean P.Store plain.old plain.new (Stays (state P.Store plain.old) (state P.Store plain.new) × HasColumns (state P.Store plain.old).now.schema table.now n)) }
     ensures uncounted { IsErrOf result ImportFault.Refused → Uncounted P.Store table.now plain.old plain.new }
-    ensures kept { OnErr result (IfClean P.Store plain.old plain.new (Keeps (state P.Store plain.old) (state P.Store plain.new))) }
+    ensures kept { OnErr result (IfClean P.Store plain.old plain.new (CommitsNothing (state P.Store plain.old) (state P.Store plain.new))) }
 {
     let mut found = None;
     for count in 1..101 {
@@ -274,7 +274,7 @@ fn takes_values<P: Alter>(
 ) -> Result<bool, ImportFault>
     ensures told { IfOk result (λ takes. IfClean P.Store plain.old plain.new (Stays (state P.Store plain.old) (state P.Store plain.new) × (takes ≡ forms.takes_values (state P.Store plain.old).now.schema table.now count))) }
     ensures refused { IsErrOf result ImportFault.Refused → IsRefused P.Store (Prepare (insertion_of table.now count)) plain.old plain.new }
-    ensures kept { IfClean P.Store plain.old plain.new (Keeps (state P.Store plain.old) (state P.Store plain.new)) }
+    ensures kept { IfClean P.Store plain.old plain.new (CommitsNothing (state P.Store plain.old) (state P.Store plain.new)) }
 {
     let text = insertion_text(alloc, table, count)?;
     match plain.prepare(text.as_str()) {

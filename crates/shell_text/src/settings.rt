@@ -1,7 +1,7 @@
 //! How answers are printed, and what the shell does beside.
 
 ghost use Rattle.std.specs.Prelude.{◌≡◌, ◌∷◌, None, Some, true, false, OnOk, OnErr, IsErrOf};
-ghost use Rattle.shell_text.specs.Print.{first_look, is_csv_separator, may_separate, separator_of, shows_headers, with_mode};
+ghost use Rattle.shell_text.specs.Print.{first_settings, is_csv_separator, may_separate, separator_of, shows_headers, with_mode};
 ghost use Rattle.shell_text.specs.declared.settings.SetFault.TheVariants.{Memory};
 
 use std::alloc::{AllocError, Global};
@@ -71,19 +71,19 @@ pub struct Settings {
 }
 
 impl Model for Settings {
-    ghost use Rattle.shell_text.specs.Print.{Look};
+    ghost use Rattle.shell_text.specs.Print as forms;
 
-    ghost Value = { Look };
+    ghost Value = { forms.Settings };
 
-    ghost use Rattle.shell_text.specs.Looks.{look_of};
+    ghost use Rattle.shell_text.specs.SettingsViews.{settings_of};
 
-    ghost view = { look_of };
+    ghost view = { settings_of };
 }
 
 impl Settings {
     /// List mode with its own separator, an empty null text, headers never set, no echo, no bail.
     pub fn new(alloc: Global) -> Settings
-        ensures { result ≡ first_look }
+        ensures { result ≡ first_settings }
     {
         Settings {
             alloc,

@@ -2,17 +2,17 @@
 use Rattle.std.proofs.Common.{◌∙◌, ap}
 use Rattle.clap.specs.Matches.{found_of}
 use Rattle.clap.specs.Walk.{rows_of}
-use Rattle.shell_text.specs.Print.{Look, first_look}
+use Rattle.shell_text.specs.Print.{Settings, first_settings}
 use Rattle.ft_line.specs.Line.{modes_in, with_modes}
 use Rattle.ft_line.proofs.LineLemmas.{keeps_headers}
-use Rattle.ft_line.proofs.line.look_in.Goals as goal
+use Rattle.ft_line.proofs.line.settings_in.Goals as goal
 
 pub set_headers-requires : goal.set_headers-requires
 set_headers-requires c =
     let modes = modes_in (rows_of (found_of c.args.matches.now)) in
-    ap (λ (l : Look). l.headers) c.in_ok-set_null.ensures.ok
-    ∙ ap (λ (l : Look). l.headers) (c.set_modes.ensures ∙ ap (with_modes modes) c.new-settings.ensures)
-    ∙ keeps_headers modes first_look
+    ap (λ (l : Settings). l.headers) c.in_ok-set_null.ensures.ok
+    ∙ ap (λ (l : Settings). l.headers) (c.set_modes.ensures ∙ ap (with_modes modes) c.new-settings.ensures)
+    ∙ keeps_headers modes first_settings
 
 pub returns : goal.returns
 returns c =
