@@ -8,9 +8,8 @@ ghost use Rattle.ft_content.specs.Deserved.{query_fault, reading_fault};
 ghost use Rattle.ft_content.specs.Views.{bare_content};
 
 use crate::columns::{column_place, push_names};
-use ft_values::Fault;
-use ft_values::Column;
 use ft_query::{Query, QueryFault, parse};
+use ft_values::{Column, Fault};
 use std::alloc::{AllocError, Global};
 
 // The fault of a command whose text the parser refuses.

@@ -8,11 +8,9 @@ ghost use Rattle.ft_content.specs.Views.{bare_content, cells_of, column_of, set_
 
 use crate::columns::{has_column, names_unknown};
 use crate::command::Filter;
-use ft_values::Fault;
-use crate::names::{is_docid, same_name};
-use ft_values::Column;
+use crate::names::is_docid;
 use crate::value::{copied_value, docid_under, has_nul, is_null, is_text, is_too_long};
-use ft_values::Value;
+use ft_values::{Column, Fault, Value, same_name};
 use std::alloc::{AllocError, Global};
 
 // Whether one of these values stands under this name.

@@ -8,12 +8,7 @@ use Rattle.std.specs.List.{enumerate_from}
 use Rattle.std.specs.FinMap.Entries.{put, where_key, is_sorted}
 use Rattle.sqlite_value.specs.Keys.{without_case}
 use Rattle.ft_values.specs.declared.rows.Spot.{Spot}
-
--- what a cell holds
-pub data Cell : Type 0 where
-  Null : Cell
-  Int : (number : ℤ) → Cell
-  Text : (bytes : List ℕ) → Cell
+use Rattle.ft_values.specs.Cells.{Cell}
 
 -- a table with a docid and a column, a table with a term and a docid, and a table with a column
 abbrev pub CellKey : Type 0
