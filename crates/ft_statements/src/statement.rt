@@ -18,7 +18,6 @@ use crate::reading::keyword_at;
 use crate::select::select;
 use crate::words::{Piece, is_keyword, is_symbol, name_of, pieces_of};
 use ft_content::{Command, TableInfo};
-use ft_values::has_table;
 use shell_text::SqlWord;
 use std::alloc::{AllocError, AllocFailed, Global};
 use thiserror::Error;
@@ -101,6 +100,13 @@ fn leads(word: &Piece<'_>) -> bool
         || is_keyword(word, "TABLE")
         || is_keyword(word, "JOIN")
         || is_keyword(word, "EXISTS")
+}
+
+// Whether one of these tables has this name.
+pub(crate) fn has_table(tables: &[TableInfo], name: &str) -> bool
+    ensures { result ≡ list_any (forms.is_named name.now) (views.info_names tables.now) }
+{
+    ft_values::has_table(tables, name)
 }
 
 // Whether this word is the name of one of these tables.

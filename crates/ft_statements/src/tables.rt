@@ -4,8 +4,8 @@ ghost use Rattle.ft_content.specs.Views as views;
 ghost use Rattle.ft_statements.specs.Replies as forms;
 ghost use Rattle.ft_statements.specs.Views.{texts_of};
 
+use crate::statement::has_table;
 use ft_content::TableInfo;
-use ft_values::has_table;
 use std::alloc::{AllocError, Global};
 
 // The names of full-text tables.
