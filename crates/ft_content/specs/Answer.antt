@@ -1,4 +1,4 @@
--- What a Select answers ("Simple FTS Queries").
+-- Meaning. What a Select answers ("Simple FTS Queries").
 use Rattle.std.specs.Prelude.{ℕ, Bool, true, false, if◌then◌else◌, List, [], ◌∷◌, ◌++◌, map, length, take, drop, filter, position, Option, Some, None, Result, Ok, Err, ℤ, pos, codes, unwrap_or, option_and_then, slice_get}
 use Rattle.std.specs.List.{flat_map}
 use Rattle.std.specs.Option.{option_map_or}

@@ -1,4 +1,4 @@
--- What a table contains: columns, and documents by rising docid. A section named in quotes in a comment of these files is one of
+-- Meaning. What a table contains: columns, and documents by rising docid. A section named in quotes in a comment of these files is one of
 -- the SQLite document "SQLite FTS3 and FTS4 Extensions"; what that document leaves open is marked as an own choice.
 use Rattle.std.specs.Prelude.{◌≡◌, ℕ, ◌+◌, Bool, false, if◌then◌else◌, not, ◌&&◌, ◌||◌, List, [], ◌∷◌, map, length, nat_lt, nat_le, ◌==◌, codes, ℤ, pos, IsTrue}
 use Rattle.std.specs.List.{list_any, list_all, flat_map, enumerate_from}

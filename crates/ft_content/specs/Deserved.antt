@@ -1,4 +1,4 @@
--- Which fault a command deserves. Which faults there are, their limits, and the order in which they are tested over a whole command
+-- Meaning. Which fault a command deserves. Which faults there are, their limits, and the order in which they are tested over a whole command
 -- are own choices, but where a section is named.
 use Rattle.std.specs.Prelude.{ℕ, ◌-◌, ◌^◌, Bool, true, false, if◌then◌else◌, not, ◌&&◌, ◌||◌, List, [], ◌∷◌, map, length, zip, Option, Some, None, Result, Ok, Err, ℤ, pos, ◌+ℤ◌, codes, nat_lt, nat_le, ◌==◌, unwrap_or, option_map, is_some, is_none}
 use Rattle.std.specs.List.{list_any, list_all, find, flat_map}

@@ -1,4 +1,4 @@
--- The index of a content: its entries, the rows that hold them, and the sizes of its cells. Its rows are an own choice; the document's
+-- Meaning. The index of a content: its entries, the rows that hold them, and the sizes of its cells. Its rows are an own choice; the document's
 -- own are those of "Data Structures".
 use Rattle.std.specs.Prelude.{if◌then◌else◌, ℕ, List, [], ◌∷◌, map, length, filter, ℤ, pos, nat_lt, unwrap_or}
 use Rattle.std.specs.List.{flat_map, enumerate_from}

@@ -1,4 +1,4 @@
--- How the index changes with one document, and laws of commands.
+-- Meaning. How the index changes with one document, and laws of commands.
 use Rattle.std.specs.Prelude.{◌≡◌, ℕ, Bool, if◌then◌else◌, not, ◌||◌, List, [], ◌∷◌, map, filter, Option, Some, None, ℤ, length, nat_lt, IsTrue}
 use Rattle.std.specs.Ordering.{int_cmp, int_eq, eq_by_cmp}
 use Rattle.std.specs.FinMap.Entries.{put, find, where_key, is_sorted}

@@ -1,4 +1,4 @@
--- What posting lists mean: documents with their postings, as a walk over the lists sees them (own choice).
+-- Meaning. What posting lists mean: documents with their postings, as a walk over the lists sees them (own choice).
 use Rattle.std.specs.Prelude.{◌≡◌, ℕ, Bool, if◌then◌else◌, List, [], ◌∷◌, map, filter, Some, Ok, ℤ, nat_abs, length}
 use Rattle.std.specs.List.{flat_map}
 use Rattle.std.specs.declared.cmp.Ordering.{Ordering}

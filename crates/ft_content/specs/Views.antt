@@ -1,4 +1,4 @@
--- Commands, replies and tables as the definitions see them.
+-- Meaning. Commands, replies and tables as the definitions see them.
 use Rattle.std.specs.Prelude.{ℕ, ℤ, Bool, List, [], ◌∷◌, map, Option, Some, None, option_map, Result, Ok, Err, string_bytes, String, Vec}
 use Rattle.std.specs.declared.alloc.Global.{Global}
 use Rattle.std.specs.Ordering.{int_cmp}

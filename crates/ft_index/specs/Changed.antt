@@ -1,4 +1,4 @@
--- What a change of rows leaves of a store.
+-- Steps. What a change of rows leaves of a store.
 use Rattle.std.specs.Prelude.{◌≡◌, Bool, if◌then◌else◌, List}
 use Rattle.sqlite.specs.Store.{Ghosts}
 use Rattle.ft_store.specs.Store.{Change, all_applied}

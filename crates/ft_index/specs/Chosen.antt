@@ -1,4 +1,4 @@
--- The documents that a filter chooses, as they are read. All of it is our own choice.
+-- Steps. The documents that a filter chooses, as they are read. All of it is our own choice.
 use Rattle.std.specs.Prelude.{◌≡◌, ℤ, List, [], Option, Ok, unwrap_or}
 use Rattle.std.specs.Ordering.{int_cmp}
 use Rattle.std.specs.FinMap.Entries.{find}

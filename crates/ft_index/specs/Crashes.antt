@@ -1,4 +1,4 @@
--- What a crash leaves of full-text tables. All of it is our own choice.
+-- Meaning. What a crash leaves of full-text tables. All of it is our own choice.
 use Rattle.std.specs.Prelude.{◌≡◌, ℕ, List}
 use Rattle.sqlite.specs.Tree.{Trees}
 use Rattle.sqlite.specs.State.{Survives}

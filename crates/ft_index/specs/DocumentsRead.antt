@@ -1,4 +1,4 @@
--- The documents of a table in a store, as they are read.
+-- Meaning. The documents of a table in a store, as they are read.
 use Rattle.std.specs.Prelude.{◌≡◌, ◌++◌, ℕ, if◌then◌else◌, List, [], ◌∷◌, map, Option, Some, None, Bool, false, ℤ, IsTrue}
 use Rattle.std.specs.Ordering.{int_eq}
 use Rattle.sqlite.specs.State.{HasCleanDisk, Survives}

@@ -1,4 +1,4 @@
--- The table of a name among those that are told.
+-- Meaning. The table of a name among those that are told.
 use Rattle.std.specs.Prelude.{◌≡◌, ◌⊎◌, ℕ, ℤ, not, if◌then◌else◌, filter, List, [], ◌∷◌, Option, Some, None, slice_get, IsTrue, false}
 use Rattle.std.specs.List.{find}
 use Rattle.std.specs.Ordering.{int_cmp, int_eq, is_lt}

@@ -1,4 +1,4 @@
--- The rows of an Insert, as documents beside those that a table has. All of it is our own choice.
+-- Steps. The rows of an Insert, as documents beside those that a table has. All of it is our own choice.
 use Rattle.std.specs.Prelude.{◌≡◌, ◌⊎◌, ℕ, Bool, false, List, map, slice_get, unwrap_or, IfSome, Some, None, Result, Ok, Err, IsTrue, Vec}
 use Rattle.std.specs.declared.alloc.Global.{Global}
 use Rattle.std.specs.List.{AllByRecursion}

@@ -1,4 +1,4 @@
--- What stays true of full-text tables, whatever is called.
+-- Meaning. What stays true of full-text tables, whatever is called.
 use Rattle.std.specs.Prelude.{◌≡◌, ◌≢◌, ◌⊎◌, ℕ, Bool, true, false, if◌then◌else◌, List, [], ◌∷◌, map, Option, Some, None, Result, Ok, Err, ℤ, IsTrue, is_ok, All, Contains, refl}
 use Rattle.std.specs.List.{AllZip, list_any}
 use Rattle.std.specs.Ordering.{int_eq}

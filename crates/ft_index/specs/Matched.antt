@@ -1,4 +1,4 @@
--- What a filter chooses, as hits ("The Offsets Function").
+-- Steps. What a filter chooses, as hits ("The Offsets Function").
 use Rattle.std.specs.Prelude.{ℤ, List, [], map, Option}
 use Rattle.std.specs.Option.{option_map_or}
 use Rattle.ft_query.specs.Trees.{Tree}

@@ -1,4 +1,4 @@
--- Documents that rows of an Insert make, beside those that a table has. All of it is our own choice.
+-- Steps. Documents that rows of an Insert make, beside those that a table has. All of it is our own choice.
 use Rattle.std.specs.Prelude.{◌≡◌, ◌⊎◌, ℤ, List, map, Some, None, IsTrue}
 use Rattle.std.specs.List.{AllByRecursion}
 use Rattle.std.specs.Ordering.{int_cmp}

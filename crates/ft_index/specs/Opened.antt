@@ -1,4 +1,4 @@
--- How the tables of a store stand, as they are read. All of it is our own choice.
+-- Meaning. How the tables of a store stand, as they are read. All of it is our own choice.
 use Rattle.std.specs.Prelude.{◌≡◌, ℕ, ℤ, Bool, true, false, List, Option, Some, None, IsTrue}
 use Rattle.std.specs.List.{AllZip, find}
 use Rattle.std.specs.Ordering.{int_eq}

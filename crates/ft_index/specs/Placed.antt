@@ -1,4 +1,4 @@
--- Posting rows, as the lists of places of documents that they mean (own choice).
+-- Steps. Posting rows, as the lists of places of documents that they mean (own choice).
 use Rattle.std.specs.Prelude.{◌≡◌, ℕ, ℤ, Bool, true, nat_lt, ◌==◌, ◌&&◌, ◌||◌, if◌then◌else◌, List, [], ◌∷◌, map, nat_abs, IsPermutation, IsSorted}
 use Rattle.std.specs.List.{prefix_len, flat_map}
 use Rattle.std.specs.declared.cmp.Ordering.{Ordering}

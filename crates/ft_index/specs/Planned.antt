@@ -1,4 +1,4 @@
--- Plans over the tables that are told.
+-- Meaning. Plans over the tables that are told.
 use Rattle.std.specs.Prelude.{◌≡◌, ◌⊎◌, ℕ, Bool, List, map, Option, Some, None, Result, Ok, Err, pos, is_some, string_bytes, Vec, IsTrue}
 use Rattle.std.specs.declared.alloc.Global.{Global}
 use Rattle.ft_values.specs.declared.rows.RowChange.{RowChange}

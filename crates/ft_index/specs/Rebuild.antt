@@ -1,4 +1,4 @@
--- The row changes that make the index of a table again ("The "rebuild" command"); their rows are an own choice.
+-- Steps. The row changes that make the index of a table again ("The "rebuild" command"); their rows are an own choice.
 use Rattle.std.specs.Prelude.{◌≡◌, ◌≢◌, ℕ, true, false, if◌then◌else◌, List, map, Option, Some, None, ℤ}
 use Rattle.std.specs.Ordering.{int_eq}
 use Rattle.ft_values.specs.Cells.{Cell}

@@ -1,4 +1,4 @@
--- Documents that are written anew, and what row changes of them do. All of it is our own choice.
+-- Steps. Documents that are written anew, and what row changes of them do. All of it is our own choice.
 use Rattle.std.specs.Prelude.{◌≡◌, ◌≢◌, ℕ, List, [], ◌∷◌, map, length, Option, Some, None, option_map, ℤ, IsTrue, IsSome, IfSome, All}
 use Rattle.std.specs.List.{flat_map}
 use Rattle.std.specs.Ordering.{int_cmp}

@@ -1,4 +1,4 @@
--- The row changes that follow from documents which are written anew. All of it is our own choice.
+-- Steps. The row changes that follow from documents which are written anew. All of it is our own choice.
 use Rattle.std.specs.Prelude.{◌≡◌, ◌≤◌, length, ℕ, zero, suc, Bool, true, false, not, ◌&&◌, List, [], ◌∷◌, ◌++◌, map, filter, Option, Some, None, ℤ, pos, is_some, unwrap_or, IfSome, bytes_eq, string_bytes, String, Vec}
 use Rattle.std.specs.List.{flat_map, enumerate_from}
 use Rattle.std.specs.declared.cmp.Ordering.{Ordering}

@@ -1,4 +1,4 @@
--- How many rows a Select with MATCH reads (own choice).
+-- Meaning. How many rows a Select with MATCH reads (own choice).
 use Rattle.std.specs.Prelude.{◌≡◌, ℕ, ◌+◌, ◌*◌, Bool, true, false, if◌then◌else◌, not, length, Option, Some, None, Result, Ok, ℤ}
 use Rattle.std.specs.List.{list_any}
 use Rattle.ft_query.specs.Trees.{Tree}

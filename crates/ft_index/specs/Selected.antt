@@ -1,4 +1,4 @@
--- Rows of a Select as they are read. All of it is our own choice.
+-- Steps. Rows of a Select as they are read. All of it is our own choice.
 use Rattle.std.specs.Prelude.{◌≡◌, ◌&&◌, not, false, ℤ, List, [], Option}
 use Rattle.std.specs.List.{list_any, flat_map}
 use Rattle.sqlite.specs.Store.{Ghosts}

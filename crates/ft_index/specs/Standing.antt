@@ -1,4 +1,4 @@
--- How the rows of a table stand that the store lists. All of it is our own choice.
+-- Steps. How the rows of a table stand that the store lists. All of it is our own choice.
 use Rattle.std.specs.Prelude.{◌≡◌, ◌≢◌, ℕ, ◌+◌, ◌==◌, Bool, true, false, if◌then◌else◌, not, ◌&&◌, List, [], ◌∷◌, map, length, Option, Some, None, String, string_bytes, bytes_eq, ℤ, pos, IsTrue}
 use Rattle.std.specs.declared.alloc.Global.{Global}
 use Rattle.std.specs.List.{AllByRecursion, list_all, list_any, flat_map}

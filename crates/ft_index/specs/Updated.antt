@@ -1,4 +1,4 @@
--- The rewrites of an Update. All of it is our own choice.
+-- Steps. The rewrites of an Update. All of it is our own choice.
 use Rattle.std.specs.Prelude.{◌≡◌, ℤ, ℕ, if◌then◌else◌, List, [], ◌∷◌, ◌++◌, Option, Some, None}
 use Rattle.std.specs.Ordering.{int_cmp, int_eq, is_lt}
 use Rattle.ft_values.specs.Cells.{Cell}

@@ -1,4 +1,4 @@
--- Commands that write documents of one table anew. All of it is our own choice.
+-- Steps. Commands that write documents of one table anew. All of it is our own choice.
 use Rattle.std.specs.Prelude.{◌≡◌, ◌⊎◌, ℕ, List, map, Option, Some, None, Result, Ok, Err, ℤ, IsTrue, Contains, Vec}
 use Rattle.std.specs.declared.alloc.Global.{Global}
 use Rattle.std.specs.List.{AllByRecursion}

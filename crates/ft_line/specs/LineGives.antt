@@ -1,4 +1,4 @@
--- What reading a command line gives.
+-- Meaning. What reading a command line gives.
 use Rattle.std.specs.Prelude.{ℕ, ◌≡◌, ⊤, List, [], map, Result, Ok, Err, true, false, option_map, string_bytes, codes}
 use Rattle.clap.specs.Faults.{fault_of}
 use Rattle.clap.specs.Kinds.{IsAmong}

@@ -1,4 +1,4 @@
--- The inputs of a command line, run in turn over two databases, and what is told of how that ends (own choice).
+-- Meaning. The inputs of a command line, run in turn over two databases, and what is told of how that ends (own choice).
 use Rattle.std.specs.Prelude.{ℕ, ◌≡◌, ◌⊎◌, ◌^◌, ◌-◌, ◌++◌, ◌==◌, min, if◌then◌else◌, MatchBool, MatchResult, List, [], ◌∷◌, map, codes, Option, Some, None, IfSome, Result, Ok, Err}
 use Rattle.sqlite.specs.Store.{Ghosts}
 use Rattle.sqlite.specs.Held.{Held}

@@ -1,4 +1,4 @@
--- What the program does over two empty databases in memory, and so without a FILE (own choice).
+-- Meaning. What the program does over two empty databases in memory, and so without a FILE (own choice).
 use Rattle.std.specs.Prelude.{ℕ, ◌≡◌, ◌⊎◌, List, [], map, Option, None, string_bytes, Ok, Err}
 use Rattle.sqlite.specs.Files.{over_files}
 use Rattle.sqlite.specs.Held.{Held, state}

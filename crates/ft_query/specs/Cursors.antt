@@ -1,4 +1,4 @@
--- What is left of the lists of a walk.
+-- Steps. What is left of the lists of a walk.
 use Rattle.std.specs.Prelude.{ℕ, ℤ, int_lt, List, [], ◌∷◌, drop, map, sum_by, if◌then◌else◌, Option, Some, None}
 use Rattle.std.specs.Ordering.{int_eq}
 use Rattle.ft_query.specs.declared.lists.Place.{Place}

@@ -1,4 +1,4 @@
--- The search for the next hit of a walk.
+-- Steps. The search for the next hit of a walk.
 use Rattle.std.specs.Prelude.{◌≡◌, ℕ, List, [], ◌∷◌, map}
 use Rattle.ft_query.specs.declared.query.Query.{Query}
 use Rattle.ft_query.specs.declared.walk.cursor.Cursor.{Cursor}

@@ -1,4 +1,4 @@
--- A walk as its callers see it.
+-- Meaning. A walk as its callers see it.
 use Rattle.std.specs.Prelude.{◌≡◌, ℕ, ◌+◌, ◌-◌, ◌*◌, ◌^◌, ◌≤◌, min, length, sum_by, List, [], ◌∷◌, ◌++◌, Option, Some, None}
 use Rattle.ft_query.specs.declared.query.Query.{Query}
 use Rattle.ft_query.specs.declared.walk.Hit.{Hit}

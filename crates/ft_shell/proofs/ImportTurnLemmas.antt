@@ -114,4 +114,3 @@ pub left_rows : (skip : Option ℕ) (k : ℕ) (records left : List (Vec (String 
 left_rows skip k records left is rest =
     let count : k ≡ min (unwrap_or skip 0) (length (map texts_of records)) = omega (arith, is, length-map records texts_of) in
     ap (λ rs. enumerate_from (k + 1) (map texts_of rs)) rest ∙ ap (enumerate_from (k + 1)) (sym (drop-map texts_of k records)) ∙ left_numbered skip k (map texts_of records) count
-

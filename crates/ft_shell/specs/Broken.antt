@@ -1,4 +1,4 @@
--- Where a run is cut short (own choice).
+-- Meaning. Where a run is cut short (own choice).
 use Rattle.std.specs.Prelude.{ℕ, ◌≡◌, false, List, [], ◌∷◌, ◌++◌, Option}
 use Rattle.std.specs.Io.KnownBytes.{Appends}
 use Rattle.sqlite.specs.Store.{Ghosts}

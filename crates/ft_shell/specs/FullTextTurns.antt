@@ -1,4 +1,4 @@
--- What a full-text statement does in a session. All of it is our own choice.
+-- Meaning. What a full-text statement does in a session. All of it is our own choice.
 use Rattle.std.specs.Prelude.{ℕ, ◌≡◌, Bool, MatchBool, List, codes, Option, Some, None, Result, Ok, Err}
 use Rattle.sqlite.specs.Store.{Ghosts}
 use Rattle.shell_text.specs.Print.{Settings}

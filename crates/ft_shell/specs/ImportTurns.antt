@@ -1,4 +1,4 @@
--- What `.import` does in a session ("Importing files as CSV or other formats" of "Command Line Shell For SQLite"; that an import is one
+-- Meaning. What `.import` does in a session ("Importing files as CSV or other formats" of "Command Line Shell For SQLite"; that an import is one
 -- command, whole or not at all, that short records are filled with NULL and long ones cut, and each refusal, are own choices).
 use Rattle.std.specs.Prelude.{ℕ, ◌≡◌, ◌⊎◌, ◌<◌, ◌≤◌, List, [], ◌∷◌, length, map, drop, true, false, codes, Option, Some, None, option_map, unwrap_or, Result, Ok, Err, if◌then◌else◌}
 use Rattle.std.specs.List.{enumerate_from}

@@ -1,4 +1,4 @@
--- The parts of an import: the texts that are made for `sqlite`, the rows out of records, and the warnings ("Importing files as CSV
+-- Meaning. The parts of an import: the texts that are made for `sqlite`, the rows out of records, and the warnings ("Importing files as CSV
 -- or other formats" of "Command Line Shell For SQLite"; that each record has its place in one command is an own choice).
 use Rattle.std.specs.Prelude.{ℕ, Bool, ◌==◌, List, [], ◌∷◌, ◌++◌, length, map, take, replicate, Option, Some, None, if◌then◌else◌, codes, decimal, chars, encode_utf8}
 use Rattle.std.specs.List.{flat_map}

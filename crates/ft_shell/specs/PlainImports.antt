@@ -1,4 +1,4 @@
--- What an import does to the plain database: one transaction, whole or not at all ("Importing files as CSV or other formats" of
+-- Meaning. What an import does to the plain database: one transaction, whole or not at all ("Importing files as CSV or other formats" of
 -- "Command Line Shell For SQLite"; that an import is one command is an own choice). All that is said of a step has the premise that the
 -- disk is clean as the step ends; then it was clean as the step began.
 use Rattle.std.specs.Prelude.{ℕ, Bool, ◌≡◌, ◌⊎◌, ◌<◌, ◌≤◌, List, [], ◌∷◌, ◌++◌, map, take, replicate, slice_index_or, true, false, Option, Some, None, Ok, Err, is_ok, IsTrue}

@@ -1,4 +1,4 @@
--- What a statement of plain SQL does in a session ("Command Line Shell For SQLite"; that a query is prepared for its names and then
+-- Meaning. What a statement of plain SQL does in a session ("Command Line Shell For SQLite"; that a query is prepared for its names and then
 -- executed once, and how a refusal is told, are own choices).
 use Rattle.std.specs.Prelude.{ℕ, ◌≡◌, ◌⊎◌, List, [], Option, Ok, Err, Bool, true, false, MatchBool}
 use Rattle.sqlite.specs.Store.{Ghosts}

@@ -1,4 +1,4 @@
--- What runs of a session leave of the full-text tables (own choice).
+-- Meaning. What runs of a session leave of the full-text tables (own choice).
 use Rattle.std.specs.Prelude.{ℕ, ℤ, ◌≡◌, ◌⊎◌, List, ◌∷◌, ◌++◌, Option, Result, Ok, Err, IsTrue}
 use Rattle.std.specs.List.{list_any}
 use Rattle.sqlite.specs.Store.{Ghosts}

@@ -1,4 +1,4 @@
--- What a session stands on between two turns.
+-- Meaning. What a session stands on between two turns.
 use Rattle.std.specs.Prelude.{refl}
 use Rattle.std.specs.Coded.{Coded, code_by, coded×}
 use Rattle.sqlite.specs.Held.{Held, held_code}

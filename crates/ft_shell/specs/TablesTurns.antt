@@ -1,4 +1,4 @@
--- What `.tables` does in a session ("Querying the database schema" of "Command Line Shell For SQLite"; that plain tables are listed by
+-- Meaning. What `.tables` does in a session ("Querying the database schema" of "Command Line Shell For SQLite"; that plain tables are listed by
 -- their noted names, and only those that can be read, is an own choice).
 use Rattle.std.specs.Prelude.{ℕ, ◌≡◌, ◌⊎◌, Bool, true, false, List, [], ◌∷◌, map, codes, Option, Some, None}
 use Rattle.sqlite.specs.Store.{Ghosts}

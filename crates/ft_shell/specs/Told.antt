@@ -1,4 +1,4 @@
--- What turns of a session write. The form of fault lines, and that a fault ends the session only where bail is on, are own choices
+-- Meaning. What turns of a session write. The form of fault lines, and that a fault ends the session only where bail is on, are own choices
 -- beside the section "Special commands to sqlite3" of "Command Line Shell For SQLite".
 use Rattle.std.specs.Prelude.{ℕ, ◌≡◌, ◌⊎◌, Bool, false, if◌then◌else◌, List, [], ◌∷◌, ◌++◌, ◌+◌, codes}
 use Rattle.shell_text.specs.Print.{Settings}

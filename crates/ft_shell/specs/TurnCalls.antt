@@ -1,4 +1,4 @@
--- The calls that a turn makes of the full-text tables, read off the turn: each command that it executes, with the answer that it has, and
+-- Meaning. The calls that a turn makes of the full-text tables, read off the turn: each command that it executes, with the answer that it has, and
 -- each note. All of it is our own choice.
 use Rattle.std.proofs.Common.{inl, inr}
 use Rattle.std.specs.Prelude.{ℕ, ◌≡◌, Bool, true, false, MatchBool, List, [], ◌∷◌, map, codes, Option, Some, None}

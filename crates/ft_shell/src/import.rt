@@ -40,7 +40,9 @@ pub(crate) fn import_turn<P: Alter, S: Alter, F: Source>(
     ensures source { (name : List ℕ) → F.holds source.new name ≡ F.holds source.old name }
 {
     match delimiter_of(what.csv, settings) {
-        Some(delimiter) => file_turn(alloc, settings, plain, full_text, source, what, line, delimiter),
+        Some(delimiter) => file_turn(
+            alloc, settings, plain, full_text, source, what, line, delimiter,
+        ),
         None => Told::blames(alloc, settings, line, "bad separator"),
     }
 }
@@ -261,7 +263,9 @@ fn plain_import<P: Alter, S: Alter>(
 {
     match reads_table(alloc, plain, what.table.as_str()) {
         Some(true) => into_table(alloc, settings, plain, what, line, first, records),
-        Some(false) => into_new_table(alloc, settings, plain, full_text, what, line, first, records),
+        Some(false) => into_new_table(
+            alloc, settings, plain, full_text, what, line, first, records,
+        ),
         None => Told::lacks_memory(alloc, settings, line),
     }
 }

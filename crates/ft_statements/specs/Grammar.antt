@@ -1,4 +1,4 @@
--- The grammar of full-text statements: which words spell which command, which statements are full-text, and the class of a
+-- Meaning. The grammar of full-text statements: which words spell which command, which statements are full-text, and the class of a
 -- statement. A section named in quotes is one of the SQLite document "SQLite FTS3 and FTS4 Extensions"; what has none is our own
 -- choice, and so it is that just these forms are read. Tables are made and dropped as in "Creating and Destroying FTS Tables",
 -- written as in "Populating FTS Tables", and read as in "Simple FTS Queries".

@@ -1,4 +1,4 @@
--- What is printed for a reply ("Changing Output Formats" of "Command Line Shell For SQLite"), and the names that `.tables` lists
+-- Meaning. What is printed for a reply ("Changing Output Formats" of "Command Line Shell For SQLite"), and the names that `.tables` lists
 -- (its section "Querying the database schema").
 use Rattle.std.specs.Prelude.{ℕ, Bool, not, List, [], map, filter, ◌++◌}
 use Rattle.std.specs.List.{list_any}

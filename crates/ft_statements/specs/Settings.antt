@@ -1,4 +1,4 @@
--- What dot-commands set and print ("Changing Output Formats" of "Command Line Shell For SQLite").
+-- Meaning. What dot-commands set and print ("Changing Output Formats" of "Command Line Shell For SQLite").
 use Rattle.std.specs.Prelude.{ℕ, Bool, true, List, [], ◌∷◌, ◌++◌, Some}
 use Rattle.std.specs.List.{join_with_byte}
 use Rattle.shell_text.specs.Print.{Settings, may_separate, with_mode}

@@ -1,4 +1,4 @@
--- Which class a statement is of, and which command a full-text statement spells.
+-- Meaning. Which class a statement is of, and which command a full-text statement spells.
 use Rattle.std.specs.Prelude.{ℕ, Bool, false, ◌&&◌, ◌||◌, List, [], ◌∷◌, Option, Some, is_some, option_map, if◌then◌else◌, codes}
 use Rattle.std.specs.List.{list_any}
 use Rattle.std.specs.Option.{option_map_or, option_or}

@@ -1,4 +1,4 @@
--- The texts of fault lines, all of them own choices.
+-- Meaning. The texts of fault lines, all of them own choices.
 use Rattle.std.specs.Prelude.{ℕ, List, [], ◌∷◌, ◌++◌, codes, decimal}
 use Rattle.std.specs.Fmt.{signed_decimal}
 use Rattle.shell_text.specs.declared.units.SplitFault.{SplitFault}

@@ -1,4 +1,4 @@
--- Words, and what was read of them, as the code holds them.
+-- Steps. Words, and what was read of them, as the code holds them.
 use Rattle.std.specs.Prelude.{ℕ, Bool, List, map, Option, option_map, string_bytes, String, Vec}
 use Rattle.std.specs.declared.alloc.Global.{Global}
 use Rattle.std.specs.Borrow.{Bor}

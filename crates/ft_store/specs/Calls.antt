@@ -1,4 +1,4 @@
--- What a call does to a store.
+-- Meaning. What a call does to a store.
 use Rattle.std.specs.Prelude.{◌≡◌, ◌≢◌, ◌⊎◌, pos, true, Result, List, [], ◌∷◌, map, IsTrue, OnOk}
 use Rattle.std.specs.List.{AllByRecursion}
 use Rattle.sqlite.specs.declared.error.Error.{Error}

@@ -1,4 +1,4 @@
--- The row changes of a call as changes of the store's value.
+-- Meaning. The row changes of a call as changes of the store's value.
 use Rattle.std.specs.Prelude.{map, string_bytes}
 use Rattle.sqlite.specs.declared.types.Value.{Value as SqlValue}
 use Rattle.sqlite.specs.declared.types.Value.TheVariants as sql

@@ -1,4 +1,4 @@
--- The rows that the queries of a store give, as rows under their keys.
+-- Steps. The rows that the queries of a store give, as rows under their keys.
 use Rattle.std.specs.Prelude.{ℕ, ℤ, List, [], unwrap_or}
 use Rattle.ft_values.specs.declared.rows.Spot.{Spot}
 use Rattle.ft_store.specs.Packed.{spots_in}

@@ -1,4 +1,4 @@
--- Posting rows that are written by one statement.
+-- Steps. Posting rows that are written by one statement.
 use Rattle.std.specs.Prelude.{ℕ, pos, List, [], ◌∷◌, map, unwrap_or, string_bytes, Result, IfOk, IsTrue}
 use Rattle.std.specs.declared.cmp.Ordering.{Ordering}
 use Rattle.std.specs.FinMap.Entries.{put}

@@ -1,4 +1,4 @@
--- The packed list: the spots of one term in one document as bytes (own choice; the numbers are not those of "Variable Length
+-- Meaning. The packed list: the spots of one term in one document as bytes (own choice; the numbers are not those of "Variable Length
 -- Integer (varint) Format").
 use Rattle.std.specs.Prelude.{◌≡◌, ℕ, zero, suc, ◌+◌, ◌-◌, ◌*◌, ◌/◌, ◌%◌, ◌<◌, ℤ, pos, negsuc, option_map, Bool, true, false, ◌&&◌, ◌||◌, List, [], ◌∷◌, map, Option, Some, None, nat_lt, nat_le, ◌==◌, slice_index, IsTrue, if◌then◌else◌}
 use Rattle.std.specs.List.{flat_map}

@@ -1,4 +1,4 @@
--- What the trees of a store stand for. Column 0 of a row is its rowid.
+-- Meaning. What the trees of a store stand for. Column 0 of a row is its rowid.
 use Rattle.std.specs.Prelude.{ℕ, ℤ, List, [], ◌∷◌, map, unwrap_or}
 use Rattle.std.specs.declared.cmp.Ordering.{Ordering}
 use Rattle.std.specs.Ordering.{int_cmp}

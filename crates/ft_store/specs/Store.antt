@@ -1,4 +1,4 @@
--- A store seen as a value: rows under their keys, in the order of the keys, and what row changes make of them. All of it is
+-- Meaning. A store seen as a value: rows under their keys, in the order of the keys, and what row changes make of them. All of it is
 -- our own choice.
 use Rattle.std.specs.Prelude.{ℕ, ℤ, pos, not, ◌&&◌, List, [], ◌∷◌, IsTrue}
 use Rattle.std.specs.declared.cmp.Ordering.{Ordering}

@@ -18,6 +18,6 @@ mod write;
 
 pub use fault::StoreFault;
 pub use files::open_database;
-pub use packed::packed_lists;
 pub use ft_values::{CellRow, EntryRow, ListRow, RowChange, SizeRow, Spot, TabRow, Value};
+pub use packed::packed_lists;
 pub use store::{AdoptFault, Store};

@@ -18,12 +18,12 @@ ghost use Rattle.ft_store.specs.Groups.{entry_values, entry_put, PutsList, GoesO
 
 use crate::fault::StoreFault;
 use crate::packed::{can_pack, pack};
-use ft_values::{RowChange, Spot, Value};
 use crate::statements::{
     add_cell, add_column, add_list, add_lists, add_name, add_note, add_size, add_skip, drop_cell,
     drop_cells, drop_column, drop_columns, drop_contents, drop_list, drop_lists, drop_name,
     drop_note, drop_size, drop_sizes, drop_skip, drop_skips,
 };
+use ft_values::{RowChange, Spot, Value};
 use sqlite::types::ValueRef;
 use sqlite::{Alter, Connection, Transaction};
 use std::alloc::{AllocError, Global};

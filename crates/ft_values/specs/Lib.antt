@@ -1,2 +1,3 @@
+-- Meaning
 pub mod Cells
 pub mod Names

@@ -1,4 +1,4 @@
--- Names of tables and columns.
+-- Meaning. Names of tables and columns.
 use Rattle.std.specs.Prelude.{ℕ, ℤ, Bool, List, map, string_bytes}
 use Rattle.std.specs.Str.{str_eq_ignore_ascii_case}
 use Rattle.ft_values.specs.declared.table.TableInfo.{TableInfo}

@@ -1,4 +1,4 @@
--- What a splitter keeps of the text that it has read, so that no byte is read twice. All of it is our own choice: what an input
+-- Meaning. What a splitter keeps of the text that it has read, so that no byte is read twice. All of it is our own choice: what an input
 -- means stands in Units, without any of this.
 use Rattle.std.specs.Prelude.{ℕ, ◌+◌, ◌<◌, ◌≤◌, ◌≡◌, ◌==◌, Bool, true, false, List, [], ◌∷◌, ◌++◌, length, drop, Option, Some, None, unwrap_or, IsCharBoundary, if◌then◌else◌}
 use Rattle.std.specs.List.{list_any}

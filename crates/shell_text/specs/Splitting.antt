@@ -1,4 +1,4 @@
--- What a splitter is seen as, and what its calls do. The units are those of Units ("Command Line Shell For SQLite", section "Line
+-- Meaning. What a splitter is seen as, and what its calls do. The units are those of Units ("Command Line Shell For SQLite", section "Line
 -- Structure"); how a splitter is fed, and what it keeps after a fault, is our own choice.
 use Rattle.std.specs.Prelude.{ℕ, ◌≡◌, ◌==◌, Bool, true, false, ⊤, List, [], ◌∷◌, ◌++◌, Option, Some, None, Result, Ok, Err, option_map, string_bytes}
 use Rattle.std.specs.List.{list_any}

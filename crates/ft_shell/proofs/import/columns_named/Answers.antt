@@ -20,4 +20,4 @@ returns-in-Some c =
 pub returns-in-None : goal.returns-in-None
 returns-in-None c =
     ap (λ o. option_map (λ (t : TableInfo). length t.columns) o)
-      (sym (unplaced shown_info (λ (t : TableInfo). same_name t.name c.args.name.now) c.args.tables.now (sym c.table_place.ensures ∙ c.in-None.is)))
+    (sym (unplaced shown_info (λ (t : TableInfo). same_name t.name c.args.name.now) c.args.tables.now (sym c.table_place.ensures ∙ c.in-None.is)))
