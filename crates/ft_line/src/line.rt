@@ -274,7 +274,7 @@ fn set_headers(settings: &mut Settings, headers: Option<bool>)
 }
 
 // The settings but for the separator.
-fn settings_in(alloc: Global, matches: &ArgMatches<'_>) -> Result<Settings, AllocError>
+fn flag_settings(alloc: Global, matches: &ArgMatches<'_>) -> Result<Settings, AllocError>
     ensures { IfOk result (λ settings. settings ≡ forms.settings_in (rows_of (found_of matches.now))) }
 {
     let mut settings = Settings::new(alloc);
@@ -290,7 +290,7 @@ fn settings_in(alloc: Global, matches: &ArgMatches<'_>) -> Result<Settings, Allo
 fn settings_in(alloc: Global, matches: &ArgMatches<'_>) -> Result<Settings, LineFault>
     ensures { HasSettings (rows_of (found_of matches.now)) result }
 {
-    let mut settings = settings_in(alloc, matches)?;
+    let mut settings = flag_settings(alloc, matches)?;
     let Some(text) = text_of(matches, "separator") else {
         return Ok(settings);
     };

@@ -5,7 +5,7 @@ use Rattle.clap.specs.Walk.{rows_of}
 use Rattle.shell_text.specs.Print.{Settings, first_settings}
 use Rattle.ft_line.specs.Line.{modes_in, with_modes}
 use Rattle.ft_line.proofs.LineLemmas.{keeps_headers}
-use Rattle.ft_line.proofs.line.settings_in.Goals as goal
+use Rattle.ft_line.proofs.line.flag_settings.Goals as goal
 
 pub set_headers-requires : goal.set_headers-requires
 set_headers-requires c =
