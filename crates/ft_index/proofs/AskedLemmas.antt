@@ -1,69 +1,64 @@
 -- The rows that are asked for a content's terms are the lists that a walk wants.
-use Rattle.std.proofs.Common.{add-one, ◌≡◌, ◌≢◌, ℕ, ℤ, zero, ◌+◌, ◌-◌, ◌≤◌, ◌<◌, get_or, is_lt, Bool, true, false, nat_lt, ◌==◌, cond, ◌&&◌, ◌||◌, T, inl, inr, List, [], ◌∷◌, ◌++◌, map, Some, None, Option, length, suc, refl, sym, ap, subst, ◌∙◌, arith, IsPermutation, IsSorted}
-use Rattle.std.specs.Prelude.{filter, is_some, AllPairs, AllAdjacentBelow, ◌<ℤ◌}
+use Rattle.std.proofs.Common.{◌≡◌, ℕ, ℤ, ◌+◌, ◌≤◌, Bool, true, false, cond, ◌&&◌, T, inl, inr, List, [], ◌∷◌, ◌++◌, map, Some, None, Option, length, suc, refl, sym, ap, subst, ◌∙◌, arith, IsPermutation, IsSorted}
+use Rattle.std.specs.Prelude.{filter, is_some, nat_abs, AllPairs, ◌<ℤ◌}
 use Rattle.std.specs.List.{flat_map, AllByRecursion}
 use Rattle.std.specs.declared.cmp.Ordering.{Ordering}
 use Rattle.std.specs.declared.cmp.Ordering.TheVariants.{Less, Equal, Greater}
-use Rattle.std.specs.Ordering.{nat_cmp, int_eq, is_eq, ordering_then, ordering_reverse}
+use Rattle.std.specs.Ordering.{nat_cmp, int_eq, is_eq, ordering_then}
 use Rattle.std.specs.Cmp.{IsTotalOrder, nat_cmp_total, int_cmp_total, nat_cmp_is, int_cmp_is, tied_itself}
 use Rattle.std.specs.FinMap.Entries.{by_order, put, find, length-put, where_key}
-use Rattle.std.proofs.lemmas.Bool.Decides.{nat_tests}
 use Rattle.std.proofs.lemmas.Cmp.{on_total, then_total}
-use Rattle.core.proofs.slice.Searches.{at_read, every_more, next_more}
-use Rattle.std.proofs.lemmas.Int.{ints}
 use Rattle.std.proofs.lemmas.List.{length-map}
 use Rattle.std.proofs.lemmas.List.Elements.{recursion_from_All}
 use Rattle.std.proofs.lemmas.List.Sums.{sum_by-cons}
 use Rattle.std.proofs.lemmas.List.Sorted.{IsPermutation-refl, IsPermutation-cons, IsPermutation-trans, IsPermutation-sym, IsPermutation-middle, IsPermutation-map, length_permutation}
 use Rattle.sqlite_trees.specs.Tree.{IsAscending}
-use Rattle.sqlite_keyed.proofs.ListLemmas.{map-map, flat_map-map, flat_map-filter, all_weaker, all_map, all-map, all-append, all-flat_map, ascending-append, ascending-map, ascending_weaker, ascending-filter}
+use Rattle.sqlite_keyed.proofs.ListLemmas.{map-map, flat_map-map, flat_map-filter, all_weaker, all-map, all-flat_map, ascending-append, ascending-map, ascending_weaker, ascending-filter}
 use Rattle.sqlite_keyed.proofs.SortLemmas.{sorted_unique}
 use Rattle.ft_query.specs.declared.lists.Place.{Place}
 use Rattle.ft_query.specs.Documents.{Posting, Document, IsBefore, AreDocuments, PlaceList, is_filled, has_places, places_with, lists_with, place_count}
 use Rattle.ft_store.specs.Store.{ListKey, list_key_cmp}
-use Rattle.ft_values.specs.declared.rows.ListRow.{ListRow}
-use Rattle.ft_store.specs.Shown.{shown_list, bare_list, spot_count}
+use Rattle.ft_values.specs.declared.rows.EntryRow.{EntryRow}
+use Rattle.ft_store.specs.Shown.{entries_of}
 use Rattle.ft_store.proofs.SelectLemmas.{filter_passes}
-use Rattle.ft_store.proofs.TypedLemmas.{and_first, and_second}
 use Rattle.ft_content.specs.Index.{Entry, Key, StoredSpot}
 use Rattle.ft_content.specs.Meaning.{plain_spot, entries_in, entry_cmp, entry_set, posting_of, with_entry, grouped, documents_in, lists_of_terms, all_places}
 use Rattle.ft_content.proofs.MeaningLemmas.{entry_total, sorted_set}
 use Rattle.ft_index.specs.declared.doc_lists.Placed.{Placed}
-use Rattle.ft_index.specs.Placed.{place_of, list_of, placed_in, all_in, placed_cmp, with_placed, by_docid, is_before, Precedes, AreListsOf}
+use Rattle.ft_index.specs.Placed.{placed_at, placed_cmp, with_placed, by_docid, AreListsOf}
 use Rattle.ft_index.proofs.PlacedLemmas.{docids_same, counted}
 
 -- ---- rows as entries
+
+abbrev pub placed_in : ℤ → Place → Placed
+placed_in docid p = record { docid = docid; column = p.column; pos = p.pos; start = p.start; size = p.size }
 
 -- an entry without its term
 abbrev pub bare : Entry → Placed
 bare e = placed_in e.docid (posting_of e).place
 
--- a list as a row gives it
-abbrev pub read_list : ℤ × List StoredSpot → PlaceList
-read_list l = record { docid = l.0; places = map place_of l.1 }
+abbrev pub placed_row : List ℕ × ℤ × StoredSpot → Placed
+placed_row e = record { docid = e.1; column = nat_abs e.2.column; pos = nat_abs e.2.pos; start = nat_abs e.2.place; size = nat_abs e.2.size }
 
-one_list : (t : List ℕ) (d : ℤ) (ss : List StoredSpot) (xs : List Placed) (ys : List Entry) → xs ≡ map bare ys →
-    map (placed_in d) (map place_of ss) ++ xs ≡ map bare (map (λ (s : StoredSpot). record { term = t; docid = d; spot = plain_spot s }) ss ++ ys)
+one_list : (t : List ℕ) (d : ℤ) (ss : List StoredSpot) (xs : List (List ℕ × ℤ × StoredSpot)) (ys : List Entry) → map placed_row xs ≡ map bare ys →
+    map placed_row (map (λ (s : StoredSpot). (t, d, s)) ss ++ xs) ≡ map bare (map (λ (s : StoredSpot). record { term = t; docid = d; spot = plain_spot s }) ss ++ ys)
 one_list t d [] xs ys rest = rest
-one_list t d (s ∷ ss) xs ys rest = ap (λ ps. placed_in d (place_of s) ∷ ps) (one_list t d ss xs ys rest)
+one_list t d (s ∷ ss) xs ys rest = ap (λ ps. placed_row (t, d, s) ∷ ps) (one_list t d ss xs ys rest)
 
 abbrev of_table : ℤ → List (ListKey × List StoredSpot) → List (Key × List StoredSpot)
 of_table tab lists = map (λ (l : ListKey × List StoredSpot). ((l.0.1, l.0.2), l.1)) (where_key list_key_cmp (λ k. int_eq tab k.0) lists)
 
-abbrev asked_places : List (ListKey × List StoredSpot) → List Placed
-asked_places lists = all_in (map read_list (map bare_list lists))
-
--- the places of the lists that are asked
+-- the rows of the lists that are asked
 pub asked_entries : (tab : ℤ) (asks : ListKey → Bool) (test : List ℕ → Bool) → ((k : ListKey) → asks k ≡ (int_eq tab k.0 && test k.1)) → (lists : List (ListKey × List StoredSpot)) →
-    all_in (map read_list (map bare_list (where_key list_key_cmp asks lists))) ≡ map bare (entries_in (lists_of_terms test (of_table tab lists)))
+    map placed_row (entries_of (where_key list_key_cmp asks lists)) ≡ map bare (entries_in (lists_of_terms test (of_table tab lists)))
 asked_entries tab asks test same [] = refl
 asked_entries tab asks test same (l ∷ ls) =
-    ap (λ b. asked_places (cond b (l ∷ where_key list_key_cmp asks ls) (where_key list_key_cmp asks ls))) (same l.0)
-    ∙ elim (int_eq tab l.0.0) as (λ b. asked_places (cond (b && test l.0.1) (l ∷ where_key list_key_cmp asks ls) (where_key list_key_cmp asks ls))
+    ap (λ b. map placed_row (entries_of (cond b (l ∷ where_key list_key_cmp asks ls) (where_key list_key_cmp asks ls)))) (same l.0)
+    ∙ elim (int_eq tab l.0.0) as (λ b. map placed_row (entries_of (cond (b && test l.0.1) (l ∷ where_key list_key_cmp asks ls) (where_key list_key_cmp asks ls)))
     ≡ map bare (entries_in (lists_of_terms test (map (λ (l : ListKey × List StoredSpot). ((l.0.1, l.0.2), l.1)) (cond b (l ∷ where_key list_key_cmp (λ k. int_eq tab k.0) ls) (where_key list_key_cmp (λ k. int_eq tab k.0) ls)))))) [
-      | true ↦ elim (test l.0.1) as (λ b. asked_places (cond b (l ∷ where_key list_key_cmp asks ls) (where_key list_key_cmp asks ls))
+      | true ↦ elim (test l.0.1) as (λ b. map placed_row (entries_of (cond b (l ∷ where_key list_key_cmp asks ls) (where_key list_key_cmp asks ls)))
           ≡ map bare (entries_in (cond b (((l.0.1, l.0.2), l.1) ∷ lists_of_terms test (of_table tab ls)) (lists_of_terms test (of_table tab ls))))) [
-            | true ↦ one_list l.0.1 l.0.2 l.1 (asked_places (where_key list_key_cmp asks ls)) (entries_in (lists_of_terms test (of_table tab ls))) (asked_entries tab asks test same ls)
+            | true ↦ one_list l.0.1 l.0.2 l.1 (entries_of (where_key list_key_cmp asks ls)) (entries_in (lists_of_terms test (of_table tab ls))) (asked_entries tab asks test same ls)
             | false ↦ asked_entries tab asks test same ls
           ]
       | false ↦ asked_entries tab asks test same ls
@@ -110,6 +105,9 @@ set_moves (e ∷ es) count = go (find entry_cmp e (entry_set es)) refl (length-p
 
 -- ---- the places of lists, one after another
 
+abbrev all_in : List PlaceList → List Placed
+all_in lists = flat_map (λ (l : PlaceList). map (placed_in l.docid) l.places) lists
+
 in_entry : (e : Entry) (ds : List Document) → all_in (map all_places (with_entry e ds)) ≡ bare e ∷ all_in (map all_places ds)
 in_entry e [] = refl
 in_entry e (d ∷ ds) = go (int_eq e.docid d.docid) refl
@@ -145,37 +143,20 @@ Below a b = placed_cmp a b ≡ Less
 below_docid : (a b : Placed) → a.docid <ℤ b.docid → Below a b
 below_docid a b h = ap (λ o. ordering_then o (ordering_then (nat_cmp a.column b.column) (ordering_then (nat_cmp a.pos b.pos) (ordering_then (nat_cmp a.start b.start) (nat_cmp a.size b.size))))) (sym (int_cmp_is a.docid b.docid Less h))
 
-module _ (x : ℤ) (p q : Place) where
-  abbrev by_size : Ordering
-  by_size = ordering_then (nat_cmp p.start q.start) (nat_cmp p.size q.size)
-
-  abbrev by_pos : Ordering
-  by_pos = ordering_then (nat_cmp p.pos q.pos) by_size
-
-  below_column : p.column < q.column → Below (placed_in x p) (placed_in x q)
-  below_column column =
-      ap (λ o. ordering_then o (ordering_then (nat_cmp p.column q.column) by_pos)) (tied_itself int_cmp_total x)
-      ∙ ap (λ o. ordering_then o by_pos) (sym (nat_cmp_is p.column q.column Less column))
-
-  below_pos : p.column ≡ q.column → p.pos < q.pos → Below (placed_in x p) (placed_in x q)
-  below_pos column pos =
-      ap (λ o. ordering_then o (ordering_then (nat_cmp p.column q.column) by_pos)) (tied_itself int_cmp_total x)
-      ∙ ap (λ o. ordering_then o by_pos) (sym (nat_cmp_is p.column q.column Equal column))
-      ∙ ap (λ o. ordering_then o by_size) (sym (nat_cmp_is p.pos q.pos Less pos))
-
-  precedes_below : is_before p q ≡ true → Below (placed_in x p) (placed_in x q)
-  precedes_below h = go (nat_lt p.column q.column) refl h
-    where
-      go : (b : Bool) → nat_lt p.column q.column ≡ b → (b || (p.column == q.column && nat_lt p.pos q.pos)) ≡ true → Below (placed_in x p) (placed_in x q)
-      go true e h = below_column (grind (arith, nat_tests))
-      go false e h =
-          let same = and_first _ _ h in
-          let less = and_second _ _ h in
-          below_pos (grind (arith, nat_tests)) (grind (arith, nat_tests))
-
 below_place : (x : ℤ) (p q : Posting) → IsBefore p q → Below (placed_in x p.place) (placed_in x q.place)
-below_place x p q (inl column) = below_column x p.place q.place column
-below_place x p q (inr h) = below_pos x p.place q.place h.0 h.1
+below_place x p q (inl column) =
+    ap (λ o. ordering_then o (ordering_then (nat_cmp p.place.column q.place.column) (rest p q))) (tied_itself int_cmp_total x)
+    ∙ ap (λ o. ordering_then o (rest p q)) (sym (nat_cmp_is p.place.column q.place.column Less column))
+  where
+    rest : Posting → Posting → Ordering
+    rest p q = ordering_then (nat_cmp p.place.pos q.place.pos) (ordering_then (nat_cmp p.place.start q.place.start) (nat_cmp p.place.size q.place.size))
+below_place x p q (inr h) =
+    ap (λ o. ordering_then o (ordering_then (nat_cmp p.place.column q.place.column) (ordering_then (nat_cmp p.place.pos q.place.pos) (last p q)))) (tied_itself int_cmp_total x)
+    ∙ ap (λ o. ordering_then o (ordering_then (nat_cmp p.place.pos q.place.pos) (last p q))) (sym (nat_cmp_is p.place.column q.place.column Equal h.0))
+    ∙ ap (λ o. ordering_then o (last p q)) (sym (nat_cmp_is p.place.pos q.place.pos Less h.1))
+  where
+    last : Posting → Posting → Ordering
+    last p q = ordering_then (nat_cmp p.place.start q.place.start) (nat_cmp p.place.size q.place.size)
 
 ascending_from_pairs : {X : Type 0} (R : X → X → Type 0) (xs : List X) → AllPairs R xs → IsAscending R xs
 ascending_from_pairs R [] pairs = tt
@@ -267,7 +248,7 @@ lists_group test ds order =
 module _ (ds : List Document) (order : AreDocuments ds) (test : List ℕ → Bool) (lists : List (Key × List StoredSpot)) where
   -- rows of the lists of some terms give what a walk wants, where these mean it and none of their entries comes twice
   pub rows_answer : lists_with test ds ≡ map all_places (documents_in (lists_of_terms test lists)) → place_count (lists_with test ds) ≡ length (entries_in (lists_of_terms test lists)) →
-      (rows : List ListRow) → all_in (map list_of rows) ≡ map bare (entries_in (lists_of_terms test lists)) → (found : List PlaceList) → AreListsOf rows found → found ≡ lists_with test ds
+      (rows : List EntryRow) → map placed_at rows ≡ map bare (entries_in (lists_of_terms test lists)) → (found : List PlaceList) → AreListsOf rows found → found ≡ lists_with test ds
   unfolding documents_in
   rows_answer means counted rows are found shown =
       let es = entries_in (lists_of_terms test lists) in
@@ -277,96 +258,13 @@ module _ (ds : List Document) (order : AreDocuments ds) (test : List ℕ → Boo
       sym (length-map (entry_set es) (λ (e : Entry × Unit {0}). e.0)) ∙ sym (length-map set bare) ∙ sym (ap length same) ∙ all_count (lists_with test ds) ∙ counted in
       let moved : IsPermutation (map bare es) (map bare set) = IsPermutation-map bare es set (set_moves es many) in
       let ordered : IsPermutation (all_in (lists_with test ds)) shown.places =
-      IsPermutation-trans _ _ _ (subst (λ (ps : List Placed). IsPermutation ps (all_in (map list_of rows))) (sym same)
+      IsPermutation-trans _ _ _ (subst (λ (ps : List Placed). IsPermutation ps (map placed_at rows)) (sym same)
       (subst (λ (ps : List Placed). IsPermutation (map bare set) ps) (sym are) (IsPermutation-sym _ _ moved))) shown.same in
       shown.lists
       ∙ ap by_docid (sorted_unique placed_cmp placed_total (all_in (lists_with test ds)) shown.places (lists_rise test ds order) ordered shown.sorted)
       ∙ lists_group test ds order
 
--- ---- how many places there are
-
-same_count : (rows : List ListRow) → place_count (map list_of rows) ≡ spot_count (map shown_list rows)
-same_count [] = refl
-same_count (r ∷ rows) =
-    let here = length-map r.spots.items place_of in
-    let rest = same_count rows in
-    let places = sum_by-cons (λ (l : PlaceList). length l.places) (list_of r) (map list_of rows) in
-    let spots = sum_by-cons (λ (l : ℤ × List StoredSpot). length l.1) (shown_list r) (map shown_list rows) in
-    omega arith
-
--- as many as the rows have
-pub rows_count : (rows : List ListRow) (found : List PlaceList) → AreListsOf rows found → place_count found ≡ spot_count (map shown_list rows)
+-- as many places as there are rows
+pub rows_count : (rows : List EntryRow) (found : List PlaceList) → AreListsOf rows found → place_count found ≡ length rows
 rows_count rows found shown =
-    ap place_count shown.lists ∙ counted shown.places ∙ length_permutation (all_in (map list_of rows)) shown.places shown.same ∙ all_count (map list_of rows) ∙ same_count rows
-
--- ---- rows that stand in order are lists
-
-sorted_up : (ps : List Placed) → IsAscending Below ps → IsSorted placed_cmp ps
-sorted_up [] up k d low within = absurd (omega (arith, within))
-sorted_up (p ∷ []) up k d low within = absurd (omega (arith, within))
-sorted_up (p ∷ q ∷ ps) up zero d low within = ap is_lt (placed_total.antisymm q p ∙ ap ordering_reverse up.0.0)
-sorted_up (p ∷ q ∷ ps) up (suc k) d low within = rw add-one (rw add-one at (sorted_up (q ∷ ps) up.1 k d (omega arith) (omega (arith, within))))
-
--- what stands before each next one stands before all that come
-ascending_from_adjacent : {X : Type 0} (R : X → X → Type 0) → ((a b c : X) → R a b → R b c → R a c) → (xs : List X) → AllAdjacentBelow R xs (length xs) → IsAscending R xs
-ascending_from_adjacent R after [] next = tt
-ascending_from_adjacent R after (x ∷ []) next = (tt, tt)
-ascending_from_adjacent R after (x ∷ y ∷ xs) next =
-    let rest = ascending_from_adjacent R after (y ∷ xs) (λ k d within. rw add-one (rw add-one at (next (suc k) d (omega (arith, within))))) in
-    let first : R x y = next 0 x (omega arith) in
-    ((first, all_weaker (R y) (R x) (λ z h. after x y z first h) xs rest.0), rest)
-
--- a row with places, in order
-pub record IsRising (row : ListRow) : Type 0 where
-  pub some : row.spots.items ≢ []
-  pub up : AllAdjacentBelow Precedes row.spots.items (length row.spots.items)
-
-row_rises : (row : ListRow) → IsRising row → IsAscending Below (map (placed_in row.docid) (map place_of row.spots.items))
-row_rises row h =
-    ascending-map Below (placed_in row.docid) (map place_of row.spots.items)
-    (ascending-map (λ p q. Below (placed_in row.docid p) (placed_in row.docid q)) place_of row.spots.items
-    (ascending_from_adjacent (λ s t. Below (placed_in row.docid (place_of s)) (placed_in row.docid (place_of t))) (λ a b c h k. placed_total.trans _ _ _ h k) row.spots.items
-    (λ k d within. precedes_below row.docid _ _ (h.up k d within))))
-
-abbrev pub IsEarlier : ListRow → ListRow → Type 0
-IsEarlier a b = a.docid <ℤ b.docid
-
-rows_rise : (rows : List ListRow) → AllByRecursion IsRising rows → IsAscending IsEarlier rows → IsAscending Below (all_in (map list_of rows))
-rows_rise [] each up = tt
-rows_rise (r ∷ rows) each up =
-    ascending-append Below (map (placed_in r.docid) (map place_of r.spots.items)) (all_in (map list_of rows)) (row_rises r each.0) (rows_rise rows each.1 up.1)
-    (all-map (λ (x : Placed). AllByRecursion (Below x) (all_in (map list_of rows))) (placed_in r.docid) (λ p. above p rows up.0) (map place_of r.spots.items))
-  where
-    above : (p : Place) (rows : List ListRow) → AllByRecursion (IsEarlier r) rows → AllByRecursion (Below (placed_in r.docid p)) (all_in (map list_of rows))
-    above p [] later = tt
-    above p (q ∷ rows) later =
-        all-append (Below (placed_in r.docid p)) (map (placed_in q.docid) (map place_of q.spots.items)) (all_in (map list_of rows))
-        (all-map (Below (placed_in r.docid p)) (placed_in q.docid) (λ x. below_docid (placed_in r.docid p) (placed_in q.docid x) later.0) (map place_of q.spots.items))
-        (above p rows later.1)
-
-has_some : (row : ListRow) → IsRising row → has_places (list_of row) ≡ true
-has_some row h = go row.spots.items h.some
-  where
-    go : (ss : List StoredSpot) → ss ≢ [] → is_filled (map place_of ss) ≡ true
-    go [] some = absurd (some refl)
-    go (s ∷ ss) some = refl
-
--- one row more
-pub next_row : (rows : List ListRow) (at : ℕ) → (0 < at → (d : ListRow) → IsEarlier (get_or rows (at - 1) d) (get_or rows at d)) → AllAdjacentBelow IsEarlier rows at → AllAdjacentBelow IsEarlier rows (at + 1)
-next_row rows zero here before = λ k d within. absurd (omega (arith, within))
-next_row rows (suc last) here before = next_more rows IsEarlier (suc last) (omega arith) before (here (omega arith))
-
-pub each_row : (rows : List ListRow) (at : ℕ) (row : ListRow) → at < length rows → row ≡ get_or rows at row → IsRising row → ((k : ℕ) (d : ListRow) → k < at → IsRising (get_or rows k d))
-    → (k : ℕ) (d : ListRow) → k < at + 1 → IsRising (get_or rows k d)
-each_row rows at row inside is here before = λ k d within. every_more rows IsRising 0 at (λ k d low within. before k d within) (at_read rows IsRising at row inside is here) k d (omega arith) within
-
-pub rows_in_order : (rows : List ListRow) → ((k : ℕ) (d : ListRow) → k < length rows → IsRising (get_or rows k d)) → AllAdjacentBelow IsEarlier rows (length rows) → AreListsOf rows (map list_of rows)
-rows_in_order rows each next =
-    let all = recursion_from_All IsRising rows each in
-    let up = ascending_from_adjacent IsEarlier (λ a b c h k. omega (arith, ints, h, k)) rows next in
-    record {
-      places = all_in (map list_of rows);
-      same = IsPermutation-refl _;
-      sorted = sorted_up (all_in (map list_of rows)) (rows_rise rows all up);
-      lists = sym (all_groups (map list_of rows) (all_map (λ l. has_places l ≡ true) list_of rows (all_weaker IsRising (λ r. has_places (list_of r) ≡ true) has_some rows all)) (ascending-map (λ a b. a.docid <ℤ b.docid) list_of rows up));
-    }
+    ap place_count shown.lists ∙ counted shown.places ∙ length_permutation (map placed_at rows) shown.places shown.same ∙ length-map rows placed_at

@@ -1,10 +1,10 @@
-// Posting rows, as lists of places by document.
-ghost use Rattle.std.specs.Prelude.{◌≡◌, ◌≢◌, ◌++◌, ◌-◌, ◌<◌, ◌<ℤ◌, [], map, length, nat_abs, slice_index_or, AllAdjacentBelow, IfOk, OnOk, IsPermutation, IsSorted, IsTrue};
+// Index rows, as lists of places by document.
+ghost use Rattle.std.specs.Prelude.{◌≡◌, map, nat_abs, IfOk, OnOk, IsPermutation, IsSorted};
 ghost use Rattle.ft_query.specs.Documents.{plain_list};
-ghost use Rattle.ft_index.specs.Placed.{place_of, list_of, placed_in, all_in, place_in, placed_cmp, run_with, list_with, by_docid, is_before, Precedes, AreListsOf};
+ghost use Rattle.ft_index.specs.Placed.{placed_at, place_in, placed_cmp, run_with, list_with, by_docid, AreListsOf};
 
 use ft_query::{DocList, Place};
-use ft_store::{ListRow, Spot};
+use ft_store::EntryRow;
 use std::alloc::{AllocError, Global};
 
 /// A place in a document. Places stand by docid, column and position.
@@ -17,16 +17,23 @@ struct Placed {
     size: usize,
 }
 
+/// A number of a spot. No index has one below 0.
+fn number(n: i64) -> usize
+    ensures { result ≡ nat_abs n }
+{
+    n.unsigned_abs() as usize
+}
+
 impl Placed {
-    fn new(docid: i64, place: Place) -> Placed
-        ensures { result ≡ placed_in docid place }
+    fn of_row(row: &EntryRow) -> Placed
+        ensures { result ≡ placed_at row.now }
     {
         Placed {
-            docid,
-            column: place.column,
-            pos: place.pos,
-            start: place.start,
-            size: place.size,
+            docid: row.docid,
+            column: number(row.spot.column),
+            pos: number(row.spot.pos),
+            start: number(row.spot.place),
+            size: number(row.spot.size),
         }
     }
 
@@ -42,119 +49,14 @@ impl Placed {
     }
 }
 
-/// A number of a spot. No index has one below 0.
-fn number(n: i64) -> usize
-    ensures { result ≡ nat_abs n }
+fn places_of(alloc: Global, rows: &[EntryRow]) -> Result<Vec<Placed>, AllocError>
+    ensures { IfOk result (λ places. places.items ≡ map placed_at rows.now) }
 {
-    n.unsigned_abs() as usize
-}
-
-fn place_of(spot: &Spot) -> Place
-    ensures { result ≡ place_of spot.now }
-{
-    Place {
-        column: number(spot.column),
-        pos: number(spot.pos),
-        start: number(spot.place),
-        size: number(spot.size),
-    }
-}
-
-// ---- rows in order, each a list
-
-/// Whether a place stands before another of its document.
-fn is_before(one: &Spot, other: &Spot) -> bool
-    ensures { result ≡ is_before (place_of one.now) (place_of other.now) }
-{
-    let (one, other) = (place_of(one), place_of(other));
-    one.column < other.column || (one.column == other.column && one.pos < other.pos)
-}
-
-/// Whether there are places, in order.
-fn rise(spots: &[Spot]) -> bool
-    ensures some { IsTrue result → spots.now ≢ [] }
-    ensures up { IsTrue result → AllAdjacentBelow Precedes spots.now (length spots.now) }
-{
-    for at in 1..spots.len() {
-        let last = at - 1;
-        if !is_before(&spots[last], &spots[at]) {
-            return false;
-        }
-    }
-    !spots.is_empty()
-}
-
-/// Whether a row is the first, or of a later document than the row before it.
-fn follows(rows: &[ListRow], at: usize) -> bool
-    requires { at < length rows.now }
-    ensures { IsTrue result → 0 < at → (d : _)
-        → (slice_index_or rows.now (at - 1) d).docid <ℤ (slice_index_or rows.now at d).docid }
-{
-    if at == 0 {
-        return true;
-    }
-    let last = at - 1;
-    rows[last].docid < rows[at].docid
-}
-
-/// Whether rows stand by rising docid, each with places in order.
-fn are_in_order(rows: &[ListRow]) -> bool
-    ensures { IsTrue result → AreListsOf rows.now (map list_of rows.now) }
-{
-    for at in 0..rows.len() {
-        if !follows(rows, at) {
-            return false;
-        }
-        if !rise(rows[at].spots.as_slice()) {
-            return false;
-        }
-    }
-    true
-}
-
-fn row_list(alloc: Global, row: &ListRow) -> Result<DocList, AllocError>
-    ensures { IfOk result (λ list. plain_list list ≡ list_of row.now) }
-{
-    let places = row.spots.iter().map(|spot| place_of(spot)).collect(alloc)?;
-    Ok(DocList {
-        docid: row.docid,
-        places,
-    })
-}
-
-fn row_lists(alloc: Global, rows: &[ListRow]) -> Result<Vec<DocList>, AllocError>
-    ensures { IfOk result (λ lists. map plain_list lists.items ≡ map list_of rows.now) }
-{
-    let mut lists = Vec::new(alloc);
-    for row in rows {
-        lists.push(row_list(alloc, row)?)?;
-    }
-    Ok(lists)
-}
-
-// ---- rows of several terms, by document
-
-fn push_places(places: &mut Vec<Placed>, row: &ListRow) -> Result<(), AllocError>
-    ensures { OnOk result (places.new.items ≡ places.old.items ++ map (placed_in row.now.docid) (list_of row.now).places) }
-{
-    for spot in &row.spots {
-        places.push(Placed::new(row.docid, place_of(spot)))?;
-    }
-    Ok(())
-}
-
-fn places_of(alloc: Global, rows: &[ListRow]) -> Result<Vec<Placed>, AllocError>
-    ensures { IfOk result (λ places. places.items ≡ all_in (map list_of rows.now)) }
-{
-    let mut places = Vec::new(alloc);
-    for row in rows {
-        push_places(&mut places, row)?;
-    }
-    Ok(places)
+    rows.iter().map(|row| Placed::of_row(row)).collect(alloc)
 }
 
 #[tactic(auto, using(crate::proofs::PlacedLemmas::same_places))]
-/// Puts places in order.
+/// Puts places in order. Those of one term's rows stand so already.
 fn put_in_order(places: &mut Vec<Placed>) -> Result<(), AllocError>
     ensures same { IsPermutation places.old.items places.new.items }
     ensures sorted { OnOk result (IsSorted placed_cmp places.new.items) }
@@ -206,12 +108,9 @@ fn grouped(alloc: Global, places: &[Placed]) -> Result<Vec<DocList>, AllocError>
 }
 
 /// A list for each document of some rows, by rising docid, with its places by column and position.
-pub(crate) fn doc_lists(alloc: Global, rows: &[ListRow]) -> Result<Vec<DocList>, AllocError>
+pub(crate) fn doc_lists(alloc: Global, rows: &[EntryRow]) -> Result<Vec<DocList>, AllocError>
     ensures { IfOk result (λ lists. AreListsOf rows.now (map plain_list lists.items)) }
 {
-    if are_in_order(rows) {
-        return row_lists(alloc, rows);
-    }
     let mut places = places_of(alloc, rows)?;
     put_in_order(&mut places)?;
     grouped(alloc, places.as_slice())

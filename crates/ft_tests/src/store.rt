@@ -2,7 +2,6 @@
 
 mod adopting;
 mod groups;
-mod lists;
 mod packed;
 mod rows;
 
