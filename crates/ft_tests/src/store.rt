@@ -1,7 +1,6 @@
 //! A store of full-text rows in memory.
 
 mod adopting;
-mod groups;
 mod packed;
 mod rows;
 
