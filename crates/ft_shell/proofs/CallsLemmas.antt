@@ -22,7 +22,7 @@ use Rattle.ft_shell.specs.TablesTurns.{TablesTurn}
 use Rattle.ft_shell.specs.ImportTurns as imports
 use Rattle.ft_shell.specs.TablesTurns as tables
 use Rattle.ft_shell.specs.PlainStatements.{CommandTurn, PlainTurn, QueryTurn, done, refused}
-use Rattle.ft_statements.specs.Statements.{Class, Plain, FullText, class_of}
+use Rattle.ft_statements.specs.Statements.{Class, Plain, FullText as FullTextClass, class_of}
 use Rattle.ft_shell.specs.StatementTurns.{ClassTurn, Declines, StatementTurn, table_names}
 use Rattle.ft_shell.specs.TurnCalls.{bytes_in, class_in, closed_in, command_in, delimited_in, dot_in, file_in, named_in, new_in, note_in, plain_in, statement_in, table_in, text_in}
 use Rattle.ft_shell.proofs.Spelled.{MayNote, MayRead, NoCall, CallsOf, CallsOfClass, CallsOfDot, CallsOfImport, HasRecords, OneCommand}
@@ -72,12 +72,12 @@ plain_calls g h settings line text old new before after told it = go (asks (toke
 class_calls : {P S : Type 0} (g : Ghosts P) (h : Ghosts S) (settings : Settings) (line : ℕ) (text : List ℕ) (old new : Held P) (before after : FullText S) (told : Told) (class : Option Class) (it : ClassTurn g h settings line text old new before after told class) → Called h (λ calls. CallsOfClass settings line told calls (made_name (tokens_of text)) class) (class_in g h settings line text old new before after told class it) before after
 class_calls g h settings line text old new before after told None it = calls_nothing h before after it.1
 class_calls g h settings line text old new before after told (Some Plain) it = plain_calls g h settings line text old new before after told it
-class_calls g h settings line text old new before after told (Some (FullText command)) it = (inl (it.1.answer, refl, it.1.tells), (after, it.1.executes, refl))
+class_calls g h settings line text old new before after told (Some (FullTextClass command)) it = (inl (it.1.answer, refl, it.1.tells), (after, it.1.executes, refl))
 
 class_none : {S : Type 0} (h : Ghosts S) (settings : Settings) (line : ℕ) (made : Option (List ℕ)) (before after : FullText S) (told : Told) (class : Option Class) → after ≡ before → told ≡ lacks_memory settings line → Called h (λ calls. CallsOfClass settings line told calls made class) [] before after
 class_none h settings line made before after told None same is = calls_nothing h before after same
 class_none h settings line made before after told (Some Plain) same is = notes_none h made before after same
-class_none h settings line made before after told (Some (FullText command)) same is = (inr (refl, codes "out of memory", is), same)
+class_none h settings line made before after told (Some (FullTextClass command)) same is = (inr (refl, codes "out of memory", is), same)
 
 statement_calls : {P S : Type 0} (g : Ghosts P) (h : Ghosts S) (settings : Settings) (line : ℕ) (text : List ℕ) (old new : Held P) (before after : FullText S) (told : Told) → (it : StatementTurn g h settings line text old new before after told) →
     Called h (λ calls. MatchBool (is_unclosed text) (calls ≡ []) (CallsOfClass settings line told calls (made_name (tokens_of text)) (class_of (table_names before) (tokens_of text)))) (statement_in g h settings line text old new before after told it) before after

@@ -13,7 +13,7 @@ use Rattle.ft_content.specs.Deserved.{Contents, deserved}
 use Rattle.ft_content.specs.Step.{after, reply_to, step, step_by}
 use Rattle.ft_index.specs.Kept.{FullText, Call, Executed, Noted, Runs, IsUp, KeptByCalls, NoneGetsUnsound, accepted, left_by, AreAnswered, is_outside, value_of}
 use Rattle.ft_statements.specs.Words.{tokens_of}
-use Rattle.ft_statements.specs.Statements.{Class, Plain, FullText, class_of}
+use Rattle.ft_statements.specs.Statements.{Class, Plain, FullText as FullTextClass, class_of}
 use Rattle.ft_statements.specs.Dots.{DotCommand, Import, Nothing, SetMode, SetHeaders, SetSeparator, SetNull, SetEcho, SetBail, Print, Importing, Tables, Quit, Usage, Unknown, dot_command_of}
 use Rattle.ft_statements.specs.Replies.{reply_text}
 use Rattle.ft_shell.specs.declared.session.Status.{Status}
@@ -111,8 +111,8 @@ read_of calls (inr is) = subst NoCommand (sym is) tt
 few_class : (settings : Settings) (line : ℕ) (told : Told) (calls : List Call) (made : Option (List ℕ)) (class : Option Class) → CallsOfClass settings line told calls made class → Few calls
 few_class settings line told calls made None it = inl (none_of calls it)
 few_class settings line told calls made (Some Plain) it = inl (note_of made calls it)
-few_class settings line told calls made (Some (FullText command)) (inl it) = inr (command, it.0, it.1)
-few_class settings line told calls made (Some (FullText command)) (inr it) = inl (none_of calls it.0)
+few_class settings line told calls made (Some (FullTextClass command)) (inl it) = inr (command, it.0, it.1)
+few_class settings line told calls made (Some (FullTextClass command)) (inr it) = inl (none_of calls it.0)
 
 few_import : (settings : Settings) (line : ℕ) (told : Told) (calls : List Call) (holds : Files) (what : Import) (there : Option ℕ) → CallsOfImport settings line told calls holds what there → Few calls
 few_import settings line told calls holds what None it = inl (note_of (Some what.table) calls it)
@@ -344,10 +344,10 @@ module _ (table : List ℕ) (items : Items) (filter : Filter) (limit : Option �
   select_class : (settings : Settings) (line : ℕ) (told : Told) (made : Option (List ℕ)) (class : Option Class) → CallsOfClass settings line told selected made class → Tells settings line (says (reply_text settings reply)) told
   select_class settings line told made None it = absurd (not_none (none_of selected it))
   select_class settings line told made (Some Plain) it = absurd (not_none (note_of made selected it))
-  select_class settings line told made (Some (FullText command)) (inl (answer, is, tells)) =
+  select_class settings line told made (Some (FullTextClass command)) (inl (answer, is, tells)) =
       let same : answer ≡ Ok reply = (let e = is in cc) in
       subst (λ a. Tells settings line (reply_told settings line a) told) same tells
-  select_class settings line told made (Some (FullText command)) (inr it) = absurd (let wrong = it.0 in cc)
+  select_class settings line told made (Some (FullTextClass command)) (inr it) = absurd (let wrong = it.0 in cc)
 
   select_import : (settings : Settings) (line : ℕ) (told : Told) (holds : Files) (what : Import) (there : Option ℕ) → CallsOfImport settings line told selected holds what there → ⊥
   select_import settings line told holds what None it = not_none (note_of (Some what.table) selected it)

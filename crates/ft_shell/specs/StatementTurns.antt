@@ -8,7 +8,7 @@ use Rattle.shell_text.specs.Words.{is_unclosed}
 use Rattle.ft_content.specs.Views.{TableInfo}
 use Rattle.ft_index.specs.Kept.{FullText}
 use Rattle.ft_statements.specs.Words.{tokens_of}
-use Rattle.ft_statements.specs.Statements.{Class, Plain, FullText, class_of}
+use Rattle.ft_statements.specs.Statements.{Class, Plain, FullText as FullTextClass, class_of}
 use Rattle.ft_shell.specs.FullTextTurns.{FullTextTurn}
 use Rattle.ft_shell.specs.PlainStatements.{PlainTurn, OrNothing}
 use Rattle.ft_shell.specs.Told.{Told, blames}
@@ -25,7 +25,7 @@ module _ {P S : Type 0} (g : Ghosts P) (h : Ghosts S) (settings : Settings) (lin
   abbrev pub ClassTurn : Option Class → Type 0
   ClassTurn None = Declines (codes "unsupported full-text statement")
   ClassTurn (Some Plain) = PlainTurn g h settings line text old new before after told
-  ClassTurn (Some (FullText command)) = (new ≡ old) × FullTextTurn h settings line command before after told
+  ClassTurn (Some (FullTextClass command)) = (new ≡ old) × FullTextTurn h settings line command before after told
 
   -- the turn of a statement's class; or, for want of memory, nothing
   abbrev pub StatementTurn : Type 0

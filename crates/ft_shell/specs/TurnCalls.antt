@@ -10,7 +10,7 @@ use Rattle.ft_content.specs.Command.{Insert}
 use Rattle.ft_index.specs.Kept.{FullText, Call, Executed, Noted}
 use Rattle.ft_statements.specs.Words.{tokens_of}
 use Rattle.ft_statements.specs.Plain.{asks, made_name}
-use Rattle.ft_statements.specs.Statements.{Class, Plain, FullText, class_of}
+use Rattle.ft_statements.specs.Statements.{Class, Plain, FullText as FullTextClass, class_of}
 use Rattle.ft_statements.specs.Dots.{DotCommand, Import, Nothing, SetMode, SetHeaders, SetSeparator, SetNull, SetEcho, SetBail, Print, Importing, Tables, Quit, Usage, Unknown}
 use Rattle.ft_shell.specs.Shell.{Shell}
 use Rattle.ft_shell.specs.Sources.{Files}
@@ -50,7 +50,7 @@ module _ {P S : Type 0} (g : Ghosts P) (h : Ghosts S) (settings : Settings) (lin
     abbrev pub class_in : (class : Option Class) → ClassTurn g h settings line text old new before after told class → List Call
     class_in None it = []
     class_in (Some Plain) it = plain_in (asks (tokens_of text)) it
-    class_in (Some (FullText command)) it = Executed command it.1.answer ∷ []
+    class_in (Some (FullTextClass command)) it = Executed command it.1.answer ∷ []
 
     abbrev pub closed_in : (is_open : Bool) → MatchBool is_open (Declines g h settings line text old new before after told (codes "incomplete input")) (ClassTurn g h settings line text old new before after told (class_of (table_names before) (tokens_of text))) → List Call
     closed_in true it = []
