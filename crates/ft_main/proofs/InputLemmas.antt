@@ -8,7 +8,7 @@ use Rattle.ft_shell.specs.declared.session.Status.{Status}
 use Rattle.ft_shell.specs.declared.session.RunFault.{RunFault}
 use Rattle.ft_shell.specs.Shell.{Parts}
 use Rattle.ft_shell.specs.Told.{Deeds, idle, and_then}
-use Rattle.ft_shell.specs.Promise.{Ran, AllRan, Keeps, KeptByRuns, none_ran, last_ran, first_ran}
+use Rattle.ft_shell.specs.Promise.{Ran, AllRan, PromiseKept, KeptByRuns, none_ran, last_ran, first_ran}
 use Rattle.ft_shell.specs.Runs.{Console}
 use Rattle.ft_shell.proofs.TurnsLemmas.{assoc_then, idle_then, then_idle}
 use Rattle.std.specs.Prelude.{OnOk, OnErr, ◌≢◌}
@@ -190,5 +190,5 @@ runs_over {P} {S} g h settings plain store made inputs ended old new parts last 
       err = end.0;
       ends = end.1;
       ran = subst (λ (p : Parts P S). AllRan g h p all last.parts) is ran;
-      kept = λ held up is_up. subst (λ (p : Parts P S). Keeps g h [] p all last.parts) is (kept (subst (λ (p : Parts P S). Holds h p.full_text []) (sym is) (opened.marks up [] held)) is_up);
+      kept = λ held up is_up. subst (λ (p : Parts P S). PromiseKept g h [] p all last.parts) is (kept (subst (λ (p : Parts P S). Holds h p.full_text []) (sym is) (opened.marks up [] held)) is_up);
     })

@@ -12,7 +12,7 @@ use Rattle.ft_shell.specs.declared.session.RunFault.TheVariants as causes
 use Rattle.ft_shell.specs.Shell.{Parts, lent}
 use Rattle.ft_shell.specs.Told.{Deeds, idle, and_then}
 use Rattle.ft_shell.specs.Runs.{Console}
-use Rattle.ft_shell.specs.Promise.{Ran, AllRan, Keeps}
+use Rattle.ft_shell.specs.Promise.{Ran, AllRan, PromiseKept}
 use Rattle.ft_shell.specs.Writing.{AppendsUpTo}
 use Rattle.ft_main.specs.declared.files.OpenFault.{OpenFault}
 use Rattle.ft_main.specs.declared.files.OpenFault.TheVariants as opening
@@ -67,7 +67,7 @@ RunsInTurn g h inputs ended old new = (cause : Option RunFault) × (all : Deeds)
 -- what the accepted commands made, if the store is up in the end.
 abbrev pub RunsAndKeeps : {P S : Type 0} → Ghosts P → Ghosts S → List (Option (List ℕ)) → Result Status RunFault → Stage P S → Stage P S → Type 0
 RunsAndKeeps g h inputs ended old new = (cause : Option RunFault) × (all : Deeds) × InTurn g h inputs cause old new all × EndsAs ended cause all
-    × AllRan g h old.parts all new.parts × (Holds h old.parts.full_text [] → IsUp h new.parts.full_text → Keeps g h [] old.parts all new.parts)
+    × AllRan g h old.parts all new.parts × (Holds h old.parts.full_text [] → IsUp h new.parts.full_text → PromiseKept g h [] old.parts all new.parts)
 
 -- the program's own line for a fault that ended a run
 abbrev pub own_line : RunFault → List ℕ
@@ -118,7 +118,7 @@ module _ {P S : Type 0} (g : Ghosts P) (h : Ghosts S) where
     pub err : WritesOwn cause last.on.err new.err
     pub ends : status ≡ exit_status cause all
     pub ran : AllRan g h (record { settings = settings; plain = plain; full_text = made }) all last.parts
-    pub kept : StoreHolds (value_in h store) [] → IsUp h made → IsUp h last.parts.full_text → Keeps g h [] (record { settings = settings; plain = plain; full_text = made }) all last.parts
+    pub kept : StoreHolds (value_in h store) [] → IsUp h made → IsUp h last.parts.full_text → PromiseKept g h [] (record { settings = settings; plain = plain; full_text = made }) all last.parts
 
   -- or the store can't be read
   abbrev pub OpensAndRuns : Settings → Held P → StoreState S → List (Option (List ℕ)) → Outputs → Outputs → ℕ → Type 0

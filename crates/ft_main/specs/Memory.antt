@@ -9,7 +9,7 @@ use Rattle.ram_disk.specs.contracts.disk.RamDisk.TheImpl.{ghosts}
 use Rattle.shell_text.specs.Print.{Settings}
 use Rattle.ft_store.specs.Kept.{StoreState, value_in}
 use Rattle.ft_store.specs.Store.{nothing_held}
-use Rattle.ft_shell.specs.Promise.{IsOpen, Keeps}
+use Rattle.ft_shell.specs.Promise.{IsOpen, PromiseKept}
 use Rattle.ft_line.specs.declared.line.Line.{Line}
 use Rattle.ft_line.specs.declared.line.LineFault.{LineFault}
 use Rattle.ft_line.specs.declared.line.LineFault.TheVariants as lines
@@ -25,7 +25,7 @@ module _ {P S : Type 0} (g : Ghosts P) (h : Ghosts S) where
     pub store : StoreState S
     pub no_store : value_in h store ≡ nothing_held
     pub runs : RunsOver g h settings plain store inputs old new status
-    pub kept : IsOpen h runs.last.parts.full_text → Keeps g h [] (record { settings = settings; plain = plain; full_text = runs.made }) runs.all runs.last.parts
+    pub kept : IsOpen h runs.last.parts.full_text → PromiseKept g h [] (record { settings = settings; plain = plain; full_text = runs.made }) runs.all runs.last.parts
 
 -- so it is in memory, or a database isn't opened
 abbrev pub RunsInMemory : Settings → List (Option (List ℕ)) → Outputs → Outputs → ℕ → Type 0
