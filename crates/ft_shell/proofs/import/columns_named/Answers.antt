@@ -14,7 +14,7 @@ returns-in-Some c =
     let s = placed shown_info (λ (t : TableInfo). same_name t.name c.args.name.now) c.args.tables.now c.in-Some.place (sym c.table_place.ensures ∙ c.in-Some.is) in
     let read = slice_get_read c.args.tables.now _ c.in-Some.place c.index-tables-place.result refl (slice_get_within c.args.tables.now c.in-Some.place s.item s.is) c.index-tables-place.is in
     let same : s.item ≡ c.index-tables-place.result = same_Some s.item c.index-tables-place.result (sym s.is ∙ read) in
-    ap Some (c.len.ensures ∙ ap (λ (t : RustTableInfo). length t.columns.items) (sym same) ∙ sym (length-map s.item.columns.items column_of))
+    ap Some (c.len.ensures ∙ ap (λ (t : RustTableInfo). length t.columns.items) (sym (same ∙ c.index-tables-place.is)) ∙ sym (length-map s.item.columns.items column_of))
     ∙ ap (λ o. option_map (λ (t : TableInfo). length t.columns) o) (sym s.found)
 
 pub returns-in-None : goal.returns-in-None
