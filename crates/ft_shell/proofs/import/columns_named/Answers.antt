@@ -1,5 +1,5 @@
 -- the table is the first of its name, or there is none
-use Rattle.std.proofs.Common.{◌≡◌, Some, length, refl, sym, ap, ◌∙◌}
+use Rattle.std.proofs.Common.{◌≡◌, Some, length, refl, sym, ap, ◌∙◌, arith}
 use Rattle.std.specs.Prelude.{option_map}
 use Rattle.std.proofs.lemmas.List.{length-map}
 use Rattle.std.proofs.lemmas.Option.{slice_get_read, slice_get_within, same_Some}
@@ -14,7 +14,8 @@ returns-in-Some c =
     let s = placed shown_info (λ (t : TableInfo). same_name t.name c.args.name.now) c.args.tables.now c.in-Some.place (sym c.table_place.ensures ∙ c.in-Some.is) in
     let read = slice_get_read c.args.tables.now _ c.in-Some.place c.index-tables-place.result refl (slice_get_within c.args.tables.now c.in-Some.place s.item s.is) c.index-tables-place.is in
     let same : s.item ≡ c.index-tables-place.result = same_Some s.item c.index-tables-place.result (sym s.is ∙ read) in
-    ap Some (c.len.ensures ∙ ap (λ (t : RustTableInfo). length t.columns.items) (sym (same ∙ c.index-tables-place.is)) ∙ sym (length-map s.item.columns.items column_of))
+    let full : s.item.columns.len ≡ length s.item.columns.items = omega (arith, s.item.columns.ok.0) in
+    ap Some (c.len.ensures ∙ ap (λ (t : RustTableInfo). t.columns.len) (sym (same ∙ c.index-tables-place.is)) ∙ full ∙ sym (length-map s.item.columns.items column_of))
     ∙ ap (λ o. option_map (λ (t : TableInfo). length t.columns) o) (sym s.found)
 
 pub returns-in-None : goal.returns-in-None
