@@ -1,4 +1,3 @@
--- Meaning
 pub mod Content
 pub mod Index
 pub mod Command

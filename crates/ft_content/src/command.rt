@@ -1,5 +1,5 @@
 // Commands on full-text tables and their replies.
-use ft_values::Value;
+use ft_store::Value;
 
 /// Which documents are meant.
 #[derive(Debug, Drop)]

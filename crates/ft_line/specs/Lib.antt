@@ -1,3 +1,2 @@
--- Meaning
 pub mod Line
 pub mod LineGives

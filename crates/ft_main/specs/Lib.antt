@@ -1,6 +1,4 @@
--- Meaning
+pub mod Opening
 pub mod Reading
 pub mod Inputs
 pub mod Memory
--- Steps
-pub mod Opening

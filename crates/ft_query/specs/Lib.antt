@@ -1,4 +1,3 @@
--- Meaning
 pub mod Tokens
 pub mod Trees
 pub mod Lexemes
@@ -6,12 +5,11 @@ pub mod Grammar
 pub mod Pass
 pub mod Reads
 pub mod Documents
-pub mod Occurs
-pub mod Work
-pub mod Walk
--- Steps
 pub mod Lists
+pub mod Occurs
 pub mod Machine
+pub mod Work
 pub mod Cursors
+pub mod Walk
 pub mod Search
 pub mod Visit

@@ -1,3 +1,0 @@
--- Meaning
-pub mod Cells
-pub mod Names
