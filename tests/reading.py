@@ -4,7 +4,9 @@ The promise is the clauses of some functions; the modules of definitions that it
 these import. Each of them has to stand in a row of the page, and each row `| name | file:line | .. |` has to name the line on which its file
 defines the name. A row may name a contract too, with its edit, which has to be there. The page says how many modules and lines there are.
 In the table of rules of docs/ARCHITECTURE.md a file that is named has to be there, with the names that stand behind it, and so have edits and
-tests. What is missing is said in one line each; with --mend the numbers of lines and modules are put right instead.
+tests. The first line of each module of definitions says whether it is meaning, which some contract of the page reaches and a reader has to
+believe, or steps of proofs; the list of a crate's modules has the two apart. What is missing is said in one line each; with --mend the
+numbers of lines and modules, the first lines and the lists are put right instead.
 """
 import os
 import re
@@ -21,6 +23,9 @@ PROMISES = [
 IMPORT = re.compile(r"^\s*(?:ghost |pub )*use Rattle\.(\w+)\.specs\.(\w+)(?:\.\{([^}]*)\}| as (\w+))?")
 ROW = re.compile(r"^\| `([^`]+)` \| (crates/[\w/.]+):(\d+) \|")
 EDIT = re.compile(r"`(\w+/must-fail/\w+\.edit)`")
+# What the first line of a module of definitions begins with, where it is steps of proofs and where it is meaning.
+MARKS = ("Steps", "Meaning")
+MARKED = r"^-- (?:(?:Steps|Meaning)\. )?"
 COUNT = re.compile(r"\*\*([\w ]+): (\d+) modules, (\d+) lines\*\*")
 
 
@@ -67,6 +72,41 @@ def reached(path, functions):
             found.add(module)
             waiting += [other for other, _ in imports(module)]
     return found
+
+
+def meaning(text):
+    """The modules that the contracts of the page and the promise reach."""
+    rows = [match for match in map(ROW.match, text) if match and match[2].endswith(".rt")]
+    contracts = [(path, functions) for _, path, functions in PROMISES] + [(match[2], [match[1].split("::")[-1]]) for match in rows]
+    return set().union(*(reached(path, functions) for path, functions in contracts))
+
+
+def marked(path, is_meaning):
+    """The lines of a module, of which the first says what it is."""
+    first, *rest = lines_of(path)
+    return [f"-- {MARKS[is_meaning]}. {re.sub(MARKED, '', first)}", *rest]
+
+
+def listed(folder, found):
+    """The lines of a list of modules: first those of meaning, then those of steps."""
+    modules = [line for line in lines_of(f"{folder}/Lib.antt") if line.startswith("pub mod ")]
+    parts = []
+    for is_meaning in (True, False):
+        part = [line for line in modules if (f"{folder}/{line.split()[-1]}.antt" in found) == is_meaning]
+        parts += [f"-- {MARKS[is_meaning]}", *part] if part else []
+    return [*parts, ""]
+
+
+def marks(text):
+    """The files of definitions whose marks are wrong, each with its lines as they have to be."""
+    found = meaning(text)
+    for folder in sorted(os.listdir(os.path.join(ROOT, "crates"))):
+        folder = f"crates/{folder}/specs"
+        for name in sorted(os.listdir(os.path.join(ROOT, folder)) if os.path.isdir(os.path.join(ROOT, folder)) else []):
+            path = f"{folder}/{name}"
+            lines = listed(folder, found) if name == "Lib.antt" else marked(path, path in found)
+            if lines != lines_of(path):
+                yield path, lines
 
 
 def defines(line, name):
@@ -170,11 +210,14 @@ def main(mends):
     modules = set().union(*(reached(path, functions) for _, path, functions in PROMISES))
     missing += [f"leaves out {module}, which the promise reaches" for module in sorted(modules - named)]
     missing += [f"doesn't say how many lines the promise of the {word} has" for word in told if not any(f"**{word}: " in line for line in text)]
-    if mends and right != text:
-        with open(os.path.join(ROOT, PAGE), "w", encoding="utf-8") as page:
-            page.write("\n".join(right))
-        wrong = []
+    marks_wrong = list(marks(text))
+    if mends:
+        for path, lines in [(PAGE, right), *marks_wrong]:
+            with open(os.path.join(ROOT, path), "w", encoding="utf-8") as file:
+                file.write("\n".join(lines))
+        wrong, marks_wrong = [], []
     complaints = [f"{PAGE} {complaint}" for complaint in wrong + missing] + rules_complaints()
+    complaints += [f"{path} doesn't say rightly what is meaning and what are steps" for path, _ in marks_wrong]
     for complaint in complaints:
         print(complaint)
     rows = sum(1 for line in text if ROW.match(line))

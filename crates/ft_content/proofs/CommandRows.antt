@@ -1,15 +1,15 @@
 -- Commands with their answers and what they leave, computed from the definitions.
 use Rattle.std.specs.Prelude.{◌≡◌, ℕ, true, false, List, [], ◌∷◌, ◌++◌, Option, Some, None, Result, Ok, Err, ℤ, pos, negsuc, codes, refl}
 use Rattle.std.specs.Fmt.{digits}
-use Rattle.ft_content.specs.declared.fault.Fault.{Fault}
-use Rattle.ft_content.specs.declared.fault.Fault.TheVariants as faults
+use Rattle.ft_values.specs.declared.fault.Fault.{Fault}
+use Rattle.ft_values.specs.declared.fault.Fault.TheVariants as faults
 use Rattle.ft_query.specs.Reads.{query_of}
-use Rattle.ft_store.specs.Store.{Cell, Null, Int, Text}
+use Rattle.ft_values.specs.Cells.{Cell, Null, Int, Text}
 use Rattle.ft_content.specs.Content.{Content}
 use Rattle.ft_content.specs.Index.{EntryRow, SizeRow, stored_spot, size_row, entries, spot_lists, sizes, index_rows, entry_rows}
-use Rattle.ft_content.specs.Command.{Filter, Everything, OfDocid, Matching, Item, AllColumns, Named, OffsetsOf, Counted, Listed, Command, Create, Drop, Insert, Update, Delete, Select, Rebuild, Check, Optimize, Reply, Done, Rows}
+use Rattle.ft_content.specs.Command.{Filter, All, Docid, Match, Item, AllColumns, Named, OffsetsOf, Counted, Listed, Command, Create, Drop, Insert, Update, Delete, Select, Rebuild, Check, Optimize, Reply, Done, Rows}
 use Rattle.ft_content.specs.Answer.{reading, chosen, answer}
-use Rattle.ft_content.specs.Deserved.{Held, Sound, Stale, Loose, Contents, insert_rows, deserved}
+use Rattle.ft_content.specs.Deserved.{TableState, Sound, Stale, Loose, Contents, insert_rows, deserved}
 use Rattle.ft_content.specs.Step.{after, reply_to, step}
 
 -- the contents after commands, and what they are answered
@@ -35,11 +35,11 @@ all_of_d (n ∷ ns) = Named n ∷ all_of_d ns
 
 -- SELECT docid, x FROM d
 abbrev pub select_d : Command
-select_d = Select (codes "d") (Listed (Named (codes "docid") ∷ Named (codes "x") ∷ [])) Everything None 0
+select_d = Select (codes "d") (Listed (Named (codes "docid") ∷ Named (codes "x") ∷ [])) All None 0
 
 -- SELECT docid FROM d WHERE d MATCH ..
 abbrev pub docids_matching : List ℕ → Command
-docids_matching text = Select (codes "d") (Listed (Named (codes "docid") ∷ [])) (Matching (codes "d") text) None 0
+docids_matching text = Select (codes "d") (Listed (Named (codes "docid") ∷ [])) (Match (codes "d") text) None 0
 
 abbrev pub rows_under : List (List ℕ) → List (List Cell) → Result Reply Fault
 rows_under names rows = Ok (Rows (record { names = names; rows = rows }))
@@ -52,10 +52,10 @@ docids (n ∷ ns) = (Int n ∷ []) ∷ docids ns
 pub update_and_delete : answers_to [] (
     create_d
     ∷ texts_into_d ((Text (codes "red apple") ∷ []) ∷ (Text (codes "red pear") ∷ []) ∷ [])
-    ∷ Update (codes "d") ((codes "x", Text (codes "green")) ∷ []) (OfDocid (pos 1))
+    ∷ Update (codes "d") ((codes "x", Text (codes "green")) ∷ []) (Docid (pos 1))
     ∷ docids_matching (codes "red")
     ∷ Check (codes "d")
-    ∷ Delete (codes "d") (Matching (codes "x") (codes "red"))
+    ∷ Delete (codes "d") (Match (codes "x") (codes "red"))
     ∷ select_d
     ∷ [])
     ≡ Ok Done ∷ Ok Done ∷ Ok Done ∷ rows_under (codes "docid" ∷ []) (docids (pos 2 ∷ [])) ∷ Ok Done ∷ Ok Done
@@ -67,7 +67,7 @@ update_and_delete = refl
 pub taken_within : answers_to [] (
     create_d
     ∷ Insert (codes "d") (Some (codes "docid" ∷ codes "x" ∷ [])) ((Int (pos 7) ∷ Text (codes "p") ∷ []) ∷ (Int (pos 7) ∷ Text (codes "q") ∷ []) ∷ [])
-    ∷ Select (codes "d") Counted Everything None 0
+    ∷ Select (codes "d") Counted All None 0
     ∷ [])
     ≡ Ok Done ∷ Err (faults.DocidTaken (pos 7)) ∷ rows_under (codes "count(*)" ∷ []) ((Int (pos 0) ∷ []) ∷ []) ∷ []
 unfolding query_of reading chosen answer insert_rows deserved after reply_to step
@@ -77,7 +77,7 @@ taken_within = refl
 pub taken_by_two : answers_to [] (
     create_d
     ∷ texts_into_d ((Text (codes "p") ∷ []) ∷ (Text (codes "q") ∷ []) ∷ [])
-    ∷ Update (codes "d") ((codes "docid", Int (pos 5)) ∷ []) Everything
+    ∷ Update (codes "d") ((codes "docid", Int (pos 5)) ∷ []) All
     ∷ select_d
     ∷ [])
     ≡ Ok Done ∷ Ok Done ∷ Err (faults.DocidTaken (pos 5))
@@ -91,7 +91,7 @@ pub no_docid_left : answers_to [] (
     ∷ Insert (codes "d") (Some (codes "docid" ∷ codes "x" ∷ [])) ((Int (pos 9223372036854775807) ∷ Text (codes "p") ∷ []) ∷ [])
     ∷ texts_into_d ((Text (codes "q") ∷ []) ∷ [])
     ∷ Insert (codes "d") (Some (codes "docid" ∷ codes "x" ∷ [])) ((Int (pos 3) ∷ Text (codes "q") ∷ []) ∷ [])
-    ∷ Select (codes "d") (Listed (Named (codes "docid") ∷ [])) Everything None 0
+    ∷ Select (codes "d") (Listed (Named (codes "docid") ∷ [])) All None 0
     ∷ [])
     ≡ Ok Done ∷ Ok Done ∷ Err faults.DocidFull ∷ Ok Done ∷ rows_under (codes "docid" ∷ []) (docids (pos 3 ∷ pos 9223372036854775807 ∷ [])) ∷ []
 unfolding query_of reading chosen answer insert_rows deserved after reply_to step
@@ -108,7 +108,7 @@ unfolding query_of reading chosen answer insert_rows deserved after reply_to ste
 first_row_decides = refl
 
 -- the index of the table d, from scratch
-abbrev pub content_held : Held → Content
+abbrev pub content_held : TableState → Content
 content_held (Sound content) = content
 content_held _ = record { columns = []; documents = [] }
 
@@ -131,12 +131,12 @@ sizes_after commands = (index_rows (first_content (after_all [] commands))).size
 abbrev pub apple_and_pear : List Command
 apple_and_pear = create_d ∷ texts_into_d ((Text (codes "red apple") ∷ []) ∷ (Text (codes "red pear") ∷ []) ∷ []) ∷ []
 
-pub text_replaced : entries_after (apple_and_pear ++ Update (codes "d") ((codes "x", Text (codes "green")) ∷ []) (OfDocid (pos 1)) ∷ [])
+pub text_replaced : entries_after (apple_and_pear ++ Update (codes "d") ((codes "x", Text (codes "green")) ∷ []) (Docid (pos 1)) ∷ [])
     ≡ entry (codes "green") (pos 1) 0 0 0 5 ∷ entry (codes "pear") (pos 2) 0 1 4 4 ∷ entry (codes "red") (pos 2) 0 0 0 3 ∷ []
 unfolding query_of reading chosen answer insert_rows deserved after reply_to step entries spot_lists sizes index_rows
 text_replaced = refl
 
-pub text_replaced_sizes : sizes_after (apple_and_pear ++ Update (codes "d") ((codes "x", Text (codes "green")) ∷ []) (OfDocid (pos 1)) ∷ [])
+pub text_replaced_sizes : sizes_after (apple_and_pear ++ Update (codes "d") ((codes "x", Text (codes "green")) ∷ []) (Docid (pos 1)) ∷ [])
     ≡ size_of (pos 1) 0 1 ∷ size_of (pos 2) 0 2 ∷ []
 unfolding query_of reading chosen answer insert_rows deserved after reply_to step entries spot_lists sizes index_rows
 text_replaced_sizes = refl
@@ -144,16 +144,16 @@ text_replaced_sizes = refl
 abbrev pub one_apple : List Command
 one_apple = create_d ∷ texts_into_d ((Text (codes "red apple") ∷ []) ∷ []) ∷ []
 
-pub docid_set : entries_after (one_apple ++ Update (codes "d") ((codes "docid", Int (pos 9)) ∷ []) (OfDocid (pos 1)) ∷ [])
+pub docid_set : entries_after (one_apple ++ Update (codes "d") ((codes "docid", Int (pos 9)) ∷ []) (Docid (pos 1)) ∷ [])
     ≡ entry (codes "apple") (pos 9) 0 1 4 5 ∷ entry (codes "red") (pos 9) 0 0 0 3 ∷ []
 unfolding query_of reading chosen answer insert_rows deserved after reply_to step entries spot_lists sizes index_rows
 docid_set = refl
 
-pub docid_set_sizes : sizes_after (one_apple ++ Update (codes "d") ((codes "docid", Int (pos 9)) ∷ []) (OfDocid (pos 1)) ∷ []) ≡ size_of (pos 9) 0 2 ∷ []
+pub docid_set_sizes : sizes_after (one_apple ++ Update (codes "d") ((codes "docid", Int (pos 9)) ∷ []) (Docid (pos 1)) ∷ []) ≡ size_of (pos 9) 0 2 ∷ []
 unfolding query_of reading chosen answer insert_rows deserved after reply_to step entries spot_lists sizes index_rows
 docid_set_sizes = refl
 
-pub emptied : index_rows (first_content (after_all [] (one_apple ++ Update (codes "d") ((codes "x", Null) ∷ []) (OfDocid (pos 1)) ∷ []))) ≡ record { lists = []; sizes = [] }
+pub emptied : index_rows (first_content (after_all [] (one_apple ++ Update (codes "d") ((codes "x", Null) ∷ []) (Docid (pos 1)) ∷ []))) ≡ record { lists = []; sizes = [] }
 unfolding query_of reading chosen answer insert_rows deserved after reply_to step entries spot_lists sizes index_rows
 emptied = refl
 
@@ -170,7 +170,7 @@ abbrev pub five : List Command
 five = create_d ∷ texts_into_d ((Text (codes "p") ∷ []) ∷ (Text (codes "p") ∷ []) ∷ (Text (codes "p") ∷ []) ∷ (Text (codes "p") ∷ []) ∷ (Text (codes "p") ∷ []) ∷ []) ∷ []
 
 abbrev pub docids_cut : Option ℕ → ℕ → Command
-docids_cut limit offset = Select (codes "d") (Listed (Named (codes "docid") ∷ [])) Everything limit offset
+docids_cut limit offset = Select (codes "d") (Listed (Named (codes "docid") ∷ [])) All limit offset
 
 abbrev pub count_cut : Filter → Option ℕ → ℕ → Command
 count_cut f limit offset = Select (codes "d") Counted f limit offset
@@ -179,10 +179,10 @@ pub cuts : answers_to (after_all [] five) (
     docids_cut (Some 2) 1
     ∷ docids_cut (Some 0) 0
     ∷ docids_cut None 5
-    ∷ count_cut (Matching (codes "d") (codes "p")) None 0
-    ∷ count_cut (Matching (codes "d") (codes "p")) (Some 1) 0
-    ∷ count_cut Everything (Some 0) 0
-    ∷ count_cut Everything (Some 1) 1
+    ∷ count_cut (Match (codes "d") (codes "p")) None 0
+    ∷ count_cut (Match (codes "d") (codes "p")) (Some 1) 0
+    ∷ count_cut All (Some 0) 0
+    ∷ count_cut All (Some 1) 1
     ∷ [])
     ≡ rows_under (codes "docid" ∷ []) (docids (pos 2 ∷ pos 3 ∷ [])) ∷ rows_under (codes "docid" ∷ []) [] ∷ rows_under (codes "docid" ∷ []) []
     ∷ rows_under (codes "count(*)" ∷ []) (docids (pos 5 ∷ [])) ∷ rows_under (codes "count(*)" ∷ []) (docids (pos 5 ∷ []))
@@ -192,7 +192,7 @@ cuts = refl
 
 -- after all documents are deleted the first docid is 1 again
 pub first_again : answers_to (after_all [] five) (
-    Delete (codes "d") (Matching (codes "d") (codes "p"))
+    Delete (codes "d") (Match (codes "d") (codes "p"))
     ∷ texts_into_d ((Text (codes "q") ∷ []) ∷ [])
     ∷ select_d
     ∷ [])
@@ -200,7 +200,7 @@ pub first_again : answers_to (after_all [] five) (
 unfolding query_of reading chosen answer insert_rows deserved after reply_to step
 first_again = refl
 
-pub taken_by_five : step (after_all [] five) (Update (codes "d") ((codes "docid", Int (pos 3)) ∷ []) (Matching (codes "d") (codes "p"))) ≡ (Err (faults.DocidTaken (pos 3)), after_all [] five)
+pub taken_by_five : step (after_all [] five) (Update (codes "d") ((codes "docid", Int (pos 3)) ∷ []) (Match (codes "d") (codes "p"))) ≡ (Err (faults.DocidTaken (pos 3)), after_all [] five)
 unfolding query_of reading chosen answer insert_rows deserved after reply_to step
 taken_by_five = refl
 
@@ -218,8 +218,8 @@ pub refusals : answers_to [] (
     ∷ Create (codes "X") (codes "fts4") [] (codes "a" ∷ []) true
     ∷ Insert (codes "x") None ((Text (codes "p") ∷ []) ∷ [])
     ∷ Insert (codes "x") (Some (codes "docid" ∷ codes "rowid" ∷ codes "a" ∷ [])) ((Int (pos 1) ∷ Int (pos 2) ∷ Text (codes "p") ∷ []) ∷ [])
-    ∷ Select (codes "x") (Listed (Named (codes "nope") ∷ [])) Everything None 0
-    ∷ Select (codes "x") (Listed (OffsetsOf (codes "x") ∷ [])) Everything None 0
+    ∷ Select (codes "x") (Listed (Named (codes "nope") ∷ [])) All None 0
+    ∷ Select (codes "x") (Listed (OffsetsOf (codes "x") ∷ [])) All None 0
     ∷ [])
     ≡ Err faults.Module ∷ Err faults.Tokenizer ∷ Err faults.Parameter ∷ Err faults.DuplicateColumn ∷ Ok Done ∷ Err faults.TableExists ∷ Ok Done
     ∷ Err faults.Count ∷ Err faults.DocidTwice ∷ Err faults.NoSuchColumn ∷ Err faults.Context ∷ []
@@ -235,12 +235,12 @@ pub order_of_faults : answers_to [] (
     ∷ Insert (codes "d") (Some (codes "docid" ∷ codes "x" ∷ [])) ((Text [] ∷ Text (0 ∷ []) ∷ []) ∷ (Null ∷ []) ∷ [])
     ∷ Insert (codes "d") (Some (codes "docid" ∷ codes "x" ∷ [])) ((Int (pos 1) ∷ Text (0 ∷ []) ∷ []) ∷ (Text [] ∷ Null ∷ []) ∷ [])
     ∷ Insert (codes "d") (Some (codes "docid" ∷ codes "x" ∷ [])) ((Int (pos 1) ∷ Null ∷ []) ∷ (Int (pos 1) ∷ Text (0 ∷ []) ∷ []) ∷ [])
-    ∷ Update (codes "d") ((codes "docid", Null) ∷ (codes "rowid", Int (pos 1)) ∷ []) Everything
-    ∷ Update (codes "d") ((codes "docid", Int (pos 2)) ∷ (codes "rowid", Int (pos 1)) ∷ []) Everything
-    ∷ Update (codes "d") ((codes "docid", Int (pos 2)) ∷ []) Everything
-    ∷ Select (codes "d") (Listed (OffsetsOf (codes "e") ∷ [])) Everything None 0
-    ∷ Delete (codes "d") (Matching (codes "x") (codes "a \"b"))
-    ∷ Delete (codes "d") (Matching (codes "y") (codes "a \"b"))
+    ∷ Update (codes "d") ((codes "docid", Null) ∷ (codes "rowid", Int (pos 1)) ∷ []) All
+    ∷ Update (codes "d") ((codes "docid", Int (pos 2)) ∷ (codes "rowid", Int (pos 1)) ∷ []) All
+    ∷ Update (codes "d") ((codes "docid", Int (pos 2)) ∷ []) All
+    ∷ Select (codes "d") (Listed (OffsetsOf (codes "e") ∷ [])) All None 0
+    ∷ Delete (codes "d") (Match (codes "x") (codes "a \"b"))
+    ∷ Delete (codes "d") (Match (codes "y") (codes "a \"b"))
     ∷ Drop (codes "D") false
     ∷ Drop (codes "D") false
     ∷ Drop (codes "D") true
@@ -295,7 +295,7 @@ least_id = refl
 pub headers : answers_to [] (
     create_d
     ∷ texts_into_d ((Text (codes "b") ∷ []) ∷ (Text (codes "b a b") ∷ []) ∷ [])
-    ∷ Select (codes "D") (Listed (Named (codes "ROWID") ∷ AllColumns ∷ Named (codes "X") ∷ OffsetsOf (codes "D") ∷ [])) (Matching (codes "d") (codes "a")) None 0
+    ∷ Select (codes "D") (Listed (Named (codes "ROWID") ∷ AllColumns ∷ Named (codes "X") ∷ OffsetsOf (codes "D") ∷ [])) (Match (codes "d") (codes "a")) None 0
     ∷ [])
     ≡ Ok Done ∷ Ok Done ∷ rows_under (codes "rowid" ∷ codes "x" ∷ codes "x" ∷ codes "offsets(d)" ∷ []) ((Int (pos 2) ∷ Text (codes "b a b") ∷ Text (codes "b a b") ∷ Text (codes "0 0 2 1") ∷ []) ∷ []) ∷ []
 unfolding query_of reading chosen answer insert_rows deserved after reply_to step digits

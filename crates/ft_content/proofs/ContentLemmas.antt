@@ -8,9 +8,9 @@ use Rattle.std.specs.Cmp.{int_cmp_total}
 use Rattle.std.specs.FinMap.{int_cmp-IsAntisymmetric}
 use Rattle.std.specs.FinMap.Entries.{by_order, put, below_all, is_sorted, is_sorted-put, is_sorted-where_key}
 use Rattle.std.proofs.lemmas.Bool.{and_parts, and_from, ltb-false}
-use Rattle.ft_content.specs.declared.fault.Fault.{Fault}
-use Rattle.ft_content.specs.declared.fault.Fault.TheVariants as faults
-use Rattle.ft_store.specs.Store.{Cell, Null}
+use Rattle.ft_values.specs.declared.fault.Fault.{Fault}
+use Rattle.ft_values.specs.declared.fault.Fault.TheVariants as faults
+use Rattle.ft_values.specs.Cells.{Cell, Null}
 use Rattle.ft_content.specs.Content.{Column, Documents, same_name, is_name, names_of, names_clash, is_too_long, has_nul, is_cell, is_document}
 use Rattle.ft_content.specs.Answer.{is_chosen, chosen}
 use Rattle.ft_content.specs.Deserved.{or_else, listed_columns, docids_in, value_under, with_values, new_cells, next_docid, append_document, insert_row, insert_rows, then_rows, has_docid}

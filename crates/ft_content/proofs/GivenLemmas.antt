@@ -3,9 +3,8 @@ use Rattle.std.proofs.Common.{◌≡◌, ℕ, Bool, true, false, cond, List, [],
 use Rattle.std.specs.Prelude.{zip, slice_get, find, option_and_then}
 use denote.Ref.{Bor}
 use Rattle.std.specs.List.{filter_map, cons_option}
-use Rattle.ft_store.specs.Store.{Cell, Null, Int, Text}
-use Rattle.ft_store.specs.declared.rows.Value.{Value}
-use Rattle.ft_store.specs.Changes.{shown_value}
+use Rattle.ft_values.specs.Cells.{Cell, Null, Int, Text, shown_value}
+use Rattle.ft_values.specs.declared.rows.Value.{Value}
 use Rattle.ft_content.specs.Content.{is_docid}
 use Rattle.ft_content.specs.Deserved.{number_of, docids_in}
 

@@ -13,7 +13,7 @@ use Rattle.std.proofs.lemmas.List.Elements.{filter-append}
 use Rattle.std.proofs.lemmas.Cmp.{on_total, then_total}
 use Rattle.std.proofs.lemmas.Map.Lookups.{CmpEqualImpliesEq, exact_pairs, exact_bytes, exact_signed}
 use Rattle.ft_query.specs.Tokens.{PlainToken}
-use Rattle.ft_store.specs.Store.{Cell}
+use Rattle.ft_values.specs.Cells.{Cell}
 use Rattle.ft_content.specs.Content.{Column, Documents}
 use Rattle.ft_content.specs.Index.{Spot, Entry, Size, Key, key_cmp, key_of, spots_at, spot_lists, document_tokens, document_postings, entry_at, document_entries, entries, document_sizes, sizes}
 use Rattle.ft_content.specs.Step.{without_docid}

@@ -3,10 +3,10 @@
 use Rattle.std.specs.Prelude.{◌≡◌, ℕ, false, List, [], ◌∷◌, ◌++◌, Some, None, Result, Ok, Err, ℤ, pos, negsuc, codes, refl}
 use Rattle.std.specs.Fmt.{digits}
 use Rattle.ft_query.specs.Reads.{query_of}
-use Rattle.ft_content.specs.declared.fault.Fault.{Fault}
-use Rattle.ft_content.specs.declared.fault.Fault.TheVariants as faults
-use Rattle.ft_store.specs.Store.{Cell, Int, Text}
-use Rattle.ft_content.specs.Command.{Everything, Matching, Named, OffsetsOf, Listed, Command, Create, Insert, Select, Check, Reply, Done}
+use Rattle.ft_values.specs.declared.fault.Fault.{Fault}
+use Rattle.ft_values.specs.declared.fault.Fault.TheVariants as faults
+use Rattle.ft_values.specs.Cells.{Cell, Int, Text}
+use Rattle.ft_content.specs.Command.{All, Match, Named, OffsetsOf, Listed, Command, Create, Insert, Select, Check, Reply, Done}
 use Rattle.ft_content.specs.Answer.{reading, chosen, answer}
 use Rattle.ft_content.specs.Deserved.{insert_rows, deserved}
 use Rattle.ft_content.specs.Step.{after, reply_to, step}
@@ -14,7 +14,7 @@ use Rattle.ft_content.proofs.CommandRows.{answers_to, after_all, create_d, texts
 
 -- SELECT offsets(t) FROM t WHERE t MATCH ..
 abbrev pub offsets_matching : List ℕ → List ℕ → Command
-offsets_matching table text = Select table (Listed (OffsetsOf table ∷ [])) (Matching table text) None 0
+offsets_matching table text = Select table (Listed (OffsetsOf table ∷ [])) (Match table text) None 0
 
 abbrev pub text_rows : List (List ℕ) → List (List Cell)
 text_rows [] = []
@@ -25,7 +25,7 @@ offsets_rows table texts = rows_under ((codes "offsets(" ++ table ++ codes ")") 
 
 -- SELECT docid FROM t WHERE t MATCH ..
 abbrev pub matching : List ℕ → List ℕ → Command
-matching table text = Select table (Listed (Named (codes "docid") ∷ [])) (Matching table text) None 0
+matching table text = Select table (Listed (Named (codes "docid") ∷ [])) (Match table text) None 0
 
 abbrev pub found : List ℤ → Result Reply Fault
 found numbers = rows_under (codes "docid" ∷ []) (docids numbers)
@@ -38,7 +38,7 @@ mail = Create (codes "mail") (codes "fts4") [] (codes "subject" ∷ codes "body"
     ∷ []
 
 pub words_found : answers_to (after_all [] mail) (
-    Select (codes "mail") (Listed (Named (codes "docid") ∷ OffsetsOf (codes "mail") ∷ [])) (Matching (codes "mail") (codes "world")) None 0
+    Select (codes "mail") (Listed (Named (codes "docid") ∷ OffsetsOf (codes "mail") ∷ [])) (Match (codes "mail") (codes "world")) None 0
     ∷ offsets_matching (codes "mail") (codes "message")
     ∷ [])
     ≡ rows_under (codes "docid" ∷ codes "offsets(mail)" ∷ []) ((Int (pos 1) ∷ Text (codes "0 0 6 5 1 0 24 5") ∷ []) ∷ [])
@@ -80,7 +80,7 @@ abbrev pub two_b : List Command
 two_b = create_d ∷ texts_into_d ((Text (codes "b") ∷ []) ∷ (Text (codes "b a b") ∷ []) ∷ []) ∷ []
 
 pub near_itself : answers_to (after_all [] two_b) (
-    Select (codes "d") (Listed (Named (codes "docid") ∷ OffsetsOf (codes "d") ∷ [])) (Matching (codes "d") (codes "b NEAR b")) None 0
+    Select (codes "d") (Listed (Named (codes "docid") ∷ OffsetsOf (codes "d") ∷ [])) (Match (codes "d") (codes "b NEAR b")) None 0
     ∷ [])
     ≡ rows_under (codes "docid" ∷ codes "offsets(d)" ∷ []) ((Int (pos 2) ∷ Text (codes "0 0 0 1 0 1 0 1 0 0 4 1 0 1 4 1") ∷ []) ∷ []) ∷ []
 unfolding query_of reading chosen answer insert_rows deserved after reply_to step digits
@@ -114,8 +114,8 @@ past_ascii = create_d ∷ texts_into_d ((Text (195 ∷ 134 ∷ 114 ∷ 195 ∷ 1
 
 pub past_ascii_found : answers_to (after_all [] past_ascii) (
     matching (codes "d") (195 ∷ 166 ∷ 114 ∷ 195 ∷ 184 ∷ [])
-    ∷ Select (codes "d") (Listed (Named (codes "docid") ∷ OffsetsOf (codes "d") ∷ [])) (Matching (codes "d") (67 ∷ 65 ∷ 70 ∷ 195 ∷ 169 ∷ [])) None 0
-    ∷ Select (codes "d") (Listed (Named (codes "docid") ∷ OffsetsOf (codes "d") ∷ [])) (Matching (codes "d") (codes "15")) None 0
+    ∷ Select (codes "d") (Listed (Named (codes "docid") ∷ OffsetsOf (codes "d") ∷ [])) (Match (codes "d") (67 ∷ 65 ∷ 70 ∷ 195 ∷ 169 ∷ [])) None 0
+    ∷ Select (codes "d") (Listed (Named (codes "docid") ∷ OffsetsOf (codes "d") ∷ [])) (Match (codes "d") (codes "15")) None 0
     ∷ [])
     ≡ found [] ∷ rows_under (codes "docid" ∷ codes "offsets(d)" ∷ []) ((Int (pos 1) ∷ Text (codes "0 0 6 5") ∷ []) ∷ [])
     ∷ rows_under (codes "docid" ∷ codes "offsets(d)" ∷ []) ((Int (pos 2) ∷ Text (codes "0 0 1 2") ∷ []) ∷ []) ∷ []
@@ -209,9 +209,9 @@ by_docid = refl
 
 -- a MATCH on a column searches that column, and a filter of the query goes before it
 pub by_column : answers_to (after_all [] mail) (
-    Select (codes "mail") (Listed (Named (codes "docid") ∷ [])) (Matching (codes "subject") (codes "world")) None 0
-    ∷ Select (codes "mail") (Listed (Named (codes "docid") ∷ [])) (Matching (codes "SUBJECT") (codes "mail")) None 0
-    ∷ Select (codes "mail") (Listed (Named (codes "docid") ∷ [])) (Matching (codes "subject") (codes "body:mail")) None 0
+    Select (codes "mail") (Listed (Named (codes "docid") ∷ [])) (Match (codes "subject") (codes "world")) None 0
+    ∷ Select (codes "mail") (Listed (Named (codes "docid") ∷ [])) (Match (codes "SUBJECT") (codes "mail")) None 0
+    ∷ Select (codes "mail") (Listed (Named (codes "docid") ∷ [])) (Match (codes "subject") (codes "body:mail")) None 0
     ∷ [])
     ≡ found (pos 1 ∷ []) ∷ found [] ∷ found (pos 2 ∷ []) ∷ []
 unfolding query_of reading chosen answer insert_rows deserved after reply_to step digits
@@ -222,7 +222,7 @@ pub not_indexed_found : answers_to (after_all [] not_indexed) (
     offsets_matching (codes "n") (codes "red")
     ∷ matching (codes "n") (codes "blue")
     ∷ matching (codes "n") (codes "b:red")
-    ∷ Select (codes "n") (Listed (Named (codes "b") ∷ [])) Everything None 0
+    ∷ Select (codes "n") (Listed (Named (codes "b") ∷ [])) All None 0
     ∷ Create (codes "o") (codes "fts4") ((codes "notindexed", codes "c") ∷ []) (codes "a" ∷ []) false
     ∷ Check (codes "n")
     ∷ [])

@@ -20,7 +20,7 @@ use Rattle.ft_query.specs.Tokens.{PlainToken, tokens_of}
 use Rattle.ft_query.specs.Trees.{Tree}
 use Rattle.ft_query.specs.Documents.{Posting, Document, IsBefore, AreDocuments, PlaceList, is_filled, postings_of, documents_of, lists_with, place_count}
 use Rattle.ft_query.specs.Occurs.{PlainHit, accepts, offsets_of, hits_of}
-use Rattle.ft_store.specs.Store.{Cell}
+use Rattle.ft_values.specs.Cells.{Cell}
 use Rattle.ft_content.specs.Content.{Column, Documents, Content}
 use Rattle.ft_content.specs.Index.{indexed_text, document_tokens, document_postings, Spot, Entry, entry_at, document_entries, entries, Key, key_cmp, key_of, SpotLists, spots_at, spot_lists, stored_spot, index_rows}
 use Rattle.ft_content.specs.Answer.{query_read, chosen}

@@ -5,7 +5,7 @@ use Rattle.std.specs.Ordering.{int_cmp, int_eq, eq_by_cmp, is_eq}
 use Rattle.std.specs.Cmp.{eq_by_cmp_equiv, int_cmp_total, tied_itself}
 use Rattle.std.specs.FinMap.{int_cmp-IsAntisymmetric}
 use Rattle.std.specs.FinMap.Entries.{find, where_key, is_sorted, is_sorted-put, is_sorted-where_key, find-put, find-where_key, same_entries}
-use Rattle.ft_store.specs.Store.{Cell}
+use Rattle.ft_values.specs.Cells.{Cell}
 use Rattle.ft_content.specs.Content.{Column, Documents}
 use Rattle.ft_content.specs.Index.{Spot, Entry, Key, key_cmp, key_of, SpotLists, spots_at, spot_lists, document_entries, entries}
 use Rattle.ft_content.specs.Laws.{content_with, spots_in, some_if_any, document_lists, drop_lists, put_lists, PlanIsRight, DropPlanIsRight}

@@ -8,7 +8,7 @@ use Rattle.std.specs.Cmp.{int_cmp_total, tied_itself, Equal-is, eq_by_cmp_equiv}
 use Rattle.std.specs.FinMap.{int_cmp-IsAntisymmetric}
 use Rattle.std.specs.FinMap.Entries.{below_all, is_sorted}
 use Rattle.std.proofs.lemmas.Bool.{and_parts, false_from_ne_true}
-use Rattle.ft_store.specs.Store.{Cell}
+use Rattle.ft_values.specs.Cells.{Cell}
 use Rattle.ft_content.specs.Content.{Column, Documents, CellRow, is_document, is_name, names_of, skipped_from, document_rows, with_cell, gathered, content_in, RowsAreRead, ContentsAreOne}
 
 below_apart : (o : Ordering) → is_lt o ≡ true → is_eq o ≡ false

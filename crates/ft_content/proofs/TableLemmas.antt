@@ -13,7 +13,7 @@ use Rattle.std.specs.Prelude.{◌<ℤ◌}
 use Rattle.ft_content.specs.Content.{same_name}
 use Rattle.ft_content.specs.Deserved.{Contents, Table, table_named}
 use Rattle.ft_content.specs.Step.{free_id_from}
-use Rattle.ft_content.specs.declared.table.TableInfo.{TableInfo}
+use Rattle.ft_values.specs.declared.table.TableInfo.{TableInfo}
 use Rattle.ft_content.specs.Views.{table_names, table_ids, info_names, info_ids}
 use Rattle.ft_content.proofs.Lists.{length_of_map}
 

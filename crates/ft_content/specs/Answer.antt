@@ -1,5 +1,5 @@
--- What a Select answers ("Simple FTS Queries").
-use Rattle.std.specs.Prelude.{ℕ, Bool, true, false, cond, List, [], ◌∷◌, ◌++◌, map, length, take, drop, filter, position, Option, Some, None, Result, Ok, Err, ℤ, pos, codes, unwrap_or, option_and_then, slice_get}
+-- Meaning. What a Select answers ("Simple FTS Queries").
+use Rattle.std.specs.Prelude.{ℕ, Bool, true, false, if◌then◌else◌, List, [], ◌∷◌, ◌++◌, map, length, take, drop, filter, position, Option, Some, None, Result, Ok, Err, ℤ, pos, codes, unwrap_or, option_and_then, slice_get}
 use Rattle.std.specs.List.{flat_map}
 use Rattle.std.specs.Option.{option_map_or}
 use Rattle.std.specs.Ordering.{int_eq}
@@ -7,10 +7,10 @@ use Rattle.ft_query.specs.declared.query.QueryFault.{QueryFault}
 use Rattle.ft_query.specs.Trees.{Tree}
 use Rattle.ft_query.specs.Reads.{query_of}
 use Rattle.ft_query.specs.Occurs.{accepts, offsets_of, offsets_text}
-use Rattle.ft_store.specs.Store.{Cell, Null, Int, Text}
+use Rattle.ft_values.specs.Cells.{Cell, Null, Int, Text}
 use Rattle.ft_content.specs.Content.{Documents, Content, same_name, is_docid, names_of}
 use Rattle.ft_content.specs.Index.{document_postings}
-use Rattle.ft_content.specs.Command.{Filter, Everything, OfDocid, Matching, Item, AllColumns, Named, OffsetsOf, Items, Counted, Listed, Grid}
+use Rattle.ft_content.specs.Command.{Filter, All, Docid, Match, Item, AllColumns, Named, OffsetsOf, Items, Counted, Listed, Grid}
 
 -- the column with this name. A MATCH name that is no column is the table, and stands for every column ("Simple FTS Queries")
 abbrev pub column_place : Content → List ℕ → Option ℕ
@@ -27,29 +27,29 @@ query_read (Err fault) = None
 
 -- the query of a filter, if it has one
 abbrev pub query_in : Content → Filter → Option Tree
-query_in content Everything = None
-query_in content (OfDocid docid) = None
-query_in content (Matching name text) = query_read (reading content name text)
+query_in content All = None
+query_in content (Docid docid) = None
+query_in content (Match name text) = query_read (reading content name text)
 
 abbrev pub accepts_read : Content → Option Tree → ℤ × List Cell → Bool
 accepts_read content query document = option_map_or (accepts (document_postings content.columns document.1)) query false
 
 -- Whether a filter chooses a document. A text without lexemes chooses none (own choice).
 abbrev pub is_chosen : Content → Filter → ℤ × List Cell → Bool
-is_chosen content Everything = λ document. true
-is_chosen content (OfDocid docid) = λ document. int_eq docid document.0
-is_chosen content (Matching name text) = accepts_read content (query_in content (Matching name text))
+is_chosen content All = λ document. true
+is_chosen content (Docid docid) = λ document. int_eq docid document.0
+is_chosen content (Match name text) = accepts_read content (query_in content (Match name text))
 
 -- the documents that a filter chooses, by rising docid (own choice)
 unfoldable pub chosen : Content → Filter → Documents
 chosen content f = filter (is_chosen content f) content.documents
 
 abbrev pub docid_header : List ℕ → List ℕ
-docid_header name = cond (same_name name (codes "docid")) (codes "docid") (codes "rowid")
+docid_header name = if same_name name (codes "docid") then codes "docid" else codes "rowid"
 
 -- a column's name as declared (own choice)
 abbrev pub header : Content → List ℕ → List ℕ
-header content name = cond (is_docid name) (docid_header name) (unwrap_or (option_and_then (slice_get (names_of content.columns)) (column_place content name)) [])
+header content name = if is_docid name then docid_header name else unwrap_or (option_and_then (slice_get (names_of content.columns)) (column_place content name)) []
 
 abbrev pub item_headers : List ℕ → Content → Item → List (List ℕ)
 item_headers table content AllColumns = names_of content.columns
@@ -58,7 +58,7 @@ item_headers table content (OffsetsOf name) = (codes "offsets(" ++ table ++ code
 
 -- the cell of a document under a name
 abbrev pub named_cell : Content → ℤ × List Cell → List ℕ → Cell
-named_cell content document name = cond (is_docid name) (Int document.0) (unwrap_or (option_and_then (slice_get document.1) (column_place content name)) Null)
+named_cell content document name = if is_docid name then Int document.0 else unwrap_or (option_and_then (slice_get document.1) (column_place content name)) Null
 
 -- the offsets of the query in a document, as one text ("The Offsets Function")
 abbrev pub offsets_cell : Option Tree → Content → ℤ × List Cell → Cell

@@ -1,13 +1,13 @@
--- Commands on full-text tables and their replies: "Creating and Destroying FTS Tables", "Populating FTS Tables", "Simple FTS
+-- Meaning. Commands on full-text tables and their replies: "Creating and Destroying FTS Tables", "Populating FTS Tables", "Simple FTS
 -- Queries", and "Special Commands For FTS3 and FTS4". Texts are lists of bytes here.
 use Rattle.std.specs.Prelude.{ℕ, Bool, List, Option, ℤ}
-use Rattle.ft_store.specs.Store.{Cell}
+use Rattle.ft_values.specs.Cells.{Cell}
 
 -- all documents, the one with this docid, or those that a query on a table or a column accepts
 pub data Filter : Type 0 where
-  Everything : Filter
-  OfDocid : (docid : ℤ) → Filter
-  Matching : (name query : List ℕ) → Filter
+  All : Filter
+  Docid : (docid : ℤ) → Filter
+  Match : (name query : List ℕ) → Filter
 
 -- all columns, a column or docid, or the offsets of the filter's query
 pub data Item : Type 0 where

@@ -1,12 +1,12 @@
--- What a table contains: columns, and documents by rising docid. A section named in quotes in a comment of these files is one of
+-- Meaning. What a table contains: columns, and documents by rising docid. A section named in quotes in a comment of these files is one of
 -- the SQLite document "SQLite FTS3 and FTS4 Extensions"; what that document leaves open is marked as an own choice.
-use Rattle.std.specs.Prelude.{◌≡◌, ℕ, ◌+◌, Bool, false, cond, not, ◌&&◌, ◌||◌, List, [], ◌∷◌, map, length, nat_lt, nat_le, ◌==◌, codes, ℤ, pos, IsTrue}
+use Rattle.std.specs.Prelude.{◌≡◌, ℕ, ◌+◌, Bool, false, if◌then◌else◌, not, ◌&&◌, ◌||◌, List, [], ◌∷◌, map, length, nat_lt, nat_le, ◌==◌, codes, ℤ, pos, IsTrue}
 use Rattle.std.specs.List.{list_any, list_all, flat_map, enumerate_from}
 use Rattle.std.specs.Ordering.{int_cmp, int_eq}
-use Rattle.std.specs.Str.{str_eq_ignore_ascii_case}
 use Rattle.std.specs.Fmt.{signed_decimal}
 use Rattle.std.specs.FinMap.Entries.{is_sorted}
-pub use Rattle.ft_store.specs.Store.{Cell, Null, Int, Text}
+pub use Rattle.ft_values.specs.Cells.{Cell, Null, Int, Text}
+pub use Rattle.ft_values.specs.Names.{same_name}
 
 -- The text of a cell: nothing, the decimal text, or the text. A cell is NULL, an integer or a text (own choice).
 abbrev pub cell_text : Cell → List ℕ
@@ -26,10 +26,6 @@ Documents = List (ℤ × List Cell)
 pub record Content : Type 0 where
   pub columns : List Column
   pub documents : Documents
-
--- Names are compared without ASCII case (own choice, after SQLite's names).
-abbrev pub same_name : List ℕ → List ℕ → Bool
-same_name = str_eq_ignore_ascii_case
 
 -- docid goes by two names ("Populating FTS Tables"; the document's other names aren't taken, an own choice)
 abbrev pub is_docid : List ℕ → Bool
@@ -99,7 +95,7 @@ document_rows document = map (λ (c : ℕ × Cell). record { docid = document.0;
 -- the numbers of the columns that are not indexed
 abbrev pub skipped_from : ℕ → List Column → List ℤ
 skipped_from k [] = []
-skipped_from k (column ∷ columns) = cond column.indexed (skipped_from (k + 1) columns) (pos k ∷ skipped_from (k + 1) columns)
+skipped_from k (column ∷ columns) = if column.indexed then (skipped_from (k + 1) columns) else (pos k ∷ skipped_from (k + 1) columns)
 
 -- the rows that hold a content, and hold no other
 abbrev pub content_rows : Content → TableRows
@@ -112,7 +108,7 @@ content_rows content = record {
 -- The documents that cell rows in key order are of: a row joins the document that the next row is of, if that has its docid.
 abbrev pub with_cell : CellRow → Documents → Documents
 with_cell row [] = (row.docid, row.value ∷ []) ∷ []
-with_cell row (d ∷ ds) = cond (int_eq row.docid d.0) ((d.0, row.value ∷ d.1) ∷ ds) ((row.docid, row.value ∷ []) ∷ d ∷ ds)
+with_cell row (d ∷ ds) = if int_eq row.docid d.0 then ((d.0, row.value ∷ d.1) ∷ ds) else ((row.docid, row.value ∷ []) ∷ d ∷ ds)
 
 unfoldable pub gathered : List CellRow → Documents
 gathered [] = []

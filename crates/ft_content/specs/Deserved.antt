@@ -1,28 +1,28 @@
--- Which fault a command deserves. Which faults there are, their limits, and the order in which they are tested over a whole command
+-- Meaning. Which fault a command deserves. Which faults there are, their limits, and the order in which they are tested over a whole command
 -- are own choices, but where a section is named.
-use Rattle.std.specs.Prelude.{ℕ, ◌-◌, ◌^◌, Bool, true, false, cond, not, ◌&&◌, ◌||◌, List, [], ◌∷◌, map, length, zip, Option, Some, None, Result, Ok, Err, ℤ, pos, ◌+ℤ◌, codes, nat_lt, nat_le, ◌==◌, unwrap_or, option_map, is_some, is_none}
+use Rattle.std.specs.Prelude.{ℕ, ◌-◌, ◌^◌, Bool, true, false, if◌then◌else◌, not, ◌&&◌, ◌||◌, List, [], ◌∷◌, map, length, zip, Option, Some, None, Result, Ok, Err, ℤ, pos, ◌+ℤ◌, codes, nat_lt, nat_le, ◌==◌, unwrap_or, option_map, is_some, is_none}
 use Rattle.std.specs.List.{list_any, list_all, find, flat_map}
 use Rattle.std.specs.Ordering.{int_cmp, int_eq}
 use Rattle.std.specs.FinMap.Entries.{put, find as cells_at}
-use Rattle.ft_content.specs.declared.fault.Fault.{Fault}
-use Rattle.ft_content.specs.declared.fault.Fault.TheVariants as faults
+use Rattle.ft_values.specs.declared.fault.Fault.{Fault}
+use Rattle.ft_values.specs.declared.fault.Fault.TheVariants as faults
 use Rattle.ft_query.specs.declared.query.QueryFault.{QueryFault}
 use Rattle.ft_query.specs.declared.query.QueryFault.TheVariants.{Malformed, TooLarge, Memory}
 use Rattle.ft_query.specs.Trees.{Tree}
-use Rattle.ft_store.specs.Store.{Cell, Null, Int, Text}
+use Rattle.ft_values.specs.Cells.{Cell, Null, Int, Text}
 use Rattle.ft_content.specs.Content.{Column, Documents, Content, TableRows, same_name, is_docid, is_name, names_of, repeats_name, names_clash, is_too_long, has_nul}
-use Rattle.ft_content.specs.Command.{Filter, Everything, OfDocid, Matching, Item, AllColumns, Named, OffsetsOf, Items, Counted, Listed, Command, Create, Drop, Insert, Update, Delete, Select, Rebuild, Check, Optimize}
+use Rattle.ft_content.specs.Command.{Filter, All, Docid, Match, Item, AllColumns, Named, OffsetsOf, Items, Counted, Listed, Command, Create, Drop, Insert, Update, Delete, Select, Rebuild, Check, Optimize}
 use Rattle.ft_content.specs.Answer.{reading, chosen}
 
 -- What the rows of a table are: a content with the right index rows, a content with other index rows, or no content.
-pub data Held : Type 0 where
-  Sound : (content : Content) → Held
-  Stale : (content : Content) → Held
-  Loose : (rows : TableRows) → Held
+pub data TableState : Type 0 where
+  Sound : (content : Content) → TableState
+  Stale : (content : Content) → TableState
+  Loose : (rows : TableRows) → TableState
 
 pub record Table : Type 0 where
   pub name : List ℕ
-  pub held : Held
+  pub held : TableState
 
 -- the tables by rising id
 abbrev pub Contents : Type 0
@@ -34,19 +34,19 @@ table_named contents name = find (λ (t : ℤ × Table). same_name t.1.name name
 -- the fault of the first test that applies
 abbrev pub first_of : List (Bool × Fault) → Option Fault
 first_of [] = None
-first_of (test ∷ tests) = cond test.0 (Some test.1) (first_of tests)
+first_of (test ∷ tests) = if test.0 then Some test.1 else first_of tests
 
 abbrev pub or_else : Option Fault → Option Fault → Option Fault
 or_else None later = later
 or_else (Some fault) later = Some fault
 
 -- tests of a table, which has to be there and sound
-abbrev pub on_held : Held → (Content → Option Fault) → Option Fault
+abbrev pub on_held : TableState → (Content → Option Fault) → Option Fault
 on_held (Sound content) test = test content
 on_held (Stale content) test = Some faults.Unsound
 on_held (Loose rows) test = Some faults.Unsound
 
-abbrev pub on_found : Option (ℤ × Table) → (List ℕ → Held → Option Fault) → Option Fault
+abbrev pub on_found : Option (ℤ × Table) → (List ℕ → TableState → Option Fault) → Option Fault
 on_found None test = Some faults.NoSuchTable
 on_found (Some t) test = test t.1.name t.1.held
 
@@ -93,7 +93,7 @@ number_of (Int number) = number ∷ []
 number_of (Text bytes) = []
 
 abbrev pub docids_in : List (List ℕ × Cell) → List ℤ
-docids_in values = flat_map (λ (v : List ℕ × Cell). cond (is_docid v.0) (number_of v.1) []) values
+docids_in values = flat_map (λ (v : List ℕ × Cell). if is_docid v.0 then number_of v.1 else []) values
 
 abbrev pub is_text : Cell → Bool
 is_text Null = false
@@ -124,14 +124,14 @@ new_cells values columns = map (λ column. value_under values column Null) colum
 -- the docid of a row that gives none: one more than the largest, 1 where there is no document (own choice)
 abbrev pub next_docid : Documents → Option ℤ
 next_docid [] = Some (pos 1)
-next_docid (d ∷ []) = cond (int_eq d.0 (pos (2 ^ 63 - 1))) None (Some (d.0 +ℤ pos 1))
+next_docid (d ∷ []) = if (int_eq d.0 (pos (2 ^ 63 - 1))) then None else (Some (d.0 +ℤ pos 1))
 next_docid (d ∷ e ∷ documents) = next_docid (e ∷ documents)
 
 abbrev pub has_docid : Documents → ℤ → Bool
 has_docid documents docid = is_some (cells_at int_cmp docid documents)
 
 abbrev pub place_document : Documents → ℤ → List Cell → Result Documents Fault
-place_document documents docid cells = cond (has_docid documents docid) (Err (faults.DocidTaken docid)) (Ok (put int_cmp docid cells documents))
+place_document documents docid cells = if has_docid documents docid then Err (faults.DocidTaken docid) else Ok (put int_cmp docid cells documents)
 
 abbrev pub append_document : Documents → Option ℤ → List Cell → Result Documents Fault
 append_document documents None cells = Err faults.DocidFull
@@ -177,25 +177,25 @@ reading_fault (Err TooLarge) = Some faults.TooLarge
 reading_fault (Err Memory) = Some faults.Memory
 
 abbrev pub query_fault : Content → Filter → Option Fault
-query_fault content Everything = None
-query_fault content (OfDocid docid) = None
-query_fault content (Matching name text) = reading_fault (reading content name text)
+query_fault content All = None
+query_fault content (Docid docid) = None
+query_fault content (Match name text) = reading_fault (reading content name text)
 
 -- a MATCH name is the table or a column
 abbrev pub names_unknown : List ℕ → Content → Filter → Bool
-names_unknown table content Everything = false
-names_unknown table content (OfDocid docid) = false
-names_unknown table content (Matching name text) = not (same_name table name || list_any (same_name name) (names_of content.columns))
+names_unknown table content All = false
+names_unknown table content (Docid docid) = false
+names_unknown table content (Match name text) = not (same_name table name || list_any (same_name name) (names_of content.columns))
 
 abbrev pub is_match : Filter → Bool
-is_match Everything = false
-is_match (OfDocid docid) = false
-is_match (Matching name text) = true
+is_match All = false
+is_match (Docid docid) = false
+is_match (Match name text) = true
 
 -- An Update that sets docid may choose one document, and no other may have that docid (own choice).
 abbrev pub move_fault : Documents → Documents → ℤ → Option Fault
 move_fault documents [] docid = None
-move_fault documents (d ∷ []) docid = cond (has_docid documents docid && not (int_eq d.0 docid)) (Some (faults.DocidTaken docid)) None
+move_fault documents (d ∷ []) docid = if (has_docid documents docid && not (int_eq d.0 docid)) then Some (faults.DocidTaken docid) else None
 move_fault documents (d ∷ e ∷ more) docid = Some (faults.DocidTaken docid)
 
 abbrev pub moves_fault : Documents → Documents → List ℤ → Option Fault
@@ -248,12 +248,12 @@ abbrev pub select_fault : List ℕ → Content → Items → Filter → Option F
 select_fault table content items f = or_else (select_tests table content items f) (query_fault content f)
 
 -- Rebuild wants a content ("The "rebuild" command"), and Check wants its index rows to be right ("The "integrity-check" command").
-abbrev pub rebuild_fault : List ℕ → Held → Option Fault
+abbrev pub rebuild_fault : List ℕ → TableState → Option Fault
 rebuild_fault table (Sound content) = None
 rebuild_fault table (Stale content) = None
 rebuild_fault table (Loose rows) = Some faults.Corrupt
 
-abbrev pub check_fault : List ℕ → Held → Option Fault
+abbrev pub check_fault : List ℕ → TableState → Option Fault
 check_fault table (Sound content) = None
 check_fault table (Stale content) = Some faults.Corrupt
 check_fault table (Loose rows) = Some faults.Corrupt

@@ -1,20 +1,20 @@
--- The index of a content: its entries, the rows that hold them, and the sizes of its cells. Its rows are an own choice; the document's
+-- Meaning. The index of a content: its entries, the rows that hold them, and the sizes of its cells. Its rows are an own choice; the document's
 -- own are those of "Data Structures".
-use Rattle.std.specs.Prelude.{cond, ℕ, List, [], ◌∷◌, map, length, filter, ℤ, pos, nat_lt, unwrap_or}
+use Rattle.std.specs.Prelude.{if◌then◌else◌, ℕ, List, [], ◌∷◌, map, length, filter, ℤ, pos, nat_lt, unwrap_or}
 use Rattle.std.specs.List.{flat_map, enumerate_from}
 use Rattle.std.specs.declared.cmp.Ordering.{Ordering}
 use Rattle.std.specs.Ordering.{nat_cmp, int_cmp, ordering_then}
 use Rattle.std.specs.Cmp.Lexicographic.{slice_cmp}
 use Rattle.std.specs.FinMap.Entries.{put, find}
-use Rattle.ft_store.specs.declared.rows.Spot as stored
+use Rattle.ft_values.specs.declared.rows.Spot as stored
 use Rattle.ft_query.specs.Tokens.{PlainToken, tokens_of}
 use Rattle.ft_query.specs.Documents.{Posting, postings_of}
-use Rattle.ft_store.specs.Store.{Cell}
+use Rattle.ft_values.specs.Cells.{Cell}
 use Rattle.ft_content.specs.Content.{Column, Content, cell_text}
 
 -- the text of a cell that is indexed: none in a column that is not indexed ("The notindexed= option")
 abbrev pub indexed_text : Column → Cell → List ℕ
-indexed_text column cell = cond column.indexed (cell_text cell) []
+indexed_text column cell = if column.indexed then cell_text cell else []
 
 abbrev pub cell_tokens : Column → Cell → List PlainToken
 cell_tokens column cell = tokens_of (indexed_text column cell)

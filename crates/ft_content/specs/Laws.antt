@@ -1,8 +1,8 @@
--- How the index changes with one document, and laws of commands.
-use Rattle.std.specs.Prelude.{◌≡◌, ℕ, Bool, cond, not, ◌||◌, List, [], ◌∷◌, map, filter, Option, Some, None, ℤ, length, nat_lt, IsTrue}
+-- Meaning. How the index changes with one document, and laws of commands.
+use Rattle.std.specs.Prelude.{◌≡◌, ℕ, Bool, if◌then◌else◌, not, ◌||◌, List, [], ◌∷◌, map, filter, Option, Some, None, ℤ, length, nat_lt, IsTrue}
 use Rattle.std.specs.Ordering.{int_cmp, int_eq, eq_by_cmp}
 use Rattle.std.specs.FinMap.Entries.{put, find, where_key, is_sorted}
-use Rattle.ft_store.specs.Store.{Cell}
+use Rattle.ft_values.specs.Cells.{Cell}
 use Rattle.ft_content.specs.Content.{Column, Documents, Content, IsContent}
 use Rattle.ft_content.specs.Command.{Filter}
 use Rattle.ft_content.specs.Deserved.{Contents, has_docid, listed_columns, create_fault, insert_fault, update_fault}
@@ -55,13 +55,13 @@ ListsAreEntries = (es : List Entry) (term : List ℕ) (docid : ℤ) → find key
 abbrev pub PutsLists : Type 0
 PutsLists = (columns : List Column) (documents : Documents) (docid : ℤ) (cells : List Cell) → IsTrue (is_sorted int_cmp documents) → (term : List ℕ) (other : ℤ) →
     find key_cmp (term, other) (spot_lists (entries (content_with columns (put int_cmp docid cells documents))))
-    ≡ cond (int_eq docid other) (some_if_any (spots_in (term, docid) (document_entries columns (docid, cells)))) (find key_cmp (term, other) (spot_lists (entries (content_with columns documents))))
+    ≡ (if int_eq docid other then (some_if_any (spots_in (term, docid) (document_entries columns (docid, cells)))) else (find key_cmp (term, other) (spot_lists (entries (content_with columns documents)))))
 
 -- Each list after a document is dropped.
 abbrev pub DropsLists : Type 0
 DropsLists = (columns : List Column) (documents : Documents) (docid : ℤ) (term : List ℕ) (other : ℤ) →
     find key_cmp (term, other) (spot_lists (entries (content_with columns (without_docid docid documents))))
-    ≡ cond (int_eq docid other) None (find key_cmp (term, other) (spot_lists (entries (content_with columns documents))))
+    ≡ (if int_eq docid other then None else (find key_cmp (term, other) (spot_lists (entries (content_with columns documents)))))
 
 abbrev pub PutsDocuments : Type 0
 PutsDocuments = (columns : List Column) (documents : Documents) (docid : ℤ) (cells : List Cell) → IsTrue (is_sorted int_cmp documents) → PutsDocument columns documents docid cells

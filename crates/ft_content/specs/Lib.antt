@@ -1,3 +1,4 @@
+-- Meaning
 pub mod Content
 pub mod Index
 pub mod Command

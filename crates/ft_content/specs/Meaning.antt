@@ -1,5 +1,5 @@
--- What posting lists mean: documents with their postings, as a walk over the lists sees them (own choice).
-use Rattle.std.specs.Prelude.{◌≡◌, ℕ, Bool, cond, List, [], ◌∷◌, map, filter, Some, Ok, ℤ, nat_abs, length}
+-- Meaning. What posting lists mean: documents with their postings, as a walk over the lists sees them (own choice).
+use Rattle.std.specs.Prelude.{◌≡◌, ℕ, Bool, if◌then◌else◌, List, [], ◌∷◌, map, filter, Some, Ok, ℤ, nat_abs, length}
 use Rattle.std.specs.List.{flat_map}
 use Rattle.std.specs.declared.cmp.Ordering.{Ordering}
 use Rattle.std.specs.Ordering.{nat_cmp, int_cmp, int_eq, ordering_then}
@@ -8,10 +8,10 @@ use Rattle.std.specs.FinMap.Entries.{put}
 use Rattle.ft_query.specs.Trees.{Tree}
 use Rattle.ft_query.specs.Documents.{Posting, Document, AreDocuments, documents_of, PlaceList, lists_with, place_count}
 use Rattle.ft_query.specs.Occurs.{PlainHit, hits_of, offsets_of}
-use Rattle.ft_store.specs.Store.{Cell}
+use Rattle.ft_values.specs.Cells.{Cell}
 use Rattle.ft_content.specs.Content.{Content, IsContent}
 use Rattle.ft_content.specs.Index.{document_tokens, document_postings, Spot, Entry, Key, StoredSpot, index_rows}
-use Rattle.ft_content.specs.Command.{Matching}
+use Rattle.ft_content.specs.Command.{Match}
 use Rattle.ft_content.specs.Answer.{reading, chosen}
 
 -- the documents of a content, each with the tokens of its columns
@@ -48,7 +48,7 @@ posting_of e = record { term = e.term; place = record { column = e.spot.column; 
 -- entries one after another, as the documents that have them: an entry joins the document after it, if that has its docid
 abbrev pub with_entry : Entry → List Document → List Document
 with_entry e [] = record { docid = e.docid; postings = posting_of e ∷ [] } ∷ []
-with_entry e (d ∷ ds) = cond (int_eq e.docid d.docid) (record { docid = d.docid; postings = posting_of e ∷ d.postings } ∷ ds) (record { docid = e.docid; postings = posting_of e ∷ [] } ∷ d ∷ ds)
+with_entry e (d ∷ ds) = if int_eq e.docid d.docid then (record { docid = d.docid; postings = posting_of e ∷ d.postings } ∷ ds) else (record { docid = e.docid; postings = posting_of e ∷ [] } ∷ d ∷ ds)
 
 unfoldable pub grouped : List Entry → List Document
 grouped [] = []
@@ -69,7 +69,7 @@ hit_in content tree document = record { docid = document.0; offsets = offsets_of
 -- So the hits of a query over the lists are the documents that a MATCH with its text chooses, each with its offsets.
 abbrev pub HitsAreChosen : Type 0
 HitsAreChosen = (table : List ℕ) (content : Content) (name text : List ℕ) (tree : Tree) → IsContent table content → reading content name text ≡ Ok (Some tree) →
-    hits_of tree (documents_in (index_rows content).lists) ≡ map (hit_in content tree) (chosen content (Matching name text))
+    hits_of tree (documents_in (index_rows content).lists) ≡ map (hit_in content tree) (chosen content (Match name text))
 
 abbrev pub lists_of_terms : (List ℕ → Bool) → List (Key × List StoredSpot) → List (Key × List StoredSpot)
 lists_of_terms test lists = filter (λ (l : Key × List StoredSpot). test l.0.0) lists

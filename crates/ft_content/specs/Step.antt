@@ -1,19 +1,19 @@
--- One command after another.
-use Rattle.std.specs.Prelude.{ℕ, ◌+◌, cond, not, ◌&&◌, List, [], ◌∷◌, ◌++◌, map, filter, zip, Option, Some, None, Result, Ok, Err, ℤ, pos, is_some}
+-- Meaning. One command after another.
+use Rattle.std.specs.Prelude.{ℕ, ◌+◌, if◌then◌else◌, not, ◌&&◌, List, [], ◌∷◌, ◌++◌, map, filter, zip, Option, Some, None, Result, Ok, Err, ℤ, pos, is_some}
 use Rattle.std.specs.List.{list_any}
 use Rattle.std.specs.Ordering.{int_cmp, int_eq}
 use Rattle.std.specs.FinMap.Entries.{put, where_key}
-use Rattle.ft_content.specs.declared.fault.Fault.{Fault}
-use Rattle.ft_store.specs.Store.{Cell}
+use Rattle.ft_values.specs.declared.fault.Fault.{Fault}
+use Rattle.ft_values.specs.Cells.{Cell}
 use Rattle.ft_content.specs.Content.{Column, Documents, Content, same_name}
 use Rattle.ft_content.specs.Command.{Filter, Items, Command, Create, Drop, Insert, Update, Delete, Select, Rebuild, Check, Optimize, Reply, Done, Rows}
 use Rattle.ft_content.specs.Answer.{is_chosen, chosen, answer}
-use Rattle.ft_content.specs.Deserved.{Held, Sound, Stale, Loose, Table, Contents, table_named, is_notindexed, made_columns, listed_columns, docids_in, has_docid, with_values, insert_rows, deserved}
+use Rattle.ft_content.specs.Deserved.{TableState, Sound, Stale, Loose, Table, Contents, table_named, is_notindexed, made_columns, listed_columns, docids_in, has_docid, with_values, insert_rows, deserved}
 
 -- the least positive id that no table has, from n on (own choice); the tables stand by rising id
 abbrev pub free_id_from : ℕ → Contents → ℕ
 free_id_from n [] = n
-free_id_from n (t ∷ ts) = free_id_from (cond (int_eq t.0 (pos n)) (n + 1) n) ts
+free_id_from n (t ∷ ts) = free_id_from (if int_eq t.0 (pos n) then (n + 1) else n) ts
 
 -- the column of this name that a Create with these options makes
 abbrev pub made_column : List (List ℕ × List ℕ) → List ℕ → Column
@@ -23,7 +23,7 @@ abbrev pub new_table : List ℕ → List (List ℕ × List ℕ) → List (List �
 new_table name options names = record { name = name; held = Sound (record { columns = map (made_column options) names; documents = [] }) }
 
 abbrev pub created : Contents → List ℕ → List (List ℕ × List ℕ) → List (List ℕ) → Contents
-created contents name options names = cond (is_some (table_named contents name)) contents (put int_cmp (pos (free_id_from 1 contents)) (new_table name options names) contents)
+created contents name options names = if is_some (table_named contents name) then contents else put int_cmp (pos (free_id_from 1 contents)) (new_table name options names) contents
 
 abbrev pub dropped : Contents → List ℕ → Contents
 dropped contents name = filter (λ (t : ℤ × Table). not (same_name t.1.name name)) contents
@@ -49,27 +49,27 @@ moved documents (d ∷ more) (docid ∷ docids) = put int_cmp docid d.1 (without
 abbrev pub updated : Content → List (List ℕ × Cell) → Filter → Documents
 updated content sets f =
     let change : ℤ × List Cell → ℤ × List Cell = λ (d : ℤ × List Cell). (d.0, with_values sets content.columns d.1) in
-    moved (map (λ (d : ℤ × List Cell). cond (is_chosen content f d) (change d) d) content.documents) (map change (chosen content f)) (docids_in sets)
+    moved (map (λ (d : ℤ × List Cell). if is_chosen content f d then change d else d) content.documents) (map change (chosen content f)) (docids_in sets)
 
 -- the documents after a Delete
 abbrev pub deleted : Content → Filter → Documents
 deleted content f = filter (λ (d : ℤ × List Cell). not (is_chosen content f d)) content.documents
 
 -- a held content with other documents; what is not sound stays
-abbrev pub with_documents : (Content → Documents) → Held → Held
+abbrev pub with_documents : (Content → Documents) → TableState → TableState
 with_documents change (Sound content) = Sound (record content { documents = change content })
 with_documents change (Stale content) = Stale content
 with_documents change (Loose rows) = Loose rows
 
 -- Rebuild makes the index rows right ("The "rebuild" command").
-abbrev pub rebuilt : Held → Held
+abbrev pub rebuilt : TableState → TableState
 rebuilt (Sound content) = Sound content
 rebuilt (Stale content) = Sound content
 rebuilt (Loose rows) = Loose rows
 
 -- the tables after the one of this name changed
-abbrev pub on_table : Contents → List ℕ → (Held → Held) → Contents
-on_table contents name change = map (λ (t : ℤ × Table). cond (same_name t.1.name name) (t.0, record { name = t.1.name; held = change t.1.held }) t) contents
+abbrev pub on_table : Contents → List ℕ → (TableState → TableState) → Contents
+on_table contents name change = map (λ (t : ℤ × Table). if same_name t.1.name name then (t.0, record { name = t.1.name; held = change t.1.held }) else t) contents
 
 -- The contents after a command that deserves no fault. Update and Delete choose on the content as it was, and Optimize changes
 -- nothing (own choices).
@@ -84,7 +84,7 @@ after contents (Rebuild table) = on_table contents table rebuilt
 after contents (Check table) = contents
 after contents (Optimize table) = contents
 
-abbrev pub answer_of_held : List ℕ → Held → Items → Filter → Option ℕ → ℕ → Reply
+abbrev pub answer_of_held : List ℕ → TableState → Items → Filter → Option ℕ → ℕ → Reply
 answer_of_held name (Sound content) items f limit offset = Rows (answer name content items f limit offset)
 answer_of_held name (Stale content) items f limit offset = Done
 answer_of_held name (Loose rows) items f limit offset = Done
@@ -124,7 +124,7 @@ abbrev pub docid_if_any : Documents → List ℤ → List ℤ
 docid_if_any [] docids = []
 docid_if_any (d ∷ more) docids = docids
 
-abbrev pub touched_held : Held → (Content → List ℤ) → List ℤ
+abbrev pub touched_held : TableState → (Content → List ℤ) → List ℤ
 touched_held (Sound content) docids = docids content
 touched_held (Stale content) docids = []
 touched_held (Loose rows) docids = []

@@ -1,11 +1,10 @@
--- Commands, replies and tables as the definitions see them.
+-- Meaning. Commands, replies and tables as the definitions see them.
 use Rattle.std.specs.Prelude.{ℕ, ℤ, Bool, List, [], ◌∷◌, map, Option, Some, None, option_map, Result, Ok, Err, string_bytes, String, Vec}
 use Rattle.std.specs.declared.alloc.Global.{Global}
 use Rattle.std.specs.Ordering.{int_cmp}
 use Rattle.std.specs.FinMap.Entries.{put}
-use Rattle.ft_store.specs.declared.rows.Value.{Value}
-use Rattle.ft_store.specs.Store.{Cell}
-use Rattle.ft_store.specs.Changes.{shown_value}
+use Rattle.ft_values.specs.declared.rows.Value.{Value}
+use Rattle.ft_values.specs.Cells.{Cell, shown_value}
 use Rattle.ft_content.specs.declared.command.Filter.{Filter}
 use Rattle.ft_content.specs.declared.command.Filter.TheVariants as filters
 use Rattle.ft_content.specs.declared.command.Item.{Item}
@@ -17,20 +16,19 @@ use Rattle.ft_content.specs.declared.command.Command.TheVariants as commands
 use Rattle.ft_content.specs.declared.command.Grid.{Grid}
 use Rattle.ft_content.specs.declared.command.Reply.{Reply}
 use Rattle.ft_content.specs.declared.command.Reply.TheVariants as replies
-use Rattle.ft_content.specs.declared.fault.Fault.{Fault}
-use Rattle.ft_content.specs.declared.fault.Fault.TheVariants as faults
-use Rattle.ft_store.specs.declared.fault.StoreFault.{StoreFault}
-use Rattle.ft_store.specs.declared.fault.StoreFault.TheVariants as stores
-use Rattle.ft_content.specs.declared.table.Column.{Column}
-use Rattle.ft_content.specs.declared.table.TableInfo.{TableInfo}
+use Rattle.ft_values.specs.declared.fault.Fault.{Fault}
+use Rattle.ft_values.specs.declared.fault.Fault.TheVariants as faults
+use Rattle.ft_values.specs.declared.table.Column.{Column}
+use Rattle.ft_values.specs.declared.table.TableInfo.{TableInfo as RustTableInfo}
+pub use Rattle.ft_values.specs.Names.{info_names, info_ids}
 use Rattle.ft_content.specs.Content as content
 use Rattle.ft_content.specs.Command as plain
 use Rattle.ft_content.specs.Deserved.{Contents}
 
 abbrev pub filter_of : Filter → plain.Filter
-filter_of filters.All = plain.Everything
-filter_of (filters.Docid docid) = plain.OfDocid docid
-filter_of (filters.Match name query) = plain.Matching (string_bytes name) (string_bytes query)
+filter_of filters.All = plain.All
+filter_of (filters.Docid docid) = plain.Docid docid
+filter_of (filters.Match name query) = plain.Match (string_bytes name) (string_bytes query)
 
 abbrev pub item_of : Item → plain.Item
 item_of item.All = plain.AllColumns
@@ -79,11 +77,6 @@ abbrev pub answer_of : Result Reply Fault → Result plain.Reply Fault
 answer_of (Ok reply) = Ok (reply_of reply)
 answer_of (Err fault) = Err fault
 
--- what a call answers where the store refused a read for this reason (own choice)
-abbrev pub fault_of_read : StoreFault → Fault
-fault_of_read stores.Memory = faults.Memory
-fault_of_read _ = faults.Store
-
 abbrev pub column_of : Column → content.Column
 column_of c = record { name = string_bytes c.name; indexed = c.indexed }
 
@@ -109,18 +102,12 @@ table_names contents = map (λ t. t.1.name) contents
 abbrev pub table_ids : Contents → List ℤ
 table_ids contents = map (λ t. t.0) contents
 
-abbrev pub info_names : List TableInfo → List (List ℕ)
-info_names tables = map (λ t. string_bytes t.name) tables
-
-abbrev pub info_ids : List TableInfo → List ℤ
-info_ids tables = map (λ t. t.id) tables
-
 -- what is known of a table without its rows
-pub record KnownTable : Type 0 where
+pub record TableInfo : Type 0 where
   pub id : ℤ
   pub name : List ℕ
   pub columns : List content.Column
   pub sound : Bool
 
-abbrev pub known_info : TableInfo → KnownTable
-known_info info = record { id = info.id; name = string_bytes info.name; columns = map column_of info.columns.items; sound = info.sound }
+abbrev pub shown_info : RustTableInfo → TableInfo
+shown_info info = record { id = info.id; name = string_bytes info.name; columns = map column_of info.columns.items; sound = info.sound }

@@ -7,8 +7,8 @@ ghost use Rattle.ft_content.specs.Deserved as deserved;
 ghost use Rattle.ft_content.specs.Views.{bare_content, filter_of, names_in};
 
 use crate::command::Filter;
-use crate::names::{is_docid, same_name};
-use crate::table::Column;
+use crate::names::is_docid;
+use ft_values::{Column, same_name};
 use std::alloc::{AllocError, Global};
 
 /// The place of the column of this name, if there is one.

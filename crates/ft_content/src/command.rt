@@ -1,5 +1,5 @@
 // Commands on full-text tables and their replies.
-use ft_store::Value;
+use ft_values::Value;
 
 /// Which documents are meant.
 #[derive(Debug, Drop)]

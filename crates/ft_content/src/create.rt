@@ -9,10 +9,8 @@ ghost use Rattle.ft_content.specs.Deserved.{Contents, Table};
 ghost use Rattle.ft_content.specs.Step as step;
 ghost use Rattle.ft_content.specs.Views.{option_of, column_of, table_names, table_ids, info_names, info_ids};
 
-use crate::fault::Fault;
-use crate::names::{are_names, has_name, is_name, names_clash, same_name};
-use crate::table::{Column, TableInfo};
-use crate::tables::has_table;
+use crate::names::{are_names, has_name, is_name, names_clash};
+use ft_values::{Column, Fault, TableInfo, has_table, same_name};
 use std::alloc::{AllocError, Global};
 
 /// The names of the columns that a Create makes: those given, or `content` where there are none.

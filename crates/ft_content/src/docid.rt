@@ -2,13 +2,13 @@
 ghost use Rattle.std.specs.Prelude.{◌≡◌, ℤ, List, slice_get, IfSome, IsTrue};
 ghost use Rattle.std.specs.Ordering.{int_cmp};
 ghost use Rattle.std.specs.FinMap.Entries.{put, is_sorted};
-ghost use Rattle.ft_store.specs.Store.{Cell};
+ghost use Rattle.ft_values.specs.Cells.{Cell};
 ghost use Rattle.ft_content.specs.Content.{Documents};
 ghost use Rattle.ft_content.specs.Deserved as deserved;
 ghost use Rattle.ft_content.specs.Step as step;
 ghost use Rattle.ft_content.specs.Views.{last_docid, placed};
 
-use crate::fault::Fault;
+use ft_values::Fault;
 
 // The docid of a document that is given none, where this is the last one's: one more, or 1 where there is no document.
 // There is none behind the largest of all.

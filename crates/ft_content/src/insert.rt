@@ -1,18 +1,16 @@
 // What an Insert makes of its rows, and the tests that refuse them.
-ghost use Rattle.std.specs.Prelude.{◌≡◌, ◌∷◌, ◌&&◌, ◌==◌, [], cond, not, nat_lt, map, length, zip, find, slice_get, option_map, string_bytes, IfOk};
+ghost use Rattle.std.specs.Prelude.{◌≡◌, ◌∷◌, ◌&&◌, ◌==◌, [], if◌then◌else◌, not, nat_lt, map, length, zip, find, slice_get, option_map, string_bytes, IfOk};
 ghost use Rattle.std.specs.List.{list_any, list_all};
-ghost use Rattle.ft_store.specs.Changes.{shown_value};
-ghost use Rattle.ft_store.specs.Store as store;
+ghost use Rattle.ft_values.specs.Cells.{shown_value};
+ghost use Rattle.ft_values.specs.Cells as stored;
 ghost use Rattle.ft_content.specs.Content as content;
 ghost use Rattle.ft_content.specs.Deserved as deserved;
 ghost use Rattle.ft_content.specs.Views.{bare_content, cells_of, column_of};
 
 use crate::columns::has_column;
-use crate::fault::Fault;
-use crate::names::{is_docid, same_name};
-use crate::table::Column;
+use crate::names::is_docid;
 use crate::value::{copied_value, docid_under, has_nul, is_text, is_too_long};
-use ft_store::Value;
+use ft_values::{Column, Fault, Value, same_name};
 use std::alloc::{AllocError, Global};
 
 /// The names that the values of an Insert stand under: those given, or the columns'.
@@ -184,7 +182,7 @@ fn cell_under(
     row: &[Value],
     column: &Column,
 ) -> Result<Value, AllocError>
-    ensures { IfOk result (λ cell. shown_value cell ≡ deserved.value_under (zip (map (λ n. n.now) names.now) (map shown_value row.now)) (column_of column.now) store.Null) }
+    ensures { IfOk result (λ cell. shown_value cell ≡ deserved.value_under (zip (map (λ n. n.now) names.now) (map shown_value row.now)) (column_of column.now) stored.Null) }
 {
     match value_under(names, row, column.name.as_str()) {
         Some(value) => copied_value(alloc, value),

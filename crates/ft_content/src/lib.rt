@@ -5,15 +5,12 @@ mod columns;
 mod command;
 mod create;
 mod docid;
-mod fault;
 mod insert;
 mod laws;
 mod limit;
 mod names;
 mod query;
 mod select;
-mod table;
-mod tables;
 mod update;
 mod value;
 
@@ -21,8 +18,7 @@ pub use columns::has_column;
 pub use command::{Command, Filter, Grid, Item, Items, Reply};
 pub use create::{create_fault, free_id, made_columns, made_names};
 pub use docid::{docid_for_row, last_docid_after, moves_fault};
-pub use fault::Fault;
-pub use ft_store::Value;
+pub use ft_values::{Column, Fault, TableInfo, Value};
 pub use insert::{insert_tests, listed_names, new_cells, row_docid};
 pub use laws::{
     commands_in_pieces, commands_keep_contents, index_by_document, lists_mean_documents,
@@ -31,7 +27,6 @@ pub use laws::{
 pub use limit::cut;
 pub use names::{are_names, is_docid, names_clash, repeats_name};
 pub use query::read_query;
-pub use select::{answer_names, count_rows, delete_tests, item_row, select_tests};
-pub use table::{Column, TableInfo};
+pub use select::{answer_names, any_offsets, count_rows, delete_tests, item_row, select_tests};
 pub use update::{repeats_set, set_docid, update_tests, with_values};
 pub use value::{has_nul, is_too_long};

@@ -3,12 +3,7 @@ ghost use Rattle.std.specs.Prelude.{◌≡◌, map, string_bytes};
 ghost use Rattle.std.specs.List.{list_any, list_all};
 ghost use Rattle.ft_content.specs.Content as content;
 
-/// Whether two names are the same.
-pub(crate) fn same_name(name: &str, other: &str) -> bool
-    ensures { result ≡ content.same_name name.now other.now }
-{
-    name.eq_ignore_ascii_case(other)
-}
+use ft_values::same_name;
 
 /// Whether a name is one of the two of the docid.
 pub fn is_docid(name: &str) -> bool

@@ -1,17 +1,27 @@
 // MATCH texts as queries over a table's columns.
-ghost use Rattle.std.specs.Prelude.{◌≡◌, ◌≢◌, map, option_map, string_bytes, Ok, IfOk, IfErr, OnOk, None, Some};
+ghost use Rattle.std.specs.Prelude.{◌≡◌, ◌≢◌, map, option_map, string_bytes, Ok, Err, IfOk, IfErr, OnOk, None, Some};
 ghost use Rattle.ft_query.specs.Trees.{tree_of};
 ghost use Rattle.ft_content.specs.Content.{names_of};
-ghost use Rattle.ft_content.specs.Command.{Matching};
+ghost use Rattle.ft_content.specs.Command.{Match};
 ghost use Rattle.ft_content.specs.Answer.{reading};
-ghost use Rattle.ft_content.specs.Deserved.{query_fault};
+ghost use Rattle.ft_content.specs.Deserved.{query_fault, reading_fault};
 ghost use Rattle.ft_content.specs.Views.{bare_content};
 
 use crate::columns::{column_place, push_names};
-use crate::fault::Fault;
-use crate::table::Column;
-use ft_query::{Query, parse};
+use ft_query::{Query, QueryFault, parse};
+use ft_values::{Column, Fault};
 use std::alloc::{AllocError, Global};
+
+// The fault of a command whose text the parser refuses.
+fn fault_of(fault: QueryFault) -> Fault
+    ensures { reading_fault (Err fault) ≡ Some result }
+{
+    match fault {
+        QueryFault::Malformed => Fault::Malformed,
+        QueryFault::TooLarge => Fault::TooLarge,
+        QueryFault::Memory => Fault::Memory,
+    }
+}
 
 fn named_columns(alloc: Global, columns: &[Column]) -> Result<Vec<String>, AllocError>
     ensures { IfOk result (λ names. map string_bytes names.items ≡ names_of (bare_content columns.now).columns) }
@@ -34,10 +44,13 @@ pub fn read_query(
     text: &str,
 ) -> Result<Option<Query>, Fault>
     ensures query { IfOk result (λ query. reading (bare_content columns.now) name.now text.now ≡ Ok (option_map tree_of query)) }
-    ensures fine { OnOk result (query_fault (bare_content columns.now) (Matching name.now text.now) ≡ None) }
-    ensures fault { IfErr result (λ fault. fault ≢ Fault.Memory → query_fault (bare_content columns.now) (Matching name.now text.now) ≡ Some fault) }
+    ensures fine { OnOk result (query_fault (bare_content columns.now) (Match name.now text.now) ≡ None) }
+    ensures fault { IfErr result (λ fault. fault ≢ Fault.Memory → query_fault (bare_content columns.now) (Match name.now text.now) ≡ Some fault) }
 {
     let names = named_columns(alloc, columns)?;
     let default = column_place(columns, name);
-    Ok(parse(alloc, text, names.as_slice(), default)?)
+    match parse(alloc, text, names.as_slice(), default) {
+        Ok(query) => Ok(query),
+        Err(fault) => Err(fault_of(fault)),
+    }
 }

@@ -2,8 +2,8 @@
 ghost use Rattle.std.specs.Prelude.{◌≡◌, ◌∷◌, ◌++◌, ◌&&◌, ◌||◌, [], false, not, Option, map, codes, slice_get, unwrap_or, string_bytes, IfOk, OnOk};
 ghost use Rattle.std.specs.List.{list_any, flat_map};
 ghost use Rattle.ft_query.specs.Trees.{Tree};
-ghost use Rattle.ft_store.specs.Store as store;
-ghost use Rattle.ft_store.specs.Changes.{shown_value};
+ghost use Rattle.ft_values.specs.Cells as stored;
+ghost use Rattle.ft_values.specs.Cells.{shown_value};
 ghost use Rattle.ft_content.specs.Content.{names_of};
 ghost use Rattle.ft_content.specs.Answer as answer;
 ghost use Rattle.ft_content.specs.Deserved as deserved;
@@ -11,11 +11,9 @@ ghost use Rattle.ft_content.specs.Views.{bare_content, cells_of, names_in, rows_
 
 use crate::columns::{column_place, has_column, names_unknown, push_names};
 use crate::command::{Filter, Item, Items};
-use crate::fault::Fault;
-use crate::names::{is_docid, same_name};
-use crate::table::Column;
+use crate::names::is_docid;
 use crate::value::copied_value;
-use ft_store::Value;
+use ft_values::{Column, Fault, Value, same_name};
 use std::alloc::{AllocError, Global};
 
 fn is_match(filter: &Filter) -> bool
@@ -46,7 +44,8 @@ fn any_unknown(table: &str, columns: &[Column], items: &[Item]) -> bool
     items.iter().any(|item| item_unknown(table, columns, item))
 }
 
-fn any_offsets(items: &[Item]) -> bool
+/// Whether offsets are among the items.
+pub fn any_offsets(items: &[Item]) -> bool
     ensures { result ≡ list_any deserved.is_offsets (map item_of items.now) }
 {
     items.iter().any(|item| is_offsets(item))
@@ -207,7 +206,7 @@ fn named_cell(
 }
 
 fn cell_at(alloc: Global, cells: &[Value], place: usize) -> Result<Value, AllocError>
-    ensures { IfOk result (λ cell. shown_value cell ≡ unwrap_or (slice_get (map shown_value cells.now) place) store.Null) }
+    ensures { IfOk result (λ cell. shown_value cell ≡ unwrap_or (slice_get (map shown_value cells.now) place) stored.Null) }
 {
     match cells.get(place) {
         Some(cell) => copied_value(alloc, cell),
@@ -233,7 +232,7 @@ fn push_item(
     cells: &[Value],
     offsets: &str,
 ) -> Result<(), AllocError>
-    ensures { OnOk result (cells_of row.new ≡ cells_of row.old ++ answer.cells_with (store.Text offsets.now) (bare_content columns.now) (docid, map shown_value cells.now) (item_of item.now)) }
+    ensures { OnOk result (cells_of row.new ≡ cells_of row.old ++ answer.cells_with (stored.Text offsets.now) (bare_content columns.now) (docid, map shown_value cells.now) (item_of item.now)) }
 {
     match item {
         Item::All => push_cells(alloc, row, cells)?,
@@ -254,11 +253,11 @@ pub fn item_row(
     cells: &[Value],
     offsets: &str,
 ) -> Result<Vec<Value>, AllocError>
-    ensures asked { (query : Option Tree) → answer.offsets_cell query (bare_content columns.now) (docid, map shown_value cells.now) ≡ store.Text offsets.now →
+    ensures asked { (query : Option Tree) → answer.offsets_cell query (bare_content columns.now) (docid, map shown_value cells.now) ≡ stored.Text offsets.now →
         IfOk result (λ row. cells_of row ≡ flat_map (answer.item_cells query (bare_content columns.now) (docid, map shown_value cells.now)) (map item_of items.now)) }
     ensures unasked { (query : Option Tree) → list_any deserved.is_offsets (map item_of items.now) ≡ false →
         IfOk result (λ row. cells_of row ≡ flat_map (answer.item_cells query (bare_content columns.now) (docid, map shown_value cells.now)) (map item_of items.now)) }
-    ensures given { IfOk result (λ row. cells_of row ≡ flat_map (answer.cells_with (store.Text offsets.now) (bare_content columns.now) (docid, map shown_value cells.now)) (map item_of items.now)) }
+    ensures given { IfOk result (λ row. cells_of row ≡ flat_map (answer.cells_with (stored.Text offsets.now) (bare_content columns.now) (docid, map shown_value cells.now)) (map item_of items.now)) }
 {
     let mut row = Vec::new(alloc);
     for item in items {
@@ -274,7 +273,7 @@ pub fn count_rows(
     limit: Option<u64>,
     offset: u64,
 ) -> Result<Vec<Vec<Value>>, AllocError>
-    ensures { IfOk result (λ rows. rows_of rows ≡ answer.cut limit offset ((store.Int count ∷ []) ∷ [])) }
+    ensures { IfOk result (λ rows. rows_of rows ≡ answer.cut limit offset ((stored.Int count ∷ []) ∷ [])) }
 {
     let mut rows = Vec::new(alloc);
     if offset == 0 && limit != Some(0) {

@@ -1,18 +1,16 @@
 // What an Update makes of a document, and the tests that refuse it.
 ghost use Rattle.std.specs.Prelude.{◌≡◌, ◌&&◌, ◌||◌, not, map, find, length, slice_get, option_map, string_bytes, IfOk};
 ghost use Rattle.std.specs.List.{list_any, list_all};
-ghost use Rattle.ft_store.specs.Changes.{shown_value};
+ghost use Rattle.ft_values.specs.Cells.{shown_value};
 ghost use Rattle.ft_content.specs.Content as content;
 ghost use Rattle.ft_content.specs.Deserved as deserved;
 ghost use Rattle.ft_content.specs.Views.{bare_content, cells_of, column_of, set_of, filter_of};
 
 use crate::columns::{has_column, names_unknown};
 use crate::command::Filter;
-use crate::fault::Fault;
-use crate::names::{is_docid, same_name};
-use crate::table::Column;
+use crate::names::is_docid;
 use crate::value::{copied_value, docid_under, has_nul, is_null, is_text, is_too_long};
-use ft_store::Value;
+use ft_values::{Column, Fault, Value, same_name};
 use std::alloc::{AllocError, Global};
 
 // Whether one of these values stands under this name.

@@ -1,11 +1,11 @@
 // Values of cells.
-ghost use Rattle.std.specs.Prelude.{◌≡◌, [], cond, slice_get, IfOk};
-ghost use Rattle.ft_store.specs.Changes.{shown_value};
+ghost use Rattle.std.specs.Prelude.{◌≡◌, [], if◌then◌else◌, slice_get, IfOk};
+ghost use Rattle.ft_values.specs.Cells.{shown_value};
 ghost use Rattle.ft_content.specs.Content as content;
 ghost use Rattle.ft_content.specs.Deserved as deserved;
 
 use crate::names::is_docid;
-use ft_store::Value;
+use ft_values::Value;
 use std::alloc::{AllocError, Global};
 
 /// A copy of a value.
@@ -53,7 +53,7 @@ pub fn has_nul(value: &Value) -> bool
 
 // The docid that a value gives under this name, if it gives one.
 pub(crate) fn docid_under(name: &str, value: &Value) -> Option<i64>
-    ensures { result ≡ slice_get (cond (content.is_docid name.now) (deserved.number_of (shown_value value.now)) []) 0 }
+    ensures { result ≡ slice_get (if content.is_docid name.now then deserved.number_of (shown_value value.now) else []) 0 }
 {
     match value {
         Value::Int(number) if is_docid(name) => Some(*number),

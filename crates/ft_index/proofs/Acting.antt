@@ -10,13 +10,13 @@ use Rattle.ft_store.specs.Rows.{value_of as value_in_trees}
 use Rattle.ft_store.specs.Store.{Change, all_applied}
 use Rattle.ft_store.specs.Changes.{shown_change}
 use Rattle.ft_store.specs.Kept.{StoreState, shows, value_in}
-use Rattle.ft_store.specs.declared.rows.RowChange.{RowChange}
-use Rattle.ft_content.specs.declared.fault.Fault.{Fault}
-use Rattle.ft_content.specs.declared.fault.Fault.TheVariants as faults
+use Rattle.ft_values.specs.declared.rows.RowChange.{RowChange}
+use Rattle.ft_values.specs.declared.fault.Fault.{Fault}
+use Rattle.ft_values.specs.declared.fault.Fault.TheVariants as faults
 use Rattle.ft_content.specs.Content.{Content, Documents, same_name}
 use Rattle.ft_content.specs.Command.{Command, Reply, Done}
-use Rattle.ft_content.specs.Views.{KnownTable}
-use Rattle.ft_content.specs.Deserved.{Held, Sound, Stale, Loose, Table, Contents, deserved}
+use Rattle.ft_content.specs.Views.{TableInfo}
+use Rattle.ft_content.specs.Deserved.{TableState, Sound, Stale, Loose, Table, Contents, deserved}
 use Rattle.ft_content.specs.Step.{after, reply_to, with_documents, on_table}
 use Rattle.ft_index.specs.DocumentsRead.{Looks}
 use Rattle.ft_index.specs.Kept.{IsUp, AreHeld, PlansFrom, Executes, Answers, is_outside, told_table}
@@ -28,7 +28,7 @@ use Rattle.ft_index.proofs.Executing.{done_answers, executes_refused}
 
 -- ---- the tables that are told stay
 
-same_told : (t : ℤ × Table) (change : Content → Documents) (held : Held) → t.1.held ≡ held → told_table (t.0, record { name = t.1.name; held = with_documents change held }) ≡ told_table (t.0, record { name = t.1.name; held = held })
+same_told : (t : ℤ × Table) (change : Content → Documents) (held : TableState) → t.1.held ≡ held → told_table (t.0, record { name = t.1.name; held = with_documents change held }) ≡ told_table (t.0, record { name = t.1.name; held = held })
 same_told t change (Sound content) is = refl
 same_told t change (Stale content) is = refl
 same_told t change (Loose rows) is = refl
@@ -41,12 +41,12 @@ told_written name change (t ∷ ts) = λ i. here i ∷ told_written name change 
     here = elim (same_name t.1.name name) as (λ b. told_table (cond b (t.0, record { name = t.1.name; held = with_documents change t.1.held }) t) ≡ told_table t) [ true ↦ same_told t change t.1.held refl | false ↦ refl ]
 
 module _ {S : Type 0} (g : Ghosts S) where
-  pub looks_up : (old new : StoreState S) (tables others : List KnownTable) → Looks g old new → IsUp g (with_tables new tables) → IsUp g (with_tables old others)
+  pub looks_up : (old new : StoreState S) (tables others : List TableInfo) → Looks g old new → IsUp g (with_tables new tables) → IsUp g (with_tables old others)
   looks_up old new tables others looks up =
       let c : doubt (shows g new).is_clean ≡ 0 = up.clean in
       record { clean = omega (arith, c, looks.survives.clean); is_open = (looks.kept up.clean up.is_open).2 }
 
-  pub looks_same : (old new : StoreState S) (tables : List KnownTable) → Looks g old new → IsUp g (with_tables new tables) → value_in g new ≡ value_in g old
+  pub looks_same : (old new : StoreState S) (tables : List TableInfo) → Looks g old new → IsUp g (with_tables new tables) → value_in g new ≡ value_in g old
   looks_same old new tables looks up = ap (λ (d : Database). value_in_trees d.trees) (looks.kept up.clean up.is_open).0
 
   -- reads and then a change are a change
@@ -57,7 +57,7 @@ module _ {S : Type 0} (g : Ghosts S) where
   }
 
   -- a command that only reads
-  pub executes_read : (old new : StoreState S) (tables : List KnownTable) (command : Command) (answer : Result Reply Fault) → Looks g old new →
+  pub executes_read : (old new : StoreState S) (tables : List TableInfo) (command : Command) (answer : Result Reply Fault) → Looks g old new →
       (IsUp g (with_tables new tables) → (first : Contents) → AreHeld (value_in g old) tables first → Answers first command answer first) → Executes g (with_tables old tables) command answer (with_tables new tables)
   executes_read old new tables command answer looks answers = record {
     was_up = λ up. looks_up old new tables tables looks up;
@@ -67,7 +67,7 @@ module _ {S : Type 0} (g : Ghosts S) where
   }
 
   -- a plan that is refused
-  pub executes_failed : (old new : StoreState S) (tables : List KnownTable) (command : Command) (fault : Fault) → Looks g old new → PlansIn g tables old new command (Err fault) → Executes g (with_tables old tables) command (Err fault) (with_tables new tables)
+  pub executes_failed : (old new : StoreState S) (tables : List TableInfo) (command : Command) (fault : Fault) → Looks g old new → PlansIn g tables old new command (Err fault) → Executes g (with_tables old tables) command (Err fault) (with_tables new tables)
   executes_failed old new tables command fault looks plans = executes_read old new tables command (Err fault) looks (λ up first held. due first (plans up first held))
     where
       due : (first : Contents) → IsTrue (is_outside (Err fault)) ⊎ (deserved first command ≡ Some fault) → Answers first command (Err fault) first
@@ -75,12 +75,12 @@ module _ {S : Type 0} (g : Ghosts S) where
       due first (inr is) = inr (refused_answers first command fault is)
 
   -- a plan that the store refuses to carry out
-  pub executes_undone : (old mid new : StoreState S) (tables : List KnownTable) (changes : List Change) (command : Command) (fault : Fault) → (fault ≡ faults.Store) ⊎ (fault ≡ faults.Memory) → Looks g old mid → Changed g mid new changes false →
+  pub executes_undone : (old mid new : StoreState S) (tables : List TableInfo) (changes : List Change) (command : Command) (fault : Fault) → (fault ≡ faults.Store) ⊎ (fault ≡ faults.Memory) → Looks g old mid → Changed g mid new changes false →
       Executes g (with_tables old tables) command (Err fault) (with_tables new tables)
   executes_undone old mid new tables changes command fault outside looks changed = executes_refused g old new tables changes command fault outside (then_changed old mid new changes false looks changed)
 
   -- a plan that is carried out, and leaves the tables that are told
-  pub executes_written : (old mid new : StoreState S) (tables : List KnownTable) (changes : Vec RowChange Global) (command : Command) (name : List ℕ) (change : Content → Documents) →
+  pub executes_written : (old mid new : StoreState S) (tables : List TableInfo) (changes : Vec RowChange Global) (command : Command) (name : List ℕ) (change : Content → Documents) →
       ((contents : Contents) → after contents command ≡ on_table contents name (with_documents change)) → ((contents : Contents) → reply_to contents command ≡ Done) → Looks g old mid → PlansIn g tables old mid command (Ok changes) → Changed g mid new (map shown_change changes.items) true → Executes g (with_tables old tables) command (Ok Done) (with_tables new tables)
   executes_written old mid new tables changes command name change leaves replies looks plans changed = record {
     was_up = λ up. all.was_up tables tables up;

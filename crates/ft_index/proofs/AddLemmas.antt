@@ -10,7 +10,8 @@ use Rattle.std.specs.FinMap.Entries.{put, find, by_order, where_key, below_all, 
 use Rattle.std.proofs.lemmas.Int.{ints}
 use Rattle.std.proofs.lemmas.Bool.{and_parts, and_from}
 use Rattle.std.proofs.lemmas.Map.Lookups.{CmpEqualImpliesEq}
-use Rattle.ft_store.specs.Store.{StoreValue, AreInOrder, Cell, CellKey, ListKey, ColumnKey, column_key_cmp, AddTable, applied, without_rows, with_columns, with_skipped}
+use Rattle.ft_values.specs.Cells.{Cell}
+use Rattle.ft_store.specs.Store.{StoreValue, AreInOrder, CellKey, ListKey, ColumnKey, column_key_cmp, AddTable, applied, without_rows, with_columns, with_skipped}
 use Rattle.ft_content.specs.Content.{Column, names_of, skipped_from, content_rows}
 use Rattle.ft_content.specs.Index.{StoredSpot, index_rows, entries, sizes, spot_lists}
 use Rattle.ft_index.specs.Tables.{table_rows, table_index}

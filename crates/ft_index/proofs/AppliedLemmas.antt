@@ -5,7 +5,8 @@ use Rattle.std.specs.Ordering.{int_cmp, int_eq}
 use Rattle.std.specs.FinMap.Entries.{put, where_key, is_sorted, is_sorted-where_key}
 use Rattle.std.proofs.lemmas.List.{map-append}
 use Rattle.std.proofs.lemmas.Simd.{map-map}
-use Rattle.ft_store.specs.Store.{Cell, StoreValue, CellKey, cell_key_cmp, list_key_cmp, column_key_cmp, without_key, Change, PutCell, DropCells, all_applied}
+use Rattle.ft_values.specs.Cells.{Cell}
+use Rattle.ft_store.specs.Store.{StoreValue, CellKey, cell_key_cmp, list_key_cmp, column_key_cmp, without_key, Change, PutCell, DropCells, all_applied}
 use Rattle.ft_content.specs.Index.{Key, StoredSpot}
 use Rattle.ft_index.specs.Rewrite.{Rewrite, by_docid}
 use Rattle.ft_index.specs.RewriteRows.{all_put, same_cell, changed, numbered, goes, dropped_documents, put_documents, dropped_lists, put_lists, dropped_sizes, put_sizes}

@@ -18,7 +18,7 @@ use Rattle.sqlite_keyed.proofs.SortLemmas.{sorted_unique}
 use Rattle.ft_query.specs.declared.lists.Place.{Place}
 use Rattle.ft_query.specs.Documents.{Posting, Document, IsBefore, AreDocuments, PlaceList, is_filled, has_places, places_with, lists_with, place_count}
 use Rattle.ft_store.specs.Store.{ListKey, list_key_cmp}
-use Rattle.ft_store.specs.declared.rows.EntryRow.{EntryRow}
+use Rattle.ft_values.specs.declared.rows.EntryRow.{EntryRow}
 use Rattle.ft_store.specs.Shown.{entries_of}
 use Rattle.ft_store.proofs.SelectLemmas.{filter_passes}
 use Rattle.ft_content.specs.Index.{Entry, Key, StoredSpot}

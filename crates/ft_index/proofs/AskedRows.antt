@@ -2,9 +2,9 @@
 -- Function"; the searches are own examples.
 use Rattle.std.specs.Prelude.{◌≡◌, ℕ, true, List, [], ◌∷◌, Option, Some, None, pos, codes, refl}
 use Rattle.ft_query.specs.Reads.{query_of}
-use Rattle.ft_store.specs.Store.{Text}
+use Rattle.ft_values.specs.Cells.{Text}
 use Rattle.ft_content.specs.Content.{Content}
-use Rattle.ft_content.specs.Command.{Matching, AllColumns, Named, OffsetsOf, Items, Counted, Listed}
+use Rattle.ft_content.specs.Command.{Match, AllColumns, Named, OffsetsOf, Items, Counted, Listed}
 use Rattle.ft_content.specs.Answer.{reading, chosen}
 use Rattle.ft_index.specs.RowsRead.{rows_asked}
 
@@ -18,7 +18,7 @@ mail = record {
 
 -- SELECT .. FROM mail WHERE mail MATCH .. LIMIT .. OFFSET ..
 abbrev search : Items → List ℕ → Option ℕ → ℕ → ℕ
-search items text limit offset = rows_asked mail items (Matching (codes "mail") text) limit offset
+search items text limit offset = rows_asked mail items (Match (codes "mail") text) limit offset
 
 abbrev docid : Items
 docid = Listed (Named (codes "docid") ∷ [])

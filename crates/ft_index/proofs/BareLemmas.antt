@@ -1,9 +1,9 @@
 -- Tests of a filter look at the columns of a content alone.
 use Rattle.std.proofs.Common.{◌≡◌, ℕ, List, [], map, Option, refl, ap, ◌∙◌}
 use Rattle.ft_query.specs.Trees.{Tree}
-use Rattle.ft_content.specs.declared.table.Column as source
+use Rattle.ft_values.specs.declared.table.Column as source
 use Rattle.ft_content.specs.Content.{Column, Content}
-use Rattle.ft_content.specs.Command.{Filter, Everything, OfDocid, Matching}
+use Rattle.ft_content.specs.Command.{Filter, All, Docid, Match}
 use Rattle.ft_content.specs.Answer.{reading}
 use Rattle.ft_content.specs.Deserved.{names_unknown, query_fault, reading_fault}
 use Rattle.ft_content.specs.Views.{bare_content, column_of}
@@ -17,14 +17,14 @@ unfolding reading
 reading_of content name text = refl
 
 unknown_of : (table : List ℕ) (content : Content) (f : Filter) → names_unknown table content f ≡ names_unknown table (bare content.columns) f
-unknown_of table content Everything = refl
-unknown_of table content (OfDocid docid) = refl
-unknown_of table content (Matching name text) = refl
+unknown_of table content All = refl
+unknown_of table content (Docid docid) = refl
+unknown_of table content (Match name text) = refl
 
 fault_of : (content : Content) (f : Filter) → query_fault content f ≡ query_fault (bare content.columns) f
-fault_of content Everything = refl
-fault_of content (OfDocid docid) = refl
-fault_of content (Matching name text) = ap reading_fault (reading_of content name text)
+fault_of content All = refl
+fault_of content (Docid docid) = refl
+fault_of content (Match name text) = ap reading_fault (reading_of content name text)
 
 module _ (content : Content) (cols : List source.Column) (columns_are : content.columns ≡ map column_of cols) (f : Filter) where
   pub unknown_bare : (table : List ℕ) → names_unknown table content f ≡ names_unknown table (bare_content cols) f
@@ -34,6 +34,6 @@ module _ (content : Content) (cols : List source.Column) (columns_are : content.
   fault_bare = fault_of content f ∙ ap (λ cs. query_fault (bare cs) f) columns_are
 
 pub reads_bare : (content : Content) (cols : List source.Column) (columns_are : content.columns ≡ map column_of cols) (f : Filter) (query : Option Tree) → ReadsAs (bare_content cols) f query → ReadsAs content f query
-reads_bare content cols columns_are Everything query h = tt
-reads_bare content cols columns_are (OfDocid docid) query h = tt
-reads_bare content cols columns_are (Matching name text) query h = reading_of content name text ∙ ap (λ cs. reading (bare cs) name text) columns_are ∙ h
+reads_bare content cols columns_are All query h = tt
+reads_bare content cols columns_are (Docid docid) query h = tt
+reads_bare content cols columns_are (Match name text) query h = reading_of content name text ∙ ap (λ cs. reading (bare cs) name text) columns_are ∙ h

@@ -1,13 +1,13 @@
 -- What calls one after another leave.
 use Rattle.std.proofs.Common.{◌≡◌, ℕ, Bool, true, false, cond, List, [], ◌∷◌, Option, Some, None, Result, Ok, Err, refl, ◌⊎◌, sym, ap, subst, ◌∙◌, inl, inr}
 use Rattle.std.specs.Prelude.{IsTrue, is_ok}
-use Rattle.ft_content.specs.declared.fault.Fault.{Fault}
+use Rattle.ft_values.specs.declared.fault.Fault.{Fault}
 use Rattle.ft_content.specs.Command.{Command, Reply}
 use Rattle.ft_content.specs.Deserved.{Contents, deserved}
 use Rattle.ft_content.specs.Step.{step, step_by, after}
 use Rattle.sqlite.specs.Store.{Ghosts}
 use Rattle.ft_store.specs.Store.{applied, Note}
-use Rattle.ft_index.specs.Kept.{StoreHolds, Known, IsUp, value_of, Holds, Answers, Call, Executed, Noted, Runs, accepted, left_by, is_outside, AreAnswered, KeptByCalls}
+use Rattle.ft_index.specs.Kept.{StoreHolds, FullText, IsUp, value_of, Holds, Answers, Call, Executed, Noted, Runs, accepted, left_by, is_outside, AreAnswered, KeptByCalls}
 
 -- a step that is done leaves what comes after it, and one that is refused leaves the contents
 done : (due : Option Fault) (first mid : Contents) (command : Command) (reply : Reply) → step_by due first command ≡ (Ok reply, mid) → mid ≡ after first command
@@ -40,13 +40,13 @@ left_next first command rest (Ok reply) = refl
 left_next first command rest (Err fault) = refl
 
 -- what is up in the end was so at each call
-up_before : {S : Type 0} (g : Ghosts S) (start end : Known S) (calls : List Call) → IsUp g end → Runs g start calls end → IsUp g start
+up_before : {S : Type 0} (g : Ghosts S) (start end : FullText S) (calls : List Call) → IsUp g end → Runs g start calls end → IsUp g start
 up_before g start end [] up runs = subst (IsUp g) runs up
 up_before g start end (Executed command answer ∷ calls) up runs = runs.1.was_up (up_before g runs.0 end calls up runs.2)
 up_before g start end (Noted name is_done ∷ calls) up runs = runs.1.was_up (up_before g runs.0 end calls up runs.2)
 
 -- a note changes no table
-note_holds : {S : Type 0} (g : Ghosts S) (old new : Known S) (name : List ℕ) (is_done : Bool) (contents : Contents) →
+note_holds : {S : Type 0} (g : Ghosts S) (old new : FullText S) (name : List ℕ) (is_done : Bool) (contents : Contents) →
     value_of g new ≡ cond is_done (applied (Note name) (value_of g old)) (value_of g old) → new.tables ≡ old.tables → Holds g old contents → Holds g new contents
 note_holds g old new name is_done contents value tables h = record {
   named_once = h.named_once;

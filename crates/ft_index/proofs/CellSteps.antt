@@ -7,7 +7,8 @@ use Rattle.std.specs.Ordering.{int_cmp, is_eq}
 use Rattle.std.specs.Cmp.{int_cmp_total, tied_itself}
 use Rattle.std.specs.FinMap.Entries.{find}
 use Rattle.std.proofs.lemmas.Bool.Decides.{nat_tests}
-use Rattle.ft_store.specs.Store.{Cell, Change, PutCell}
+use Rattle.ft_values.specs.Cells.{Cell}
+use Rattle.ft_store.specs.Store.{Change, PutCell}
 use Rattle.ft_index.specs.RewriteRows.{same_cell, was_there, numbered}
 use Rattle.ft_index.proofs.Steps.{kept_more}
 

@@ -10,7 +10,8 @@ use Rattle.std.proofs.lemmas.Bool.{and_parts}
 use Rattle.std.proofs.lemmas.List.Elements.{All-head, All-tail}
 use Rattle.std.proofs.lemmas.Map.Lookups.{exact_signed}
 use Rattle.std.proofs.lemmas.Slice.Eq.{bytes_eq-Decides}
-use Rattle.ft_store.specs.Store.{Cell, Null, Int, Text, column_key_cmp}
+use Rattle.ft_values.specs.Cells.{Cell, Null, Int, Text}
+use Rattle.ft_store.specs.Store.{column_key_cmp}
 use Rattle.ft_content.specs.Content.{Documents}
 use Rattle.ft_index.specs.Rewrite.{Rewrite, by_docid, rewritten}
 use Rattle.ft_index.specs.RewriteRows.{all_put, same_cell, was_there, changed, numbered, goes}

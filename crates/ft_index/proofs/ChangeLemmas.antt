@@ -8,7 +8,7 @@ use Rattle.std.specs.Ordering.{int_eq, eq_by_cmp}
 use Rattle.std.specs.Cmp.{eq_by_cmp_equiv, int_cmp_total}
 use Rattle.std.specs.FinMap.Entries.{by_order, put}
 use Rattle.std.proofs.lemmas.Map.Lookups.{CmpEqualImpliesEq, exact_signed}
-use Rattle.ft_store.specs.Store.{Cell}
+use Rattle.ft_values.specs.Cells.{Cell}
 use Rattle.ft_content.specs.Content.{TableRows}
 use Rattle.ft_content.specs.Index.{StoredSpot, IndexRows}
 use Rattle.ft_store.specs.Store.{CellKey, ListKey, cell_key_cmp, list_key_cmp, column_key_cmp, with_columns, with_skipped, without_key, without_rows, AddTable, DropTable, PutCell, DropCells, PutEntries, DropEntries, PutSize, DropSize, ClearIndex, Note}

@@ -10,7 +10,7 @@ use Rattle.ft_store.specs.Store.{Change, Note, applied, all_applied}
 use Rattle.ft_store.specs.Rows.{value_of as value_in_trees}
 use Rattle.ft_store.specs.Calls.{Keeps}
 use Rattle.ft_store.specs.Kept.{StoreState, shows, value_in}
-use Rattle.ft_content.specs.Views.{KnownTable}
+use Rattle.ft_content.specs.Views.{TableInfo}
 use Rattle.ft_index.specs.Changed.{with_tables, Changed}
 use Rattle.ft_index.specs.Kept.{HoldsSome, StoreHolds}
 
@@ -28,7 +28,7 @@ changed g old new changes (Err e) all none live clean = record {
   value = λ tables up. ap (λ (d : Database). value_in_trees d.trees) (none up.clean up.is_open).0;
 }
 
-pub note_upheld : {S : Type 0} (g : Ghosts S) (old new : StoreState S) (tables : List KnownTable) (name : List ℕ) (is_done : Bool) → Changed g old new (Note name ∷ []) is_done → HoldsSome g (with_tables old tables) → HoldsSome g (with_tables new tables)
+pub note_upheld : {S : Type 0} (g : Ghosts S) (old new : StoreState S) (tables : List TableInfo) (name : List ℕ) (is_done : Bool) → Changed g old new (Note name ∷ []) is_done → HoldsSome g (with_tables old tables) → HoldsSome g (with_tables new tables)
 note_upheld g old new tables name is_done change some up =
     let before = some (change.was_up tables tables up) in (
       before.0,

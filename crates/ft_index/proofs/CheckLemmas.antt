@@ -10,16 +10,16 @@ use Rattle.sqlite.specs.Store.{Ghosts}
 use Rattle.ft_store.specs.Rows.{value_of}
 use Rattle.ft_store.specs.Store.{StoreValue, AreInOrder}
 use Rattle.ft_store.specs.Kept.{StoreState, value_in}
-use Rattle.ft_content.specs.declared.fault.Fault.{Fault}
-use Rattle.ft_content.specs.declared.fault.Fault.TheVariants as faults
-use Rattle.ft_content.specs.declared.table.TableInfo.{TableInfo}
+use Rattle.ft_values.specs.declared.fault.Fault.{Fault}
+use Rattle.ft_values.specs.declared.fault.Fault.TheVariants as faults
+use Rattle.ft_values.specs.declared.table.TableInfo.{TableInfo as RustTableInfo}
 use Rattle.ft_content.specs.Command.{Command, Check, Reply, Done}
-use Rattle.ft_content.specs.Views.{KnownTable, known_info}
-use Rattle.ft_content.specs.Deserved.{Held, Sound, Stale, Loose, Table, Contents, table_named, on_found, check_fault, deserved}
+use Rattle.ft_content.specs.Views.{TableInfo, shown_info}
+use Rattle.ft_content.specs.Deserved.{TableState, Sound, Stale, Loose, Table, Contents, table_named, on_found, check_fault, deserved}
 use Rattle.ft_content.specs.Step.{step, step_by, reply_to, after}
 use Rattle.ft_index.specs.Changed.{with_tables}
 use Rattle.ft_index.specs.DocumentsRead.{Looks}
-use Rattle.ft_index.specs.Found.{known_named}
+use Rattle.ft_index.specs.Found.{info_named}
 use Rattle.ft_index.specs.Kept.{IsUp, AreHeld, StoreHolds, Stands, AreSound, Holds, Executes, Answers, is_sound, told_table}
 use Rattle.ft_index.specs.Opened.{IsNamed, AreMarked}
 use Rattle.ft_index.specs.Tables.{table_rows, table_index}
@@ -31,7 +31,7 @@ use Rattle.ft_index.proofs.OpenedTables.{marked_contents}
 
 -- ---- a call that only reads
 
-pub executes_read : {S : Type 0} (g : Ghosts S) (old new : StoreState S) (tables : List KnownTable) (command : Command) (answer : Result Reply Fault) → Looks g old new →
+pub executes_read : {S : Type 0} (g : Ghosts S) (old new : StoreState S) (tables : List TableInfo) (command : Command) (answer : Result Reply Fault) → Looks g old new →
     (IsUp g (with_tables new tables) → (first : Contents) → Holds g (with_tables old tables) first → Answers first command answer first) → Executes g (with_tables old tables) command answer (with_tables new tables)
 executes_read g old new tables command answer looks answers = record {
   was_up = λ up. record { clean = (let c = up.clean in omega (arith, looks.survives.clean, c)); is_open = (looks.kept up.clean up.is_open).2 };
@@ -63,7 +63,7 @@ named_under store name t (n ∷ ns) (c ∷ cs) one held found = go (int_eq t.0 c
         ∙ rest (sym (ap (λ b. cond b (Some c) (table_named cs name)) (one.0.agrees ∙ is)) ∙ found)
 
 -- what is known of a table that is told under a name
-pub record IsTold (store : StoreValue) (contents : Contents) (name : List ℕ) (known : KnownTable) : Type 0 where
+pub record IsTold (store : StoreValue) (contents : Contents) (name : List ℕ) (known : TableInfo) : Type 0 where
   pub table : ℤ × Table
   pub found : table_named contents name ≡ Some table
   pub told : told_table table ≡ known
@@ -71,16 +71,16 @@ pub record IsTold (store : StoreValue) (contents : Contents) (name : List ℕ) (
   pub named : IsNamed store known.id (table.0, table.1.name)
   pub stands : Stands table.1.name (table_rows table.0 store) (table_index table.0 store) table.1.held
 
-pub told_here : (store : StoreValue) (tables : List KnownTable) (contents : Contents) (name : List ℕ) (known : KnownTable) → AreInOrder store → AreHeld store tables contents → known_named tables name ≡ Some known → IsTold store contents name known
+pub told_here : (store : StoreValue) (tables : List TableInfo) (contents : Contents) (name : List ℕ) (known : TableInfo) → AreInOrder store → AreHeld store tables contents → info_named tables name ≡ Some known → IsTold store contents name known
 told_here store tables contents name known order held named =
-    let it = some_named contents name known (ap (λ ts. known_named ts name) (sym held.told) ∙ named) in
+    let it = some_named contents name known (ap (λ ts. info_named ts name) (sym held.told) ∙ named) in
     let one = one_named name it.0 contents (ids_sorted store store.tables contents held.held order.tables) held.named_once it.1 in
     record {
       table = it.0;
       found = it.1;
       told = it.2;
       one = one;
-      named = ap (λ (k : KnownTable). find (λ (n : ℤ × List ℕ). int_eq k.id n.0) store.tables) (sym it.2) ∙ named_under store name it.0 store.tables contents one held.held it.1;
+      named = ap (λ (k : TableInfo). find (λ (n : ℤ × List ℕ). int_eq k.id n.0) store.tables) (sym it.2) ∙ named_under store name it.0 store.tables contents one held.held it.1;
       stands = found_stands store name it.0 store.tables contents held.held it.1;
     }
 
@@ -98,18 +98,18 @@ check_done : (contents : Contents) (name : List ℕ) → step_by None contents (
 unfolding reply_to after
 check_done contents name = refl
 
-sound_due : (name : List ℕ) (held : Held) → is_sound held ≡ true → check_fault name held ≡ None
+sound_due : (name : List ℕ) (held : TableState) → is_sound held ≡ true → check_fault name held ≡ None
 sound_due name (Sound content) h = refl
 sound_due name (Stale content) h = absurd (let no = h in cc)
 sound_due name (Loose rows) h = absurd (let no = h in cc)
 
-unsound_due : (name : List ℕ) (held : Held) → is_sound held ≡ false → check_fault name held ≡ Some faults.Corrupt
+unsound_due : (name : List ℕ) (held : TableState) → is_sound held ≡ false → check_fault name held ≡ Some faults.Corrupt
 unsound_due name (Sound content) h = absurd (let no = h in cc)
 unsound_due name (Stale content) h = refl
 unsound_due name (Loose rows) h = refl
 
-pub check_missing : (contents : Contents) (tables : List KnownTable) (name : List ℕ) → tables ≡ map told_table contents → known_named tables name ≡ None → step contents (Check name) ≡ (Err faults.NoSuchTable, contents)
-check_missing contents tables name told none = checked contents name (Some faults.NoSuchTable) (check_due contents name None (none_named contents name (ap (λ ts. known_named ts name) (sym told) ∙ none)))
+pub check_missing : (contents : Contents) (tables : List TableInfo) (name : List ℕ) → tables ≡ map told_table contents → info_named tables name ≡ None → step contents (Check name) ≡ (Err faults.NoSuchTable, contents)
+check_missing contents tables name told none = checked contents name (Some faults.NoSuchTable) (check_due contents name None (none_named contents name (ap (λ ts. info_named ts name) (sym told) ∙ none)))
 
 pub check_right : (contents : Contents) (name : List ℕ) (t : ℤ × Table) → table_named contents name ≡ Some t → is_sound t.1.held ≡ true → step contents (Check name) ≡ (Ok Done, contents)
 check_right contents name t found sound = checked contents name None (check_due contents name (Some t) found ∙ sound_due t.1.name t.1.held sound) ∙ check_done contents name
@@ -119,15 +119,15 @@ check_wrong contents name t found unsound = checked contents name (Some faults.C
 
 -- ---- whether all tables are sound
 
-sound_marks : (contents : Contents) → list_all (λ (k : KnownTable). k.sound) (map told_table contents) ≡ list_all (λ (t : ℤ × Table). is_sound t.1.held) contents
-sound_marks contents = list_all-map (λ (k : KnownTable). k.sound) told_table contents
+sound_marks : (contents : Contents) → list_all (λ (k : TableInfo). k.sound) (map told_table contents) ≡ list_all (λ (t : ℤ × Table). is_sound t.1.held) contents
+sound_marks contents = list_all-map (λ (k : TableInfo). k.sound) told_table contents
 
-pub all_are_sound : (store : StoreValue) (infos : List TableInfo) (contents : Contents) (all : Bool) → AreMarked store store.tables (map known_info infos) → StoreHolds store contents → all ≡ list_all (λ (t : TableInfo). t.sound) infos →
+pub all_are_sound : (store : StoreValue) (infos : List RustTableInfo) (contents : Contents) (all : Bool) → AreMarked store store.tables (map shown_info infos) → StoreHolds store contents → all ≡ list_all (λ (t : RustTableInfo). t.sound) infos →
     (IsTrue all → AreSound contents) × (AreSound contents → IsTrue all)
 all_are_sound store infos contents all marked held is =
-    let found = marked_contents store (map known_info infos) marked in
-    let told : map known_info infos ≡ map told_table contents = found.told ∙ ap (map told_table) (holds_one_contents store found.contents contents found.held held) in
-    let same : all ≡ list_all (λ (t : ℤ × Table). is_sound t.1.held) contents = is ∙ sym (list_all-map (λ (k : KnownTable). k.sound) known_info infos) ∙ ap (list_all (λ (k : KnownTable). k.sound)) told ∙ sound_marks contents in (
+    let found = marked_contents store (map shown_info infos) marked in
+    let told : map shown_info infos ≡ map told_table contents = found.told ∙ ap (map told_table) (holds_one_contents store found.contents contents found.held held) in
+    let same : all ≡ list_all (λ (t : ℤ × Table). is_sound t.1.held) contents = is ∙ sym (list_all-map (λ (k : TableInfo). k.sound) shown_info infos) ∙ ap (list_all (λ (k : TableInfo). k.sound)) told ∙ sound_marks contents in (
       (λ h. AllPass-from_list_all (λ (t : ℤ × Table). is_sound t.1.held) contents (sym same ∙ h)),
       (λ h. same ∙ list_all-from_AllPass (λ (t : ℤ × Table). is_sound t.1.held) contents h),
     )

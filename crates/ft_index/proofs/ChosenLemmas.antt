@@ -11,9 +11,9 @@ use Rattle.std.proofs.lemmas.Bool.{and_parts}
 use Rattle.std.proofs.lemmas.Map.Lookups.{exact_signed}
 use Rattle.ft_query.specs.Occurs.{PlainHit}
 use Rattle.ft_query.specs.Trees.{Tree}
-use Rattle.ft_store.specs.Store.{Cell}
+use Rattle.ft_values.specs.Cells.{Cell}
 use Rattle.ft_content.specs.Content.{Content, Documents, IsContent}
-use Rattle.ft_content.specs.Command.{Filter, Everything, OfDocid}
+use Rattle.ft_content.specs.Command.{Filter, All, Docid}
 use Rattle.ft_content.specs.Answer.{is_chosen, chosen, query_in}
 use Rattle.ft_index.specs.Chosen.{document_at}
 use Rattle.ft_index.specs.Matched.{hit_read, chosen_hits}
@@ -71,7 +71,7 @@ one_of docid (d ∷ ds) rising =
       | false ↦ λ apart. rest
     ] refl
 
-pub chosen_one : (name : List ℕ) (content : Content) (docid : ℤ) → IsContent name content → chosen content (OfDocid docid) ≡ document_if docid (find int_cmp docid content.documents)
+pub chosen_one : (name : List ℕ) (content : Content) (docid : ℤ) → IsContent name content → chosen content (Docid docid) ≡ document_if docid (find int_cmp docid content.documents)
 unfolding chosen
 chosen_one name content docid is = one_of docid content.documents is.rising
 
@@ -94,6 +94,6 @@ all_pass : (ds : Documents) → filter (λ (d : ℤ × List Cell). true) ds ≡ 
 all_pass [] = refl
 all_pass (d ∷ ds) = ap (λ l. d ∷ l) (all_pass ds)
 
-pub chosen_all : (content : Content) → chosen content Everything ≡ content.documents
+pub chosen_all : (content : Content) → chosen content All ≡ content.documents
 unfolding chosen
 chosen_all content = all_pass content.documents

@@ -11,9 +11,9 @@ use Rattle.ft_store.specs.Calls.{IsStored}
 use Rattle.ft_store.specs.Store.{Change, StoreValue, all_applied}
 use Rattle.ft_store.specs.Changes.{shown_change}
 use Rattle.ft_store.specs.Kept.{StoreState, shows, value_in}
-use Rattle.ft_store.specs.declared.rows.RowChange.{RowChange}
+use Rattle.ft_values.specs.declared.rows.RowChange.{RowChange}
 use Rattle.ft_content.specs.Command.{Command}
-use Rattle.ft_content.specs.Views.{KnownTable}
+use Rattle.ft_content.specs.Views.{TableInfo}
 use Rattle.ft_content.specs.Deserved.{Contents, deserved}
 use Rattle.ft_content.specs.Step.{after, step, step_by}
 use Rattle.ft_index.specs.DocumentsRead.{Looks}
@@ -46,22 +46,22 @@ module _ {S : Type 0} (g : Ghosts S) where
   CommitsRows store changes db = IsTrue (shows g store).is_open → IsStored db (all_applied changes (value_in g store))
 
   -- a command that only reads
-  pub crash_read : (old new : StoreState S) (tables others : List KnownTable) (command : Command) → Looks g old new → CommandSurvives g (with_tables old tables) command (with_tables new others)
+  pub crash_read : (old new : StoreState S) (tables others : List TableInfo) (command : Command) → Looks g old new → CommandSurvives g (with_tables old tables) command (with_tables new others)
   crash_read old new tables others command looks = survives_as (shows g old) (shows g new) _ _ (λ clean db none up first holds. absurd (none up.is_open)) looks.survives
 
   -- one that does nothing
-  pub crash_same : (store : StoreState S) (tables others : List KnownTable) (command : Command) → CommandSurvives g (with_tables store tables) command (with_tables store others)
+  pub crash_same : (store : StoreState S) (tables others : List TableInfo) (command : Command) → CommandSurvives g (with_tables store tables) command (with_tables store others)
   crash_same store tables others command = survives_as (shows g store) (shows g store) _ _ (λ clean db none up first holds. absurd (none up.is_open)) (nothing_done (shows g store))
 
   -- row changes that lead to what the command leaves
-  pub crash_changed : (old new : StoreState S) (tables others : List KnownTable) (command : Command) (changes : List Change) →
+  pub crash_changed : (old new : StoreState S) (tables others : List TableInfo) (command : Command) (changes : List Change) →
       (IsUp g (with_tables old tables) → (first : Contents) → AreHeld (value_in g old) tables first → (deserved first command ≡ None) × StoreHolds (all_applied changes (value_in g old)) (after first command) × ((all_applied changes (value_in g old)).noted ≡ (value_in g old).noted)) →
       Survives (shows g old) (shows g new) (CommitsRows old changes) → CommandSurvives g (with_tables old tables) command (with_tables new others)
   crash_changed old new tables others command changes leads survives = survives_as (shows g old) (shows g new) _ _ (λ clean db commits up first holds.
       record { left = all_applied changes (value_in g old); stored = commits up.is_open; held = subst (StoreHolds (all_applied changes (value_in g old))) (left_is first command (leads up first holds).0) (leads up first holds).1; noted = (leads up first holds).2 }) survives
 
   -- a plan that was made by reads, and is carried out
-  pub crash_written : (old mid new : StoreState S) (tables others : List KnownTable) (command : Command) (changes : Vec RowChange Global) → Looks g old mid → (HasCleanDisk (shows g mid) → IsTrue (shows g old).is_open → IsTrue (shows g mid).is_open) →
+  pub crash_written : (old mid new : StoreState S) (tables others : List TableInfo) (command : Command) (changes : Vec RowChange Global) → Looks g old mid → (HasCleanDisk (shows g mid) → IsTrue (shows g old).is_open → IsTrue (shows g mid).is_open) →
       PlansIn g tables old mid command (Ok changes) → Survives (shows g mid) (shows g new) (CommitsRows mid (map shown_change changes.items)) → CommandSurvives g (with_tables old tables) command (with_tables new others)
   crash_written old mid new tables others command changes looks live plans survives =
       survives_then (shows g old) (shows g mid) (shows g new) _ _ _ (λ clean db none up first holds. absurd (none up.is_open)) (λ clean db commits up first holds.

@@ -7,11 +7,11 @@ use Rattle.std.specs.declared.cmp.Ordering.TheVariants.{Less, Equal, Greater}
 use Rattle.std.specs.Ordering.{int_cmp, int_eq, is_lt, is_eq}
 use Rattle.std.specs.FinMap.Entries.{put, by_order}
 use Rattle.ft_store.specs.Store.{StoreValue, AreInOrder, AddTable, applied}
-use Rattle.ft_content.specs.declared.fault.Fault.{Fault}
-use Rattle.ft_content.specs.declared.table.TableInfo.{TableInfo}
+use Rattle.ft_values.specs.declared.fault.Fault.{Fault}
+use Rattle.ft_values.specs.declared.table.TableInfo.{TableInfo as RustTableInfo}
 use Rattle.ft_content.specs.Content.{IsContent, names_of, skipped_from}
 use Rattle.ft_content.specs.Command.{Command, Create, Done}
-use Rattle.ft_content.specs.Views.{KnownTable, known_info}
+use Rattle.ft_content.specs.Views.{TableInfo, shown_info}
 use Rattle.ft_content.specs.Deserved.{Table, Contents, table_named, made_columns, deserved}
 use Rattle.ft_content.specs.Step.{free_id_from, made_column, new_table, created, after, reply_to, step, step_by}
 use Rattle.ft_index.specs.Found.{with_told}
@@ -46,9 +46,9 @@ makes_content contents table module_name options names if_new fine = create_make
 
 -- ---- what is held after a table was made
 
-pub made_is_held : (contents : Contents) (table module_name : List ℕ) (options : List (List ℕ × List ℕ)) (names : List (List ℕ)) (if_new : Bool) (made : TableInfo) (store : StoreValue) (tables : List KnownTable) →
+pub made_is_held : (contents : Contents) (table module_name : List ℕ) (options : List (List ℕ × List ℕ)) (names : List (List ℕ)) (if_new : Bool) (made : RustTableInfo) (store : StoreValue) (tables : List TableInfo) →
     Makes contents table module_name options names if_new (Ok (Some made)) → AreInOrder store → AreHeld store tables contents →
-    AreHeld (applied (table_change made) store) (with_told (known_info made) tables) (after contents (Create table module_name options names if_new))
+    AreHeld (applied (table_change made) store) (with_told (shown_info made) tables) (after contents (Create table module_name options names if_new))
 unfolding after
 made_is_held contents table module_name options names if_new made store tables makes order held =
     let m = makes.2 in
@@ -58,12 +58,12 @@ made_is_held contents table module_name options names if_new made store tables m
     let free = free_is_free 1 contents (ids_sorted store store.tables contents held.held order.tables) in
     let joined : created contents table options (made_columns names) ≡ put int_cmp id new contents = ap (λ found. cond (is_some found) contents (put int_cmp id new contents)) makes.1 in
     let change : AddTable id table (names_of columns) (skipped_from 0 columns) ≡ table_change made = sym (λ i. AddTable (m.id i) (m.name i) (names_of (m.columns i)) (skipped_from 0 (m.columns i))) in
-    let told : told_table (id, new) ≡ known_info made = sym (λ i. record { id = m.id i; name = m.name i; columns = m.columns i; sound = m.sound i }) in
+    let told : told_table (id, new) ≡ shown_info made = sym (λ i. record { id = m.id i; name = m.name i; columns = m.columns i; sound = m.sound i }) in
     record {
       named_once = apart_after contents (Create table module_name options names if_new) held.named_once;
       held = subst (λ cs. StoreHolds (applied (table_change made) store) cs) (sym joined)
           (subst (λ ch. StoreHolds (applied ch store) (put int_cmp id new contents)) change (adds_one id table columns store contents order (makes_content contents table module_name options names if_new makes.0) free held.held));
-      told = ap (with_told (known_info made)) held.told ∙ ap (λ k. with_told k (map told_table contents)) (sym told) ∙ sym (told_put id new contents free) ∙ ap (map told_table) (sym joined);
+      told = ap (with_told (shown_info made)) held.told ∙ ap (λ k. with_told k (map told_table contents)) (sym told) ∙ sym (told_put id new contents free) ∙ ap (map told_table) (sym joined);
     }
 
 pub create_answers : (contents : Contents) (table module_name : List ℕ) (options : List (List ℕ × List ℕ)) (names : List (List ℕ)) (if_new : Bool) → deserved contents (Create table module_name options names if_new) ≡ None →

@@ -1,10 +1,10 @@
 -- What a Delete writes.
 use Rattle.std.proofs.Common.{◌≡◌, ◌⊎◌, inl, inr, ℕ, Bool, true, false, cond, not, List, [], ◌∷◌, ◌++◌, map, filter, Option, Some, None, Result, Ok, Err, ℤ, refl, sym, ap, subst, ◌∙◌}
 use Rattle.std.specs.Prelude.{◌≢◌}
-use Rattle.ft_store.specs.Store.{Cell}
-use Rattle.ft_content.specs.declared.fault.Fault.{Fault}
-use Rattle.ft_content.specs.declared.fault.Fault.TheVariants as faults
-use Rattle.ft_content.specs.declared.table.Column as source
+use Rattle.ft_values.specs.Cells.{Cell}
+use Rattle.ft_values.specs.declared.fault.Fault.{Fault}
+use Rattle.ft_values.specs.declared.fault.Fault.TheVariants as faults
+use Rattle.ft_values.specs.declared.table.Column as source
 use Rattle.ft_content.specs.Content.{Content, Documents, IsContent}
 use Rattle.ft_content.specs.Command.{Filter, Delete, Done}
 use Rattle.ft_content.specs.Answer.{is_chosen, chosen}

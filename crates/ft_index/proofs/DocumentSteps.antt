@@ -8,7 +8,8 @@ use Rattle.std.proofs.lemmas.Simd.{map-map}
 use Rattle.std.proofs.lemmas.Bool.Decides.{nat_tests}
 use Rattle.ft_query.specs.Tokens.{PlainToken}
 use Rattle.ft_query.specs.Documents.{posting}
-use Rattle.ft_store.specs.Store.{Cell, column_key_cmp}
+use Rattle.ft_values.specs.Cells.{Cell}
+use Rattle.ft_store.specs.Store.{column_key_cmp}
 use Rattle.ft_content.specs.Content.{Column}
 use Rattle.ft_content.specs.Index.{Entry, entry_at, Key, key_cmp, key_of, StoredSpot, stored_spot, Size, size_row, document_tokens}
 use Rattle.ft_index.specs.RewriteRows.{with_entries, all_put, sized, cell_entries, cell_sizes, AreShortNumbers}

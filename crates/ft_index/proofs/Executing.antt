@@ -4,22 +4,22 @@ use Rattle.std.specs.Prelude.{IsTrue}
 use Rattle.sqlite.specs.Store.{Ghosts}
 use Rattle.ft_store.specs.Store.{AreInOrder, Change}
 use Rattle.ft_store.specs.Kept.{StoreState, value_in}
-use Rattle.ft_content.specs.declared.fault.Fault.{Fault}
-use Rattle.ft_content.specs.declared.fault.Fault.TheVariants as faults
-use Rattle.ft_content.specs.declared.table.TableInfo.{TableInfo}
+use Rattle.ft_values.specs.declared.fault.Fault.{Fault}
+use Rattle.ft_values.specs.declared.fault.Fault.TheVariants as faults
+use Rattle.ft_values.specs.declared.table.TableInfo.{TableInfo as RustTableInfo}
 use Rattle.ft_content.specs.Command.{Command, Create, Reply, Done}
-use Rattle.ft_content.specs.Views.{KnownTable, known_info}
+use Rattle.ft_content.specs.Views.{TableInfo, shown_info}
 use Rattle.ft_content.specs.Deserved.{Contents, deserved}
 use Rattle.ft_content.specs.Step.{after, reply_to, step, step_by}
 use Rattle.ft_index.specs.Found.{with_told}
 use Rattle.ft_index.specs.Planned.{Makes, table_change}
 use Rattle.ft_index.specs.Changed.{Changed, with_tables}
-use Rattle.ft_index.specs.Kept.{Known, PlansFrom, AreHeld, Holds, Executes, Answers, is_outside, told_table}
+use Rattle.ft_index.specs.Kept.{FullText, PlansFrom, AreHeld, Holds, Executes, Answers, is_outside, told_table}
 use Rattle.ft_index.proofs.NameLemmas.{apart_after}
 use Rattle.ft_index.proofs.CreateLemmas.{made_is_held, create_answers, refused_answers, nothing_made}
 
 -- a command that leaves everything as it is
-pub executes_same : {S : Type 0} (g : Ghosts S) (known : Known S) (command : Command) (answer : Result Reply Fault) → ((first : Contents) → Holds g known first → Answers first command answer first) → Executes g known command answer known
+pub executes_same : {S : Type 0} (g : Ghosts S) (known : FullText S) (command : Command) (answer : Result Reply Fault) → ((first : Contents) → Holds g known first → Answers first command answer first) → Executes g known command answer known
 executes_same g known command answer answers = record {
   was_up = λ up. up;
   steps = λ up first holds. (first, holds, answers first holds);
@@ -33,35 +33,35 @@ module _ {S : Type 0} (g : Ghosts S) (table module_name : List ℕ) (options : L
   abbrev create : Command
   create = Create table module_name options names if_new
 
-  abbrev MakesAll : List KnownTable → Result (Option TableInfo) Fault → Type 0
+  abbrev MakesAll : List TableInfo → Result (Option RustTableInfo) Fault → Type 0
   MakesAll tables result = (contents : Contents) → tables ≡ map told_table contents → Makes contents table module_name options names if_new result
 
-  pub create_refused : (known : Known S) (fault : Fault) → MakesAll known.tables (Err fault) → Executes g known create (Err fault) known
+  pub create_refused : (known : FullText S) (fault : Fault) → MakesAll known.tables (Err fault) → Executes g known create (Err fault) known
   create_refused known fault makes = executes_same g known create (Err fault) (λ first holds. due first (makes first holds.told))
     where
       due : (first : Contents) → (fault ≡ faults.Memory) ⊎ (deserved first create ≡ Some fault) → Answers first create (Err fault) first
       due first (inl memory) = inl (ap (λ f. is_outside (Err f)) memory, refl)
       due first (inr fault_is) = inr (refused_answers first create fault fault_is)
 
-  pub create_nothing : (known : Known S) → MakesAll known.tables (Ok None) → Executes g known create (Ok Done) known
+  pub create_nothing : (known : FullText S) → MakesAll known.tables (Ok None) → Executes g known create (Ok Done) known
   create_nothing known makes = executes_same g known create (Ok Done) (λ first holds.
       inr (create_answers first table module_name options names if_new (makes first holds.told).0 ∙ ap (λ cs. (Ok Done, cs)) (nothing_made first table module_name options names if_new (makes first holds.told).1)))
 
-  pub create_adds : (old new : StoreState S) (tables : List KnownTable) (made : TableInfo) → MakesAll tables (Ok (Some made)) → AreInOrder (value_in g old) → Changed g old new (table_change made ∷ []) true →
-      Executes g (with_tables old tables) create (Ok Done) (with_tables new (with_told (known_info made) tables))
+  pub create_adds : (old new : StoreState S) (tables : List TableInfo) (made : RustTableInfo) → MakesAll tables (Ok (Some made)) → AreInOrder (value_in g old) → Changed g old new (table_change made ∷ []) true →
+      Executes g (with_tables old tables) create (Ok Done) (with_tables new (with_told (shown_info made) tables))
   create_adds old new tables made makes order changed = record {
-    was_up = λ up. changed.was_up (with_told (known_info made) tables) tables up;
+    was_up = λ up. changed.was_up (with_told (shown_info made) tables) tables up;
     steps = λ up first holds. (
       after first create,
-      subst (λ v. AreHeld v (with_told (known_info made) tables) (after first create)) (sym (changed.value (with_told (known_info made) tables) up)) (made_is_held first table module_name options names if_new made (value_in g old) tables (makes first holds.told) order holds),
+      subst (λ v. AreHeld v (with_told (shown_info made) tables) (after first create)) (sym (changed.value (with_told (shown_info made) tables) up)) (made_is_held first table module_name options names if_new made (value_in g old) tables (makes first holds.told) order holds),
       inr (create_answers first table module_name options names if_new (makes first holds.told).0),
     );
-    noted = λ up first holds. ap (λ v. v.noted) (changed.value (with_told (known_info made) tables) up);
+    noted = λ up first holds. ap (λ v. v.noted) (changed.value (with_told (shown_info made) tables) up);
     unchanged = λ no up. absurd (let wrong = no in cc);
   }
 
 -- a change of rows that was refused, for want of memory or by the store
-pub executes_refused : {S : Type 0} (g : Ghosts S) (old new : StoreState S) (tables : List KnownTable) (changes : List Change) (command : Command) (fault : Fault) → (fault ≡ faults.Store) ⊎ (fault ≡ faults.Memory) → Changed g old new changes false →
+pub executes_refused : {S : Type 0} (g : Ghosts S) (old new : StoreState S) (tables : List TableInfo) (changes : List Change) (command : Command) (fault : Fault) → (fault ≡ faults.Store) ⊎ (fault ≡ faults.Memory) → Changed g old new changes false →
     Executes g (with_tables old tables) command (Err fault) (with_tables new tables)
 executes_refused g old new tables changes command fault outside changed = record {
   was_up = λ up. changed.was_up tables tables up;
@@ -81,7 +81,7 @@ unfolding step
 done_answers contents command fine done = ap (λ due. step_by due contents command) fine ∙ ap (λ r. (Ok r, after contents command)) done
 
 -- Row changes that a plan names, and the tables that are told as they are then.
-pub executes_planned : {S : Type 0} (g : Ghosts S) (old new : StoreState S) (tables after_tables : List KnownTable) (changes : List Change) (command : Command) →
+pub executes_planned : {S : Type 0} (g : Ghosts S) (old new : StoreState S) (tables after_tables : List TableInfo) (changes : List Change) (command : Command) →
     ((contents : Contents) → AreHeld (value_in g old) tables contents → PlansFrom contents command (value_in g old) (Ok changes)) → Changed g old new changes true →
     ((contents : Contents) → AreHeld (value_in g old) tables contents → (after_tables ≡ map told_table (after contents command)) × (reply_to contents command ≡ Done)) →
     Executes g (with_tables old tables) command (Ok Done) (with_tables new after_tables)
@@ -101,7 +101,7 @@ executes_planned g old new tables after_tables changes command plans changed tol
 }
 
 -- a plan that is refused
-pub executes_unplanned : {S : Type 0} (g : Ghosts S) (store : StoreState S) (tables : List KnownTable) (command : Command) (fault : Fault) →
+pub executes_unplanned : {S : Type 0} (g : Ghosts S) (store : StoreState S) (tables : List TableInfo) (command : Command) (fault : Fault) →
     ((contents : Contents) → AreHeld (value_in g store) tables contents → PlansFrom contents command (value_in g store) (Err fault)) → Executes g (with_tables store tables) command (Err fault) (with_tables store tables)
 executes_unplanned g store tables command fault plans = executes_same g (with_tables store tables) command (Err fault) (λ first holds. due first (plans first holds))
   where

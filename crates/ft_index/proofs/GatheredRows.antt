@@ -4,8 +4,7 @@ use Rattle.std.specs.Ordering.{int_eq, is_eq}
 use Rattle.std.specs.Cmp.{int_cmp_total, tied_itself}
 use Rattle.std.proofs.lemmas.List.{map-append}
 use Rattle.std.proofs.lemmas.Bool.Decides.{Decides-int_eq}
-use Rattle.ft_store.specs.Store.{Cell}
-use Rattle.ft_store.specs.Changes.{shown_value}
+use Rattle.ft_values.specs.Cells.{Cell, shown_value}
 use Rattle.ft_content.specs.Content.{CellRow, Documents, with_cell, gathered}
 use Rattle.ft_index.specs.declared.document.Document.{Document}
 use Rattle.ft_index.specs.DocumentsRead.{shown_document, with_last}

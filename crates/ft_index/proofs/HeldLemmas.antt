@@ -3,13 +3,13 @@ use Rattle.std.proofs.Common.{◌≡◌, ℕ, List, [], ◌∷◌, ℤ, refl, sy
 use Rattle.std.specs.List.{AllZip}
 use Rattle.ft_content.specs.Content.{TableRows}
 use Rattle.ft_content.specs.Index.{IndexRows, index_rows}
-use Rattle.ft_content.specs.Deserved.{Held, Sound, Stale, Loose, Table, Contents}
+use Rattle.ft_content.specs.Deserved.{TableState, Sound, Stale, Loose, Table, Contents}
 use Rattle.ft_store.specs.Store.{StoreValue}
 use Rattle.ft_index.specs.Tables.{table_rows, table_index}
 use Rattle.ft_index.specs.Kept.{Stands, HoldsTable, HoldsOneContents}
 use Rattle.ft_content.proofs.RowLemmas.{contents_are_one}
 
-pub held_once : (name : List ℕ) (rows : TableRows) (index : IndexRows) (a b : Held) → Stands name rows index a → Stands name rows index b → a ≡ b
+pub held_once : (name : List ℕ) (rows : TableRows) (index : IndexRows) (a b : TableState) → Stands name rows index a → Stands name rows index b → a ≡ b
 held_once name rows index (Sound a) (Sound b) h g = ap Sound (contents_are_one name a b h.0 g.0 (sym h.1 ∙ g.1))
 held_once name rows index (Sound a) (Stale b) h g = absurd (g.2 (h.2 ∙ ap index_rows (contents_are_one name a b h.0 g.0 (sym h.1 ∙ g.1))))
 held_once name rows index (Sound a) (Loose b) h g = absurd (g.1 a h.0 h.1)

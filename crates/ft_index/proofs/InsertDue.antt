@@ -1,8 +1,8 @@
 -- What an Insert deserves, and what it leaves, by its tests one after another.
 use Rattle.std.proofs.Common.{◌≡◌, ℕ, true, false, List, [], ◌∷◌, map, Option, Some, Ok, ap, zip}
 use Rattle.std.specs.Prelude.{unwrap_or}
-use Rattle.ft_store.specs.Store.{Cell}
-use Rattle.ft_content.specs.declared.fault.Fault.TheVariants as faults
+use Rattle.ft_values.specs.Cells.{Cell}
+use Rattle.ft_values.specs.declared.fault.Fault.TheVariants as faults
 use Rattle.ft_content.specs.Content.{Content, Documents, repeats_name}
 use Rattle.ft_content.specs.Command.{Insert}
 use Rattle.ft_content.specs.Deserved.{Contents, first_of, or_else, on_sound, listed_columns, insert_rows, insert_fault, deserved}

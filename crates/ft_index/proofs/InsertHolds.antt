@@ -3,7 +3,7 @@ use Rattle.std.proofs.Common.{◌≡◌, ℕ, Bool, true, false, cond, List, [],
 use Rattle.std.specs.Prelude.{unwrap_or}
 use Rattle.ft_store.specs.Store.{StoreValue, AreInOrder}
 use Rattle.ft_content.specs.Content.{same_name}
-use Rattle.ft_content.specs.Views.{KnownTable}
+use Rattle.ft_content.specs.Views.{TableInfo}
 use Rattle.ft_content.specs.Deserved.{Table, Contents, table_named}
 use Rattle.ft_index.specs.Tables.{table_rows, table_index}
 use Rattle.ft_index.specs.Kept.{AreHeld, HoldsTable, Stands}
@@ -27,7 +27,7 @@ found_stands store name t (n ∷ ns) (c ∷ cs) held found = go (same_name c.1.n
     go false is rest = rest is
 
 -- a sound table's rows are its content's, with exactly the index rows made from scratch
-pub sound_rows : (store : StoreValue) (tables : List KnownTable) (contents : Contents) (name : List ℕ) (known : KnownTable) (t : IsSoundTable contents name known) → AreInOrder store → AreHeld store tables contents → HasContent t.table.1.name t.content t.table.0 store
+pub sound_rows : (store : StoreValue) (tables : List TableInfo) (contents : Contents) (name : List ℕ) (known : TableInfo) (t : IsSoundTable contents name known) → AreInOrder store → AreHeld store tables contents → HasContent t.table.1.name t.content t.table.0 store
 sound_rows store tables contents name known t order held =
     let stands = subst (λ h. Stands t.table.1.name (table_rows t.table.0 store) (table_index t.table.0 store) h) t.held (found_stands store name t.table store.tables contents held.held t.found) in
     record { order = order; is_content = stands.0; rows = stands.1; index = stands.2 }

@@ -6,7 +6,7 @@ use Rattle.std.specs.Ordering.{int_cmp, int_eq, is_lt, is_eq}
 use Rattle.std.specs.Cmp.{int_cmp_total, tied_itself, eq_by_cmp_equiv}
 use Rattle.std.specs.FinMap.Entries.{find, below_all, is_sorted}
 use Rattle.std.proofs.lemmas.Bool.{and_parts}
-use Rattle.ft_store.specs.Store.{Cell}
+use Rattle.ft_values.specs.Cells.{Cell}
 use Rattle.ft_content.specs.Content.{Documents, Content, IsContent, is_document}
 use Rattle.ft_index.specs.Rewrite.{Rewrite, AreOf, FitIfAny, by_docid, rewritten}
 use Rattle.ft_index.proofs.RewriteLemmas.{written, find_rewritten}

@@ -5,8 +5,8 @@ use Rattle.std.specs.List.{AllByRecursion}
 use Rattle.std.specs.Ordering.{int_cmp, is_lt}
 use Rattle.std.specs.FinMap.Entries.{put, find, below_all, is_sorted}
 use Rattle.std.proofs.lemmas.Option.{slice_get-map, same_Some}
-use Rattle.ft_store.specs.Store.{Cell}
-use Rattle.ft_content.specs.declared.fault.Fault.{Fault}
+use Rattle.ft_values.specs.Cells.{Cell}
+use Rattle.ft_values.specs.declared.fault.Fault.{Fault}
 use Rattle.ft_content.specs.Content.{Column, Documents}
 use Rattle.ft_content.specs.Deserved.{insert_row, insert_rows, then_rows, docids_in, has_docid, new_cells}
 use Rattle.ft_index.specs.declared.new_documents.NewDocuments.{NewDocuments}

@@ -7,12 +7,12 @@ use Rattle.std.specs.Ordering.{int_cmp, int_eq}
 use Rattle.std.specs.FinMap.Entries.{find, is_sorted}
 use Rattle.std.proofs.lemmas.Map.Lookups.{exact_signed}
 use Rattle.ft_query.proofs.OffsetOrder.{contains_head, contains_tail}
-use Rattle.ft_store.specs.Store.{Cell}
-use Rattle.ft_content.specs.declared.fault.Fault.{Fault}
-use Rattle.ft_content.specs.declared.fault.Fault.TheVariants as faults
+use Rattle.ft_values.specs.Cells.{Cell}
+use Rattle.ft_values.specs.declared.fault.Fault.{Fault}
+use Rattle.ft_values.specs.declared.fault.Fault.TheVariants as faults
 use Rattle.ft_content.specs.Content.{Content, Documents, IsContent, names_of, repeats_name}
 use Rattle.ft_content.specs.Command.{Insert, Done}
-use Rattle.ft_content.specs.declared.table.Column.{Column}
+use Rattle.ft_values.specs.declared.table.Column.{Column}
 use Rattle.ft_content.specs.Views.{bare_content, column_of}
 use Rattle.ft_content.specs.Deserved.{Contents, or_else, listed_columns, insert_tests, insert_rows, insert_fault, fault_of, has_docid, deserved}
 use Rattle.ft_content.specs.Step.{inserted, new_docids, with_documents, on_table, after, touched, reply_to}

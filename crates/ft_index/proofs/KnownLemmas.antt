@@ -1,67 +1,67 @@
 -- The tables that are told of contents, by their names.
 use Rattle.std.proofs.Common.{Ok, inl, inr, ◌≡◌, ℕ, Bool, true, false, cond, List, [], ◌∷◌, map, Option, Some, None, ℤ, refl, sym, ap, subst, ◌∙◌}
 use Rattle.std.specs.Prelude.{option_map, IsTrue, is_some}
-use Rattle.ft_content.specs.declared.fault.Fault.{Fault}
-use Rattle.ft_content.specs.declared.fault.Fault.TheVariants as faults
-use Rattle.ft_content.specs.declared.table.TableInfo.{TableInfo}
+use Rattle.ft_values.specs.declared.fault.Fault.{Fault}
+use Rattle.ft_values.specs.declared.fault.Fault.TheVariants as faults
+use Rattle.ft_values.specs.declared.table.TableInfo.{TableInfo as RustTableInfo}
 use Rattle.ft_content.specs.Content.{Content, same_name}
-use Rattle.ft_content.specs.Views.{KnownTable, known_info, table_names, table_ids, info_names, info_ids}
-use Rattle.ft_content.specs.Deserved.{Held, Sound, Stale, Loose, Table, Contents, table_named, on_sound, on_found, on_held, made_columns, create_fault, deserved}
+use Rattle.ft_content.specs.Views.{TableInfo, shown_info, table_names, table_ids, info_names, info_ids}
+use Rattle.ft_content.specs.Deserved.{TableState, Sound, Stale, Loose, Table, Contents, table_named, on_sound, on_found, on_held, made_columns, create_fault, deserved}
 use Rattle.ft_content.specs.Command.{Create, Optimize, Done}
 use Rattle.ft_content.specs.Step.{after, reply_to, step, step_by}
 use Rattle.ft_index.specs.Kept.{told_table, is_sound}
-use Rattle.ft_index.specs.Found.{known_named, IsUnfit}
+use Rattle.ft_index.specs.Found.{info_named, IsUnfit}
 
-pub told_named : (contents : Contents) (name : List ℕ) → known_named (map told_table contents) name ≡ option_map told_table (table_named contents name)
+pub told_named : (contents : Contents) (name : List ℕ) → info_named (map told_table contents) name ≡ option_map told_table (table_named contents name)
 told_named [] name = refl
-told_named (t ∷ ts) name = elim (same_name t.1.name name) as (λ b. cond b (Some (told_table t)) (known_named (map told_table ts) name) ≡ option_map told_table (cond b (Some t) (table_named ts name))) [ true ↦ refl | false ↦ told_named ts name ]
+told_named (t ∷ ts) name = elim (same_name t.1.name name) as (λ b. cond b (Some (told_table t)) (info_named (map told_table ts) name) ≡ option_map told_table (cond b (Some t) (table_named ts name))) [ true ↦ refl | false ↦ told_named ts name ]
 
-pub same_names : (tables : List TableInfo) (contents : Contents) → map known_info tables ≡ map told_table contents → table_names contents ≡ info_names tables
-same_names tables contents told = sym (names_back contents) ∙ ap (map (λ (k : KnownTable). k.name)) (sym told) ∙ info_back tables
+pub same_names : (tables : List RustTableInfo) (contents : Contents) → map shown_info tables ≡ map told_table contents → table_names contents ≡ info_names tables
+same_names tables contents told = sym (names_back contents) ∙ ap (map (λ (k : TableInfo). k.name)) (sym told) ∙ info_back tables
   where
-    names_back : (cs : Contents) → map (λ (k : KnownTable). k.name) (map told_table cs) ≡ table_names cs
+    names_back : (cs : Contents) → map (λ (k : TableInfo). k.name) (map told_table cs) ≡ table_names cs
     names_back [] = refl
     names_back (c ∷ cs) = ap (λ l. c.1.name ∷ l) (names_back cs)
 
-    info_back : (ts : List TableInfo) → map (λ (k : KnownTable). k.name) (map known_info ts) ≡ info_names ts
+    info_back : (ts : List RustTableInfo) → map (λ (k : TableInfo). k.name) (map shown_info ts) ≡ info_names ts
     info_back [] = refl
-    info_back (t ∷ ts) = ap (λ l. (known_info t).name ∷ l) (info_back ts)
+    info_back (t ∷ ts) = ap (λ l. (shown_info t).name ∷ l) (info_back ts)
 
-pub same_ids : (tables : List TableInfo) (contents : Contents) → map known_info tables ≡ map told_table contents → table_ids contents ≡ info_ids tables
-same_ids tables contents told = sym (ids_back contents) ∙ ap (map (λ (k : KnownTable). k.id)) (sym told) ∙ info_back tables
+pub same_ids : (tables : List RustTableInfo) (contents : Contents) → map shown_info tables ≡ map told_table contents → table_ids contents ≡ info_ids tables
+same_ids tables contents told = sym (ids_back contents) ∙ ap (map (λ (k : TableInfo). k.id)) (sym told) ∙ info_back tables
   where
-    ids_back : (cs : Contents) → map (λ (k : KnownTable). k.id) (map told_table cs) ≡ table_ids cs
+    ids_back : (cs : Contents) → map (λ (k : TableInfo). k.id) (map told_table cs) ≡ table_ids cs
     ids_back [] = refl
     ids_back (c ∷ cs) = ap (λ l. c.0 ∷ l) (ids_back cs)
 
-    info_back : (ts : List TableInfo) → map (λ (k : KnownTable). k.id) (map known_info ts) ≡ info_ids ts
+    info_back : (ts : List RustTableInfo) → map (λ (k : TableInfo). k.id) (map shown_info ts) ≡ info_ids ts
     info_back [] = refl
     info_back (t ∷ ts) = ap (λ l. t.id ∷ l) (info_back ts)
 
 -- a sound table is a content
-pub record IsSoundTable (contents : Contents) (name : List ℕ) (known : KnownTable) : Type 0 where
+pub record IsSoundTable (contents : Contents) (name : List ℕ) (known : TableInfo) : Type 0 where
   pub table : ℤ × Table
   pub found : table_named contents name ≡ Some table
   pub content : Content
   pub held : table.1.held ≡ Sound content
   pub told : told_table table ≡ known
 
-sound_held : (held : Held) → is_sound held ≡ true → (content : Content) × (held ≡ Sound content)
+sound_held : (held : TableState) → is_sound held ≡ true → (content : Content) × (held ≡ Sound content)
 sound_held (Sound content) h = (content, refl)
 sound_held (Stale content) h = absurd (let no = h in cc)
 sound_held (Loose rows) h = absurd (let no = h in cc)
 
-pub sound_table : (contents : Contents) (name : List ℕ) (known : KnownTable) → known_named (map told_table contents) name ≡ Some known → IsTrue known.sound → IsSoundTable contents name known
+pub sound_table : (contents : Contents) (name : List ℕ) (known : TableInfo) → info_named (map told_table contents) name ≡ Some known → IsTrue known.sound → IsSoundTable contents name known
 sound_table contents name known named sound = go (table_named contents name) refl (sym (told_named contents name) ∙ named)
   where
     go : (found : Option (ℤ × Table)) → table_named contents name ≡ found → option_map told_table found ≡ Some known → IsSoundTable contents name known
     go None is h = absurd (let no = h in cc)
     go (Some t) is h =
         let told : told_table t ≡ known = ap (λ o. cond_known o) h in
-        let held = sound_held t.1.held (ap (λ (k : KnownTable). k.sound) told ∙ sound) in
+        let held = sound_held t.1.held (ap (λ (k : TableInfo). k.sound) told ∙ sound) in
         record { table = t; found = is; content = held.0; held = held.1; told = told }
       where
-        cond_known : Option KnownTable → KnownTable
+        cond_known : Option TableInfo → TableInfo
         cond_known None = known
         cond_known (Some k) = k
 
@@ -69,7 +69,7 @@ sound_table contents name known named sound = go (table_named contents name) ref
 abbrev on_it : Option (ℤ × Table) → (List ℕ → Content → Option Fault) → Option Fault
 on_it found test = on_found found (λ table held. on_held held (test table))
 
-unsound_is : (t : ℤ × Table) (test : List ℕ → Content → Option Fault) (held : Held) → t.1.held ≡ held → is_sound held ≡ false → on_held held (test t.1.name) ≡ Some faults.Unsound
+unsound_is : (t : ℤ × Table) (test : List ℕ → Content → Option Fault) (held : TableState) → t.1.held ≡ held → is_sound held ≡ false → on_held held (test t.1.name) ≡ Some faults.Unsound
 unsound_is t test (Sound content) e h = absurd (let no = h in cc)
 unsound_is t test (Stale content) e h = refl
 unsound_is t test (Loose rows) e h = refl
@@ -86,12 +86,12 @@ unfit_is contents name fault test (inr unsound) = go (table_named contents name)
     go None h = absurd (let no = h in cc)
     go (Some t) h = unsound_is t test t.1.held refl (ap (λ o. is_some_sound o) h ∙ unsound.1.2)
       where
-        is_some_sound : Option KnownTable → Bool
+        is_some_sound : Option TableInfo → Bool
         is_some_sound None = false
         is_some_sound (Some k) = k.sound
 
 -- the tests of a table that can be used are those of its content
-pub sound_is : (contents : Contents) (name : List ℕ) (known : KnownTable) (h : IsSoundTable contents name known) (test : List ℕ → Content → Option Fault) → on_sound contents name test ≡ test h.table.1.name h.content
+pub sound_is : (contents : Contents) (name : List ℕ) (known : TableInfo) (h : IsSoundTable contents name known) (test : List ℕ → Content → Option Fault) → on_sound contents name test ≡ test h.table.1.name h.content
 sound_is contents name known h test = ap (λ found. on_it found test) h.found ∙ ap (λ held. on_held held (test h.table.1.name)) h.held
 
 -- ---- Create
@@ -102,14 +102,14 @@ pub create_due : (contents : Contents) (table module_name : List ℕ) (options :
 unfolding deserved
 create_due contents table module_name options columns names if_new due made is = sym (is ∙ ap (λ ns. create_fault contents table module_name options ns if_new) made)
 
-pub is_named : (contents : Contents) (name : List ℕ) (known : Option KnownTable) → known_named (map told_table contents) name ≡ known → is_some (table_named contents name) ≡ is_some known
+pub is_named : (contents : Contents) (name : List ℕ) (known : Option TableInfo) → info_named (map told_table contents) name ≡ known → is_some (table_named contents name) ≡ is_some known
 is_named contents name known h = sym (some_told (table_named contents name)) ∙ ap is_some (sym (told_named contents name) ∙ h)
   where
     some_told : (found : Option (ℤ × Table)) → is_some (option_map told_table found) ≡ is_some found
     some_told None = refl
     some_told (Some t) = refl
 
-pub none_named : (contents : Contents) (name : List ℕ) → known_named (map told_table contents) name ≡ None → table_named contents name ≡ None
+pub none_named : (contents : Contents) (name : List ℕ) → info_named (map told_table contents) name ≡ None → table_named contents name ≡ None
 none_named contents name h = go (table_named contents name) (is_named contents name None h)
   where
     go : (found : Option (ℤ × Table)) → is_some found ≡ false → found ≡ None
@@ -117,10 +117,10 @@ none_named contents name h = go (table_named contents name) (is_named contents n
     go (Some t) h = absurd (let no = h in cc)
 
 -- a table that is told is one of the contents
-pub some_named : (contents : Contents) (name : List ℕ) (known : KnownTable) → known_named (map told_table contents) name ≡ Some known → (t : ℤ × Table) × (table_named contents name ≡ Some t) × (told_table t ≡ known)
+pub some_named : (contents : Contents) (name : List ℕ) (known : TableInfo) → info_named (map told_table contents) name ≡ Some known → (t : ℤ × Table) × (table_named contents name ≡ Some t) × (told_table t ≡ known)
 some_named contents name known named = go (table_named contents name) refl (sym (told_named contents name) ∙ named)
   where
-    known_of : Option KnownTable → KnownTable
+    known_of : Option TableInfo → TableInfo
     known_of None = known
     known_of (Some k) = k
 
@@ -130,12 +130,12 @@ some_named contents name known named = go (table_named contents name) refl (sym 
 
 -- ---- Optimize
 
-pub optimize_fine : (contents : Contents) (tables : List KnownTable) (name : List ℕ) (known : KnownTable) → tables ≡ map told_table contents → known_named tables name ≡ Some known → IsTrue known.sound → deserved contents (Optimize name) ≡ None
+pub optimize_fine : (contents : Contents) (tables : List TableInfo) (name : List ℕ) (known : TableInfo) → tables ≡ map told_table contents → info_named tables name ≡ Some known → IsTrue known.sound → deserved contents (Optimize name) ≡ None
 unfolding deserved
 optimize_fine contents tables name known told named sound =
-    sound_is contents name known (sound_table contents name known (ap (λ ts. known_named ts name) (sym told) ∙ named) sound) (λ table content. None)
+    sound_is contents name known (sound_table contents name known (ap (λ ts. info_named ts name) (sym told) ∙ named) sound) (λ table content. None)
 
-pub optimize_unfit : (contents : Contents) (tables : List KnownTable) (name : List ℕ) (fault : Fault) → tables ≡ map told_table contents → IsUnfit tables name fault → deserved contents (Optimize name) ≡ Some fault
+pub optimize_unfit : (contents : Contents) (tables : List TableInfo) (name : List ℕ) (fault : Fault) → tables ≡ map told_table contents → IsUnfit tables name fault → deserved contents (Optimize name) ≡ Some fault
 unfolding deserved
 optimize_unfit contents tables name fault told unfit = unfit_is contents name fault (λ table content. None) (subst (λ ts. IsUnfit ts name fault) told unfit)
 

@@ -7,7 +7,7 @@ use Rattle.std.specs.Cmp.{int_cmp_total, eq_by_cmp_equiv}
 use Rattle.ft_store.specs.Store.{StoreValue, AreInOrder, Change, AddTable, DropTable, PutCell, DropCells, PutEntries, DropEntries, PutSize, DropSize, ClearIndex, Note, applied, all_applied}
 use Rattle.ft_content.specs.Content.{Content, Documents, IsContent, content_rows}
 use Rattle.ft_content.specs.Index.{index_rows}
-use Rattle.ft_content.specs.Views.{KnownTable}
+use Rattle.ft_content.specs.Views.{TableInfo}
 use Rattle.ft_content.specs.Deserved.{Contents}
 use Rattle.ft_content.specs.Step.{with_documents, on_table}
 use Rattle.ft_index.specs.Tables.{table_rows, table_index}
@@ -69,7 +69,7 @@ leaves_rest id docids (change ∷ changes) store near =
     }
 
 -- So where the rows of a sound table become those of other documents, the store holds the contents with these documents.
-pub lifts : (store new : StoreValue) (tables : List KnownTable) (contents : Contents) (name : List ℕ) (known : KnownTable) (t : IsSoundTable contents name known) (change : Content → Documents) →
+pub lifts : (store new : StoreValue) (tables : List TableInfo) (contents : Contents) (name : List ℕ) (known : TableInfo) (t : IsSoundTable contents name known) (change : Content → Documents) →
     AreInOrder store → AreHeld store tables contents → LeavesRest t.table.0 store new →
     IsContent t.table.1.name (record t.content { documents = change t.content }) →
     table_rows t.table.0 new ≡ content_rows (record t.content { documents = change t.content }) → table_index t.table.0 new ≡ index_rows (record t.content { documents = change t.content }) →

@@ -9,7 +9,7 @@ use Rattle.std.specs.Cmp.Lexicographic.{nat_list_eq_equiv}
 use Rattle.std.specs.FinMap.Entries.{by_order, put}
 use Rattle.ft_content.specs.Content.{same_name, repeats_name}
 use Rattle.ft_content.specs.Command.{Command, Create, Drop, Insert, Update, Delete, Select, Rebuild, Check, Optimize}
-use Rattle.ft_content.specs.Deserved.{Held, Table, Contents, table_named, made_columns}
+use Rattle.ft_content.specs.Deserved.{TableState, Table, Contents, table_named, made_columns}
 use Rattle.ft_content.specs.Step.{free_id_from, new_table, inserted, updated, deleted, with_documents, rebuilt, on_table, after}
 use Rattle.ft_index.specs.Kept.{left_by, table_names, NamesStayApart}
 
@@ -81,7 +81,7 @@ apart_kept p (t ∷ ts) h =
       | false ↦ apart_kept p ts parts.1
     ]
 
-names_changed : (name : List ℕ) (change : Held → Held) (ts : Contents) → table_names (on_table ts name change) ≡ table_names ts
+names_changed : (name : List ℕ) (change : TableState → TableState) (ts : Contents) → table_names (on_table ts name change) ≡ table_names ts
 names_changed name change [] = refl
 names_changed name change (t ∷ ts) =
     elim (same_name t.1.name name) as (λ b. (cond b (t.0, record { name = t.1.name; held = change t.1.held }) t).1.name ∷ table_names (on_table ts name change) ≡ t.1.name ∷ table_names ts) [
@@ -89,7 +89,7 @@ names_changed name change (t ∷ ts) =
       | false ↦ ap (λ ns. t.1.name ∷ ns) (names_changed name change ts)
     ]
 
-apart_changed : (name : List ℕ) (change : Held → Held) (ts : Contents) → repeats_name (table_names ts) ≡ false → repeats_name (table_names (on_table ts name change)) ≡ false
+apart_changed : (name : List ℕ) (change : TableState → TableState) (ts : Contents) → repeats_name (table_names ts) ≡ false → repeats_name (table_names (on_table ts name change)) ≡ false
 apart_changed name change ts h = ap repeats_name (names_changed name change ts) ∙ h
 
 pub apart_after : (contents : Contents) (command : Command) → repeats_name (table_names contents) ≡ false → repeats_name (table_names (after contents command)) ≡ false

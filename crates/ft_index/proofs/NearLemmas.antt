@@ -8,7 +8,8 @@ use Rattle.std.specs.Ordering.{int_cmp, int_eq}
 use Rattle.std.specs.FinMap.Entries.{by_order, put, find}
 use Rattle.std.proofs.lemmas.List.Elements.{All-nil, All-cons, All-head, All-tail, All-append, All-map, All-filter, All-weaker, All-same, All-contains_itself}
 use Rattle.ft_query.specs.Tokens.{PlainToken}
-use Rattle.ft_store.specs.Store.{Cell, column_key_cmp, Change, PutCell, DropCells, PutEntries, DropEntries, PutSize, DropSize}
+use Rattle.ft_values.specs.Cells.{Cell}
+use Rattle.ft_store.specs.Store.{column_key_cmp, Change, PutCell, DropCells, PutEntries, DropEntries, PutSize, DropSize}
 use Rattle.ft_content.specs.Content.{Column, Documents}
 use Rattle.ft_content.specs.Index.{Entry, Key, key_cmp, key_of, StoredSpot, stored_spot, Size, SizeRow, size_row, document_tokens, document_postings, entry_at, document_entries, document_sizes, sizes, index_rows}
 use Rattle.ft_index.specs.Kept.{IsOfDocids}

@@ -10,7 +10,8 @@ use Rattle.std.proofs.lemmas.Bool.{and_parts, and_from}
 use Rattle.std.proofs.lemmas.List.Elements.{All-nil, All-cons, All-append, All-map, All-filter, All-weaker}
 use Rattle.std.proofs.lemmas.Map.Lookups.{CmpEqualImpliesEq}
 use Rattle.std.proofs.lemmas.Slice.Eq.{bytes_eq-Decides}
-use Rattle.ft_store.specs.Store.{Cell, Null, Int, Text, StoreValue, cell_key_cmp, list_key_cmp, column_key_cmp, PutCell, DropCells, PutEntries, DropEntries, PutSize, DropSize}
+use Rattle.ft_values.specs.Cells.{Cell, Null, Int, Text}
+use Rattle.ft_store.specs.Store.{StoreValue, cell_key_cmp, list_key_cmp, column_key_cmp, PutCell, DropCells, PutEntries, DropEntries, PutSize, DropSize}
 use Rattle.ft_content.specs.Content.{Column, Documents, Content}
 use Rattle.ft_content.specs.Index.{Key, key_cmp, StoredSpot}
 use Rattle.ft_content.proofs.IndexLemmas.{key_cmp_total, key_cmp_exact}

@@ -10,7 +10,7 @@ use Rattle.std.specs.FinMap.Entries.{below_all, is_sorted}
 use Rattle.std.proofs.lemmas.Bool.{and_parts}
 use Rattle.ft_store.specs.Store.{StoreValue}
 use Rattle.ft_content.specs.Content.{same_name, repeats_name}
-use Rattle.ft_content.specs.Deserved.{Held, Table, Contents, table_named}
+use Rattle.ft_content.specs.Deserved.{TableState, Table, Contents, table_named}
 use Rattle.ft_content.specs.Step.{on_table}
 use Rattle.ft_index.specs.Tables.{table_rows, table_index}
 use Rattle.ft_index.specs.Kept.{Stands, HoldsTable}
@@ -114,7 +114,7 @@ spared id old new named x spares other h =
     }
 
 -- Where the rows of one table change as its contents do, the store holds what comes of it.
-pub changes_one : (name : List ℕ) (t : ℤ × Table) (old new : StoreValue) (change : Held → Held) (tables : List (ℤ × List ℕ)) (contents : Contents) →
+pub changes_one : (name : List ℕ) (t : ℤ × Table) (old new : StoreValue) (change : TableState → TableState) (tables : List (ℤ × List ℕ)) (contents : Contents) →
     SparesAllBut t.0 old new → Stands t.1.name (table_rows t.0 new) (table_index t.0 new) (change t.1.held) → AllByRecursion (IsOne name t) contents → AreHeldIn old tables contents → AreHeldIn new tables (on_table contents name change)
 changes_one name t old new change [] [] spares stands one h = tt
 changes_one name t old new change [] (x ∷ xs) spares stands one h = absurd h

@@ -8,11 +8,11 @@ use Rattle.sqlite.specs.Effect.{Database}
 use Rattle.sqlite.specs.Store.{Ghosts}
 use Rattle.ft_store.specs.Rows.{value_of}
 use Rattle.ft_store.specs.Kept.{StoreState, shows, value_in}
-use Rattle.ft_store.specs.declared.rows.TabRow.{TabRow}
+use Rattle.ft_values.specs.declared.rows.TabRow.{TabRow}
 use Rattle.ft_store.specs.Store.{StoreValue}
 use Rattle.ft_store.specs.Shown.{Listed, shown_table, table_listed, AreNamedApart}
 use Rattle.ft_content.specs.Content.{repeats_name}
-use Rattle.ft_content.specs.Views.{KnownTable}
+use Rattle.ft_content.specs.Views.{TableInfo}
 use Rattle.ft_content.specs.Deserved.{Table, Contents}
 use Rattle.ft_index.specs.Changed.{with_tables}
 use Rattle.ft_index.specs.DocumentsRead.{Looks}
@@ -22,19 +22,19 @@ use Rattle.ft_index.proofs.HeldLemmas.{holds_one_contents}
 use Rattle.ft_index.specs.Tables.{table_rows, table_index}
 
 -- what is told of each table that is listed
-abbrev pub IsMarkedRow : StoreValue → TabRow → KnownTable → Type 0
+abbrev pub IsMarkedRow : StoreValue → TabRow → TableInfo → Type 0
 IsMarkedRow store row known = (named : ℤ × List ℕ) → IsListed store named row → IsMarked store named known
 
-abbrev pub AreMarkedRows : StoreValue → List TabRow → List KnownTable → Type 0
+abbrev pub AreMarkedRows : StoreValue → List TabRow → List TableInfo → Type 0
 AreMarkedRows store rows known = AllZip (IsMarkedRow store) rows known
 
-pub one_marked_more : (store : StoreValue) (rows : List TabRow) (known : List KnownTable) (row : TabRow) (k : KnownTable) → AreMarkedRows store rows known → IsMarkedRow store row k → AreMarkedRows store (rows ++ row ∷ []) (known ++ k ∷ [])
+pub one_marked_more : (store : StoreValue) (rows : List TabRow) (known : List TableInfo) (row : TabRow) (k : TableInfo) → AreMarkedRows store rows known → IsMarkedRow store row k → AreMarkedRows store (rows ++ row ∷ []) (known ++ k ∷ [])
 one_marked_more store [] [] row k all one = (one, tt)
 one_marked_more store [] (x ∷ xs) row k all one = absurd all
 one_marked_more store (r ∷ rs) [] row k all one = absurd all
 one_marked_more store (r ∷ rs) (x ∷ xs) row k all one = (all.0, one_marked_more store rs xs row k all.1 one)
 
-pub are_marked : (store : StoreValue) (rows : List TabRow) (tables : List (ℤ × List ℕ)) (known : List KnownTable) → AreMarkedRows store rows known → map shown_table rows ≡ map (table_listed store) tables → AreMarked store tables known
+pub are_marked : (store : StoreValue) (rows : List TabRow) (tables : List (ℤ × List ℕ)) (known : List TableInfo) → AreMarkedRows store rows known → map shown_table rows ≡ map (table_listed store) tables → AreMarked store tables known
 are_marked store [] [] [] all same = tt
 are_marked store [] [] (x ∷ xs) all same = absurd all
 are_marked store [] (t ∷ ts) known all same = absurd (let none = same in cc)
@@ -47,13 +47,13 @@ are_marked store (r ∷ rs) (t ∷ ts) (x ∷ xs) all same =
 
 -- ---- contents out of what is told
 
-pub record FoundIn (store : StoreValue) (tables : List (ℤ × List ℕ)) (known : List KnownTable) : Type 0 where
+pub record FoundIn (store : StoreValue) (tables : List (ℤ × List ℕ)) (known : List TableInfo) : Type 0 where
   pub contents : Contents
   pub held : AllZip (λ (named : ℤ × List ℕ) (table : ℤ × Table). HoldsTable named (table_rows named.0 store) (table_index named.0 store) table) tables contents
   pub told : known ≡ map told_table contents
   pub names : map (λ (t : ℤ × Table). t.1.name) contents ≡ map (λ (t : ℤ × List ℕ). t.1) tables
 
-found : (store : StoreValue) (tables : List (ℤ × List ℕ)) (known : List KnownTable) → AreMarked store tables known → FoundIn store tables known
+found : (store : StoreValue) (tables : List (ℤ × List ℕ)) (known : List TableInfo) → AreMarked store tables known → FoundIn store tables known
 found store [] [] all = record { contents = []; held = tt; told = refl; names = refl }
 found store [] (x ∷ xs) all = absurd all
 found store (t ∷ ts) [] all = absurd all
@@ -67,11 +67,11 @@ found store (t ∷ ts) (x ∷ xs) all =
       names = ap (λ ns. t.1 ∷ ns) rest.names;
     }
 
-pub marked_contents : (store : StoreValue) (known : List KnownTable) → AreMarked store store.tables known → FoundIn store store.tables known
+pub marked_contents : (store : StoreValue) (known : List TableInfo) → AreMarked store store.tables known → FoundIn store store.tables known
 marked_contents store known all = found store store.tables known all
 
 -- Where no two tables have one name, what is told of them is of contents that the store holds.
-pub marked_holds : (store : StoreValue) (known : List KnownTable) → AreNamedApart store → AreMarked store store.tables known → (contents : Contents) × AreHeld store known contents
+pub marked_holds : (store : StoreValue) (known : List TableInfo) → AreNamedApart store → AreMarked store store.tables known → (contents : Contents) × AreHeld store known contents
 marked_holds store known apart all =
     let f = found store store.tables known all in
     (f.contents, record { named_once = ap repeats_name f.names ∙ same_repeats (map (λ (t : ℤ × List ℕ). t.1) store.tables) ∙ apart; held = f.held; told = f.told })
@@ -81,7 +81,7 @@ marked_holds store known apart all =
 
 -- ---- a store that is taken
 
-module _ {S : Type 0} (g : Ghosts S) (old new : StoreState S) (known : List KnownTable) (looks : Looks g old new) (live : HasCleanDisk (shows g new) → IsTrue (shows g new).is_open)
+module _ {S : Type 0} (g : Ghosts S) (old new : StoreState S) (known : List TableInfo) (looks : Looks g old new) (live : HasCleanDisk (shows g new) → IsTrue (shows g new).is_open)
     (marked : HasCleanDisk (shows g new) → AreMarked (value_in g old) (value_in g old).tables known)
     (apart : HasCleanDisk (shows g old) → IsTrue (shows g old).is_open → AreNamedApart (value_in g old)) where
   same_value : HasCleanDisk (shows g new) → value_in g new ≡ value_in g old

@@ -13,7 +13,7 @@ use Rattle.ft_query.proofs.TokenLaw.{computed_tokens}
 use Rattle.ft_query.proofs.TokenOnce.{pairs_head, pairs_tail}
 use Rattle.ft_query.proofs.Bridge.{from_column, postings_rise}
 use Rattle.ft_store.specs.Packed as packing
-use Rattle.ft_store.specs.Store.{Cell, Null, Int, Text}
+use Rattle.ft_values.specs.Cells.{Cell, Null, Int, Text}
 use Rattle.ft_content.specs.Content.{Column, cell_text, is_cell, has_nul}
 use Rattle.ft_content.specs.Index.{Spot, Entry, entry_at, Key, key_cmp, key_of, StoredSpot, stored_spot, indexed_text, cell_tokens, document_tokens, document_postings, document_entries}
 use Rattle.ft_content.specs.Laws.{spots_in, some_if_any}

@@ -6,11 +6,12 @@ use Rattle.std.specs.Prelude.{◌==◌, filter, All, IfSome, unwrap_or}
 use Rattle.std.specs.Ordering.{int_cmp, int_eq}
 use Rattle.std.specs.FinMap.Entries.{find, is_sorted}
 use Rattle.std.proofs.lemmas.List.Elements.{All-nil, All-cons, All-head, All-tail, All-append, All-map, All-filter, All-weaker}
-use Rattle.ft_store.specs.declared.rows.RowChange.{RowChange}
-use Rattle.ft_store.specs.declared.rows.RowChange.TheVariants as row
+use Rattle.ft_values.specs.declared.rows.RowChange.{RowChange}
+use Rattle.ft_values.specs.declared.rows.RowChange.TheVariants as row
 use Rattle.ft_store.specs.Changes.{shown_change, CanApply}
 use Rattle.ft_store.specs.Packed.{CanPack}
-use Rattle.ft_store.specs.Store.{Cell, column_key_cmp, PutCell, DropCells, PutEntries, DropEntries, PutSize, DropSize}
+use Rattle.ft_values.specs.Cells.{Cell}
+use Rattle.ft_store.specs.Store.{column_key_cmp, PutCell, DropCells, PutEntries, DropEntries, PutSize, DropSize}
 use Rattle.ft_content.specs.Content.{Column, Documents, is_cell, is_document}
 use Rattle.ft_content.specs.Index.{Key, key_cmp, StoredSpot}
 use Rattle.ft_content.proofs.IndexLemmas.{key_cmp_total}

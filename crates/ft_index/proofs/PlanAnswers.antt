@@ -2,15 +2,15 @@
 use Rattle.std.proofs.Common.{◌≡◌, ◌⊎◌, inl, inr, ℕ, Bool, true, List, [], ◌∷◌, map, Option, Some, None, Result, Ok, Err, ℤ, refl, sym, ap, subst, ◌∙◌}
 use Rattle.std.specs.Prelude.{IsTrue, is_some}
 use Rattle.ft_store.specs.Store.{StoreValue, AreInOrder}
-use Rattle.ft_content.specs.declared.fault.Fault.{Fault}
-use Rattle.ft_content.specs.declared.fault.Fault.TheVariants as faults
-use Rattle.ft_content.specs.declared.table.TableInfo.{TableInfo}
+use Rattle.ft_values.specs.declared.fault.Fault.{Fault}
+use Rattle.ft_values.specs.declared.fault.Fault.TheVariants as faults
+use Rattle.ft_values.specs.declared.table.TableInfo.{TableInfo as RustTableInfo}
 use Rattle.ft_content.specs.Content.{Content}
 use Rattle.ft_content.specs.Command.{Command, Create, Select, Check, Optimize, Filter, Items, Reply}
-use Rattle.ft_content.specs.Views.{KnownTable}
+use Rattle.ft_content.specs.Views.{TableInfo}
 use Rattle.ft_content.specs.Deserved.{Contents, select_fault, deserved}
 use Rattle.ft_content.specs.Step.{after, step, step_by, reply_to}
-use Rattle.ft_index.specs.Found.{known_named, IsUnfit, IsSoundNamed}
+use Rattle.ft_index.specs.Found.{info_named, IsUnfit, IsSoundNamed}
 use Rattle.ft_index.specs.Planned.{Makes, table_change}
 use Rattle.ft_index.specs.Kept.{AreHeld, StoreHolds, StaysNear, PlansFrom, Answers, is_outside, told_table}
 use Rattle.ft_index.proofs.KnownLemmas.{IsSoundTable, sound_table, sound_is, unfit_is}
@@ -19,12 +19,12 @@ use Rattle.ft_index.proofs.BareLemmas.{bare}
 use Rattle.ft_index.proofs.CreateLemmas.{made_is_held, nothing_made}
 
 -- a command that leaves the contents, and names no row
-pub plans_nothing : (contents : Contents) (command : Command) (store : StoreValue) (tables : List KnownTable) → AreHeld store tables contents → after contents command ≡ contents → StaysNear contents command [] → deserved contents command ≡ None → PlansFrom contents command store (Ok [])
+pub plans_nothing : (contents : Contents) (command : Command) (store : StoreValue) (tables : List TableInfo) → AreHeld store tables contents → after contents command ≡ contents → StaysNear contents command [] → deserved contents command ≡ None → PlansFrom contents command store (Ok [])
 plans_nothing contents command store tables held same near fine = (fine, subst (StoreHolds store) (sym same) held.held, refl, near)
 
 -- ---- Create
 
-module _ (contents : Contents) (table module_name : List ℕ) (options : List (List ℕ × List ℕ)) (names : List (List ℕ)) (if_new : Bool) (store : StoreValue) (tables : List KnownTable) where
+module _ (contents : Contents) (table module_name : List ℕ) (options : List (List ℕ × List ℕ)) (names : List (List ℕ)) (if_new : Bool) (store : StoreValue) (tables : List TableInfo) where
   pub create_refused : (fault : Fault) → Makes contents table module_name options names if_new (Err fault) → PlansFrom contents (Create table module_name options names if_new) store (Err fault)
   create_refused fault (inl memory) = inl (ap (λ f. is_outside (Err f)) memory)
   create_refused fault (inr due) = inr due
@@ -32,12 +32,12 @@ module _ (contents : Contents) (table module_name : List ℕ) (options : List (L
   pub create_nothing : AreHeld store tables contents → Makes contents table module_name options names if_new (Ok None) → PlansFrom contents (Create table module_name options names if_new) store (Ok [])
   create_nothing held makes = plans_nothing contents (Create table module_name options names if_new) store tables held (nothing_made contents table module_name options names if_new makes.1) tt makes.0
 
-  pub create_makes : (made : TableInfo) → AreInOrder store → AreHeld store tables contents → Makes contents table module_name options names if_new (Ok (Some made)) → PlansFrom contents (Create table module_name options names if_new) store (Ok (table_change made ∷ []))
+  pub create_makes : (made : RustTableInfo) → AreInOrder store → AreHeld store tables contents → Makes contents table module_name options names if_new (Ok (Some made)) → PlansFrom contents (Create table module_name options names if_new) store (Ok (table_change made ∷ []))
   create_makes made order held makes = (makes.0, (made_is_held contents table module_name options names if_new made store tables makes order held).held, refl, tt)
 
 -- ---- Select
 
-module _ (contents : Contents) (name : List ℕ) (items : Items) (f : Filter) (limit : Option ℕ) (offset : ℕ) (store : StoreValue) (tables : List KnownTable) (held : AreHeld store tables contents) where
+module _ (contents : Contents) (name : List ℕ) (items : Items) (f : Filter) (limit : Option ℕ) (offset : ℕ) (store : StoreValue) (tables : List TableInfo) (held : AreHeld store tables contents) where
   abbrev command : Command
   command = Select name items f limit offset
 
@@ -45,13 +45,13 @@ module _ (contents : Contents) (name : List ℕ) (items : Items) (f : Filter) (l
   unfolding deserved
   select_unplanned fault unfit = inr (unfit_is contents name fault (λ table content. select_fault table content items f) (subst (λ ts. IsUnfit ts name fault) held.told unfit))
 
-  module _ (known : KnownTable) (named : IsSoundNamed tables name known) where
+  module _ (known : TableInfo) (named : IsSoundNamed tables name known) where
     due : deserved contents command ≡ select_fault known.name (bare known.columns) items f
     unfolding deserved
     due =
-        let t = sound_table contents name known (ap (λ ts. known_named ts name) (sym held.told) ∙ named.0) named.1 in
+        let t = sound_table contents name known (ap (λ ts. info_named ts name) (sym held.told) ∙ named.0) named.1 in
         sound_is contents name known t (λ table content. select_fault table content items f)
-        ∙ ap (λ (k : KnownTable). select_fault k.name t.content items f) t.told
+        ∙ ap (λ (k : TableInfo). select_fault k.name t.content items f) t.told
         ∙ sym (fault_bare known.name known.columns t.content items f (told_columns contents name known t))
 
     pub select_fails : (fault : Fault) → (fault ≡ faults.Memory) ⊎ (select_fault known.name (bare known.columns) items f ≡ Some fault) → PlansFrom contents command store (Err fault)
@@ -88,10 +88,10 @@ answered_fault contents last command fault (inr stepped) = go (deserved contents
     go None is = absurd (let no = ap (λ (p : Result Reply Fault × Contents). p.0) is in cc)
     go (Some other) is = inr (ap (λ (p : Result Reply Fault × Contents). Some (fault_in p.0)) is)
 
-pub check_plans : (contents : Contents) (name : List ℕ) (store : StoreValue) (tables : List KnownTable) → AreHeld store tables contents → deserved contents (Check name) ≡ None → PlansFrom contents (Check name) store (Ok [])
+pub check_plans : (contents : Contents) (name : List ℕ) (store : StoreValue) (tables : List TableInfo) → AreHeld store tables contents → deserved contents (Check name) ≡ None → PlansFrom contents (Check name) store (Ok [])
 unfolding after
 check_plans contents name store tables held fine = plans_nothing contents (Check name) store tables held refl refl fine
 
-pub optimize_plans : (contents : Contents) (name : List ℕ) (store : StoreValue) (tables : List KnownTable) → AreHeld store tables contents → deserved contents (Optimize name) ≡ None → PlansFrom contents (Optimize name) store (Ok [])
+pub optimize_plans : (contents : Contents) (name : List ℕ) (store : StoreValue) (tables : List TableInfo) → AreHeld store tables contents → deserved contents (Optimize name) ≡ None → PlansFrom contents (Optimize name) store (Ok [])
 unfolding after
 optimize_plans contents name store tables held fine = plans_nothing contents (Optimize name) store tables held refl refl fine

@@ -10,9 +10,9 @@ use Rattle.std.proofs.lemmas.List.{reverse-append, map-append}
 use Rattle.std.proofs.lemmas.List.Elements.{filter-append}
 use Rattle.std.proofs.lemmas.Map.Lookups.{exact_signed}
 use Rattle.sqlite_keyed.proofs.ListLemmas.{map-map}
-use Rattle.ft_store.specs.declared.rows.CellRow as row
-use Rattle.ft_store.specs.Store.{Cell, CellKey, StoreValue, cell_key_cmp}
-use Rattle.ft_store.specs.Changes.{shown_value}
+use Rattle.ft_values.specs.declared.rows.CellRow as row
+use Rattle.ft_values.specs.Cells.{Cell, shown_value}
+use Rattle.ft_store.specs.Store.{CellKey, StoreValue, cell_key_cmp}
 use Rattle.ft_store.specs.Shown.{shown_cell, last_docid_of}
 use Rattle.ft_content.specs.Content.{CellRow, TableRows, Documents, Content, IsContent, gathered, is_document, is_cell, document_rows, content_rows, names_of, names_clash, is_name}
 use Rattle.ft_content.specs.Views.{last_docid}

@@ -7,24 +7,24 @@ use Rattle.std.specs.Cmp.{int_cmp_total, eq_by_cmp_equiv}
 use Rattle.sqlite.specs.State.{HasCleanDisk}
 use Rattle.sqlite.specs.Effect.{Database}
 use Rattle.sqlite.specs.Store.{Ghosts}
-use Rattle.ft_store.specs.declared.rows.CellRow as stored_cell
-use Rattle.ft_store.specs.declared.rows.TabRow.{TabRow}
+use Rattle.ft_values.specs.declared.rows.CellRow as stored_cell
+use Rattle.ft_values.specs.declared.rows.TabRow.{TabRow}
 use Rattle.ft_store.specs.Rows.{value_of}
 use Rattle.ft_store.specs.Store.{StoreValue, AreInOrder, Change, all_applied}
 use Rattle.ft_store.specs.Kept.{StoreState, shows, value_in}
-use Rattle.ft_content.specs.declared.fault.Fault.{Fault}
-use Rattle.ft_content.specs.declared.fault.Fault.TheVariants as faults
+use Rattle.ft_values.specs.declared.fault.Fault.{Fault}
+use Rattle.ft_values.specs.declared.fault.Fault.TheVariants as faults
 use Rattle.ft_content.specs.Content.{Content, TableRows, IsContent, content_rows, content_in, gathered, same_name}
 use Rattle.ft_content.specs.Index.{IndexRows, index_rows}
 use Rattle.ft_content.specs.Command.{Command, Rebuild, Done}
-use Rattle.ft_content.specs.Views.{KnownTable, column_of}
-use Rattle.ft_content.specs.Deserved.{Held, Sound, Stale, Loose, Table, Contents, table_named, on_found, rebuild_fault, deserved}
+use Rattle.ft_content.specs.Views.{TableInfo, column_of}
+use Rattle.ft_content.specs.Deserved.{TableState, Sound, Stale, Loose, Table, Contents, table_named, on_found, rebuild_fault, deserved}
 use Rattle.ft_content.specs.Step.{rebuilt, on_table, after, reply_to}
 use Rattle.ft_content.proofs.RowLemmas.{contents_are_one, rows_are_read}
 use Rattle.ft_index.specs.declared.rebuild.TableContent.{TableContent}
 use Rattle.ft_index.specs.Changed.{Changed, with_tables}
 use Rattle.ft_index.specs.DocumentsRead.{Looks}
-use Rattle.ft_index.specs.Found.{known_named}
+use Rattle.ft_index.specs.Found.{info_named}
 use Rattle.ft_index.specs.Kept.{IsUp, AreHeld, StoreHolds, Stands, Executes, Answers, PlansFrom, is_outside, told_table}
 use Rattle.ft_index.specs.Rebuild.{shown_document, MakesIndex, LeavesOthers, LeavesNames, HoldsContent, HoldsIfAny, with_sound}
 use Rattle.ft_index.specs.Standing.{AreContent, shown_row, listed_rows, columns_in}
@@ -60,26 +60,26 @@ rebuild_due : (contents : Contents) (name : List ℕ) (found : Option (ℤ × Ta
 unfolding deserved
 rebuild_due contents name found is = ap (λ f. on_found f rebuild_fault) is
 
-pub rebuild_missing : (contents : Contents) (tables : List KnownTable) (name : List ℕ) → tables ≡ map told_table contents → known_named tables name ≡ None → deserved contents (Rebuild name) ≡ Some faults.NoSuchTable
-rebuild_missing contents tables name told none = rebuild_due contents name None (none_named contents name (ap (λ ts. known_named ts name) (sym told) ∙ none))
+pub rebuild_missing : (contents : Contents) (tables : List TableInfo) (name : List ℕ) → tables ≡ map told_table contents → info_named tables name ≡ None → deserved contents (Rebuild name) ≡ Some faults.NoSuchTable
+rebuild_missing contents tables name told none = rebuild_due contents name None (none_named contents name (ap (λ ts. info_named ts name) (sym told) ∙ none))
 
-loose_due : (name : List ℕ) (rows : TableRows) (index : IndexRows) (held : Held) → Stands name rows index held → HoldsIfAny name rows None → rebuild_fault name held ≡ Some faults.Corrupt
+loose_due : (name : List ℕ) (rows : TableRows) (index : IndexRows) (held : TableState) → Stands name rows index held → HoldsIfAny name rows None → rebuild_fault name held ≡ Some faults.Corrupt
 loose_due name rows index (Sound content) stands none = absurd (none content stands.0 stands.1)
 loose_due name rows index (Stale content) stands none = absurd (none content stands.0 stands.1)
 loose_due name rows index (Loose loose) stands none = refl
 
-pub rebuild_loose : (store : StoreValue) (contents : Contents) (name : List ℕ) (known : KnownTable) (t : IsTold store contents name known) → HoldsIfAny t.table.1.name (table_rows t.table.0 store) None → deserved contents (Rebuild name) ≡ Some faults.Corrupt
+pub rebuild_loose : (store : StoreValue) (contents : Contents) (name : List ℕ) (known : TableInfo) (t : IsTold store contents name known) → HoldsIfAny t.table.1.name (table_rows t.table.0 store) None → deserved contents (Rebuild name) ≡ Some faults.Corrupt
 rebuild_loose store contents name known t none =
     rebuild_due contents name (Some t.table) t.found ∙ loose_due t.table.1.name (table_rows t.table.0 store) (table_index t.table.0 store) t.table.1.held t.stands none
 
-fine_due : (name : List ℕ) (rows : TableRows) (index : IndexRows) (held : Held) (content : Content) → Stands name rows index held → IsContent name content → rows ≡ content_rows content → rebuild_fault name held ≡ None
+fine_due : (name : List ℕ) (rows : TableRows) (index : IndexRows) (held : TableState) (content : Content) → Stands name rows index held → IsContent name content → rows ≡ content_rows content → rebuild_fault name held ≡ None
 fine_due name rows index (Sound other) content stands is same = refl
 fine_due name rows index (Stale other) content stands is same = refl
 fine_due name rows index (Loose loose) content stands is same = absurd (stands.1 content is same)
 
 -- ---- and what it leaves
 
-rebuilt_stands : (name : List ℕ) (rows new_rows : TableRows) (index new_index : IndexRows) (held : Held) (content : Content) → Stands name rows index held → IsContent name content → rows ≡ content_rows content →
+rebuilt_stands : (name : List ℕ) (rows new_rows : TableRows) (index new_index : IndexRows) (held : TableState) (content : Content) → Stands name rows index held → IsContent name content → rows ≡ content_rows content →
     new_rows ≡ content_rows content → new_index ≡ index_rows content → Stands name new_rows new_index (rebuilt held)
 rebuilt_stands name rows new_rows index new_index (Sound other) content stands is same rows_are index_is =
     let one = contents_are_one name content other is stands.0 (sym same ∙ stands.1) in (stands.0, rows_are ∙ ap content_rows one, index_is ∙ ap index_rows one)
@@ -91,7 +91,7 @@ rebuild_after : (contents : Contents) (name : List ℕ) → after contents (Rebu
 unfolding after
 rebuild_after contents name = refl
 
-pub rebuild_planned : (store : StoreValue) (tables : List KnownTable) (contents : Contents) (name : List ℕ) (known : KnownTable) (t : IsTold store contents name known) (read : TableContent) (changes : List Change) → AreInOrder store → AreHeld store tables contents →
+pub rebuild_planned : (store : StoreValue) (tables : List TableInfo) (contents : Contents) (name : List ℕ) (known : TableInfo) (t : IsTold store contents name known) (read : TableContent) (changes : List Change) → AreInOrder store → AreHeld store tables contents →
     HoldsContent t.table.1.name (table_rows t.table.0 store) read → MakesIndex t.table.0 (map column_of read.columns.items) (map shown_document read.documents.items) changes → LeavesOthers t.table.0 changes → LeavesNames changes →
     PlansFrom contents (Rebuild name) store (Ok changes)
 rebuild_planned store tables contents name known t read changes order held has makes leaves names =
@@ -110,7 +110,7 @@ rebuild_planned store tables contents name known t read changes order held has m
 
 -- ---- the tables that are told after it
 
-told_sound : (id : ℤ) (name : List ℕ) (held : Held) → rebuild_fault name held ≡ None → record (told_table (id, record { name = name; held = held })) { sound = true } ≡ told_table (id, record { name = name; held = rebuilt held })
+told_sound : (id : ℤ) (name : List ℕ) (held : TableState) → rebuild_fault name held ≡ None → record (told_table (id, record { name = name; held = held })) { sound = true } ≡ told_table (id, record { name = name; held = rebuilt held })
 told_sound id name (Sound content) fine = refl
 told_sound id name (Stale content) fine = refl
 told_sound id name (Loose rows) fine = absurd (let no = fine in cc)
@@ -132,10 +132,10 @@ told_rebuilt name t (c ∷ cs) one fine = go (int_eq t.0 c.0) refl (told_rebuilt
         let first = ap (λ b. cond b (record (told_table c) { sound = true }) (told_table c)) is ∙ sym (ap (λ b. told_table (cond b new c)) (one.0.agrees ∙ is)) in
         λ i. first i ∷ rest i
 
-pub told_after : (store : StoreValue) (tables : List KnownTable) (contents : Contents) (name : List ℕ) (known : KnownTable) (t : IsTold store contents name known) → tables ≡ map told_table contents → deserved contents (Rebuild name) ≡ None → with_sound known.id tables ≡ map told_table (after contents (Rebuild name))
+pub told_after : (store : StoreValue) (tables : List TableInfo) (contents : Contents) (name : List ℕ) (known : TableInfo) (t : IsTold store contents name known) → tables ≡ map told_table contents → deserved contents (Rebuild name) ≡ None → with_sound known.id tables ≡ map told_table (after contents (Rebuild name))
 told_after store tables contents name known t told fine =
     let fault = sym (rebuild_due contents name (Some t.table) t.found) ∙ fine in
-    (λ i. with_sound (ap (λ (k : KnownTable). k.id) (sym t.told) i) (told i)) ∙ told_rebuilt name t.table contents t.one fault ∙ ap (map told_table) (sym (rebuild_after contents name))
+    (λ i. with_sound (ap (λ (k : TableInfo). k.id) (sym t.told) i) (told i)) ∙ told_rebuilt name t.table contents t.one fault ∙ ap (map told_table) (sym (rebuild_after contents name))
 
 pub rebuild_reply : (contents : Contents) (name : List ℕ) → reply_to contents (Rebuild name) ≡ Done
 unfolding reply_to
@@ -143,7 +143,7 @@ rebuild_reply contents name = refl
 
 -- ---- a plan that is made by reading, and then carried out
 
-module _ {S : Type 0} (g : Ghosts S) (old mid new : StoreState S) (tables : List KnownTable) (changes : List Change) (command : Command) (looks : Looks g old mid) where
+module _ {S : Type 0} (g : Ghosts S) (old mid new : StoreState S) (tables : List TableInfo) (changes : List Change) (command : Command) (looks : Looks g old mid) where
   changed_after : (is_done : Bool) → Changed g mid new changes is_done → Changed g old new changes is_done
   changed_after is_done changed = record {
     was_up = λ some others up. let before = changed.was_up some others up in record { clean = (let c = before.clean in omega (arith, looks.survives.clean, c)); is_open = (looks.kept before.clean before.is_open).2 };
@@ -156,7 +156,7 @@ module _ {S : Type 0} (g : Ghosts S) (old mid new : StoreState S) (tables : List
   pub refused_after : (fault : Fault) → (fault ≡ faults.Store) ⊎ (fault ≡ faults.Memory) → Changed g mid new changes false → Executes g (with_tables old tables) command (Err fault) (with_tables new tables)
   refused_after fault outside changed = executes_refused g old new tables changes command fault outside (changed_after false changed)
 
-  pub executes_after : (after_tables : List KnownTable) → (HasCleanDisk (shows g mid) → (contents : Contents) → AreHeld (value_in g old) tables contents → PlansFrom contents command (value_in g old) (Ok changes)) → Changed g mid new changes true →
+  pub executes_after : (after_tables : List TableInfo) → (HasCleanDisk (shows g mid) → (contents : Contents) → AreHeld (value_in g old) tables contents → PlansFrom contents command (value_in g old) (Ok changes)) → Changed g mid new changes true →
       ((contents : Contents) → AreHeld (value_in g old) tables contents → deserved contents command ≡ None → after_tables ≡ map told_table (after contents command)) → ((contents : Contents) → reply_to contents command ≡ Done) →
       Executes g (with_tables old tables) command (Ok Done) (with_tables new after_tables)
   executes_after after_tables plans changed told done =
@@ -178,7 +178,7 @@ module _ {S : Type 0} (g : Ghosts S) (old mid new : StoreState S) (tables : List
       }
 
 -- a plan that is refused
-pub refused_plan : {S : Type 0} (g : Ghosts S) (old new : StoreState S) (tables : List KnownTable) (command : Command) (fault : Fault) → Looks g old new →
+pub refused_plan : {S : Type 0} (g : Ghosts S) (old new : StoreState S) (tables : List TableInfo) (command : Command) (fault : Fault) → Looks g old new →
     (HasCleanDisk (shows g new) → (contents : Contents) → AreHeld (value_in g old) tables contents → PlansFrom contents command (value_in g old) (Err fault)) → Executes g (with_tables old tables) command (Err fault) (with_tables new tables)
 refused_plan g old new tables command fault looks plans = executes_read g old new tables command (Err fault) looks (λ up first holds. due first (plans up.clean first holds))
   where

@@ -11,7 +11,7 @@ use Rattle.std.specs.FinMap.Entries.{find, below_all, is_sorted, is_sorted-put, 
 use Rattle.std.proofs.lemmas.Bool.{and_parts, and_from}
 use Rattle.std.proofs.lemmas.List.Elements.{All-head, All-tail}
 use Rattle.std.proofs.lemmas.Map.Lookups.{CmpEqualImpliesEq}
-use Rattle.ft_store.specs.Store.{Cell}
+use Rattle.ft_values.specs.Cells.{Cell}
 use Rattle.ft_content.specs.Content.{Documents}
 use Rattle.ft_index.specs.Rewrite.{Rewrite, with_cells, rewritten, document_if, befores, afters, by_docid}
 use Rattle.ft_index.specs.RewriteRows.{all_put, gone, changed}

@@ -9,7 +9,8 @@ use Rattle.std.proofs.lemmas.Bool.Decides.{nat_tests}
 use Rattle.std.proofs.lemmas.List.Elements.{All-nil, All-cons, All-head, All-tail}
 use Rattle.std.proofs.lemmas.Map.Lookups.{exact_signed}
 use Rattle.std.proofs.lemmas.Simd.{map-map}
-use Rattle.ft_store.specs.Store.{Cell, StoreValue, CellKey, ListKey, cell_key_cmp, list_key_cmp, column_key_cmp, all_applied}
+use Rattle.ft_values.specs.Cells.{Cell}
+use Rattle.ft_store.specs.Store.{StoreValue, CellKey, ListKey, cell_key_cmp, list_key_cmp, column_key_cmp, all_applied}
 use Rattle.ft_content.specs.Content.{Column, Documents, Content, is_cell, is_document, content_rows, document_rows}
 use Rattle.ft_content.specs.Index.{Key, key_cmp, StoredSpot, index_rows}
 use Rattle.ft_content.proofs.IndexLemmas.{key_cmp_total, key_cmp_exact}

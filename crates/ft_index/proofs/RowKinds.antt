@@ -7,7 +7,8 @@ use Rattle.std.specs.FinMap.Entries.{find, is_sorted}
 use Rattle.std.proofs.lemmas.List.{map-append}
 use Rattle.std.proofs.lemmas.Simd.{map-map}
 use Rattle.ft_query.specs.Tokens.{PlainToken}
-use Rattle.ft_store.specs.Store.{Cell, column_key_cmp}
+use Rattle.ft_values.specs.Cells.{Cell}
+use Rattle.ft_store.specs.Store.{column_key_cmp}
 use Rattle.ft_content.specs.Content.{Column, Documents, CellRow, document_rows}
 use Rattle.ft_content.specs.Index.{Key, key_cmp, StoredSpot, stored_spot, spot_lists, Size, SizeRow, size_row, document_tokens, document_sizes, entries, sizes, index_rows}
 use Rattle.ft_content.specs.Laws.{content_with, document_lists}

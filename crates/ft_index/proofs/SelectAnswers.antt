@@ -7,19 +7,19 @@ use Rattle.ft_query.specs.Trees.{Tree}
 use Rattle.ft_store.specs.Store.{StoreValue, AreInOrder}
 use Rattle.ft_store.specs.Rows.{value_of as value_of_trees}
 use Rattle.ft_store.specs.Kept.{StoreState, value_in, more_rows}
-use Rattle.ft_content.specs.declared.fault.Fault.{Fault}
-use Rattle.ft_content.specs.declared.fault.Fault.TheVariants as faults
+use Rattle.ft_values.specs.declared.fault.Fault.{Fault}
+use Rattle.ft_values.specs.declared.fault.Fault.TheVariants as faults
 use Rattle.ft_content.specs.Content.{Column, Content, content_rows, names_of, same_name}
-use Rattle.ft_content.specs.Command.{Filter, Everything, OfDocid, Matching, Item, AllColumns, Named, OffsetsOf, Items, Counted, Listed, Command, Select, Reply, Rows, Grid}
+use Rattle.ft_content.specs.Command.{Filter, All, Docid, Match, Item, AllColumns, Named, OffsetsOf, Items, Counted, Listed, Command, Select, Reply, Rows, Grid}
 use Rattle.ft_content.specs.Answer.{reading, column_place, item_headers, answer_names, answer}
-use Rattle.ft_content.specs.Deserved.{Held, Sound, Table, Contents, table_named, first_of, or_else, has_column, item_unknown, names_unknown, items_in, is_offsets, is_match, reading_fault, query_fault, select_fault, deserved}
+use Rattle.ft_content.specs.Deserved.{TableState, Sound, Table, Contents, table_named, first_of, or_else, has_column, item_unknown, names_unknown, items_in, is_offsets, is_match, reading_fault, query_fault, select_fault, deserved}
 use Rattle.ft_content.specs.Step.{answer_of_held, answer_of_found, after, reply_to, step, step_by}
-use Rattle.ft_content.specs.Views.{KnownTable}
+use Rattle.ft_content.specs.Views.{TableInfo}
 use Rattle.ft_query.specs.Reads.{query_of}
 use Rattle.ft_content.specs.Index.{index_rows}
 use Rattle.ft_index.specs.Tables.{table_rows, table_index}
-use Rattle.ft_index.specs.Found.{known_named, IsUnfit}
-use Rattle.ft_index.specs.Kept.{Known, IsUp, AreHeld, Executes, OnlyLooks, Answers, is_outside, held_columns}
+use Rattle.ft_index.specs.Found.{info_named, IsUnfit}
+use Rattle.ft_index.specs.Kept.{FullText, IsUp, AreHeld, Executes, OnlyLooks, Answers, is_outside, held_columns}
 use Rattle.ft_index.specs.Changed.{with_tables}
 use Rattle.ft_index.specs.DocumentsRead.{Looks}
 use Rattle.ft_index.specs.Chosen.{ReadsAs}
@@ -49,23 +49,23 @@ unknown_bare table columns content (Named name ∷ items) same = λ i. not (has_
 unknown_bare table columns content (OffsetsOf name ∷ items) same = ap (λ b. not (same_name table name) || b) (unknown_bare table columns content items same)
 
 unnamed_bare : (table : List ℕ) (columns : List Column) (content : Content) (f : Filter) → content.columns ≡ columns → names_unknown table (bare columns) f ≡ names_unknown table content f
-unnamed_bare table columns content Everything same = refl
-unnamed_bare table columns content (OfDocid docid) same = refl
-unnamed_bare table columns content (Matching name text) same = λ i. not (same_name table name || list_any (same_name name) (names_of (sym same i)))
+unnamed_bare table columns content All same = refl
+unnamed_bare table columns content (Docid docid) same = refl
+unnamed_bare table columns content (Match name text) same = λ i. not (same_name table name || list_any (same_name name) (names_of (sym same i)))
 
 reading_bare : (columns : List Column) (content : Content) (name text : List ℕ) → content.columns ≡ columns → reading (bare columns) name text ≡ reading content name text
 unfolding reading
 reading_bare columns content name text same = λ i. query_of (names_of (sym same i)) (column_place (bare (sym same i)) name) text
 
 reads_bare : (columns : List Column) (content : Content) (f : Filter) (query : Option Tree) → content.columns ≡ columns → ReadsAs (bare columns) f query → ReadsAs content f query
-reads_bare columns content Everything query same h = tt
-reads_bare columns content (OfDocid docid) query same h = tt
-reads_bare columns content (Matching name text) query same h = sym (reading_bare columns content name text same) ∙ h
+reads_bare columns content All query same h = tt
+reads_bare columns content (Docid docid) query same h = tt
+reads_bare columns content (Match name text) query same h = sym (reading_bare columns content name text same) ∙ h
 
 query_bare : (columns : List Column) (content : Content) (f : Filter) → content.columns ≡ columns → query_fault (bare columns) f ≡ query_fault content f
-query_bare columns content Everything same = refl
-query_bare columns content (OfDocid docid) same = refl
-query_bare columns content (Matching name text) same = ap reading_fault (reading_bare columns content name text same)
+query_bare columns content All same = refl
+query_bare columns content (Docid docid) same = refl
+query_bare columns content (Match name text) same = ap reading_fault (reading_bare columns content name text same)
 
 pub fault_bare : (table : List ℕ) (columns : List Column) (content : Content) (items : Items) (f : Filter) → content.columns ≡ columns → select_fault table (bare columns) items f ≡ select_fault table content items f
 fault_bare table columns content items f same =
@@ -82,21 +82,21 @@ fine_offsets table content items f fine = go (list_any (item_unknown table conte
 
 -- ---- a sound table that is told
 
-pub told_columns : (contents : Contents) (name : List ℕ) (known : KnownTable) (t : IsSoundTable contents name known) → t.content.columns ≡ known.columns
-told_columns contents name known t = sym (ap held_columns t.held) ∙ ap (λ (k : KnownTable). k.columns) t.told
+pub told_columns : (contents : Contents) (name : List ℕ) (known : TableInfo) (t : IsSoundTable contents name known) → t.content.columns ≡ known.columns
+told_columns contents name known t = sym (ap held_columns t.held) ∙ ap (λ (k : TableInfo). k.columns) t.told
 
 -- the rows that a MATCH reads
-counted : {S : Type 0} (old new : StoreState S) (tables : List KnownTable) (name : List ℕ) (items : Items) (f : Filter) (limit : Option ℕ) (offset : ℕ) (first : Contents) (t : ℤ × Table) (content : Content) → table_named first name ≡ Some t → t.1.held ≡ Sound content →
+counted : {S : Type 0} (old new : StoreState S) (tables : List TableInfo) (name : List ℕ) (items : Items) (f : Filter) (limit : Option ℕ) (offset : ℕ) (first : Contents) (t : ℤ × Table) (content : Content) → table_named first name ≡ Some t → t.1.held ≡ Sound content →
     (IsTrue (is_match f) → new.rows_read ≡ more_rows (rows_asked content items f limit offset) old) → CountsCommand first (with_tables old tables) (with_tables new tables) (Select name items f limit offset)
-counted old new tables name items Everything limit offset first t content found held counts = tt
-counted old new tables name items (OfDocid docid) limit offset first t content found held counts = tt
-counted {S} old new tables name items (Matching column text) limit offset first t content found held counts =
-    let before : Known S = with_tables old tables in
-    let later : Known S = with_tables new tables in
-    subst (λ (o : Option (ℤ × Table)). CountsFound offset before later items (Matching column text) limit o) (sym found)
-    (subst (λ (h : Held). CountsHeld offset before later items (Matching column text) limit h) (sym held) (counts refl))
+counted old new tables name items All limit offset first t content found held counts = tt
+counted old new tables name items (Docid docid) limit offset first t content found held counts = tt
+counted {S} old new tables name items (Match column text) limit offset first t content found held counts =
+    let before : FullText S = with_tables old tables in
+    let later : FullText S = with_tables new tables in
+    subst (λ (o : Option (ℤ × Table)). CountsFound offset before later items (Match column text) limit o) (sym found)
+    (subst (λ (h : TableState). CountsHeld offset before later items (Match column text) limit h) (sym held) (counts refl))
 
-module _ {S : Type 0} (g : Ghosts S) (old new : StoreState S) (tables : List KnownTable) (name : List ℕ) (items : Items) (f : Filter) (limit : Option ℕ) (offset : ℕ) (looks : Looks g old new) where
+module _ {S : Type 0} (g : Ghosts S) (old new : StoreState S) (tables : List TableInfo) (name : List ℕ) (items : Items) (f : Filter) (limit : Option ℕ) (offset : ℕ) (looks : Looks g old new) where
   abbrev command : Command
   command = Select name items f limit offset
 
@@ -132,16 +132,16 @@ module _ {S : Type 0} (g : Ghosts S) (old new : StoreState S) (tables : List Kno
       is_out (inl e) = ap (λ f. is_outside (Err f)) e
       is_out (inr e) = ap (λ f. is_outside (Err f)) e
 
-  module _ (known : KnownTable) (named : known_named tables name ≡ Some known) (sound : IsTrue known.sound) where
+  module _ (known : TableInfo) (named : info_named tables name ≡ Some known) (sound : IsTrue known.sound) where
     table_of : (first : Contents) → AreHeld (value_in g old) tables first → IsSoundTable first name known
-    table_of first holds = sound_table first name known (ap (λ ts. known_named ts name) (sym holds.told) ∙ named) sound
+    table_of first holds = sound_table first name known (ap (λ ts. info_named ts name) (sym holds.told) ∙ named) sound
 
     due : (first : Contents) (holds : AreHeld (value_in g old) tables first) → deserved first command ≡ select_fault known.name (bare known.columns) items f
     unfolding deserved
     due first holds =
         let t = table_of first holds in
         sound_is first name known t (λ table content. select_fault table content items f)
-        ∙ ap (λ (k : KnownTable). select_fault k.name t.content items f) t.told
+        ∙ ap (λ (k : TableInfo). select_fault k.name t.content items f) t.told
         ∙ sym (fault_bare known.name known.columns t.content items f (told_columns first name known t))
 
     stepped : (grid : Grid) (first : Contents) (t : IsSoundTable first name known) → deserved first command ≡ None → grid ≡ answer known.name t.content items f limit offset → step first command ≡ (Ok (Rows grid), first)
@@ -149,8 +149,8 @@ module _ {S : Type 0} (g : Ghosts S) (old new : StoreState S) (tables : List Kno
     stepped grid first t none is =
         ap (λ due. step_by due first command) none
         ∙ ap (λ (found : Option (ℤ × Table)). (Ok (answer_of_found found items f limit offset), first)) t.found
-        ∙ ap (λ (held : Held). (Ok (answer_of_held t.table.1.name held items f limit offset), first)) t.held
-        ∙ ap (λ (k : KnownTable). (Ok (Rows (answer k.name t.content items f limit offset)), first)) t.told
+        ∙ ap (λ (held : TableState). (Ok (answer_of_held t.table.1.name held items f limit offset), first)) t.held
+        ∙ ap (λ (k : TableInfo). (Ok (Rows (answer k.name t.content items f limit offset)), first)) t.told
         ∙ ap (λ grid. (Ok (Rows grid), first)) (sym is)
 
     pub select_undone : (fault : Fault) → (fault ≡ faults.Memory) ⊎ (select_fault known.name (bare known.columns) items f ≡ Some fault) → Does (Err fault)
@@ -162,7 +162,7 @@ module _ {S : Type 0} (g : Ghosts S) (old new : StoreState S) (tables : List Kno
       asked up first holds =
           let t = table_of first holds in
           let has = sound_rows (value_in g old) tables first name known t order holds in
-          let id : t.table.0 ≡ known.id = ap (λ (k : KnownTable). k.id) t.told in
+          let id : t.table.0 ≡ known.id = ap (λ (k : TableInfo). k.id) t.told in
           record {
             held = record {
               rows = record { clean = up.clean; is_open = up.is_open; name = t.table.1.name; is_content = has.is_content; rows = subst (λ (k : ℤ). table_rows k (value_in g old) ≡ content_rows t.content) id has.rows };

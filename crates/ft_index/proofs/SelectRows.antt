@@ -11,10 +11,10 @@ use Rattle.std.proofs.lemmas.List.{drop-take, take_all, length-take, length-map}
 use Rattle.ft_query.specs.declared.walk.Hit.{Hit}
 use Rattle.ft_query.specs.Trees.{Tree}
 use Rattle.ft_query.specs.Occurs.{PlainHit, plain_hit, offsets_text}
-use Rattle.ft_store.specs.Store.{Cell, Null, Int, Text}
+use Rattle.ft_values.specs.Cells.{Cell, Null, Int, Text}
 use Rattle.ft_content.specs.Content.{Column, Content, Documents, IsContent, is_docid, is_cell, is_document}
-use Rattle.ft_content.specs.Command.{Filter, Everything, OfDocid, Matching, Item, AllColumns, Named, OffsetsOf, Items, Listed}
-use Rattle.ft_content.specs.Answer.{cells_with, item_cells, offsets_cell, item_rows, column_place, cut, query_in, chosen}
+use Rattle.ft_content.specs.Command.{Filter, All, Docid, Match, Item, AllColumns, Named, OffsetsOf, Items, Listed}
+use Rattle.ft_content.specs.Answer.{cells_with, named_cell, item_cells, offsets_cell, item_rows, column_place, cut, query_in, chosen}
 use Rattle.ft_content.specs.Deserved.{is_match, is_offsets}
 use Rattle.ft_content.proofs.AnswerLemmas.{item_cells_are, cut_of_map}
 use Rattle.ft_index.specs.declared.document.Document.{Document}
@@ -44,6 +44,22 @@ cells_bare offsets columns content document (AllColumns ∷ items) same = ap (λ
 cells_bare offsets columns content document (Named name ∷ items) same =
     λ i. cells_with offsets (record { columns = sym same i; documents = [] }) document (Named name) ++ cells_bare offsets columns content document items same i
 cells_bare offsets columns content document (OffsetsOf name ∷ items) same = ap (λ cells. offsets ∷ cells) (cells_bare offsets columns content document items same)
+
+-- without offsets their text doesn't matter
+pub offsets_unasked : (one other : Cell) (content : Content) (document : ℤ × List Cell) (items : List Item) → list_any is_offsets items ≡ false →
+    flat_map (cells_with one content document) items ≡ flat_map (cells_with other content document) items
+offsets_unasked one other content document [] none = refl
+offsets_unasked one other content document (AllColumns ∷ items) none = ap (λ cells. document.1 ++ cells) (offsets_unasked one other content document items none)
+offsets_unasked one other content document (Named name ∷ items) none = ap (λ cells. named_cell content document name ∷ cells) (offsets_unasked one other content document items none)
+offsets_unasked one other content document (OffsetsOf name ∷ items) none = absurd (let no = none in cc)
+
+pub offsets_if_asked : (text right : List ℕ) (content : Content) (document : ℤ × List Cell) (items : List Item) → (list_any is_offsets items ≡ true → text ≡ right) →
+    flat_map (cells_with (Text text) content document) items ≡ flat_map (cells_with (Text right) content document) items
+offsets_if_asked text right content document items asked = go (list_any is_offsets items) refl
+  where
+    go : (b : Bool) → list_any is_offsets items ≡ b → flat_map (cells_with (Text text) content document) items ≡ flat_map (cells_with (Text right) content document) items
+    go true is = ap (λ t. flat_map (cells_with (Text t) content document) items) (asked is)
+    go false isnt = offsets_unasked (Text text) (Text right) content document items isnt
 
 -- without columns the cells of the document don't matter
 cells_unread : (offsets : Cell) (content : Content) (docid : ℤ) (one other : List Cell) (items : List Item) → list_any is_column items ≡ false →
@@ -189,9 +205,9 @@ no_offsets f items plainly asked = go (list_any is_offsets items) (ap (λ b. lis
     go false h = refl
 
 pub no_query : (content : Content) (f : Filter) → is_match f ≡ false → query_in content f ≡ None
-no_query content Everything h = refl
-no_query content (OfDocid docid) h = refl
-no_query content (Matching name text) h = absurd (let no = h in cc)
+no_query content All h = refl
+no_query content (Docid docid) h = refl
+no_query content (Match name text) h = absurd (let no = h in cc)
 
 item_cells_bare : (columns : List Column) (content : Content) (document : ℤ × List Cell) (items : List Item) → content.columns ≡ columns →
     flat_map (item_cells None (record { columns = columns; documents = [] }) document) items ≡ flat_map (item_cells None content document) items

@@ -7,7 +7,7 @@ use Rattle.std.specs.Ordering.{int_cmp, int_eq}
 use Rattle.std.specs.FinMap.Entries.{by_order, put}
 use Rattle.ft_content.specs.Content.{Content, Documents, same_name}
 use Rattle.ft_content.specs.Command.{Command, Create, Drop, Insert, Update, Delete, Select, Rebuild, Check, Optimize}
-use Rattle.ft_content.specs.Deserved.{Held, Sound, Stale, Loose, Table, Contents, table_named, made_columns}
+use Rattle.ft_content.specs.Deserved.{TableState, Sound, Stale, Loose, Table, Contents, table_named, made_columns}
 use Rattle.ft_content.specs.Step.{free_id_from, new_table, inserted, updated, deleted, with_documents, rebuilt, on_table, after}
 use Rattle.ft_index.specs.Kept.{is_sound, is_unsound, left_by, NoneGetsUnsound}
 
@@ -43,15 +43,15 @@ any_kept id q (t ∷ ts) = elim (q t) as (λ b. list_any (is_unsound id) (cond b
 ]
 
 -- a change of what is held that leaves nothing unsound that wasn't
-abbrev KeepsSound : (Held → Held) → Type 0
-KeepsSound change = (held : Held) → is_sound (change held) ≡ false → is_sound held ≡ false
+abbrev KeepsSound : (TableState → TableState) → Type 0
+KeepsSound change = (held : TableState) → is_sound (change held) ≡ false → is_sound held ≡ false
 
 unsound_if : (s u : Bool) (b : Bool) → (s ≡ false → u ≡ false) → cond s false b ≡ true → cond u false b ≡ true
 unsound_if true u b keeps h = absurd (let no = h in cc)
 unsound_if false true b keeps h = absurd (let no = keeps refl in cc)
 unsound_if false false b keeps h = h
 
-any_changed : (id : ℤ) (name : List ℕ) (change : Held → Held) → KeepsSound change → (ts : Contents) → list_any (is_unsound id) (on_table ts name change) ≡ true → list_any (is_unsound id) ts ≡ true
+any_changed : (id : ℤ) (name : List ℕ) (change : TableState → TableState) → KeepsSound change → (ts : Contents) → list_any (is_unsound id) (on_table ts name change) ≡ true → list_any (is_unsound id) ts ≡ true
 any_changed id name change keeps [] h = h
 any_changed id name change keeps (t ∷ ts) h =
     let changed : ℤ × Table = (t.0, record { name = t.1.name; held = change t.1.held }) in

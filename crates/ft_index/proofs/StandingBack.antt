@@ -12,8 +12,8 @@ use Rattle.std.specs.FinMap.{int_cmp-IsAntisymmetric}
 use Rattle.std.specs.FinMap.Entries.{by_order, put, where_key, below_all, is_sorted}
 use Rattle.std.proofs.lemmas.Bool.{and_parts}
 use Rattle.std.proofs.lemmas.List.Elements.{filter-append}
-use Rattle.ft_store.specs.declared.rows.EntryRow as stored
-use Rattle.ft_store.specs.Store.{Cell}
+use Rattle.ft_values.specs.declared.rows.EntryRow as stored
+use Rattle.ft_values.specs.Cells.{Cell}
 use Rattle.ft_content.specs.Content.{Column, Documents, Content, IsContent}
 use Rattle.ft_content.specs.Index.{EntryRow, entry_rows, Entry, Key, key_cmp, key_of, StoredSpot, Spot, stored_spot, SpotLists, spots_at, spot_lists, entry_at, document_entries, document_postings, entries, index_rows, IndexRows}
 use Rattle.ft_content.specs.Laws.{spots_in, entries_of}

@@ -6,7 +6,7 @@ use Rattle.std.specs.Ordering.{int_cmp, int_eq, is_lt, is_eq}
 use Rattle.std.specs.Cmp.{int_cmp_total, tied_itself}
 use Rattle.std.specs.FinMap.Entries.{below_all, is_sorted}
 use Rattle.std.proofs.lemmas.Bool.{and_parts, and_from, false_from_ne_true}
-use Rattle.ft_store.specs.Store.{Cell}
+use Rattle.ft_values.specs.Cells.{Cell}
 use Rattle.ft_content.specs.Content.{CellRow, Documents, document_rows, is_cell, is_document}
 use Rattle.ft_index.specs.Standing.{AreDocuments, stands_after, follows}
 use Rattle.ft_index.proofs.KeyedRows.{less, same_int}

@@ -11,7 +11,7 @@ use Rattle.std.specs.FinMap.Entries.{find, below_all, is_sorted, same_entries}
 use Rattle.std.proofs.lemmas.Bool.{and_parts}
 use Rattle.std.proofs.lemmas.List.{map-append}
 use Rattle.std.proofs.lemmas.List.Elements.{filter-append}
-use Rattle.ft_store.specs.declared.rows.EntryRow as stored
+use Rattle.ft_values.specs.declared.rows.EntryRow as stored
 use Rattle.ft_content.specs.Content.{Column, Documents, Content}
 use Rattle.ft_content.specs.Index.{EntryRow, entry_rows, Entry, Spot, Key, key_cmp, key_of, StoredSpot, stored_spot, spot_lists, document_entries, entries, index_rows, IndexRows}
 use Rattle.ft_content.specs.Laws.{spots_in, some_if_any}

@@ -7,8 +7,8 @@ use Rattle.std.proofs.lemmas.List.{length-map}
 use Rattle.std.proofs.lemmas.List.FromFn.{length-enumerate_from}
 use Rattle.std.proofs.lemmas.Simd.{map-map}
 use Rattle.std.proofs.lemmas.Bool.{and_parts}
-use Rattle.ft_store.specs.declared.rows.CellRow as stored
-use Rattle.ft_store.specs.Store.{Cell}
+use Rattle.ft_values.specs.declared.rows.CellRow as stored
+use Rattle.ft_values.specs.Cells.{Cell}
 use Rattle.ft_content.specs.Content.{Column, CellRow, Documents, document_rows, is_cell, is_document}
 use Rattle.ft_content.specs.Index.{EntryRow}
 use Rattle.ft_index.specs.Standing.{HaveCells, shown_row, cell_in, same_size, same_entry, after_first, own_sizes, own_entries, rests_pass, are_of_documents}

@@ -13,16 +13,17 @@ use Rattle.ft_store.specs.Kept.{StoreState, shows, value_in}
 use Rattle.ft_store.specs.Rows.{value_of}
 use Rattle.ft_store.proofs.ChainLemmas.{kept_then, reads_then}
 use Rattle.ft_index.specs.DocumentsRead.{Looks}
-use Rattle.ft_store.specs.declared.rows.CellRow as stored_cell
-use Rattle.ft_store.specs.declared.rows.SizeRow as stored_size
-use Rattle.ft_store.specs.declared.rows.EntryRow as stored_entry
-use Rattle.ft_store.specs.declared.rows.TabRow.{TabRow}
-use Rattle.ft_store.specs.Store.{Cell, StoreValue, AreInOrder, CellKey, ListKey, cell_key_cmp, list_key_cmp}
+use Rattle.ft_values.specs.declared.rows.CellRow as stored_cell
+use Rattle.ft_values.specs.declared.rows.SizeRow as stored_size
+use Rattle.ft_values.specs.declared.rows.EntryRow as stored_entry
+use Rattle.ft_values.specs.declared.rows.TabRow.{TabRow}
+use Rattle.ft_values.specs.Cells.{Cell}
+use Rattle.ft_store.specs.Store.{StoreValue, AreInOrder, CellKey, ListKey, cell_key_cmp, list_key_cmp}
 use Rattle.ft_store.specs.Shown as shown
 use Rattle.ft_content.specs.Content.{Column, Content, IsContent, TableRows, content_rows, content_in}
 use Rattle.ft_content.specs.Index.{EntryRow, entry_rows, Key, StoredSpot, SizeRow, IndexRows, index_rows}
-use Rattle.ft_content.specs.Views.{KnownTable}
-use Rattle.ft_content.specs.Deserved.{Held, Sound, Stale, Loose}
+use Rattle.ft_content.specs.Views.{TableInfo}
+use Rattle.ft_content.specs.Deserved.{TableState, Sound, Stale, Loose}
 use Rattle.ft_content.proofs.RowLemmas.{rows_are_read}
 use Rattle.ft_index.specs.declared.standing.Standing.TheVariants as standings
 use Rattle.ft_index.specs.declared.standing.Standing.{Standing}
@@ -163,18 +164,18 @@ are_named store named table cells l are = (subst (λ n. IsContent n are.content)
 
 -- ---- what is told of a table
 
-pub marked_so : (held : Held) (standing : Standing) → standing ≡ standing_of held → mark_of standing ≡ is_sound held
+pub marked_so : (held : TableState) (standing : Standing) → standing ≡ standing_of held → mark_of standing ≡ is_sound held
 marked_so (Sound content) standing is = ap mark_of is
 marked_so (Stale content) standing is = ap mark_of is
 marked_so (Loose rows) standing is = ap mark_of is
 
 -- the columns of a table are those that its rows say
-pub told_columns : (name : List ℕ) (rows : TableRows) (index : IndexRows) (held : Held) → Stands name rows index held → columns_in rows ≡ held_columns held
+pub told_columns : (name : List ℕ) (rows : TableRows) (index : IndexRows) (held : TableState) → Stands name rows index held → columns_in rows ≡ held_columns held
 told_columns name rows index (Sound content) stands = said_columns name rows content stands.0 stands.1
 told_columns name rows index (Stale content) stands = said_columns name rows content stands.0 stands.1
 told_columns name rows index (Loose loose) stands = ap (λ (r : TableRows). (content_in r).columns) (sym stands.0)
 
-pub marked : (store : StoreValue) (named : ℤ × List ℕ) (table : TabRow) (known : KnownTable) (standing : Standing) → IsListed store named table → StandsSo named.1 (table_rows named.0 store) (table_index named.0 store) standing →
+pub marked : (store : StoreValue) (named : ℤ × List ℕ) (table : TabRow) (known : TableInfo) (standing : Standing) → IsListed store named table → StandsSo named.1 (table_rows named.0 store) (table_index named.0 store) standing →
     known.id ≡ table.id → known.name ≡ string_bytes table.name → known.columns ≡ columns_in (listed_rows table []) → known.sound ≡ mark_of standing → IsMarked store named known
 marked store named table known standing is so id name columns sound =
     let same_id = id ∙ ap (λ (l : shown.Listed). l.id) is in

@@ -9,7 +9,8 @@ use Rattle.std.proofs.lemmas.Bool.{and_parts, and_from}
 use Rattle.std.proofs.lemmas.List.{map-append}
 use Rattle.std.proofs.lemmas.Slice.Eq.{bytes_eq-Decides}
 use Rattle.ft_query.specs.Tokens.{PlainToken}
-use Rattle.ft_store.specs.Store.{Cell, column_key_cmp}
+use Rattle.ft_values.specs.Cells.{Cell}
+use Rattle.ft_store.specs.Store.{column_key_cmp}
 use Rattle.ft_content.specs.Content.{Column, Documents, Content}
 use Rattle.ft_content.specs.Index.{EntryRow, StoredSpot, Size, SizeRow, size_row, document_tokens, document_sizes, sizes, index_rows}
 use Rattle.ft_content.specs.Laws.{content_with}

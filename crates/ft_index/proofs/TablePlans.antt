@@ -4,13 +4,13 @@ use Rattle.std.specs.Prelude.{is_none}
 use Rattle.std.specs.List.{AllByRecursion}
 use Rattle.std.specs.Ordering.{int_eq}
 use Rattle.ft_store.specs.Store.{StoreValue, AreInOrder, DropTable, applied}
-use Rattle.ft_content.specs.declared.fault.Fault.TheVariants as faults
+use Rattle.ft_values.specs.declared.fault.Fault.TheVariants as faults
 use Rattle.ft_content.specs.Content.{same_name}
 use Rattle.ft_content.specs.Command.{Drop, Done}
-use Rattle.ft_content.specs.Views.{KnownTable}
+use Rattle.ft_content.specs.Views.{TableInfo}
 use Rattle.ft_content.specs.Deserved.{Table, Contents, table_named, first_of, deserved}
 use Rattle.ft_content.specs.Step.{dropped, after, reply_to}
-use Rattle.ft_index.specs.Found.{known_named, without_told}
+use Rattle.ft_index.specs.Found.{info_named, without_told}
 use Rattle.ft_index.specs.Kept.{AreHeld, StoreHolds, PlansFrom, told_table}
 use Rattle.ft_index.proofs.OneTable.{IsOne, one_named, ids_sorted}
 use Rattle.ft_index.proofs.TableChanges.{drop_spares, drops_one}
@@ -35,10 +35,10 @@ spared_due : (found : Option (ℤ × Table)) → first_of ((is_none found && not
 spared_due None = refl
 spared_due (Some t) = refl
 
-pub drop_spared : (store : StoreValue) (tables : List KnownTable) (contents : Contents) (name : List ℕ) (if_there : Bool) → if_there ≡ true → AreHeld store tables contents → known_named tables name ≡ None → PlansFrom contents (Drop name if_there) store (Ok [])
+pub drop_spared : (store : StoreValue) (tables : List TableInfo) (contents : Contents) (name : List ℕ) (if_there : Bool) → if_there ≡ true → AreHeld store tables contents → info_named tables name ≡ None → PlansFrom contents (Drop name if_there) store (Ok [])
 unfolding deserved after
 drop_spared store tables contents name if_there may held none =
-    let none_here : table_named contents name ≡ None = none_named contents name (ap (λ ts. known_named ts name) (sym held.told) ∙ none) in (
+    let none_here : table_named contents name ≡ None = none_named contents name (ap (λ ts. info_named ts name) (sym held.told) ∙ none) in (
       ap (λ b. first_of ((is_none (table_named contents name) && not b, faults.NoSuchTable) ∷ [])) may ∙ spared_due (table_named contents name),
       subst (StoreHolds store) (sym (none_dropped contents name none_here)) held.held,
       refl,
@@ -48,14 +48,14 @@ drop_spared store tables contents name if_there may held none =
 found_due : (found : Option (ℤ × Table)) (t : ℤ × Table) (if_there : Bool) → found ≡ Some t → first_of ((is_none found && not if_there, faults.NoSuchTable) ∷ []) ≡ None
 found_due found t if_there is = ap (λ f. first_of ((is_none f && not if_there, faults.NoSuchTable) ∷ [])) is
 
-pub drop_planned : (store : StoreValue) (tables : List KnownTable) (contents : Contents) (name : List ℕ) (if_there : Bool) (known : KnownTable) → AreInOrder store → AreHeld store tables contents → known_named tables name ≡ Some known →
+pub drop_planned : (store : StoreValue) (tables : List TableInfo) (contents : Contents) (name : List ℕ) (if_there : Bool) (known : TableInfo) → AreInOrder store → AreHeld store tables contents → info_named tables name ≡ Some known →
     PlansFrom contents (Drop name if_there) store (Ok (DropTable known.id ∷ []))
 unfolding deserved after
 drop_planned store tables contents name if_there known order held named =
-    let it = some_named contents name known (ap (λ ts. known_named ts name) (sym held.told) ∙ named) in
+    let it = some_named contents name known (ap (λ ts. info_named ts name) (sym held.told) ∙ named) in
     let t = it.0 in
     let one = one_named name t contents (ids_sorted store store.tables contents held.held order.tables) held.named_once it.1 in
-    let id : t.0 ≡ known.id = ap (λ (k : KnownTable). k.id) it.2 in (
+    let id : t.0 ≡ known.id = ap (λ (k : TableInfo). k.id) it.2 in (
       found_due (table_named contents name) t if_there it.1,
       subst (λ k. StoreHolds (applied (DropTable k) store) (dropped contents name)) id (drops_one name t store (applied (DropTable t.0) store) store.tables contents (drop_spares t.0 store) one held.held),
       refl,
@@ -73,18 +73,18 @@ told_without name t (c ∷ cs) one = go (int_eq t.0 c.0) refl (told_without name
     go true is rest = ap (λ b. cond (not b) (told_table c ∷ without_told t.0 (map told_table cs)) (without_told t.0 (map told_table cs))) is ∙ rest ∙ sym (ap (λ b. map told_table (cond (not b) (c ∷ dropped cs name) (dropped cs name))) (one.0.agrees ∙ is))
     go false is rest = ap (λ b. cond (not b) (told_table c ∷ without_told t.0 (map told_table cs)) (without_told t.0 (map told_table cs))) is ∙ ap (λ l. told_table c ∷ l) rest ∙ sym (ap (λ b. map told_table (cond (not b) (c ∷ dropped cs name) (dropped cs name))) (one.0.agrees ∙ is))
 
-pub told_dropped : (store : StoreValue) (tables : List KnownTable) (contents : Contents) (name : List ℕ) (if_there : Bool) (known : KnownTable) → AreInOrder store → AreHeld store tables contents → known_named tables name ≡ Some known →
+pub told_dropped : (store : StoreValue) (tables : List TableInfo) (contents : Contents) (name : List ℕ) (if_there : Bool) (known : TableInfo) → AreInOrder store → AreHeld store tables contents → info_named tables name ≡ Some known →
     without_told known.id tables ≡ map told_table (after contents (Drop name if_there))
 unfolding after
 told_dropped store tables contents name if_there known order held named =
-    let it = some_named contents name known (ap (λ ts. known_named ts name) (sym held.told) ∙ named) in
+    let it = some_named contents name known (ap (λ ts. info_named ts name) (sym held.told) ∙ named) in
     let one = one_named name it.0 contents (ids_sorted store store.tables contents held.held order.tables) held.named_once it.1 in
-    (λ i. without_told (ap (λ (k : KnownTable). k.id) (sym it.2) i) (held.told i)) ∙ told_without name it.0 contents one
+    (λ i. without_told (ap (λ (k : TableInfo). k.id) (sym it.2) i) (held.told i)) ∙ told_without name it.0 contents one
 
-pub told_spared : (store : StoreValue) (tables : List KnownTable) (contents : Contents) (name : List ℕ) (if_there : Bool) → AreHeld store tables contents → known_named tables name ≡ None → tables ≡ map told_table (after contents (Drop name if_there))
+pub told_spared : (store : StoreValue) (tables : List TableInfo) (contents : Contents) (name : List ℕ) (if_there : Bool) → AreHeld store tables contents → info_named tables name ≡ None → tables ≡ map told_table (after contents (Drop name if_there))
 unfolding after
 told_spared store tables contents name if_there held none =
-    held.told ∙ ap (map told_table) (sym (none_dropped contents name (none_named contents name (ap (λ ts. known_named ts name) (sym held.told) ∙ none))))
+    held.told ∙ ap (map told_table) (sym (none_dropped contents name (none_named contents name (ap (λ ts. info_named ts name) (sym held.told) ∙ none))))
 
 pub drop_done : (contents : Contents) (name : List ℕ) (if_there : Bool) → reply_to contents (Drop name if_there) ≡ Done
 unfolding reply_to

@@ -13,7 +13,7 @@ use Rattle.sqlite_keyed.proofs.ListLemmas.{map-map}
 use Rattle.ft_query.specs.Documents.{AreDocuments, PlaceList, lists_with}
 use Rattle.ft_query.proofs.Bridge.{postings_rise}
 use Rattle.ft_query.proofs.BridgeDocuments.{documents_are}
-use Rattle.ft_store.specs.declared.rows.EntryRow.{EntryRow}
+use Rattle.ft_values.specs.declared.rows.EntryRow.{EntryRow}
 use Rattle.ft_store.specs.Store.{StoreValue, ListKey, list_key_cmp, name_cmp}
 use Rattle.ft_store.specs.Rows.{value_of}
 use Rattle.ft_store.specs.Shown.{shown_entry, entries_of}

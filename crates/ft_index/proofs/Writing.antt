@@ -4,18 +4,18 @@ use Rattle.std.specs.Prelude.{IsTrue, All, Contains, Vec, slice_index_or}
 use Rattle.std.specs.declared.alloc.Global.{Global}
 use Rattle.std.specs.List.{AllByRecursion}
 use Rattle.std.proofs.lemmas.List.Elements.{recursion_from_All, All-from_recursion}
-use Rattle.ft_store.specs.declared.rows.RowChange.{RowChange}
+use Rattle.ft_values.specs.declared.rows.RowChange.{RowChange}
 use Rattle.ft_store.specs.Store.{StoreValue, AreInOrder, Change, AddTable, DropTable, PutCell, DropCells, PutEntries, DropEntries, PutSize, DropSize, ClearIndex, Note, all_applied}
 use Rattle.ft_store.specs.Changes.{shown_change}
-use Rattle.ft_content.specs.declared.fault.Fault.{Fault}
-use Rattle.ft_content.specs.declared.fault.Fault.TheVariants as faults
+use Rattle.ft_values.specs.declared.fault.Fault.{Fault}
+use Rattle.ft_values.specs.declared.fault.Fault.TheVariants as faults
 use Rattle.ft_content.specs.Content.{Content, Documents, IsContent, content_rows}
 use Rattle.ft_content.specs.Index.{index_rows}
 use Rattle.ft_content.specs.Command.{Command, Done}
-use Rattle.ft_content.specs.Views.{KnownTable}
+use Rattle.ft_content.specs.Views.{TableInfo}
 use Rattle.ft_content.specs.Deserved.{Table, Contents, table_named, on_sound, deserved}
 use Rattle.ft_content.specs.Step.{with_documents, on_table, after, reply_to, touched, touched_of, touched_found, touched_held}
-use Rattle.ft_index.specs.Found.{known_named, IsUnfit}
+use Rattle.ft_index.specs.Found.{info_named, IsUnfit}
 use Rattle.ft_index.specs.Rewrite.{Rewrite, AreRight, docids_of, rewritten, rewritten_content}
 use Rattle.ft_index.specs.Kept.{AreHeld, StoreHolds, IsOfDocids, AreOfFound, StaysNear, PlansFrom, told_table, is_outside}
 use Rattle.ft_index.specs.Written.{LeadsTo}
@@ -57,23 +57,23 @@ all_widened id few many more (change ∷ changes) h = (widened id few many more 
 
 -- ---- plans
 
-module _ (command : Command) (name : List ℕ) (due : List ℕ → Content → Option Fault) (change : Content → Documents) (touch : Content → List ℤ) (is : IsWrite command name due change touch) (store : StoreValue) (tables : List KnownTable) (contents : Contents) (held : AreHeld store tables contents) where
+module _ (command : Command) (name : List ℕ) (due : List ℕ → Content → Option Fault) (change : Content → Documents) (touch : Content → List ℤ) (is : IsWrite command name due change touch) (store : StoreValue) (tables : List TableInfo) (contents : Contents) (held : AreHeld store tables contents) where
   -- the table can't be used
   pub plan_unfit : (fault : Fault) → IsUnfit tables name fault → PlansFrom contents command store (Err fault)
   plan_unfit fault unfit = inr (is.deserves contents ∙ unfit_is contents name fault due (subst (λ ts. IsUnfit ts name fault) held.told unfit))
 
   -- a sound table's content
-  pub sound_here : (known : KnownTable) → known_named tables name ≡ Some known → IsTrue known.sound → IsSoundTable contents name known
-  sound_here known named sound = sound_table contents name known (ap (λ ts. known_named ts name) (sym held.told) ∙ named) sound
+  pub sound_here : (known : TableInfo) → info_named tables name ≡ Some known → IsTrue known.sound → IsSoundTable contents name known
+  sound_here known named sound = sound_table contents name known (ap (λ ts. info_named ts name) (sym held.told) ∙ named) sound
 
   -- it deserves a fault, or something from outside does
-  pub plan_fails : (known : KnownTable) (t : IsSoundTable contents name known) (fault : Fault) → ((fault ≡ faults.Store) ⊎ (fault ≡ faults.Memory)) ⊎ (due t.table.1.name t.content ≡ Some fault) → PlansFrom contents command store (Err fault)
+  pub plan_fails : (known : TableInfo) (t : IsSoundTable contents name known) (fault : Fault) → ((fault ≡ faults.Store) ⊎ (fault ≡ faults.Memory)) ⊎ (due t.table.1.name t.content ≡ Some fault) → PlansFrom contents command store (Err fault)
   plan_fails known t fault (inl (inl store_is)) = inl (ap (λ f. is_outside (Err f)) store_is)
   plan_fails known t fault (inl (inr memory)) = inl (ap (λ f. is_outside (Err f)) memory)
   plan_fails known t fault (inr fails) = inr (is.deserves contents ∙ sound_is contents name known t due ∙ fails)
 
   -- row changes that are right for rewrites which lead to what the command leaves
-  pub plan_written : (known : KnownTable) (t : IsSoundTable contents name known) (rewrites : List Rewrite) (changes : List Change) → AreInOrder store → due t.table.1.name t.content ≡ None → LeadsTo t.content (change t.content) (touch t.content) rewrites →
+  pub plan_written : (known : TableInfo) (t : IsSoundTable contents name known) (rewrites : List Rewrite) (changes : List Change) → AreInOrder store → due t.table.1.name t.content ≡ None → LeadsTo t.content (change t.content) (touch t.content) rewrites →
       AreRight t.table.0 t.content.columns rewrites changes → All (IsOfDocids t.table.0 (docids_of rewrites)) changes → PlansFrom contents command store (Ok changes)
   plan_written known t rewrites changes order fine leads right of_docids =
       let has = sound_rows store tables contents name known t order held in

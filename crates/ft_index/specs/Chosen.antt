@@ -1,18 +1,18 @@
--- The documents that a filter chooses, as they are read. All of it is our own choice.
+-- Steps. The documents that a filter chooses, as they are read. All of it is our own choice.
 use Rattle.std.specs.Prelude.{◌≡◌, ℤ, List, [], Option, Ok, unwrap_or}
 use Rattle.std.specs.Ordering.{int_cmp}
 use Rattle.std.specs.FinMap.Entries.{find}
 use Rattle.ft_query.specs.Trees.{Tree}
-use Rattle.ft_store.specs.Store.{Cell}
+use Rattle.ft_values.specs.Cells.{Cell}
 use Rattle.ft_content.specs.Content.{Content}
-use Rattle.ft_content.specs.Command.{Filter, Everything, OfDocid, Matching}
+use Rattle.ft_content.specs.Command.{Filter, All, Docid, Match}
 use Rattle.ft_content.specs.Answer.{reading}
 
 -- the text of a MATCH reads as this query, where the filter is one
 abbrev pub ReadsAs : Content → Filter → Option Tree → Type 0
-ReadsAs content Everything query = Unit {0}
-ReadsAs content (OfDocid docid) query = Unit {0}
-ReadsAs content (Matching name text) query = reading content name text ≡ Ok query
+ReadsAs content All query = Unit {0}
+ReadsAs content (Docid docid) query = Unit {0}
+ReadsAs content (Match name text) query = reading content name text ≡ Ok query
 
 -- the cells of the document of a docid
 abbrev pub cells_at : Content → ℤ → List Cell

@@ -1,4 +1,4 @@
--- What a crash leaves of full-text tables. All of it is our own choice.
+-- Meaning. What a crash leaves of full-text tables. All of it is our own choice.
 use Rattle.std.specs.Prelude.{◌≡◌, ℕ, List}
 use Rattle.sqlite.specs.Tree.{Trees}
 use Rattle.sqlite.specs.State.{Survives}
@@ -9,7 +9,7 @@ use Rattle.ft_store.specs.Kept.{shows}
 use Rattle.ft_content.specs.Command.{Command}
 use Rattle.ft_content.specs.Deserved.{Contents}
 use Rattle.ft_content.specs.Step.{step}
-use Rattle.ft_index.specs.Kept.{Known, IsUp, Holds, StoreHolds, value_of}
+use Rattle.ft_index.specs.Kept.{FullText, IsUp, Holds, StoreHolds, value_of}
 
 -- a store that holds the contents which a command leaves, with the noted names as they were
 pub record HoldsAfter (old : StoreValue) (first : Contents) (command : Command) (db : Trees) : Type 0 where
@@ -19,16 +19,16 @@ pub record HoldsAfter (old : StoreValue) (first : Contents) (command : Command) 
   pub noted : left.noted ≡ old.noted
 
 -- What a call of `execute` may commit: the contents that the command leaves, whole.
-abbrev pub CommitsCommand : {S : Type 0} → Ghosts S → Known S → Command → Trees → Type 0
+abbrev pub CommitsCommand : {S : Type 0} → Ghosts S → FullText S → Command → Trees → Type 0
 CommitsCommand g old command db = IsUp g old → (first : Contents) → Holds g old first → HoldsAfter (value_of g old) first command db
 
 -- As the call ends a crash leaves what it could leave before, or that, where the store is clean. Nothing is forgotten of what the disk did.
-abbrev pub CommandSurvives : {S : Type 0} → Ghosts S → Known S → Command → Known S → Type 0
+abbrev pub CommandSurvives : {S : Type 0} → Ghosts S → FullText S → Command → FullText S → Type 0
 CommandSurvives g old command new = Survives (shows g old.store) (shows g new.store) (CommitsCommand g old command)
 
 -- what a call of `note` may commit: the name alone
-abbrev pub CommitsNote : {S : Type 0} → Ghosts S → Known S → List ℕ → Trees → Type 0
+abbrev pub CommitsNote : {S : Type 0} → Ghosts S → FullText S → List ℕ → Trees → Type 0
 CommitsNote g old name db = IsUp g old → IsStored db (applied (Note name) (value_of g old))
 
-abbrev pub NoteSurvives : {S : Type 0} → Ghosts S → Known S → List ℕ → Known S → Type 0
+abbrev pub NoteSurvives : {S : Type 0} → Ghosts S → FullText S → List ℕ → FullText S → Type 0
 NoteSurvives g old name new = Survives (shows g old.store) (shows g new.store) (CommitsNote g old name)

@@ -1,13 +1,12 @@
--- The documents of a table in a store, as they are read.
-use Rattle.std.specs.Prelude.{◌≡◌, ◌++◌, ℕ, cond, List, [], ◌∷◌, map, Option, Some, None, Bool, false, ℤ, IsTrue}
+-- Meaning. The documents of a table in a store, as they are read.
+use Rattle.std.specs.Prelude.{◌≡◌, ◌++◌, ℕ, if◌then◌else◌, List, [], ◌∷◌, map, Option, Some, None, Bool, false, ℤ, IsTrue}
 use Rattle.std.specs.Ordering.{int_eq}
 use Rattle.sqlite.specs.State.{HasCleanDisk, Survives}
 use Rattle.sqlite.specs.Store.{Ghosts}
 use Rattle.ft_store.specs.Calls.{Keeps}
 use Rattle.ft_store.specs.Kept.{StoreState, shows, value_in}
-use Rattle.ft_store.specs.declared.rows.CellRow as source
-use Rattle.ft_store.specs.Store.{Cell}
-use Rattle.ft_store.specs.Changes.{shown_value}
+use Rattle.ft_values.specs.declared.rows.CellRow as source
+use Rattle.ft_values.specs.Cells.{Cell, shown_value}
 use Rattle.ft_content.specs.Content.{CellRow, Documents, Content, IsContent, content_rows}
 use Rattle.ft_index.specs.declared.document.Document.{Document}
 use Rattle.ft_content.specs.Deserved.{has_docid}
@@ -31,7 +30,7 @@ shown_row row = record { docid = row.docid; column = row.column; value = shown_v
 -- the documents with one more cell, which joins the last document, if that has its docid (own choice)
 abbrev pub with_last : CellRow → Documents → Documents
 with_last row [] = (row.docid, row.value ∷ []) ∷ []
-with_last row (d ∷ []) = cond (int_eq d.0 row.docid) ((d.0, d.1 ++ row.value ∷ []) ∷ []) (d ∷ (row.docid, row.value ∷ []) ∷ [])
+with_last row (d ∷ []) = if int_eq d.0 row.docid then ((d.0, d.1 ++ row.value ∷ []) ∷ []) else (d ∷ (row.docid, row.value ∷ []) ∷ [])
 with_last row (d ∷ e ∷ documents) = d ∷ with_last row (e ∷ documents)
 
 -- whether a docid is given and taken

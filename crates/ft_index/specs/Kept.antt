@@ -1,5 +1,5 @@
--- What stays true of full-text tables, whatever is called.
-use Rattle.std.specs.Prelude.{◌≡◌, ◌≢◌, ◌⊎◌, ℕ, Bool, true, false, cond, List, [], ◌∷◌, map, Option, Some, None, Result, Ok, Err, ℤ, IsTrue, is_ok, All, Contains, refl}
+-- Meaning. What stays true of full-text tables, whatever is called.
+use Rattle.std.specs.Prelude.{◌≡◌, ◌≢◌, ◌⊎◌, ℕ, Bool, true, false, if◌then◌else◌, List, [], ◌∷◌, map, Option, Some, None, Result, Ok, Err, ℤ, IsTrue, is_ok, All, Contains, refl}
 use Rattle.std.specs.List.{AllZip, list_any}
 use Rattle.std.specs.Ordering.{int_eq}
 use Rattle.std.specs.Coded.{Coded, code_by, coded×, coded_ℤ, coded_ℕ, coded_bool, coded_list}
@@ -7,48 +7,48 @@ use Rattle.sqlite.specs.State.{HasCleanDisk, Survives}
 use Rattle.sqlite.specs.Store.{Ghosts}
 use Rattle.ft_store.specs.Store.{StoreValue, Change, AddTable, DropTable, PutCell, DropCells, PutEntries, DropEntries, PutSize, DropSize, ClearIndex, Note, applied, all_applied}
 use Rattle.ft_store.specs.Kept.{StoreState, store_code, shows, value_in}
-use Rattle.ft_content.specs.declared.fault.Fault.{Fault}
-use Rattle.ft_content.specs.declared.fault.Fault.TheVariants as faults
+use Rattle.ft_values.specs.declared.fault.Fault.{Fault}
+use Rattle.ft_values.specs.declared.fault.Fault.TheVariants as faults
 use Rattle.ft_content.specs.Content.{Column, Content, TableRows, IsContent, content_rows, content_in, repeats_name}
 use Rattle.ft_content.specs.Index.{IndexRows, index_rows}
 use Rattle.ft_content.specs.Command.{Command, Create, Drop, Insert, Update, Delete, Select, Rebuild, Check, Optimize, Reply}
-use Rattle.ft_content.specs.Views.{KnownTable}
-use Rattle.ft_content.specs.Deserved.{Held, Sound, Stale, Loose, Table, Contents, table_named, deserved}
+use Rattle.ft_content.specs.Views.{TableInfo}
+use Rattle.ft_content.specs.Deserved.{TableState, Sound, Stale, Loose, Table, Contents, table_named, deserved}
 use Rattle.ft_content.specs.Step.{step, after, touched}
 use Rattle.ft_index.specs.Tables.{table_rows, table_index}
 
 -- a `FullText` as callers see it: its store, and the tables by rising id
-pub record Known (S : Type 0) : Type 0 where
+pub record FullText (S : Type 0) : Type 0 where
   pub store : StoreState S
-  pub tables : List KnownTable
+  pub tables : List TableInfo
 
 abbrev pub column_code : Coded Column
 column_code = code_by (List ℕ × Bool) (coded× (coded_list coded_ℕ) coded_bool) (λ c. (c.name, c.indexed)) (λ p. record { name = p.0; indexed = p.1 }) (λ _. refl)
 
-abbrev pub table_code : Coded KnownTable
+abbrev pub table_code : Coded TableInfo
 table_code = code_by (ℤ × (List ℕ × (List Column × Bool))) (coded× coded_ℤ (coded× (coded_list coded_ℕ) (coded× (coded_list column_code) coded_bool))) (λ t. (t.id, (t.name, (t.columns, t.sound)))) (λ p. record { id = p.0; name = p.1.0; columns = p.1.1.0; sound = p.1.1.1 }) (λ _. refl)
 
-abbrev pub known_code : {S : Type 0} → Coded S → Coded (Known S)
-known_code {S} s = code_by (StoreState S × List KnownTable) (coded× (store_code s) (coded_list table_code)) (λ k. (k.store, k.tables)) (λ p. record { store = p.0; tables = p.1 }) (λ _. refl)
+abbrev pub full_text_code : {S : Type 0} → Coded S → Coded (FullText S)
+full_text_code {S} s = code_by (StoreState S × List TableInfo) (coded× (store_code s) (coded_list table_code)) (λ k. (k.store, k.tables)) (λ p. record { store = p.0; tables = p.1 }) (λ _. refl)
 
 -- what its store holds
-abbrev pub value_of : {S : Type 0} → Ghosts S → Known S → StoreValue
+abbrev pub value_of : {S : Type 0} → Ghosts S → FullText S → StoreValue
 value_of g known = value_in g known.store
 
 -- So far the disk returned what was written, and the store is open. What is said of rows is said then. In memory it is always so, as
 -- long as the store is open.
-pub record IsUp {S : Type 0} (g : Ghosts S) (known : Known S) : Type 0 where
+pub record IsUp {S : Type 0} (g : Ghosts S) (known : FullText S) : Type 0 where
   pub clean : HasCleanDisk (shows g known.store)
   pub is_open : IsTrue (shows g known.store).is_open
 
 -- How a table's rows stand: they are a content with exactly the index rows made from scratch, a content with others, or no content.
-abbrev pub Stands : List ℕ → TableRows → IndexRows → Held → Type 0
+abbrev pub Stands : List ℕ → TableRows → IndexRows → TableState → Type 0
 Stands name rows index (Sound content) = IsContent name content × (rows ≡ content_rows content) × (index ≡ index_rows content)
 Stands name rows index (Stale content) = IsContent name content × (rows ≡ content_rows content) × (index ≢ index_rows content)
 Stands name rows index (Loose loose) = (loose ≡ rows) × ((content : Content) → IsContent name content → rows ≢ content_rows content)
 
 -- the mark of a table
-abbrev pub is_sound : Held → Bool
+abbrev pub is_sound : TableState → Bool
 is_sound (Sound content) = true
 is_sound (Stale content) = false
 is_sound (Loose rows) = false
@@ -64,29 +64,29 @@ abbrev pub StoreHolds : StoreValue → Contents → Type 0
 StoreHolds store contents = AllZip (λ (named : ℤ × List ℕ) (table : ℤ × Table). HoldsTable named (table_rows named.0 store) (table_index named.0 store) table) store.tables contents
 
 -- what is told of a table
-abbrev pub held_columns : Held → List Column
+abbrev pub held_columns : TableState → List Column
 held_columns (Sound content) = content.columns
 held_columns (Stale content) = content.columns
 held_columns (Loose rows) = (content_in rows).columns
 
-abbrev pub told_table : ℤ × Table → KnownTable
+abbrev pub told_table : ℤ × Table → TableInfo
 told_table table = record { id = table.0; name = table.1.name; columns = held_columns table.1.held; sound = is_sound table.1.held }
 
 -- What a store holds, and the tables that are told of it with their marks, are these contents. No two tables have one name.
-pub record AreHeld (store : StoreValue) (tables : List KnownTable) (contents : Contents) : Type 0 where
+pub record AreHeld (store : StoreValue) (tables : List TableInfo) (contents : Contents) : Type 0 where
   pub named_once : repeats_name (map (λ (t : ℤ × Table). t.1.name) contents) ≡ false
   pub held : StoreHolds store contents
   pub told : tables ≡ map told_table contents
 
-abbrev pub Holds : {S : Type 0} → Ghosts S → Known S → Contents → Type 0
+abbrev pub Holds : {S : Type 0} → Ghosts S → FullText S → Contents → Type 0
 Holds g known contents = AreHeld (value_of g known) known.tables contents
 
 -- where it is up it holds some contents
-abbrev pub HoldsSome : {S : Type 0} → Ghosts S → Known S → Type 0
+abbrev pub HoldsSome : {S : Type 0} → Ghosts S → FullText S → Type 0
 HoldsSome g known = IsUp g known → (contents : Contents) × Holds g known contents
 
 -- The call has read at most: database and marks are as before, and nothing was committed.
-pub record OnlyLooks {S : Type 0} (g : Ghosts S) (old new : Known S) : Type 0 where
+pub record OnlyLooks {S : Type 0} (g : Ghosts S) (old new : FullText S) : Type 0 where
   pub was_up : IsUp g new → IsUp g old
   pub value : IsUp g new → value_of g new ≡ value_of g old
   pub survives : Survives (shows g old.store) (shows g new.store) (λ _. IsTrue (shows g old.store).is_open → ⊥)
@@ -107,7 +107,7 @@ abbrev pub Answers : Contents → Command → Result Reply Fault → Contents �
 Answers old command answer new = (IsTrue (is_outside answer) × (new ≡ old)) ⊎ (step old command ≡ (answer, new))
 
 -- What a call of `execute` does, where it is up as the call ends: contents that were held before are answered by the definitions, and what they leave is held.
-pub record Executes {S : Type 0} (g : Ghosts S) (old : Known S) (command : Command) (answer : Result Reply Fault) (new : Known S) : Type 0 where
+pub record Executes {S : Type 0} (g : Ghosts S) (old : FullText S) (command : Command) (answer : Result Reply Fault) (new : FullText S) : Type 0 where
   pub was_up : IsUp g new → IsUp g old
   pub steps : IsUp g new → (first : Contents) → Holds g old first → (last : Contents) × Holds g new last × Answers first command answer last
   pub noted : IsUp g new → (first : Contents) → Holds g old first → (value_of g new).noted ≡ (value_of g old).noted
@@ -148,13 +148,13 @@ abbrev pub PlansFrom : Contents → Command → StoreValue → Result (List Chan
 PlansFrom contents command store (Ok changes) = (deserved contents command ≡ None) × StoreHolds (all_applied changes store) (after contents command) × ((all_applied changes store).noted ≡ store.noted) × StaysNear contents command changes
 PlansFrom contents command store (Err fault) = IsTrue (is_outside (Err fault)) ⊎ (deserved contents command ≡ Some fault)
 
-abbrev pub Plans : {S : Type 0} → Ghosts S → Known S → Command → Result (List Change) Fault → Type 0
+abbrev pub Plans : {S : Type 0} → Ghosts S → FullText S → Command → Result (List Change) Fault → Type 0
 Plans g known command answer = (contents : Contents) → Holds g known contents → PlansFrom contents command (value_of g known) answer
 
 -- what a call of `note` does, where it is up as the call ends
-pub record Notes {S : Type 0} (g : Ghosts S) (old : Known S) (name : List ℕ) (is_done : Bool) (new : Known S) : Type 0 where
+pub record Notes {S : Type 0} (g : Ghosts S) (old : FullText S) (name : List ℕ) (is_done : Bool) (new : FullText S) : Type 0 where
   pub was_up : IsUp g new → IsUp g old
-  pub noted : IsUp g new → value_of g new ≡ cond is_done (applied (Note name) (value_of g old)) (value_of g old)
+  pub noted : IsUp g new → value_of g new ≡ (if is_done then applied (Note name) (value_of g old) else value_of g old)
   pub tables : new.tables ≡ old.tables
 
 -- a call of `execute` with its answer, or of `note`, which was done or refused
@@ -162,19 +162,19 @@ pub data Call : Type 0 where
   Executed : (command : Command) → (answer : Result Reply Fault) → Call
   Noted : (name : List ℕ) → (is_done : Bool) → Call
 
-abbrev pub DoesCall : {S : Type 0} → Ghosts S → Known S → Call → Known S → Type 0
+abbrev pub DoesCall : {S : Type 0} → Ghosts S → FullText S → Call → FullText S → Type 0
 DoesCall g old (Executed command answer) new = Executes g old command answer new
 DoesCall g old (Noted name is_done) new = Notes g old name is_done new
 
 -- calls one after another
-abbrev pub Runs : {S : Type 0} → Ghosts S → Known S → List Call → Known S → Type 0
+abbrev pub Runs : {S : Type 0} → Ghosts S → FullText S → List Call → FullText S → Type 0
 Runs g old [] new = new ≡ old
-Runs {S} g old (call ∷ calls) new = (mid : Known S) × DoesCall g old call mid × Runs g mid calls new
+Runs {S} g old (call ∷ calls) new = (mid : FullText S) × DoesCall g old call mid × Runs g mid calls new
 
 -- the commands that were answered Done or Rows
 abbrev pub accepted : List Call → List Command
 accepted [] = []
-accepted (Executed command answer ∷ calls) = cond (is_ok answer) (command ∷ accepted calls) (accepted calls)
+accepted (Executed command answer ∷ calls) = if is_ok answer then (command ∷ accepted calls) else accepted calls
 accepted (Noted name is_done ∷ calls) = accepted calls
 
 -- the contents that commands leave which are done one after another
@@ -186,20 +186,20 @@ left_by first (command ∷ commands) = left_by (after first command) commands
 unfoldable pub AreAnswered : Contents → List Call → Type 0
 AreAnswered first [] = Unit {0}
 AreAnswered first (Executed command answer ∷ calls) =
-    (IsTrue (is_outside answer) ⊎ (answer ≡ (step first command).0)) × AreAnswered (cond (is_ok answer) (after first command) first) calls
+    (IsTrue (is_outside answer) ⊎ (answer ≡ (step first command).0)) × AreAnswered (if is_ok answer then after first command else first) calls
 AreAnswered first (Noted name is_done ∷ calls) = AreAnswered first calls
 
 -- After any calls the store holds what the accepted commands leave: so the index rows of each sound table are exactly those made
 -- from scratch. And each command was answered by the definitions.
 abbrev pub KeptByCalls : {S : Type 0} → Ghosts S → Type 0
-KeptByCalls {S} g = (start end : Known S) (calls : List Call) (first : Contents) → IsUp g end → Holds g start first → Runs g start calls end → Holds g end (left_by first (accepted calls)) × AreAnswered first calls
+KeptByCalls {S} g = (start end : FullText S) (calls : List Call) (first : Contents) → IsUp g end → Holds g start first → Runs g start calls end → Holds g end (left_by first (accepted calls)) × AreAnswered first calls
 
 -- What a store holds are one contents: so its tables' marks are settled.
 abbrev pub HoldsOneContents : Type 0
 HoldsOneContents = (store : StoreValue) (one other : Contents) → StoreHolds store one → StoreHolds store other → one ≡ other
 
 abbrev pub is_unsound : ℤ → ℤ × Table → Bool
-is_unsound id table = cond (is_sound table.1.held) false (int_eq id table.0)
+is_unsound id table = if is_sound table.1.held then false else int_eq id table.0
 
 -- Commands leave no table unsound that wasn't: a sound one stays so, and one that is made or rebuilt is sound.
 abbrev pub NoneGetsUnsound : Type 0

@@ -1,16 +1,20 @@
+-- Meaning
 pub mod Tables
 pub mod Kept
+pub mod RowsRead
+pub mod DocumentsRead
+pub mod Found
+pub mod Planned
+pub mod Opened
+pub mod Crashes
+-- Steps
 pub mod RowLaws
 pub mod Rewrite
 pub mod RewriteRows
 pub mod Rebuild
-pub mod RowsRead
 pub mod Walked
-pub mod DocumentsRead
 pub mod NewDocuments
 pub mod Inserted
-pub mod Found
-pub mod Planned
 pub mod Placed
 pub mod Changed
 pub mod Matched
@@ -19,5 +23,3 @@ pub mod Written
 pub mod Chosen
 pub mod Updated
 pub mod Selected
-pub mod Opened
-pub mod Crashes

@@ -1,9 +1,9 @@
--- What a filter chooses, as hits ("The Offsets Function").
+-- Steps. What a filter chooses, as hits ("The Offsets Function").
 use Rattle.std.specs.Prelude.{ℤ, List, [], map, Option}
 use Rattle.std.specs.Option.{option_map_or}
 use Rattle.ft_query.specs.Trees.{Tree}
 use Rattle.ft_query.specs.Occurs.{PlainHit, offsets_of}
-use Rattle.ft_store.specs.Store.{Cell}
+use Rattle.ft_values.specs.Cells.{Cell}
 use Rattle.ft_content.specs.Content.{Content}
 use Rattle.ft_content.specs.Index.{document_postings}
 use Rattle.ft_content.specs.Command.{Filter}

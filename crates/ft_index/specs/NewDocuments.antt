@@ -1,14 +1,14 @@
--- Documents that rows of an Insert make, beside those that a table has. All of it is our own choice.
+-- Steps. Documents that rows of an Insert make, beside those that a table has. All of it is our own choice.
 use Rattle.std.specs.Prelude.{◌≡◌, ◌⊎◌, ℤ, List, map, Some, None, IsTrue}
 use Rattle.std.specs.List.{AllByRecursion}
 use Rattle.std.specs.Ordering.{int_cmp}
 use Rattle.std.specs.FinMap.Entries.{find, is_sorted}
 use Rattle.std.specs.declared.alloc.Global.{Global}
 use Rattle.std.specs.Prelude.{Vec, Result, Ok, Err}
-use Rattle.ft_store.specs.declared.rows.Value.{Value}
-use Rattle.ft_store.specs.Store.{Cell}
-use Rattle.ft_content.specs.declared.fault.Fault.{Fault}
-use Rattle.ft_content.specs.declared.fault.Fault.TheVariants as faults
+use Rattle.ft_values.specs.declared.rows.Value.{Value}
+use Rattle.ft_values.specs.Cells.{Cell}
+use Rattle.ft_values.specs.declared.fault.Fault.{Fault}
+use Rattle.ft_values.specs.declared.fault.Fault.TheVariants as faults
 use Rattle.ft_content.specs.Content.{Documents}
 use Rattle.ft_content.specs.Views.{cells_of, last_docid}
 use Rattle.ft_index.specs.declared.new_documents.NewDocuments.{NewDocuments}

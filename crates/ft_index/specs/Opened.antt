@@ -1,24 +1,24 @@
--- How the tables of a store stand, as they are read. All of it is our own choice.
+-- Meaning. How the tables of a store stand, as they are read. All of it is our own choice.
 use Rattle.std.specs.Prelude.{◌≡◌, ℕ, ℤ, Bool, true, false, List, Option, Some, None, IsTrue}
 use Rattle.std.specs.List.{AllZip, find}
 use Rattle.std.specs.Ordering.{int_eq}
 use Rattle.sqlite.specs.State.{HasCleanDisk}
 use Rattle.sqlite.specs.Store.{Ghosts}
-use Rattle.ft_store.specs.declared.rows.TabRow.{TabRow}
+use Rattle.ft_values.specs.declared.rows.TabRow.{TabRow}
 use Rattle.ft_store.specs.Kept.{StoreState, shows, value_in}
 use Rattle.ft_store.specs.Store.{StoreValue}
 use Rattle.ft_store.specs.Shown.{shown_table, table_listed}
 use Rattle.ft_content.specs.Content.{TableRows}
 use Rattle.ft_content.specs.Index.{IndexRows}
-use Rattle.ft_content.specs.Views.{KnownTable}
-use Rattle.ft_content.specs.Deserved.{Held, Sound, Stale, Loose, Contents}
+use Rattle.ft_content.specs.Views.{TableInfo}
+use Rattle.ft_content.specs.Deserved.{TableState, Sound, Stale, Loose, Contents}
 use Rattle.ft_index.specs.declared.standing.Standing.{Standing}
 use Rattle.ft_index.specs.declared.standing.Standing.TheVariants as standings
 use Rattle.ft_index.specs.DocumentsRead.{Looks}
-use Rattle.ft_index.specs.Kept.{Known, IsUp, Stands, StoreHolds, Holds, told_table}
+use Rattle.ft_index.specs.Kept.{FullText, IsUp, Stands, StoreHolds, Holds, told_table}
 use Rattle.ft_index.specs.Tables.{table_rows, table_index}
 
-abbrev pub standing_of : Held → Standing
+abbrev pub standing_of : TableState → Standing
 standing_of (Sound content) = standings.Sound
 standing_of (Stale content) = standings.Stale
 standing_of (Loose rows) = standings.Loose
@@ -31,7 +31,7 @@ mark_of standings.Loose = false
 
 -- rows of a table stand so
 pub record StandsSo (name : List ℕ) (rows : TableRows) (index : IndexRows) (standing : Standing) : Type 0 where
-  pub held : Held
+  pub held : TableState
   pub stands : Stands name rows index held
   pub is : standing ≡ standing_of held
 
@@ -49,18 +49,18 @@ IsFound store named None = ⊥
 IsFound store named (Some table) = IsListed store named table
 
 -- what is told of a table that the store names is how its rows stand
-pub record IsMarked (store : StoreValue) (named : ℤ × List ℕ) (known : KnownTable) : Type 0 where
-  pub held : Held
+pub record IsMarked (store : StoreValue) (named : ℤ × List ℕ) (known : TableInfo) : Type 0 where
+  pub held : TableState
   pub stands : Stands named.1 (table_rows named.0 store) (table_index named.0 store) held
   pub told : known ≡ told_table (named.0, record { name = named.1; held = held })
 
 -- so it is of all tables that it names
-abbrev pub AreMarked : StoreValue → List (ℤ × List ℕ) → List KnownTable → Type 0
+abbrev pub AreMarked : StoreValue → List (ℤ × List ℕ) → List TableInfo → Type 0
 AreMarked store named known = AllZip (IsMarked store) named known
 
 -- A store is taken as it is. Where it is up, what it holds are some contents, and each table has the mark that it has in them; they are
 -- the only ones.
-pub record Opens {S : Type 0} (g : Ghosts S) (old : StoreState S) (made : Known S) : Type 0 where
+pub record Opens {S : Type 0} (g : Ghosts S) (old : StoreState S) (made : FullText S) : Type 0 where
   pub looks : Looks g old made.store
   pub live : HasCleanDisk (shows g made.store) → IsTrue (shows g made.store).is_open
   pub some : IsUp g made → (contents : Contents) × Holds g made contents
@@ -68,4 +68,4 @@ pub record Opens {S : Type 0} (g : Ghosts S) (old : StoreState S) (made : Known 
 
 -- A store that holds contents is opened with the marks that they give its tables.
 abbrev pub OpensWhatIsLeft : {S : Type 0} → Ghosts S → Type 0
-OpensWhatIsLeft {S} g = (left : StoreValue) (contents : Contents) → StoreHolds left contents → (old : StoreState S) (made : Known S) → value_in g old ≡ left → Opens g old made → IsUp g made → Holds g made contents
+OpensWhatIsLeft {S} g = (left : StoreValue) (contents : Contents) → StoreHolds left contents → (old : StoreState S) (made : FullText S) → value_in g old ≡ left → Opens g old made → IsUp g made → Holds g made contents

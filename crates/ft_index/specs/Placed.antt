@@ -1,11 +1,11 @@
--- Index rows, as the lists of places of documents that they mean (own choice).
-use Rattle.std.specs.Prelude.{◌≡◌, ℕ, cond, List, [], ◌∷◌, map, nat_abs, IsPermutation, IsSorted}
+-- Steps. Index rows, as the lists of places of documents that they mean (own choice).
+use Rattle.std.specs.Prelude.{◌≡◌, ℕ, if◌then◌else◌, List, [], ◌∷◌, map, nat_abs, IsPermutation, IsSorted}
 use Rattle.std.specs.List.{prefix_len}
 use Rattle.std.specs.declared.cmp.Ordering.{Ordering}
 use Rattle.std.specs.Ordering.{nat_cmp, int_cmp, int_eq, ordering_then}
 use Rattle.ft_query.specs.declared.lists.Place.{Place}
 use Rattle.ft_query.specs.Documents.{PlaceList}
-use Rattle.ft_store.specs.declared.rows.EntryRow.{EntryRow}
+use Rattle.ft_values.specs.declared.rows.EntryRow.{EntryRow}
 use Rattle.ft_index.specs.declared.doc_lists.Placed.{Placed}
 
 abbrev pub placed_at : EntryRow → Placed
@@ -33,7 +33,7 @@ run_with first ps = prefix_len (λ p. int_eq p.docid first.docid) ps
 -- Places one after another, as lists of documents: a place joins the list after it, if that has its docid.
 abbrev pub with_placed : Placed → List PlaceList → List PlaceList
 with_placed p [] = list_with p (p ∷ []) ∷ []
-with_placed p (l ∷ ls) = cond (int_eq p.docid l.docid) (record { docid = p.docid; places = place_in p ∷ l.places } ∷ ls) (list_with p (p ∷ []) ∷ l ∷ ls)
+with_placed p (l ∷ ls) = if int_eq p.docid l.docid then (record { docid = p.docid; places = place_in p ∷ l.places } ∷ ls) else (list_with p (p ∷ []) ∷ l ∷ ls)
 
 unfoldable pub by_docid : List Placed → List PlaceList
 by_docid [] = []

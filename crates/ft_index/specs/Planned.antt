@@ -1,15 +1,15 @@
--- Plans over the tables that are told.
+-- Meaning. Plans over the tables that are told.
 use Rattle.std.specs.Prelude.{◌≡◌, ◌⊎◌, ℕ, Bool, List, map, Option, Some, None, Result, Ok, Err, pos, is_some, string_bytes, Vec, IsTrue}
 use Rattle.std.specs.declared.alloc.Global.{Global}
-use Rattle.ft_store.specs.declared.rows.RowChange.{RowChange}
+use Rattle.ft_values.specs.declared.rows.RowChange.{RowChange}
 use Rattle.ft_store.specs.Store.{StoreValue, AreInOrder, Change, AddTable}
 use Rattle.ft_content.specs.Content.{names_of, skipped_from}
 use Rattle.ft_store.specs.Changes.{shown_change}
-use Rattle.ft_content.specs.declared.fault.Fault.{Fault}
-use Rattle.ft_content.specs.declared.fault.Fault.TheVariants as faults
-use Rattle.ft_content.specs.declared.table.TableInfo.{TableInfo}
+use Rattle.ft_values.specs.declared.fault.Fault.{Fault}
+use Rattle.ft_values.specs.declared.fault.Fault.TheVariants as faults
+use Rattle.ft_values.specs.declared.table.TableInfo.{TableInfo}
 use Rattle.ft_content.specs.Command.{Command, Create}
-use Rattle.ft_content.specs.Views.{known_info, column_of}
+use Rattle.ft_content.specs.Views.{shown_info, column_of}
 use Rattle.ft_content.specs.Deserved.{Contents, table_named, made_columns, deserved}
 use Rattle.ft_content.specs.Step.{free_id_from, made_column}
 use Rattle.ft_index.specs.Kept.{AreHeld, PlansFrom}
@@ -21,7 +21,7 @@ changes_of (Err fault) = Err fault
 
 -- It is a plan whatever the store holds, as long as the tables that are told are those of what it holds.
 abbrev pub PlansOver : List TableInfo → Command → Result (Vec RowChange Global) Fault → Type 0
-PlansOver tables command answer = (store : StoreValue) (contents : Contents) → AreInOrder store → AreHeld store (map known_info tables) contents → PlansFrom contents command store (changes_of answer)
+PlansOver tables command answer = (store : StoreValue) (contents : Contents) → AreInOrder store → AreHeld store (map shown_info tables) contents → PlansFrom contents command store (changes_of answer)
 
 -- the table that a Create makes
 pub record IsMade (contents : Contents) (table : List ℕ) (options : List (List ℕ × List ℕ)) (names : List (List ℕ)) (made : TableInfo) : Type 0 where

@@ -1,10 +1,11 @@
--- The row changes that make the index of a table again ("The "rebuild" command"); their rows are an own choice.
-use Rattle.std.specs.Prelude.{◌≡◌, ◌≢◌, ℕ, true, false, cond, List, map, Option, Some, None, ℤ}
+-- Steps. The row changes that make the index of a table again ("The "rebuild" command"); their rows are an own choice.
+use Rattle.std.specs.Prelude.{◌≡◌, ◌≢◌, ℕ, true, false, if◌then◌else◌, List, map, Option, Some, None, ℤ}
 use Rattle.std.specs.Ordering.{int_eq}
-use Rattle.ft_store.specs.Store.{Cell, StoreValue, AreInOrder, Change, all_applied}
+use Rattle.ft_values.specs.Cells.{Cell}
+use Rattle.ft_store.specs.Store.{StoreValue, AreInOrder, Change, all_applied}
 use Rattle.ft_content.specs.Content.{Column, Documents, Content, TableRows, IsContent, content_rows}
 use Rattle.ft_content.specs.Index.{index_rows}
-use Rattle.ft_content.specs.Views.{KnownTable, cells_of, column_of}
+use Rattle.ft_content.specs.Views.{TableInfo, cells_of, column_of}
 use Rattle.ft_index.specs.declared.document.Document.{Document}
 use Rattle.ft_index.specs.declared.rebuild.TableContent.{TableContent}
 use Rattle.ft_index.specs.Tables.{table_rows, table_index}
@@ -40,8 +41,8 @@ HoldsIfAny name rows None = (content : Content) → IsContent name content → r
 HoldsIfAny name rows (Some read) = HoldsContent name rows read
 
 -- the tables, the one of an id marked sound
-abbrev pub sound_if : ℤ → KnownTable → KnownTable
-sound_if id table = cond (int_eq id table.id) (record table { sound = true }) table
+abbrev pub sound_if : ℤ → TableInfo → TableInfo
+sound_if id table = if int_eq id table.id then (record table { sound = true }) else table
 
-abbrev pub with_sound : ℤ → List KnownTable → List KnownTable
+abbrev pub with_sound : ℤ → List TableInfo → List TableInfo
 with_sound id tables = map (sound_if id) tables

@@ -1,10 +1,11 @@
--- Documents that are written anew, and what row changes of them do. All of it is our own choice.
+-- Steps. Documents that are written anew, and what row changes of them do. All of it is our own choice.
 use Rattle.std.specs.Prelude.{◌≡◌, ◌≢◌, ℕ, List, [], ◌∷◌, map, length, Option, Some, None, option_map, ℤ, IsTrue, IsSome, IfSome, All}
 use Rattle.std.specs.List.{flat_map}
 use Rattle.std.specs.Ordering.{int_cmp}
 use Rattle.std.specs.FinMap.Entries.{put, find, is_sorted}
 use Rattle.ft_store.specs.Packed.{CanPack}
-use Rattle.ft_store.specs.Store.{Cell, StoreValue, AreInOrder, cell_key_cmp, list_key_cmp, Change, AddTable, DropTable, PutCell, DropCells, PutEntries, DropEntries, PutSize, DropSize, ClearIndex, Note, all_applied}
+use Rattle.ft_values.specs.Cells.{Cell}
+use Rattle.ft_store.specs.Store.{StoreValue, AreInOrder, cell_key_cmp, list_key_cmp, Change, AddTable, DropTable, PutCell, DropCells, PutEntries, DropEntries, PutSize, DropSize, ClearIndex, Note, all_applied}
 use Rattle.ft_content.specs.Content.{Column, Documents, Content, IsContent, content_rows, is_document}
 use Rattle.ft_content.specs.Index.{index_rows}
 use Rattle.ft_content.specs.Step.{without_docid}

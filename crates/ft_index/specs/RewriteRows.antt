@@ -1,4 +1,4 @@
--- The row changes that follow from documents which are written anew. All of it is our own choice.
+-- Steps. The row changes that follow from documents which are written anew. All of it is our own choice.
 use Rattle.std.specs.Prelude.{◌≡◌, ◌≤◌, length, ℕ, zero, suc, Bool, true, false, not, ◌&&◌, List, [], ◌∷◌, ◌++◌, map, filter, Option, Some, None, ℤ, pos, is_some, unwrap_or, IfSome, bytes_eq, string_bytes, String, Vec}
 use Rattle.std.specs.List.{flat_map, enumerate_from}
 use Rattle.std.specs.declared.cmp.Ordering.{Ordering}
@@ -6,13 +6,14 @@ use Rattle.std.specs.Fmt.{signed_decimal}
 use Rattle.std.specs.Ordering.{int_cmp, int_eq}
 use Rattle.std.specs.Cmp.Lexicographic.{pointwise}
 use Rattle.std.specs.FinMap.Entries.{put, find}
-use Rattle.ft_store.specs.Store.{Cell, Null, Int, Text, column_key_cmp, Change, PutCell, DropCells, PutEntries, DropEntries, PutSize, DropSize, ClearIndex}
+use Rattle.ft_values.specs.Cells.{Cell, Null, Int, Text}
+use Rattle.ft_store.specs.Store.{column_key_cmp, Change, PutCell, DropCells, PutEntries, DropEntries, PutSize, DropSize, ClearIndex}
 use Rattle.std.specs.declared.alloc.Global.{Global}
 use Rattle.ft_query.specs.Tokens.{PlainToken}
 use Rattle.ft_query.specs.Documents.{posting}
 use Rattle.ft_content.specs.Content.{Column, Documents}
 use Rattle.ft_content.specs.Index.{Entry, document_entries, document_sizes, entry_at, Key, key_cmp, key_of, StoredSpot, stored_spot, SizeRow, size_row, index_rows}
-use Rattle.ft_store.specs.declared.rows.Spot.{Spot}
+use Rattle.ft_values.specs.declared.rows.Spot.{Spot}
 use Rattle.ft_index.specs.declared.document_index.DocumentIndex.{DocumentIndex}
 use Rattle.ft_content.specs.Laws.{content_with}
 use Rattle.ft_index.specs.Rewrite.{Rewrite, befores, afters}

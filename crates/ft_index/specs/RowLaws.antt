@@ -1,4 +1,4 @@
--- What row changes do to the rows of one table.
+-- Steps. What row changes do to the rows of one table.
 use Rattle.std.specs.Prelude.{◌≡◌, false, Option, Some, None, ℤ}
 use Rattle.std.specs.Ordering.{int_eq}
 use Rattle.ft_store.specs.Store.{StoreValue, Change, AddTable, DropTable, PutCell, DropCells, PutEntries, DropEntries, PutSize, DropSize, ClearIndex, Note, applied}

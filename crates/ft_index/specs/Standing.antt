@@ -1,14 +1,14 @@
--- How the rows of a table stand that the store lists. All of it is our own choice.
-use Rattle.std.specs.Prelude.{◌≡◌, ◌≢◌, ℕ, ◌+◌, ◌==◌, Bool, true, false, cond, not, ◌&&◌, List, [], ◌∷◌, map, length, Option, Some, None, String, string_bytes, bytes_eq, ℤ, pos, IsTrue}
+-- Steps. How the rows of a table stand that the store lists. All of it is our own choice.
+use Rattle.std.specs.Prelude.{◌≡◌, ◌≢◌, ℕ, ◌+◌, ◌==◌, Bool, true, false, if◌then◌else◌, not, ◌&&◌, List, [], ◌∷◌, map, length, Option, Some, None, String, string_bytes, bytes_eq, ℤ, pos, IsTrue}
 use Rattle.std.specs.declared.alloc.Global.{Global}
 use Rattle.std.specs.List.{AllByRecursion, list_all, list_any, flat_map}
 use Rattle.std.specs.Ordering.{int_cmp, int_eq, is_lt}
 use Rattle.std.specs.FinMap.Entries.{is_sorted}
-use Rattle.ft_store.specs.declared.rows.CellRow as stored
-use Rattle.ft_store.specs.declared.rows.EntryRow as entries
-use Rattle.ft_store.specs.declared.rows.SizeRow as sizes
-use Rattle.ft_store.specs.declared.rows.TabRow.{TabRow}
-use Rattle.ft_store.specs.Changes.{shown_value}
+use Rattle.ft_values.specs.declared.rows.CellRow as stored
+use Rattle.ft_values.specs.declared.rows.EntryRow as entries
+use Rattle.ft_values.specs.declared.rows.SizeRow as sizes
+use Rattle.ft_values.specs.declared.rows.TabRow.{TabRow}
+use Rattle.ft_values.specs.Cells.{shown_value}
 use Rattle.ft_content.specs.Content.{Cell, CellRow, Column, TableRows, Documents, Content, IsContent, content_rows, document_rows, is_cell, is_document}
 use Rattle.ft_content.specs.Index.{EntryRow, entry_rows, Key, StoredSpot, key_cmp, IndexRows, index_rows}
 use Rattle.ft_index.specs.RewriteRows.{same_spot, sized, sizes_of, lists_of}
@@ -41,7 +41,7 @@ pub record AreDocuments (width : ℕ) (cells : List CellRow) : Type 0 where
 -- A document's first cell has a docid above that of the cell before it, and each other has the same.
 abbrev pub stands_after : ℕ → Option ℤ → ℤ → Bool
 stands_after place None docid = place == 0
-stands_after place (Some last) docid = cond (place == 0) (is_lt (int_cmp last docid)) (int_eq last docid)
+stands_after place (Some last) docid = if place == 0 then is_lt (int_cmp last docid) else int_eq last docid
 
 -- A cell is the one at this place of a document, after a cell of the docid.
 abbrev pub follows : ℕ → Option ℤ → CellRow → Bool
@@ -78,7 +78,7 @@ is_first same x (y ∷ ys) = same x y
 abbrev pub after_first : {X : Type 0} → (X → X → Bool) → List X → List X → Option (List X)
 after_first same [] ys = Some ys
 after_first same (x ∷ xs) [] = None
-after_first same (x ∷ xs) (y ∷ ys) = cond (same x y) (after_first same xs ys) None
+after_first same (x ∷ xs) (y ∷ ys) = if same x y then after_first same xs ys else None
 
 -- the entries of a list
 abbrev pub list_rows : Key × List StoredSpot → List EntryRow

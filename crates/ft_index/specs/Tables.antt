@@ -1,8 +1,9 @@
--- What a store holds of one table. The store's value and its row changes are those of the crate below.
+-- Meaning. What a store holds of one table. The store's value and its row changes are those of the crate below.
 use Rattle.std.specs.Prelude.{ℕ, List, map, ℤ}
 use Rattle.std.specs.Ordering.{int_eq}
 use Rattle.std.specs.FinMap.Entries.{where_key}
-use Rattle.ft_store.specs.Store.{Cell, StoreValue, CellKey, ListKey, ColumnKey, cell_key_cmp, list_key_cmp, column_key_cmp}
+use Rattle.ft_values.specs.Cells.{Cell}
+use Rattle.ft_store.specs.Store.{StoreValue, CellKey, ListKey, ColumnKey, cell_key_cmp, list_key_cmp, column_key_cmp}
 use Rattle.ft_content.specs.Content.{TableRows}
 use Rattle.ft_content.specs.Index.{StoredSpot, IndexRows}
 

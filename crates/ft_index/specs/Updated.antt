@@ -1,7 +1,7 @@
--- The rewrites of an Update. All of it is our own choice.
-use Rattle.std.specs.Prelude.{◌≡◌, ℤ, ℕ, cond, List, [], ◌∷◌, ◌++◌, Option, Some, None}
+-- Steps. The rewrites of an Update. All of it is our own choice.
+use Rattle.std.specs.Prelude.{◌≡◌, ℤ, ℕ, if◌then◌else◌, List, [], ◌∷◌, ◌++◌, Option, Some, None}
 use Rattle.std.specs.Ordering.{int_cmp, int_eq, is_lt}
-use Rattle.ft_store.specs.Store.{Cell}
+use Rattle.ft_values.specs.Cells.{Cell}
 use Rattle.ft_content.specs.Content.{Column, Content}
 use Rattle.ft_content.specs.Command.{Filter}
 use Rattle.ft_content.specs.Answer.{chosen}
@@ -22,7 +22,7 @@ coming r docid = record { docid = docid; before = None; after = r.after }
 
 -- the rewrites of a document that gets this docid, by rising docid
 abbrev pub moved_from : Rewrite → ℤ → List Rewrite
-moved_from r docid = cond (int_eq r.docid docid) (r ∷ []) (cond (is_lt (int_cmp r.docid docid)) (leaving r ∷ coming r docid ∷ []) (coming r docid ∷ leaving r ∷ []))
+moved_from r docid = if int_eq r.docid docid then (r ∷ []) else (if is_lt (int_cmp r.docid docid) then (leaving r ∷ coming r docid ∷ []) else (coming r docid ∷ leaving r ∷ []))
 
 -- The rewrites after at most one document got the docid that may be given.
 abbrev pub MayMove : Option ℤ → List Rewrite → List Rewrite → Type 0

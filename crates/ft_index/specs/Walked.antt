@@ -1,4 +1,4 @@
--- The posting lists of a table in a store, as a walk asks for them.
+-- Steps. The posting lists of a table in a store, as a walk asks for them.
 use Rattle.std.specs.Prelude.{◌≡◌, ℕ, ◌+◌, ◌-◌, ◌^◌, min, Bool, List, ℤ, IsTrue}
 use Rattle.sqlite.specs.State.{HasCleanDisk, Survives}
 use Rattle.sqlite.specs.Store.{Ghosts}

@@ -1,16 +1,16 @@
--- Commands that write documents of one table anew. All of it is our own choice.
+-- Steps. Commands that write documents of one table anew. All of it is our own choice.
 use Rattle.std.specs.Prelude.{◌≡◌, ◌⊎◌, ℕ, List, map, Option, Some, None, Result, Ok, Err, ℤ, IsTrue, Contains, Vec}
 use Rattle.std.specs.declared.alloc.Global.{Global}
 use Rattle.std.specs.List.{AllByRecursion}
 use Rattle.sqlite.specs.State.{HasCleanDisk}
 use Rattle.sqlite.specs.Store.{Ghosts}
-use Rattle.ft_store.specs.declared.rows.RowChange.{RowChange}
+use Rattle.ft_values.specs.declared.rows.RowChange.{RowChange}
 use Rattle.ft_store.specs.Kept.{StoreState, shows, value_in}
-use Rattle.ft_content.specs.declared.fault.Fault.{Fault}
-use Rattle.ft_content.specs.declared.fault.Fault.TheVariants as faults
+use Rattle.ft_values.specs.declared.fault.Fault.{Fault}
+use Rattle.ft_values.specs.declared.fault.Fault.TheVariants as faults
 use Rattle.ft_content.specs.Content.{Column, Documents, Content}
 use Rattle.ft_content.specs.Command.{Command}
-use Rattle.ft_content.specs.Views.{KnownTable}
+use Rattle.ft_content.specs.Views.{TableInfo}
 use Rattle.ft_content.specs.Deserved.{Contents}
 use Rattle.ft_index.specs.declared.rewrite.Rewrite as source
 use Rattle.ft_index.specs.Rewrite.{Rewrite, AreOf, HasContent, shown_rewrite, rewritten}
@@ -37,5 +37,5 @@ Writes content due documents touched (Ok rewrites) = (due ≡ None) × LeadsTo c
 Writes content due documents touched (Err fault) = ((fault ≡ faults.Store) ⊎ (fault ≡ faults.Memory)) ⊎ (due ≡ Some fault)
 
 -- What a plan is that is made by reads, where the store is up as they end.
-abbrev pub PlansIn : {S : Type 0} → Ghosts S → List KnownTable → StoreState S → StoreState S → Command → Result (Vec RowChange Global) Fault → Type 0
+abbrev pub PlansIn : {S : Type 0} → Ghosts S → List TableInfo → StoreState S → StoreState S → Command → Result (Vec RowChange Global) Fault → Type 0
 PlansIn g tables old new command answer = IsUp g (with_tables new tables) → (contents : Contents) → AreHeld (value_in g old) tables contents → PlansFrom contents command (value_in g old) (changes_of answer)

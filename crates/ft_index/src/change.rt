@@ -5,7 +5,7 @@ ghost use Rattle.ft_store.specs.Changes.{shown_change};
 ghost use Rattle.ft_store.specs.Calls.{IsStored};
 ghost use Rattle.ft_store.specs.Kept.{shows, value_in};
 ghost use Rattle.ft_store.specs.Store.{all_applied};
-ghost use Rattle.ft_content.specs.declared.fault.Fault.TheVariants as faults;
+ghost use Rattle.ft_values.specs.declared.fault.Fault.TheVariants as faults;
 ghost use Rattle.ft_index.specs.Changed.{Changed};
 
 use ft_content::Fault;

@@ -3,28 +3,28 @@ ghost use Rattle.std.specs.Prelude.{◌≡◌, ◌⊎◌, ◌↔◌, ℤ, ℕ, L
 ghost use Rattle.std.specs.List.{list_all};
 ghost use Rattle.sqlite.specs.State.{HasCleanDisk};
 ghost use Rattle.ft_store.specs.Kept.{shows, value_in};
-ghost use Rattle.ft_content.specs.declared.fault.Fault.TheVariants as faults;
+ghost use Rattle.ft_values.specs.declared.fault.Fault.TheVariants as faults;
 ghost use Rattle.ft_content.specs.Command as plain;
-ghost use Rattle.ft_content.specs.Views.{known_info, answer_of};
-ghost use Rattle.ft_content.specs.Deserved.{Held, Contents};
+ghost use Rattle.ft_content.specs.Views.{shown_info, answer_of};
+ghost use Rattle.ft_content.specs.Deserved.{TableState, Contents};
 ghost use Rattle.ft_index.specs.Changed.{with_tables};
 ghost use Rattle.ft_index.specs.DocumentsRead.{Looks};
 ghost use Rattle.ft_index.specs.Kept.{Stands, StoreHolds, AreSound, Executes, is_sound};
 ghost use Rattle.ft_index.specs.Opened.{IsNamed};
 ghost use Rattle.ft_index.specs.Tables.{table_rows, table_index};
 
-use crate::names::place_of;
 use crate::open::opened_tables;
 use crate::standing::{listed_table, read_standing};
 use ft_content::{Fault, Reply, TableInfo};
 use ft_store::{Store, StoreFault};
+use ft_values::table_place;
 use sqlite::Alter;
 use std::alloc::Global;
 
 // Whether the rows of the table of an id are documents with exactly the index rows made from scratch. The store is only read, whatever
 // is answered.
 fn is_right<S: Alter>(alloc: Global, store: &mut Store<S>, id: i64) -> Result<bool, StoreFault>
-    ensures right { (named : ℤ × List ℕ) (held : Held) → HasCleanDisk (shows S.Store store.new) → IsNamed (value_in S.Store store.old) id named
+    ensures right { (named : ℤ × List ℕ) (held : TableState) → HasCleanDisk (shows S.Store store.new) → IsNamed (value_in S.Store store.old) id named
         → Stands named.1 (table_rows named.0 (value_in S.Store store.old)) (table_index named.0 (value_in S.Store store.old)) held → IfOk result (λ b. b ≡ is_sound held) }
     ensures looks { Looks S.Store store.old store.new }
     ensures live { HasCleanDisk (shows S.Store store.new) → OnOk result (IsTrue (shows S.Store store.old).is_open → IsTrue (shows S.Store store.new).is_open) }
@@ -45,12 +45,12 @@ pub(crate) fn check_table<S: Alter>(
     tables: &[TableInfo],
     table: &str,
 ) -> Result<Reply, Fault>
-    ensures checks { Executes S.Store (with_tables store.old (map known_info tables.now)) (plain.Check table.now) (answer_of result) (with_tables store.new (map known_info tables.now)) }
+    ensures checks { Executes S.Store (with_tables store.old (map shown_info tables.now)) (plain.Check table.now) (answer_of result) (with_tables store.new (map shown_info tables.now)) }
     ensures looks { Looks S.Store store.old store.new }
     ensures live { HasCleanDisk (shows S.Store store.new) → OnOk result (IsTrue (shows S.Store store.old).is_open → IsTrue (shows S.Store store.new).is_open) }
 {
     store.is_in_order();
-    let Some(place) = place_of(tables, table) else {
+    let Some(place) = table_place(tables, table) else {
         return Err(Fault::NoSuchTable);
     };
     let id = tables[place].id;

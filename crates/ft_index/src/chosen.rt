@@ -5,9 +5,9 @@ ghost use Rattle.std.specs.FinMap.Entries.{find};
 ghost use Rattle.sqlite.specs.State.{HasCleanDisk};
 ghost use Rattle.ft_query.specs.Trees.{tree_of};
 ghost use Rattle.ft_store.specs.Kept.{shows, more_rows};
-ghost use Rattle.ft_content.specs.declared.fault.Fault.TheVariants as faults;
+ghost use Rattle.ft_values.specs.declared.fault.Fault.TheVariants as faults;
 ghost use Rattle.ft_content.specs.Content.{Content};
-ghost use Rattle.ft_content.specs.Command.{OfDocid};
+ghost use Rattle.ft_content.specs.Command.{Docid};
 ghost use Rattle.ft_content.specs.Answer.{chosen};
 ghost use Rattle.ft_content.specs.Views.{cells_of, filter_of};
 ghost use Rattle.ft_index.specs.DocumentsRead.{HasRows, Looks, shown_document};
@@ -55,7 +55,7 @@ fn one_document<S: Alter>(
     tab: i64,
     docid: i64,
 ) -> Result<Vec<Document>, Fault>
-    ensures found { IfOk result (λ found. (content : Content) → HasRows S.Store tab store.old store.new content → map shown_document found.items ≡ chosen content (OfDocid docid)) }
+    ensures found { IfOk result (λ found. (content : Content) → HasRows S.Store tab store.old store.new content → map shown_document found.items ≡ chosen content (Docid docid)) }
     ensures faults { IfErr result (λ fault. (fault ≡ faults.Store) ⊎ (fault ≡ faults.Memory)) }
     ensures looks { Looks S.Store store.old store.new }
     ensures live { HasCleanDisk (shows S.Store store.new) → OnOk result (IsTrue (shows S.Store store.new).is_open) }

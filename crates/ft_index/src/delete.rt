@@ -7,7 +7,7 @@ ghost use Rattle.ft_content.specs.Content.{Content};
 ghost use Rattle.ft_content.specs.Answer.{chosen};
 ghost use Rattle.ft_content.specs.Deserved.{delete_fault};
 ghost use Rattle.ft_content.specs.Step.{deleted, docids_of};
-ghost use Rattle.ft_content.specs.Views.{column_of, filter_of, known_info, answer_of};
+ghost use Rattle.ft_content.specs.Views.{column_of, filter_of, shown_info, answer_of};
 ghost use Rattle.ft_index.specs.Kept.{Executes};
 ghost use Rattle.ft_index.specs.Changed.{with_tables};
 ghost use Rattle.ft_index.specs.Crashes.{CommandSurvives};
@@ -34,10 +34,10 @@ pub(crate) fn delete_from<S: Alter>(
     table: &str,
     filter: &Filter,
 ) -> Result<Reply, Fault>
-    ensures executes { Executes S.Store (with_tables store.old (map known_info tables.now)) (plain.Delete table.now (filter_of filter.now))
-        (answer_of result) (with_tables store.new (map known_info tables.now)) }
-    ensures crash { CommandSurvives S.Store (with_tables store.old (map known_info tables.now)) (plain.Delete table.now (filter_of filter.now))
-        (with_tables store.new (map known_info tables.now)) }
+    ensures executes { Executes S.Store (with_tables store.old (map shown_info tables.now)) (plain.Delete table.now (filter_of filter.now))
+        (answer_of result) (with_tables store.new (map shown_info tables.now)) }
+    ensures crash { CommandSurvives S.Store (with_tables store.old (map shown_info tables.now)) (plain.Delete table.now (filter_of filter.now))
+        (with_tables store.new (map shown_info tables.now)) }
     ensures live { HasCleanDisk (shows S.Store store.new) → OnOk result (IsTrue (shows S.Store store.old).is_open → IsTrue (shows S.Store store.new).is_open) }
 {
     let changes = delete_changes(alloc, store, tables, table, filter)?;
@@ -53,7 +53,7 @@ pub(crate) fn delete_changes<S: Alter>(
     table: &str,
     filter: &Filter,
 ) -> Result<Vec<RowChange>, Fault>
-    ensures plans { PlansIn S.Store (map known_info tables.now) store.old store.new (plain.Delete table.now (filter_of filter.now)) result }
+    ensures plans { PlansIn S.Store (map shown_info tables.now) store.old store.new (plain.Delete table.now (filter_of filter.now)) result }
     ensures looks { Looks S.Store store.old store.new }
     ensures live { HasCleanDisk (shows S.Store store.new) → OnOk result (IsTrue (shows S.Store store.old).is_open → IsTrue (shows S.Store store.new).is_open) }
 {

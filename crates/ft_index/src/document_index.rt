@@ -1,6 +1,6 @@
 //! The index of some documents, made from scratch, and the row changes from one to another.
 ghost use Rattle.std.specs.Prelude.{◌≡◌, ◌<◌, ◌≤◌, ◌^◌, pos, length, map, drop, option_map, string_bytes, IfSome};
-ghost use Rattle.ft_store.specs.Changes.{shown_value};
+ghost use Rattle.ft_values.specs.Cells.{shown_value};
 ghost use Rattle.ft_content.specs.Content as content;
 ghost use Rattle.ft_index.specs.RewriteRows.{IsShortNumber};
 ghost use Rattle.ft_index.specs.Standing as standing;
@@ -155,7 +155,8 @@ impl DocumentIndex {
             spots.push(spot)?;
             return Ok(());
         }
-        let mut spots = Vec::new(self.alloc);
+        // most terms stand once in a document
+        let mut spots = Vec::with_capacity(self.alloc, 1)?;
         spots.push(spot)?;
         self.lists.insert(key, spots)?;
         Ok(())

@@ -31,16 +31,17 @@ pub struct NewFault<S: Alter> {
 
 impl<S: Alter> Model for FullText<S> {
     ghost use Rattle.std.specs.Prelude.{map};
-    ghost use Rattle.ft_content.specs.Views.{known_info};
-    ghost use Rattle.ft_index.specs.Kept.{Known, known_code, HoldsSome};
+    ghost use Rattle.ft_content.specs.Views.{shown_info};
+    ghost use Rattle.ft_index.specs.Kept as kept;
+    ghost use Rattle.ft_index.specs.Kept.{full_text_code, HoldsSome};
 
-    ghost Value = { Known S };
+    ghost Value = { kept.FullText S };
 
-    ghost coded = { known_code S.code };
+    ghost coded = { full_text_code S.code };
 
-    ghost view = { λ f. record { store = f.store; tables = map known_info f.tables.items } };
+    ghost view = { λ f. record { store = f.store; tables = map shown_info f.tables.items } };
 
-    ghost invariant = { λ f. HoldsSome S.Store (record { store = f.store; tables = map known_info f.tables.items }) };
+    ghost invariant = { λ f. HoldsSome S.Store (record { store = f.store; tables = map shown_info f.tables.items }) };
 }
 
 impl<S: Alter> FullText<S> {
@@ -49,9 +50,9 @@ impl<S: Alter> FullText<S> {
     ghost use Rattle.ft_store.specs.Kept.{shows, value_in};
     ghost use Rattle.sqlite.specs.State.{HasCleanDisk};
     ghost use Rattle.ft_store.specs.Store.{Note, applied, nothing_held};
-    ghost use Rattle.ft_content.specs.declared.fault.Fault.TheVariants as faults;
+    ghost use Rattle.ft_values.specs.declared.fault.Fault.TheVariants as faults;
     ghost use Rattle.ft_content.specs.Deserved.{Contents};
-    ghost use Rattle.ft_content.specs.Views.{known_info, command_of, answer_of};
+    ghost use Rattle.ft_content.specs.Views.{shown_info, command_of, answer_of};
     ghost use Rattle.ft_index.specs.Crashes.{CommandSurvives, NoteSurvives, HoldsAfter};
     ghost use Rattle.sqlite_trees.specs.Tree.{Trees};
     ghost use Rattle.ft_store.specs.Calls.{IsStored};
@@ -85,7 +86,7 @@ impl<S: Alter> FullText<S> {
 
     /// The tables by rising id, each with its mark.
     pub fn tables(&self) -> &[TableInfo]
-        ensures { map known_info result.now ≡ self.now.tables }
+        ensures { map shown_info result.now ≡ self.now.tables }
     {
         self.tables.as_slice()
     }

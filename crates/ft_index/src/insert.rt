@@ -3,7 +3,7 @@ ghost use Rattle.std.specs.Prelude.{◌≡◌, false, [], ℕ, List, map, option
 ghost use Rattle.ft_content.specs.Content as content;
 ghost use Rattle.sqlite.specs.State.{HasCleanDisk, Survives};
 ghost use Rattle.ft_store.specs.Kept.{shows};
-ghost use Rattle.ft_content.specs.declared.fault.Fault.TheVariants as faults;
+ghost use Rattle.ft_values.specs.declared.fault.Fault.TheVariants as faults;
 ghost use Rattle.std.specs.Ordering.{int_cmp};
 ghost use Rattle.std.specs.FinMap.Entries.{is_sorted};
 ghost use Rattle.ft_content.specs.Content.{Documents, Content};
@@ -11,7 +11,7 @@ ghost use Rattle.ft_content.specs.Command as plain;
 ghost use Rattle.ft_content.specs.Deserved.{insert_rows, insert_fault, listed_columns, docids_in};
 ghost use Rattle.ft_content.specs.Step.{inserted, new_docids};
 ghost use Rattle.ft_content.specs.Views as views;
-ghost use Rattle.ft_content.specs.Views.{cells_of, column_of, known_info};
+ghost use Rattle.ft_content.specs.Views.{cells_of, column_of, shown_info};
 ghost use Rattle.ft_index.specs.Kept.{Executes};
 ghost use Rattle.ft_index.specs.Changed.{with_tables};
 ghost use Rattle.ft_index.specs.Crashes.{CommandSurvives};
@@ -40,12 +40,12 @@ pub(crate) fn insert_into<S: Alter>(
     columns: Option<&[String]>,
     rows: &[Vec<Value>],
 ) -> Result<Reply, Fault>
-    ensures executes { Executes S.Store (with_tables store.old (map known_info tables.now))
+    ensures executes { Executes S.Store (with_tables store.old (map shown_info tables.now))
         (plain.Insert table.now (option_map (λ n. map string_bytes n.now) columns.entry) (map cells_of rows.now))
-        (views.answer_of result) (with_tables store.new (map known_info tables.now)) }
-    ensures crash { CommandSurvives S.Store (with_tables store.old (map known_info tables.now))
+        (views.answer_of result) (with_tables store.new (map shown_info tables.now)) }
+    ensures crash { CommandSurvives S.Store (with_tables store.old (map shown_info tables.now))
         (plain.Insert table.now (option_map (λ n. map string_bytes n.now) columns.entry) (map cells_of rows.now))
-        (with_tables store.new (map known_info tables.now)) }
+        (with_tables store.new (map shown_info tables.now)) }
     ensures live { HasCleanDisk (shows S.Store store.new) → OnOk result (IsTrue (shows S.Store store.old).is_open → IsTrue (shows S.Store store.new).is_open) }
 {
     let changes = insert_changes(alloc, store, tables, table, columns, rows)?;
@@ -62,7 +62,7 @@ pub(crate) fn insert_changes<S: Alter>(
     columns: Option<&[String]>,
     rows: &[Vec<Value>],
 ) -> Result<Vec<RowChange>, Fault>
-    ensures plans { PlansIn S.Store (map known_info tables.now) store.old store.new (plain.Insert table.now (option_map (λ n. map string_bytes n.now) columns.entry) (map cells_of rows.now)) result }
+    ensures plans { PlansIn S.Store (map shown_info tables.now) store.old store.new (plain.Insert table.now (option_map (λ n. map string_bytes n.now) columns.entry) (map cells_of rows.now)) result }
     ensures looks { Looks S.Store store.old store.new }
     ensures live { HasCleanDisk (shows S.Store store.new) → OnOk result (IsTrue (shows S.Store store.old).is_open → IsTrue (shows S.Store store.new).is_open) }
 {

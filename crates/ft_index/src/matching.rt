@@ -8,10 +8,10 @@ ghost use Rattle.ft_query.specs.Occurs.{plain_hit, hits_of};
 ghost use Rattle.ft_query.specs.Walk.{StandsBefore};
 ghost use Rattle.ft_store.specs.Calls.{Keeps};
 ghost use Rattle.ft_store.specs.Kept.{shows, more_rows};
-ghost use Rattle.ft_content.specs.declared.fault.Fault.TheVariants as faults;
+ghost use Rattle.ft_values.specs.declared.fault.Fault.TheVariants as faults;
 ghost use Rattle.ft_content.specs.Content.{Content};
 ghost use Rattle.ft_content.specs.Meaning.{content_documents};
-ghost use Rattle.ft_content.specs.Command.{Matching};
+ghost use Rattle.ft_content.specs.Command.{Match};
 ghost use Rattle.ft_content.specs.Answer.{reading, query_in, cut};
 ghost use Rattle.ft_index.specs.Walked.{IsIndexed};
 ghost use Rattle.ft_index.specs.Matched.{chosen_hits};
@@ -115,9 +115,9 @@ pub(crate) fn matched<S: Alter>(
     most: Option<u64>,
 ) -> Result<Vec<Hit>, Fault>
     ensures found { IfOk result (λ hits. (content : Content) (name text : List ℕ) → reading content name text ≡ Ok (option_map (λ q. tree_of q.now) query.entry)
-        → IsIndexed S.Store tab store.old store.new content → map plain_hit hits.items ≡ cut most 0 (chosen_hits content (Matching name text))) }
+        → IsIndexed S.Store tab store.old store.new content → map plain_hit hits.items ≡ cut most 0 (chosen_hits content (Match name text))) }
     ensures counted { OnOk result ((content : Content) (name text : List ℕ) → reading content name text ≡ Ok (option_map (λ q. tree_of q.now) query.entry)
-        → IsIndexed S.Store tab store.old store.new content → store.new.rows_read ≡ more_rows (entries_asked content (query_in content (Matching name text))) store.old) }
+        → IsIndexed S.Store tab store.old store.new content → store.new.rows_read ≡ more_rows (entries_asked content (query_in content (Match name text))) store.old) }
     ensures faults { IfErr result (λ fault. (fault ≡ faults.Store) ⊎ (fault ≡ faults.Memory)) }
     ensures live { HasCleanDisk (shows S.Store store.new) → OnOk result (IsTrue (shows S.Store store.old).is_open → IsTrue (shows S.Store store.new).is_open) }
     ensures kept { HasCleanDisk (shows S.Store store.new) → Keeps (shows S.Store store.old) (shows S.Store store.new) }

@@ -18,7 +18,7 @@ impl NewDocuments {
     ghost use Rattle.std.specs.Prelude.{None, [], map, zip, slice_get, is_some, IfSome, IfOk, IsTrue};
     ghost use Rattle.std.specs.Ordering.{int_cmp};
     ghost use Rattle.std.specs.FinMap.Entries.{find, is_sorted};
-    ghost use Rattle.ft_store.specs.Changes.{shown_value};
+    ghost use Rattle.ft_values.specs.Cells.{shown_value};
     ghost use Rattle.ft_content.specs.Content.{Documents};
     ghost use Rattle.ft_content.specs.Deserved as deserved;
     ghost use Rattle.ft_content.specs.Views.{last_docid, cells_of, column_of};

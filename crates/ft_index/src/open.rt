@@ -3,7 +3,7 @@ ghost use Rattle.std.specs.Prelude.{◌≡◌, ℤ, ℕ, List, map, IsTrue, IfOk
 ghost use Rattle.sqlite.specs.State.{HasCleanDisk};
 ghost use Rattle.ft_store.specs.Calls.{IsPlainFault};
 ghost use Rattle.ft_store.specs.Kept.{shows, value_in};
-ghost use Rattle.ft_content.specs.Views.{known_info};
+ghost use Rattle.ft_content.specs.Views.{shown_info};
 ghost use Rattle.ft_index.specs.DocumentsRead.{Looks};
 ghost use Rattle.ft_index.specs.Opened.{IsListed, IsMarked, AreMarked};
 
@@ -21,7 +21,7 @@ fn opened_table<S: Alter>(
     table: TabRow,
 ) -> Result<TableInfo, StoreFault>
     ensures marked { (named : ℤ × List ℕ) → HasCleanDisk (shows S.Store store.new) → IsListed (value_in S.Store store.old) named table
-        → IfOk result (λ info. IsMarked (value_in S.Store store.old) named (known_info info)) }
+        → IfOk result (λ info. IsMarked (value_in S.Store store.old) named (shown_info info)) }
     ensures live { HasCleanDisk (shows S.Store store.new) → OnOk result (IsTrue (shows S.Store store.new).is_open) }
     ensures cause { IfErr result IsPlainFault }
     ensures looks { Looks S.Store store.old store.new }
@@ -42,7 +42,7 @@ pub(crate) fn opened_tables<S: Alter>(
     alloc: Global,
     store: &mut Store<S>,
 ) -> Result<Vec<TableInfo>, StoreFault>
-    ensures marked { HasCleanDisk (shows S.Store store.new) → IfOk result (λ tables. AreMarked (value_in S.Store store.old) (value_in S.Store store.old).tables (map known_info tables.items)) }
+    ensures marked { HasCleanDisk (shows S.Store store.new) → IfOk result (λ tables. AreMarked (value_in S.Store store.old) (value_in S.Store store.old).tables (map shown_info tables.items)) }
     ensures live { HasCleanDisk (shows S.Store store.new) → OnOk result (IsTrue (shows S.Store store.new).is_open) }
     ensures cause { IfErr result IsPlainFault }
     ensures looks { Looks S.Store store.old store.new }

@@ -1,7 +1,7 @@
 // Optimize, which changes nothing.
 ghost use Rattle.std.specs.Prelude.{◌≡◌, map};
 ghost use Rattle.ft_content.specs.Command as plain;
-ghost use Rattle.ft_content.specs.Views.{known_info, answer_of};
+ghost use Rattle.ft_content.specs.Views.{shown_info, answer_of};
 ghost use Rattle.ft_content.specs.Deserved.{Contents};
 ghost use Rattle.ft_index.specs.Kept.{Answers, told_table};
 
@@ -10,7 +10,7 @@ use ft_content::{Fault, Reply, TableInfo};
 
 /// Answers an Optimize.
 pub(crate) fn optimize(tables: &[TableInfo], table: &str) -> Result<Reply, Fault>
-    ensures { (contents : Contents) → map known_info tables.now ≡ map told_table contents →
+    ensures { (contents : Contents) → map shown_info tables.now ≡ map told_table contents →
         Answers contents (plain.Optimize table.now) (answer_of result) contents }
 {
     match sound_place(tables, table) {

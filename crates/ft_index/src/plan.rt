@@ -1,7 +1,7 @@
 //! The row changes that commands ask for.
 ghost use Rattle.std.specs.Prelude.{◌≡◌, map, option_map, string_bytes};
 ghost use Rattle.ft_content.specs.Command as plain;
-ghost use Rattle.ft_content.specs.Views.{known_info, names_in, command_of};
+ghost use Rattle.ft_content.specs.Views.{shown_info, names_in, command_of};
 ghost use Rattle.ft_index.specs.DocumentsRead.{Looks};
 ghost use Rattle.ft_index.specs.Planned.{PlansOver};
 ghost use Rattle.ft_index.specs.Written.{PlansIn};
@@ -27,7 +27,7 @@ pub(crate) fn planned_changes<S: Alter>(
     tables: &[TableInfo],
     command: &Command,
 ) -> Result<Vec<RowChange>, Fault>
-    ensures plans { PlansIn S.Store (map known_info tables.now) store.old store.new (command_of command.now) result }
+    ensures plans { PlansIn S.Store (map shown_info tables.now) store.old store.new (command_of command.now) result }
     ensures looks { Looks S.Store store.old store.new }
 {
     store.is_in_order();
@@ -96,7 +96,7 @@ fn check_changes<S: Alter>(
     tables: &[TableInfo],
     table: &str,
 ) -> Result<Vec<RowChange>, Fault>
-    ensures plans { PlansIn S.Store (map known_info tables.now) store.old store.new (plain.Check table.now) result }
+    ensures plans { PlansIn S.Store (map shown_info tables.now) store.old store.new (plain.Check table.now) result }
     ensures looks { Looks S.Store store.old store.new }
 {
     check_table(alloc, store, tables, table)?;

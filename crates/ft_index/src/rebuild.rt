@@ -7,7 +7,7 @@ ghost use Rattle.sqlite.specs.State.{HasCleanDisk};
 ghost use Rattle.ft_store.specs.Kept.{shows, value_in};
 ghost use Rattle.ft_content.specs.Content.{is_document};
 ghost use Rattle.ft_content.specs.Command as plain;
-ghost use Rattle.ft_content.specs.Views.{column_of, known_info, answer_of};
+ghost use Rattle.ft_content.specs.Views.{column_of, shown_info, answer_of};
 ghost use Rattle.ft_content.specs.Deserved.{Contents};
 ghost use Rattle.ft_index.specs.Changed.{with_tables};
 ghost use Rattle.ft_index.specs.Crashes.{CommandSurvives};
@@ -23,12 +23,12 @@ use crate::change::change_rows;
 use crate::document::Document;
 use crate::document_index::DocumentIndex;
 use crate::documents::gathered;
-use crate::names::place_of;
 use crate::standing::listed_table;
 use crate::standing_rows::{is_content, listed_columns};
 use crate::told::mark_sound;
 use ft_content::{Column, Fault, Reply, TableInfo};
 use ft_store::{RowChange, Store, StoreFault, TabRow};
+use ft_values::table_place;
 use sqlite::Alter;
 use std::alloc::{AllocError, Global};
 
@@ -131,13 +131,13 @@ pub(crate) fn rebuild_changes<S: Alter>(
     tables: &[TableInfo],
     table: &str,
 ) -> Result<Vec<RowChange>, Fault>
-    ensures plan { HasCleanDisk (shows S.Store store.new) → (contents : Contents) → AreHeld (value_in S.Store store.old) (map known_info tables.now) contents
+    ensures plan { HasCleanDisk (shows S.Store store.new) → (contents : Contents) → AreHeld (value_in S.Store store.old) (map shown_info tables.now) contents
         → PlansFrom contents (plain.Rebuild table.now) (value_in S.Store store.old) (changes_of result) }
     ensures looks { Looks S.Store store.old store.new }
     ensures live { HasCleanDisk (shows S.Store store.new) → OnOk result (IsTrue (shows S.Store store.old).is_open → IsTrue (shows S.Store store.new).is_open) }
 {
     store.is_in_order();
-    let Some(place) = place_of(tables, table) else {
+    let Some(place) = table_place(tables, table) else {
         return Err(Fault::NoSuchTable);
     };
     let id = tables[place].id;
@@ -160,15 +160,15 @@ pub(crate) fn rebuild_table<S: Alter>(
     tables: &mut Vec<TableInfo>,
     table: &str,
 ) -> Result<Reply, Fault>
-    ensures executes { Executes S.Store (with_tables store.old (map known_info tables.old.items)) (plain.Rebuild table.now) (answer_of result) (with_tables store.new (map known_info tables.new.items)) }
-    ensures crash { CommandSurvives S.Store (with_tables store.old (map known_info tables.old.items)) (plain.Rebuild table.now) (with_tables store.new (map known_info tables.new.items)) }
+    ensures executes { Executes S.Store (with_tables store.old (map shown_info tables.old.items)) (plain.Rebuild table.now) (answer_of result) (with_tables store.new (map shown_info tables.new.items)) }
+    ensures crash { CommandSurvives S.Store (with_tables store.old (map shown_info tables.old.items)) (plain.Rebuild table.now) (with_tables store.new (map shown_info tables.new.items)) }
     ensures live { HasCleanDisk (shows S.Store store.new) → OnOk result (IsTrue (shows S.Store store.old).is_open → IsTrue (shows S.Store store.new).is_open) }
 {
     store.is_in_order();
     let changes = rebuild_changes(alloc, store, tables.as_slice(), table)?;
     change_rows(store, changes.as_slice())?;
     let known = tables.as_slice();
-    if let Some(place) = place_of(known, table) {
+    if let Some(place) = table_place(known, table) {
         let id = known[place].id;
         mark_sound(tables, id);
     }

@@ -2,7 +2,8 @@
 ghost use Rattle.std.specs.Prelude.{◌≡◌, ◌++◌, ◌≤◌, [], map, option_map, unwrap_or, length, pos, All, IsTrue, IfOk, OnOk};
 ghost use Rattle.std.specs.Ordering.{int_cmp};
 ghost use Rattle.std.specs.FinMap.Entries.{find, is_sorted};
-ghost use Rattle.ft_store.specs.Changes.{shown_value, shown_change, CanApply};
+ghost use Rattle.ft_values.specs.Cells.{shown_value};
+ghost use Rattle.ft_store.specs.Changes.{shown_change, CanApply};
 ghost use Rattle.ft_content.specs.Views.{cells_of, column_of};
 ghost use Rattle.ft_index.specs.Kept.{IsOfDocids};
 ghost use Rattle.ft_index.specs.Rewrite.{shown_rewrite, docids_of, befores, afters, by_docid, AreRight, AreNew, FitIfAny};

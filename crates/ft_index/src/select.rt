@@ -1,19 +1,20 @@
 //! Answers of a Select.
-ghost use Rattle.std.specs.Prelude.{◌≡◌, ◌⊎◌, ◌+◌, ◌*◌, ◌<◌, ◌^◌, ℕ, List, [], Option, None, Some, map, option_map, length, pos, false, string_bytes, IsTrue, IfOk, IfErr, OnOk};
+ghost use Rattle.std.specs.Prelude.{◌≡◌, ◌⊎◌, ◌+◌, ◌*◌, ◌<◌, ◌^◌, ℕ, List, [], Option, None, Some, map, option_map, length, pos, true, false, string_bytes, IsTrue, IfOk, IfErr, OnOk};
 ghost use Rattle.std.specs.List.{list_any};
 ghost use Rattle.sqlite.specs.State.{HasCleanDisk};
 ghost use Rattle.ft_query.specs.Trees.{Tree, tree_of};
+ghost use Rattle.ft_query.specs.Occurs as occurs;
 ghost use Rattle.ft_query.specs.Occurs.{PlainHit};
-ghost use Rattle.ft_store.specs.Changes.{shown_value};
+ghost use Rattle.ft_values.specs.Cells.{shown_value};
 ghost use Rattle.ft_store.specs.Kept.{shows, more_rows};
-ghost use Rattle.ft_content.specs.declared.fault.Fault.TheVariants as faults;
+ghost use Rattle.ft_values.specs.declared.fault.Fault.TheVariants as faults;
 ghost use Rattle.ft_content.specs.Content.{Content};
 ghost use Rattle.ft_content.specs.Command as plain;
-ghost use Rattle.ft_content.specs.Command.{Matching};
+ghost use Rattle.ft_content.specs.Command.{Match};
 ghost use Rattle.ft_content.specs.Answer as answer;
 ghost use Rattle.ft_content.specs.Answer.{chosen, query_in};
 ghost use Rattle.ft_content.specs.Deserved as deserved;
-ghost use Rattle.ft_content.specs.Views.{bare_content, cells_of, rows_of, column_of, item_of, items_of, filter_of, known_info, grid_of, answer_of};
+ghost use Rattle.ft_content.specs.Views.{bare_content, cells_of, rows_of, column_of, item_of, items_of, filter_of, shown_info, grid_of, answer_of};
 ghost use Rattle.ft_index.specs.Kept.{Executes, OnlyLooks};
 ghost use Rattle.ft_index.specs.Changed.{with_tables};
 ghost use Rattle.ft_index.specs.Planned.{PlansOver};
@@ -28,8 +29,8 @@ use crate::document::Document;
 use crate::matching::matched;
 use crate::names::{sound_place, sound_table};
 use ft_content::{
-    Column, Fault, Filter, Grid, Item, Items, Reply, TableInfo, Value, answer_names, count_rows,
-    cut, is_docid, item_row, read_query, select_tests,
+    Column, Fault, Filter, Grid, Item, Items, Reply, TableInfo, Value, answer_names, any_offsets,
+    count_rows, cut, is_docid, item_row, read_query, select_tests,
 };
 use ft_query::{Hit, Query, offsets_text};
 use ft_store::{RowChange, Store};
@@ -47,11 +48,11 @@ pub(crate) fn select_from<S: Alter>(
     limit: Option<u64>,
     offset: u64,
 ) -> Result<Reply, Fault>
-    ensures executes { Executes S.Store (with_tables store.old (map known_info tables.now)) (plain.Select table.now (items_of items.now) (filter_of filter.now) limit offset)
-        (answer_of result) (with_tables store.new (map known_info tables.now)) }
-    ensures counts { CountsRows S.Store (with_tables store.old (map known_info tables.now)) (plain.Select table.now (items_of items.now) (filter_of filter.now) limit offset)
-        (answer_of result) (with_tables store.new (map known_info tables.now)) }
-    ensures looks { OnlyLooks S.Store (with_tables store.old (map known_info tables.now)) (with_tables store.new (map known_info tables.now)) }
+    ensures executes { Executes S.Store (with_tables store.old (map shown_info tables.now)) (plain.Select table.now (items_of items.now) (filter_of filter.now) limit offset)
+        (answer_of result) (with_tables store.new (map shown_info tables.now)) }
+    ensures counts { CountsRows S.Store (with_tables store.old (map shown_info tables.now)) (plain.Select table.now (items_of items.now) (filter_of filter.now) limit offset)
+        (answer_of result) (with_tables store.new (map shown_info tables.now)) }
+    ensures looks { OnlyLooks S.Store (with_tables store.old (map shown_info tables.now)) (with_tables store.new (map shown_info tables.now)) }
     ensures live { HasCleanDisk (shows S.Store store.new) → OnOk result (IsTrue (shows S.Store store.old).is_open → IsTrue (shows S.Store store.new).is_open) }
 {
     store.is_in_order();
@@ -253,10 +254,10 @@ fn matched_rows<S: Alter>(
     limit: Option<u64>,
     offset: u64,
 ) -> Result<Vec<Vec<Value>>, Fault>
-    ensures found { IfOk result (λ found. (content : Content) (name text : List ℕ) → IsAsked S.Store tab (map column_of columns.now) (plain.Listed (map item_of items.now)) (Matching name text) (option_map (λ q. tree_of q.now) query.entry) store.old store.new content
-        → rows_of found ≡ answer.cut limit offset (answer.answer_rows content (plain.Listed (map item_of items.now)) (Matching name text))) }
-    ensures counted { OnOk result ((content : Content) (name text : List ℕ) → IsAsked S.Store tab (map column_of columns.now) (plain.Listed (map item_of items.now)) (Matching name text) (option_map (λ q. tree_of q.now) query.entry) store.old store.new content
-        → store.new.rows_read ≡ more_rows (rows_asked content (plain.Listed (map item_of items.now)) (Matching name text) limit offset) store.old) }
+    ensures found { IfOk result (λ found. (content : Content) (name text : List ℕ) → IsAsked S.Store tab (map column_of columns.now) (plain.Listed (map item_of items.now)) (Match name text) (option_map (λ q. tree_of q.now) query.entry) store.old store.new content
+        → rows_of found ≡ answer.cut limit offset (answer.answer_rows content (plain.Listed (map item_of items.now)) (Match name text))) }
+    ensures counted { OnOk result ((content : Content) (name text : List ℕ) → IsAsked S.Store tab (map column_of columns.now) (plain.Listed (map item_of items.now)) (Match name text) (option_map (λ q. tree_of q.now) query.entry) store.old store.new content
+        → store.new.rows_read ≡ more_rows (rows_asked content (plain.Listed (map item_of items.now)) (Match name text) limit offset) store.old) }
     ensures faults { IfErr result (λ fault. (fault ≡ faults.Store) ⊎ (fault ≡ faults.Memory)) }
     ensures looks { Looks S.Store store.old store.new }
     ensures live { HasCleanDisk (shows S.Store store.new) → OnOk result (IsTrue (shows S.Store store.old).is_open → IsTrue (shows S.Store store.new).is_open) }
@@ -340,6 +341,18 @@ fn cell_rows<S: Alter>(
     Ok(rows)
 }
 
+// The text of a hit's offsets, if it is asked for.
+fn asked_offsets(alloc: Global, items: &[Item], hit: &Hit) -> Result<String, AllocError>
+    ensures { list_any deserved.is_offsets (map item_of items.now) ≡ true
+        → IfOk result (λ text. string_bytes text ≡ occurs.offsets_text hit.now.offsets.items) }
+{
+    if any_offsets(items) {
+        offsets_text(alloc, hit.offsets.as_slice())
+    } else {
+        Ok(String::new(alloc))
+    }
+}
+
 // The row of a hit with the cells of its document.
 fn hit_row(
     alloc: Global,
@@ -350,6 +363,8 @@ fn hit_row(
 ) -> Result<Vec<Value>, AllocError>
     ensures { IfOk result (λ row. cells_of row ≡ hit_cells (map column_of columns.now) (map item_of items.now) (λ docid. map shown_value cells.now) hit.now) }
 {
-    let offsets = offsets_text(alloc, hit.offsets.as_slice())?;
-    item_row(alloc, columns, items, hit.docid, cells, offsets.as_str())
+    let offsets = asked_offsets(alloc, items, hit)?;
+    let offsets = offsets.as_str();
+    let row = item_row(alloc, columns, items, hit.docid, cells, offsets)?;
+    Ok(row)
 }

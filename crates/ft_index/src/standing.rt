@@ -3,7 +3,7 @@ ghost use Rattle.std.specs.Prelude.{◌≡◌, ◌<◌, ◌↔◌, ℤ, ℕ, Lis
 ghost use Rattle.std.specs.List.{find};
 ghost use Rattle.std.specs.Ordering.{int_eq};
 ghost use Rattle.sqlite.specs.State.{HasCleanDisk};
-ghost use Rattle.ft_store.specs.declared.rows.TabRow as rows;
+ghost use Rattle.ft_values.specs.declared.rows.TabRow as rows;
 ghost use Rattle.ft_store.specs.Calls.{IsPlainFault};
 ghost use Rattle.ft_store.specs.Kept.{shows, value_in};
 ghost use Rattle.ft_content.specs.Content.{Content};

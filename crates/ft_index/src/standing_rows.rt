@@ -2,7 +2,7 @@
 ghost use Rattle.std.specs.Prelude.{◌≡◌, ◌<◌, ◌≤◌, ◌↔◌, [], not, map, string_bytes, IsTrue, IfOk};
 ghost use Rattle.std.specs.List.{list_any};
 ghost use Rattle.std.specs.Ordering.{int_eq};
-ghost use Rattle.ft_store.specs.Changes.{shown_value};
+ghost use Rattle.ft_values.specs.Cells.{shown_value};
 ghost use Rattle.ft_content.specs.Content as content;
 ghost use Rattle.ft_content.specs.Views.{column_of};
 ghost use Rattle.ft_index.specs.Standing as standing;

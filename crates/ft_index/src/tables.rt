@@ -1,5 +1,5 @@
 // Making and removing tables.
-ghost use Rattle.std.specs.Prelude.{◌≡◌, ◌⊎◌, ◌∷◌, [], cond, map, string_bytes, is_ok, IfOk, IfErr, IsTrue, OnOk};
+ghost use Rattle.std.specs.Prelude.{◌≡◌, ◌⊎◌, ◌∷◌, [], if◌then◌else◌, map, string_bytes, is_ok, IfOk, IfErr, IsTrue, OnOk};
 ghost use Rattle.sqlite.specs.State.{Survives, HasCleanDisk};
 ghost use Rattle.ft_store.specs.Calls.{IsStored};
 ghost use Rattle.ft_store.specs.Kept.{shows, value_in};
@@ -8,21 +8,21 @@ ghost use Rattle.ft_index.specs.Crashes.{CommandSurvives};
 ghost use Rattle.ft_store.specs.Changes.{shown_change};
 ghost use Rattle.ft_content.specs.Content.{names_of, skipped_from};
 ghost use Rattle.ft_content.specs.Command as plain;
-ghost use Rattle.ft_content.specs.Views.{known_info, option_of, column_of, answer_of};
+ghost use Rattle.ft_content.specs.Views.{shown_info, option_of, column_of, answer_of};
 ghost use Rattle.ft_content.specs.Deserved.{Contents};
 ghost use Rattle.ft_index.specs.Kept.{told_table, Executes};
 ghost use Rattle.ft_index.specs.Planned.{PlansOver, Makes, table_change};
 ghost use Rattle.ft_index.specs.Changed.{Changed, with_tables};
 ghost use Rattle.ft_index.specs.Found.{with_told};
-ghost use Rattle.ft_content.specs.declared.fault.Fault.TheVariants as faults;
+ghost use Rattle.ft_values.specs.declared.fault.Fault.TheVariants as faults;
 
 use crate::change::change_rows;
-use crate::names::place_of;
 use crate::told::{insert_table, remove_table};
 use ft_content::{
     Column, Fault, Reply, TableInfo, create_fault, free_id, made_columns, made_names,
 };
 use ft_store::{RowChange, Store};
+use ft_values::table_place;
 use sqlite::Alter;
 use std::alloc::{AllocError, Global};
 
@@ -36,7 +36,7 @@ pub(crate) fn made_table(
     columns: &[String],
     if_new: bool,
 ) -> Result<Option<TableInfo>, Fault>
-    ensures { (contents : Contents) → map known_info tables.now ≡ map told_table contents →
+    ensures { (contents : Contents) → map shown_info tables.now ≡ map told_table contents →
         Makes contents table.now module_name.now (map option_of options.now) (map string_bytes columns.now) if_new result }
 {
     let names = made_names(alloc, columns)?;
@@ -50,7 +50,7 @@ pub(crate) fn made_table(
     ) {
         return Err(fault);
     }
-    if place_of(tables, table).is_some() {
+    if table_place(tables, table).is_some() {
         return Ok(None);
     }
     let name = String::from_str(alloc, table)?;
@@ -128,12 +128,12 @@ pub(crate) fn create_table<S: Alter>(
     columns: &[String],
     if_new: bool,
 ) -> Result<Reply, Fault>
-    ensures executes { Executes S.Store (with_tables store.old (map known_info tables.old.items))
+    ensures executes { Executes S.Store (with_tables store.old (map shown_info tables.old.items))
         (plain.Create table.now module_name.now (map option_of options.now) (map string_bytes columns.now) if_new)
-        (answer_of result) (with_tables store.new (map known_info tables.new.items)) }
-    ensures crash { CommandSurvives S.Store (with_tables store.old (map known_info tables.old.items))
+        (answer_of result) (with_tables store.new (map shown_info tables.new.items)) }
+    ensures crash { CommandSurvives S.Store (with_tables store.old (map shown_info tables.old.items))
         (plain.Create table.now module_name.now (map option_of options.now) (map string_bytes columns.now) if_new)
-        (with_tables store.new (map known_info tables.new.items)) }
+        (with_tables store.new (map shown_info tables.new.items)) }
     ensures live { HasCleanDisk (shows S.Store store.new) → OnOk result (IsTrue (shows S.Store store.old).is_open → IsTrue (shows S.Store store.new).is_open) }
 {
     store.is_in_order();
@@ -160,7 +160,7 @@ pub(crate) fn add_table<S: Alter>(
     made: TableInfo,
 ) -> Result<(), Fault>
     ensures changed { Changed S.Store store.old store.new (table_change made ∷ []) (is_ok result) }
-    ensures told { map known_info tables.new.items ≡ cond (is_ok result) (with_told (known_info made) (map known_info tables.old.items)) (map known_info tables.old.items) }
+    ensures told { map shown_info tables.new.items ≡ (if is_ok result then with_told (shown_info made) (map shown_info tables.old.items) else map shown_info tables.old.items) }
     ensures fault { IfErr result (λ fault. (fault ≡ faults.Store) ⊎ (fault ≡ faults.Memory)) }
     ensures crash { Survives (shows S.Store store.old) (shows S.Store store.new)
         (λ db. IsTrue (shows S.Store store.old).is_open → IsStored db (all_applied (table_change made ∷ []) (value_in S.Store store.old))) }
@@ -186,7 +186,7 @@ pub(crate) fn drop_changes(
     ensures { PlansOver tables.now (plain.Drop table.now if_there) result }
 {
     let mut changes = Vec::new(alloc);
-    match place_of(tables, table) {
+    match table_place(tables, table) {
         Some(place) => changes.push(RowChange::DropTable(tables[place].id))?,
         None if !if_there => return Err(Fault::NoSuchTable),
         None => {}
@@ -202,17 +202,17 @@ pub(crate) fn drop_table<S: Alter>(
     table: &str,
     if_there: bool,
 ) -> Result<Reply, Fault>
-    ensures executes { Executes S.Store (with_tables store.old (map known_info tables.old.items)) (plain.Drop table.now if_there)
-        (answer_of result) (with_tables store.new (map known_info tables.new.items)) }
-    ensures crash { CommandSurvives S.Store (with_tables store.old (map known_info tables.old.items)) (plain.Drop table.now if_there)
-        (with_tables store.new (map known_info tables.new.items)) }
+    ensures executes { Executes S.Store (with_tables store.old (map shown_info tables.old.items)) (plain.Drop table.now if_there)
+        (answer_of result) (with_tables store.new (map shown_info tables.new.items)) }
+    ensures crash { CommandSurvives S.Store (with_tables store.old (map shown_info tables.old.items)) (plain.Drop table.now if_there)
+        (with_tables store.new (map shown_info tables.new.items)) }
     ensures live { HasCleanDisk (shows S.Store store.new) → OnOk result (IsTrue (shows S.Store store.old).is_open → IsTrue (shows S.Store store.new).is_open) }
 {
     store.is_in_order();
     let changes = drop_changes(alloc, tables.as_slice(), table, if_there)?;
     change_rows(store, changes.as_slice())?;
     let known = tables.as_slice();
-    if let Some(place) = place_of(known, table) {
+    if let Some(place) = table_place(known, table) {
         let id = known[place].id;
         remove_table(tables, id);
     }

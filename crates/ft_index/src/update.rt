@@ -2,13 +2,13 @@
 ghost use Rattle.std.specs.Prelude.{◌≡◌, ◌⊎◌, ◌∷◌, [], ℕ, List, Option, None, Some, ℤ, map, slice_get, string_bytes, MatchResult, IfOk, OnOk, IsTrue};
 ghost use Rattle.sqlite.specs.State.{HasCleanDisk};
 ghost use Rattle.ft_store.specs.Kept.{shows};
-ghost use Rattle.ft_content.specs.declared.fault.Fault.TheVariants as faults;
+ghost use Rattle.ft_values.specs.declared.fault.Fault.TheVariants as faults;
 ghost use Rattle.ft_content.specs.Command as plain;
 ghost use Rattle.ft_content.specs.Content.{Content};
 ghost use Rattle.ft_content.specs.Answer.{chosen};
 ghost use Rattle.ft_content.specs.Deserved as deserved;
 ghost use Rattle.ft_content.specs.Step.{updated, docids_of};
-ghost use Rattle.ft_content.specs.Views.{column_of, set_of, filter_of, known_info, answer_of};
+ghost use Rattle.ft_content.specs.Views.{column_of, set_of, filter_of, shown_info, answer_of};
 ghost use Rattle.ft_index.specs.Kept.{Executes};
 ghost use Rattle.ft_index.specs.Changed.{with_tables};
 ghost use Rattle.ft_index.specs.Crashes.{CommandSurvives};
@@ -41,10 +41,10 @@ pub(crate) fn update_documents<S: Alter>(
     sets: &[(String, Value)],
     filter: &Filter,
 ) -> Result<Reply, Fault>
-    ensures executes { Executes S.Store (with_tables store.old (map known_info tables.now)) (plain.Update table.now (map set_of sets.now) (filter_of filter.now))
-        (answer_of result) (with_tables store.new (map known_info tables.now)) }
-    ensures crash { CommandSurvives S.Store (with_tables store.old (map known_info tables.now)) (plain.Update table.now (map set_of sets.now) (filter_of filter.now))
-        (with_tables store.new (map known_info tables.now)) }
+    ensures executes { Executes S.Store (with_tables store.old (map shown_info tables.now)) (plain.Update table.now (map set_of sets.now) (filter_of filter.now))
+        (answer_of result) (with_tables store.new (map shown_info tables.now)) }
+    ensures crash { CommandSurvives S.Store (with_tables store.old (map shown_info tables.now)) (plain.Update table.now (map set_of sets.now) (filter_of filter.now))
+        (with_tables store.new (map shown_info tables.now)) }
     ensures live { HasCleanDisk (shows S.Store store.new) → OnOk result (IsTrue (shows S.Store store.old).is_open → IsTrue (shows S.Store store.new).is_open) }
 {
     let changes = update_changes(alloc, store, tables, table, sets, filter)?;
@@ -61,7 +61,7 @@ pub(crate) fn update_changes<S: Alter>(
     sets: &[(String, Value)],
     filter: &Filter,
 ) -> Result<Vec<RowChange>, Fault>
-    ensures plans { PlansIn S.Store (map known_info tables.now) store.old store.new (plain.Update table.now (map set_of sets.now) (filter_of filter.now)) result }
+    ensures plans { PlansIn S.Store (map shown_info tables.now) store.old store.new (plain.Update table.now (map set_of sets.now) (filter_of filter.now)) result }
     ensures looks { Looks S.Store store.old store.new }
     ensures live { HasCleanDisk (shows S.Store store.new) → OnOk result (IsTrue (shows S.Store store.old).is_open → IsTrue (shows S.Store store.new).is_open) }
 {

@@ -4,7 +4,7 @@ use Rattle.std.specs.Prelude.{◌&&◌, ◌||◌, not, nat_lt, length, if◌then
 use Rattle.std.specs.Str.{bytes_eq}
 use Rattle.std.specs.Borrow.{Bor}
 use Rattle.std.proofs.lemmas.List.{drop_more}
-use Rattle.shell_text.specs.Print.{Look, with_mode}
+use Rattle.shell_text.specs.Print.{Settings, with_mode}
 use Rattle.shell_text.specs.declared.settings.Mode.{Mode}
 use Rattle.shell_text.specs.declared.settings.Mode.TheVariants as mode
 use Rattle.clap.specs.Faults.{fault_of}
@@ -70,9 +70,9 @@ two_modes false false true false = refl
 two_modes false false false true = refl
 two_modes false false false false = refl
 
-pub keeps_headers : (ms : List Mode) (look : Look) → (with_modes ms look).headers ≡ look.headers
-keeps_headers [] look = refl
-keeps_headers (m ∷ ms) look = keeps_headers ms (with_mode m look)
+pub keeps_headers : (ms : List Mode) (settings : Settings) → (with_modes ms settings).headers ≡ settings.headers
+keeps_headers [] settings = refl
+keeps_headers (m ∷ ms) settings = keeps_headers ms (with_mode m settings)
 
 -- the words as the command is given them, what it finds in them, and what that means
 pub reads_line : (raw words : List (List ℕ)) (m : ArgMatches) (r : Result Line LineFault) → words ≡ dashed_words raw → HasMatches words m

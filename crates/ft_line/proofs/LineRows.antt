@@ -4,7 +4,7 @@ use Rattle.clap.specs.Faults.{fault_of}
 use Rattle.clap.specs.Kinds.{Kinds}
 use Rattle.clap.specs.declared.error.kind.ErrorKind.TheVariants as kind
 use Rattle.clap.proofs.OnLiterals.{clap_on_literals}
-use Rattle.shell_text.specs.Print.{Look, first_look}
+use Rattle.shell_text.specs.Print.{Settings, first_settings}
 use Rattle.shell_text.specs.declared.settings.Mode.TheVariants as mode
 use Rattle.ft_line.specs.Line.{BadSeparator, Conflict, LineAnswer, Means, dashed_words, ft4sh, line_of}
 
@@ -17,7 +17,7 @@ abbrev headed : List (List ℕ)
 headed = codes "-header" ∷ codes "-separator" ∷ codes ";" ∷ [] ∷ codes "SELECT 1 AS n, 2 AS m;" ∷ []
 
 headed_is : line_of headed ≡ Means (record {
-  look = record first_look { separator = codes ";"; headers = Some true };
+  settings = record first_settings { separator = codes ";"; headers = Some true };
   file = None;
   inputs = codes "SELECT 1 AS n, 2 AS m;" ∷ [];
 })
@@ -44,7 +44,7 @@ bad_separator_first = refl
 
 -- a separator before the mode
 separator_first : line_of (codes "--separator" ∷ codes ";" ∷ codes "--csv" ∷ []) ≡ Means (record {
-  look = record first_look { mode = mode.Csv; separator = codes ";" };
+  settings = record first_settings { mode = mode.Csv; separator = codes ";" };
   file = None;
   inputs = [];
 })
@@ -53,7 +53,7 @@ separator_first = refl
 
 -- memory databases, and two inputs
 memory : line_of (codes ":memory:" ∷ codes "SELECT 'x" ∷ codes "SELECT 2;" ∷ []) ≡ Means (record {
-  look = first_look;
+  settings = first_settings;
   file = None;
   inputs = codes "SELECT 'x" ∷ codes "SELECT 2;" ∷ [];
 })
@@ -61,7 +61,7 @@ unfolding clap_on_literals
 memory = refl
 
 bailing : line_of (codes "--bail" ∷ codes ":memory:" ∷ codes "SELECT 'x" ∷ codes "SELECT 2;" ∷ []) ≡ Means (record {
-  look = record first_look { bail = true };
+  settings = record first_settings { bail = true };
   file = None;
   inputs = codes "SELECT 'x" ∷ codes "SELECT 2;" ∷ [];
 })
@@ -70,7 +70,7 @@ bailing = refl
 
 -- column mode without headers
 unheaded : line_of (codes "--noheader" ∷ codes "--column" ∷ [] ∷ codes "SELECT 1 AS n;" ∷ []) ≡ Means (record {
-  look = record first_look { mode = mode.Column; headers = Some false };
+  settings = record first_settings { mode = mode.Column; headers = Some false };
   file = None;
   inputs = codes "SELECT 1 AS n;" ∷ [];
 })
@@ -79,7 +79,7 @@ unheaded = refl
 
 -- behind two dashes words stay as they are
 behind_dashes : line_of (codes "-echo" ∷ codes "--" ∷ codes "-list" ∷ codes "-csv" ∷ []) ≡ Means (record {
-  look = record first_look { echo = true };
+  settings = record first_settings { echo = true };
   file = Some (codes "-list");
   inputs = codes "-csv" ∷ [];
 })

@@ -1,2 +1,3 @@
+-- Meaning
 pub mod Line
 pub mod LineGives

@@ -1,4 +1,4 @@
--- What a command line means. The options are among those of "Command Line Shell For SQLite", section "Command-line Options", with
+-- Meaning. What a command line means. The options are among those of "Command Line Shell For SQLite", section "Command-line Options", with
 -- their meaning there; what is our own choice is marked so.
 use Rattle.std.specs.Prelude.{ℕ, nat_lt, nat_le, Bool, true, false, not, ◌==◌, ◌&&◌, ◌||◌, List, [], ◌∷◌, ◌++◌, length, Option, Some, None, unwrap_or, if◌then◌else◌, codes}
 use Rattle.std.specs.Char.{is_ascii_alphabetic}
@@ -8,7 +8,7 @@ use Rattle.std.specs.Str.{bytes_eq}
 use Rattle.clap.specs.Simple.{App, matches_of, new_app, new_rule, on_top, with_rule}
 use Rattle.clap.specs.Walk.{Row, Rule, all_of, first_of}
 use Rattle.clap.specs.declared.builder.action.ArgAction.TheVariants.{Set, SetTrue, Append}
-use Rattle.shell_text.specs.Print.{Look, first_look, may_separate, with_mode}
+use Rattle.shell_text.specs.Print.{Settings, first_settings, may_separate, with_mode}
 use Rattle.shell_text.specs.declared.settings.Mode.{Mode}
 use Rattle.shell_text.specs.declared.settings.Mode.TheVariants as mode
 
@@ -66,7 +66,7 @@ is_given name rows = option_map_or (λ text. bytes_eq text (codes "true")) (firs
 
 -- a line's settings, its file where a file is meant, and its inputs
 pub record LineSeen : Type 0 where
-  pub look : Look
+  pub settings : Settings
   pub file : Option (List ℕ)
   pub inputs : List (List ℕ)
 
@@ -86,9 +86,9 @@ modes_in rows = mode_if (is_given (codes "list") rows) mode.List ++ mode_if (is_
     ++ mode_if (is_given (codes "column") rows) mode.Column ++ mode_if (is_given (codes "quote") rows) mode.Quote
 
 -- the modes set in turn
-abbrev pub with_modes : List Mode → Look → Look
-with_modes [] look = look
-with_modes (m ∷ ms) look = with_modes ms (with_mode m look)
+abbrev pub with_modes : List Mode → Settings → Settings
+with_modes [] settings = settings
+with_modes (m ∷ ms) settings = with_modes ms (with_mode m settings)
 
 -- headers are always shown, or never, or neither is said
 abbrev pub headers_in : List Row → Option Bool
@@ -107,8 +107,8 @@ abbrev pub inputs_in : List Row → List (List ℕ)
 inputs_in rows = unwrap_or (all_of (codes "SQL") rows) []
 
 -- the settings but for the separator
-abbrev pub look_in : List Row → Look
-look_in rows = record (with_modes (modes_in rows) first_look) {
+abbrev pub settings_in : List Row → Settings
+settings_in rows = record (with_modes (modes_in rows) first_settings) {
   null = null_in rows;
   headers = headers_in rows;
   echo = is_given (codes "echo") rows;
@@ -116,9 +116,9 @@ look_in rows = record (with_modes (modes_in rows) first_look) {
 }
 
 -- the separator, where one is given
-abbrev pub with_separator : Option (List ℕ) → Look → Look
-with_separator None look = look
-with_separator (Some text) look = record look { separator = text }
+abbrev pub with_separator : Option (List ℕ) → Settings → Settings
+with_separator None settings = settings
+with_separator (Some text) settings = record settings { separator = text }
 
 -- two mode flags
 abbrev pub has_two_modes : List Row → Bool
@@ -130,14 +130,14 @@ is_conflict rows = has_two_modes rows || (is_given (codes "header") rows && is_g
 
 -- the separator is refused that the mode refuses: the mode is set before it, wherever both stand (own choice)
 abbrev pub is_bad_separator : List Row → Bool
-is_bad_separator rows = option_map_or (λ text. not (may_separate (look_in rows) text)) (first_of (codes "separator") rows) false
+is_bad_separator rows = option_map_or (λ text. not (may_separate (settings_in rows) text)) (first_of (codes "separator") rows) false
 
 -- what was found means this
 abbrev pub meaning_of : List Row → LineAnswer
 meaning_of rows =
     if is_conflict rows then Conflict
     else if is_bad_separator rows then BadSeparator
-    else Means (record { look = with_separator (first_of (codes "separator") rows) (look_in rows); file = file_in rows; inputs = inputs_in rows })
+    else Means (record { settings = with_separator (first_of (codes "separator") rows) (settings_in rows); file = file_in rows; inputs = inputs_in rows })
 
 -- what words mean that the command takes
 abbrev pub line_of : List (List ℕ) → LineAnswer

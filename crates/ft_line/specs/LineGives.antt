@@ -1,4 +1,4 @@
--- What reading a command line gives.
+-- Meaning. What reading a command line gives.
 use Rattle.std.specs.Prelude.{ℕ, ◌≡◌, ⊤, List, [], map, Result, Ok, Err, true, false, option_map, string_bytes, codes}
 use Rattle.clap.specs.Faults.{fault_of}
 use Rattle.clap.specs.Kinds.{IsAmong}
@@ -7,15 +7,15 @@ use Rattle.clap.specs.Simple.{matches_of}
 use Rattle.clap.specs.Values.{kind_of}
 use Rattle.clap.specs.Walk.{Row, first_of, rows_of}
 use Rattle.clap.specs.declared.parser.matches.ArgMatches.{ArgMatches}
-use Rattle.shell_text.specs.Print.{Look}
-use Rattle.ft_line.specs.Line.{Conflict, BadSeparator, LineSeen, Means, dashed_words, ft4sh, is_bad_separator, line_of, look_in, meaning_of, with_separator}
+use Rattle.shell_text.specs.Print.{Settings}
+use Rattle.ft_line.specs.Line.{Conflict, BadSeparator, LineSeen, Means, dashed_words, ft4sh, is_bad_separator, line_of, settings_in, meaning_of, with_separator}
 use Rattle.ft_line.specs.declared.line.Line.{Line}
 use Rattle.ft_line.specs.declared.line.LineFault.{LineFault}
 use Rattle.ft_line.specs.declared.line.LineFault.TheVariants as fault
 
 -- a line as what it says
 abbrev pub seen : Line → LineSeen
-seen line = record { look = line.settings; file = option_map string_bytes line.file; inputs = map string_bytes line.inputs.items }
+seen line = record { settings = line.settings; file = option_map string_bytes line.file; inputs = map string_bytes line.inputs.items }
 
 -- the command takes the words, one dash read as two
 abbrev pub IsTaken : List (List ℕ) → Type 0
@@ -43,8 +43,8 @@ IsRefusal words fault.BadSeparator = ⊥
 IsRefusal words fault.Memory = ⊤
 
 -- the settings that were found
-abbrev pub HasSettings : List Row → Result Look LineFault → Type 0
-HasSettings rows (Ok look) = (is_bad_separator rows ≡ false) × (look ≡ with_separator (first_of (codes "separator") rows) (look_in rows))
+abbrev pub HasSettings : List Row → Result Settings LineFault → Type 0
+HasSettings rows (Ok settings) = (is_bad_separator rows ≡ false) × (settings ≡ with_separator (first_of (codes "separator") rows) (settings_in rows))
 HasSettings rows (Err (fault.Words e)) = ⊥
 HasSettings rows (Err fault.Conflict) = ⊥
 HasSettings rows (Err fault.BadSeparator) = is_bad_separator rows ≡ true

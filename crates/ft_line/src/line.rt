@@ -274,8 +274,8 @@ fn set_headers(settings: &mut Settings, headers: Option<bool>)
 }
 
 // The settings but for the separator.
-fn look_in(alloc: Global, matches: &ArgMatches<'_>) -> Result<Settings, AllocError>
-    ensures { IfOk result (λ settings. settings ≡ forms.look_in (rows_of (found_of matches.now))) }
+fn flag_settings(alloc: Global, matches: &ArgMatches<'_>) -> Result<Settings, AllocError>
+    ensures { IfOk result (λ settings. settings ≡ forms.settings_in (rows_of (found_of matches.now))) }
 {
     let mut settings = Settings::new(alloc);
     set_modes(&mut settings, matches);
@@ -290,7 +290,7 @@ fn look_in(alloc: Global, matches: &ArgMatches<'_>) -> Result<Settings, AllocErr
 fn settings_in(alloc: Global, matches: &ArgMatches<'_>) -> Result<Settings, LineFault>
     ensures { HasSettings (rows_of (found_of matches.now)) result }
 {
-    let mut settings = look_in(alloc, matches)?;
+    let mut settings = flag_settings(alloc, matches)?;
     let Some(text) = text_of(matches, "separator") else {
         return Ok(settings);
     };

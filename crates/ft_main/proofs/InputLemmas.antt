@@ -8,15 +8,15 @@ use Rattle.ft_shell.specs.declared.session.Status.{Status}
 use Rattle.ft_shell.specs.declared.session.RunFault.{RunFault}
 use Rattle.ft_shell.specs.Shell.{Parts}
 use Rattle.ft_shell.specs.Told.{Deeds, idle, and_then}
-use Rattle.ft_shell.specs.Promise.{Ran, AllRan, Keeps, KeptByRuns, none_ran, last_ran, first_ran}
+use Rattle.ft_shell.specs.Promise.{Ran, AllRan, PromiseKept, KeptByRuns, none_ran, last_ran, first_ran}
 use Rattle.ft_shell.specs.Runs.{Console}
 use Rattle.ft_shell.proofs.TurnsLemmas.{assoc_then, idle_then, then_idle}
 use Rattle.std.specs.Prelude.{OnOk, OnErr, ◌≢◌}
 use Rattle.std.specs.Io.KnownBytes.{Appends}
 use Rattle.sqlite.specs.Held.{Held}
-use Rattle.shell_text.specs.Print.{AppendsFront, Look}
+use Rattle.shell_text.specs.Print.{AppendsFront, Settings}
 use Rattle.ft_store.specs.Kept.{StoreState}
-use Rattle.ft_index.specs.Kept.{Known, Holds, IsUp}
+use Rattle.ft_index.specs.Kept.{FullText, Holds, IsUp}
 use Rattle.ft_index.specs.Opened.{Opens}
 use Rattle.ft_shell.specs.Writing.{AppendsUpTo}
 use Rattle.ft_shell.proofs.WriteLemmas.{up_to_part, up_to_whole}
@@ -175,9 +175,9 @@ closes_as (Ok status) cause all a b n (is, faults, quit) (same, code) =
     go (suc m) (suc n) same = ap code_if (not_none (suc m) (omega arith) ∙ sym (not_none (suc n) (omega arith)))
 
 -- the inputs are run over two databases, and then the program ends
-pub runs_over : {P S : Type 0} (g : Ghosts P) (h : Ghosts S) (look : Look) (plain : Held P) (store : StoreState S) (made : Known S) (inputs : List (Option (List ℕ))) (ended : Result Status RunFault) (old new : Outputs) (parts : Parts P S) (last : Stage P S) (status : ℕ) →
-    Opens h store made → parts ≡ record { look = look; plain = plain; known = made } → RunsAndKeeps g h inputs ended (record { parts = parts; on = old }) last → new.out ≡ last.on.out → Closes ended last.on.err new.err status → OpensAndRuns g h look plain store inputs old new status
-runs_over {P} {S} g h look plain store made inputs ended old new parts last status opened is (cause, all, turns, ends, ran, kept) out closes =
+pub runs_over : {P S : Type 0} (g : Ghosts P) (h : Ghosts S) (settings : Settings) (plain : Held P) (store : StoreState S) (made : FullText S) (inputs : List (Option (List ℕ))) (ended : Result Status RunFault) (old new : Outputs) (parts : Parts P S) (last : Stage P S) (status : ℕ) →
+    Opens h store made → parts ≡ record { settings = settings; plain = plain; full_text = made } → RunsAndKeeps g h inputs ended (record { parts = parts; on = old }) last → new.out ≡ last.on.out → Closes ended last.on.err new.err status → OpensAndRuns g h settings plain store inputs old new status
+runs_over {P} {S} g h settings plain store made inputs ended old new parts last status opened is (cause, all, turns, ends, ran, kept) out closes =
     let end = closes_as ended cause all last.on.err new.err status ends closes in
     inr (record {
       made = made;
@@ -190,5 +190,5 @@ runs_over {P} {S} g h look plain store made inputs ended old new parts last stat
       err = end.0;
       ends = end.1;
       ran = subst (λ (p : Parts P S). AllRan g h p all last.parts) is ran;
-      kept = λ held up is_up. subst (λ (p : Parts P S). Keeps g h [] p all last.parts) is (kept (subst (λ (p : Parts P S). Holds h p.known []) (sym is) (opened.marks up [] held)) is_up);
+      kept = λ held up is_up. subst (λ (p : Parts P S). PromiseKept g h [] p all last.parts) is (kept (subst (λ (p : Parts P S). Holds h p.full_text []) (sym is) (opened.marks up [] held)) is_up);
     })

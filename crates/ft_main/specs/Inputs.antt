@@ -1,10 +1,10 @@
--- The inputs of a command line, run in turn over two databases, and what is told of how that ends (own choice).
+-- Meaning. The inputs of a command line, run in turn over two databases, and what is told of how that ends (own choice).
 use Rattle.std.specs.Prelude.{ℕ, ◌≡◌, ◌⊎◌, ◌^◌, ◌-◌, ◌++◌, ◌==◌, min, if◌then◌else◌, MatchBool, MatchResult, List, [], ◌∷◌, map, codes, Option, Some, None, IfSome, Result, Ok, Err}
 use Rattle.sqlite.specs.Store.{Ghosts}
 use Rattle.sqlite.specs.Held.{Held}
-use Rattle.shell_text.specs.Print.{Look}
+use Rattle.shell_text.specs.Print.{Settings}
 use Rattle.ft_store.specs.Kept.{StoreState, value_in}
-use Rattle.ft_index.specs.Kept.{Known, Holds, IsUp, StoreHolds}
+use Rattle.ft_index.specs.Kept.{FullText, Holds, IsUp, StoreHolds}
 use Rattle.ft_index.specs.Opened.{Opens}
 use Rattle.ft_shell.specs.declared.session.Status.{Status}
 use Rattle.ft_shell.specs.declared.session.RunFault.{RunFault}
@@ -12,7 +12,7 @@ use Rattle.ft_shell.specs.declared.session.RunFault.TheVariants as causes
 use Rattle.ft_shell.specs.Shell.{Parts, lent}
 use Rattle.ft_shell.specs.Told.{Deeds, idle, and_then}
 use Rattle.ft_shell.specs.Runs.{Console}
-use Rattle.ft_shell.specs.Promise.{Ran, AllRan, Keeps}
+use Rattle.ft_shell.specs.Promise.{Ran, AllRan, PromiseKept}
 use Rattle.ft_shell.specs.Writing.{AppendsUpTo}
 use Rattle.ft_main.specs.declared.files.OpenFault.{OpenFault}
 use Rattle.ft_main.specs.declared.files.OpenFault.TheVariants as opening
@@ -67,7 +67,7 @@ RunsInTurn g h inputs ended old new = (cause : Option RunFault) × (all : Deeds)
 -- what the accepted commands made, if the store is up in the end.
 abbrev pub RunsAndKeeps : {P S : Type 0} → Ghosts P → Ghosts S → List (Option (List ℕ)) → Result Status RunFault → Stage P S → Stage P S → Type 0
 RunsAndKeeps g h inputs ended old new = (cause : Option RunFault) × (all : Deeds) × InTurn g h inputs cause old new all × EndsAs ended cause all
-    × AllRan g h old.parts all new.parts × (Holds h old.parts.known [] → IsUp h new.parts.known → Keeps g h [] old.parts all new.parts)
+    × AllRan g h old.parts all new.parts × (Holds h old.parts.full_text [] → IsUp h new.parts.full_text → PromiseKept g h [] old.parts all new.parts)
 
 -- the program's own line for a fault that ended a run
 abbrev pub own_line : RunFault → List ℕ
@@ -107,24 +107,24 @@ pub record NotOpened (why : OpenFault) (old new : Outputs) (status : ℕ) : Type
 module _ {P S : Type 0} (g : Ghosts P) (h : Ghosts S) where
   -- The inputs are run in turn from plain tables and a full-text store as it is taken, and then the program's own line is written. They are
   -- runs one after another; where the store held no tables, it holds in the end what the accepted commands made.
-  pub record RunsOver (look : Look) (plain : Held P) (store : StoreState S) (inputs : List (Option (List ℕ))) (old new : Outputs) (status : ℕ) : Type 0 where
-    pub made : Known S
+  pub record RunsOver (settings : Settings) (plain : Held P) (store : StoreState S) (inputs : List (Option (List ℕ))) (old new : Outputs) (status : ℕ) : Type 0 where
+    pub made : FullText S
     pub opened : Opens h store made
     pub cause : Option RunFault
     pub last : Stage P S
     pub all : Deeds
-    pub turns : InTurn g h inputs cause (record { parts = record { look = look; plain = plain; known = made }; on = old }) last all
+    pub turns : InTurn g h inputs cause (record { parts = record { settings = settings; plain = plain; full_text = made }; on = old }) last all
     pub out : new.out ≡ last.on.out
     pub err : WritesOwn cause last.on.err new.err
     pub ends : status ≡ exit_status cause all
-    pub ran : AllRan g h (record { look = look; plain = plain; known = made }) all last.parts
-    pub kept : StoreHolds (value_in h store) [] → IsUp h made → IsUp h last.parts.known → Keeps g h [] (record { look = look; plain = plain; known = made }) all last.parts
+    pub ran : AllRan g h (record { settings = settings; plain = plain; full_text = made }) all last.parts
+    pub kept : StoreHolds (value_in h store) [] → IsUp h made → IsUp h last.parts.full_text → PromiseKept g h [] (record { settings = settings; plain = plain; full_text = made }) all last.parts
 
   -- or the store can't be read
-  abbrev pub OpensAndRuns : Look → Held P → StoreState S → List (Option (List ℕ)) → Outputs → Outputs → ℕ → Type 0
-  OpensAndRuns look plain store inputs old new status = NotOpened opening.Store old new status ⊎ RunsOver look plain store inputs old new status
+  abbrev pub OpensAndRuns : Settings → Held P → StoreState S → List (Option (List ℕ)) → Outputs → Outputs → ℕ → Type 0
+  OpensAndRuns settings plain store inputs old new status = NotOpened opening.Store old new status ⊎ RunsOver settings plain store inputs old new status
 
   -- or a database isn't opened
-  abbrev pub RunsOn : Look → Result (Held P × StoreState S) OpenFault → List (Option (List ℕ)) → Outputs → Outputs → ℕ → Type 0
-  RunsOn look (Ok (plain, store)) inputs old new status = OpensAndRuns look plain store inputs old new status
-  RunsOn look (Err why) inputs old new status = NotOpened why old new status
+  abbrev pub RunsOn : Settings → Result (Held P × StoreState S) OpenFault → List (Option (List ℕ)) → Outputs → Outputs → ℕ → Type 0
+  RunsOn settings (Ok (plain, store)) inputs old new status = OpensAndRuns settings plain store inputs old new status
+  RunsOn settings (Err why) inputs old new status = NotOpened why old new status

@@ -1,4 +1,6 @@
-pub mod Opening
+-- Meaning
 pub mod Reading
 pub mod Inputs
 pub mod Memory
+-- Steps
+pub mod Opening

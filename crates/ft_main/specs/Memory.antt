@@ -1,4 +1,4 @@
--- What the program does over two empty databases in memory, and so without a FILE (own choice).
+-- Meaning. What the program does over two empty databases in memory, and so without a FILE (own choice).
 use Rattle.std.specs.Prelude.{ℕ, ◌≡◌, ◌⊎◌, List, [], map, Option, None, string_bytes, Ok, Err}
 use Rattle.sqlite.specs.Files.{over_files}
 use Rattle.sqlite.specs.Held.{Held, state}
@@ -6,10 +6,10 @@ use Rattle.sqlite.specs.Steps.{IsEmpty}
 use Rattle.sqlite.specs.Store.{Ghosts}
 use Rattle.ram_disk.specs.declared.disk.Ram.{Ram}
 use Rattle.ram_disk.specs.contracts.disk.RamDisk.TheImpl.{ghosts}
-use Rattle.shell_text.specs.Print.{Look}
+use Rattle.shell_text.specs.Print.{Settings}
 use Rattle.ft_store.specs.Kept.{StoreState, value_in}
 use Rattle.ft_store.specs.Store.{nothing_held}
-use Rattle.ft_shell.specs.Promise.{IsOpen, Keeps}
+use Rattle.ft_shell.specs.Promise.{IsOpen, PromiseKept}
 use Rattle.ft_line.specs.declared.line.Line.{Line}
 use Rattle.ft_line.specs.declared.line.LineFault.{LineFault}
 use Rattle.ft_line.specs.declared.line.LineFault.TheVariants as lines
@@ -19,18 +19,18 @@ use Rattle.ft_main.specs.Inputs.{NotOpened, Outputs, RunsOver, due}
 
 module _ {P S : Type 0} (g : Ghosts P) (h : Ghosts S) where
   -- The inputs are run from two empty databases. As long as the store is open in the end, it holds what the accepted commands made.
-  pub record FromNothing (look : Look) (inputs : List (Option (List ℕ))) (old new : Outputs) (status : ℕ) : Type 0 where
+  pub record FromNothing (settings : Settings) (inputs : List (Option (List ℕ))) (old new : Outputs) (status : ℕ) : Type 0 where
     pub plain : Held P
     pub no_plain : IsEmpty (state g plain)
     pub store : StoreState S
     pub no_store : value_in h store ≡ nothing_held
-    pub runs : RunsOver g h look plain store inputs old new status
-    pub kept : IsOpen h runs.last.parts.known → Keeps g h [] (record { look = look; plain = plain; known = runs.made }) runs.all runs.last.parts
+    pub runs : RunsOver g h settings plain store inputs old new status
+    pub kept : IsOpen h runs.last.parts.full_text → PromiseKept g h [] (record { settings = settings; plain = plain; full_text = runs.made }) runs.all runs.last.parts
 
 -- so it is in memory, or a database isn't opened
-abbrev pub RunsInMemory : Look → List (Option (List ℕ)) → Outputs → Outputs → ℕ → Type 0
-RunsInMemory look inputs old new status =
-    ((why : OpenFault) × NotOpened why old new status) ⊎ FromNothing (over_files {D = Ram} {g = ghosts}) (over_files {D = Ram} {g = ghosts}) look inputs old new status
+abbrev pub RunsInMemory : Settings → List (Option (List ℕ)) → Outputs → Outputs → ℕ → Type 0
+RunsInMemory settings inputs old new status =
+    ((why : OpenFault) × NotOpened why old new status) ⊎ FromNothing (over_files {D = Ram} {g = ghosts}) (over_files {D = Ram} {g = ghosts}) settings inputs old new status
 
 -- what a command line with no FILE does
 abbrev pub RunsLine : Line → Option (List ℕ) → Outputs → Outputs → ℕ → Type 0

@@ -1,4 +1,4 @@
--- The two databases of a command line (own choice).
+-- Steps. The two databases of a command line (own choice).
 use Rattle.std.specs.Prelude.{ℕ, List, ◌++◌, codes}
 use Rattle.ft_store.specs.declared.fault.StoreFault.{StoreFault}
 use Rattle.ft_store.specs.declared.fault.StoreFault.TheVariants as store

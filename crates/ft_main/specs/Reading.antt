@@ -1,4 +1,4 @@
--- The bytes of a file that is imported (own choice).
+-- Meaning. The bytes of a file that is imported (own choice).
 use Rattle.std.specs.Prelude.{ℕ, ◌≡◌, ◌⊎◌, ◌<◌, ◌≤◌, ◌^◌, true, List, length, Option, None, IfSome}
 use Rattle.std.specs.declared.io.ErrorKind.{ErrorKind}
 use Rattle.std.specs.declared.io.ErrorKind.TheVariants as kind

@@ -144,10 +144,10 @@ fn over<D: Disk + Drop, R: Read, O: Write, E: Write>(
     ensures { OpensAndRuns over_files over_files settings plain store (due (map string_bytes inputs.now) (R.remaining input.old))
         (record { out = O.contents out.old; err = E.contents err.old }) (record { out = O.contents out.new; err = E.contents err.new }) result }
 {
-    let Ok(fulltext) = FullText::new(rt.alloc(), store) else {
+    let Ok(full_text) = FullText::new(rt.alloc(), store) else {
         return tell(err, OpenFault::Store);
     };
-    let mut session = session_over(rt.alloc(), plain, fulltext, settings);
+    let mut session = session_over(rt.alloc(), plain, full_text, settings);
     let mut files = SystemFiles { rt };
     let ended = run_all_on(&mut session, inputs, input, out, err, &mut files);
     close(session);
@@ -157,19 +157,19 @@ fn over<D: Disk + Drop, R: Read, O: Write, E: Write>(
 fn session_over<D: Disk + Drop>(
     alloc: Global,
     plain: Connection<FileStore<D>>,
-    fulltext: FullText<FileStore<D>>,
+    full_text: FullText<FileStore<D>>,
     settings: Settings,
 ) -> Session<FileStore<D>, FileStore<D>>
-    ensures { result ≡ record { look = settings; plain = plain; known = fulltext } }
+    ensures { result ≡ record { settings = settings; plain = plain; full_text = full_text } }
 {
-    Session::new(alloc, plain, fulltext, settings)
+    Session::new(alloc, plain, full_text, settings)
 }
 
 // Closes both databases. Where that is refused their logs keep what was committed, and the next open finds it.
 fn close<D: Disk + Drop>(session: Session<FileStore<D>, FileStore<D>>) {
-    let (plain, fulltext) = session.into_parts();
+    let (plain, full_text) = session.into_parts();
     let _ = plain.close();
-    let _ = fulltext.into_store().into_connection().close();
+    let _ = full_text.into_store().into_connection().close();
 }
 
 // The program's own line for a fault that ended a run.

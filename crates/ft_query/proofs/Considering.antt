@@ -1,6 +1,6 @@
 -- What considering one document does to a walk.
 use Rattle.std.proofs.Common.{◌≡◌, ◌≢◌, ℕ, suc, ◌+◌, ◌-◌, ◌*◌, ◌^◌, ◌<◌, ◌≤◌, ◌⊎◌, inl, inr, ℤ, ◌<ℤ◌, min, Bool, true, false, cond, List, [], ◌∷◌, ◌++◌, length, map, refl, sym, ap, subst, ◌∙◌, arith, true≢false, Option, Some, None, ⊎_elim}
-use Rattle.std.specs.Prelude.{AllPairs, sum_by, int_lt, if◌then◌else◌}
+use Rattle.std.specs.Prelude.{AllPairs, sum_by, int_lt, if◌then◌else◌, option_map, IfSome}
 use Rattle.std.specs.Ordering.{int_eq}
 use Rattle.std.proofs.Math.Nat.{mul-suc}
 use Rattle.std.proofs.lemmas.Simd.{map-map}
@@ -13,14 +13,15 @@ use Rattle.ft_query.specs.declared.query.Query.{Query}
 use Rattle.ft_query.specs.declared.lists.Place.{Place}
 use Rattle.ft_query.specs.declared.walk.Offset.{Offset}
 use Rattle.ft_query.specs.declared.walk.cursor.Cursor.{Cursor}
+use Rattle.ft_query.specs.declared.walk.visit.Wanted.{Wanted}
 use Rattle.ft_query.specs.declared.walk.search.Considered.TheVariants.{NoDocument}
 use Rattle.ft_query.specs.Documents.{Posting, Document, AreDocuments, IsBefore, PlaceList, place_count}
 use Rattle.ft_query.specs.Trees.{Tree, tree_of}
 use Rattle.ft_query.specs.Occurs.{PlainHit, accepts, offsets_of, hits_of}
 use Rattle.ft_query.specs.Work.{terms_in, lists_of, width, entry_count, candidate_count}
 use Rattle.ft_query.specs.Cursors.{lists_left, places_at, passed, least_of, least_from, listed_for}
-use Rattle.ft_query.specs.Visit.{listed_places}
-use Rattle.ft_query.specs.Walk.{StandsBefore, steps_to_come, Went}
+use Rattle.ft_query.specs.Visit.{listed_places, if_wanted}
+use Rattle.ft_query.specs.Walk.{Walk, StandsBefore, steps_to_come, Went, hit_at}
 use Rattle.ft_query.specs.Search.{walk_at, Considers}
 use Rattle.ft_query.proofs.Nexts.{Next, Nothing, First, next_of, are_more, all_places, all_passed, all_counted, without_it, with_it}
 
@@ -38,17 +39,18 @@ one_docid : (a b : ℤ) → (Some a ≡ Some b) → a ≡ b
 one_docid a b same = ap (λ (o : Option ℤ). elim o [ Some c ↦ c | None ↦ a ]) same
 
 -- where no list has a document left
-pub nothing_left : (q : Query) (ls : List (List PlaceList)) (s t : ℕ) (documents : List Document) → AreDocuments documents × (ls ≡ lists_of (tree_of q) documents) → least_from None ls ≡ None → t ≡ s →
-    Considers (record { query = q; lists = ls; steps = s }) (record { query = q; lists = ls; steps = t }) NoDocument documents
-nothing_left q ls s t documents stands none same_steps = by (next_of (tree_of q) documents stands.0)
+pub nothing_left : (wanted : Wanted) (q : Query) (ls : List (List PlaceList)) (s t : ℕ) (documents : List Document) → AreDocuments documents × (ls ≡ lists_of (tree_of q) documents) → least_from None ls ≡ None → t ≡ s →
+    Considers wanted (record { query = q; lists = ls; steps = s }) (record { query = q; lists = ls; steps = t }) NoDocument documents
+nothing_left wanted q ls s t documents stands none same_steps = by (next_of (tree_of q) documents stands.0)
   where
-    by : Next (tree_of q) documents → Considers (record { query = q; lists = ls; steps = s }) (record { query = q; lists = ls; steps = t }) NoDocument documents
+    by : Next (tree_of q) documents → Considers wanted (record { query = q; lists = ls; steps = s }) (record { query = q; lists = ls; steps = t }) NoDocument documents
     by (First d ds are least same hits count) = absurd (not_found d.docid (sym least ∙ ap (least_from None) (sym stands.1) ∙ none))
     by (Nothing least same hits count) =
         let tree = tree_of q in
         let entries : entry_count tree documents ≡ entry_count tree [] = ap (sum_by place_count) same in
         let to_come : steps_to_come tree documents ≡ steps_to_come tree [] = ap (λ n. 32 * n + 8 * width tree * candidate_count tree documents) entries ∙ ap (λ n. 32 * entry_count tree [] + 8 * width tree * n) count in
         record {
+          offsets = [];
           went = record {
             rest = [];
             stands = (no_documents, stands.1 ∙ same);
@@ -56,38 +58,48 @@ nothing_left q ls s t documents stands none same_steps = by (next_of (tree_of q)
             at_most = omega arith;
             at_least = omega arith;
           };
+          told = tt;
           ended = λ _. refl;
         }
 
 one_more : (n : ℕ) → 1 + n ≡ suc n
 one_more n = omega arith
 
--- the hit of this docid, where there are offsets
-abbrev pub hit_with : ℤ → Option (List Offset) → List PlainHit
-hit_with docid None = []
-hit_with docid (Some offsets) = record { docid = docid; offsets = offsets } ∷ []
+-- What an answer of offsets for the document of this docid adds: its hit, if there is one, of whose offsets the wanted ones are told.
+pub record Adds (wanted : Wanted) (old new : Walk) (docid : ℤ) (answer : Option (List Offset)) (documents : List Document) : Type 0 where
+  pub offsets : List Offset
+  pub went : Went old new (hit_at (option_map (λ (o : List Offset). docid) answer) offsets) documents
+  pub told : IfSome answer (λ o. o ≡ if_wanted wanted offsets)
 
-hits_here : (docid : ℤ) (offsets : Option (List Offset)) (tree : Tree) (d : Document) (ds : List Document) → d.docid ≡ docid → offsets ≡ (if accepts d.postings tree then Some (offsets_of d.postings tree) else None) →
-    hits_of tree (d ∷ ds) ≡ hit_with docid offsets ++ hits_of tree ds
-hits_here docid offsets tree d ds one here = cases (accepts d.postings tree) refl
+-- the offsets that are wanted, where the document is accepted
+abbrev answer_here : Wanted → Tree → Document → Bool → Option (List Offset)
+answer_here wanted tree d v = if v then Some (if_wanted wanted (offsets_of d.postings tree)) else None
+
+hits_here : (wanted : Wanted) (docid : ℤ) (answer : Option (List Offset)) (tree : Tree) (d : Document) (ds : List Document) → d.docid ≡ docid → answer ≡ answer_here wanted tree d (accepts d.postings tree) →
+    hits_of tree (d ∷ ds) ≡ hit_at (option_map (λ (o : List Offset). docid) answer) (offsets_of d.postings tree) ++ hits_of tree ds
+hits_here wanted docid answer tree d ds one here = cases (accepts d.postings tree) refl
   where
-    cases : (v : Bool) → accepts d.postings tree ≡ v → hits_of tree (d ∷ ds) ≡ hit_with docid offsets ++ hits_of tree ds
+    cases : (v : Bool) → accepts d.postings tree ≡ v → hits_of tree (d ∷ ds) ≡ hit_at (option_map (λ (o : List Offset). docid) answer) (offsets_of d.postings tree) ++ hits_of tree ds
     cases true is =
         with_it tree d ds is
         ∙ ap (λ z. record { docid = z; offsets = offsets_of d.postings tree } ∷ hits_of tree ds) one
-        ∙ ap (λ o. hit_with docid o ++ hits_of tree ds) (sym (here ∙ ap (λ v. if v then Some (offsets_of d.postings tree) else None) is))
+        ∙ ap (λ o. hit_at (option_map (λ (os : List Offset). docid) o) (offsets_of d.postings tree) ++ hits_of tree ds) (sym (here ∙ ap (answer_here wanted tree d) is))
     cases false is =
         without_it tree d ds is
-        ∙ ap (λ o. hit_with docid o ++ hits_of tree ds) (sym (here ∙ ap (λ v. if v then Some (offsets_of d.postings tree) else None) is))
+        ∙ ap (λ o. hit_at (option_map (λ (os : List Offset). docid) o) (offsets_of d.postings tree) ++ hits_of tree ds) (sym (here ∙ ap (answer_here wanted tree d) is))
+
+told_here : (wanted : Wanted) (answer : Option (List Offset)) (tree : Tree) (d : Document) (v : Bool) → answer ≡ answer_here wanted tree d v → IfSome answer (λ o. o ≡ if_wanted wanted (offsets_of d.postings tree))
+told_here wanted answer tree d true here = subst (λ a. IfSome a (λ o. o ≡ if_wanted wanted (offsets_of d.postings tree))) (sym here) refl
+told_here wanted answer tree d false here = subst (λ a. IfSome a (λ o. o ≡ if_wanted wanted (offsets_of d.postings tree))) (sym here) tt
 
 -- where this is the least docid left
-pub one_left : (q : Query) (ls : List (List PlaceList)) (s t : ℕ) (docid : ℤ) (offsets : Option (List Offset)) (documents : List Document) → AreDocuments documents × (ls ≡ lists_of (tree_of q) documents) → least_from None ls ≡ Some docid →
-    ((postings : List Posting) → AllPairs IsBefore postings → map (places_at docid) ls ≡ map (listed_places postings) (terms_in (tree_of q)) → offsets ≡ (if accepts postings (tree_of q) then Some (offsets_of postings (tree_of q)) else None)) →
+pub one_left : (wanted : Wanted) (q : Query) (ls : List (List PlaceList)) (s t : ℕ) (docid : ℤ) (offsets : Option (List Offset)) (documents : List Document) → AreDocuments documents × (ls ≡ lists_of (tree_of q) documents) → least_from None ls ≡ Some docid →
+    ((postings : List Posting) → AllPairs IsBefore postings → map (places_at docid) ls ≡ map (listed_places postings) (terms_in (tree_of q)) → offsets ≡ (if accepts postings (tree_of q) then Some (if_wanted wanted (offsets_of postings (tree_of q))) else None)) →
     t ≤ s + 32 * sum_by length (map (places_at docid) ls) + 8 * width (tree_of q) → min (s + 1) (2 ^ 64 - 1) ≤ t →
-    Went (record { query = q; lists = ls; steps = s }) (record { query = q; lists = map (passed docid) ls; steps = t }) (hit_with docid offsets) documents
-one_left q ls s t docid offsets documents stands least given at_most at_least = by (next_of (tree_of q) documents stands.0)
+    Adds wanted (record { query = q; lists = ls; steps = s }) (record { query = q; lists = map (passed docid) ls; steps = t }) docid offsets documents
+one_left wanted q ls s t docid offsets documents stands least given at_most at_least = by (next_of (tree_of q) documents stands.0)
   where
-    by : Next (tree_of q) documents → Went (record { query = q; lists = ls; steps = s }) (record { query = q; lists = map (passed docid) ls; steps = t }) (hit_with docid offsets) documents
+    by : Next (tree_of q) documents → Adds wanted (record { query = q; lists = ls; steps = s }) (record { query = q; lists = map (passed docid) ls; steps = t }) docid offsets documents
     by (Nothing none same hits count) = absurd (not_found docid (sym least ∙ ap (least_from None) stands.1 ∙ none))
     by (First d ds are first same hits count) =
         let tree = tree_of q in
@@ -96,31 +108,35 @@ one_left q ls s t docid offsets documents stands least given at_most at_least = 
         let lists : ls ≡ map (listed_for (d ∷ ds)) (terms_in tree) = stands.1 ∙ same in
         let places : map (places_at docid) ls ≡ map (listed_places d.postings) (terms_in tree) = ap (λ z. map (places_at z) ls) (sym one) ∙ ap (map (places_at d.docid)) lists ∙ all_places d ds later (terms_in tree) in
         let left : map (passed docid) ls ≡ lists_of tree ds = ap (λ z. map (passed z) ls) (sym one) ∙ ap (map (passed d.docid)) lists ∙ all_passed d ds later (terms_in tree) in
-        let here : offsets ≡ (if accepts d.postings tree then Some (offsets_of d.postings tree) else None) = given d.postings (All-head (λ (e : Document). AllPairs IsBefore e.postings) d ds are.ordered) places in
+        let here : offsets ≡ answer_here wanted tree d (accepts d.postings tree) = given d.postings (All-head (λ (e : Document). AllPairs IsBefore e.postings) d ds are.ordered) places in
         let entries : entry_count tree documents ≡ sum_by length (map (places_at docid) ls) + entry_count tree ds =
         ap (sum_by place_count) same ∙ all_counted d ds later (terms_in tree) ∙ ap (λ ps. sum_by length ps + entry_count tree ds) (sym places) in
         let product : 8 * width tree * candidate_count tree documents ≡ 8 * width tree * candidate_count tree ds + 8 * width tree = ap (λ n. 8 * width tree * n) (count ∙ one_more (candidate_count tree ds)) ∙ mul-suc (8 * width tree) (candidate_count tree ds) in
         record {
-          rest = ds;
-          stands = (are_more d ds are, left);
-          hits_are = hits ∙ hits_here docid offsets tree d ds one here;
-          at_most = omega arith;
-          at_least = omega arith;
+          offsets = offsets_of d.postings tree;
+          went = record {
+            rest = ds;
+            stands = (are_more d ds are, left);
+            hits_are = hits ∙ hits_here wanted docid offsets tree d ds one here;
+            at_most = omega arith;
+            at_least = omega arith;
+          };
+          told = told_here wanted offsets tree d (accepts d.postings tree) here;
         }
 
 -- the same, of cursors and the steps of the calls
-pub went_on : (q : Query) (cursors passed_by : List Cursor) (s a b t : ℕ) (docid : ℤ) (offsets : Option (List Offset)) (documents : List Document) → StandsBefore (walk_at q cursors s) documents → least_from None (map lists_left cursors) ≡ Some docid →
-    ((postings : List Posting) → AllPairs IsBefore postings → map (λ c. places_at docid (lists_left c)) cursors ≡ map (listed_places postings) (terms_in (tree_of q)) → offsets ≡ (if accepts postings (tree_of q) then Some (offsets_of postings (tree_of q)) else None)) →
+pub went_on : (wanted : Wanted) (q : Query) (cursors passed_by : List Cursor) (s a b t : ℕ) (docid : ℤ) (offsets : Option (List Offset)) (documents : List Document) → StandsBefore (walk_at q cursors s) documents → least_from None (map lists_left cursors) ≡ Some docid →
+    ((postings : List Posting) → AllPairs IsBefore postings → map (λ c. places_at docid (lists_left c)) cursors ≡ map (listed_places postings) (terms_in (tree_of q)) → offsets ≡ (if accepts postings (tree_of q) then Some (if_wanted wanted (offsets_of postings (tree_of q))) else None)) →
     map lists_left passed_by ≡ map (passed docid) (map lists_left cursors) → length cursors ≡ length (terms_in (tree_of q)) → s ≤ a → a ≤ s + length cursors →
     min (a + 1) (2 ^ 64 - 1) ≤ b → b ≤ a + 12 * sum_by (λ c. length (places_at docid (lists_left c))) cursors + 3 * width (tree_of q) → t ≡ min (b + length cursors) (2 ^ 64 - 1) →
-    Went (walk_at q cursors s) (walk_at q passed_by t) (hit_with docid offsets) documents
-went_on q cursors passed_by s a b t docid offsets documents stands least given left number first_least first_most visit_least visit_most last =
+    Adds wanted (walk_at q cursors s) (walk_at q passed_by t) docid offsets documents
+went_on wanted q cursors passed_by s a b t docid offsets documents stands least given left number first_least first_most visit_least visit_most last =
     let ls = map lists_left cursors in
     let same : map (places_at docid) ls ≡ map (λ c. places_at docid (lists_left c)) cursors = map-map (places_at docid) lists_left cursors in
     let sum : sum_by length (map (places_at docid) ls) ≡ sum_by (λ c. length (places_at docid (lists_left c))) cursors = ap (sum_by length) same ∙ sum_mapped (λ c. places_at docid (lists_left c)) cursors in
     let terms = all_terms (tree_of q) in
-    let went = one_left q ls s t docid offsets documents stands least (λ postings ordered here. given postings ordered (sym same ∙ here)) (omega arith) (omega arith) in
-    subst (λ new. Went (walk_at q cursors s) (record { query = q; lists = new; steps = t }) (hit_with docid offsets) documents) (sym left) went
+    let went = one_left wanted q ls s t docid offsets documents stands least (λ postings ordered here. given postings ordered (sym same ∙ here)) (omega arith) (omega arith) in
+    subst (λ new. Adds wanted (walk_at q cursors s) (record { query = q; lists = new; steps = t }) docid offsets documents) (sym left) went
   where
     sum_mapped : {X : Type 0} (f : X → List Place) (xs : List X) → sum_by length (map f xs) ≡ sum_by (λ x. length (f x)) xs
     sum_mapped f [] = refl

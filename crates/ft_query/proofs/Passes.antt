@@ -4,7 +4,7 @@ use Rattle.std.specs.Prelude.{filter}
 use Rattle.std.specs.Ordering.{match_ordering}
 use Rattle.std.specs.declared.cmp.Ordering.{Ordering}
 use Rattle.std.specs.declared.cmp.Ordering.TheVariants.{Less, Equal, Greater}
-use denote.Ref.{Bor}
+use Rattle.ft_query.specs.declared.walk.places.Places.{Places}
 use Rattle.ft_query.specs.declared.lists.Place.{Place}
 use Rattle.std.proofs.lemmas.List.{drop_more, reverse-append, reverse-reverse, append_assoc, length-map}
 use Rattle.ft_query.specs.declared.query.QueryTerm.{QueryTerm}
@@ -13,7 +13,7 @@ use Rattle.ft_query.specs.declared.query.Phrase.{Phrase}
 use Rattle.ft_query.specs.declared.walk.Offset.{Offset}
 use Rattle.ft_query.specs.Trees.{PlainPhrase, PlainLink, plain_term, plain_phrase, plain_link, chain}
 use Rattle.ft_query.specs.Visit.{place_order, seek, among, skip_behind, begin_near, near_those, followed, head_of, linked, link_marks, marks_from, marks_of, numbered, offset_at, plain_starts, total, plain_lists, linked_cost, link_cost, visit_cost}
-use Rattle.ft_query.specs.declared.walk.starts.Starts.{Starts}
+use Rattle.ft_query.specs.declared.walk.places.Starts.{Starts}
 
 -- what is left of a list, with the one that was found
 abbrev left_over : Bool × List Place → ℕ
@@ -65,17 +65,17 @@ filter_short p (x ∷ xs) = kept_le (p x) x (filter p xs) (length xs) (filter_sh
 
 -- ---- the lists of a phrase's terms, one after the other
 
-pub total_more : (lists : List (Bor (List Place))) (i : ℕ) (l : Bor (List Place)) → i < length lists → total (plain_lists (drop i lists)) ≡ length (get_or lists i l).now + total (plain_lists (drop (i + 1) lists))
+pub total_more : (lists : List Places) (i : ℕ) (l : Places) → i < length lists → total (plain_lists (drop i lists)) ≡ length (get_or lists i l).places.now + total (plain_lists (drop (i + 1) lists))
 total_more lists i l h = ap (λ ls. total (plain_lists ls)) (drop_more lists i l h)
 
 -- the first term of those that are left, with its list
-pub follow_more : (i : ℕ) (terms : List QueryTerm) (lists : List (Bor (List Place))) (starts : List Place) (t : QueryTerm) (l : Bor (List Place)) → i < length terms → length lists ≡ length terms → t ≡ get_or terms i t
-    → followed (i + 1) (map plain_term (drop i terms)) (plain_lists (drop i lists)) starts ≡ followed (i + 1 + 1) (map plain_term (drop (i + 1) terms)) (plain_lists (drop (i + 1) lists)) (cond t.first [] (among (i + 1) 0 starts (get_or lists i l).now))
+pub follow_more : (i : ℕ) (terms : List QueryTerm) (lists : List Places) (starts : List Place) (t : QueryTerm) (l : Places) → i < length terms → length lists ≡ length terms → t ≡ get_or terms i t
+    → followed (i + 1) (map plain_term (drop i terms)) (plain_lists (drop i lists)) starts ≡ followed (i + 1 + 1) (map plain_term (drop (i + 1) terms)) (plain_lists (drop (i + 1) lists)) (cond t.first [] (among (i + 1) 0 starts (get_or lists i l).places.now))
 follow_more i terms lists starts t l h same is =
     let inside : i < length lists = omega arith in
     ap (λ ts. followed (i + 1) (map plain_term ts) (plain_lists (drop i lists)) starts) (drop_more terms i t h)
     ∙ ap (λ ls. followed (i + 1) (map plain_term (get_or terms i t ∷ drop (i + 1) terms)) (plain_lists ls) starts) (drop_more lists i l inside)
-    ∙ ap (λ (u : QueryTerm). followed (i + 1 + 1) (map plain_term (drop (i + 1) terms)) (plain_lists (drop (i + 1) lists)) (cond u.first [] (among (i + 1) 0 starts (get_or lists i l).now))) (sym is)
+    ∙ ap (λ (u : QueryTerm). followed (i + 1 + 1) (map plain_term (drop (i + 1) terms)) (plain_lists (drop (i + 1) lists)) (cond u.first [] (among (i + 1) 0 starts (get_or lists i l).places.now))) (sym is)
 
 pub followed_few : (first : Bool) (i : ℕ) (starts list : List Place) → length (cond first [] (among i 0 starts list)) ≤ length list
 followed_few true i starts list = omega arith
@@ -112,37 +112,37 @@ marks_length i [] starts = refl
 marks_length i (l ∷ ls) starts = ap (λ n. suc n) (marks_length (i + 1) ls starts)
 
 -- what the lists of a phrase's terms add before the terms behind it
-pub numbered_marks : (old : List Offset) (n : ℕ) (lists : List (Bor (List Place))) (starts : List Place) (more : List (List Place))
+pub numbered_marks : (old : List Offset) (n : ℕ) (lists : List Places) (starts : List Place) (more : List (List Place))
     → old ++ numbered n (marks_from 0 (plain_lists lists) starts) ++ numbered (n + length lists) more ≡ old ++ numbered n (marks_from 0 (plain_lists lists) starts ++ more)
 numbered_marks old n lists starts more =
     let ms = marks_from 0 (plain_lists lists) starts in
-    let many : length ms ≡ length lists = marks_length 0 (plain_lists lists) starts ∙ length-map lists (λ l. l.now) in
+    let many : length ms ≡ length lists = marks_length 0 (plain_lists lists) starts ∙ length-map lists (λ l. l.places.now) in
     append_assoc old (numbered n ms) (numbered (n + length lists) more)
     ∙ ap (λ k. old ++ (numbered n ms ++ numbered (n + k) more)) (sym many)
     ∙ sym (ap (λ os. old ++ os) (numbered-append n ms more))
 
 -- ---- the lists of a phrase's terms, and those behind them
 
-pub map-drop : (n : ℕ) (lists : List (Bor (List Place))) → drop n (plain_lists lists) ≡ plain_lists (drop n lists)
+pub map-drop : (n : ℕ) (lists : List Places) → drop n (plain_lists lists) ≡ plain_lists (drop n lists)
 map-drop zero lists = refl
 map-drop (suc n) [] = refl
 map-drop (suc n) (l ∷ lists) = map-drop n lists
 
-pub map-take : (n : ℕ) (lists : List (Bor (List Place))) → take n (plain_lists lists) ≡ plain_lists (take n lists)
+pub map-take : (n : ℕ) (lists : List Places) → take n (plain_lists lists) ≡ plain_lists (take n lists)
 map-take zero lists = refl
 map-take (suc n) [] = refl
-map-take (suc n) (l ∷ lists) = ap (λ ls. l.now ∷ ls) (map-take n lists)
+map-take (suc n) (l ∷ lists) = ap (λ ls. l.places.now ∷ ls) (map-take n lists)
 
-pub back_lists : (terms : List QueryTerm) (lists back : List (Bor (List Place))) (n : ℕ) → n ≡ length terms → back ≡ drop n lists → drop (length (map plain_term terms)) (plain_lists lists) ≡ plain_lists back
+pub back_lists : (terms : List QueryTerm) (lists back : List Places) (n : ℕ) → n ≡ length terms → back ≡ drop n lists → drop (length (map plain_term terms)) (plain_lists lists) ≡ plain_lists back
 back_lists terms lists back n size is =
     ap (λ k. drop k (plain_lists lists)) (length-map terms plain_term ∙ sym size) ∙ map-drop n lists ∙ ap plain_lists (sym is)
 
-front_lists : (terms : List QueryTerm) (lists front : List (Bor (List Place))) (n : ℕ) → n ≡ length terms → front ≡ take n lists → take (length (map plain_term terms)) (plain_lists lists) ≡ plain_lists front
+front_lists : (terms : List QueryTerm) (lists front : List Places) (n : ℕ) → n ≡ length terms → front ≡ take n lists → take (length (map plain_term terms)) (plain_lists lists) ≡ plain_lists front
 front_lists terms lists front n size is =
     ap (λ k. take k (plain_lists lists)) (length-map terms plain_term ∙ sym size) ∙ map-take n lists ∙ ap plain_lists (sym is)
 
 -- the marks of one link, and those of the links behind it
-pub link_marks_one : (k : ℕ) (starts : List Place) (link : Link) (links : List Link) (lists own behind : List (Bor (List Place))) (others : Starts) (all : List Starts) (size : ℕ) (next : List Place)
+pub link_marks_one : (k : ℕ) (starts : List Place) (link : Link) (links : List Link) (lists own behind : List Places) (others : Starts) (all : List Starts) (size : ℕ) (next : List Place)
     → size ≡ length link.to.terms.items → own ≡ take size lists → behind ≡ drop size lists → next ≡ near_those link.most k starts size others.places.items
     → marks_from 0 (plain_lists own) next ++ link_marks size next (map plain_link links) (plain_lists behind) (plain_starts all) ≡ link_marks k starts (map plain_link (link ∷ links)) (plain_lists lists) (plain_starts (others ∷ all))
 link_marks_one k starts link links lists own behind others all size next is_size is_own is_behind is_next =
@@ -176,7 +176,7 @@ pub starts_many : (all : List Starts) (lists : List (List Place)) → plain_star
 starts_many all lists is = sym (length-map all (λ s. s.places.items)) ∙ ap length is
 
 -- the marks of a chain's first phrase, and those of its links
-pub chain_marks : (first : Phrase) (links : List Link) (lists own behind : List (Bor (List Place))) (starts : List Place) (all : List (List Place)) (size : ℕ)
+pub chain_marks : (first : Phrase) (links : List Link) (lists own behind : List Places) (starts : List Place) (all : List (List Place)) (size : ℕ)
     → size ≡ length first.terms.items → own ≡ take size lists → behind ≡ drop size lists
     → starts ≡ head_of (linked (plain_phrase first) (map plain_link links) (plain_lists lists)) → all ≡ drop 1 (linked (plain_phrase first) (map plain_link links) (plain_lists lists))
     → marks_from 0 (plain_lists own) starts ++ link_marks size starts (map plain_link links) (plain_lists behind) all ≡ marks_of (chain (plain_phrase first) (map plain_link links)) (plain_lists lists)
@@ -194,7 +194,7 @@ chain_marks first links lists own behind starts all size is_size is_own is_behin
     ∙ ap (λ ls. marked n begun later (take n (plain_lists lists)) ls) (sym (back_lists terms lists behind size is_size is_behind))
 
 -- the steps for a chain: back to its first phrase, for that one's marks, and for those of its links
-pub chain_cost : (first : Phrase) (links : List Link) (lists own behind : List (Bor (List Place))) (starts : List Place) (all : List (List Place)) (size : ℕ)
+pub chain_cost : (first : Phrase) (links : List Link) (lists own behind : List Places) (starts : List Place) (all : List (List Place)) (size : ℕ)
     → size ≡ length first.terms.items → own ≡ take size lists → behind ≡ drop size lists
     → starts ≡ head_of (linked (plain_phrase first) (map plain_link links) (plain_lists lists)) → all ≡ drop 1 (linked (plain_phrase first) (map plain_link links) (plain_lists lists))
     → 1 + (linked_cost (plain_phrase first) (map plain_link links) (plain_lists lists) + total (plain_lists own) + size * length starts + link_cost size starts (map plain_link links) (plain_lists behind) all) ≡ visit_cost (chain (plain_phrase first) (map plain_link links)) (plain_lists lists)

@@ -1,29 +1,43 @@
 -- What the evaluation of a document answers.
-use Rattle.std.proofs.Common.{◌≡◌, Bool, true, false, cond, List, map, sym, ap, ◌∙◌}
+use Rattle.std.proofs.Common.{◌≡◌, Bool, true, false, cond, List, [], ◌∷◌, length, map, refl, sym, ap, ◌∙◌, arith}
+use Rattle.std.proofs.lemmas.List.Sorted.{length_permutation}
 use Rattle.std.specs.Prelude.{AllPairs, Option, Some, None}
 use Rattle.std.specs.List.Sorted.{IsPermutation, IsSortedBy}
 use Rattle.ft_query.specs.declared.lists.Place.{Place}
 use Rattle.ft_query.specs.declared.walk.Offset.{Offset}
+use Rattle.ft_query.specs.declared.walk.visit.Wanted.{Wanted}
+use Rattle.ft_query.specs.declared.walk.visit.Wanted.TheVariants.{Docids, Offsets}
 use Rattle.ft_query.specs.Documents.{Posting, IsBefore}
 use Rattle.ft_query.specs.Trees.{Tree}
 use Rattle.ft_query.specs.Work.{terms_in}
 use Rattle.ft_query.specs.Occurs.{accepts, offsets_of}
-use Rattle.ft_query.specs.Visit.{listed_places, is_accepted, marks_of, numbered, precedes}
+use Rattle.ft_query.specs.Visit.{listed_places, is_accepted, marks_of, numbered, precedes, if_wanted}
 use Rattle.ft_query.proofs.QueryPasses.{accepted_is, marked_is}
 use Rattle.ft_query.proofs.Sorting.{sorted_are}
 
-abbrev pub answer_of : List Posting → Tree → Option (List Offset)
-answer_of postings tree = cond (accepts postings tree) (Some (offsets_of postings tree)) None
+abbrev pub answer_of : Wanted → List Posting → Tree → Option (List Offset)
+answer_of wanted postings tree = cond (accepts postings tree) (Some (if_wanted wanted (offsets_of postings tree))) None
 
 by_test : (postings : List Posting) (tree : Tree) (lists : List (List Place)) (b : Bool) → AllPairs IsBefore postings → lists ≡ map (listed_places postings) (terms_in tree) → b ≡ is_accepted tree lists → accepts postings tree ≡ b
 by_test postings tree lists b ordered is accepted = sym (accepted ∙ ap (is_accepted tree) is ∙ accepted_is postings tree ordered)
 
-pub rejected_is : (postings : List Posting) (tree : Tree) (lists : List (List Place)) (b : Bool) → AllPairs IsBefore postings → lists ≡ map (listed_places postings) (terms_in tree) → b ≡ is_accepted tree lists → b ≡ false → None ≡ answer_of postings tree
-rejected_is postings tree lists b ordered is accepted rejected = sym (ap (λ t. cond t (Some (offsets_of postings tree)) None) (by_test postings tree lists b ordered is accepted ∙ rejected))
+pub rejected_is : (wanted : Wanted) (postings : List Posting) (tree : Tree) (lists : List (List Place)) (b : Bool) → AllPairs IsBefore postings → lists ≡ map (listed_places postings) (terms_in tree) → b ≡ is_accepted tree lists → b ≡ false → None ≡ answer_of wanted postings tree
+rejected_is wanted postings tree lists b ordered is accepted rejected = sym (ap (λ t. cond t (Some (if_wanted wanted (offsets_of postings tree))) None) (by_test postings tree lists b ordered is accepted ∙ rejected))
 
-pub found_is : (postings : List Posting) (tree : Tree) (lists : List (List Place)) (b : Bool) (marks out : List Offset) → AllPairs IsBefore postings → lists ≡ map (listed_places postings) (terms_in tree) → b ≡ is_accepted tree lists → b ≡ true
-    → marks ≡ numbered 0 (marks_of tree lists) → IsPermutation marks out → IsSortedBy precedes out → Some out ≡ answer_of postings tree
-found_is postings tree lists b marks out ordered is accepted passed marked permutation sorted =
+-- the offsets are in order, or there are none
+sorted_is : (wanted : Wanted) (postings : List Posting) (tree : Tree) (lists : List (List Place)) (marks out : List Offset) → AllPairs IsBefore postings → lists ≡ map (listed_places postings) (terms_in tree)
+    → marks ≡ numbered 0 (if_wanted wanted (marks_of tree lists)) → IsPermutation marks out → IsSortedBy precedes out → out ≡ if_wanted wanted (offsets_of postings tree)
+sorted_is Docids postings tree lists marks out ordered is marked permutation sorted = nothing out (length_permutation marks out permutation ∙ ap length marked)
+  where
+    nothing : (xs : List Offset) → length xs ≡ 0 → xs ≡ []
+    nothing [] none = refl
+    nothing (x ∷ xs) none = absurd (omega arith)
+sorted_is Offsets postings tree lists marks out ordered is marked permutation sorted =
     let taken_are = marked ∙ ap (λ ls. numbered 0 (marks_of tree ls)) is ∙ ap (numbered 0) (marked_is postings tree ordered) in
-    ap (λ os. Some os) (sorted_are postings tree marks out ordered taken_are permutation sorted)
-    ∙ sym (ap (λ t. cond t (Some (offsets_of postings tree)) None) (by_test postings tree lists b ordered is accepted ∙ passed))
+    sorted_are postings tree marks out ordered taken_are permutation sorted
+
+pub found_is : (wanted : Wanted) (postings : List Posting) (tree : Tree) (lists : List (List Place)) (b : Bool) (marks out : List Offset) → AllPairs IsBefore postings → lists ≡ map (listed_places postings) (terms_in tree) → b ≡ is_accepted tree lists → b ≡ true
+    → marks ≡ numbered 0 (if_wanted wanted (marks_of tree lists)) → IsPermutation marks out → IsSortedBy precedes out → Some out ≡ answer_of wanted postings tree
+found_is wanted postings tree lists b marks out ordered is accepted passed marked permutation sorted =
+    ap (λ os. Some os) (sorted_is wanted postings tree lists marks out ordered is marked permutation sorted)
+    ∙ sym (ap (λ t. cond t (Some (if_wanted wanted (offsets_of postings tree))) None) (by_test postings tree lists b ordered is accepted ∙ passed))

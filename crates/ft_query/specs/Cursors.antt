@@ -1,5 +1,5 @@
--- What is left of the lists of a walk.
-use Rattle.std.specs.Prelude.{ℕ, ℤ, int_lt, List, [], ◌∷◌, drop, map, sum_by, if◌then◌else◌, Option, Some, None}
+-- Steps. What is left of the lists of a walk.
+use Rattle.std.specs.Prelude.{ℕ, ℤ, int_lt, Bool, false, List, [], ◌∷◌, drop, map, sum_by, if◌then◌else◌, Option, Some, None}
 use Rattle.std.specs.Ordering.{int_eq}
 use Rattle.ft_query.specs.declared.lists.Place.{Place}
 use Rattle.ft_query.specs.declared.walk.cursor.Cursor.{Cursor}
@@ -19,21 +19,43 @@ lists_kept c = map plain_list (drop c.kept c.lists.items)
 abbrev pub places_left : List Cursor → ℕ
 places_left cursors = sum_by (λ c. place_count (lists_kept c)) cursors
 
+-- the next docid, if there is one
+abbrev pub next_docid : List PlaceList → Option ℤ
+next_docid [] = None
+next_docid (l ∷ ls) = Some l.docid
+
+-- this document is the next one
+abbrev pub is_next : ℤ → List PlaceList → Bool
+is_next docid [] = false
+is_next docid (l ∷ ls) = int_eq l.docid docid
+
+-- the places in the next document
+abbrev pub next_places : List PlaceList → List Place
+next_places [] = []
+next_places (l ∷ ls) = l.places
+
+-- what is left behind the next document
+abbrev pub after_next : List PlaceList → List PlaceList
+after_next [] = []
+after_next (l ∷ ls) = ls
+
 -- the places in this document, if it is the next one
 abbrev pub places_at : ℤ → List PlaceList → List Place
-places_at docid [] = []
-places_at docid (l ∷ ls) = if int_eq l.docid docid then l.places else []
+places_at docid ls = if is_next docid ls then next_places ls else []
 
 -- what is left once this document is passed
 abbrev pub passed : ℤ → List PlaceList → List PlaceList
-passed docid [] = []
-passed docid (l ∷ ls) = if int_eq l.docid docid then ls else l ∷ ls
+passed docid ls = if is_next docid ls then after_next ls else ls
+
+-- the lesser of two docids that may be there
+abbrev pub lesser_of : Option ℤ → Option ℤ → Option ℤ
+lesser_of docid None = docid
+lesser_of None (Some next) = Some next
+lesser_of (Some docid) (Some next) = if int_lt next docid then Some next else Some docid
 
 -- the lesser of this docid and the next one
 abbrev pub least_of : Option ℤ → List PlaceList → Option ℤ
-least_of docid [] = docid
-least_of None (l ∷ ls) = Some l.docid
-least_of (Some docid) (l ∷ ls) = if int_lt l.docid docid then Some l.docid else Some docid
+least_of docid ls = lesser_of docid (next_docid ls)
 
 -- the least docid that is next in some list, or this one
 abbrev pub least_from : Option ℤ → List (List PlaceList) → Option ℤ

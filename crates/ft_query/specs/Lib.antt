@@ -1,3 +1,4 @@
+-- Meaning
 pub mod Tokens
 pub mod Trees
 pub mod Lexemes
@@ -5,11 +6,12 @@ pub mod Grammar
 pub mod Pass
 pub mod Reads
 pub mod Documents
-pub mod Lists
 pub mod Occurs
-pub mod Machine
 pub mod Work
-pub mod Cursors
 pub mod Walk
+-- Steps
+pub mod Lists
+pub mod Machine
+pub mod Cursors
 pub mod Search
 pub mod Visit

@@ -1,4 +1,4 @@
--- What the parser keeps between lexemes, without where it lies in memory: the states of the pass in `Pass`.
+-- Steps. What the parser keeps between lexemes, without where it lies in memory: the states of the pass in `Pass`.
 use Rattle.std.specs.Prelude.{ℕ, ◌||◌, Bool, true, false, nat_lt, if◌then◌else◌, List, map, min, reverse, sum_by, option_map, Option, Some, None, Result}
 use Rattle.std.specs.List.{list_any}
 use Rattle.ft_query.specs.declared.query.QueryFault.{QueryFault}

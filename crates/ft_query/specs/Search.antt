@@ -1,13 +1,17 @@
--- The search for the next hit of a walk.
-use Rattle.std.specs.Prelude.{◌≡◌, ℕ, List, [], ◌∷◌, map}
+-- Steps. The search for the next hit of a walk.
+use Rattle.std.specs.Prelude.{◌≡◌, ℕ, List, [], ◌∷◌, map, Option, None, option_map, IfSome}
 use Rattle.ft_query.specs.declared.query.Query.{Query}
 use Rattle.ft_query.specs.declared.walk.cursor.Cursor.{Cursor}
 use Rattle.ft_query.specs.declared.walk.search.Considered.{Considered}
 use Rattle.ft_query.specs.declared.walk.search.Considered.TheVariants.{NoDocument, Passed, Found}
+use Rattle.ft_query.specs.declared.walk.Hit.{Hit}
+use Rattle.ft_query.specs.declared.walk.Offset.{Offset}
+use Rattle.ft_query.specs.declared.walk.visit.Wanted.{Wanted}
 use Rattle.ft_query.specs.Documents.{Document}
-use Rattle.ft_query.specs.Occurs.{PlainHit, plain_hit}
+use Rattle.ft_query.specs.Occurs.{PlainHit}
+use Rattle.ft_query.specs.Visit.{if_wanted}
 use Rattle.ft_query.specs.Cursors.{lists_left, lists_kept}
-use Rattle.ft_query.specs.Walk.{Walk, Went}
+use Rattle.ft_query.specs.Walk.{Walk, Went, hit_at}
 
 -- the walk where the search is
 abbrev pub walk_at : Query → List Cursor → ℕ → Walk
@@ -17,17 +21,33 @@ walk_at query cursors steps = record { query = query; lists = map lists_left cur
 abbrev pub stands_at : Query → List Cursor → ℕ → Walk
 stands_at query cursors steps = record { query = query; lists = map lists_kept cursors; steps = steps }
 
-abbrev pub hits_in : Considered → List PlainHit
-hits_in NoDocument = []
-hits_in Passed = []
-hits_in (Found hit) = plain_hit hit ∷ []
+-- the hit, where one was found that has these offsets
+abbrev pub hits_in : Considered → List Offset → List PlainHit
+hits_in NoDocument offsets = []
+hits_in Passed offsets = []
+hits_in (Found hit) offsets = record { docid = hit.docid; offsets = offsets } ∷ []
+
+-- of these offsets those that are wanted are told
+abbrev pub Tells : Wanted → Considered → List Offset → Type 0
+Tells wanted NoDocument offsets = Unit {0}
+Tells wanted Passed offsets = Unit {0}
+Tells wanted (Found hit) offsets = hit.offsets.items ≡ if_wanted wanted offsets
 
 abbrev pub IsDocument : Considered → Type 0
 IsDocument NoDocument = ⊥
 IsDocument Passed = Unit {0}
 IsDocument (Found hit) = Unit {0}
 
--- One document was considered, if there was one.
-pub record Considers (old new : Walk) (considered : Considered) (documents : List Document) : Type 0 where
-  pub went : Went old new (hits_in considered) documents
+-- One document was considered, if there was one. The offsets are those of the hit, where it is one.
+pub record Considers (wanted : Wanted) (old new : Walk) (considered : Considered) (documents : List Document) : Type 0 where
+  pub offsets : List Offset
+  pub went : Went old new (hits_in considered offsets) documents
+  pub told : Tells wanted considered offsets
   pub ended : considered ≡ NoDocument → went.rest ≡ []
+
+-- The walk went on to the next hit, of whose offsets those that are wanted are told.
+pub record Finds (wanted : Wanted) (old new : Walk) (hit : Option Hit) (documents : List Document) : Type 0 where
+  pub offsets : List Offset
+  pub went : Went old new (hit_at (option_map (λ h. h.docid) hit) offsets) documents
+  pub told : IfSome hit (λ h. h.offsets.items ≡ if_wanted wanted offsets)
+  pub ended : hit ≡ None → went.rest ≡ []

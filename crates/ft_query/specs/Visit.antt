@@ -1,12 +1,14 @@
--- How one document is evaluated: by passes over the lists of places of the query's terms, each from front to back (own choices).
+-- Steps. How one document is evaluated: by passes over the lists of places of the query's terms, each from front to back (own choices).
 use Rattle.std.specs.Prelude.{ℕ, ℤ, ◌+◌, ◌*◌, ◌==◌, ◌&&◌, ◌||◌, Bool, true, false, not, nat_lt, if◌then◌else◌, List, [], ◌∷◌, ◌++◌, length, take, drop, map, filter, Option}
 use Rattle.std.specs.Ordering.{ordering_then, nat_cmp, match_ordering, is_lt}
 use Rattle.std.specs.declared.cmp.Ordering.{Ordering}
-use denote.Ref.{Bor}
 use Rattle.ft_query.specs.declared.lists.Place.{Place}
 use Rattle.ft_query.specs.declared.walk.Offset.{Offset}
 use Rattle.ft_query.specs.declared.walk.cursor.Cursor.{Cursor}
-use Rattle.ft_query.specs.declared.walk.starts.Starts.{Starts}
+use Rattle.ft_query.specs.declared.walk.places.Places.{Places}
+use Rattle.ft_query.specs.declared.walk.places.Starts.{Starts}
+use Rattle.ft_query.specs.declared.walk.visit.Wanted.{Wanted}
+use Rattle.ft_query.specs.declared.walk.visit.Wanted.TheVariants.{Docids, Offsets}
 use Rattle.ft_query.specs.Documents.{Posting, is_filled}
 use Rattle.ft_query.specs.Trees.{PlainTerm, PlainPhrase, PlainLink, Tree, phrase, chain, both, either, without}
 use Rattle.ft_query.specs.Occurs.{is_listed, is_within, are_near}
@@ -112,6 +114,11 @@ marks_of (both p q) lists = marks_of p (take (length (terms_in p)) lists) ++ mar
 marks_of (either p q) lists = marks_of p (take (length (terms_in p)) lists) ++ marks_of q (drop (length (terms_in p)) lists)
 marks_of (without p q) lists = marks_of p (take (length (terms_in p)) lists)
 
+-- offsets, or marks, as far as they are wanted
+abbrev pub if_wanted : {X : Type 0} → Wanted → List X → List X
+if_wanted Docids xs = []
+if_wanted Offsets xs = xs
+
 abbrev pub offset_at : ℕ → Place → Offset
 offset_at n at = record { column = at.column; term = n; place = at.start; size = at.size }
 
@@ -129,8 +136,8 @@ abbrev pub precedes : Offset → Offset → Bool
 precedes a b = is_lt (ordering_then (ordering_then (nat_cmp a.column b.column) (nat_cmp a.place b.place)) (nat_cmp a.term b.term))
 
 -- the lists behind these references
-abbrev pub plain_lists : List (Bor (List Place)) → List (List Place)
-plain_lists lists = map (λ l. l.now) lists
+abbrev pub plain_lists : List Places → List (List Place)
+plain_lists lists = map (λ l. l.places.now) lists
 
 -- what a term's list answers for a document: its places in every position
 abbrev pub listed_places : List Posting → PlainTerm → List Place

@@ -1,7 +1,8 @@
--- A walk as its callers see it.
-use Rattle.std.specs.Prelude.{◌≡◌, ℕ, ◌+◌, ◌-◌, ◌*◌, ◌^◌, ◌≤◌, min, length, sum_by, List, [], ◌∷◌, ◌++◌, Option, Some, None}
+-- Meaning. A walk as its callers see it.
+use Rattle.std.specs.Prelude.{◌≡◌, ℕ, ℤ, ◌+◌, ◌-◌, ◌*◌, ◌^◌, ◌≤◌, min, length, sum_by, List, [], ◌∷◌, ◌++◌, Option, Some, None}
 use Rattle.ft_query.specs.declared.query.Query.{Query}
 use Rattle.ft_query.specs.declared.walk.Hit.{Hit}
+use Rattle.ft_query.specs.declared.walk.Offset.{Offset}
 use Rattle.ft_query.specs.Documents.{Document, AreDocuments, PlaceList}
 use Rattle.ft_query.specs.Trees.{Tree, tree_of}
 use Rattle.ft_query.specs.Occurs.{PlainHit, plain_hit, hits_of}
@@ -42,3 +43,14 @@ pub record Went (old new : Walk) (hits : List PlainHit) (documents : List Docume
 pub record Walked (old new : Walk) (hit : Option Hit) (documents : List Document) : Type 0 where
   pub went : Went old new (hit_list hit) documents
   pub ended : hit ≡ None → went.rest ≡ []
+
+-- a hit of this docid with these offsets
+abbrev pub hit_at : Option ℤ → List Offset → List PlainHit
+hit_at None offsets = []
+hit_at (Some docid) offsets = record { docid = docid; offsets = offsets } ∷ []
+
+-- The same where of the hit only its docid is answered: the offsets are those that the document has, and aren't told.
+pub record WalkedTo (old new : Walk) (docid : Option ℤ) (documents : List Document) : Type 0 where
+  pub offsets : List Offset
+  pub went : Went old new (hit_at docid offsets) documents
+  pub ended : docid ≡ None → went.rest ≡ []

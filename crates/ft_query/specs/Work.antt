@@ -1,4 +1,4 @@
--- How much a query asks of the lists, and how many steps a walk may take (own choices).
+-- Meaning. How much a query asks of the lists, and how many steps a walk may take (own choices).
 use Rattle.std.specs.Prelude.{ℕ, ◌+◌, max, List, ◌++◌, length, map, sum_by, count_by, flat_map}
 use Rattle.std.specs.List.{list_any}
 use Rattle.ft_query.specs.Documents.{Document, PlaceList, lists_with, place_count}

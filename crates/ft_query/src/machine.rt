@@ -43,6 +43,24 @@ pub struct State {
     pub last: Last,
 }
 
+/// The query as which these lexemes read, if they read as one.
+pub fn query_from(
+    alloc: Global,
+    default: Option<usize>,
+    lexemes: Vec<Lexeme>,
+) -> Result<Option<Query>, AllocError>
+    ensures { IfOk result (λ q. option_map tree_of q ≡ tree_from default (map plain_lexeme lexemes.items)) }
+{
+    let mut state = begun(Vec::new(alloc));
+    for lexeme in lexemes {
+        match step(alloc, default, state, lexeme)? {
+            None => return Ok(None),
+            Some(next) => state = next,
+        }
+    }
+    finish(alloc, state)
+}
+
 // Nothing is read yet inside of these parentheses.
 fn begun(outer: Vec<Waiting>) -> State
     ensures { plain_state result ≡ last_state nothing_waits (plain_outer outer.items) operator }
@@ -55,233 +73,6 @@ fn begun(outer: Vec<Waiting>) -> State
         },
         outer,
         last: Last::Operator,
-    }
-}
-
-fn joined_by_not(alloc: Global, left: Option<Query>, right: Query) -> Result<Query, AllocError>
-    ensures { IfOk result (λ q. tree_of q ≡ join without (option_map tree_of left) (tree_of right)) }
-{
-    match left {
-        None => Ok(right),
-        Some(left) => Ok(Query::Not(Box::new(alloc, left)?, Box::new(alloc, right)?)),
-    }
-}
-
-fn joined_by_and(alloc: Global, left: Option<Query>, right: Query) -> Result<Query, AllocError>
-    ensures { IfOk result (λ q. tree_of q ≡ join both (option_map tree_of left) (tree_of right)) }
-{
-    match left {
-        None => Ok(right),
-        Some(left) => Ok(Query::And(Box::new(alloc, left)?, Box::new(alloc, right)?)),
-    }
-}
-
-fn joined_by_or(alloc: Global, left: Option<Query>, right: Query) -> Result<Query, AllocError>
-    ensures { IfOk result (λ q. tree_of q ≡ join either (option_map tree_of left) (tree_of right)) }
-{
-    match left {
-        None => Ok(right),
-        Some(left) => Ok(Query::Or(Box::new(alloc, left)?, Box::new(alloc, right)?)),
-    }
-}
-
-// What waits after the operand and NOT.
-fn after_not(alloc: Global, waiting: Waiting, operand: Query) -> Result<Waiting, AllocError>
-    ensures { IfOk result (λ w. plain_waiting w ≡ (not_state (plain_waiting waiting) [] (tree_of operand)).waiting) }
-{
-    let Waiting {
-        or_left,
-        and_left,
-        not_left,
-    } = waiting;
-    let left = joined_by_not(alloc, not_left, operand)?;
-    Ok(Waiting {
-        or_left,
-        and_left,
-        not_left: Some(left),
-    })
-}
-
-// What waits after the operand and AND.
-fn after_and(alloc: Global, waiting: Waiting, operand: Query) -> Result<Waiting, AllocError>
-    ensures { IfOk result (λ w. plain_waiting w ≡ (and_state (plain_waiting waiting) [] (tree_of operand)).waiting) }
-{
-    let Waiting {
-        or_left,
-        and_left,
-        not_left,
-    } = waiting;
-    let right = joined_by_not(alloc, not_left, operand)?;
-    let left = joined_by_and(alloc, and_left, right)?;
-    Ok(Waiting {
-        or_left,
-        and_left: Some(left),
-        not_left: None,
-    })
-}
-
-// The whole of what waits and the operand.
-fn whole(alloc: Global, waiting: Waiting, operand: Query) -> Result<Query, AllocError>
-    ensures { IfOk result (λ q. tree_of q ≡ or_whole (plain_waiting waiting) (tree_of operand)) }
-{
-    let Waiting {
-        or_left,
-        and_left,
-        not_left,
-    } = waiting;
-    let right = joined_by_not(alloc, not_left, operand)?;
-    let right = joined_by_and(alloc, and_left, right)?;
-    joined_by_or(alloc, or_left, right)
-}
-
-// What waits after the operand and OR.
-fn after_or(alloc: Global, waiting: Waiting, operand: Query) -> Result<Waiting, AllocError>
-    ensures { IfOk result (λ w. plain_waiting w ≡ (or_state (plain_waiting waiting) [] (tree_of operand)).waiting) }
-{
-    let left = whole(alloc, waiting, operand)?;
-    Ok(Waiting {
-        or_left: Some(left),
-        and_left: None,
-        not_left: None,
-    })
-}
-
-// The phrase that a word or a quoted part is in this column.
-fn phrase_of(
-    alloc: Global,
-    column: Option<usize>,
-    lexeme: Lexeme,
-) -> Result<Option<Phrase>, AllocError>
-    ensures { IfOk result (λ p. option_map plain_phrase p ≡ phrase_of column (plain_lexeme lexeme)) }
-{
-    match lexeme {
-        Lexeme::Word(term) => Ok(Some(Phrase {
-            filter: column,
-            terms: vec![in alloc; term]?,
-        })),
-        Lexeme::Quoted(terms) => Ok(Some(Phrase {
-            filter: column,
-            terms,
-        })),
-        _ => Ok(None),
-    }
-}
-
-// A chain begins with this lexeme, if it is a phrase.
-fn first_phrase(
-    alloc: Global,
-    column: Option<usize>,
-    lexeme: Lexeme,
-) -> Result<Option<Last>, AllocError>
-    ensures { IfOk result (λ last. option_map plain_last last
-        ≡ option_map (λ p. chained p []) (phrase_of column (plain_lexeme lexeme))) }
-{
-    match phrase_of(alloc, column, lexeme)? {
-        None => Ok(None),
-        Some(first) => Ok(Some(Last::Chained(Linked {
-            first,
-            links: Vec::new(alloc),
-        }))),
-    }
-}
-
-// An operand begins with this lexeme, if one can.
-fn begin(
-    alloc: Global,
-    default: Option<usize>,
-    waiting: Waiting,
-    mut outer: Vec<Waiting>,
-    lexeme: Lexeme,
-) -> Result<Option<State>, AllocError>
-    ensures { IfOk result (λ next. option_map plain_state next
-        ≡ begin default (plain_waiting waiting) (plain_outer outer.items) (plain_lexeme lexeme)) }
-{
-    let last = match lexeme {
-        Lexeme::Open => {
-            outer.push(waiting)?;
-            return Ok(Some(begun(outer)));
-        }
-        Lexeme::Filter(column) => Some(Last::Filtered(column)),
-        other => first_phrase(alloc, default, other)?,
-    };
-    Ok(last.map(|last| State {
-        waiting,
-        outer,
-        last,
-    }))
-}
-
-// The operand in a parenthesis is whole, and so is the parenthesis.
-fn close(mut outer: Vec<Waiting>, operand: Query) -> Option<State>
-    ensures { option_map plain_state result ≡ close (plain_outer outer.items) (tree_of operand) }
-{
-    let waiting = outer.pop()?;
-    Some(State {
-        waiting,
-        outer,
-        last: Last::Whole(operand),
-    })
-}
-
-// A lexeme after an operand, where it isn't a NEAR that belongs to it.
-fn after_operand(
-    alloc: Global,
-    default: Option<usize>,
-    waiting: Waiting,
-    outer: Vec<Waiting>,
-    operand: Query,
-    lexeme: Lexeme,
-) -> Result<Option<State>, AllocError>
-    ensures { IfOk result (λ next. option_map plain_state next
-        ≡ after_operand default (plain_waiting waiting) (plain_outer outer.items) (tree_of operand) (plain_lexeme lexeme)) }
-{
-    let waiting = match lexeme {
-        Lexeme::Close => return Ok(close(outer, whole(alloc, waiting, operand)?)),
-        Lexeme::And => after_and(alloc, waiting, operand)?,
-        Lexeme::Or => after_or(alloc, waiting, operand)?,
-        Lexeme::Not => after_not(alloc, waiting, operand)?,
-        other => {
-            let waiting = after_and(alloc, waiting, operand)?;
-            return begin(alloc, default, waiting, outer, other);
-        }
-    };
-    Ok(Some(State {
-        waiting,
-        outer,
-        last: Last::Operator,
-    }))
-}
-
-// The query that a chain is: a phrase where it has no links.
-fn query_of_chain(chain: Linked) -> Query
-    ensures { tree_of result ≡ tree_of_chain (plain_phrase chain.first) (map plain_link chain.links.items) }
-{
-    let Linked { first, links } = chain;
-    if links.is_empty() {
-        Query::Phrase(first)
-    } else {
-        Query::Near(Chain { first, links })
-    }
-}
-
-// NEAR joins one more phrase to the chain, if the lexeme is one.
-fn next_phrase(
-    alloc: Global,
-    chain: Linked,
-    most: usize,
-    column: Option<usize>,
-    lexeme: Lexeme,
-) -> Result<Option<Last>, AllocError>
-    ensures { IfOk result (λ last. option_map plain_last last
-        ≡ option_map (λ q. chained (plain_phrase chain.first) (map plain_link chain.links.items ++ record { most = most; to = q } ∷ [])) (phrase_of column (plain_lexeme lexeme))) }
-{
-    let Linked { first, mut links } = chain;
-    match phrase_of(alloc, column, lexeme)? {
-        None => Ok(None),
-        Some(to) => {
-            links.push(Link { most, to })?;
-            Ok(Some(Last::Chained(Linked { first, links })))
-        }
     }
 }
 
@@ -328,6 +119,233 @@ fn step(
     }))
 }
 
+// An operand begins with this lexeme, if one can.
+fn begin(
+    alloc: Global,
+    default: Option<usize>,
+    waiting: Waiting,
+    mut outer: Vec<Waiting>,
+    lexeme: Lexeme,
+) -> Result<Option<State>, AllocError>
+    ensures { IfOk result (λ next. option_map plain_state next
+        ≡ begin default (plain_waiting waiting) (plain_outer outer.items) (plain_lexeme lexeme)) }
+{
+    let last = match lexeme {
+        Lexeme::Open => {
+            outer.push(waiting)?;
+            return Ok(Some(begun(outer)));
+        }
+        Lexeme::Filter(column) => Some(Last::Filtered(column)),
+        other => first_phrase(alloc, default, other)?,
+    };
+    Ok(last.map(|last| State {
+        waiting,
+        outer,
+        last,
+    }))
+}
+
+// A chain begins with this lexeme, if it is a phrase.
+fn first_phrase(
+    alloc: Global,
+    column: Option<usize>,
+    lexeme: Lexeme,
+) -> Result<Option<Last>, AllocError>
+    ensures { IfOk result (λ last. option_map plain_last last
+        ≡ option_map (λ p. chained p []) (phrase_of column (plain_lexeme lexeme))) }
+{
+    match phrase_of(alloc, column, lexeme)? {
+        None => Ok(None),
+        Some(first) => Ok(Some(Last::Chained(Linked {
+            first,
+            links: Vec::new(alloc),
+        }))),
+    }
+}
+
+// The phrase that a word or a quoted part is in this column.
+fn phrase_of(
+    alloc: Global,
+    column: Option<usize>,
+    lexeme: Lexeme,
+) -> Result<Option<Phrase>, AllocError>
+    ensures { IfOk result (λ p. option_map plain_phrase p ≡ phrase_of column (plain_lexeme lexeme)) }
+{
+    match lexeme {
+        Lexeme::Word(term) => Ok(Some(Phrase {
+            filter: column,
+            terms: vec![in alloc; term]?,
+        })),
+        Lexeme::Quoted(terms) => Ok(Some(Phrase {
+            filter: column,
+            terms,
+        })),
+        _ => Ok(None),
+    }
+}
+
+// A lexeme after an operand, where it isn't a NEAR that belongs to it.
+fn after_operand(
+    alloc: Global,
+    default: Option<usize>,
+    waiting: Waiting,
+    outer: Vec<Waiting>,
+    operand: Query,
+    lexeme: Lexeme,
+) -> Result<Option<State>, AllocError>
+    ensures { IfOk result (λ next. option_map plain_state next
+        ≡ after_operand default (plain_waiting waiting) (plain_outer outer.items) (tree_of operand) (plain_lexeme lexeme)) }
+{
+    let waiting = match lexeme {
+        Lexeme::Close => return Ok(close(outer, whole(alloc, waiting, operand)?)),
+        Lexeme::And => after_and(alloc, waiting, operand)?,
+        Lexeme::Or => after_or(alloc, waiting, operand)?,
+        Lexeme::Not => after_not(alloc, waiting, operand)?,
+        other => {
+            let waiting = after_and(alloc, waiting, operand)?;
+            return begin(alloc, default, waiting, outer, other);
+        }
+    };
+    Ok(Some(State {
+        waiting,
+        outer,
+        last: Last::Operator,
+    }))
+}
+
+// The operand in a parenthesis is whole, and so is the parenthesis.
+fn close(mut outer: Vec<Waiting>, operand: Query) -> Option<State>
+    ensures { option_map plain_state result ≡ close (plain_outer outer.items) (tree_of operand) }
+{
+    let waiting = outer.pop()?;
+    Some(State {
+        waiting,
+        outer,
+        last: Last::Whole(operand),
+    })
+}
+
+// The whole of what waits and the operand.
+fn whole(alloc: Global, waiting: Waiting, operand: Query) -> Result<Query, AllocError>
+    ensures { IfOk result (λ q. tree_of q ≡ or_whole (plain_waiting waiting) (tree_of operand)) }
+{
+    let Waiting {
+        or_left,
+        and_left,
+        not_left,
+    } = waiting;
+    let right = joined_by_not(alloc, not_left, operand)?;
+    let right = joined_by_and(alloc, and_left, right)?;
+    joined_by_or(alloc, or_left, right)
+}
+
+fn joined_by_not(alloc: Global, left: Option<Query>, right: Query) -> Result<Query, AllocError>
+    ensures { IfOk result (λ q. tree_of q ≡ join without (option_map tree_of left) (tree_of right)) }
+{
+    match left {
+        None => Ok(right),
+        Some(left) => Ok(Query::Not(Box::new(alloc, left)?, Box::new(alloc, right)?)),
+    }
+}
+
+fn joined_by_and(alloc: Global, left: Option<Query>, right: Query) -> Result<Query, AllocError>
+    ensures { IfOk result (λ q. tree_of q ≡ join both (option_map tree_of left) (tree_of right)) }
+{
+    match left {
+        None => Ok(right),
+        Some(left) => Ok(Query::And(Box::new(alloc, left)?, Box::new(alloc, right)?)),
+    }
+}
+
+fn joined_by_or(alloc: Global, left: Option<Query>, right: Query) -> Result<Query, AllocError>
+    ensures { IfOk result (λ q. tree_of q ≡ join either (option_map tree_of left) (tree_of right)) }
+{
+    match left {
+        None => Ok(right),
+        Some(left) => Ok(Query::Or(Box::new(alloc, left)?, Box::new(alloc, right)?)),
+    }
+}
+
+// What waits after the operand and AND.
+fn after_and(alloc: Global, waiting: Waiting, operand: Query) -> Result<Waiting, AllocError>
+    ensures { IfOk result (λ w. plain_waiting w ≡ (and_state (plain_waiting waiting) [] (tree_of operand)).waiting) }
+{
+    let Waiting {
+        or_left,
+        and_left,
+        not_left,
+    } = waiting;
+    let right = joined_by_not(alloc, not_left, operand)?;
+    let left = joined_by_and(alloc, and_left, right)?;
+    Ok(Waiting {
+        or_left,
+        and_left: Some(left),
+        not_left: None,
+    })
+}
+
+// What waits after the operand and OR.
+fn after_or(alloc: Global, waiting: Waiting, operand: Query) -> Result<Waiting, AllocError>
+    ensures { IfOk result (λ w. plain_waiting w ≡ (or_state (plain_waiting waiting) [] (tree_of operand)).waiting) }
+{
+    let left = whole(alloc, waiting, operand)?;
+    Ok(Waiting {
+        or_left: Some(left),
+        and_left: None,
+        not_left: None,
+    })
+}
+
+// What waits after the operand and NOT.
+fn after_not(alloc: Global, waiting: Waiting, operand: Query) -> Result<Waiting, AllocError>
+    ensures { IfOk result (λ w. plain_waiting w ≡ (not_state (plain_waiting waiting) [] (tree_of operand)).waiting) }
+{
+    let Waiting {
+        or_left,
+        and_left,
+        not_left,
+    } = waiting;
+    let left = joined_by_not(alloc, not_left, operand)?;
+    Ok(Waiting {
+        or_left,
+        and_left,
+        not_left: Some(left),
+    })
+}
+
+// The query that a chain is: a phrase where it has no links.
+fn query_of_chain(chain: Linked) -> Query
+    ensures { tree_of result ≡ tree_of_chain (plain_phrase chain.first) (map plain_link chain.links.items) }
+{
+    let Linked { first, links } = chain;
+    if links.is_empty() {
+        Query::Phrase(first)
+    } else {
+        Query::Near(Chain { first, links })
+    }
+}
+
+// NEAR joins one more phrase to the chain, if the lexeme is one.
+fn next_phrase(
+    alloc: Global,
+    chain: Linked,
+    most: usize,
+    column: Option<usize>,
+    lexeme: Lexeme,
+) -> Result<Option<Last>, AllocError>
+    ensures { IfOk result (λ last. option_map plain_last last
+        ≡ option_map (λ q. chained (plain_phrase chain.first) (map plain_link chain.links.items ++ record { most = most; to = q } ∷ [])) (phrase_of column (plain_lexeme lexeme))) }
+{
+    let Linked { first, mut links } = chain;
+    match phrase_of(alloc, column, lexeme)? {
+        None => Ok(None),
+        Some(to) => {
+            links.push(Link { most, to })?;
+            Ok(Some(Last::Chained(Linked { first, links })))
+        }
+    }
+}
+
 // The query of a state after which nothing comes, if it has one.
 fn finish(alloc: Global, state: State) -> Result<Option<Query>, AllocError>
     ensures { IfOk result (λ q. option_map tree_of q
@@ -347,22 +365,4 @@ fn finish(alloc: Global, state: State) -> Result<Option<Query>, AllocError>
         _ => return Ok(None),
     };
     Ok(Some(whole(alloc, waiting, operand)?))
-}
-
-/// The query as which these lexemes read, if they read as one.
-pub fn query_from(
-    alloc: Global,
-    default: Option<usize>,
-    lexemes: Vec<Lexeme>,
-) -> Result<Option<Query>, AllocError>
-    ensures { IfOk result (λ q. option_map tree_of q ≡ tree_from default (map plain_lexeme lexemes.items)) }
-{
-    let mut state = begun(Vec::new(alloc));
-    for lexeme in lexemes {
-        match step(alloc, default, state, lexeme)? {
-            None => return Ok(None),
-            Some(next) => state = next,
-        }
-    }
-    finish(alloc, state)
 }

@@ -6,9 +6,9 @@ ghost use Rattle.ft_query.specs.Occurs.{offset_numbers, offsets_text};
 mod cursor;
 mod load;
 mod matches;
+mod places;
 mod search;
 mod starts;
-mod steps;
 mod visit;
 
 use itoa::Buffer;

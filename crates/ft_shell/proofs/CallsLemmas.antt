@@ -3,11 +3,11 @@ use Rattle.std.proofs.Common.{◌≡◌, ℕ, Bool, true, false, List, [], ◌�
 use Rattle.std.specs.Prelude.{MatchBool, codes, map}
 use Rattle.sqlite.specs.Store.{Ghosts}
 use Rattle.sqlite.specs.Held.{Held}
-use Rattle.shell_text.specs.Print.{Look}
+use Rattle.shell_text.specs.Print.{Settings}
 use Rattle.shell_text.specs.Units.{Member, Sql, Dot, Fault}
 use Rattle.shell_text.specs.Dot.{dot_words_of}
 use Rattle.shell_text.specs.Words.{is_unclosed}
-use Rattle.ft_index.specs.Kept.{Known, Call, Noted, DoesCall, OnlyLooks, Runs}
+use Rattle.ft_index.specs.Kept.{FullText, Call, Noted, DoesCall, OnlyLooks, Runs}
 use Rattle.ft_statements.specs.Words.{tokens_of}
 use Rattle.ft_statements.specs.Plain.{asks, made_name}
 use Rattle.ft_shell.specs.Shell.{Shell}
@@ -22,7 +22,7 @@ use Rattle.ft_shell.specs.TablesTurns.{TablesTurn}
 use Rattle.ft_shell.specs.ImportTurns as imports
 use Rattle.ft_shell.specs.TablesTurns as tables
 use Rattle.ft_shell.specs.PlainStatements.{CommandTurn, PlainTurn, QueryTurn, done, refused}
-use Rattle.ft_statements.specs.Statements.{Class, Plain, FullText, class_of}
+use Rattle.ft_statements.specs.Statements.{Class, Plain, FullText as FullTextClass, class_of}
 use Rattle.ft_shell.specs.StatementTurns.{ClassTurn, Declines, StatementTurn, table_names}
 use Rattle.ft_shell.specs.TurnCalls.{bytes_in, class_in, closed_in, command_in, delimited_in, dot_in, file_in, named_in, new_in, note_in, plain_in, statement_in, table_in, text_in}
 use Rattle.ft_shell.proofs.Spelled.{MayNote, MayRead, NoCall, CallsOf, CallsOfClass, CallsOfDot, CallsOfImport, HasRecords, OneCommand}
@@ -32,150 +32,150 @@ use Rattle.ft_shell.specs.Turns.{Body, Turn, Turns, calls_in}
 -- ---- calls
 
 -- calls are of this kind, and all that changes the tables
-abbrev pub Called : {S : Type 0} → Ghosts S → (List Call → Type 0) → List Call → Known S → Known S → Type 0
+abbrev pub Called : {S : Type 0} → Ghosts S → (List Call → Type 0) → List Call → FullText S → FullText S → Type 0
 Called h Spelled calls old new = Spelled calls × Runs h old calls new
 
 -- nothing is called
 abbrev Uncalled : List Call → Type 0
 Uncalled calls = calls ≡ []
 
-calls_nothing : {S : Type 0} (h : Ghosts S) (old new : Known S) → new ≡ old → Called h Uncalled [] old new
+calls_nothing : {S : Type 0} (h : Ghosts S) (old new : FullText S) → new ≡ old → Called h Uncalled [] old new
 calls_nothing h old new same = (refl, same)
 
-notes_none : {S : Type 0} (h : Ghosts S) (made : Option (List ℕ)) (old new : Known S) → new ≡ old → Called h (MayNote made) [] old new
+notes_none : {S : Type 0} (h : Ghosts S) (made : Option (List ℕ)) (old new : FullText S) → new ≡ old → Called h (MayNote made) [] old new
 notes_none h None old new same = (refl, same)
 notes_none h (Some name) old new same = (inl refl, same)
 
-notes_one : {S : Type 0} (h : Ghosts S) (old new : Known S) (name : List ℕ) (is_done : Bool) → DoesCall h old (Noted name is_done) new → Called h (MayNote (Some name)) (Noted name is_done ∷ []) old new
+notes_one : {S : Type 0} (h : Ghosts S) (old new : FullText S) (name : List ℕ) (is_done : Bool) → DoesCall h old (Noted name is_done) new → Called h (MayNote (Some name)) (Noted name is_done ∷ []) old new
 notes_one h old new name is_done does = (inr (is_done, refl), (new, does, refl))
 
-same_shell : {P S : Type 0} (h : Ghosts S) (old new : Shell P S) → new ≡ old → Called h Uncalled [] old.known new.known
-same_shell h old new same = calls_nothing h old.known new.known (ap (λ (s : Shell _ _). s.known) same)
+same_shell : {P S : Type 0} (h : Ghosts S) (old new : Shell P S) → new ≡ old → Called h Uncalled [] old.full_text new.full_text
+same_shell h old new same = calls_nothing h old.full_text new.full_text (ap (λ (s : Shell _ _). s.full_text) same)
 
 -- ---- statements
 
-notes_calls : {S : Type 0} (h : Ghosts S) (look : Look) (line : ℕ) (made : Option (List ℕ)) (old new : Known S) (told : Told) → (it : MaybeNotes h look line made old new told) → Called h (MayNote made) (note_in h look line made old new told it) old new
-notes_calls h look line None old new told it = notes_none h None old new it.0
-notes_calls h look line (Some name) old new told it = notes_one h old new name it.is_noted it.notes
+notes_calls : {S : Type 0} (h : Ghosts S) (settings : Settings) (line : ℕ) (made : Option (List ℕ)) (old new : FullText S) (told : Told) → (it : MaybeNotes h settings line made old new told) → Called h (MayNote made) (note_in h settings line made old new told it) old new
+notes_calls h settings line None old new told it = notes_none h None old new it.0
+notes_calls h settings line (Some name) old new told it = notes_one h old new name it.is_noted it.notes
 
-command_calls : {P S : Type 0} (g : Ghosts P) (h : Ghosts S) (look : Look) (line : ℕ) (text : List ℕ) (made : Option (List ℕ)) (old new : Held P) (before after : Known S) (told : Told) → (it : CommandTurn g h look line text made old new before after told) → Called h (MayNote made) (command_in g h look line text old new before after told made it) before after
-command_calls g h look line text made old new before after told (done count is notes) = notes_calls h look line made before after told notes
-command_calls g h look line text made old new before after told (refused e is same tells) = notes_none h made before after same
+command_calls : {P S : Type 0} (g : Ghosts P) (h : Ghosts S) (settings : Settings) (line : ℕ) (text : List ℕ) (made : Option (List ℕ)) (old new : Held P) (before after : FullText S) (told : Told) → (it : CommandTurn g h settings line text made old new before after told) → Called h (MayNote made) (command_in g h settings line text old new before after told made it) before after
+command_calls g h settings line text made old new before after told (done count is notes) = notes_calls h settings line made before after told notes
+command_calls g h settings line text made old new before after told (refused e is same tells) = notes_none h made before after same
 
-plain_calls : {P S : Type 0} (g : Ghosts P) (h : Ghosts S) (look : Look) (line : ℕ) (text : List ℕ) (old new : Held P) (before after : Known S) (told : Told) → (it : PlainTurn g h look line text old new before after told) → Called h (MayNote (made_name (tokens_of text))) (plain_in g h look line text old new before after told (asks (tokens_of text)) it) before after
-plain_calls g h look line text old new before after told it = go (asks (tokens_of text)) it
+plain_calls : {P S : Type 0} (g : Ghosts P) (h : Ghosts S) (settings : Settings) (line : ℕ) (text : List ℕ) (old new : Held P) (before after : FullText S) (told : Told) → (it : PlainTurn g h settings line text old new before after told) → Called h (MayNote (made_name (tokens_of text))) (plain_in g h settings line text old new before after told (asks (tokens_of text)) it) before after
+plain_calls g h settings line text old new before after told it = go (asks (tokens_of text)) it
   where
-    go : (is_query : Bool) (it : MatchBool is_query (QueryTurn g look line text old new told × (after ≡ before)) (CommandTurn g h look line text (made_name (tokens_of text)) old new before after told)) → Called h (MayNote (made_name (tokens_of text))) (plain_in g h look line text old new before after told is_query it) before after
+    go : (is_query : Bool) (it : MatchBool is_query (QueryTurn g settings line text old new told × (after ≡ before)) (CommandTurn g h settings line text (made_name (tokens_of text)) old new before after told)) → Called h (MayNote (made_name (tokens_of text))) (plain_in g h settings line text old new before after told is_query it) before after
     go true it = notes_none h (made_name (tokens_of text)) before after it.1
-    go false it = command_calls g h look line text (made_name (tokens_of text)) old new before after told it
+    go false it = command_calls g h settings line text (made_name (tokens_of text)) old new before after told it
 
-class_calls : {P S : Type 0} (g : Ghosts P) (h : Ghosts S) (look : Look) (line : ℕ) (text : List ℕ) (old new : Held P) (before after : Known S) (told : Told) (class : Option Class) (it : ClassTurn g h look line text old new before after told class) → Called h (λ calls. CallsOfClass look line told calls (made_name (tokens_of text)) class) (class_in g h look line text old new before after told class it) before after
-class_calls g h look line text old new before after told None it = calls_nothing h before after it.1
-class_calls g h look line text old new before after told (Some Plain) it = plain_calls g h look line text old new before after told it
-class_calls g h look line text old new before after told (Some (FullText command)) it = (inl (it.1.answer, refl, it.1.tells), (after, it.1.executes, refl))
+class_calls : {P S : Type 0} (g : Ghosts P) (h : Ghosts S) (settings : Settings) (line : ℕ) (text : List ℕ) (old new : Held P) (before after : FullText S) (told : Told) (class : Option Class) (it : ClassTurn g h settings line text old new before after told class) → Called h (λ calls. CallsOfClass settings line told calls (made_name (tokens_of text)) class) (class_in g h settings line text old new before after told class it) before after
+class_calls g h settings line text old new before after told None it = calls_nothing h before after it.1
+class_calls g h settings line text old new before after told (Some Plain) it = plain_calls g h settings line text old new before after told it
+class_calls g h settings line text old new before after told (Some (FullTextClass command)) it = (inl (it.1.answer, refl, it.1.tells), (after, it.1.executes, refl))
 
-class_none : {S : Type 0} (h : Ghosts S) (look : Look) (line : ℕ) (made : Option (List ℕ)) (before after : Known S) (told : Told) (class : Option Class) → after ≡ before → told ≡ lacks_memory look line → Called h (λ calls. CallsOfClass look line told calls made class) [] before after
-class_none h look line made before after told None same is = calls_nothing h before after same
-class_none h look line made before after told (Some Plain) same is = notes_none h made before after same
-class_none h look line made before after told (Some (FullText command)) same is = (inr (refl, codes "out of memory", is), same)
+class_none : {S : Type 0} (h : Ghosts S) (settings : Settings) (line : ℕ) (made : Option (List ℕ)) (before after : FullText S) (told : Told) (class : Option Class) → after ≡ before → told ≡ lacks_memory settings line → Called h (λ calls. CallsOfClass settings line told calls made class) [] before after
+class_none h settings line made before after told None same is = calls_nothing h before after same
+class_none h settings line made before after told (Some Plain) same is = notes_none h made before after same
+class_none h settings line made before after told (Some (FullTextClass command)) same is = (inr (refl, codes "out of memory", is), same)
 
-statement_calls : {P S : Type 0} (g : Ghosts P) (h : Ghosts S) (look : Look) (line : ℕ) (text : List ℕ) (old new : Held P) (before after : Known S) (told : Told) → (it : StatementTurn g h look line text old new before after told) →
-    Called h (λ calls. MatchBool (is_unclosed text) (calls ≡ []) (CallsOfClass look line told calls (made_name (tokens_of text)) (class_of (table_names before) (tokens_of text)))) (statement_in g h look line text old new before after told it) before after
-statement_calls g h look line text old new before after told (inr nothing) = go (is_unclosed text)
+statement_calls : {P S : Type 0} (g : Ghosts P) (h : Ghosts S) (settings : Settings) (line : ℕ) (text : List ℕ) (old new : Held P) (before after : FullText S) (told : Told) → (it : StatementTurn g h settings line text old new before after told) →
+    Called h (λ calls. MatchBool (is_unclosed text) (calls ≡ []) (CallsOfClass settings line told calls (made_name (tokens_of text)) (class_of (table_names before) (tokens_of text)))) (statement_in g h settings line text old new before after told it) before after
+statement_calls g h settings line text old new before after told (inr nothing) = go (is_unclosed text)
   where
-    go : (is_open : Bool) → Called h (λ calls. MatchBool is_open (calls ≡ []) (CallsOfClass look line told calls (made_name (tokens_of text)) (class_of (table_names before) (tokens_of text)))) [] before after
+    go : (is_open : Bool) → Called h (λ calls. MatchBool is_open (calls ≡ []) (CallsOfClass settings line told calls (made_name (tokens_of text)) (class_of (table_names before) (tokens_of text)))) [] before after
     go true = calls_nothing h before after nothing.1
-    go false = class_none h look line (made_name (tokens_of text)) before after told (class_of (table_names before) (tokens_of text)) nothing.1 nothing.2
-statement_calls g h look line text old new before after told (inl it) = go (is_unclosed text) it
+    go false = class_none h settings line (made_name (tokens_of text)) before after told (class_of (table_names before) (tokens_of text)) nothing.1 nothing.2
+statement_calls g h settings line text old new before after told (inl it) = go (is_unclosed text) it
   where
-    go : (is_open : Bool) (it : MatchBool is_open (Declines g h look line text old new before after told (codes "incomplete input")) (ClassTurn g h look line text old new before after told (class_of (table_names before) (tokens_of text)))) →
-        Called h (λ calls. MatchBool is_open (calls ≡ []) (CallsOfClass look line told calls (made_name (tokens_of text)) (class_of (table_names before) (tokens_of text)))) (closed_in g h look line text old new before after told is_open it) before after
+    go : (is_open : Bool) (it : MatchBool is_open (Declines g h settings line text old new before after told (codes "incomplete input")) (ClassTurn g h settings line text old new before after told (class_of (table_names before) (tokens_of text)))) →
+        Called h (λ calls. MatchBool is_open (calls ≡ []) (CallsOfClass settings line told calls (made_name (tokens_of text)) (class_of (table_names before) (tokens_of text)))) (closed_in g h settings line text old new before after told is_open it) before after
     go true it = calls_nothing h before after it.1
-    go false it = class_calls g h look line text old new before after told (class_of (table_names before) (tokens_of text)) it
+    go false it = class_calls g h settings line text old new before after told (class_of (table_names before) (tokens_of text)) it
 
 -- what only looks does what a note does that is refused
-looks_call : {S : Type 0} (h : Ghosts S) (old new : Known S) → OnlyLooks h old new → Called h MayRead (Noted [] false ∷ []) old new
+looks_call : {S : Type 0} (h : Ghosts S) (old new : FullText S) → OnlyLooks h old new → Called h MayRead (Noted [] false ∷ []) old new
 looks_call h old new looks = (inr refl, (new, record { was_up = looks.was_up; noted = looks.value; tables = looks.tables }, refl))
 
-tables_calls : {P S : Type 0} (g : Ghosts P) (h : Ghosts S) (look : Look) (line : ℕ) (old new : Held P) (before after : Known S) (told : Told) → TablesTurn g h look line old new before after told → Called h MayRead (Noted [] false ∷ []) before after
-tables_calls g h look line old new before after told (tables.lists noted looks is it) = looks_call h before after looks
-tables_calls g h look line old new before after told (tables.refused looks same tells) = looks_call h before after looks
+tables_calls : {P S : Type 0} (g : Ghosts P) (h : Ghosts S) (settings : Settings) (line : ℕ) (old new : Held P) (before after : FullText S) (told : Told) → TablesTurn g h settings line old new before after told → Called h MayRead (Noted [] false ∷ []) before after
+tables_calls g h settings line old new before after told (tables.lists noted looks is it) = looks_call h before after looks
+tables_calls g h settings line old new before after told (tables.refused looks same tells) = looks_call h before after looks
 
-note_calls : {S : Type 0} (h : Ghosts S) (look : Look) (line : ℕ) (name : List ℕ) (old new : Known S) (told : Told) → (it : NoteTurn h look line name old new told) → Called h (MayNote (Some name)) (Noted name it.is_noted ∷ []) old new
-note_calls h look line name old new told it = notes_one h old new name it.is_noted it.notes
+note_calls : {S : Type 0} (h : Ghosts S) (settings : Settings) (line : ℕ) (name : List ℕ) (old new : FullText S) (told : Told) → (it : NoteTurn h settings line name old new told) → Called h (MayNote (Some name)) (Noted name it.is_noted ∷ []) old new
+note_calls h settings line name old new told it = notes_one h old new name it.is_noted it.notes
 
 -- ---- imports
 
 -- one Insert of these records
-abbrev Inserts : Look → ℕ → Import → ℕ → List (ℕ × List (List ℕ)) → Told → List Call → Type 0
-Inserts look line what n rows told calls = OneCommand look line told calls (Insert what.table None (map (fitted n) (records_in rows))) (imports.insert_told look line (warnings what.file n rows))
+abbrev Inserts : Settings → ℕ → Import → ℕ → List (ℕ × List (List ℕ)) → Told → List Call → Type 0
+Inserts settings line what n rows told calls = OneCommand settings line told calls (Insert what.table None (map (fitted n) (records_in rows))) (imports.insert_told settings line (warnings what.file n rows))
 
-text_calls : {S : Type 0} (h : Ghosts S) (look : Look) (line : ℕ) (what : Import) (n : ℕ) (rows : List (ℕ × List (List ℕ))) (before after : Known S) (told : Told) → (it : TextImport h look line what n rows before after told) →
-    Called h (λ calls. Inserts look line what n rows told calls ⊎ NoCall look line told calls) (text_in h look line what n rows before after told it) before after
-text_calls h look line what n rows before after told (executed it) = (inl (it.answer, refl, it.tells), (after, it.executes, refl))
-text_calls h look line what n rows before after told (no_memory same is) = (inr (refl, codes "out of memory", is), same)
+text_calls : {S : Type 0} (h : Ghosts S) (settings : Settings) (line : ℕ) (what : Import) (n : ℕ) (rows : List (ℕ × List (List ℕ))) (before after : FullText S) (told : Told) → (it : TextImport h settings line what n rows before after told) →
+    Called h (λ calls. Inserts settings line what n rows told calls ⊎ NoCall settings line told calls) (text_in h settings line what n rows before after told it) before after
+text_calls h settings line what n rows before after told (executed it) = (inl (it.answer, refl, it.tells), (after, it.executes, refl))
+text_calls h settings line what n rows before after told (no_memory same is) = (inr (refl, codes "out of memory", is), same)
 
-new_calls : {P S : Type 0} (g : Ghosts P) (h : Ghosts S) (look : Look) (line : ℕ) (what : Import) (rows : List (ℕ × List (List ℕ))) (old new : Held P) (before after : Known S) (told : Told) → (it : IntoNew g look line what rows h old new before after told) → Called h (MayNote (Some what.table)) (new_in g h look line what rows old new before after told it) before after
-new_calls g h look line what rows old new before after told (no_header none same kept is) = notes_none h (Some what.table) before after kept
-new_calls g h look line what rows old new before after told (too_wide first rest are wide same kept is) = notes_none h (Some what.table) before after kept
-new_calls g h look line what rows old new before after told (imports.made first rest are narrow commits (end, notes, is)) = note_calls h look line what.table before after end notes
-new_calls g h look line what rows old new before after told (declined first rest are narrow why kept is) = notes_none h (Some what.table) before after kept
-new_calls g h look line what rows old new before after told (no_memory kept is) = notes_none h (Some what.table) before after kept
+new_calls : {P S : Type 0} (g : Ghosts P) (h : Ghosts S) (settings : Settings) (line : ℕ) (what : Import) (rows : List (ℕ × List (List ℕ))) (old new : Held P) (before after : FullText S) (told : Told) → (it : IntoNew g settings line what rows h old new before after told) → Called h (MayNote (Some what.table)) (new_in g h settings line what rows old new before after told it) before after
+new_calls g h settings line what rows old new before after told (no_header none same kept is) = notes_none h (Some what.table) before after kept
+new_calls g h settings line what rows old new before after told (too_wide first rest are wide same kept is) = notes_none h (Some what.table) before after kept
+new_calls g h settings line what rows old new before after told (imports.made first rest are narrow commits (end, notes, is)) = note_calls h settings line what.table before after end notes
+new_calls g h settings line what rows old new before after told (declined first rest are narrow why kept is) = notes_none h (Some what.table) before after kept
+new_calls g h settings line what rows old new before after told (no_memory kept is) = notes_none h (Some what.table) before after kept
 
-plain_import_calls : {P S : Type 0} (g : Ghosts P) (h : Ghosts S) (look : Look) (line : ℕ) (what : Import) (rows : List (ℕ × List (List ℕ))) (old new : Held P) (before after : Known S) (told : Told) → (it : PlainImport g look line what rows h old new before after told) → Called h (MayNote (Some what.table)) (table_in g h look line what rows old new before after told it) before after
-plain_import_calls g h look line what rows old new before after told (there found tries same it) = notes_none h (Some what.table) before after same
-plain_import_calls g h look line what rows old new before after told (new_table found tries it) = new_calls g h look line what rows found new before after told it
-plain_import_calls g h look line what rows old new before after told (untried tries same is) = notes_none h (Some what.table) before after same
+plain_import_calls : {P S : Type 0} (g : Ghosts P) (h : Ghosts S) (settings : Settings) (line : ℕ) (what : Import) (rows : List (ℕ × List (List ℕ))) (old new : Held P) (before after : FullText S) (told : Told) → (it : PlainImport g settings line what rows h old new before after told) → Called h (MayNote (Some what.table)) (table_in g h settings line what rows old new before after told it) before after
+plain_import_calls g h settings line what rows old new before after told (there found tries same it) = notes_none h (Some what.table) before after same
+plain_import_calls g h settings line what rows old new before after told (new_table found tries it) = new_calls g h settings line what rows found new before after told it
+plain_import_calls g h settings line what rows old new before after told (untried tries same is) = notes_none h (Some what.table) before after same
 
-module _ {P S : Type 0} (g : Ghosts P) (h : Ghosts S) (look : Look) (line : ℕ) (what : Import) (old new : Held P) (before after : Known S) (told : Told) (holds : Files) where
+module _ {P S : Type 0} (g : Ghosts P) (h : Ghosts S) (settings : Settings) (line : ℕ) (what : Import) (old new : Held P) (before after : FullText S) (told : Told) (holds : Files) where
   abbrev ImportCalls : Option ℕ → List Call → Type 0
-  ImportCalls found calls = Called h (λ calls. CallsOfImport look line told calls holds what found) calls before after
+  ImportCalls found calls = Called h (λ calls. CallsOfImport settings line told calls holds what found) calls before after
 
   -- where nothing is called, and a fault line is told
-  import_none : (why : List ℕ) (there : Option ℕ) → after ≡ before → told ≡ blames look line why → ImportCalls there []
+  import_none : (why : List ℕ) (there : Option ℕ) → after ≡ before → told ≡ blames settings line why → ImportCalls there []
   import_none why None same is = notes_none h (Some what.table) before after same
   import_none why (Some n) same is = (inr (refl, why, is), same)
 
-  named_calls : (found : List (List (List ℕ))) → HasRecords look holds what found → (n : Option ℕ) (it : IntoNamed g h look line what old new before after told (kept what.skip found) n) → ImportCalls n (named_in g h look line what old new before after told (kept what.skip found) n it)
-  named_calls found has (Some n) it = go (text_in h look line what n (kept what.skip found) before after told it.1) (text_calls h look line what n (kept what.skip found) before after told it.1)
+  named_calls : (found : List (List (List ℕ))) → HasRecords settings holds what found → (n : Option ℕ) (it : IntoNamed g h settings line what old new before after told (kept what.skip found) n) → ImportCalls n (named_in g h settings line what old new before after told (kept what.skip found) n it)
+  named_calls found has (Some n) it = go (text_in h settings line what n (kept what.skip found) before after told it.1) (text_calls h settings line what n (kept what.skip found) before after told it.1)
     where
-      go : (calls : List Call) → Called h (λ calls. Inserts look line what n (kept what.skip found) told calls ⊎ NoCall look line told calls) calls before after → ImportCalls (Some n) calls
+      go : (calls : List Call) → Called h (λ calls. Inserts settings line what n (kept what.skip found) told calls ⊎ NoCall settings line told calls) calls before after → ImportCalls (Some n) calls
       go calls (inl one, made) = (inl (found, has, one), made)
       go calls (inr none, made) = (inr none, made)
-  named_calls found has None it = plain_import_calls g h look line what (kept what.skip found) old new before after told it
+  named_calls found has None it = plain_import_calls g h settings line what (kept what.skip found) old new before after told it
 
-  bytes_calls : (delimiter : ℕ) (bytes : List ℕ) → delimiter_of what.csv look ≡ Some delimiter → Gives holds what.file bytes → (it : BytesTurn g h look line what old new before after told delimiter bytes) → ImportCalls (columns_in before.tables what.table) (bytes_in g h look line what old new before after told delimiter bytes it)
+  bytes_calls : (delimiter : ℕ) (bytes : List ℕ) → delimiter_of what.csv settings ≡ Some delimiter → Gives holds what.file bytes → (it : BytesTurn g h settings line what old new before after told delimiter bytes) → ImportCalls (columns_in before.tables what.table) (bytes_in g h settings line what old new before after told delimiter bytes it)
   bytes_calls delimiter bytes parts gives (read found are (inl it)) = named_calls found (record { delimiter = delimiter; parts = parts; bytes = bytes; gives = gives; are = are }) (columns_in before.tables what.table) it
   bytes_calls delimiter bytes parts gives (read found are (inr nothing)) = import_none (codes "out of memory") (columns_in before.tables what.table) nothing.1 nothing.2
   bytes_calls delimiter bytes parts gives (no_text is nothing) = import_none (codes "file is not UTF-8") (columns_in before.tables what.table) nothing.1 nothing.2
   bytes_calls delimiter bytes parts gives (no_memory nothing) = import_none (codes "out of memory") (columns_in before.tables what.table) nothing.1 nothing.2
 
-  file_calls : (delimiter : ℕ) → delimiter_of what.csv look ≡ Some delimiter → (it : FileTurn g h look line what old new before after told holds delimiter) → ImportCalls (columns_in before.tables what.table) (file_in g h look line what old new before after told holds delimiter it)
+  file_calls : (delimiter : ℕ) → delimiter_of what.csv settings ≡ Some delimiter → (it : FileTurn g h settings line what old new before after told holds delimiter) → ImportCalls (columns_in before.tables what.table) (file_in g h settings line what old new before after told holds delimiter it)
   file_calls delimiter parts (fetched bytes gives it) = bytes_calls delimiter bytes parts gives it
   file_calls delimiter parts (unfetched fault allowed nothing) = import_none (fetch_words fault) (columns_in before.tables what.table) nothing.1 nothing.2
 
-  delimited_calls : (delimiter : Option ℕ) → delimiter_of what.csv look ≡ delimiter → (it : DelimitedTurn g h look line what old new before after told holds delimiter) → ImportCalls (columns_in before.tables what.table) (delimited_in g h look line what old new before after told holds delimiter it)
+  delimited_calls : (delimiter : Option ℕ) → delimiter_of what.csv settings ≡ delimiter → (it : DelimitedTurn g h settings line what old new before after told holds delimiter) → ImportCalls (columns_in before.tables what.table) (delimited_in g h settings line what old new before after told holds delimiter it)
   delimited_calls None parts nothing = import_none (codes "bad separator") (columns_in before.tables what.table) nothing.1 nothing.2
   delimited_calls (Some delimiter) parts it = file_calls delimiter parts it
 
 -- ---- dot-commands, and whole turns
 
-dot_calls : {P S : Type 0} (g : Ghosts P) (h : Ghosts S) (line : ℕ) (old new : Shell P S) (told : Told) (command : DotCommand) (it : DotTurn g h line old new told command) → Called h (λ calls. CallsOfDot line old told calls command) (dot_in g h line old new told command it) old.known new.known
-dot_calls g h line old new told Nothing it = calls_nothing h old.known new.known it.1
-dot_calls g h line old new told (SetMode mode) it = calls_nothing h old.known new.known it.1
-dot_calls g h line old new told (SetHeaders shown) it = calls_nothing h old.known new.known it.1
-dot_calls g h line old new told (SetSeparator text) it = calls_nothing h old.known new.known it.1
-dot_calls g h line old new told (SetNull text) it = calls_nothing h old.known new.known it.1
-dot_calls g h line old new told (SetEcho on) it = calls_nothing h old.known new.known it.1
-dot_calls g h line old new told (SetBail on) it = calls_nothing h old.known new.known it.1
+dot_calls : {P S : Type 0} (g : Ghosts P) (h : Ghosts S) (line : ℕ) (old new : Shell P S) (told : Told) (command : DotCommand) (it : DotTurn g h line old new told command) → Called h (λ calls. CallsOfDot line old told calls command) (dot_in g h line old new told command it) old.full_text new.full_text
+dot_calls g h line old new told Nothing it = calls_nothing h old.full_text new.full_text it.1
+dot_calls g h line old new told (SetMode mode) it = calls_nothing h old.full_text new.full_text it.1
+dot_calls g h line old new told (SetHeaders shown) it = calls_nothing h old.full_text new.full_text it.1
+dot_calls g h line old new told (SetSeparator text) it = calls_nothing h old.full_text new.full_text it.1
+dot_calls g h line old new told (SetNull text) it = calls_nothing h old.full_text new.full_text it.1
+dot_calls g h line old new told (SetEcho on) it = calls_nothing h old.full_text new.full_text it.1
+dot_calls g h line old new told (SetBail on) it = calls_nothing h old.full_text new.full_text it.1
 dot_calls g h line old new told (Print words) it = same_shell h old new it.0
-dot_calls g h line old new told (Importing what) it = delimited_calls g h old.look line what old.plain new.plain old.known new.known told old.holds (delimiter_of what.csv old.look) refl it.1
-dot_calls g h line old new told Tables it = tables_calls g h old.look line old.plain new.plain old.known new.known told it.1
+dot_calls g h line old new told (Importing what) it = delimited_calls g h old.settings line what old.plain new.plain old.full_text new.full_text told old.holds (delimiter_of what.csv old.settings) refl it.1
+dot_calls g h line old new told Tables it = tables_calls g h old.settings line old.plain new.plain old.full_text new.full_text told it.1
 dot_calls g h line old new told Quit it = same_shell h old new it.0
 dot_calls g h line old new told (Usage text) it = same_shell h old new it.0
 dot_calls g h line old new told Unknown it = same_shell h old new it.0
 
-dot_none : {P S : Type 0} (h : Ghosts S) (line : ℕ) (old new : Shell P S) (told : Told) (command : DotCommand) → new ≡ old → told ≡ lacks_memory old.look line → Called h (λ calls. CallsOfDot line old told calls command) [] old.known new.known
+dot_none : {P S : Type 0} (h : Ghosts S) (line : ℕ) (old new : Shell P S) (told : Told) (command : DotCommand) → new ≡ old → told ≡ lacks_memory old.settings line → Called h (λ calls. CallsOfDot line old told calls command) [] old.full_text new.full_text
 dot_none h line old new told Nothing same is = same_shell h old new same
 dot_none h line old new told (SetMode mode) same is = same_shell h old new same
 dot_none h line old new told (SetHeaders shown) same is = same_shell h old new same
@@ -184,39 +184,39 @@ dot_none h line old new told (SetNull text) same is = same_shell h old new same
 dot_none h line old new told (SetEcho on) same is = same_shell h old new same
 dot_none h line old new told (SetBail on) same is = same_shell h old new same
 dot_none h line old new told (Print words) same is = same_shell h old new same
-dot_none h line old new told Tables same is = (inl refl, ap (λ (s : Shell _ _). s.known) same)
+dot_none h line old new told Tables same is = (inl refl, ap (λ (s : Shell _ _). s.full_text) same)
 dot_none h line old new told Quit same is = same_shell h old new same
 dot_none h line old new told (Usage text) same is = same_shell h old new same
 dot_none h line old new told Unknown same is = same_shell h old new same
-dot_none h line old new told (Importing what) same is = go (columns_in old.known.tables what.table)
+dot_none h line old new told (Importing what) same is = go (columns_in old.full_text.tables what.table)
   where
-    go : (there : Option ℕ) → Called h (λ calls. CallsOfImport old.look line told calls old.holds what there) [] old.known new.known
-    go None = notes_none h (Some what.table) old.known new.known (ap (λ (s : Shell _ _). s.known) same)
-    go (Some n) = (inr (refl, codes "out of memory", is), ap (λ (s : Shell _ _). s.known) same)
+    go : (there : Option ℕ) → Called h (λ calls. CallsOfImport old.settings line told calls old.holds what there) [] old.full_text new.full_text
+    go None = notes_none h (Some what.table) old.full_text new.full_text (ap (λ (s : Shell _ _). s.full_text) same)
+    go (Some n) = (inr (refl, codes "out of memory", is), ap (λ (s : Shell _ _). s.full_text) same)
 
 -- what a member's turn calls
-pub body_calls : {P S : Type 0} (g : Ghosts P) (h : Ghosts S) (member : Member) (old new : Shell P S) (told : Told) → (it : Body g h member old new told) → Called h (λ calls. CallsOf member old told calls) (calls_in g h member old new told it) old.known new.known
+pub body_calls : {P S : Type 0} (g : Ghosts P) (h : Ghosts S) (member : Member) (old new : Shell P S) (told : Told) → (it : Body g h member old new told) → Called h (λ calls. CallsOf member old told calls) (calls_in g h member old new told it) old.full_text new.full_text
 body_calls g h (Fault line fault) old new told it = same_shell h old new it.0
-body_calls g h (Sql line text) old new told it = statement_calls g h old.look line text old.plain new.plain old.known new.known told it.2
+body_calls g h (Sql line text) old new told it = statement_calls g h old.settings line text old.plain new.plain old.full_text new.full_text told it.2
 body_calls g h (Dot line text) old new told (inl it) = dot_calls g h line old new told (dot_command_of (dot_words_of (behind_stop text))) it
 body_calls g h (Dot line text) old new told (inr nothing) = dot_none h line old new told (dot_command_of (dot_words_of (behind_stop text))) nothing.0 nothing.1
 
 pub turn_spelled : {P S : Type 0} (g : Ghosts P) (h : Ghosts S) (member : Member) (old new : Shell P S) (all : Deeds) → (turn : Turn g h member old new all) → CallsOf member old turn.body all.calls
 turn_spelled g h member old new all turn = subst (λ calls. CallsOf member old turn.body calls) (sym turn.calls) (body_calls g h member old new turn.body turn.done).0
 
-pub turn_made : {P S : Type 0} (g : Ghosts P) (h : Ghosts S) (member : Member) (old new : Shell P S) (all : Deeds) → Turn g h member old new all → Runs h old.known all.calls new.known
-turn_made g h member old new all turn = subst (λ calls. Runs h old.known calls new.known) (sym turn.calls) (body_calls g h member old new turn.body turn.done).1
+pub turn_made : {P S : Type 0} (g : Ghosts P) (h : Ghosts S) (member : Member) (old new : Shell P S) (all : Deeds) → Turn g h member old new all → Runs h old.full_text all.calls new.full_text
+turn_made g h member old new all turn = subst (λ calls. Runs h old.full_text calls new.full_text) (sym turn.calls) (body_calls g h member old new turn.body turn.done).1
 
 -- ---- calls one after another
 
-pub runs_join : {S : Type 0} (h : Ghosts S) (a b c : Known S) (xs ys : List Call) → Runs h a xs b → Runs h b ys c → Runs h a (xs ++ ys) c
+pub runs_join : {S : Type 0} (h : Ghosts S) (a b c : FullText S) (xs ys : List Call) → Runs h a xs b → Runs h b ys c → Runs h a (xs ++ ys) c
 runs_join h a b c [] ys same second = subst (λ k. Runs h k ys c) same second
 runs_join h a b c (call ∷ xs) ys (mid, does, rest) second = (mid, does, runs_join h mid b c xs ys rest second)
 
-pub turns_made : {P S : Type 0} (g : Ghosts P) (h : Ghosts S) (members : List Member) (old new : Shell P S) (all : Deeds) → Turns g h members old new all → Runs h old.known all.calls new.known
-turns_made g h [] old new all it = subst (λ (d : Deeds). Runs h old.known d.calls new.known) (sym it.1) (ap (λ (s : Shell _ _). s.known) it.0)
+pub turns_made : {P S : Type 0} (g : Ghosts P) (h : Ghosts S) (members : List Member) (old new : Shell P S) (all : Deeds) → Turns g h members old new all → Runs h old.full_text all.calls new.full_text
+turns_made g h [] old new all it = subst (λ (d : Deeds). Runs h old.full_text d.calls new.full_text) (sym it.1) (ap (λ (s : Shell _ _). s.full_text) it.0)
 turns_made g h (member ∷ members) old new all (mid, first, turn, more) = go (λ rest turns. turns_made g h members mid new rest turns) first.ends more
   where
-    go : ((rest : Deeds) → Turns g h members mid new rest → Runs h mid.known rest.calls new.known) → (ends : Bool) → MatchBool ends ((new ≡ mid) × (all ≡ first)) ((rest : Deeds) × Turns g h members mid new rest × (all ≡ and_then first rest)) → Runs h old.known all.calls new.known
-    go later true (same, is) = subst (λ (d : Deeds). Runs h old.known d.calls new.known) (sym is) (subst (λ (s : Shell _ _). Runs h old.known first.calls s.known) (sym same) (turn_made g h member old mid first turn))
-    go later false (rest, turns, is) = subst (λ (d : Deeds). Runs h old.known d.calls new.known) (sym is) (runs_join h old.known mid.known new.known first.calls rest.calls (turn_made g h member old mid first turn) (later rest turns))
+    go : ((rest : Deeds) → Turns g h members mid new rest → Runs h mid.full_text rest.calls new.full_text) → (ends : Bool) → MatchBool ends ((new ≡ mid) × (all ≡ first)) ((rest : Deeds) × Turns g h members mid new rest × (all ≡ and_then first rest)) → Runs h old.full_text all.calls new.full_text
+    go later true (same, is) = subst (λ (d : Deeds). Runs h old.full_text d.calls new.full_text) (sym is) (subst (λ (s : Shell _ _). Runs h old.full_text first.calls s.full_text) (sym same) (turn_made g h member old mid first turn))
+    go later false (rest, turns, is) = subst (λ (d : Deeds). Runs h old.full_text d.calls new.full_text) (sym is) (runs_join h old.full_text mid.full_text new.full_text first.calls rest.calls (turn_made g h member old mid first turn) (later rest turns))

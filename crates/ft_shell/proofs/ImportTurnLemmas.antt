@@ -2,21 +2,20 @@
 use Rattle.std.proofs.Common.{◌≡◌, ◌≤◌, ◌<◌, ◌+◌, ◌-◌, ℕ, zero, suc, List, [], ◌∷◌, map, length, get_or, take, drop, true, false, Option, Some, None, Result, Err, refl, sym, ap, subst, ◌∙◌, arith, min, append-nil, string_bytes, String, Vec, Global}
 use Rattle.std.specs.Prelude.{unwrap_or, if◌then◌else◌}
 use Rattle.std.proofs.lemmas.List.{drop-map, drop_more, length-map, take_all}
-use Rattle.ft_content.specs.declared.table.TableInfo.{TableInfo}
-use Rattle.ft_content.specs.Views.{known_info, column_of}
+use Rattle.ft_values.specs.declared.table.TableInfo.{TableInfo}
+use Rattle.ft_content.specs.Views.{shown_info, column_of}
 use Rattle.std.specs.List.{enumerate_from}
 use Rattle.sqlite.specs.Store.{Ghosts}
 use Rattle.sqlite.specs.Held.{Held, state}
-use Rattle.shell_text.specs.Print.{Look}
-use Rattle.ft_index.specs.Kept.{Known}
+use Rattle.shell_text.specs.Print.{Settings}
+use Rattle.ft_index.specs.Kept.{FullText}
 use Rattle.ft_shell.specs.declared.plain_import.ImportFault.{ImportFault}
 use Rattle.ft_shell.specs.declared.plain_import.ImportFault.TheVariants.{Refused, Memory}
 use Rattle.ft_statements.specs.Dots.{Import}
 use Rattle.ft_shell.specs.PlainStatements.{IfClean}
 use Rattle.ft_shell.proofs.PlainImportLemmas.{all_kept, stays_all_kept}
-use Rattle.ft_shell.specs.PlainImports.{HasColumns, Stays, Keeps, import_steps, Declines, Uncounted}
-use Rattle.ft_shell.specs.ImportTurns.{kept, records_in, columns_in, fault_words, IntoTable, IntoNew, uncounted, declined, no_memory}
-use Rattle.ft_statements.specs.Statements.{is_named}
+use Rattle.ft_shell.specs.PlainImports.{HasColumns, Stays, CommitsNothing, import_steps, Declines, Uncounted}
+use Rattle.ft_shell.specs.ImportTurns.{kept, records_in, fault_words, IntoTable, IntoNew, uncounted, declined, no_memory}
 use Rattle.ft_statements.specs.Views.{texts_of}
 use Rattle.ft_shell.specs.Told.{Told, blames, warned, followed, silent}
 
@@ -54,35 +53,35 @@ left_numbered skip k found is =
 -- ---- into a plain table
 
 module _ {P : Type 0} (g : Ghosts P) where
-  pub counted_kept : (a b c : Held P) {X : Type 0} → IfClean g a b (Stays (state g a) (state g b) × X) → IfClean g b c (Keeps (state g b) (state g c)) → IfClean g a c (Keeps (state g a) (state g c))
+  pub counted_kept : (a b c : Held P) {X : Type 0} → IfClean g a b (Stays (state g a) (state g b) × X) → IfClean g b c (CommitsNothing (state g b) (state g c)) → IfClean g a c (CommitsNothing (state g a) (state g c))
   counted_kept a b c first second clean =
       let later = second clean in
       let before = first later.0 in
       (before.0, stays_all_kept (state g a) (state g b) (state g c) before.1.0 later.1)
 
-  pub counted_left : (a b : Held P) {X : Type 0} → IfClean g a b (Stays (state g a) (state g b) × X) → IfClean g a b (Keeps (state g a) (state g b))
+  pub counted_left : (a b : Held P) {X : Type 0} → IfClean g a b (Stays (state g a) (state g b) × X) → IfClean g a b (CommitsNothing (state g a) (state g b))
   counted_left a b first clean =
       let before = first clean in
       (before.0, stays_all_kept (state g a) (state g b) (state g b) before.1.0 (all_kept (state g b)))
 
-  pub nothing_done : (a : Held P) → IfClean g a a (Keeps (state g a) (state g a))
+  pub nothing_done : (a : Held P) → IfClean g a a (CommitsNothing (state g a) (state g a))
   nothing_done a clean = (clean, all_kept (state g a))
 
-  module _ (look : Look) (line : ℕ) (what : Import) (rows : List (ℕ × List (List ℕ))) where
-    pub count_refused : {T : Type 0} (fault : ImportFault) (old new : Held P) (told : Told) → IfClean g old new (Keeps (state g old) (state g new))
-        → (◌≡◌ {A = Result T ImportFault} (Err fault) (Err Refused) → Uncounted g what.table old new) → told ≡ blames look line (fault_words fault) → IntoTable g look line what rows old new told
+  module _ (settings : Settings) (line : ℕ) (what : Import) (rows : List (ℕ × List (List ℕ))) where
+    pub count_refused : {T : Type 0} (fault : ImportFault) (old new : Held P) (told : Told) → IfClean g old new (CommitsNothing (state g old) (state g new))
+        → (◌≡◌ {A = Result T ImportFault} (Err fault) (Err Refused) → Uncounted g what.table old new) → told ≡ blames settings line (fault_words fault) → IntoTable g settings line what rows old new told
     count_refused Refused old new told keeps why is = uncounted (why refl) (keeps, is)
     count_refused Memory old new told keeps why is = no_memory (keeps, is)
 
     pub import_refused : {T : Type 0} (fault : ImportFault) (n : ℕ) (old counted new : Held P) (told : Told)
-        → IfClean g old counted (Stays (state g old) (state g counted) × HasColumns (state g old).now.schema what.table n) → IfClean g counted new (Keeps (state g counted) (state g new))
-        → (◌≡◌ {A = Result T ImportFault} (Err fault) (Err Refused) → Declines g (import_steps None what.table n (records_in rows)) counted new) → told ≡ blames look line (fault_words fault) → IntoTable g look line what rows old new told
+        → IfClean g old counted (Stays (state g old) (state g counted) × HasColumns (state g old).now.schema what.table n) → IfClean g counted new (CommitsNothing (state g counted) (state g new))
+        → (◌≡◌ {A = Result T ImportFault} (Err fault) (Err Refused) → Declines g (import_steps None what.table n (records_in rows)) counted new) → told ≡ blames settings line (fault_words fault) → IntoTable g settings line what rows old new told
     import_refused Refused n old counted new told count keeps why is = declined n counted count (why refl) (counted_kept old counted new count keeps, is)
     import_refused Memory n old counted new told count keeps why is = no_memory (counted_kept old counted new count keeps, is)
 
-    pub making_refused : {S T : Type 0} (h : Ghosts S) (fault : ImportFault) (first : ℕ × List (List ℕ)) (rest : List (ℕ × List (List ℕ))) (old new : Held P) (known : Known S) (told : Told) → rows ≡ first ∷ rest → length first.1 ≤ 100
-        → IfClean g old new (Keeps (state g old) (state g new)) → (◌≡◌ {A = Result T ImportFault} (Err fault) (Err Refused) → Declines g (import_steps (Some first.1) what.table (length first.1) (records_in rest)) old new)
-        → told ≡ blames look line (fault_words fault) → IntoNew g look line what rows h old new known known told
+    pub making_refused : {S T : Type 0} (h : Ghosts S) (fault : ImportFault) (first : ℕ × List (List ℕ)) (rest : List (ℕ × List (List ℕ))) (old new : Held P) (known : FullText S) (told : Told) → rows ≡ first ∷ rest → length first.1 ≤ 100
+        → IfClean g old new (CommitsNothing (state g old) (state g new)) → (◌≡◌ {A = Result T ImportFault} (Err fault) (Err Refused) → Declines g (import_steps (Some first.1) what.table (length first.1) (records_in rest)) old new)
+        → told ≡ blames settings line (fault_words fault) → IntoNew g settings line what rows h old new known known told
     making_refused h Refused first rest old new known told is narrow keeps why tells = declined first rest is narrow (why refl) refl (keeps, tells)
     making_refused h Memory first rest old new known told is narrow keeps why tells = no_memory refl (keeps, tells)
 
@@ -115,18 +114,3 @@ pub left_rows : (skip : Option ℕ) (k : ℕ) (records left : List (Vec (String 
 left_rows skip k records left is rest =
     let count : k ≡ min (unwrap_or skip 0) (length (map texts_of records)) = omega (arith, is, length-map records texts_of) in
     ap (λ rs. enumerate_from (k + 1) (map texts_of rs)) rest ∙ ap (enumerate_from (k + 1)) (sym (drop-map texts_of k records)) ∙ left_numbered skip k (map texts_of records) count
-
--- ---- the table that has the name
-
-pub named_here : (tables : List TableInfo) (i : ℕ) (table : TableInfo) (name : List ℕ) → i < length tables → table ≡ get_or tables i table → is_named name (string_bytes table.name) ≡ true →
-    columns_in (map known_info (drop i tables)) name ≡ Some (length table.columns.items)
-named_here tables i table name within is has =
-    ap (λ ts. columns_in (map known_info ts) name) (drop_more tables i table within ∙ ap (λ t. t ∷ drop (i + 1) tables) (sym is))
-    ∙ ap (λ b. if b then Some (length (map column_of table.columns.items)) else columns_in (map known_info (drop (i + 1) tables)) name) has
-    ∙ ap Some (length-map table.columns.items column_of)
-
-pub named_later : (tables : List TableInfo) (i : ℕ) (table : TableInfo) (name : List ℕ) → i < length tables → table ≡ get_or tables i table → is_named name (string_bytes table.name) ≡ false →
-    columns_in (map known_info (drop i tables)) name ≡ columns_in (map known_info (drop (i + 1) tables)) name
-named_later tables i table name within is lacks =
-    ap (λ ts. columns_in (map known_info ts) name) (drop_more tables i table within ∙ ap (λ t. t ∷ drop (i + 1) tables) (sym is))
-    ∙ ap (λ b. if b then Some (length (map column_of table.columns.items)) else columns_in (map known_info (drop (i + 1) tables)) name) lacks

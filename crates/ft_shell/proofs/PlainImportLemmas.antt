@@ -16,7 +16,7 @@ use Rattle.sqlite.specs.declared.error.Error.{Error}
 use Rattle.ft_shell.specs.declared.plain_import.ImportFault.{ImportFault}
 use Rattle.ft_shell.specs.declared.plain_import.ImportFault.TheVariants.{Refused, Memory}
 use Rattle.ft_shell.specs.PlainStatements.{IfClean, is_memory_error}
-use Rattle.ft_shell.specs.PlainImports.{Step, Prepare, Run, field_value, fitted_row, runs_of, Stays, Keeps, Does, IsRefused, DoesAll, Stops, begun, IsInside, KeepsLast}
+use Rattle.ft_shell.specs.PlainImports.{Step, Prepare, Run, field_value, fitted_row, runs_of, Stays, CommitsNothing, Does, IsRefused, DoesAll, StopsAtStep, begun, IsInside, KeepsLast}
 use Rattle.ft_shell.proofs.PlainTurnLemmas.{clean_before}
 
 -- ---- what a call leaves of the last commit
@@ -51,13 +51,13 @@ inside_keeps text values old new (Err e) (inl (ran, either)) = either_keeps old 
 inside_keeps text values old new (Err e) (inr escapes) = unchanged_keeps old new escapes.2
 
 -- nothing was done
-pub all_kept : (s : State) → Keeps s s
+pub all_kept : (s : State) → CommitsNothing s s
 all_kept s = record { commit = keeps_same s; now = λ _. inl refl }
 
-pub unrun_all_kept : (old new : State) (text : List ℕ) (values : Row) (e : Error) → IsNotRun old new text values e → Keeps old new
+pub unrun_all_kept : (old new : State) (text : List ℕ) (values : Row) (e : Error) → IsNotRun old new text values e → CommitsNothing old new
 unrun_all_kept old new text values e h = go (unrun_either old new text values e h)
   where
-    go : IsUnchanged old new ⊎ IsRolledBack old new → Keeps old new
+    go : IsUnchanged old new ⊎ IsRolledBack old new → CommitsNothing old new
     go (inl same) = record { commit = unchanged_keeps old new same; now = λ _. inl same.0.now_is }
     go (inr back) = record { commit = undone_keeps old new back; now = λ o. inr (back.undone o).0 }
 
@@ -67,7 +67,7 @@ unchanged_stays old new same = record { was_open = λ _. same.0.was_open; now = 
 pub stays_then : (a b c : State) → Stays a b → Stays b c → Stays a c
 stays_then a b c one two = record { was_open = λ o. one.was_open (two.was_open o); now = two.now ∙ one.now; committed = two.committed ∙ one.committed; mode = two.mode ∙ one.mode }
 
-pub stays_all_kept : (a b c : State) → Stays a b → Keeps b c → Keeps a c
+pub stays_all_kept : (a b c : State) → Stays a b → CommitsNothing b c → CommitsNothing a c
 stays_all_kept a b c stays keeps = record {
   commit = record { was_open = λ o. stays.was_open (keeps.commit.was_open o); committed = λ o. keeps.commit.committed o ∙ stays.committed };
   now = λ o. elim (keeps.now o) [ inl same ↦ inl (same ∙ stays.now) | inr back ↦ inr (back ∙ stays.committed) ];
@@ -186,18 +186,18 @@ module _ {P : Type 0} (g : Ghosts P) where
   does_more (s ∷ steps) step old mid new first more = (first.0, first.1, does_more steps step first.0 mid new first.2 more)
 
   -- the next step is refused
-  pub stops_at : (front : List Step) (step : Step) (rest : List Step) (old mid new : Held P) → DoesAll g front old mid → IsRefused g step mid new → Stops g (front ++ step ∷ rest) old new
+  pub stops_at : (front : List Step) (step : Step) (rest : List Step) (old mid new : Held P) → DoesAll g front old mid → IsRefused g step mid new → StopsAtStep g (front ++ step ∷ rest) old new
   stops_at front step rest old mid new done refused = record { front = front; step = step; rest = rest; split = refl; mid = mid; done = done; refused = refused }
 
   -- a step before others
-  pub stops_later : (step : Step) (steps : List Step) (old mid new : Held P) → Does g step old mid → Stops g steps mid new → Stops g (step ∷ steps) old new
+  pub stops_later : (step : Step) (steps : List Step) (old mid new : Held P) → Does g step old mid → StopsAtStep g steps mid new → StopsAtStep g (step ∷ steps) old new
   stops_later step steps old mid new done stops =
       record { front = step ∷ stops.front; step = stops.step; rest = stops.rest; split = ap (λ s. step ∷ s) stops.split; mid = stops.mid; done = (mid, done, stops.done); refused = stops.refused }
 
   -- ---- the transaction
 
   -- what a transaction that ended without its commit keeps of the connection before it
-  pub undone_all_kept : (old last new : Held P) → KeepsLast g (begun g old) last → IfClean g last new (IsRolledBack (state g last) (state g new)) → IfClean g old new (Keeps (state g old) (state g new))
+  pub undone_all_kept : (old last new : Held P) → KeepsLast g (begun g old) last → IfClean g last new (IsRolledBack (state g last) (state g new)) → IfClean g old new (CommitsNothing (state g old) (state g new))
   undone_all_kept old last new kept back clean =
       let undone = back clean in
       let first = kept undone.0 in (
@@ -213,6 +213,6 @@ module _ {P : Type 0} (g : Ghosts P) where
   commit_undone old new e (inl fails) inside = fails.3
   commit_undone old new e (inr late) inside = absurd (let wrong : true ≡ false = sym inside ∙ late.1 in cc)
 
-  pub uncommitted_all_kept : (old last new : Held P) (e : Error) → KeepsLast g (begun g old) last → IsInside g last → IfClean g last new (FailsToCommit (state g last) (state g new) e) → IfClean g old new (Keeps (state g old) (state g new))
+  pub uncommitted_all_kept : (old last new : Held P) (e : Error) → KeepsLast g (begun g old) last → IsInside g last → IfClean g last new (FailsToCommit (state g last) (state g new) e) → IfClean g old new (CommitsNothing (state g old) (state g new))
   uncommitted_all_kept old last new e kept inside fails =
       undone_all_kept old last new kept (λ clean. let failed = fails clean in (failed.0, commit_undone (state g last) (state g new) e failed.1 (inside failed.0)))

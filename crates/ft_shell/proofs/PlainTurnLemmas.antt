@@ -1,10 +1,10 @@
 -- What `sqlite` says of a query that is prepared and then run, where the disk is clean as it ends.
 use Rattle.std.proofs.Common.{◌≡◌, ℕ, List, [], refl, subst, sym, arith, inl}
 use Rattle.std.specs.Prelude.{MatchBool, true, false, Option}
-use Rattle.ft_index.specs.Kept.{Known}
+use Rattle.ft_index.specs.Kept.{FullText}
 use Rattle.ft_statements.specs.Plain.{asks, made_name}
 use Rattle.ft_statements.specs.Words.{tokens_of}
-use Rattle.shell_text.specs.Print.{Look}
+use Rattle.shell_text.specs.Print.{Settings}
 use Rattle.ft_shell.specs.Told.{Told, blames, lacks_memory}
 use Rattle.sqlite_trees.specs.View.{doubt}
 use Rattle.sqlite.specs.Store.{Ghosts}
@@ -55,16 +55,16 @@ asked_answered g text old mid new s rows first same shape second shown = record 
   shows = if_clean g mid new second (λ clean. subst (λ t. Shown t [] (state g mid) (state g new) rows) (same (clean_before second clean)).0 (shown clean));
 }
 
-pub words_told : (look : Look) (line : ℕ) (e : Error) (told : Told) (words : List ℕ) → is_memory_error e ≡ false → told ≡ blames look line words → TellsRefusal look line e told
-words_told look line e told words other is = subst (λ b. MatchBool b (told ≡ lacks_memory look line) ((words : List ℕ) × (told ≡ blames look line words))) (sym other) (words, is)
+pub words_told : (settings : Settings) (line : ℕ) (e : Error) (told : Told) (words : List ℕ) → is_memory_error e ≡ false → told ≡ blames settings line words → TellsRefusal settings line e told
+words_told settings line e told words other is = subst (λ b. MatchBool b (told ≡ lacks_memory settings line) ((words : List ℕ) × (told ≡ blames settings line words))) (sym other) (words, is)
 
-pub asks_turn : {P S : Type 0} (g : Ghosts P) (h : Ghosts S) (look : Look) (line : ℕ) (text : List ℕ) (old new : Held P) (before : Known S) (told : Told) →
-    asks (tokens_of text) ≡ true → QueryTurn g look line text old new told → PlainTurn g h look line text old new before before told
-asks_turn g h look line text old new before told is query =
-    subst (λ b. MatchBool b (QueryTurn g look line text old new told × (before ≡ before)) (CommandTurn g h look line text (made_name (tokens_of text)) old new before before told)) (sym is) (query, refl)
+pub asks_turn : {P S : Type 0} (g : Ghosts P) (h : Ghosts S) (settings : Settings) (line : ℕ) (text : List ℕ) (old new : Held P) (before : FullText S) (told : Told) →
+    asks (tokens_of text) ≡ true → QueryTurn g settings line text old new told → PlainTurn g h settings line text old new before before told
+asks_turn g h settings line text old new before told is query =
+    subst (λ b. MatchBool b (QueryTurn g settings line text old new told × (before ≡ before)) (CommandTurn g h settings line text (made_name (tokens_of text)) old new before before told)) (sym is) (query, refl)
 
-pub runs_turn : {P S : Type 0} (g : Ghosts P) (h : Ghosts S) (look : Look) (line : ℕ) (text : List ℕ) (old new : Held P) (before after : Known S) (told : Told) (made : Option (List ℕ)) →
-    asks (tokens_of text) ≡ false → made ≡ made_name (tokens_of text) → CommandTurn g h look line text made old new before after told → PlainTurn g h look line text old new before after told
-runs_turn g h look line text old new before after told made is same command =
-    subst (λ b. MatchBool b (QueryTurn g look line text old new told × (after ≡ before)) (CommandTurn g h look line text (made_name (tokens_of text)) old new before after told)) (sym is)
-    (subst (λ m. CommandTurn g h look line text m old new before after told) same command)
+pub runs_turn : {P S : Type 0} (g : Ghosts P) (h : Ghosts S) (settings : Settings) (line : ℕ) (text : List ℕ) (old new : Held P) (before after : FullText S) (told : Told) (made : Option (List ℕ)) →
+    asks (tokens_of text) ≡ false → made ≡ made_name (tokens_of text) → CommandTurn g h settings line text made old new before after told → PlainTurn g h settings line text old new before after told
+runs_turn g h settings line text old new before after told made is same command =
+    subst (λ b. MatchBool b (QueryTurn g settings line text old new told × (after ≡ before)) (CommandTurn g h settings line text (made_name (tokens_of text)) old new before after told)) (sym is)
+    (subst (λ m. CommandTurn g h settings line text m old new before after told) same command)

@@ -2,18 +2,18 @@
 use Rattle.std.proofs.Common.{◌≡◌, ℕ, Bool, true, false, List, [], ◌∷◌, ◌++◌, Option, Some, None, Result, Ok, Err, refl, ap, sym, subst, ◌∙◌, ◌⊎◌, inl, inr, append-nil, append_assoc, ◌^◌}
 use Rattle.std.specs.Prelude.{IfOk, IfErr, IsTrue, MatchBool, map, take}
 use Rattle.sqlite.specs.Store.{Ghosts}
-use Rattle.shell_text.specs.Print.{Look}
+use Rattle.shell_text.specs.Print.{Settings}
 use Rattle.shell_text.specs.Dot.{dot_words_of}
 use Rattle.shell_text.specs.Units as units
 use Rattle.shell_text.specs.Units.{Member, Sql, Dot, members_of}
 use Rattle.shell_text.specs.Words.{is_unclosed}
-use Rattle.ft_content.specs.declared.fault.Fault.{Fault}
+use Rattle.ft_values.specs.declared.fault.Fault.{Fault}
 use Rattle.ft_content.specs.Command.{Command, Filter, Insert, Items, Reply, Select}
 use Rattle.ft_content.specs.Deserved.{Contents, deserved}
 use Rattle.ft_content.specs.Step.{after, reply_to, step, step_by}
-use Rattle.ft_index.specs.Kept.{Known, Call, Executed, Noted, Runs, IsUp, KeptByCalls, NoneGetsUnsound, accepted, left_by, AreAnswered, is_outside, value_of}
+use Rattle.ft_index.specs.Kept.{FullText, Call, Executed, Noted, Runs, IsUp, KeptByCalls, NoneGetsUnsound, accepted, left_by, AreAnswered, is_outside, value_of}
 use Rattle.ft_statements.specs.Words.{tokens_of}
-use Rattle.ft_statements.specs.Statements.{Class, Plain, FullText, class_of}
+use Rattle.ft_statements.specs.Statements.{Class, Plain, FullText as FullTextClass, class_of}
 use Rattle.ft_statements.specs.Dots.{DotCommand, Import, Nothing, SetMode, SetHeaders, SetSeparator, SetNull, SetEcho, SetBail, Print, Importing, Tables, Quit, Usage, Unknown, dot_command_of}
 use Rattle.ft_statements.specs.Replies.{reply_text}
 use Rattle.ft_shell.specs.declared.session.Status.{Status}
@@ -37,7 +37,7 @@ use Rattle.ft_statements.specs.Plain.{made_name}
 
 -- ---- calls
 
-up_before : {S : Type 0} (h : Ghosts S) (start end : Known S) (calls : List Call) → IsUp h end → Runs h start calls end → IsUp h start
+up_before : {S : Type 0} (h : Ghosts S) (start end : FullText S) (calls : List Call) → IsUp h end → Runs h start calls end → IsUp h start
 up_before h start end [] up runs = subst (IsUp h) runs up
 up_before h start end (Executed command answer ∷ calls) up runs = runs.1.was_up (up_before h runs.0 end calls up runs.2)
 up_before h start end (Noted name is_done ∷ calls) up runs = runs.1.was_up (up_before h runs.0 end calls up runs.2)
@@ -60,8 +60,8 @@ reply_is contents command reply (inr is) = go (deserved contents command) is
     go (Some fault) same = absurd (let wrong = same in cc)
 
 -- a refused command
-refused_at : {S : Type 0} (h : Ghosts S) (old new : Known S) (before more : List Call) (command : Command) (fault : Fault) → IsUp h new → Runs h old (before ++ Executed command (Err fault) ∷ more) new →
-    (was now : Known S) × Runs h old before was × Runs h now more new × (value_of h now ≡ value_of h was) × (now.tables ≡ was.tables)
+refused_at : {S : Type 0} (h : Ghosts S) (old new : FullText S) (before more : List Call) (command : Command) (fault : Fault) → IsUp h new → Runs h old (before ++ Executed command (Err fault) ∷ more) new →
+    (was now : FullText S) × Runs h old before was × Runs h now more new × (value_of h now ≡ value_of h was) × (now.tables ≡ was.tables)
 refused_at h old new [] more command fault up runs =
     let same = runs.1.unchanged refl (up_before h runs.0 new more up runs.2) in
     (old, runs.0, refl, runs.2, same.0, same.1)
@@ -108,19 +108,19 @@ read_of : (calls : List Call) → MayRead calls → NoCommand calls
 read_of calls (inl is) = none_of calls is
 read_of calls (inr is) = subst NoCommand (sym is) tt
 
-few_class : (look : Look) (line : ℕ) (told : Told) (calls : List Call) (made : Option (List ℕ)) (class : Option Class) → CallsOfClass look line told calls made class → Few calls
-few_class look line told calls made None it = inl (none_of calls it)
-few_class look line told calls made (Some Plain) it = inl (note_of made calls it)
-few_class look line told calls made (Some (FullText command)) (inl it) = inr (command, it.0, it.1)
-few_class look line told calls made (Some (FullText command)) (inr it) = inl (none_of calls it.0)
+few_class : (settings : Settings) (line : ℕ) (told : Told) (calls : List Call) (made : Option (List ℕ)) (class : Option Class) → CallsOfClass settings line told calls made class → Few calls
+few_class settings line told calls made None it = inl (none_of calls it)
+few_class settings line told calls made (Some Plain) it = inl (note_of made calls it)
+few_class settings line told calls made (Some (FullTextClass command)) (inl it) = inr (command, it.0, it.1)
+few_class settings line told calls made (Some (FullTextClass command)) (inr it) = inl (none_of calls it.0)
 
-few_import : (look : Look) (line : ℕ) (told : Told) (calls : List Call) (holds : Files) (what : Import) (there : Option ℕ) → CallsOfImport look line told calls holds what there → Few calls
-few_import look line told calls holds what None it = inl (note_of (Some what.table) calls it)
-few_import look line told calls holds what (Some n) (inl it) = inr (Insert what.table None (map (fitted n) (records_in (kept what.skip it.0))), it.2.0, it.2.1)
-few_import look line told calls holds what (Some n) (inr it) = inl (none_of calls it.0)
+few_import : (settings : Settings) (line : ℕ) (told : Told) (calls : List Call) (holds : Files) (what : Import) (there : Option ℕ) → CallsOfImport settings line told calls holds what there → Few calls
+few_import settings line told calls holds what None it = inl (note_of (Some what.table) calls it)
+few_import settings line told calls holds what (Some n) (inl it) = inr (Insert what.table None (map (fitted n) (records_in (kept what.skip it.0))), it.2.0, it.2.1)
+few_import settings line told calls holds what (Some n) (inr it) = inl (none_of calls it.0)
 
 few_dot : {P S : Type 0} (line : ℕ) (old : Shell P S) (told : Told) (calls : List Call) (command : DotCommand) → CallsOfDot line old told calls command → Few calls
-few_dot line old told calls (Importing what) it = few_import old.look line told calls old.holds what (columns_in old.known.tables what.table) it
+few_dot line old told calls (Importing what) it = few_import old.settings line told calls old.holds what (columns_in old.full_text.tables what.table) it
 few_dot line old told calls Nothing it = inl (none_of calls it)
 few_dot line old told calls (SetMode mode) it = inl (none_of calls it)
 few_dot line old told calls (SetHeaders shown) it = inl (none_of calls it)
@@ -138,9 +138,9 @@ few : {P S : Type 0} (member : Member) (old : Shell P S) (told : Told) (calls : 
 few (units.Fault line fault) old told calls it = inl (none_of calls it)
 few (Sql line text) old told calls it = go (is_unclosed text) it
   where
-    go : (is_open : Bool) → MatchBool is_open (calls ≡ []) (CallsOfClass old.look line told calls (made_name (tokens_of text)) (class_of (table_names old.known) (tokens_of text))) → Few calls
+    go : (is_open : Bool) → MatchBool is_open (calls ≡ []) (CallsOfClass old.settings line told calls (made_name (tokens_of text)) (class_of (table_names old.full_text) (tokens_of text))) → Few calls
     go true it = inl (none_of calls it)
-    go false it = few_class old.look line told calls (made_name (tokens_of text)) (class_of (table_names old.known) (tokens_of text)) it
+    go false it = few_class old.settings line told calls (made_name (tokens_of text)) (class_of (table_names old.full_text) (tokens_of text)) it
 few (Dot line text) old told calls it = few_dot line old told calls (dot_command_of (dot_words_of (behind_stop text))) it
 
 not_noted : (before more : List Call) (command : Command) (answer : Result Reply Fault) → NoCommand (before ++ Executed command answer ∷ more) → ⊥
@@ -158,7 +158,7 @@ few_is calls before more command answer (inr (c, a, one)) is = go before (sym on
 
 module _ {P S : Type 0} (g : Ghosts P) (h : Ghosts S) where
   -- a call's turn, among others, with what the turns before it did
-  record At (Reaches : Deeds → Shell P S → Type 0) (all : Deeds) (before : List Call) (command : Command) (answer : Result Reply Fault) (more : List Call) (new : Known S) : Type 0 where
+  record At (Reaches : Deeds → Shell P S → Type 0) (all : Deeds) (before : List Call) (command : Command) (answer : Result Reply Fault) (more : List Call) (new : FullText S) : Type 0 where
     member : Member
     was : Shell P S
     now : Shell P S
@@ -169,7 +169,7 @@ module _ {P S : Type 0} (g : Ghosts P) (h : Ghosts S) where
     calls : earlier.calls ≡ before
     turn : Turn g h member was now own
     only : own.calls ≡ Executed command answer ∷ []
-    ends : Runs h now.known more new
+    ends : Runs h now.full_text more new
     out : all.out ≡ earlier.out ++ (own.out ++ later.out)
     err : all.err ≡ earlier.err ++ (own.err ++ later.err)
 
@@ -177,11 +177,11 @@ module _ {P S : Type 0} (g : Ghosts P) (h : Ghosts S) where
   abbrev From : Shell P S → Deeds → Shell P S → Type 0
   From old earlier was = (members : List Member) × Turns g h members old was earlier
 
-  at_turn : (members : List Member) (old new : Shell P S) (all : Deeds) → Turns g h members old new all → (before more : List Call) (command : Command) (answer : Result Reply Fault) → all.calls ≡ before ++ Executed command answer ∷ more → At (From old) all before command answer more new.known
+  at_turn : (members : List Member) (old new : Shell P S) (all : Deeds) → Turns g h members old new all → (before more : List Call) (command : Command) (answer : Result Reply Fault) → all.calls ≡ before ++ Executed command answer ∷ more → At (From old) all before command answer more new.full_text
   at_turn [] old new all it before more command answer is = absurd (no_more before more (Executed command answer) (sym (ap (λ (d : Deeds). d.calls) it.1) ∙ is))
   at_turn (member ∷ members) old new all (mid, first, turn, rest) before more command answer is = go (λ later turns b e. at_turn members mid new later turns b more command answer e) first.ends refl rest
     where
-      here : first.calls ≡ before ++ Executed command answer ∷ [] → before ≡ [] → Runs h mid.known more new.known → (later : Deeds) → all.out ≡ first.out ++ later.out → all.err ≡ first.err ++ later.err → At (From old) all before command answer more new.known
+      here : first.calls ≡ before ++ Executed command answer ∷ [] → before ≡ [] → Runs h mid.full_text more new.full_text → (later : Deeds) → all.out ≡ first.out ++ later.out → all.err ≡ first.err ++ later.err → At (From old) all before command answer more new.full_text
       here own no_front ends later out err = record {
         member = member;
         was = old;
@@ -198,19 +198,19 @@ module _ {P S : Type 0} (g : Ghosts P) (h : Ghosts S) where
         err = err;
       }
 
-      go : ((later : Deeds) → Turns g h members mid new later → (b : List Call) → later.calls ≡ b ++ Executed command answer ∷ more → At (From mid) later b command answer more new.known) → (stops : Bool) → first.ends ≡ stops →
-          MatchBool stops ((new ≡ mid) × (all ≡ first)) ((later : Deeds) × Turns g h members mid new later × (all ≡ and_then first later)) → At (From old) all before command answer more new.known
+      go : ((later : Deeds) → Turns g h members mid new later → (b : List Call) → later.calls ≡ b ++ Executed command answer ∷ more → At (From mid) later b command answer more new.full_text) → (stops : Bool) → first.ends ≡ stops →
+          MatchBool stops ((new ≡ mid) × (all ≡ first)) ((later : Deeds) × Turns g h members mid new later × (all ≡ and_then first later)) → At (From old) all before command answer more new.full_text
       go next true ended (same, all_is) =
           let own : first.calls ≡ before ++ Executed command answer ∷ more = sym (ap (λ (d : Deeds). d.calls) all_is) ∙ is in
           let alone = few_is first.calls before more command answer (few member old turn.body first.calls (turn_spelled g h member old mid first turn)) own in
-          here (own ∙ ap (λ m. before ++ Executed command answer ∷ m) alone.1) alone.0 (subst (λ m. Runs h mid.known m new.known) (sym alone.1) (ap (λ (s : Shell P S). s.known) same)) idle
+          here (own ∙ ap (λ m. before ++ Executed command answer ∷ m) alone.1) alone.0 (subst (λ m. Runs h mid.full_text m new.full_text) (sym alone.1) (ap (λ (s : Shell P S). s.full_text) same)) idle
           (ap (λ (d : Deeds). d.out) all_is ∙ sym (append-nil first.out)) (ap (λ (d : Deeds). d.err) all_is ∙ sym (append-nil first.err))
       go next false goes (later, turns, all_is) = cut (split_at first.calls later.calls before more (Executed command answer) (sym (ap (λ (d : Deeds). d.calls) all_is) ∙ is))
         where
-          cut : ((m : List Call) × (first.calls ≡ before ++ Executed command answer ∷ m) × (more ≡ m ++ later.calls)) ⊎ ((b : List Call) × (before ≡ first.calls ++ b) × (later.calls ≡ b ++ Executed command answer ∷ more)) → At (From old) all before command answer more new.known
+          cut : ((m : List Call) × (first.calls ≡ before ++ Executed command answer ∷ m) × (more ≡ m ++ later.calls)) ⊎ ((b : List Call) × (before ≡ first.calls ++ b) × (later.calls ≡ b ++ Executed command answer ∷ more)) → At (From old) all before command answer more new.full_text
           cut (inl (m, own, left)) =
               let alone = few_is first.calls before m command answer (few member old turn.body first.calls (turn_spelled g h member old mid first turn)) own in
-              here (own ∙ ap (λ k. before ++ Executed command answer ∷ k) alone.1) alone.0 (subst (λ k. Runs h mid.known k new.known) (sym (left ∙ ap (λ k. k ++ later.calls) alone.1)) (turns_made g h members mid new later turns)) later
+              here (own ∙ ap (λ k. before ++ Executed command answer ∷ k) alone.1) alone.0 (subst (λ k. Runs h mid.full_text k new.full_text) (sym (left ∙ ap (λ k. k ++ later.calls) alone.1)) (turns_made g h members mid new later turns)) later
               (ap (λ (d : Deeds). d.out) all_is) (ap (λ (d : Deeds). d.err) all_is)
           cut (inr (b, front, left)) =
               let it = next later turns b left in
@@ -256,17 +256,17 @@ ran_turns g h (Err fault) old new all (it, is) =
     let made = broken_made g h fault it.whole front.0 old.shell it.mid new.shell it.mid_out new.out it.mid_err new.err it.next it.deeds front.1 it.broken in
     (made.0, subst (Turns g h made.0 old.shell new.shell) (sym is) made.1)
 
-ran_made : {P S : Type 0} (g : Ghosts P) (h : Ghosts S) (ended : Result Status RunFault) (old new : Console P S) (all : Deeds) → Ran g h ended old new all → Runs h old.shell.known all.calls new.shell.known
+ran_made : {P S : Type 0} (g : Ghosts P) (h : Ghosts S) (ended : Result Status RunFault) (old new : Console P S) (all : Deeds) → Ran g h ended old new all → Runs h old.shell.full_text all.calls new.shell.full_text
 ran_made g h ended old new all ran = let it = ran_turns g h ended old new all ran in turns_made g h it.0 old.shell new.shell all it.1
 
-all_made : {P S : Type 0} (g : Ghosts P) (h : Ghosts S) (old new : Parts P S) (all : Deeds) → AllRan g h old all new → Runs h old.known all.calls new.known
+all_made : {P S : Type 0} (g : Ghosts P) (h : Ghosts S) (old new : Parts P S) (all : Deeds) → AllRan g h old all new → Runs h old.full_text all.calls new.full_text
 all_made g h old new all (none_ran parts) = refl
 all_made g h old new all (last_ran ended from to own ran) = ran_made g h ended from to own ran
 all_made g h old new all (first_ran ended from to own rest last ran later) =
-    runs_join h from.shell.known to.shell.known last.known own.calls rest.calls (ran_made g h ended from to own ran) (all_made g h (parts_of to.shell) last rest later)
+    runs_join h from.shell.full_text to.shell.full_text last.full_text own.calls rest.calls (ran_made g h ended from to own ran) (all_made g h (parts_of to.shell) last rest later)
 
 -- in a run, behind none
-at_run : {P S : Type 0} (g : Ghosts P) (h : Ghosts S) (ended : Result Status RunFault) (from to : Console P S) (all : Deeds) → Ran g h ended from to all → (before more : List Call) (command : Command) (answer : Result Reply Fault) → all.calls ≡ before ++ Executed command answer ∷ more → At g h (Reached g h (parts_of from.shell)) all before command answer more to.shell.known
+at_run : {P S : Type 0} (g : Ghosts P) (h : Ghosts S) (ended : Result Status RunFault) (from to : Console P S) (all : Deeds) → Ran g h ended from to all → (before more : List Call) (command : Command) (answer : Result Reply Fault) → all.calls ≡ before ++ Executed command answer ∷ more → At g h (Reached g h (parts_of from.shell)) all before command answer more to.shell.full_text
 at_run g h ended from to all ran before more command answer is =
     let turns = ran_turns g h ended from to all ran in
     let it = at_turn g h turns.0 from.shell to.shell all turns.1 before more command answer is in
@@ -286,13 +286,13 @@ at_run g h ended from to all ran before more command answer is =
       err = it.err;
     }
 
-at_all : {P S : Type 0} (g : Ghosts P) (h : Ghosts S) (old new : Parts P S) (all : Deeds) → AllRan g h old all new → (before more : List Call) (command : Command) (answer : Result Reply Fault) → all.calls ≡ before ++ Executed command answer ∷ more → At g h (Reached g h old) all before command answer more new.known
+at_all : {P S : Type 0} (g : Ghosts P) (h : Ghosts S) (old new : Parts P S) (all : Deeds) → AllRan g h old all new → (before more : List Call) (command : Command) (answer : Result Reply Fault) → all.calls ≡ before ++ Executed command answer ∷ more → At g h (Reached g h old) all before command answer more new.full_text
 at_all g h old new all (none_ran parts) before more command answer is = absurd (no_more before more (Executed command answer) is)
 at_all g h old new all (last_ran ended from to own ran) before more command answer is = at_run g h ended from to own ran before more command answer is
 at_all {P} {S} g h old new all (first_ran ended from to own rest last ran others) before more command answer is = cut (λ b left. at_all g h (parts_of to.shell) last rest others b more command answer left) (split_at own.calls rest.calls before more (Executed command answer) is)
   where
-    cut : ((b : List Call) → rest.calls ≡ b ++ Executed command answer ∷ more → At g h (Reached g h (parts_of to.shell)) rest b command answer more last.known) → ((m : List Call) × (own.calls ≡ before ++ Executed command answer ∷ m) × (more ≡ m ++ rest.calls)) ⊎ ((b : List Call) × (before ≡ own.calls ++ b) × (rest.calls ≡ b ++ Executed command answer ∷ more)) →
-        At g h (Reached g h (parts_of from.shell)) (and_then own rest) before command answer more last.known
+    cut : ((b : List Call) → rest.calls ≡ b ++ Executed command answer ∷ more → At g h (Reached g h (parts_of to.shell)) rest b command answer more last.full_text) → ((m : List Call) × (own.calls ≡ before ++ Executed command answer ∷ m) × (more ≡ m ++ rest.calls)) ⊎ ((b : List Call) × (before ≡ own.calls ++ b) × (rest.calls ≡ b ++ Executed command answer ∷ more)) →
+        At g h (Reached g h (parts_of from.shell)) (and_then own rest) before command answer more last.full_text
     cut next (inl (m, mine, left)) =
         let it = at_run g h ended from to own ran before m command answer mine in
         record {
@@ -306,7 +306,7 @@ at_all {P} {S} g h old new all (first_ran ended from to own rest last ran others
           calls = it.calls;
           turn = it.turn;
           only = it.only;
-          ends = subst (λ k. Runs h it.now.known k last.known) (sym left) (runs_join h it.now.known to.shell.known last.known m rest.calls it.ends (all_made g h (parts_of to.shell) last rest others));
+          ends = subst (λ k. Runs h it.now.full_text k last.full_text) (sym left) (runs_join h it.now.full_text to.shell.full_text last.full_text m rest.calls it.ends (all_made g h (parts_of to.shell) last rest others));
           out = behind it.earlier.out it.own.out it.later.out rest.out it.out;
           err = behind it.earlier.err it.own.err it.later.err rest.err it.err;
         }
@@ -341,21 +341,21 @@ module _ (table : List ℕ) (items : Items) (filter : Filter) (limit : Option �
   not_none : NoCommand selected → ⊥
   not_none it = it
 
-  select_class : (look : Look) (line : ℕ) (told : Told) (made : Option (List ℕ)) (class : Option Class) → CallsOfClass look line told selected made class → Tells look line (says (reply_text look reply)) told
-  select_class look line told made None it = absurd (not_none (none_of selected it))
-  select_class look line told made (Some Plain) it = absurd (not_none (note_of made selected it))
-  select_class look line told made (Some (FullText command)) (inl (answer, is, tells)) =
+  select_class : (settings : Settings) (line : ℕ) (told : Told) (made : Option (List ℕ)) (class : Option Class) → CallsOfClass settings line told selected made class → Tells settings line (says (reply_text settings reply)) told
+  select_class settings line told made None it = absurd (not_none (none_of selected it))
+  select_class settings line told made (Some Plain) it = absurd (not_none (note_of made selected it))
+  select_class settings line told made (Some (FullTextClass command)) (inl (answer, is, tells)) =
       let same : answer ≡ Ok reply = (let e = is in cc) in
-      subst (λ a. Tells look line (reply_told look line a) told) same tells
-  select_class look line told made (Some (FullText command)) (inr it) = absurd (let wrong = it.0 in cc)
+      subst (λ a. Tells settings line (reply_told settings line a) told) same tells
+  select_class settings line told made (Some (FullTextClass command)) (inr it) = absurd (let wrong = it.0 in cc)
 
-  select_import : (look : Look) (line : ℕ) (told : Told) (holds : Files) (what : Import) (there : Option ℕ) → CallsOfImport look line told selected holds what there → ⊥
-  select_import look line told holds what None it = not_none (note_of (Some what.table) selected it)
-  select_import look line told holds what (Some n) (inl it) = let wrong = it.2.1 in cc
-  select_import look line told holds what (Some n) (inr it) = let wrong = it.0 in cc
+  select_import : (settings : Settings) (line : ℕ) (told : Told) (holds : Files) (what : Import) (there : Option ℕ) → CallsOfImport settings line told selected holds what there → ⊥
+  select_import settings line told holds what None it = not_none (note_of (Some what.table) selected it)
+  select_import settings line told holds what (Some n) (inl it) = let wrong = it.2.1 in cc
+  select_import settings line told holds what (Some n) (inr it) = let wrong = it.0 in cc
 
   select_dot : {P S : Type 0} (line : ℕ) (old : Shell P S) (told : Told) (command : DotCommand) → CallsOfDot line old told selected command → ⊥
-  select_dot line old told (Importing what) it = select_import old.look line told old.holds what (columns_in old.known.tables what.table) it
+  select_dot line old told (Importing what) it = select_import old.settings line told old.holds what (columns_in old.full_text.tables what.table) it
   select_dot line old told Nothing it = not_none (none_of selected it)
   select_dot line old told (SetMode mode) it = not_none (none_of selected it)
   select_dot line old told (SetHeaders shown) it = not_none (none_of selected it)
@@ -369,14 +369,14 @@ module _ (table : List ℕ) (items : Items) (filter : Filter) (limit : Option �
   select_dot line old told (Usage text) it = not_none (none_of selected it)
   select_dot line old told Unknown it = not_none (none_of selected it)
 
-  select_sql : {P S : Type 0} (line : ℕ) (text : List ℕ) (old : Shell P S) (told : Told) → CallsOf (Sql line text) old told selected → Tells old.look line (says (reply_text old.look reply)) told
+  select_sql : {P S : Type 0} (line : ℕ) (text : List ℕ) (old : Shell P S) (told : Told) → CallsOf (Sql line text) old told selected → Tells old.settings line (says (reply_text old.settings reply)) told
   select_sql line text old told it = go (is_unclosed text) it
     where
-      go : (is_open : Bool) → MatchBool is_open (selected ≡ []) (CallsOfClass old.look line told selected (made_name (tokens_of text)) (class_of (table_names old.known) (tokens_of text))) → Tells old.look line (says (reply_text old.look reply)) told
+      go : (is_open : Bool) → MatchBool is_open (selected ≡ []) (CallsOfClass old.settings line told selected (made_name (tokens_of text)) (class_of (table_names old.full_text) (tokens_of text))) → Tells old.settings line (says (reply_text old.settings reply)) told
       go true it = absurd (not_none (none_of selected it))
-      go false it = select_class old.look line told (made_name (tokens_of text)) (class_of (table_names old.known) (tokens_of text)) it
+      go false it = select_class old.settings line told (made_name (tokens_of text)) (class_of (table_names old.full_text) (tokens_of text)) it
 
-  select_lists : {P S : Type 0} (g : Ghosts P) (h : Ghosts S) (old new : Parts P S) (all : Deeds) (before more : List Call) → At g h (Reached g h old) all before (Select table items filter limit offset) (Ok reply) more new.known → Lists g h old all before more new reply
+  select_lists : {P S : Type 0} (g : Ghosts P) (h : Ghosts S) (old new : Parts P S) (all : Deeds) (before more : List Call) → At g h (Reached g h old) all before (Select table items filter limit offset) (Ok reply) more new.full_text → Lists g h old all before more new reply
   select_lists {P} {S} g h old new all before more it = go it.member it.turn
     where
       go : (member : Member) → Turn g h member it.was it.now it.own → Lists g h old all before more new reply
@@ -399,16 +399,16 @@ module _ (table : List ℕ) (items : Items) (filter : Filter) (limit : Option �
         err = it.err;
       }
         where
-          told : Tells it.was.look line (says (reply_text it.was.look reply)) turn.body → (told_by it.own ≡ echoed it.was.look text (says (reply_text it.was.look reply))) ⊎ (told_by it.own ≡ echoed it.was.look text (lacks_memory it.was.look line))
-          told (inl is) = inl (turn.tells ∙ ap (echoed it.was.look text) is)
-          told (inr is) = inr (turn.tells ∙ ap (echoed it.was.look text) is)
+          told : Tells it.was.settings line (says (reply_text it.was.settings reply)) turn.body → (told_by it.own ≡ echoed it.was.settings text (says (reply_text it.was.settings reply))) ⊎ (told_by it.own ≡ echoed it.was.settings text (lacks_memory it.was.settings line))
+          told (inl is) = inl (turn.tells ∙ ap (echoed it.was.settings text) is)
+          told (inr is) = inr (turn.tells ∙ ap (echoed it.was.settings text) is)
 
 -- ---- the promise
 
 pub kept_by_runs : {P S : Type 0} (g : Ghosts P) (h : Ghosts S) → KeptByCalls h → NoneGetsUnsound → KeptByRuns g h (IsUp h)
 kept_by_runs g h law sound first old new all held ran up =
     let runs = all_made g h old new all ran in
-    let kept = law old.known new.known all.calls first up held runs in
+    let kept = law old.full_text new.full_text all.calls first up held runs in
     record {
       holds = kept.0;
       sound = λ id. sound first (accepted all.calls) id;
@@ -417,7 +417,7 @@ kept_by_runs g h law sound first old new all held ran up =
         reply_is (left_by first (accepted before)) (Select table items filter limit offset) reply (answer_at first before more (Select table items filter limit offset) (Ok reply) (subst (AreAnswered first) is kept.1)),
         select_lists table items filter limit offset reply g h old new all before more (at_all g h old new all ran before more (Select table items filter limit offset) (Ok reply) is),
       );
-      refused = λ before more command fault is. refused_at h old.known new.known before more command fault up (subst (λ cs. Runs h old.known cs new.known) is runs);
+      refused = λ before more command fault is. refused_at h old.full_text new.full_text before more command fault up (subst (λ cs. Runs h old.full_text cs new.full_text) is runs);
     }
 
 -- one run, however it ends

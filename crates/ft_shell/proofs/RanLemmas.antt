@@ -13,7 +13,7 @@ use Rattle.ft_shell.specs.Shell.{Shell}
 use Rattle.ft_shell.specs.Told.{Told, Deeds, deeds_of, idle, and_then, echo_text, echoed}
 use Rattle.ft_shell.specs.Turns.{Body, Turn, calls_in, echo_of}
 use Rattle.ft_shell.specs.Broken.{Broken, not_begun, not_echoed, not_told}
-use Rattle.shell_text.specs.Print.{Look}
+use Rattle.shell_text.specs.Print.{Settings}
 use Rattle.ft_shell.specs.Writing.{AppendsUpTo, Sends}
 use Rattle.ft_shell.specs.Ran.{Moment, Did, Cut, Passes, Breaks, Runs}
 use Rattle.ft_shell.proofs.WriteLemmas.{appends_then, appends_same}
@@ -102,7 +102,7 @@ passes_one g h member a b did = record { done = member ∷ []; front = λ rest. 
 
 -- a turn was done, and a writer refused a part of what it tells
 pub breaks_one : {P S : Type 0} (g : Ghosts P) (h : Ghosts S) (fault : RunFault) (member : Member) (a b : Moment P S) (own : Deeds) (front rest : List ℕ) → fault ≡ causes.Write → Turn g h member a.shell b.shell own →
-    own.out ≡ echo_of a.shell.look member ++ (front ++ rest) → Appends a.out b.out (echo_of a.shell.look member ++ front) → AppendsUpTo a.err b.err own.err → Breaks g h fault (λ (rest : List Member). member ∷ rest) a b
+    own.out ≡ echo_of a.shell.settings member ++ (front ++ rest) → Appends a.out b.out (echo_of a.shell.settings member ++ front) → AppendsUpTo a.err b.err own.err → Breaks g h fault (λ (rest : List Member). member ∷ rest) a b
 breaks_one g h fault member a b own front rest cause turn is written lines = record {
   done = [];
   next = member ∷ [];
@@ -111,7 +111,7 @@ breaks_one g h fault member a b own front rest cause turn is written lines = rec
 }
 
 -- the echo of a unit was refused, so that it is not run
-pub breaks_echo : {P S : Type 0} (g : Ghosts P) (h : Ghosts S) (fault : RunFault) (member : Member) (a : Moment P S) (out : Option (List ℕ)) → AppendsUpTo a.out out (echo_of a.shell.look member) → fault ≡ causes.Write → Breaks g h fault (λ (rest : List Member). member ∷ rest) a (record a { out = out })
+pub breaks_echo : {P S : Type 0} (g : Ghosts P) (h : Ghosts S) (fault : RunFault) (member : Member) (a : Moment P S) (out : Option (List ℕ)) → AppendsUpTo a.out out (echo_of a.shell.settings member) → fault ≡ causes.Write → Breaks g h fault (λ (rest : List Member). member ∷ rest) a (record a { out = out })
 breaks_echo g h fault member a out part cause = record {
   done = [];
   next = member ∷ [];
@@ -187,19 +187,19 @@ lacks_memory g h due left a = (breaks_none g h causes.Memory due a, inr refl)
 
 -- A turn was done. Its echo was written, and what it tells behind that, or a front of it.
 pub runs_turn : {P S T : Type 0} (g : Ghosts P) (h : Ghosts S) (r : Result T RunFault) (member : Member) (a b : Moment P S) (told : Deeds) (mid : Option (List ℕ)) (body : List ℕ) → Turn g h member a.shell b.shell told →
-    told.out ≡ echo_of a.shell.look member ++ body → Appends a.out mid (echo_of a.shell.look member) → Sends r mid b.out body → Sends r a.err b.err told.err →
+    told.out ≡ echo_of a.shell.settings member ++ body → Appends a.out mid (echo_of a.shell.settings member) → Sends r mid b.out body → Sends r a.err b.err told.err →
     IfErr r (λ fault. fault ≡ causes.Write) → OnOk r (b.status.faults ≡ min (a.status.faults + told.faults) (2 ^ 64 - 1)) → OnOk r (b.status.quit ≡ (a.status.quit || told.ends)) →
     Runs g h r (λ (rest : List Member). member ∷ rest) (λ rest. rest) a b
 runs_turn g h (Ok x) member a b told mid body turn is echo out err cause faults quit =
-    passes_one g h member a b (did_one g h member a b told turn (subst (Appends a.out b.out) (sym is) (appends_then a.out mid b.out (echo_of a.shell.look member) body echo out)) err faults quit)
+    passes_one g h member a b (did_one g h member a b told turn (subst (Appends a.out b.out) (sym is) (appends_then a.out mid b.out (echo_of a.shell.settings member) body echo out)) err faults quit)
 runs_turn g h (Err fault) member a b told mid body turn is echo (front, rest, split, written) err cause faults quit =
-    (breaks_one g h fault member a b told front rest cause turn (is ∙ ap (λ xs. echo_of a.shell.look member ++ xs) split) (appends_then a.out mid b.out (echo_of a.shell.look member) front echo written) err, inl cause)
+    (breaks_one g h fault member a b told front rest cause turn (is ∙ ap (λ xs. echo_of a.shell.settings member ++ xs) split) (appends_then a.out mid b.out (echo_of a.shell.settings member) front echo written) err, inl cause)
 
-pub unit_echo : (look : Look) (kind : UnitKind) (line : ℕ) (text : List ℕ) → echo_of look (member_as kind line text) ≡ echo_text look text
-unit_echo look kinds.Sql line text = refl
-unit_echo look kinds.Dot line text = refl
+pub unit_echo : (settings : Settings) (kind : UnitKind) (line : ℕ) (text : List ℕ) → echo_of settings (member_as kind line text) ≡ echo_text settings text
+unit_echo settings kinds.Sql line text = refl
+unit_echo settings kinds.Dot line text = refl
 
 -- a unit's turn: its text is echoed before what it tells
-pub unit_turned : {P S : Type 0} (g : Ghosts P) (h : Ghosts S) (kind : UnitKind) (line : ℕ) (text : List ℕ) (old new : Shell P S) (body : Told) → (done : Body g h (member_as kind line text) old new body) → Turn g h (member_as kind line text) old new (deeds_of (echoed old.look text body) (calls_in g h (member_as kind line text) old new body done))
+pub unit_turned : {P S : Type 0} (g : Ghosts P) (h : Ghosts S) (kind : UnitKind) (line : ℕ) (text : List ℕ) (old new : Shell P S) (body : Told) → (done : Body g h (member_as kind line text) old new body) → Turn g h (member_as kind line text) old new (deeds_of (echoed old.settings text body) (calls_in g h (member_as kind line text) old new body done))
 unit_turned g h kinds.Sql line text old new body done = record { body = body; done = done; tells = refl; calls = refl }
 unit_turned g h kinds.Dot line text old new body done = record { body = body; done = done; tells = refl; calls = refl }

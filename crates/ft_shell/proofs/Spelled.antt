@@ -3,12 +3,12 @@
 use Rattle.std.specs.Prelude.{ℕ, ◌≡◌, ◌⊎◌, Bool, false, MatchBool, List, [], ◌∷◌, map, Option, Some, None, Result}
 use Rattle.csv.specs.Reading.{AreRecords, strip_bom}
 use Rattle.csv.specs.declared.parser.State.TheVariants as csv
-use Rattle.shell_text.specs.Print.{Look}
+use Rattle.shell_text.specs.Print.{Settings}
 use Rattle.shell_text.specs.Units.{Member, Sql, Dot, Fault}
 use Rattle.shell_text.specs.Dot.{dot_words_of}
 use Rattle.shell_text.specs.Records.{csv_reader}
 use Rattle.shell_text.specs.Words.{is_unclosed}
-use Rattle.ft_content.specs.declared.fault.Fault.{Fault as Cause}
+use Rattle.ft_values.specs.declared.fault.Fault.{Fault as Cause}
 use Rattle.ft_content.specs.Command.{Command, Insert, Reply}
 use Rattle.ft_index.specs.Kept.{Call, Executed, Noted}
 use Rattle.ft_statements.specs.Words.{tokens_of}
@@ -34,41 +34,41 @@ abbrev pub MayRead : List Call → Type 0
 MayRead calls = (calls ≡ []) ⊎ (calls ≡ Noted [] false ∷ [])
 
 -- the records that `csv` reads in the bytes of the file that an import names
-pub record HasRecords (look : Look) (holds : Files) (what : Import) (found : List (List (List ℕ))) : Type 0 where
+pub record HasRecords (settings : Settings) (holds : Files) (what : Import) (found : List (List (List ℕ))) : Type 0 where
   pub delimiter : ℕ
-  pub parts : delimiter_of what.csv look ≡ Some delimiter
+  pub parts : delimiter_of what.csv settings ≡ Some delimiter
   pub bytes : List ℕ
   pub gives : Gives holds what.file bytes
   pub are : AreRecords (csv_reader delimiter) csv.StartRecord (strip_bom bytes) found
 
-module _ (look : Look) (line : ℕ) (told : Told) (calls : List Call) where
+module _ (settings : Settings) (line : ℕ) (told : Told) (calls : List Call) where
   -- the command is executed once, and this is told of its answer; or nothing is called, and a fault line says why
   abbrev pub OneCommand : Command → (Result Reply Cause → Told) → Type 0
-  OneCommand command due = (answer : Result Reply Cause) × (calls ≡ Executed command answer ∷ []) × Tells look line (due answer) told
+  OneCommand command due = (answer : Result Reply Cause) × (calls ≡ Executed command answer ∷ []) × Tells settings line (due answer) told
 
   abbrev pub NoCall : Type 0
-  NoCall = (calls ≡ []) × (why : List ℕ) × (told ≡ blames look line why)
+  NoCall = (calls ≡ []) × (why : List ℕ) × (told ≡ blames settings line why)
 
   -- a full-text statement's command is executed, and the name of the table that a plain one makes is noted
   abbrev pub CallsOfClass : Option (List ℕ) → Option Class → Type 0
   CallsOfClass made None = calls ≡ []
   CallsOfClass made (Some Plain) = MayNote made calls
-  CallsOfClass made (Some (FullText command)) = OneCommand command (reply_told look line) ⊎ NoCall
+  CallsOfClass made (Some (FullText command)) = OneCommand command (reply_told settings line) ⊎ NoCall
 
   -- the records go into a full-text table by one Insert; a plain table that is made for them is noted
   abbrev pub CallsOfImport : Files → Import → Option ℕ → Type 0
   CallsOfImport holds what None = MayNote (Some what.table) calls
   CallsOfImport holds what (Some n) =
-      ((found : List (List (List ℕ))) × HasRecords look holds what found
-      × OneCommand (Insert what.table None (map (fitted n) (records_in (kept what.skip found)))) (insert_told look line (warnings what.file n (kept what.skip found)))) ⊎ NoCall
+      ((found : List (List (List ℕ))) × HasRecords settings holds what found
+      × OneCommand (Insert what.table None (map (fitted n) (records_in (kept what.skip found)))) (insert_told settings line (warnings what.file n (kept what.skip found)))) ⊎ NoCall
 
 -- what a member calls, over the tables and the files that are there, where this is told of it
 abbrev pub CallsOfDot : {P S : Type 0} → ℕ → Shell P S → Told → List Call → DotCommand → Type 0
-CallsOfDot line old told calls (Importing what) = CallsOfImport old.look line told calls old.holds what (columns_in old.known.tables what.table)
+CallsOfDot line old told calls (Importing what) = CallsOfImport old.settings line told calls old.holds what (columns_in old.full_text.tables what.table)
 CallsOfDot line old told calls Tables = MayRead calls
 CallsOfDot line old told calls _ = calls ≡ []
 
 abbrev pub CallsOf : {P S : Type 0} → Member → Shell P S → Told → List Call → Type 0
 CallsOf (Fault line fault) old told calls = calls ≡ []
-CallsOf (Sql line text) old told calls = MatchBool (is_unclosed text) (calls ≡ []) (CallsOfClass old.look line told calls (made_name (tokens_of text)) (class_of (table_names old.known) (tokens_of text)))
+CallsOf (Sql line text) old told calls = MatchBool (is_unclosed text) (calls ≡ []) (CallsOfClass old.settings line told calls (made_name (tokens_of text)) (class_of (table_names old.full_text) (tokens_of text)))
 CallsOf (Dot line text) old told calls = CallsOfDot line old told calls (dot_command_of (dot_words_of (behind_stop text)))

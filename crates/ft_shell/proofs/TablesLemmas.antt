@@ -4,7 +4,7 @@ use Rattle.std.specs.Prelude.{OnErr}
 use Rattle.std.proofs.lemmas.List.{take_more, drop_more, take-append-drop, map-append}
 use Rattle.sqlite.specs.Store.{Ghosts}
 use Rattle.sqlite.specs.Held.{Held}
-use Rattle.ft_shell.specs.TablesTurns.{Finds, Stops, Tries}
+use Rattle.ft_shell.specs.TablesTurns.{Finds, StopsTrying, Tries}
 
 pub finds_cannot : {P : Type 0} (g : Ghosts P) (xs : List (List ℕ)) (name : List ℕ) (old mid new : Held P) (found : List (List ℕ)) → Finds g xs old mid found → Tries g name (Some false) mid new → Finds g (xs ++ name ∷ []) old new found
 finds_cannot g [] name old mid new found first tries = (new, [], (refl, refl), inr (subst (λ h. Tries g name (Some false) h new) first.0 tries, first.1))
@@ -23,8 +23,8 @@ finds_can g (x ∷ xs) name old mid new found first tries = (
 )
 
 -- some were tried, and memory was wanting among the others
-pub stops_after : {P : Type 0} (g : Ghosts P) (xs others : List (List ℕ)) (old mid new : Held P) (found : List (List ℕ)) → Finds g xs old mid found → Stops g others mid new → Stops g (xs ++ others) old new
-stops_after g [] others old mid new found first stops = subst (λ h. Stops g others h new) first.0 stops
+pub stops_after : {P : Type 0} (g : Ghosts P) (xs others : List (List ℕ)) (old mid new : Held P) (found : List (List ℕ)) → Finds g xs old mid found → StopsTrying g others mid new → StopsTrying g (xs ++ others) old new
+stops_after g [] others old mid new found first stops = subst (λ h. StopsTrying g others h new) first.0 stops
 stops_after g (x ∷ xs) others old mid new found first stops =
     let later = stops_after g xs others first.0 mid new first.1 first.2 stops in
     elim first.3 [
@@ -33,7 +33,7 @@ stops_after g (x ∷ xs) others old mid new found first stops =
     ]
 
 -- memory was wanting before another name was tried
-pub stops_now : {P : Type 0} (g : Ghosts P) (names : List (List ℕ)) (at : Held P) → Stops g names at at
+pub stops_now : {P : Type 0} (g : Ghosts P) (names : List (List ℕ)) (at : Held P) → StopsTrying g names at at
 stops_now g [] at = refl
 stops_now g (name ∷ names) at = inl refl
 

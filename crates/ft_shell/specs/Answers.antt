@@ -1,4 +1,4 @@
--- What is told of the rows that `sqlite` answers ("Changing Output Formats" of "Command Line Shell For SQLite").
+-- Meaning. What is told of the rows that `sqlite` answers ("Changing Output Formats" of "Command Line Shell For SQLite").
 use Rattle.std.specs.Prelude.{ℕ, ◌+◌, Bool, true, false, List, [], ◌∷◌, ◌++◌, map, codes, decimal, if◌then◌else◌}
 use Rattle.std.specs.List.{list_any}
 use Rattle.std.specs.Str.{is_utf8}
@@ -6,7 +6,7 @@ use Rattle.sqlite_value.specs.Order.{Row}
 use Rattle.sqlite_value.specs.declared.value.Value.{Value}
 use Rattle.sqlite_value.specs.declared.value.Value.TheVariants as value
 use Rattle.shell_text.specs.Print as print
-use Rattle.shell_text.specs.Print.{Look, Table, printed}
+use Rattle.shell_text.specs.Print.{Settings, Table, printed}
 use Rattle.ft_shell.specs.Told.{Told, says, blames}
 
 abbrev pub is_float : Value → Bool
@@ -43,6 +43,6 @@ abbrev pub has_float : List Row → Bool
 has_float rows = list_any (list_any is_float) rows
 
 -- An answer with a float is refused before anything is printed (own choice).
-abbrev pub rows_told : Look → ℕ → List (List ℕ) → List Row → Told
-rows_told look line names rows =
-    if has_float rows then blames look line (codes "floating-point value in result") else says (printed look (table_of names rows))
+abbrev pub rows_told : Settings → ℕ → List (List ℕ) → List Row → Told
+rows_told settings line names rows =
+    if has_float rows then blames settings line (codes "floating-point value in result") else says (printed settings (table_of names rows))

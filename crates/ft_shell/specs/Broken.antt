@@ -1,4 +1,4 @@
--- Where a run is cut short (own choice).
+-- Meaning. Where a run is cut short (own choice).
 use Rattle.std.specs.Prelude.{ℕ, ◌≡◌, false, List, [], ◌∷◌, ◌++◌, Option}
 use Rattle.std.specs.Io.KnownBytes.{Appends}
 use Rattle.sqlite.specs.Store.{Ghosts}
@@ -15,7 +15,7 @@ use Rattle.ft_shell.specs.Writing.{AppendsUpTo}
 pub data Broken {P S : Type 0} (g : Ghosts P) (h : Ghosts S) (fault : RunFault) (whole : Deeds) (old new : Shell P S) (out out' err err' : Option (List ℕ)) : List Member → Deeds → Type 0 where
   not_begun : new ≡ old → out' ≡ out → err' ≡ err → Broken g h fault whole old new out out' err err' [] whole
   not_echoed : (member : Member) → whole.ends ≡ false → fault ≡ causes.Write → new ≡ old
-      → AppendsUpTo out out' (echo_of old.look member) → err' ≡ err → Broken g h fault whole old new out out' err err' (member ∷ []) whole
+      → AppendsUpTo out out' (echo_of old.settings member) → err' ≡ err → Broken g h fault whole old new out out' err err' (member ∷ []) whole
   not_told : (member : Member) (own : Deeds) (front rest : List ℕ) → whole.ends ≡ false → fault ≡ causes.Write → Turn g h member old new own
-      → own.out ≡ echo_of old.look member ++ (front ++ rest) → Appends out out' (echo_of old.look member ++ front) → AppendsUpTo err err' own.err
+      → own.out ≡ echo_of old.settings member ++ (front ++ rest) → Appends out out' (echo_of old.settings member ++ front) → AppendsUpTo err err' own.err
       → Broken g h fault whole old new out out' err err' (member ∷ []) (and_then whole own)

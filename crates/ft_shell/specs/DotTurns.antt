@@ -1,11 +1,11 @@
--- What a dot-command does in a session ("Special commands to sqlite3 (dot-commands)" of "Command Line Shell For SQLite").
+-- Meaning. What a dot-command does in a session ("Special commands to sqlite3 (dot-commands)" of "Command Line Shell For SQLite").
 use Rattle.std.specs.Prelude.{ℕ, ◌≡◌, ◌==◌, true, if◌then◌else◌, MatchBool, List, [], ◌∷◌, codes}
 use Rattle.sqlite.specs.Store.{Ghosts}
-use Rattle.shell_text.specs.Print.{Look}
+use Rattle.shell_text.specs.Print.{Settings}
 use Rattle.ft_shell.specs.Shell.{Shell}
 use Rattle.ft_statements.specs.Texts.{usage_text}
 use Rattle.ft_statements.specs.Dots.{DotCommand, Nothing, SetMode, SetHeaders, SetSeparator, SetNull, SetEcho, SetBail, Print, Importing, Tables, Quit, Usage, Unknown}
-use Rattle.ft_statements.specs.Settings.{look_after, may_set, print_text}
+use Rattle.ft_statements.specs.Settings.{settings_after, may_set, print_text}
 use Rattle.ft_shell.specs.TablesTurns.{TablesTurn}
 use Rattle.ft_shell.specs.ImportTurns.{ImportTurn}
 use Rattle.ft_shell.specs.Told.{Told, silent, says, blames}
@@ -20,8 +20,8 @@ abbrev pub quits : Told
 quits = record silent { ends = true }
 
 -- a setting is changed, but for a separator that may not be set
-abbrev pub Sets : ℕ → DotCommand → Look → Look → Told → Type 0
-Sets line command old new told = MatchBool (may_set command old) ((new ≡ look_after command old) × (told ≡ silent)) ((new ≡ old) × (told ≡ blames old line (codes "bad separator")))
+abbrev pub Sets : ℕ → DotCommand → Settings → Settings → Told → Type 0
+Sets line command old new told = MatchBool (may_set command old) ((new ≡ settings_after command old) × (told ≡ silent)) ((new ≡ old) × (told ≡ blames old line (codes "bad separator")))
 
 module _ {P S : Type 0} (g : Ghosts P) (h : Ghosts S) (line : ℕ) (old new : Shell P S) (told : Told) where
   -- nothing is done, and this is told
@@ -30,11 +30,11 @@ module _ {P S : Type 0} (g : Ghosts P) (h : Ghosts S) (line : ℕ) (old new : Sh
 
   -- only a setting is changed
   abbrev pub OnlySets : DotCommand → Type 0
-  OnlySets command = (new.plain ≡ old.plain) × (new.known ≡ old.known) × (new.holds ≡ old.holds) × Sets line command old.look new.look told
+  OnlySets command = (new.plain ≡ old.plain) × (new.full_text ≡ old.full_text) × (new.holds ≡ old.holds) × Sets line command old.settings new.settings told
 
   -- the settings and the files are as before
   abbrev pub LooksSame : Type 0
-  LooksSame = (new.look ≡ old.look) × (new.holds ≡ old.holds)
+  LooksSame = (new.settings ≡ old.settings) × (new.holds ≡ old.holds)
 
   abbrev pub DotTurn : DotCommand → Type 0
   DotTurn Nothing = OnlySets Nothing
@@ -45,8 +45,8 @@ module _ {P S : Type 0} (g : Ghosts P) (h : Ghosts S) (line : ℕ) (old new : Sh
   DotTurn (SetEcho on) = OnlySets (SetEcho on)
   DotTurn (SetBail on) = OnlySets (SetBail on)
   DotTurn (Print words) = OnlyTells (says (print_text words))
-  DotTurn (Importing what) = LooksSame × ImportTurn g h old.look line what old.plain new.plain old.known new.known told old.holds
-  DotTurn Tables = LooksSame × TablesTurn g h old.look line old.plain new.plain old.known new.known told
+  DotTurn (Importing what) = LooksSame × ImportTurn g h old.settings line what old.plain new.plain old.full_text new.full_text told old.holds
+  DotTurn Tables = LooksSame × TablesTurn g h old.settings line old.plain new.plain old.full_text new.full_text told
   DotTurn Quit = OnlyTells quits
-  DotTurn (Usage text) = OnlyTells (blames old.look line (usage_text text))
-  DotTurn Unknown = OnlyTells (blames old.look line (codes "unknown dot-command"))
+  DotTurn (Usage text) = OnlyTells (blames old.settings line (usage_text text))
+  DotTurn Unknown = OnlyTells (blames old.settings line (codes "unknown dot-command"))

@@ -1,4 +1,4 @@
--- An input that is read piece by piece (own choice).
+-- Steps. An input that is read piece by piece (own choice).
 use Rattle.std.specs.Prelude.{ℕ, ◌≡◌, ⊤, List, [], ◌∷◌, ◌++◌, Option, Some, None, Result, Ok, Err}
 use Rattle.shell_text.specs.Units.{Member, Fault, lines_of}
 use Rattle.shell_text.specs.declared.units.SplitFault.{SplitFault}

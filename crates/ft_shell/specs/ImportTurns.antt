@@ -1,29 +1,29 @@
--- What `.import` does in a session ("Importing files as CSV or other formats" of "Command Line Shell For SQLite"; that an import is one
+-- Meaning. What `.import` does in a session ("Importing files as CSV or other formats" of "Command Line Shell For SQLite"; that an import is one
 -- command, whole or not at all, that short records are filled with NULL and long ones cut, and each refusal, are own choices).
-use Rattle.std.specs.Prelude.{ℕ, ◌≡◌, ◌⊎◌, ◌<◌, ◌≤◌, List, [], ◌∷◌, length, map, drop, true, false, codes, Option, Some, None, unwrap_or, Result, Ok, Err, if◌then◌else◌}
+use Rattle.std.specs.Prelude.{ℕ, ◌≡◌, ◌⊎◌, ◌<◌, ◌≤◌, List, [], ◌∷◌, length, map, drop, true, false, codes, Option, Some, None, option_map, unwrap_or, Result, Ok, Err, if◌then◌else◌}
 use Rattle.std.specs.List.{enumerate_from}
 use Rattle.csv.specs.Reading.{AreRecords, strip_bom}
 use Rattle.csv.specs.declared.parser.State.TheVariants as csv
 use Rattle.sqlite.specs.Store.{Ghosts}
 use Rattle.sqlite.specs.Held.{Held, state}
-use Rattle.shell_text.specs.Print.{Look}
+use Rattle.shell_text.specs.Print.{Settings}
 use Rattle.shell_text.specs.Records.{IsNoText, csv_reader}
-use Rattle.ft_content.specs.declared.fault.Fault.{Fault}
+use Rattle.ft_values.specs.declared.fault.Fault.{Fault}
 use Rattle.ft_content.specs.Command.{Command, Insert, Reply}
-use Rattle.ft_content.specs.Views.{KnownTable}
-use Rattle.ft_index.specs.Kept.{Known, Executes}
+use Rattle.ft_content.specs.Views.{TableInfo}
+use Rattle.ft_index.specs.Found.{info_named}
+use Rattle.ft_index.specs.Kept.{FullText, Executes}
 use Rattle.ft_index.specs.Crashes.{CommandSurvives}
 use Rattle.ft_statements.specs.Dots.{Import}
 use Rattle.ft_shell.specs.declared.plain_import.ImportFault.{ImportFault}
 use Rattle.ft_shell.specs.declared.plain_import.ImportFault.TheVariants.{Refused, Memory}
 use Rattle.ft_shell.specs.FullTextTurns.{NoteTurn}
 use Rattle.ft_shell.specs.Imports.{delimiter_of, fitted, warnings}
-use Rattle.ft_shell.specs.PlainImports.{HasColumns, Stays, Keeps, import_steps, CommitsAll, Declines, Uncounted}
+use Rattle.ft_shell.specs.PlainImports.{HasColumns, Stays, CommitsNothing, import_steps, CommitsAll, Declines, Uncounted}
 use Rattle.ft_shell.specs.PlainStatements.{IfClean}
 use Rattle.ft_shell.specs.Sources.{Files, Gives, Refuses}
 use Rattle.ft_shell.specs.declared.source.SourceFault.{SourceFault}
 use Rattle.ft_shell.specs.declared.source.SourceFault.TheVariants as sources
-use Rattle.ft_statements.specs.Statements.{is_named}
 use Rattle.ft_shell.specs.TablesTurns.{Tries}
 use Rattle.ft_statements.specs.Texts.{fault_text}
 use Rattle.ft_shell.specs.Told.{Told, blames, followed, lacks_memory, warned, Tells}
@@ -36,44 +36,43 @@ abbrev pub records_in : List (ℕ × List (List ℕ)) → List (List (List ℕ))
 records_in rows = map (λ r. r.1) rows
 
 -- the number of columns of the first table that has this name, if one has
-abbrev pub columns_in : List KnownTable → List ℕ → Option ℕ
-columns_in [] name = None
-columns_in (t ∷ ts) name = if is_named name t.name then Some (length t.columns) else columns_in ts name
+abbrev pub columns_in : List TableInfo → List ℕ → Option ℕ
+columns_in tables name = option_map (λ (t : TableInfo). length t.columns) (info_named tables name)
 
 -- ---- into a full-text table
 
 -- what is told of the answer of the one command: the warnings, or the fault it deserves
-abbrev pub insert_told : Look → ℕ → List ℕ → Result Reply Fault → Told
-insert_told look line lines (Ok reply) = warned lines
-insert_told look line lines (Err fault) = blames look line (fault_text fault)
+abbrev pub insert_told : Settings → ℕ → List ℕ → Result Reply Fault → Told
+insert_told settings line lines (Ok reply) = warned lines
+insert_told settings line lines (Err fault) = blames settings line (fault_text fault)
 
 -- The one command is executed, and its answer is told.
-pub record InsertTurn {S : Type 0} (h : Ghosts S) (look : Look) (line : ℕ) (command : Command) (lines : List ℕ) (before after : Known S) (told : Told) : Type 0 where
+pub record InsertTurn {S : Type 0} (h : Ghosts S) (settings : Settings) (line : ℕ) (command : Command) (lines : List ℕ) (before after : FullText S) (told : Told) : Type 0 where
   pub answer : Result Reply Fault
   pub executes : Executes h before command answer after
   pub survives : CommandSurvives h before command after
-  pub tells : Tells look line (insert_told look line lines answer) told
+  pub tells : Tells settings line (insert_told settings line lines answer) told
 
 -- All records go in by one Insert, or none does. Where memory is wanting before it, nothing is done.
-pub data TextImport {S : Type 0} (h : Ghosts S) (look : Look) (line : ℕ) (what : Import) (n : ℕ) (rows : List (ℕ × List (List ℕ))) (before after : Known S) (told : Told) : Type 0 where
-  executed : InsertTurn h look line (Insert what.table None (map (fitted n) (records_in rows))) (warnings what.file n rows) before after told → TextImport h look line what n rows before after told
-  no_memory : after ≡ before → told ≡ lacks_memory look line → TextImport h look line what n rows before after told
+pub data TextImport {S : Type 0} (h : Ghosts S) (settings : Settings) (line : ℕ) (what : Import) (n : ℕ) (rows : List (ℕ × List (List ℕ))) (before after : FullText S) (told : Told) : Type 0 where
+  executed : InsertTurn h settings line (Insert what.table None (map (fitted n) (records_in rows))) (warnings what.file n rows) before after told → TextImport h settings line what n rows before after told
+  no_memory : after ≡ before → told ≡ lacks_memory settings line → TextImport h settings line what n rows before after told
 
 -- ---- into a plain table
 
 -- a made table's name is noted, after the warnings of its import
-abbrev pub NotesAfter : {S : Type 0} → Ghosts S → Look → ℕ → List ℕ → List ℕ → Known S → Known S → Told → Type 0
-NotesAfter h look line name lines before after told = (end : Told) × NoteTurn h look line name before after end × (told ≡ followed (warned lines) end)
+abbrev pub NotesAfter : {S : Type 0} → Ghosts S → Settings → ℕ → List ℕ → List ℕ → FullText S → FullText S → Told → Type 0
+NotesAfter h settings line name lines before after told = (end : Told) × NoteTurn h settings line name before after end × (told ≡ followed (warned lines) end)
 
 -- the words of what the plain database refused
 abbrev pub fault_words : ImportFault → List ℕ
 fault_words Refused = codes "import refused"
 fault_words Memory = codes "out of memory"
 
-module _ {P : Type 0} (g : Ghosts P) (look : Look) (line : ℕ) (what : Import) (rows : List (ℕ × List (List ℕ))) where
+module _ {P : Type 0} (g : Ghosts P) (settings : Settings) (line : ℕ) (what : Import) (rows : List (ℕ × List (List ℕ))) where
   -- it is refused, or memory is wanting: what was committed stays, and nothing else is told
   abbrev pub IsLeft : List ℕ → Held P → Held P → Told → Type 0
-  IsLeft why old new told = IfClean g old new (Keeps (state g old) (state g new)) × (told ≡ blames look line why)
+  IsLeft why old new told = IfClean g old new (CommitsNothing (state g old) (state g new)) × (told ≡ blames settings line why)
 
   -- Into a table that is there: all records in one transaction, and then the warnings.
   pub data IntoTable (old new : Held P) (told : Told) : Type 0 where
@@ -86,23 +85,23 @@ module _ {P : Type 0} (g : Ghosts P) (look : Look) (line : ℕ) (what : Import) 
 
   -- Into a table that the first record left names the columns of: it is made in the same transaction, and noted after the warnings.
   module _ {S : Type 0} (h : Ghosts S) where
-    pub data IntoNew (old new : Held P) (before after : Known S) (told : Told) : Type 0 where
-      no_header : rows ≡ [] → new ≡ old → after ≡ before → told ≡ blames look line (codes "no header record") → IntoNew old new before after told
+    pub data IntoNew (old new : Held P) (before after : FullText S) (told : Told) : Type 0 where
+      no_header : rows ≡ [] → new ≡ old → after ≡ before → told ≡ blames settings line (codes "no header record") → IntoNew old new before after told
       too_wide : (first : ℕ × List (List ℕ)) (rest : List (ℕ × List (List ℕ))) → rows ≡ first ∷ rest → 100 < length first.1 → new ≡ old → after ≡ before
-          → told ≡ blames look line (codes "import refused") → IntoNew old new before after told
+          → told ≡ blames settings line (codes "import refused") → IntoNew old new before after told
       made : (first : ℕ × List (List ℕ)) (rest : List (ℕ × List (List ℕ))) → rows ≡ first ∷ rest → length first.1 ≤ 100
           → CommitsAll g (import_steps (Some first.1) what.table (length first.1) (records_in rest)) old new
-          → NotesAfter h look line what.table (warnings what.file (length first.1) rest) before after told → IntoNew old new before after told
+          → NotesAfter h settings line what.table (warnings what.file (length first.1) rest) before after told → IntoNew old new before after told
       declined : (first : ℕ × List (List ℕ)) (rest : List (ℕ × List (List ℕ))) → rows ≡ first ∷ rest → length first.1 ≤ 100
           → Declines g (import_steps (Some first.1) what.table (length first.1) (records_in rest)) old new
           → after ≡ before → IsLeft (codes "import refused") old new told → IntoNew old new before after told
       no_memory : after ≡ before → IsLeft (codes "out of memory") old new told → IntoNew old new before after told
 
     -- the table is there where `sqlite` answers a reading of it
-    pub data PlainImport (old new : Held P) (before after : Known S) (told : Told) : Type 0 where
+    pub data PlainImport (old new : Held P) (before after : FullText S) (told : Told) : Type 0 where
       there : (found : Held P) → Tries g what.table (Some true) old found → after ≡ before → IntoTable found new told → PlainImport old new before after told
       new_table : (found : Held P) → Tries g what.table (Some false) old found → IntoNew found new before after told → PlainImport old new before after told
-      untried : Tries g what.table None old new → after ≡ before → told ≡ lacks_memory look line → PlainImport old new before after told
+      untried : Tries g what.table None old new → after ≡ before → told ≡ lacks_memory settings line → PlainImport old new before after told
 
 -- ---- the file
 
@@ -113,15 +112,15 @@ fetch_words sources.Read = codes "cannot read file"
 fetch_words sources.TooBig = codes "file too big"
 fetch_words sources.Memory = codes "out of memory"
 
-module _ {P S : Type 0} (g : Ghosts P) (h : Ghosts S) (look : Look) (line : ℕ) (what : Import) (old new : Held P) (before after : Known S) (told : Told) where
+module _ {P S : Type 0} (g : Ghosts P) (h : Ghosts S) (settings : Settings) (line : ℕ) (what : Import) (old new : Held P) (before after : FullText S) (told : Told) where
   -- nothing is done, and this is the fault line
   abbrev pub Declined : List ℕ → Type 0
-  Declined why = (new ≡ old) × (after ≡ before) × (told ≡ blames look line why)
+  Declined why = (new ≡ old) × (after ≡ before) × (told ≡ blames settings line why)
 
   -- a full-text table hides a plain one of its name
   abbrev pub IntoNamed : List (ℕ × List (List ℕ)) → Option ℕ → Type 0
-  IntoNamed rows (Some n) = (new ≡ old) × TextImport h look line what n rows before after told
-  IntoNamed rows None = PlainImport g look line what rows h old new before after told
+  IntoNamed rows (Some n) = (new ≡ old) × TextImport h settings line what n rows before after told
+  IntoNamed rows None = PlainImport g settings line what rows h old new before after told
 
   -- the file's records go into the table of that name, but for those that are skipped
   abbrev pub RecordsTurn : List (List (List ℕ)) → Type 0
@@ -144,4 +143,4 @@ module _ {P S : Type 0} (g : Ghosts P) (h : Ghosts S) (look : Look) (line : ℕ)
   DelimitedTurn holds (Some delimiter) = FileTurn holds delimiter
 
   abbrev pub ImportTurn : Files → Type 0
-  ImportTurn holds = DelimitedTurn holds (delimiter_of what.csv look)
+  ImportTurn holds = DelimitedTurn holds (delimiter_of what.csv settings)

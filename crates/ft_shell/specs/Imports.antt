@@ -1,8 +1,8 @@
--- The parts of an import: the texts that are made for `sqlite`, the rows out of records, and the warnings ("Importing files as CSV
+-- Meaning. The parts of an import: the texts that are made for `sqlite`, the rows out of records, and the warnings ("Importing files as CSV
 -- or other formats" of "Command Line Shell For SQLite"; that each record has its place in one command is an own choice).
 use Rattle.std.specs.Prelude.{ℕ, Bool, ◌==◌, List, [], ◌∷◌, ◌++◌, length, map, take, replicate, Option, Some, None, if◌then◌else◌, codes, decimal, chars, encode_utf8}
 use Rattle.std.specs.List.{flat_map}
-use Rattle.shell_text.specs.Print.{Look, is_csv_separator}
+use Rattle.shell_text.specs.Print.{Settings, is_csv_separator}
 use Rattle.shell_text.specs.Words.{first_byte}
 use Rattle.ft_content.specs.Content.{Cell, Null, Text}
 
@@ -53,5 +53,5 @@ abbrev pub warnings : List ℕ → ℕ → List (ℕ × List (List ℕ)) → Lis
 warnings file n records = flat_map (warning file n) records
 
 -- what parts fields: a comma where that is said, or else the separator, if it may part fields
-abbrev pub delimiter_of : Bool → Look → Option ℕ
-delimiter_of csv look = if csv then Some 0x2C else if is_csv_separator look.separator then first_byte look.separator else None
+abbrev pub delimiter_of : Bool → Settings → Option ℕ
+delimiter_of csv settings = if csv then Some 0x2C else if is_csv_separator settings.separator then first_byte settings.separator else None

@@ -1,6 +1,6 @@
+-- Meaning
 pub mod Imports
 pub mod Told
-pub mod ToldViews
 pub mod Shell
 pub mod Sources
 pub mod Answers
@@ -11,11 +11,13 @@ pub mod StatementTurns
 pub mod DotTurns
 pub mod TurnCalls
 pub mod Turns
-pub mod Feeds
 pub mod Writing
-pub mod Ran
 pub mod Runs
 pub mod Promise
 pub mod TablesTurns
 pub mod PlainImports
 pub mod ImportTurns
+-- Steps
+pub mod ToldViews
+pub mod Feeds
+pub mod Ran

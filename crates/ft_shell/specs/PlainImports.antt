@@ -1,4 +1,4 @@
--- What an import does to the plain database: one transaction, whole or not at all ("Importing files as CSV or other formats" of
+-- Meaning. What an import does to the plain database: one transaction, whole or not at all ("Importing files as CSV or other formats" of
 -- "Command Line Shell For SQLite"; that an import is one command is an own choice). All that is said of a step has the premise that the
 -- disk is clean as the step ends; then it was clean as the step began.
 use Rattle.std.specs.Prelude.{ℕ, Bool, ◌≡◌, ◌⊎◌, ◌<◌, ◌≤◌, List, [], ◌∷◌, ◌++◌, map, take, replicate, slice_index_or, true, false, Option, Some, None, Ok, Err, is_ok, IsTrue}
@@ -42,7 +42,7 @@ pub record Stays (old new : State) : Type 0 where
   pub mode : new.in_transaction ≡ old.in_transaction
 
 -- Nothing is committed, and what was not is as before or undone.
-pub record Keeps (old new : State) : Type 0 where
+pub record CommitsNothing (old new : State) : Type 0 where
   pub commit : KeepsCommit old new
   pub now : IsTrue new.is_open → (new.now ≡ old.now) ⊎ (new.now ≡ old.committed)
 
@@ -96,7 +96,7 @@ module _ {P : Type 0} (g : Ghosts P) where
     pub refused : Refuses step old new error
 
   -- a front of the steps is done, and the next one is refused
-  pub record Stops (steps : List Step) (old new : Held P) : Type 0 where
+  pub record StopsAtStep (steps : List Step) (old new : Held P) : Type 0 where
     pub front : List Step
     pub step : Step
     pub rest : List Step
@@ -119,7 +119,7 @@ module _ {P : Type 0} (g : Ghosts P) where
   -- Why it is not: a transaction is open; or `sqlite` refuses a step, and what was done is undone; or it refuses the commit.
   pub data Declines (steps : List Step) (old new : Held P) : Type 0 where
     busy : old.in_transaction ≡ true → new ≡ old → Declines steps old new
-    stopped : (last : Held P) → old.in_transaction ≡ false → Stops steps (begun old) last → IfClean g last new (IsRolledBack (state g last) (state g new)) → Declines steps old new
+    stopped : (last : Held P) → old.in_transaction ≡ false → StopsAtStep steps (begun old) last → IfClean g last new (IsRolledBack (state g last) (state g new)) → Declines steps old new
     uncommitted : (last : Held P) (e : Error) → old.in_transaction ≡ false → DoesAll steps (begun old) last → is_memory_error e ≡ false → IfClean g last new (FailsToCommit (state g last) (state g new) e) → Declines steps old new
 
   -- Why a table has no number of columns: none is the only one; or `sqlite` refuses to say, not for want of memory.

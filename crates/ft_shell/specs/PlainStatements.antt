@@ -1,4 +1,4 @@
--- What a statement of plain SQL does in a session ("Command Line Shell For SQLite"; that a query is prepared for its names and then
+-- Meaning. What a statement of plain SQL does in a session ("Command Line Shell For SQLite"; that a query is prepared for its names and then
 -- executed once, and how a refusal is told, are own choices).
 use Rattle.std.specs.Prelude.{ℕ, ◌≡◌, ◌⊎◌, List, [], Option, Ok, Err, Bool, true, false, MatchBool}
 use Rattle.sqlite.specs.Store.{Ghosts}
@@ -11,8 +11,8 @@ use Rattle.sqlite.specs.Steps.{Outlines}
 use Rattle.sqlite.specs.declared.error.Error.{Error}
 use Rattle.sqlite.specs.declared.error.Error.TheVariants.{SqliteFailure}
 use Rattle.sqlite.specs.declared.error.ErrorCode.TheVariants as code
-use Rattle.shell_text.specs.Print.{Look}
-use Rattle.ft_index.specs.Kept.{Known}
+use Rattle.shell_text.specs.Print.{Settings}
+use Rattle.ft_index.specs.Kept.{FullText}
 use Rattle.ft_statements.specs.Plain.{asks, made_name}
 use Rattle.ft_statements.specs.Words.{tokens_of}
 use Rattle.ft_shell.specs.Answers.{rows_told}
@@ -24,8 +24,8 @@ is_memory_error (SqliteFailure code.OutOfMemory) = true
 is_memory_error _ = false
 
 -- the fault line of a refusal: its words are those of `sqlite`, but for want of memory
-abbrev pub TellsRefusal : Look → ℕ → Error → Told → Type 0
-TellsRefusal look line e told = MatchBool (is_memory_error e) (told ≡ lacks_memory look line) ((words : List ℕ) × (told ≡ blames look line words))
+abbrev pub TellsRefusal : Settings → ℕ → Error → Told → Type 0
+TellsRefusal settings line e told = MatchBool (is_memory_error e) (told ≡ lacks_memory settings line) ((words : List ℕ) × (told ≡ blames settings line words))
 
 module _ {P : Type 0} (g : Ghosts P) where
   -- A step of the plain database. All that `sqlite` says has the premise that the disk is clean as the step ends; then it was
@@ -57,22 +57,22 @@ module _ {P : Type 0} (g : Ghosts P) where
     unprepared : Refuses text old new e → FailsToAnswer text old new e
     refused : (prepared : Held P) (names : List (List ℕ)) → Prepares text old prepared names → Refuses text prepared new e → FailsToAnswer text old new e
 
-  pub data QueryTurn (look : Look) (line : ℕ) (text : List ℕ) (old new : Held P) (told : Told) : Type 0 where
-    answered : (names : List (List ℕ)) (rows : List Row) → Answers text old new names rows → Tells look line (rows_told look line names rows) told → QueryTurn look line text old new told
-    refused : (e : Error) → FailsToAnswer text old new e → TellsRefusal look line e told → QueryTurn look line text old new told
+  pub data QueryTurn (settings : Settings) (line : ℕ) (text : List ℕ) (old new : Held P) (told : Told) : Type 0 where
+    answered : (names : List (List ℕ)) (rows : List Row) → Answers text old new names rows → Tells settings line (rows_told settings line names rows) told → QueryTurn settings line text old new told
+    refused : (e : Error) → FailsToAnswer text old new e → TellsRefusal settings line e told → QueryTurn settings line text old new told
 
   -- CREATE, INSERT and whatever is no query; the name of a table that is made is noted
   module _ {S : Type 0} (h : Ghosts S) where
-    pub data CommandTurn (look : Look) (line : ℕ) (text : List ℕ) (made : Option (List ℕ)) (old new : Held P) (before after : Known S) (told : Told) : Type 0 where
-      done : (count : ℕ) → IfClean old new (Executes text [] (state g old) (state g new) (Ok count)) → MaybeNotes h look line made before after told → CommandTurn look line text made old new before after told
-      refused : (e : Error) → IfClean old new (Executes text [] (state g old) (state g new) (Err e)) → after ≡ before → TellsRefusal look line e told → CommandTurn look line text made old new before after told
+    pub data CommandTurn (settings : Settings) (line : ℕ) (text : List ℕ) (made : Option (List ℕ)) (old new : Held P) (before after : FullText S) (told : Told) : Type 0 where
+      done : (count : ℕ) → IfClean old new (Executes text [] (state g old) (state g new) (Ok count)) → MaybeNotes h settings line made before after told → CommandTurn settings line text made old new before after told
+      refused : (e : Error) → IfClean old new (Executes text [] (state g old) (state g new) (Err e)) → after ≡ before → TellsRefusal settings line e told → CommandTurn settings line text made old new before after told
 
     -- a plain statement: a query, or a command
-    abbrev pub PlainTurn : Look → ℕ → List ℕ → Held P → Held P → Known S → Known S → Told → Type 0
-    PlainTurn look line text old new before after told = MatchBool (asks (tokens_of text))
-        (QueryTurn look line text old new told × (after ≡ before))
-        (CommandTurn look line text (made_name (tokens_of text)) old new before after told)
+    abbrev pub PlainTurn : Settings → ℕ → List ℕ → Held P → Held P → FullText S → FullText S → Told → Type 0
+    PlainTurn settings line text old new before after told = MatchBool (asks (tokens_of text))
+        (QueryTurn settings line text old new told × (after ≡ before))
+        (CommandTurn settings line text (made_name (tokens_of text)) old new before after told)
 
 -- a unit's turn, or, for want of memory, nothing
-abbrev pub OrNothing : {P S : Type 0} → Type 0 → Look → ℕ → Held P → Held P → Known S → Known S → Told → Type 0
-OrNothing Turn look line old new before after told = Turn ⊎ ((new ≡ old) × (after ≡ before) × (told ≡ lacks_memory look line))
+abbrev pub OrNothing : {P S : Type 0} → Type 0 → Settings → ℕ → Held P → Held P → FullText S → FullText S → Told → Type 0
+OrNothing Turn settings line old new before after told = Turn ⊎ ((new ≡ old) × (after ≡ before) × (told ≡ lacks_memory settings line))

@@ -1,14 +1,14 @@
--- What runs of a session leave of the full-text tables (own choice).
+-- Meaning. What runs of a session leave of the full-text tables (own choice).
 use Rattle.std.specs.Prelude.{ℕ, ℤ, ◌≡◌, ◌⊎◌, List, ◌∷◌, ◌++◌, Option, Result, Ok, Err, IsTrue}
 use Rattle.std.specs.List.{list_any}
 use Rattle.sqlite.specs.Store.{Ghosts}
 use Rattle.shell_text.specs.Units.{Member, Sql}
 use Rattle.ft_store.specs.Kept.{shows}
-use Rattle.ft_content.specs.declared.fault.Fault.{Fault}
+use Rattle.ft_values.specs.declared.fault.Fault.{Fault}
 use Rattle.ft_content.specs.Command.{Command, Filter, Items, Reply, Select}
 use Rattle.ft_content.specs.Deserved.{Contents}
 use Rattle.ft_content.specs.Step.{reply_to}
-use Rattle.ft_index.specs.Kept.{Known, Call, Executed, Runs, IsUp, Holds, accepted, left_by, AreAnswered, is_unsound, value_of}
+use Rattle.ft_index.specs.Kept.{FullText, Call, Executed, Runs, IsUp, Holds, accepted, left_by, AreAnswered, is_unsound, value_of}
 use Rattle.ft_shell.specs.declared.session.Status.{Status}
 use Rattle.ft_shell.specs.declared.session.RunFault.{RunFault}
 use Rattle.ft_shell.specs.Shell.{Parts, Shell}
@@ -20,7 +20,7 @@ use Rattle.ft_shell.specs.Runs.{Console, Completes, Stops}
 -- ---- runs
 
 abbrev pub parts_of : {P S : Type 0} → Shell P S → Parts P S
-parts_of shell = record { look = shell.look; plain = shell.plain; known = shell.known }
+parts_of shell = record { settings = shell.settings; plain = shell.plain; full_text = shell.full_text }
 
 module _ {P S : Type 0} (g : Ghosts P) (h : Ghosts S) where
   -- A run, however it ended, with what its turns told and the calls that they made of the full-text tables.
@@ -61,15 +61,15 @@ module _ {P S : Type 0} (g : Ghosts P) (h : Ghosts S) where
     pub reached : Reached g h old earlier was
     pub calls : earlier.calls ≡ before
     pub turn : Turn g h (Sql line text) was now own
-    pub ends : Runs h now.known more new.known
-    pub prints : (told_by own ≡ echoed was.look text (says (reply_text was.look reply))) ⊎ (told_by own ≡ echoed was.look text (lacks_memory was.look line))
+    pub ends : Runs h now.full_text more new.full_text
+    pub prints : (told_by own ≡ echoed was.settings text (says (reply_text was.settings reply))) ⊎ (told_by own ≡ echoed was.settings text (lacks_memory was.settings line))
     pub out : all.out ≡ earlier.out ++ (own.out ++ later.out)
     pub err : all.err ≡ earlier.err ++ (own.err ++ later.err)
 
   -- What runs leave of full-text tables that held these contents before them.
-  pub record Keeps (first : Contents) (old : Parts P S) (all : Deeds) (new : Parts P S) : Type 0 where
+  pub record PromiseKept (first : Contents) (old : Parts P S) (all : Deeds) (new : Parts P S) : Type 0 where
     -- each table's content is that of the accepted commands, and the index rows of each sound table are exactly those made from scratch
-    pub holds : Holds h new.known (left_by first (accepted all.calls))
+    pub holds : Holds h new.full_text (left_by first (accepted all.calls))
     -- no table gets unsound
     pub sound : (id : ℤ) → IsTrue (list_any (is_unsound id) (left_by first (accepted all.calls))) → IsTrue (list_any (is_unsound id) first)
     -- each command is answered by the definitions over what those before it left, or refused by the store or memory
@@ -79,17 +79,17 @@ module _ {P S : Type 0} (g : Ghosts P) (h : Ghosts S) where
         (reply ≡ reply_to (left_by first (accepted before)) (Select table items filter limit offset)) × Lists old all before more new reply
     -- a refused command changes no row of content or index, and no mark
     pub refused : (before more : List Call) (command : Command) (fault : Fault) → all.calls ≡ before ++ Executed command (Err fault) ∷ more →
-        (was now : Known S) × Runs h old.known before was × Runs h now more new.known × (value_of h now ≡ value_of h was) × (now.tables ≡ was.tables)
+        (was now : FullText S) × Runs h old.full_text before was × Runs h now more new.full_text × (value_of h now ≡ value_of h was) × (now.tables ≡ was.tables)
 
   -- After any runs the full-text tables are what the accepted commands make of them, if the store is up in the end.
-  abbrev pub KeptByRuns : (Known S → Type 0) → Type 0
-  KeptByRuns Up = (first : Contents) (old new : Parts P S) (all : Deeds) → Holds h old.known first → AllRan g h old all new → Up new.known → Keeps first old all new
+  abbrev pub KeptByRuns : (FullText S → Type 0) → Type 0
+  KeptByRuns Up = (first : Contents) (old new : Parts P S) (all : Deeds) → Holds h old.full_text first → AllRan g h old all new → Up new.full_text → PromiseKept first old all new
 
   -- So it is after one run.
   abbrev pub RanAndKept : Result Status RunFault → Console P S → Console P S → Type 0
   RanAndKept ended old new = (all : Deeds) × Ran g h ended old new all
-      × ((first : Contents) → Holds h old.shell.known first → IsUp h new.shell.known → Keeps first (parts_of old.shell) all (parts_of new.shell))
+      × ((first : Contents) → Holds h old.shell.full_text first → IsUp h new.shell.full_text → PromiseKept first (parts_of old.shell) all (parts_of new.shell))
 
 -- in memory a store is up as long as it is open
-abbrev pub IsOpen : {S : Type 0} → Ghosts S → Known S → Type 0
+abbrev pub IsOpen : {S : Type 0} → Ghosts S → FullText S → Type 0
 IsOpen h known = IsTrue (shows h known.store).is_open

@@ -1,4 +1,4 @@
--- What a session does with members of its input, and what is written for them (own choice).
+-- Steps. What a session does with members of its input, and what is written for them (own choice).
 use Rattle.std.specs.Prelude.{ℕ, ◌≡◌, ◌⊎◌, ◌<◌, false, ◌+◌, ◌-◌, ◌^◌, min, ◌||◌, List, [], ◌++◌, length, take, Option, Result, Ok, Err}
 use Rattle.std.specs.Io.KnownBytes.{Appends, Consumes, IsAtEnd}
 use Rattle.sqlite.specs.Store.{Ghosts}

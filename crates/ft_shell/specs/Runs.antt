@@ -1,4 +1,4 @@
--- What a run of a session does: the turns of its input one after the other, or of a front of it where the run is cut short (own choice).
+-- Meaning. What a run of a session does: the turns of its input one after the other, or of a front of it where the run is cut short (own choice).
 use Rattle.std.specs.Prelude.{ℕ, ◌≡◌, ◌⊎◌, ◌<◌, ◌≤◌, ◌-◌, ◌^◌, min, true, List, ◌++◌, length, take, Option}
 use Rattle.std.specs.Io.KnownBytes.{Appends, Consumes, IsAtEnd}
 use Rattle.sqlite.specs.Store.{Ghosts}

@@ -1,29 +1,29 @@
--- What a session stands on between two turns.
+-- Meaning. What a session stands on between two turns.
 use Rattle.std.specs.Prelude.{refl}
 use Rattle.std.specs.Coded.{Coded, code_by, coded×}
 use Rattle.sqlite.specs.Held.{Held, held_code}
-use Rattle.shell_text.specs.Print.{Look}
+use Rattle.shell_text.specs.Print.{Settings}
 use Rattle.shell_text.specs.contracts.settings.Settings as settings
-use Rattle.ft_index.specs.Kept.{Known, known_code}
+use Rattle.ft_index.specs.Kept.{FullText, full_text_code}
 use Rattle.ft_shell.specs.Sources.{Files}
 
 -- The settings, the connection to the plain database over a store P, the full-text tables over a store S, and what is known of the files
 -- that can be imported.
 pub record Shell (P S : Type 0) : Type 0 where
-  pub look : Look
+  pub settings : Settings
   pub plain : Held P
-  pub known : Known S
+  pub full_text : FullText S
   pub holds : Files
 
 -- the same without the files, which a session is lent for a run
 pub record Parts (P S : Type 0) : Type 0 where
-  pub look : Look
+  pub settings : Settings
   pub plain : Held P
-  pub known : Known S
+  pub full_text : FullText S
 
 abbrev pub parts_code : {P S : Type 0} → Coded P → Coded S → Coded (Parts P S)
-parts_code {P} {S} p s = code_by (Look × (Held P × Known S)) (coded× settings.the_row.coded (coded× (held_code p) (known_code s))) (λ a. (a.look, (a.plain, a.known))) (λ t. record { look = t.0; plain = t.1.0; known = t.1.1 }) (λ _. refl)
+parts_code {P} {S} p s = code_by (Settings × (Held P × FullText S)) (coded× settings.the_row.coded (coded× (held_code p) (full_text_code s))) (λ a. (a.settings, (a.plain, a.full_text))) (λ t. record { settings = t.0; plain = t.1.0; full_text = t.1.1 }) (λ _. refl)
 
 -- a session with the files that it is lent
 abbrev pub lent : {P S : Type 0} → Parts P S → Files → Shell P S
-lent parts holds = record { look = parts.look; plain = parts.plain; known = parts.known; holds = holds }
+lent parts holds = record { settings = parts.settings; plain = parts.plain; full_text = parts.full_text; holds = holds }

@@ -1,4 +1,4 @@
--- What a source of files may answer (own choice).
+-- Meaning. What a source of files may answer (own choice).
 use Rattle.std.specs.Prelude.{ℕ, ◌≡◌, Bool, List, Option, IfSome, IsTrue}
 use Rattle.ft_shell.specs.declared.source.SourceFault.{SourceFault}
 

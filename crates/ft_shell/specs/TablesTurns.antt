@@ -1,4 +1,4 @@
--- What `.tables` does in a session ("Querying the database schema" of "Command Line Shell For SQLite"; that plain tables are listed by
+-- Meaning. What `.tables` does in a session ("Querying the database schema" of "Command Line Shell For SQLite"; that plain tables are listed by
 -- their noted names, and only those that can be read, is an own choice).
 use Rattle.std.specs.Prelude.{ℕ, ◌≡◌, ◌⊎◌, Bool, true, false, List, [], ◌∷◌, map, codes, Option, Some, None}
 use Rattle.sqlite.specs.Store.{Ghosts}
@@ -7,8 +7,8 @@ use Rattle.sqlite.specs.Held.{Held, state}
 use Rattle.sqlite.specs.State.{FailsToQuery, Shown}
 use Rattle.sqlite.specs.declared.error.Error.{Error}
 use Rattle.shell_text.specs.Print as print
-use Rattle.shell_text.specs.Print.{Look}
-use Rattle.ft_index.specs.Kept.{Known, IsUp, OnlyLooks, value_of}
+use Rattle.shell_text.specs.Print.{Settings}
+use Rattle.ft_index.specs.Kept.{FullText, IsUp, OnlyLooks, value_of}
 use Rattle.ft_shell.specs.Imports.{reading_of}
 use Rattle.ft_shell.specs.PlainStatements.{IfClean, is_memory_error}
 use Rattle.ft_statements.specs.Replies.{AreSorted, listed}
@@ -34,18 +34,18 @@ module _ {P : Type 0} (g : Ghosts P) where
       × ((Tries name (Some true) old mid × (found ≡ name ∷ rest)) ⊎ (Tries name (Some false) old mid × (found ≡ rest)))
 
   -- a front of these names was tried, each in turn; then memory was wanting
-  abbrev pub Stops : List (List ℕ) → Held P → Held P → Type 0
-  Stops [] old new = new ≡ old
-  Stops (name ∷ names) old new = (new ≡ old) ⊎ (Tries name None old new ⊎ ((mid : Held P) × (can_read : Bool) × Tries name (Some can_read) old mid × Stops names mid new))
+  abbrev pub StopsTrying : List (List ℕ) → Held P → Held P → Type 0
+  StopsTrying [] old new = new ≡ old
+  StopsTrying (name ∷ names) old new = (new ≡ old) ⊎ (Tries name None old new ⊎ ((mid : Held P) × (can_read : Bool) × Tries name (Some can_read) old mid × StopsTrying names mid new))
 
   -- The names of full-text tables and, of the noted names, those of tables that can be read, sorted and printed; or memory was wanting.
-  pub data Lists (look : Look) (line : ℕ) (own noted : List (List ℕ)) (old new : Held P) (told : Told) : Type 0 where
-    tables : (found names : List (List ℕ)) → Finds noted old new found → AreSorted (listed own found) names → Tells look line (says (print.listed names)) told → Lists look line own noted old new told
-    unsorted : (found : List (List ℕ)) → Finds noted old new found → told ≡ lacks_memory look line → Lists look line own noted old new told
-    untried : Stops noted old new → told ≡ lacks_memory look line → Lists look line own noted old new told
+  pub data Lists (settings : Settings) (line : ℕ) (own noted : List (List ℕ)) (old new : Held P) (told : Told) : Type 0 where
+    tables : (found names : List (List ℕ)) → Finds noted old new found → AreSorted (listed own found) names → Tells settings line (says (print.listed names)) told → Lists settings line own noted old new told
+    unsorted : (found : List (List ℕ)) → Finds noted old new found → told ≡ lacks_memory settings line → Lists settings line own noted old new told
+    untried : StopsTrying noted old new → told ≡ lacks_memory settings line → Lists settings line own noted old new told
 
   module _ {S : Type 0} (h : Ghosts S) where
     -- The noted names are read, and listed with those of the full-text tables; or the full-text store refuses to read them.
-    pub data TablesTurn (look : Look) (line : ℕ) (old new : Held P) (before after : Known S) (told : Told) : Type 0 where
-      lists : (noted : List (List ℕ)) → OnlyLooks h before after → (IsUp h after → noted ≡ map (λ n. n.1) (value_of h before).noted) → Lists look line (table_names before) noted old new told → TablesTurn look line old new before after told
-      refused : OnlyLooks h before after → new ≡ old → Tells look line (blames look line (codes "full-text store refused")) told → TablesTurn look line old new before after told
+    pub data TablesTurn (settings : Settings) (line : ℕ) (old new : Held P) (before after : FullText S) (told : Told) : Type 0 where
+      lists : (noted : List (List ℕ)) → OnlyLooks h before after → (IsUp h after → noted ≡ map (λ n. n.1) (value_of h before).noted) → Lists settings line (table_names before) noted old new told → TablesTurn settings line old new before after told
+      refused : OnlyLooks h before after → new ≡ old → Tells settings line (blames settings line (codes "full-text store refused")) told → TablesTurn settings line old new before after told

@@ -1,4 +1,4 @@
--- What a turn tells as the code holds it.
+-- Steps. What a turn tells as the code holds it.
 use Rattle.std.specs.Prelude.{ℕ, List, [], ◌++◌, Option, Some, None, string_bytes}
 use Rattle.ft_shell.specs.declared.told.FaultText.{FaultText}
 use Rattle.ft_shell.specs.declared.told.FaultText.TheVariants as texts

@@ -1,4 +1,4 @@
--- A session: the turns of an input's members, one after the other, each from what the turn before it left. What a unit is told as is
+-- Meaning. A session: the turns of an input's members, one after the other, each from what the turn before it left. What a unit is told as is
 -- that of its kind; echo and bail are of the section "Special commands to sqlite3 (dot-commands)" of "Command Line Shell For SQLite".
 use Rattle.std.proofs.Common.{inl, inr}
 use Rattle.std.specs.Prelude.{ℕ, ◌≡◌, ◌⊎◌, MatchBool, List, [], ◌∷◌, ◌++◌, take, drop}
@@ -13,37 +13,37 @@ use Rattle.ft_shell.specs.StatementTurns.{StatementTurn}
 use Rattle.ft_index.specs.Kept.{Call}
 use Rattle.ft_shell.specs.TurnCalls.{dot_in, statement_in}
 use Rattle.ft_shell.specs.Told.{Told, Deeds, told_by, idle, and_then, blames, echo_text, echoed, lacks_memory}
-use Rattle.shell_text.specs.Print.{Look}
+use Rattle.shell_text.specs.Print.{Settings}
 
 -- what is written of a member before it is run
-abbrev pub echo_of : Look → Member → List ℕ
-echo_of look (Fault line fault) = []
-echo_of look (Sql line text) = echo_text look text
-echo_of look (Dot line text) = echo_text look text
+abbrev pub echo_of : Settings → Member → List ℕ
+echo_of settings (Fault line fault) = []
+echo_of settings (Sql line text) = echo_text settings text
+echo_of settings (Dot line text) = echo_text settings text
 
 module _ {P S : Type 0} (g : Ghosts P) (h : Ghosts S) where
   -- a dot-command's turn, or, for want of memory, nothing
   abbrev pub DotOrLacks : ℕ → Shell P S → Shell P S → Told → DotCommand → Type 0
-  DotOrLacks line old new told command = DotTurn g h line old new told command ⊎ ((new ≡ old) × (told ≡ lacks_memory old.look line))
+  DotOrLacks line old new told command = DotTurn g h line old new told command ⊎ ((new ≡ old) × (told ≡ lacks_memory old.settings line))
 
   -- what is done with a unit or a fault of the input
   abbrev pub Body : Member → Shell P S → Shell P S → Told → Type 0
-  Body (Fault line fault) old new told = (new ≡ old) × (told ≡ blames old.look line (split_text fault))
-  Body (Sql line text) old new told = (new.look ≡ old.look) × (new.holds ≡ old.holds) × StatementTurn g h old.look line text old.plain new.plain old.known new.known told
+  Body (Fault line fault) old new told = (new ≡ old) × (told ≡ blames old.settings line (split_text fault))
+  Body (Sql line text) old new told = (new.settings ≡ old.settings) × (new.holds ≡ old.holds) × StatementTurn g h old.settings line text old.plain new.plain old.full_text new.full_text told
   Body (Dot line text) old new told = DotOrLacks line old new told (dot_command_of (dot_words_of (behind_stop text)))
 
   -- the calls that this makes of the full-text tables
   abbrev pub calls_in : (member : Member) (old new : Shell P S) (told : Told) → Body member old new told → List Call
   calls_in (Fault line fault) old new told it = []
-  calls_in (Sql line text) old new told it = statement_in g h old.look line text old.plain new.plain old.known new.known told it.2
+  calls_in (Sql line text) old new told it = statement_in g h old.settings line text old.plain new.plain old.full_text new.full_text told it.2
   calls_in (Dot line text) old new told (inl it) = dot_in g h line old new told (dot_command_of (dot_words_of (behind_stop text))) it
   calls_in (Dot line text) old new told (inr nothing) = []
 
   -- the text of a unit is echoed where echo is on
   abbrev pub Echoed : Member → Shell P S → Told → Told → Type 0
   Echoed (Fault line fault) old body told = told ≡ body
-  Echoed (Sql line text) old body told = told ≡ echoed old.look text body
-  Echoed (Dot line text) old body told = told ≡ echoed old.look text body
+  Echoed (Sql line text) old body told = told ≡ echoed old.settings text body
+  Echoed (Dot line text) old body told = told ≡ echoed old.settings text body
 
   -- the turn of one member, with the calls that it makes of the full-text tables
   pub record Turn (member : Member) (old new : Shell P S) (all : Deeds) : Type 0 where

@@ -1,4 +1,4 @@
--- What is written to a writer that may refuse (own choice).
+-- Meaning. What is written to a writer that may refuse (own choice).
 use Rattle.std.specs.Prelude.{ℕ, ◌≡◌, List, ◌++◌, Option, Result, Ok, Err}
 use Rattle.std.specs.Io.KnownBytes.{Appends}
 

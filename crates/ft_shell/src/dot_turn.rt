@@ -59,20 +59,20 @@ pub(crate) fn dot_turn<P: Alter, S: Alter, F: Source>(
     alloc: Global,
     settings: &mut Settings,
     plain: &mut Connection<P>,
-    fulltext: &mut FullText<S>,
+    full_text: &mut FullText<S>,
     source: &mut F,
     line: u64,
     command: &DotCommand,
 ) -> Told
-    ensures turn { DotOrLacks P.Store S.Store line (record { look = settings.old; plain = plain.old; known = fulltext.old; holds = F.holds source.old }) (record { look = settings.new; plain = plain.new; known = fulltext.new; holds = F.holds source.new }) (told_as result) (command_as command.now) }
+    ensures turn { DotOrLacks P.Store S.Store line (record { settings = settings.old; plain = plain.old; full_text = full_text.old; holds = F.holds source.old }) (record { settings = settings.new; plain = plain.new; full_text = full_text.new; holds = F.holds source.new }) (told_as result) (command_as command.now) }
     ensures source { (name : List ℕ) → F.holds source.new name ≡ F.holds source.old name }
 {
     match command {
         DotCommand::Print(words) => print_turn(alloc, settings, line, words.as_slice()),
         DotCommand::Import(what) => import_turn(
-            alloc, settings, plain, fulltext, source, what, line,
+            alloc, settings, plain, full_text, source, what, line,
         ),
-        DotCommand::Tables => tables_turn(alloc, settings, plain, fulltext, line),
+        DotCommand::Tables => tables_turn(alloc, settings, plain, full_text, line),
         DotCommand::Quit => Told::quits(alloc),
         DotCommand::Usage(usage) => usage_turn(alloc, settings, line, usage),
         DotCommand::Unknown => unknown(alloc, settings, line),
@@ -95,19 +95,19 @@ pub(crate) fn dot_line_turn<P: Alter, S: Alter, F: Source>(
     alloc: Global,
     settings: &mut Settings,
     plain: &mut Connection<P>,
-    fulltext: &mut FullText<S>,
+    full_text: &mut FullText<S>,
     source: &mut F,
     line: u64,
     text: &str,
 ) -> Told
-    ensures turn { DotOrLacks P.Store S.Store line (record { look = settings.old; plain = plain.old; known = fulltext.old; holds = F.holds source.old }) (record { look = settings.new; plain = plain.new; known = fulltext.new; holds = F.holds source.new }) (told_as result) (dot_command_of (dot_words_of (behind_stop text.now))) }
+    ensures turn { DotOrLacks P.Store S.Store line (record { settings = settings.old; plain = plain.old; full_text = full_text.old; holds = F.holds source.old }) (record { settings = settings.new; plain = plain.new; full_text = full_text.new; holds = F.holds source.new }) (told_as result) (dot_command_of (dot_words_of (behind_stop text.now))) }
     ensures source { (name : List ℕ) → F.holds source.new name ≡ F.holds source.old name }
 {
     let Ok(words) = dot_words(alloc, behind_stop(text)) else {
         return Told::lacks_memory(alloc, settings, line);
     };
     match dot_command(alloc, words.as_slice()) {
-        Ok(command) => dot_turn(alloc, settings, plain, fulltext, source, line, &command),
+        Ok(command) => dot_turn(alloc, settings, plain, full_text, source, line, &command),
         Err(_) => Told::lacks_memory(alloc, settings, line),
     }
 }

@@ -39,13 +39,13 @@ pub(crate) fn fault_told(alloc: Global, settings: &Settings, line: u64, fault: F
 pub(crate) fn full_text_turn<S: Alter>(
     alloc: Global,
     settings: &Settings,
-    fulltext: &mut FullText<S>,
+    full_text: &mut FullText<S>,
     line: u64,
     command: &Command,
 ) -> Told
-    ensures { FullTextTurn S.Store settings.now line (views.command_of command.now) fulltext.old fulltext.new (told_as result) }
+    ensures { FullTextTurn S.Store settings.now line (views.command_of command.now) full_text.old full_text.new (told_as result) }
 {
-    match fulltext.execute(command) {
+    match full_text.execute(command) {
         Ok(reply) => reply_told(alloc, settings, line, reply),
         Err(fault) => fault_told(alloc, settings, line, fault),
     }
@@ -55,13 +55,13 @@ pub(crate) fn full_text_turn<S: Alter>(
 pub(crate) fn note_turn<S: Alter>(
     alloc: Global,
     settings: &Settings,
-    fulltext: &mut FullText<S>,
+    full_text: &mut FullText<S>,
     line: u64,
     name: &str,
 ) -> Told
-    ensures { NoteTurn S.Store settings.now line name.now fulltext.old fulltext.new (told_as result) }
+    ensures { NoteTurn S.Store settings.now line name.now full_text.old full_text.new (told_as result) }
 {
-    match fulltext.note(name) {
+    match full_text.note(name) {
         Ok(()) => Told::silent(alloc),
         Err(Fault::Memory) => Told::lacks_memory(alloc, settings, line),
         Err(_) => Told::blames(alloc, settings, line, "table not noted"),
@@ -72,14 +72,14 @@ pub(crate) fn note_turn<S: Alter>(
 pub(crate) fn maybe_note<S: Alter>(
     alloc: Global,
     settings: &Settings,
-    fulltext: &mut FullText<S>,
+    full_text: &mut FullText<S>,
     line: u64,
     name: Option<&str>,
 ) -> Told
-    ensures { MaybeNotes S.Store settings.now line (option_map (λ n. n.now) name.entry) fulltext.old fulltext.new (told_as result) }
+    ensures { MaybeNotes S.Store settings.now line (option_map (λ n. n.now) name.entry) full_text.old full_text.new (told_as result) }
 {
     match name {
-        Some(name) => note_turn(alloc, settings, fulltext, line, name),
+        Some(name) => note_turn(alloc, settings, full_text, line, name),
         None => Told::silent(alloc),
     }
 }

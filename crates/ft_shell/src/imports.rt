@@ -7,7 +7,7 @@ ghost use Rattle.ft_shell.specs.Imports as forms;
 ghost use Rattle.ft_statements.specs.Views.{texts_of};
 
 use ft_content::Value;
-use shell_text::Settings;
+use shell_text::{Settings, is_csv_separator};
 use std::alloc::{AllocError, Global};
 use std::fmt::Write;
 
@@ -196,11 +196,12 @@ pub(crate) fn warnings(
 pub(crate) fn delimiter_of(csv: bool, settings: &Settings) -> Option<u8>
     ensures { result ≡ forms.delimiter_of csv settings.now }
 {
+    let separator = settings.separator();
     if csv {
-        return Some(b',');
-    }
-    match settings.separator().as_bytes() {
-        [b] if *b > 0 && *b < 0x80 && !(*b == b'"' || *b == b'\r' || *b == b'\n') => Some(*b),
-        _ => None,
+        Some(b',')
+    } else if is_csv_separator(separator) {
+        separator.as_bytes().first().copied()
+    } else {
+        None
     }
 }

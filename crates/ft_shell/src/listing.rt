@@ -2,7 +2,7 @@
 ghost use Rattle.std.specs.Prelude.{map, string_bytes, IfOk, OnErr};
 ghost use Rattle.shell_text.specs.Print as print;
 ghost use Rattle.ft_content.specs.Views.{info_names};
-ghost use Rattle.ft_shell.specs.TablesTurns.{Finds, Stops, Lists, TablesTurn};
+ghost use Rattle.ft_shell.specs.TablesTurns.{Finds, StopsTrying, Lists, TablesTurn};
 ghost use Rattle.ft_shell.specs.Told.{Tells, says};
 ghost use Rattle.ft_shell.specs.ToldViews.{told_as};
 ghost use Rattle.ft_statements.specs.Views.{texts_of};
@@ -23,7 +23,7 @@ fn found_tables<P: Alter>(
     names: &[String],
 ) -> Result<Vec<String>, AllocError>
     ensures found { IfOk result (λ found. Finds P.Store (map string_bytes names.now) plain.old plain.new (texts_of found)) }
-    ensures stops { OnErr result (Stops P.Store (map string_bytes names.now) plain.old plain.new) }
+    ensures stops { OnErr result (StopsTrying P.Store (map string_bytes names.now) plain.old plain.new) }
 {
     let mut found = Vec::new(alloc);
     for name in names {
@@ -73,17 +73,17 @@ pub(crate) fn tables_turn<P: Alter, S: Alter>(
     alloc: Global,
     settings: &Settings,
     plain: &mut Connection<P>,
-    full: &mut FullText<S>,
+    full_text: &mut FullText<S>,
     line: u64,
 ) -> Told
-    ensures { TablesTurn P.Store S.Store settings.now line plain.old plain.new full.old full.new (told_as result) }
+    ensures { TablesTurn P.Store S.Store settings.now line plain.old plain.new full_text.old full_text.new (told_as result) }
 {
-    match full.noted() {
+    match full_text.noted() {
         Ok(noted) => list_turn(
             alloc,
             settings,
             plain,
-            full.tables(),
+            full_text.tables(),
             line,
             noted.as_slice(),
         ),

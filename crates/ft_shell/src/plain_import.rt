@@ -7,7 +7,7 @@ ghost use Rattle.sqlite.specs.Held.{state};
 ghost use Rattle.sqlite.specs.State.{HasCleanDisk};
 ghost use Rattle.ft_shell.specs.declared.plain_import.ImportFault.TheVariants.{Refused, Memory};
 ghost use Rattle.ft_shell.specs.Imports.{creation_of, insertion_of};
-ghost use Rattle.ft_shell.specs.PlainImports.{HasColumns, IsOnlyBelow, Stays, Keeps, Prepare, Run, fitted_row, runs_of, insertions, import_steps, Does, IsRefused, DoesAll, Stops, CommitsAll, Declines, Uncounted, IsInside, KeepsLast};
+ghost use Rattle.ft_shell.specs.PlainImports.{HasColumns, IsOnlyBelow, Stays, CommitsNothing, Prepare, Run, fitted_row, runs_of, insertions, import_steps, Does, IsRefused, DoesAll, StopsAtStep, CommitsAll, Declines, Uncounted, IsInside, KeepsLast};
 ghost use Rattle.ft_shell.specs.PlainStatements.{IfClean};
 ghost use Rattle.ft_shell.specs.PlainStatements as turns;
 ghost use Rattle.ft_shell.specs.PlainImports as forms;
@@ -54,126 +54,107 @@ impl From<Error> for ImportFault {
     }
 }
 
-// Whether `sqlite` understands an insertion of so many values into the table.
-fn takes_values<P: Alter>(
+/// Puts records into a plain table with so many columns, all of them or none. Where names for its columns are given the
+/// table is made too.
+pub(crate) fn import_records<P: Alter>(
     alloc: Global,
     plain: &mut Connection<P>,
     table: &str,
-    count: usize,
-) -> Result<bool, ImportFault>
-    ensures told { IfOk result (λ takes. IfClean P.Store plain.old plain.new (Stays (state P.Store plain.old) (state P.Store plain.new) × (takes ≡ forms.takes_values (state P.Store plain.old).now.schema table.now count))) }
-    ensures refused { IsErrOf result ImportFault.Refused → IsRefused P.Store (Prepare (insertion_of table.now count)) plain.old plain.new }
-    ensures kept { IfClean P.Store plain.old plain.new (Keeps (state P.Store plain.old) (state P.Store plain.new)) }
-{
-    let text = insertion_text(alloc, table, count)?;
-    match plain.prepare(text.as_str()) {
-        Ok(_) => Ok(true),
-        Err(Error::SqlInputError(_)) => Ok(false),
-        Err(error) => Err(ImportFault::from(error)),
-    }
-}
-
-// The one number so far of values that a table takes, with a number more that was tried.
-fn with_count(found: Option<usize>, takes: bool, count: usize) -> Result<Option<usize>, ImportFault>
-    requires { 1 ≤ count }
-    ensures only { IfOk result (λ next. (schema : Schema) (name : List ℕ) → takes ≡ forms.takes_values schema name count → IsOnlyBelow schema name count found → IsOnlyBelow schema name (count + 1) next) }
-    ensures two { OnErr result ((schema : Schema) (name : List ℕ) → takes ≡ forms.takes_values schema name count → IsOnlyBelow schema name count found → count ≤ 100 → (n : ℕ) → HasColumns schema name n → ⊥) }
-{
-    if !takes {
-        return Ok(found);
-    }
-    match found {
-        Some(_) => Err(ImportFault::Refused),
-        None => Ok(Some(count)),
-    }
-}
-
-/// How many columns a plain table has: the one number from 1 to 100 of values that it takes.
-pub(crate) fn column_count<P: Alter>(
-    alloc: Global,
-    plain: &mut Connection<P>,
-    table: &str,
-) -> Result<usize, ImportFault>
-    ensures counted { IfOk result (λ n. IfClean P.Store plain.old plain.new (Stays (state P.Store plain.old) (state P.Store plain.new) × HasColumns (state P.Store plain.old).now.schema table.now n)) }
-    ensures uncounted { IsErrOf result ImportFault.Refused → Uncounted P.Store table.now plain.old plain.new }
-    ensures kept { OnErr result (IfClean P.Store plain.old plain.new (Keeps (state P.Store plain.old) (state P.Store plain.new))) }
-{
-    let mut found = None;
-    for count in 1..101 {
-        let takes = takes_values(alloc, plain, table, count)?;
-        found = with_count(found, takes, count)?;
-    }
-    match found {
-        Some(count) => Ok(count),
-        None => Err(ImportFault::Refused),
-    }
-}
-
-// The value for a column: its field, or NULL.
-fn field_value(fields: &[String], at: usize) -> ValueRef<'_>
-    ensures { owned result ≡ forms.field_value (map string_bytes fields.now) at }
-{
-    if at < fields.len() {
-        ValueRef::Text(fields[at].as_bytes())
-    } else {
-        ValueRef::Null
-    }
-}
-
-// A record's fields in so many columns: cut, or filled with NULL.
-fn row_values(
-    alloc: Global,
-    fields: &[String],
+    names: Option<&[String]>,
     columns: usize,
-) -> Result<Vec<ValueRef<'_>>, AllocError>
-    ensures { IfOk result (λ row. bound row.items ≡ fitted_row columns (map string_bytes fields.now)) }
-{
-    let mut row = Vec::new(alloc);
-    for at in 0..columns {
-        row.push(field_value(fields, at))?;
-    }
-    Ok(row)
-}
-
-// Puts in one record, by a statement that was prepared for its text.
-fn insert_record<P: Alter>(
-    alloc: Global,
-    tx: &mut Transaction<'_, P>,
-    statement: &Statement,
-    fields: &[String],
-    columns: usize,
+    records: &[Vec<String>],
 ) -> Result<(), ImportFault>
-    requires inside { IsInside P.Store tx.old.conn.now }
-    ensures same_reference { tx.new.conn.ghost_name ≡ tx.old.conn.ghost_name }
-    ensures done { OnOk result ((text : List ℕ) → (HasCleanDisk (state P.Store tx.old.conn.now) → statement.now.text ≡ text) → Does P.Store (Run text (fitted_row columns (map string_bytes fields.now))) tx.old.conn.now tx.new.conn.now) }
-    ensures refused { IsErrOf result ImportFault.Refused → (text : List ℕ) → (HasCleanDisk (state P.Store tx.old.conn.now) → statement.now.text ≡ text) → IsRefused P.Store (Run text (fitted_row columns (map string_bytes fields.now))) tx.old.conn.now tx.new.conn.now }
-    ensures kept { KeepsLast P.Store tx.old.conn.now tx.new.conn.now }
-    ensures inside { OnOk result (IsInside P.Store tx.new.conn.now) }
+    ensures done { OnOk result (CommitsAll P.Store (import_steps (option_map (λ n. map string_bytes n.now) names.entry) table.now columns (map texts_of records.now)) plain.old plain.new) }
+    ensures declined { IsErrOf result ImportFault.Refused → Declines P.Store (import_steps (option_map (λ n. map string_bytes n.now) names.entry) table.now columns (map texts_of records.now)) plain.old plain.new }
+    ensures kept { OnErr result (IfClean P.Store plain.old plain.new (CommitsNothing (state P.Store plain.old) (state P.Store plain.new))) }
 {
-    let row = row_values(alloc, fields, columns)?;
-    let _count = tx.execute_prepared(statement, row.as_slice())?;
+    if !plain.is_autocommit() {
+        return Err(ImportFault::Refused);
+    }
+    let mut tx = plain.transaction();
+    fill(alloc, &mut tx, table, names, columns, records)?;
+    tx.commit()?;
     Ok(())
 }
 
-// Puts in records, by a statement that was prepared for its text.
-fn insert_all<P: Alter>(
+// Puts records into a table, which is made first where names for its columns are given.
+fn fill<P: Alter>(
     alloc: Global,
     tx: &mut Transaction<'_, P>,
-    statement: &Statement,
+    table: &str,
+    names: Option<&[String]>,
     columns: usize,
     records: &[Vec<String>],
 ) -> Result<(), ImportFault>
     requires inside { IsInside P.Store tx.old.conn.now }
     ensures same_reference { tx.new.conn.ghost_name ≡ tx.old.conn.ghost_name }
-    ensures done { OnOk result ((text : List ℕ) → (HasCleanDisk (state P.Store tx.old.conn.now) → statement.now.text ≡ text) → DoesAll P.Store (runs_of text columns (map texts_of records.now)) tx.old.conn.now tx.new.conn.now) }
-    ensures refused { IsErrOf result ImportFault.Refused → (text : List ℕ) → (HasCleanDisk (state P.Store tx.old.conn.now) → statement.now.text ≡ text) → Stops P.Store (runs_of text columns (map texts_of records.now)) tx.old.conn.now tx.new.conn.now }
+    ensures done { OnOk result (DoesAll P.Store (import_steps (option_map (λ n. map string_bytes n.now) names.entry) table.now columns (map texts_of records.now)) tx.old.conn.now tx.new.conn.now) }
+    ensures refused { IsErrOf result ImportFault.Refused → StopsAtStep P.Store (import_steps (option_map (λ n. map string_bytes n.now) names.entry) table.now columns (map texts_of records.now)) tx.old.conn.now tx.new.conn.now }
     ensures kept { KeepsLast P.Store tx.old.conn.now tx.new.conn.now }
     ensures inside { OnOk result (IsInside P.Store tx.new.conn.now) }
 {
-    for fields in records {
-        insert_record(alloc, tx, statement, fields.as_slice(), columns)?;
+    match names {
+        Some(names) => make_and_insert(alloc, tx, table, names, columns, records),
+        None => insert_records(alloc, tx, table, columns, records),
     }
+}
+
+// Makes a table with columns of these names, and puts records into it.
+fn make_and_insert<P: Alter>(
+    alloc: Global,
+    tx: &mut Transaction<'_, P>,
+    table: &str,
+    names: &[String],
+    columns: usize,
+    records: &[Vec<String>],
+) -> Result<(), ImportFault>
+    requires inside { IsInside P.Store tx.old.conn.now }
+    ensures same_reference { tx.new.conn.ghost_name ≡ tx.old.conn.ghost_name }
+    ensures done { OnOk result (DoesAll P.Store (Run (creation_of table.now (map string_bytes names.now)) [] ∷ insertions table.now columns (map texts_of records.now)) tx.old.conn.now tx.new.conn.now) }
+    ensures refused { IsErrOf result ImportFault.Refused → StopsAtStep P.Store (Run (creation_of table.now (map string_bytes names.now)) [] ∷ insertions table.now columns (map texts_of records.now)) tx.old.conn.now tx.new.conn.now }
+    ensures kept { KeepsLast P.Store tx.old.conn.now tx.new.conn.now }
+    ensures inside { OnOk result (IsInside P.Store tx.new.conn.now) }
+{
+    create_table(alloc, tx, table, names)?;
+    insert_records(alloc, tx, table, columns, records)
+}
+
+// Makes a table with columns of these names.
+fn create_table<P: Alter>(
+    alloc: Global,
+    tx: &mut Transaction<'_, P>,
+    table: &str,
+    names: &[String],
+) -> Result<(), ImportFault>
+    requires inside { IsInside P.Store tx.old.conn.now }
+    ensures same_reference { tx.new.conn.ghost_name ≡ tx.old.conn.ghost_name }
+    ensures done { OnOk result (Does P.Store (Run (creation_of table.now (map string_bytes names.now)) []) tx.old.conn.now tx.new.conn.now) }
+    ensures refused { IsErrOf result ImportFault.Refused → IsRefused P.Store (Run (creation_of table.now (map string_bytes names.now)) []) tx.old.conn.now tx.new.conn.now }
+    ensures kept { KeepsLast P.Store tx.old.conn.now tx.new.conn.now }
+    ensures inside { OnOk result (IsInside P.Store tx.new.conn.now) }
+{
+    let text = creation_text(alloc, table, names)?;
+    let _count = tx.execute(text.as_str(), &[])?;
     Ok(())
+}
+
+// Puts in records, by a statement that is prepared once.
+fn insert_records<P: Alter>(
+    alloc: Global,
+    tx: &mut Transaction<'_, P>,
+    table: &str,
+    columns: usize,
+    records: &[Vec<String>],
+) -> Result<(), ImportFault>
+    requires inside { IsInside P.Store tx.old.conn.now }
+    ensures same_reference { tx.new.conn.ghost_name ≡ tx.old.conn.ghost_name }
+    ensures done { OnOk result (DoesAll P.Store (insertions table.now columns (map texts_of records.now)) tx.old.conn.now tx.new.conn.now) }
+    ensures refused { IsErrOf result ImportFault.Refused → StopsAtStep P.Store (insertions table.now columns (map texts_of records.now)) tx.old.conn.now tx.new.conn.now }
+    ensures kept { KeepsLast P.Store tx.old.conn.now tx.new.conn.now }
+    ensures inside { OnOk result (IsInside P.Store tx.new.conn.now) }
+{
+    let statement = prepared_insertion(alloc, tx, table, columns)?;
+    insert_all(alloc, tx, &statement, columns, records)
 }
 
 // The insertion of so many values into the table.
@@ -196,105 +177,124 @@ fn prepared_insertion<P: Alter>(
     Ok(statement)
 }
 
-// Puts in records, by a statement that is prepared once.
-fn insert_records<P: Alter>(
+// Puts in records, by a statement that was prepared for its text.
+fn insert_all<P: Alter>(
     alloc: Global,
     tx: &mut Transaction<'_, P>,
-    table: &str,
+    statement: &Statement,
     columns: usize,
     records: &[Vec<String>],
 ) -> Result<(), ImportFault>
     requires inside { IsInside P.Store tx.old.conn.now }
     ensures same_reference { tx.new.conn.ghost_name ≡ tx.old.conn.ghost_name }
-    ensures done { OnOk result (DoesAll P.Store (insertions table.now columns (map texts_of records.now)) tx.old.conn.now tx.new.conn.now) }
-    ensures refused { IsErrOf result ImportFault.Refused → Stops P.Store (insertions table.now columns (map texts_of records.now)) tx.old.conn.now tx.new.conn.now }
+    ensures done { OnOk result ((text : List ℕ) → (HasCleanDisk (state P.Store tx.old.conn.now) → statement.now.text ≡ text) → DoesAll P.Store (runs_of text columns (map texts_of records.now)) tx.old.conn.now tx.new.conn.now) }
+    ensures refused { IsErrOf result ImportFault.Refused → (text : List ℕ) → (HasCleanDisk (state P.Store tx.old.conn.now) → statement.now.text ≡ text) → StopsAtStep P.Store (runs_of text columns (map texts_of records.now)) tx.old.conn.now tx.new.conn.now }
     ensures kept { KeepsLast P.Store tx.old.conn.now tx.new.conn.now }
     ensures inside { OnOk result (IsInside P.Store tx.new.conn.now) }
 {
-    let statement = prepared_insertion(alloc, tx, table, columns)?;
-    insert_all(alloc, tx, &statement, columns, records)
-}
-
-// Makes a table with columns of these names.
-fn create_table<P: Alter>(
-    alloc: Global,
-    tx: &mut Transaction<'_, P>,
-    table: &str,
-    names: &[String],
-) -> Result<(), ImportFault>
-    requires inside { IsInside P.Store tx.old.conn.now }
-    ensures same_reference { tx.new.conn.ghost_name ≡ tx.old.conn.ghost_name }
-    ensures done { OnOk result (Does P.Store (Run (creation_of table.now (map string_bytes names.now)) []) tx.old.conn.now tx.new.conn.now) }
-    ensures refused { IsErrOf result ImportFault.Refused → IsRefused P.Store (Run (creation_of table.now (map string_bytes names.now)) []) tx.old.conn.now tx.new.conn.now }
-    ensures kept { KeepsLast P.Store tx.old.conn.now tx.new.conn.now }
-    ensures inside { OnOk result (IsInside P.Store tx.new.conn.now) }
-{
-    let text = creation_text(alloc, table, names)?;
-    let _count = tx.execute(text.as_str(), &[])?;
+    for fields in records {
+        insert_record(alloc, tx, statement, fields.as_slice(), columns)?;
+    }
     Ok(())
 }
 
-// Makes a table with columns of these names, and puts records into it.
-fn make_and_insert<P: Alter>(
+// Puts in one record, by a statement that was prepared for its text.
+fn insert_record<P: Alter>(
     alloc: Global,
     tx: &mut Transaction<'_, P>,
-    table: &str,
-    names: &[String],
+    statement: &Statement,
+    fields: &[String],
     columns: usize,
-    records: &[Vec<String>],
 ) -> Result<(), ImportFault>
     requires inside { IsInside P.Store tx.old.conn.now }
     ensures same_reference { tx.new.conn.ghost_name ≡ tx.old.conn.ghost_name }
-    ensures done { OnOk result (DoesAll P.Store (Run (creation_of table.now (map string_bytes names.now)) [] ∷ insertions table.now columns (map texts_of records.now)) tx.old.conn.now tx.new.conn.now) }
-    ensures refused { IsErrOf result ImportFault.Refused → Stops P.Store (Run (creation_of table.now (map string_bytes names.now)) [] ∷ insertions table.now columns (map texts_of records.now)) tx.old.conn.now tx.new.conn.now }
+    ensures done { OnOk result ((text : List ℕ) → (HasCleanDisk (state P.Store tx.old.conn.now) → statement.now.text ≡ text) → Does P.Store (Run text (fitted_row columns (map string_bytes fields.now))) tx.old.conn.now tx.new.conn.now) }
+    ensures refused { IsErrOf result ImportFault.Refused → (text : List ℕ) → (HasCleanDisk (state P.Store tx.old.conn.now) → statement.now.text ≡ text) → IsRefused P.Store (Run text (fitted_row columns (map string_bytes fields.now))) tx.old.conn.now tx.new.conn.now }
     ensures kept { KeepsLast P.Store tx.old.conn.now tx.new.conn.now }
     ensures inside { OnOk result (IsInside P.Store tx.new.conn.now) }
 {
-    create_table(alloc, tx, table, names)?;
-    insert_records(alloc, tx, table, columns, records)
+    let row = row_values(alloc, fields, columns)?;
+    let _count = tx.execute_prepared(statement, row.as_slice())?;
+    Ok(())
 }
 
-// Puts records into a table, which is made first where names for its columns are given.
-fn fill<P: Alter>(
+// A record's fields in so many columns: cut, or filled with NULL.
+fn row_values(
     alloc: Global,
-    tx: &mut Transaction<'_, P>,
-    table: &str,
-    names: Option<&[String]>,
+    fields: &[String],
     columns: usize,
-    records: &[Vec<String>],
-) -> Result<(), ImportFault>
-    requires inside { IsInside P.Store tx.old.conn.now }
-    ensures same_reference { tx.new.conn.ghost_name ≡ tx.old.conn.ghost_name }
-    ensures done { OnOk result (DoesAll P.Store (import_steps (option_map (λ n. map string_bytes n.now) names.entry) table.now columns (map texts_of records.now)) tx.old.conn.now tx.new.conn.now) }
-    ensures refused { IsErrOf result ImportFault.Refused → Stops P.Store (import_steps (option_map (λ n. map string_bytes n.now) names.entry) table.now columns (map texts_of records.now)) tx.old.conn.now tx.new.conn.now }
-    ensures kept { KeepsLast P.Store tx.old.conn.now tx.new.conn.now }
-    ensures inside { OnOk result (IsInside P.Store tx.new.conn.now) }
+) -> Result<Vec<ValueRef<'_>>, AllocError>
+    ensures { IfOk result (λ row. bound row.items ≡ fitted_row columns (map string_bytes fields.now)) }
 {
-    match names {
-        Some(names) => make_and_insert(alloc, tx, table, names, columns, records),
-        None => insert_records(alloc, tx, table, columns, records),
+    let mut row = Vec::new(alloc);
+    for at in 0..columns {
+        row.push(field_value(fields, at))?;
+    }
+    Ok(row)
+}
+
+// The value for a column: its field, or NULL.
+fn field_value(fields: &[String], at: usize) -> ValueRef<'_>
+    ensures { owned result ≡ forms.field_value (map string_bytes fields.now) at }
+{
+    if at < fields.len() {
+        ValueRef::Text(fields[at].as_bytes())
+    } else {
+        ValueRef::Null
     }
 }
 
-/// Puts records into a plain table with so many columns, all of them or none. Where names for its columns are given the
-/// table is made too.
-pub(crate) fn import_records<P: Alter>(
+/// How many columns a plain table has: the one number from 1 to 100 of values that it takes.
+pub(crate) fn column_count<P: Alter>(
     alloc: Global,
     plain: &mut Connection<P>,
     table: &str,
-    names: Option<&[String]>,
-    columns: usize,
-    records: &[Vec<String>],
-) -> Result<(), ImportFault>
-    ensures done { OnOk result (CommitsAll P.Store (import_steps (option_map (λ n. map string_bytes n.now) names.entry) table.now columns (map texts_of records.now)) plain.old plain.new) }
-    ensures declined { IsErrOf result ImportFault.Refused → Declines P.Store (import_steps (option_map (λ n. map string_bytes n.now) names.entry) table.now columns (map texts_of records.now)) plain.old plain.new }
-    ensures kept { OnErr result (IfClean P.Store plain.old plain.new (Keeps (state P.Store plain.old) (state P.Store plain.new))) }
+) -> Result<usize, ImportFault>
+    ensures counted { IfOk result (λ n. IfClean P.Store plain.old plain.new (Stays (state P.Store plain.old) (state P.Store plain.new) × HasColumns (state P.Store plain.old).now.schema table.now n)) }
+    ensures uncounted { IsErrOf result ImportFault.Refused → Uncounted P.Store table.now plain.old plain.new }
+    ensures kept { OnErr result (IfClean P.Store plain.old plain.new (CommitsNothing (state P.Store plain.old) (state P.Store plain.new))) }
 {
-    if !plain.is_autocommit() {
-        return Err(ImportFault::Refused);
+    let mut found = None;
+    for count in 1..101 {
+        let takes = takes_values(alloc, plain, table, count)?;
+        found = with_count(found, takes, count)?;
     }
-    let mut tx = plain.transaction();
-    fill(alloc, &mut tx, table, names, columns, records)?;
-    tx.commit()?;
-    Ok(())
+    match found {
+        Some(count) => Ok(count),
+        None => Err(ImportFault::Refused),
+    }
+}
+
+// Whether `sqlite` understands an insertion of so many values into the table.
+fn takes_values<P: Alter>(
+    alloc: Global,
+    plain: &mut Connection<P>,
+    table: &str,
+    count: usize,
+) -> Result<bool, ImportFault>
+    ensures told { IfOk result (λ takes. IfClean P.Store plain.old plain.new (Stays (state P.Store plain.old) (state P.Store plain.new) × (takes ≡ forms.takes_values (state P.Store plain.old).now.schema table.now count))) }
+    ensures refused { IsErrOf result ImportFault.Refused → IsRefused P.Store (Prepare (insertion_of table.now count)) plain.old plain.new }
+    ensures kept { IfClean P.Store plain.old plain.new (CommitsNothing (state P.Store plain.old) (state P.Store plain.new)) }
+{
+    let text = insertion_text(alloc, table, count)?;
+    match plain.prepare(text.as_str()) {
+        Ok(_) => Ok(true),
+        Err(Error::SqlInputError(_)) => Ok(false),
+        Err(error) => Err(ImportFault::from(error)),
+    }
+}
+
+// The one number so far of values that a table takes, with a number more that was tried.
+fn with_count(found: Option<usize>, takes: bool, count: usize) -> Result<Option<usize>, ImportFault>
+    requires { 1 ≤ count }
+    ensures only { IfOk result (λ next. (schema : Schema) (name : List ℕ) → takes ≡ forms.takes_values schema name count → IsOnlyBelow schema name count found → IsOnlyBelow schema name (count + 1) next) }
+    ensures two { OnErr result ((schema : Schema) (name : List ℕ) → takes ≡ forms.takes_values schema name count → IsOnlyBelow schema name count found → count ≤ 100 → (n : ℕ) → HasColumns schema name n → ⊥) }
+{
+    if !takes {
+        return Ok(found);
+    }
+    match found {
+        Some(_) => Err(ImportFault::Refused),
+        None => Ok(Some(count)),
+    }
 }

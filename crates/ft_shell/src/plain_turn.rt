@@ -72,15 +72,15 @@ fn command_turn<P: Alter, S: Alter>(
     alloc: Global,
     settings: &Settings,
     plain: &mut Connection<P>,
-    fulltext: &mut FullText<S>,
+    full_text: &mut FullText<S>,
     line: u64,
     text: &str,
     made: Option<&str>,
 ) -> Told
-    ensures { CommandTurn P.Store S.Store settings.now line text.now (option_map (λ n. n.now) made.entry) plain.old plain.new fulltext.old fulltext.new (told_as result) }
+    ensures { CommandTurn P.Store S.Store settings.now line text.now (option_map (λ n. n.now) made.entry) plain.old plain.new full_text.old full_text.new (told_as result) }
 {
     match plain.execute(text, &[]) {
-        Ok(_) => maybe_note(alloc, settings, fulltext, line, made),
+        Ok(_) => maybe_note(alloc, settings, full_text, line, made),
         Err(error) => refusal(alloc, settings, line, error),
     }
 }
@@ -100,14 +100,14 @@ pub(crate) fn plain_turn<P: Alter, S: Alter>(
     alloc: Global,
     settings: &Settings,
     plain: &mut Connection<P>,
-    fulltext: &mut FullText<S>,
+    full_text: &mut FullText<S>,
     line: u64,
     text: &str,
     words: &[SqlWord],
 ) -> Told
     requires { words.now ≡ words_of text.now }
-    ensures { OrNothing (PlainTurn P.Store S.Store settings.now line text.now plain.old plain.new fulltext.old fulltext.new (told_as result))
-        settings.now line plain.old plain.new fulltext.old fulltext.new (told_as result) }
+    ensures { OrNothing (PlainTurn P.Store S.Store settings.now line text.now plain.old plain.new full_text.old full_text.new (told_as result))
+        settings.now line plain.old plain.new full_text.old full_text.new (told_as result) }
 {
     let Ok(statement) = read_plain(alloc, text, words) else {
         return Told::lacks_memory(alloc, settings, line);
@@ -119,7 +119,7 @@ pub(crate) fn plain_turn<P: Alter, S: Alter>(
         alloc,
         settings,
         plain,
-        fulltext,
+        full_text,
         line,
         text,
         made_in(&statement),

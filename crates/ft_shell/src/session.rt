@@ -79,7 +79,7 @@ pub struct Session<P: Alter, S: Alter> {
     alloc: Global,
     settings: Settings,
     plain: Connection<P>,
-    fulltext: FullText<S>,
+    full_text: FullText<S>,
 }
 
 impl<P: Alter, S: Alter> Model for Session<P, S> {
@@ -89,7 +89,7 @@ impl<P: Alter, S: Alter> Model for Session<P, S> {
 
     ghost coded = { parts_code P.code S.code };
 
-    ghost view = { λ s. record { look = s.settings; plain = s.plain; known = s.fulltext } };
+    ghost view = { λ s. record { settings = s.settings; plain = s.plain; full_text = s.full_text } };
 }
 
 impl<P: Alter, S: Alter> Session<P, S> {
@@ -97,29 +97,29 @@ impl<P: Alter, S: Alter> Session<P, S> {
     pub fn new(
         alloc: Global,
         plain: Connection<P>,
-        fulltext: FullText<S>,
+        full_text: FullText<S>,
         settings: Settings,
     ) -> Session<P, S>
-        ensures { result ≡ record { look = settings; plain = plain; known = fulltext } }
+        ensures { result ≡ record { settings = settings; plain = plain; full_text = full_text } }
     {
         Session {
             alloc,
             settings,
             plain,
-            fulltext,
+            full_text,
         }
     }
 
     /// Both parts as they stand.
     pub fn into_parts(self) -> (Connection<P>, FullText<S>)
-        ensures { result ≡ (self.plain, self.known) }
+        ensures { result ≡ (self.plain, self.full_text) }
     {
         let Session {
             plain,
-            fulltext,
+            full_text,
             ..
         } = self;
-        (plain, fulltext)
+        (plain, full_text)
     }
 
     /// Runs the units of an input in turn, up to one that ends the session. Whatever a unit is refused for, the run goes
@@ -354,7 +354,7 @@ impl<P: Alter, S: Alter> Session<P, S> {
             self.alloc,
             &mut self.settings,
             &mut self.plain,
-            &mut self.fulltext,
+            &mut self.full_text,
             source,
             unit,
         );

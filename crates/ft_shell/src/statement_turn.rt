@@ -21,18 +21,18 @@ fn class_turn<P: Alter, S: Alter>(
     alloc: Global,
     settings: &Settings,
     plain: &mut Connection<P>,
-    fulltext: &mut FullText<S>,
+    full_text: &mut FullText<S>,
     line: u64,
     text: &str,
     words: &[SqlWord],
 ) -> Told
     requires { words.now ≡ words_of text.now }
-    ensures { OrNothing (ClassTurn P.Store S.Store settings.now line text.now plain.old plain.new fulltext.old fulltext.new (told_as result) (class_of (table_names fulltext.old) (tokens.tokens_of text.now)))
-        settings.now line plain.old plain.new fulltext.old fulltext.new (told_as result) }
+    ensures { OrNothing (ClassTurn P.Store S.Store settings.now line text.now plain.old plain.new full_text.old full_text.new (told_as result) (class_of (table_names full_text.old) (tokens.tokens_of text.now)))
+        settings.now line plain.old plain.new full_text.old full_text.new (told_as result) }
 {
-    match read_statement(alloc, text, words, fulltext.tables()) {
-        Ok(Class::Plain) => plain_turn(alloc, settings, plain, fulltext, line, text, words),
-        Ok(Class::FullText(command)) => full_text_turn(alloc, settings, fulltext, line, &command),
+    match read_statement(alloc, text, words, full_text.tables()) {
+        Ok(Class::Plain) => plain_turn(alloc, settings, plain, full_text, line, text, words),
+        Ok(Class::FullText(command)) => full_text_turn(alloc, settings, full_text, line, &command),
         Err(StatementFault::Syntax) => {
             let text = statement_text(StatementFault::Syntax);
             Told::blames(alloc, settings, line, text)
@@ -46,18 +46,18 @@ pub(crate) fn statement_turn<P: Alter, S: Alter>(
     alloc: Global,
     settings: &Settings,
     plain: &mut Connection<P>,
-    fulltext: &mut FullText<S>,
+    full_text: &mut FullText<S>,
     line: u64,
     text: &str,
 ) -> Told
-    ensures { StatementTurn P.Store S.Store settings.now line text.now plain.old plain.new fulltext.old fulltext.new (told_as result) }
+    ensures { StatementTurn P.Store S.Store settings.now line text.now plain.old plain.new full_text.old full_text.new (told_as result) }
 {
     match sql_words(alloc, text) {
         Ok(words) => class_turn(
             alloc,
             settings,
             plain,
-            fulltext,
+            full_text,
             line,
             text,
             words.as_slice(),

@@ -1,5 +1,5 @@
 // What a turn of a session tells, held in memory until the session writes it.
-ghost use Rattle.std.specs.Prelude.{◌≡◌, [], true, string_bytes};
+ghost use Rattle.std.specs.Prelude.{◌≡◌, true, string_bytes};
 ghost use Rattle.ft_shell.specs.Told as forms;
 ghost use Rattle.ft_shell.specs.ToldViews.{told_as, text_as};
 
@@ -57,9 +57,23 @@ impl Told {
     pub(crate) fn fault(alloc: Global, settings: &Settings, line: u64, text: FaultText) -> Told
         ensures { told_as result ≡ forms.blames settings.now line (text_as text) }
     {
+        Told::blames_behind(alloc, settings, line, String::new(alloc), text)
+    }
+
+    /// Warnings, and then a fault line. Where bail is on, it ends the session.
+    pub(crate) fn blames_behind(
+        alloc: Global,
+        settings: &Settings,
+        line: u64,
+        warnings: String,
+        text: FaultText,
+    ) -> Told
+        ensures { told_as result ≡ forms.followed (forms.warned (string_bytes warnings))
+            (forms.blames settings.now line (text_as text)) }
+    {
         Told {
             out: Vec::new(alloc),
-            warnings: String::new(alloc),
+            warnings,
             fault: Some(FaultLine { line, text }),
             ends: settings.bail(),
         }
@@ -95,19 +109,6 @@ impl Told {
             warnings: String::new(alloc),
             fault: None,
             ends: true,
-        }
-    }
-
-    /// These warnings, and then what is told without warnings.
-    pub(crate) fn after_warnings(self, warnings: String) -> Told
-        requires { string_bytes self.warnings ≡ [] }
-        ensures { told_as result ≡ forms.followed (forms.warned (string_bytes warnings)) (told_as self) }
-    {
-        Told {
-            out: self.out,
-            warnings,
-            fault: self.fault,
-            ends: self.ends,
         }
     }
 }

@@ -18,16 +18,16 @@ pub(crate) fn unit_turn<P: Alter, S: Alter, F: Source>(
     alloc: Global,
     settings: &mut Settings,
     plain: &mut Connection<P>,
-    fulltext: &mut FullText<S>,
+    full_text: &mut FullText<S>,
     source: &mut F,
     unit: &Unit,
 ) -> Told
-    ensures body { Body P.Store S.Store (member_of_unit unit.now) (record { look = settings.old; plain = plain.old; known = fulltext.old; holds = F.holds source.old }) (record { look = settings.new; plain = plain.new; known = fulltext.new; holds = F.holds source.new }) (told_as result) }
+    ensures body { Body P.Store S.Store (member_of_unit unit.now) (record { settings = settings.old; plain = plain.old; full_text = full_text.old; holds = F.holds source.old }) (record { settings = settings.new; plain = plain.new; full_text = full_text.new; holds = F.holds source.new }) (told_as result) }
     ensures source { (name : List ℕ) → F.holds source.new name ≡ F.holds source.old name }
 {
     let text = unit.text.as_str();
     match unit.kind {
-        UnitKind::Sql => statement_turn(alloc, settings, plain, fulltext, unit.line, text),
-        UnitKind::Dot => dot_line_turn(alloc, settings, plain, fulltext, source, unit.line, text),
+        UnitKind::Sql => statement_turn(alloc, settings, plain, full_text, unit.line, text),
+        UnitKind::Dot => dot_line_turn(alloc, settings, plain, full_text, source, unit.line, text),
     }
 }

@@ -2,7 +2,7 @@
 use Rattle.std.proofs.Common.{[], ◌∷◌, codes, Some, None, true, false}
 use Rattle.std.specs.Prelude.{pos, negsuc, encode_utf8_all}
 use Rattle.ft_content.specs.Content.{Null, Int, Text}
-use Rattle.ft_content.specs.Command.{Everything, OfDocid, Matching, AllColumns, Named, OffsetsOf, Counted, Listed, Create, Drop, Insert, Update, Delete, Select, Rebuild, Check}
+use Rattle.ft_content.specs.Command.{All, Docid, Match, AllColumns, Named, OffsetsOf, Counted, Listed, Create, Drop, Insert, Update, Delete, Select, Rebuild, Check}
 use Rattle.ft_statements.specs.Words.{tokens_of}
 use Rattle.ft_statements.specs.Statements.{Class, Plain, FullText}
 use Rattle.ft_statements.specs.Grammar.{HasClass}
@@ -80,31 +80,31 @@ special_rows : HasClass (codes "x" ∷ codes "mail" ∷ codes "d" ∷ []) (token
 special_rows = class_sound _ _ _ rows.special_rows
 
 -- any Word is a name where a name is wanted
-update : HasClass (codes "x" ∷ codes "mail" ∷ codes "d" ∷ []) (tokens_of (codes "UPDATE d SET x='green', where = NULL WHERE docid=-1;")) (FullText (Update (codes "d") ((codes "x", Text (codes "green")) ∷ (codes "where", Null) ∷ []) (OfDocid (negsuc 0))))
+update : HasClass (codes "x" ∷ codes "mail" ∷ codes "d" ∷ []) (tokens_of (codes "UPDATE d SET x='green', where = NULL WHERE docid=-1;")) (FullText (Update (codes "d") ((codes "x", Text (codes "green")) ∷ (codes "where", Null) ∷ []) (Docid (negsuc 0))))
 update = class_sound _ _ _ rows.update
 
 update_open : (class : Class) → ¬ HasClass (codes "x" ∷ codes "mail" ∷ codes "d" ∷ []) (tokens_of (codes "UPDATE d SET x=1,")) class
 update_open = no_class_is _ _ rows.update_open
 
-delete : HasClass (codes "x" ∷ codes "mail" ∷ codes "d" ∷ []) (tokens_of (codes "DELETE FROM d WHERE x MATCH 'red';")) (FullText (Delete (codes "d") (Matching (codes "x") (codes "red"))))
+delete : HasClass (codes "x" ∷ codes "mail" ∷ codes "d" ∷ []) (tokens_of (codes "DELETE FROM d WHERE x MATCH 'red';")) (FullText (Delete (codes "d") (Match (codes "x") (codes "red"))))
 delete = class_sound _ _ _ rows.delete
 
 delete_or : (class : Class) → ¬ HasClass (codes "x" ∷ codes "mail" ∷ codes "d" ∷ []) (tokens_of (codes "DELETE FROM d WHERE docid=1 OR docid=2;")) class
 delete_or = no_class_is _ _ rows.delete_or
 
-select_nope : HasClass (codes "x" ∷ codes "mail" ∷ codes "d" ∷ []) (tokens_of (codes "SELECT nope FROM x;")) (FullText (Select (codes "x") (Listed (Named (codes "nope") ∷ [])) Everything None 0))
+select_nope : HasClass (codes "x" ∷ codes "mail" ∷ codes "d" ∷ []) (tokens_of (codes "SELECT nope FROM x;")) (FullText (Select (codes "x") (Listed (Named (codes "nope") ∷ [])) All None 0))
 select_nope = class_sound _ _ _ rows.select_nope
 
-select_offsets : HasClass (codes "x" ∷ codes "mail" ∷ codes "d" ∷ []) (tokens_of (codes "SELECT docid, offsets(mail), * FROM mail WHERE mail MATCH 'world' ORDER BY rowid ASC LIMIT 2 OFFSET 1;")) (FullText (Select (codes "mail") (Listed (Named (codes "docid") ∷ OffsetsOf (codes "mail") ∷ AllColumns ∷ [])) (Matching (codes "mail") (codes "world")) (Some 2) 1))
+select_offsets : HasClass (codes "x" ∷ codes "mail" ∷ codes "d" ∷ []) (tokens_of (codes "SELECT docid, offsets(mail), * FROM mail WHERE mail MATCH 'world' ORDER BY rowid ASC LIMIT 2 OFFSET 1;")) (FullText (Select (codes "mail") (Listed (Named (codes "docid") ∷ OffsetsOf (codes "mail") ∷ AllColumns ∷ [])) (Match (codes "mail") (codes "world")) (Some 2) 1))
 select_offsets = class_sound _ _ _ rows.select_offsets
 
 select_two : (class : Class) → ¬ HasClass (codes "x" ∷ codes "mail" ∷ codes "d" ∷ []) (tokens_of (codes "SELECT a FROM x, x;")) class
 select_two = no_class_is _ _ rows.select_two
 
-select_count : HasClass (codes "x" ∷ codes "mail" ∷ codes "d" ∷ []) (tokens_of (codes "SELECT count(*) FROM d LIMIT 0")) (FullText (Select (codes "d") Counted Everything (Some 0) 0))
+select_count : HasClass (codes "x" ∷ codes "mail" ∷ codes "d" ∷ []) (tokens_of (codes "SELECT count(*) FROM d LIMIT 0")) (FullText (Select (codes "d") Counted All (Some 0) 0))
 select_count = class_sound _ _ _ rows.select_count
 
-select_count_column : HasClass (codes "x" ∷ codes "mail" ∷ codes "d" ∷ []) (tokens_of (codes "SELECT count, from FROM d")) (FullText (Select (codes "d") (Listed (Named (codes "count") ∷ Named (codes "from") ∷ [])) Everything None 0))
+select_count_column : HasClass (codes "x" ∷ codes "mail" ∷ codes "d" ∷ []) (tokens_of (codes "SELECT count, from FROM d")) (FullText (Select (codes "d") (Listed (Named (codes "count") ∷ Named (codes "from") ∷ [])) All None 0))
 select_count_column = class_sound _ _ _ rows.select_count_column
 
 select_count_more : (class : Class) → ¬ HasClass (codes "x" ∷ codes "mail" ∷ codes "d" ∷ []) (tokens_of (codes "SELECT count(*), a FROM d")) class

@@ -7,10 +7,6 @@ use Rattle.ft_statements.specs.declared.words.Piece.{Piece}
 use Rattle.ft_statements.specs.Views.{seen, plain}
 use Rattle.ft_statements.specs.Statements.{without_end, names_table}
 
-pub any_of_map : {X Y : Type 0} (p : Y → Bool) (h : X → Y) (xs : List X) → list_any p (map h xs) ≡ list_any (λ x. p (h x)) xs
-any_of_map p h [] = refl
-any_of_map p h (x ∷ xs) = ap (λ b. p (h x) || b) (any_of_map p h xs)
-
 abbrev ends : Piece → Bool
 ends p = is_symbol (codes ";") (seen p)
 

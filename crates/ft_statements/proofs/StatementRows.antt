@@ -4,7 +4,7 @@ use Rattle.std.specs.Prelude.{pos, negsuc, encode_utf8_all}
 use Rattle.std.specs.Str.{chars}
 use Rattle.shell_text.specs.Words.{pieces_from, turn, begun}
 use Rattle.ft_content.specs.Content.{Null, Int, Text}
-use Rattle.ft_content.specs.Command.{Everything, OfDocid, Matching, AllColumns, Named, OffsetsOf, Counted, Listed, Create, Drop, Insert, Update, Delete, Select, Rebuild, Check}
+use Rattle.ft_content.specs.Command.{All, Docid, Match, AllColumns, Named, OffsetsOf, Counted, Listed, Create, Drop, Insert, Update, Delete, Select, Rebuild, Check}
 use Rattle.ft_statements.specs.Words.{tokens_of}
 use Rattle.ft_statements.specs.Change.{where_at}
 use Rattle.ft_statements.specs.Select.{item_at, items_of, selection_at, order_at, limits_of}
@@ -105,7 +105,7 @@ unfolding pieces_from turn begun chars lib.Utf8.encode class_of command_of where
 special_rows = refl
 
 -- any Word is a name where a name is wanted
-pub update : class_of (codes "x" ∷ codes "mail" ∷ codes "d" ∷ []) (tokens_of (codes "UPDATE d SET x='green', where = NULL WHERE docid=-1;")) ≡ Some (FullText (Update (codes "d") ((codes "x", Text (codes "green")) ∷ (codes "where", Null) ∷ []) (OfDocid (negsuc 0))))
+pub update : class_of (codes "x" ∷ codes "mail" ∷ codes "d" ∷ []) (tokens_of (codes "UPDATE d SET x='green', where = NULL WHERE docid=-1;")) ≡ Some (FullText (Update (codes "d") ((codes "x", Text (codes "green")) ∷ (codes "where", Null) ∷ []) (Docid (negsuc 0))))
 unfolding pieces_from turn begun chars lib.Utf8.encode class_of command_of where_at item_at items_of selection_at order_at limits_of
 update = refl
 
@@ -113,7 +113,7 @@ pub update_open : class_of (codes "x" ∷ codes "mail" ∷ codes "d" ∷ []) (to
 unfolding pieces_from turn begun chars lib.Utf8.encode class_of command_of where_at item_at items_of selection_at order_at limits_of
 update_open = refl
 
-pub delete : class_of (codes "x" ∷ codes "mail" ∷ codes "d" ∷ []) (tokens_of (codes "DELETE FROM d WHERE x MATCH 'red';")) ≡ Some (FullText (Delete (codes "d") (Matching (codes "x") (codes "red"))))
+pub delete : class_of (codes "x" ∷ codes "mail" ∷ codes "d" ∷ []) (tokens_of (codes "DELETE FROM d WHERE x MATCH 'red';")) ≡ Some (FullText (Delete (codes "d") (Match (codes "x") (codes "red"))))
 unfolding pieces_from turn begun chars lib.Utf8.encode class_of command_of where_at item_at items_of selection_at order_at limits_of
 delete = refl
 
@@ -121,11 +121,11 @@ pub delete_or : class_of (codes "x" ∷ codes "mail" ∷ codes "d" ∷ []) (toke
 unfolding pieces_from turn begun chars lib.Utf8.encode class_of command_of where_at item_at items_of selection_at order_at limits_of
 delete_or = refl
 
-pub select_nope : class_of (codes "x" ∷ codes "mail" ∷ codes "d" ∷ []) (tokens_of (codes "SELECT nope FROM x;")) ≡ Some (FullText (Select (codes "x") (Listed (Named (codes "nope") ∷ [])) Everything None 0))
+pub select_nope : class_of (codes "x" ∷ codes "mail" ∷ codes "d" ∷ []) (tokens_of (codes "SELECT nope FROM x;")) ≡ Some (FullText (Select (codes "x") (Listed (Named (codes "nope") ∷ [])) All None 0))
 unfolding pieces_from turn begun chars lib.Utf8.encode class_of command_of where_at item_at items_of selection_at order_at limits_of
 select_nope = refl
 
-pub select_offsets : class_of (codes "x" ∷ codes "mail" ∷ codes "d" ∷ []) (tokens_of (codes "SELECT docid, offsets(mail), * FROM mail WHERE mail MATCH 'world' ORDER BY rowid ASC LIMIT 2 OFFSET 1;")) ≡ Some (FullText (Select (codes "mail") (Listed (Named (codes "docid") ∷ OffsetsOf (codes "mail") ∷ AllColumns ∷ [])) (Matching (codes "mail") (codes "world")) (Some 2) 1))
+pub select_offsets : class_of (codes "x" ∷ codes "mail" ∷ codes "d" ∷ []) (tokens_of (codes "SELECT docid, offsets(mail), * FROM mail WHERE mail MATCH 'world' ORDER BY rowid ASC LIMIT 2 OFFSET 1;")) ≡ Some (FullText (Select (codes "mail") (Listed (Named (codes "docid") ∷ OffsetsOf (codes "mail") ∷ AllColumns ∷ [])) (Match (codes "mail") (codes "world")) (Some 2) 1))
 unfolding pieces_from turn begun chars lib.Utf8.encode class_of command_of where_at item_at items_of selection_at order_at limits_of
 select_offsets = refl
 
@@ -133,11 +133,11 @@ pub select_two : class_of (codes "x" ∷ codes "mail" ∷ codes "d" ∷ []) (tok
 unfolding pieces_from turn begun chars lib.Utf8.encode class_of command_of where_at item_at items_of selection_at order_at limits_of
 select_two = refl
 
-pub select_count : class_of (codes "x" ∷ codes "mail" ∷ codes "d" ∷ []) (tokens_of (codes "SELECT count(*) FROM d LIMIT 0")) ≡ Some (FullText (Select (codes "d") Counted Everything (Some 0) 0))
+pub select_count : class_of (codes "x" ∷ codes "mail" ∷ codes "d" ∷ []) (tokens_of (codes "SELECT count(*) FROM d LIMIT 0")) ≡ Some (FullText (Select (codes "d") Counted All (Some 0) 0))
 unfolding pieces_from turn begun chars lib.Utf8.encode class_of command_of where_at item_at items_of selection_at order_at limits_of
 select_count = refl
 
-pub select_count_column : class_of (codes "x" ∷ codes "mail" ∷ codes "d" ∷ []) (tokens_of (codes "SELECT count, from FROM d")) ≡ Some (FullText (Select (codes "d") (Listed (Named (codes "count") ∷ Named (codes "from") ∷ [])) Everything None 0))
+pub select_count_column : class_of (codes "x" ∷ codes "mail" ∷ codes "d" ∷ []) (tokens_of (codes "SELECT count, from FROM d")) ≡ Some (FullText (Select (codes "d") (Listed (Named (codes "count") ∷ Named (codes "from") ∷ [])) All None 0))
 unfolding pieces_from turn begun chars lib.Utf8.encode class_of command_of where_at item_at items_of selection_at order_at limits_of
 select_count_column = refl
 

@@ -1,9 +1,9 @@
--- Filters, UPDATE and DELETE ("Populating FTS Tables", "Simple FTS Queries"), read step by step. That the forms of Grammar are read
+-- Meaning. Filters, UPDATE and DELETE ("Populating FTS Tables", "Simple FTS Queries"), read step by step. That the forms of Grammar are read
 -- so, and no others, is a law.
 use Rattle.std.specs.Prelude.{ℕ, List, [], ◌∷◌, Option, Some, None, codes}
 use Rattle.std.specs.Option.{option_or}
 use Rattle.ft_content.specs.Content.{Cell}
-use Rattle.ft_content.specs.Command.{Command, Filter, Everything, OfDocid, Matching, Update, Delete}
+use Rattle.ft_content.specs.Command.{Command, Filter, All, Docid, Match, Update, Delete}
 use Rattle.ft_statements.specs.Words.{Token}
 use Rattle.ft_statements.specs.Reading.{Reads, ◌>>=◌, whole, name_at, literal_at, keyword_at, keywords_at, symbol_at, parts, with_last}
 use Rattle.ft_statements.specs.Values.{integer_at, value_at}
@@ -13,16 +13,16 @@ abbrev pub key_at : List Token → Option (List Token)
 key_at ts = option_or (keyword_at (codes "docid") ts) (keyword_at (codes "rowid") ts)
 
 abbrev pub docid_at : List Token → Reads Filter
-docid_at ts = key_at ts >>= λ rest. symbol_at (codes "=") rest >>= λ number. integer_at number >>= λ r. Some (OfDocid r.0, r.1)
+docid_at ts = key_at ts >>= λ rest. symbol_at (codes "=") rest >>= λ number. integer_at number >>= λ r. Some (Docid r.0, r.1)
 
 abbrev pub match_at : List Token → Reads Filter
-match_at ts = name_at ts >>= λ name. keyword_at (codes "MATCH") name.1 >>= λ query. literal_at query >>= λ r. Some (Matching name.0 r.0, r.1)
+match_at ts = name_at ts >>= λ name. keyword_at (codes "MATCH") name.1 >>= λ query. literal_at query >>= λ r. Some (Match name.0 r.0, r.1)
 
 abbrev pub filter_at : List Token → Reads Filter
 filter_at ts = option_or (docid_at ts) (match_at ts)
 
 abbrev pub filter_behind : Option (List Token) → List Token → Reads Filter
-filter_behind None ts = Some (Everything, ts)
+filter_behind None ts = Some (All, ts)
 filter_behind (Some rest) ts = filter_at rest
 
 -- the filter behind WHERE; all documents where that word doesn't stand there

@@ -1,4 +1,4 @@
--- Classes of statements as the code holds them.
+-- Steps. Classes of statements as the code holds them.
 use Rattle.ft_content.specs.Views.{command_of}
 use Rattle.ft_statements.specs.declared.statement.Class.{Class}
 use Rattle.ft_statements.specs.declared.statement.Class.TheVariants as classes

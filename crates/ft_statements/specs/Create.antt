@@ -1,4 +1,4 @@
--- CREATE VIRTUAL TABLE and DROP TABLE, read step by step ("Creating and Destroying FTS Tables" of the SQLite document "SQLite FTS3
+-- Meaning. CREATE VIRTUAL TABLE and DROP TABLE, read step by step ("Creating and Destroying FTS Tables" of the SQLite document "SQLite FTS3
 -- and FTS4 Extensions"). That the forms of Grammar are read so, and no others, is a law.
 use Rattle.std.specs.Prelude.{ℕ, List, [], ◌∷◌, map, Option, Some, None, codes}
 use Rattle.std.specs.List.{join_with_byte}

@@ -1,4 +1,4 @@
--- Which words of a dot line make which command, case by case. A section named in quotes is one of the SQLite document "Command Line
+-- Meaning. Which words of a dot line make which command, case by case. A section named in quotes is one of the SQLite document "Command Line
 -- Shell For SQLite". That names are exact, and that each command has just these words, is our own choice.
 use Rattle.std.specs.Prelude.{◌≡◌, ◌≢◌, ℕ, ◌≤◌, Bool, true, false, List, [], ◌∷◌, ◌++◌, length, Option, Some, None, codes}
 use Rattle.std.specs.List.{list_all}

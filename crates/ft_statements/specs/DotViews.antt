@@ -1,4 +1,4 @@
--- Dot-commands as the code holds them.
+-- Steps. Dot-commands as the code holds them.
 use Rattle.std.specs.Prelude.{ℕ, Bool, List, map, Option, option_map, string_bytes, String}
 use Rattle.std.specs.declared.alloc.Global.{Global}
 use Rattle.std.specs.Borrow.{Bor}

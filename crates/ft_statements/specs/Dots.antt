@@ -1,4 +1,4 @@
--- Which dot-command a line's words are ("Command Line Shell For SQLite": the sections "Special commands to sqlite3", "Changing
+-- Meaning. Which dot-command a line's words are ("Command Line Shell For SQLite": the sections "Special commands to sqlite3", "Changing
 -- Output Formats", "Importing files as CSV or other formats"). Names are exact, and each command has just these words: own choices.
 use Rattle.std.specs.Prelude.{ℕ, nat_le, nat_lt, Bool, true, false, ◌&&◌, ◌||◌, List, [], ◌∷◌, length, Option, Some, None, option_map, if◌then◌else◌, codes, bytes_eq}
 use Rattle.std.specs.List.{list_all}

@@ -1,4 +1,4 @@
--- The grammar of full-text statements: which words spell which command, which statements are full-text, and the class of a
+-- Meaning. The grammar of full-text statements: which words spell which command, which statements are full-text, and the class of a
 -- statement. A section named in quotes is one of the SQLite document "SQLite FTS3 and FTS4 Extensions"; what has none is our own
 -- choice, and so it is that just these forms are read. Tables are made and dropped as in "Creating and Destroying FTS Tables",
 -- written as in "Populating FTS Tables", and read as in "Simple FTS Queries".
@@ -6,7 +6,7 @@ use Rattle.std.specs.Prelude.{◌≡◌, ℕ, ◌^◌, ◌<◌, ◌≤◌, ◌�
 use Rattle.std.specs.List.{Any}
 use Rattle.std.specs.Str.{str_eq_ignore_ascii_case}
 use Rattle.ft_content.specs.Content.{Cell, Null, Int, Text}
-use Rattle.ft_content.specs.Command.{Command, Create, Drop, Insert, Update, Delete, Select, Rebuild, Check, Optimize, Filter, Everything, OfDocid, Matching, Item, AllColumns, Named, OffsetsOf, Items, Counted, Listed}
+use Rattle.ft_content.specs.Command.{Command, Create, Drop, Insert, Update, Delete, Select, Rebuild, Check, Optimize, Filter, All, Docid, Match, Item, AllColumns, Named, OffsetsOf, Items, Counted, Listed}
 use Rattle.ft_statements.specs.Words.{Token, is_keyword, is_symbol, name_of, literal_of}
 use Rattle.ft_statements.specs.Values.{number_of}
 use Rattle.ft_statements.specs.Create.{Argument, Setting, Column, joined, settings_in, columns_in}
@@ -108,14 +108,14 @@ pub data IsValue : List Token → Cell → Type 0 where
 -- key = integer | name MATCH text          ("Simple FTS Queries")
 pub data IsFilter : List Token → Filter → Type 0 where
   of_docid : {key sign : Token} {ts : List Token} {n : ℤ} →
-      IsKey key → IsSymbol (codes "=") sign → IsInteger ts n → IsFilter (key ∷ sign ∷ ts) (OfDocid n)
+      IsKey key → IsSymbol (codes "=") sign → IsInteger ts n → IsFilter (key ∷ sign ∷ ts) (Docid n)
   of_match : {name match query : Token} {n q : List ℕ} →
       IsName name n → IsKeyword (codes "MATCH") match → IsText query q →
-      IsFilter (name ∷ match ∷ query ∷ []) (Matching n q)
+      IsFilter (name ∷ match ∷ query ∷ []) (Match n q)
 
 -- [WHERE filter]
 pub data IsWhere : List Token → Filter → Type 0 where
-  no_filter : IsWhere [] Everything
+  no_filter : IsWhere [] All
   where_filter : {word : Token} {ts : List Token} {filter : Filter} →
       IsKeyword (codes "WHERE") word → IsFilter ts filter → IsWhere (word ∷ ts) filter
 
@@ -316,7 +316,7 @@ pub data IsLead : Token → Type 0 where
 
 -- the name of one of the tables, in any case of ASCII letters
 pub data IsTable (tables : List (List ℕ)) : Token → Type 0 where
-  table_name : {t : Token} {name : List ℕ} → IsName t name → Any (IsSame name) tables → IsTable tables t
+  table_name : {t : Token} {name : List ℕ} → IsName t name → Any (λ table. IsSame table name) tables → IsTable tables t
 
 -- CREATE VIRTUAL {word} | {word} lead table {word}
 pub data IsFullText (tables : List (List ℕ)) : List Token → Type 0 where

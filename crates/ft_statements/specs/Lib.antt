@@ -1,5 +1,5 @@
+-- Meaning
 pub mod Words
-pub mod Views
 pub mod Reading
 pub mod Values
 pub mod Create
@@ -7,12 +7,14 @@ pub mod Insert
 pub mod Change
 pub mod Select
 pub mod Statements
-pub mod Classes
 pub mod Plain
 pub mod Dots
-pub mod DotViews
 pub mod Texts
 pub mod Replies
 pub mod Settings
 pub mod Grammar
 pub mod DotGrammar
+-- Steps
+pub mod Views
+pub mod Classes
+pub mod DotViews

@@ -1,4 +1,4 @@
--- What is asked of a plain statement before `sqlite` runs it.
+-- Meaning. What is asked of a plain statement before `sqlite` runs it.
 use Rattle.std.specs.Prelude.{ℕ, Bool, false, ◌&&◌, ◌||◌, List, [], ◌∷◌, Option, Some, codes}
 use Rattle.std.specs.List.{list_any}
 use Rattle.std.specs.Option.{option_or}

@@ -1,4 +1,4 @@
--- Reading words from the front of a statement.
+-- Meaning. Reading words from the front of a statement.
 use Rattle.std.specs.Prelude.{ℕ, ◌+◌, ◌-◌, Bool, true, false, ◌==◌, ◌&&◌, List, [], ◌∷◌, ◌++◌, length, slice_get, Option, Some, None, if◌then◌else◌, codes}
 use Rattle.std.specs.List.{onto_first}
 use Rattle.ft_statements.specs.Words.{Token, all_but_last, is_keyword, is_symbol, name_of, literal_of}

@@ -1,4 +1,4 @@
--- What is printed for a reply ("Changing Output Formats" of "Command Line Shell For SQLite"), and the names that `.tables` lists
+-- Meaning. What is printed for a reply ("Changing Output Formats" of "Command Line Shell For SQLite"), and the names that `.tables` lists
 -- (its section "Querying the database schema").
 use Rattle.std.specs.Prelude.{ℕ, Bool, not, List, [], map, filter, ◌++◌}
 use Rattle.std.specs.List.{list_any}
@@ -6,7 +6,7 @@ use Rattle.std.specs.List.Sorted.{IsPermutation, IsSorted}
 use Rattle.std.specs.Ordering.{nat_cmp}
 use Rattle.std.specs.Cmp.Lexicographic.{slice_cmp}
 use Rattle.shell_text.specs.Print as print
-use Rattle.shell_text.specs.Print.{Look, Table, printed}
+use Rattle.shell_text.specs.Print.{Settings, Table, printed}
 use Rattle.ft_content.specs.Content.{Cell, Null, Int, Text}
 use Rattle.ft_statements.specs.Statements.{is_named}
 use Rattle.ft_content.specs.Command.{Grid, Reply, Done, Rows}
@@ -21,9 +21,9 @@ abbrev pub table_of : Grid → Table
 table_of grid = record { names = grid.names; rows = map (map cell_value) grid.rows }
 
 -- Rows are printed as the settings say, and nothing where the reply has none.
-abbrev pub reply_text : Look → Reply → List ℕ
-reply_text look Done = []
-reply_text look (Rows grid) = printed look (table_of grid)
+abbrev pub reply_text : Settings → Reply → List ℕ
+reply_text settings Done = []
+reply_text settings (Rows grid) = printed settings (table_of grid)
 
 -- whether one of the full-text tables has this name, in any case of ASCII letters
 abbrev pub is_own : List (List ℕ) → List ℕ → Bool

@@ -1,4 +1,4 @@
--- SELECT ("Simple FTS Queries", "The Offsets Function"), read step by step. That the form of Grammar is read so, and no other, is a
+-- Meaning. SELECT ("Simple FTS Queries", "The Offsets Function"), read step by step. That the form of Grammar is read so, and no other, is a
 -- law.
 use Rattle.std.specs.Prelude.{ℕ, List, [], ◌∷◌, Option, Some, None, codes}
 use Rattle.std.specs.Option.{option_or}

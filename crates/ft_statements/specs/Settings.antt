@@ -1,23 +1,23 @@
--- What dot-commands set and print ("Changing Output Formats" of "Command Line Shell For SQLite").
+-- Meaning. What dot-commands set and print ("Changing Output Formats" of "Command Line Shell For SQLite").
 use Rattle.std.specs.Prelude.{ℕ, Bool, true, List, [], ◌∷◌, ◌++◌, Some}
 use Rattle.std.specs.List.{join_with_byte}
-use Rattle.shell_text.specs.Print.{Look, may_separate, with_mode}
+use Rattle.shell_text.specs.Print.{Settings, may_separate, with_mode}
 use Rattle.ft_statements.specs.Dots.{DotCommand, SetMode, SetHeaders, SetSeparator, SetNull, SetEcho, SetBail}
 
 -- the settings behind a command; a command that sets nothing leaves them
-abbrev pub look_after : DotCommand → Look → Look
-look_after (SetMode mode) look = with_mode mode look
-look_after (SetHeaders shown) look = record look { headers = Some shown }
-look_after (SetSeparator text) look = record look { separator = text }
-look_after (SetNull text) look = record look { null = text }
-look_after (SetEcho on) look = record look { echo = on }
-look_after (SetBail on) look = record look { bail = on }
-look_after _ look = look
+abbrev pub settings_after : DotCommand → Settings → Settings
+settings_after (SetMode mode) settings = with_mode mode settings
+settings_after (SetHeaders shown) settings = record settings { headers = Some shown }
+settings_after (SetSeparator text) settings = record settings { separator = text }
+settings_after (SetNull text) settings = record settings { null = text }
+settings_after (SetEcho on) settings = record settings { echo = on }
+settings_after (SetBail on) settings = record settings { bail = on }
+settings_after _ settings = settings
 
 -- whether a command's separator may be set
-abbrev pub may_set : DotCommand → Look → Bool
-may_set (SetSeparator text) look = may_separate look text
-may_set _ look = true
+abbrev pub may_set : DotCommand → Settings → Bool
+may_set (SetSeparator text) settings = may_separate settings text
+may_set _ settings = true
 
 -- what `.print` writes: its words with a space between each two, and a line feed
 abbrev pub print_text : List (List ℕ) → List ℕ

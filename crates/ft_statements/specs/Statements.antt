@@ -1,8 +1,8 @@
--- Which class a statement is of, and which command a full-text statement spells.
+-- Meaning. Which class a statement is of, and which command a full-text statement spells.
 use Rattle.std.specs.Prelude.{ℕ, Bool, false, ◌&&◌, ◌||◌, List, [], ◌∷◌, Option, Some, is_some, option_map, if◌then◌else◌, codes}
 use Rattle.std.specs.List.{list_any}
 use Rattle.std.specs.Option.{option_map_or, option_or}
-use Rattle.std.specs.Str.{str_eq_ignore_ascii_case}
+use Rattle.ft_values.specs.Names.{same_name}
 use Rattle.ft_content.specs.Command.{Command}
 use Rattle.ft_statements.specs.Words.{Token, is_keyword, is_symbol, name_of}
 use Rattle.ft_statements.specs.Reading.{keywords_at}
@@ -30,7 +30,7 @@ leads t =
     || is_keyword (codes "JOIN") t || is_keyword (codes "EXISTS") t
 
 abbrev pub is_named : List ℕ → List ℕ → Bool
-is_named name table = str_eq_ignore_ascii_case name table
+is_named name table = same_name table name
 
 -- whether this is the name of one of these tables, in any case of ASCII letters
 abbrev pub is_table : List (List ℕ) → Token → Bool

@@ -1,4 +1,4 @@
--- Words, and what was read of them, as the code holds them.
+-- Steps. Words, and what was read of them, as the code holds them.
 use Rattle.std.specs.Prelude.{ℕ, Bool, List, map, Option, option_map, string_bytes, String, Vec}
 use Rattle.std.specs.declared.alloc.Global.{Global}
 use Rattle.std.specs.Borrow.{Bor}
@@ -10,7 +10,7 @@ use Rattle.ft_content.specs.declared.command.Item.{Item}
 use Rattle.ft_content.specs.Command as commands
 use Rattle.ft_content.specs.Content.{Cell}
 use Rattle.ft_content.specs.Views.{set_of, filter_of, item_of}
-use Rattle.ft_store.specs.declared.rows.Value.{Value}
+use Rattle.ft_values.specs.declared.rows.Value.{Value}
 use Rattle.ft_statements.specs.Words.{Token}
 use Rattle.ft_statements.specs.Reading.{Reads}
 use Rattle.ft_statements.specs.Create as forms

@@ -1,7 +1,7 @@
 // INSERT and the special commands.
 ghost use Rattle.std.specs.Prelude.{◌≡◌, ◌∷◌, [], codes, map, string_bytes, option_map, IfOk};
 ghost use Rattle.ft_content.specs.Views as views;
-ghost use Rattle.ft_store.specs.Changes.{shown_value};
+ghost use Rattle.ft_values.specs.Cells.{shown_value};
 ghost use Rattle.ft_statements.specs.Insert as forms;
 ghost use Rattle.ft_statements.specs.Reading as reading;
 ghost use Rattle.ft_statements.specs.Views.{plain, left, runs, read_as, listed};

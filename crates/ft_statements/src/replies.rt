@@ -3,7 +3,7 @@ ghost use Rattle.std.specs.Prelude.{◌≡◌, map, IfOk, OnOk, IsErrOf};
 ghost use Rattle.std.specs.Io.KnownBytes.{Appends};
 ghost use Rattle.shell_text.specs.Print as print;
 ghost use Rattle.shell_text.specs.Print.{AppendsFront};
-ghost use Rattle.ft_store.specs.Changes.{shown_value};
+ghost use Rattle.ft_values.specs.Cells.{shown_value};
 ghost use Rattle.ft_content.specs.Views as views;
 ghost use Rattle.ft_statements.specs.Replies as forms;
 

@@ -10,7 +10,7 @@ use std::alloc::{AllocError, Global};
 
 /// Sets what the command sets, if it sets anything. After a fault all is as it was.
 pub fn apply(settings: &mut Settings, command: &DotCommand) -> Result<(), SetFault>
-    ensures ok { OnOk result (settings.new ≡ forms.look_after (command_as command.now) settings.old) }
+    ensures ok { OnOk result (settings.new ≡ forms.settings_after (command_as command.now) settings.old) }
     ensures good { OnOk result (forms.may_set (command_as command.now) settings.old ≡ true) }
     ensures bad { IsErrOf result SetFault.BadSeparator → forms.may_set (command_as command.now) settings.old ≡ false }
     ensures err { OnErr result (settings.new ≡ settings.old) }

@@ -106,9 +106,7 @@ fn leads(word: &Piece<'_>) -> bool
 pub(crate) fn has_table(tables: &[TableInfo], name: &str) -> bool
     ensures { result ≡ list_any (forms.is_named name.now) (views.info_names tables.now) }
 {
-    tables
-        .iter()
-        .any(|table| name.eq_ignore_ascii_case(table.name.as_str()))
+    ft_values::has_table(tables, name)
 }
 
 // Whether this word is the name of one of these tables.

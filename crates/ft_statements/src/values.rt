@@ -1,6 +1,6 @@
 // Values of a statement.
 ghost use Rattle.std.specs.Prelude.{◌≡◌, ◌+◌, ◌^◌, min, string_bytes, option_map, IfOk};
-ghost use Rattle.ft_store.specs.Changes.{shown_value};
+ghost use Rattle.ft_values.specs.Cells.{shown_value};
 ghost use Rattle.ft_statements.specs.Values as forms;
 ghost use Rattle.ft_statements.specs.Insert as inserts;
 ghost use Rattle.ft_statements.specs.Views.{seen, plain, signed_words, read_as};

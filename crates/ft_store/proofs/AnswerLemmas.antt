@@ -8,8 +8,8 @@ use Rattle.std.specs.FinMap.Entries.{where_key}
 use Rattle.std.proofs.lemmas.Cmp.{on_total, then_total, int_cmp_total}
 use Rattle.sqlite.specs.declared.types.Value.{Value}
 use Rattle.sqlite.specs.declared.types.Value.TheVariants.{Null, Int, Text, Blob}
-use Rattle.sqlite.specs.Order.{Row}
-use Rattle.sqlite_value.specs.Order.{value_cmp}
+use Rattle.sqlite.specs.Order.{Row, column}
+use Rattle.sqlite_value.specs.Order.{value_cmp, bytes}
 use Rattle.sqlite_value.specs.Keys.{without_case, by_key, ascending}
 use Rattle.sqlite.specs.Collation.TheVariants.{Binary, NoCase}
 use Rattle.sqlite_sql.specs.Ops.{binary, is_true}
@@ -27,17 +27,20 @@ use Rattle.sqlite_catalog.specs.Listing.{IsSound}
 use Rattle.sqlite.proofs.Callers.{reads_as}
 use Rattle.sqlite_typed.proofs.TestLemmas.{by_order, at_texts, same_bytes, then_key, last_key, then_term, last_term}
 use Rattle.sqlite_keyed.proofs.ListLemmas.{map-map, filter-map}
-use Rattle.ft_store.specs.declared.rows.Spot.{Spot}
+use Rattle.ft_values.specs.declared.rows.Spot.{Spot}
 use Rattle.ft_store.specs.Packed.{spots_in}
 use Rattle.ft_store.specs.Tables.{store_schema}
-use Rattle.ft_store.specs.Store.{Cell, CellKey, ListKey, ColumnKey, cell_key_cmp, list_key_cmp, column_key_cmp, name_cmp}
-use Rattle.ft_store.specs.Store as store
+use Rattle.ft_values.specs.Cells.{Cell}
+use Rattle.ft_store.specs.Store.{CellKey, ListKey, ColumnKey, cell_key_cmp, list_key_cmp, column_key_cmp, name_cmp}
+use Rattle.ft_values.specs.Cells as cells
 use Rattle.ft_store.specs.Rows.{keyed, table_entry, column_entry, skip_entry, cell_entry, list_entry, size_entry, note_entry, value_of}
+use Rattle.sqlite_rules.specs.Edit.{id_in}
 use Rattle.ft_store.specs.Changes.{num_of, txt_of}
-use Rattle.ft_store.specs.Found.{found_table, found_column, found_skip, found_cell, found_size, found_note, found_list, found_places}
+use Rattle.ft_store.specs.Found.{found_table, found_column, found_skip, found_cell, found_size, found_note, found_list, found_places, found_spots}
+use Rattle.ft_store.specs.Shown.{bare_list, lists_of_term, lists_of_prefix}
 use Rattle.ft_store.specs.Calls.{IsStore}
-use Rattle.ft_store.proofs.Texts.{names_text, columns_text, skips_text, cells_text, document_text, term_text, prefix_text, lists_text, sizes_text, noted_text}
-use Rattle.ft_store.proofs.TextLemmas.{query_by, rising, no_limit, list_shown, list_order, names_query, names_is, names_plain, names_unlisted, columns_query, columns_is, columns_plain, columns_unlisted, skips_query, skips_is, skips_plain, skips_unlisted, cells_query, cells_is, cells_plain, cells_unlisted, document_query, document_is, document_plain, document_unlisted, term_query, term_is, term_plain, term_unlisted, prefix_query, prefix_is, prefix_plain, prefix_unlisted, lists_query, lists_is, lists_plain, lists_unlisted, sizes_query, sizes_is, sizes_plain, sizes_unlisted, noted_query, noted_is, noted_plain, noted_unlisted}
+use Rattle.ft_store.proofs.Texts.{names_text, columns_text, skips_text, cells_text, document_text, term_text, prefix_text, bare_prefix_text, lists_text, bare_lists_text, sizes_text, noted_text}
+use Rattle.ft_store.proofs.TextLemmas.{query_by, rising, no_limit, list_shown, bare_shown, list_order, names_query, names_is, names_plain, names_unlisted, columns_query, columns_is, columns_plain, columns_unlisted, skips_query, skips_is, skips_plain, skips_unlisted, cells_query, cells_is, cells_plain, cells_unlisted, document_query, document_is, document_plain, document_unlisted, term_query, term_is, term_plain, term_unlisted, prefix_query, prefix_is, prefix_plain, prefix_unlisted, bare_prefix_query, bare_prefix_is, bare_prefix_plain, bare_prefix_unlisted, bare_lists_query, bare_lists_is, bare_lists_plain, bare_lists_unlisted, lists_query, lists_is, lists_plain, lists_unlisted, sizes_query, sizes_is, sizes_plain, sizes_unlisted, noted_query, noted_is, noted_plain, noted_unlisted}
 use Rattle.ft_store.specs.Range.{after_last}
 use Rattle.ft_store.proofs.RangeLemmas.{in_range}
 use Rattle.ft_store.proofs.SelectLemmas.{all_selected}
@@ -98,15 +101,15 @@ cell_total = then_total (on_total num_of value_cmp_total) (on_total txt_of value
 
 tied_values : (v w : Cell) → value_cmp (num_of v) (num_of w) ≡ Equal → value_cmp (txt_of v) (txt_of w) ≡ Equal → v ≡ w
 unfolding value_cmp
-tied_values store.Null store.Null n t = refl
-tied_values store.Null (store.Int b) n t = absurd (true≢false (sym (ap is_eq n)))
-tied_values store.Null (store.Text b) n t = absurd (true≢false (sym (ap is_eq t)))
-tied_values (store.Int a) store.Null n t = absurd (true≢false (sym (ap is_eq n)))
-tied_values (store.Int a) (store.Int b) n t = ap store.Int (tied_ints a b (sym (value_cmp-Int a b) ∙ n))
-tied_values (store.Int a) (store.Text b) n t = absurd (true≢false (sym (ap is_eq n)))
-tied_values (store.Text a) store.Null n t = absurd (true≢false (sym (ap is_eq t)))
-tied_values (store.Text a) (store.Int b) n t = absurd (true≢false (sym (ap is_eq n)))
-tied_values (store.Text a) (store.Text b) n t = ap store.Text (same_bytes a b (ap is_eq (sym (value_cmp-Text a b) ∙ t)))
+tied_values cells.Null cells.Null n t = refl
+tied_values cells.Null (cells.Int b) n t = absurd (true≢false (sym (ap is_eq n)))
+tied_values cells.Null (cells.Text b) n t = absurd (true≢false (sym (ap is_eq t)))
+tied_values (cells.Int a) cells.Null n t = absurd (true≢false (sym (ap is_eq n)))
+tied_values (cells.Int a) (cells.Int b) n t = ap cells.Int (tied_ints a b (sym (value_cmp-Int a b) ∙ n))
+tied_values (cells.Int a) (cells.Text b) n t = absurd (true≢false (sym (ap is_eq n)))
+tied_values (cells.Text a) cells.Null n t = absurd (true≢false (sym (ap is_eq t)))
+tied_values (cells.Text a) (cells.Int b) n t = absurd (true≢false (sym (ap is_eq n)))
+tied_values (cells.Text a) (cells.Text b) n t = ap cells.Text (same_bytes a b (ap is_eq (sym (value_cmp-Text a b) ∙ t)))
 
 tied_cells : (v w : Cell) → cell_cmp v w ≡ Equal → v ≡ w
 tied_cells v w h = tied_values v w (tied_first _ _ h) (tied_second _ _ h)
@@ -127,6 +130,17 @@ module _ {K X : Type 0} (R : K → K → Ordering) (total : IsTotalOrder R) (tie
   pub whole_tie : (a b : K × X) → whole_cmp R total tie V a b ≡ Equal → a ≡ b
   whole_tie a b h = let key = tie a.0 b.0 (tied_first _ _ h) in let value = v_tie a.1 b.1 (tied_second _ _ h) in λ i. (key i, value i)
 
+  -- what is found, where the output of a row shows its entry
+  found_outputs : (db : Trees) (tree : ℕ) → AllByRecursion P (db tree) → AreApart R (map entry (db tree)) → (terms : List Term) (show : List ℕ) (order : List (Term × Key)) (params : Row) (p : K → Bool) (back : Output → K × X)
+      → ((r : Row) → P r → list_all (holds (params ∷ r ∷ [])) terms ≡ p (entry r).0)
+      → ((r : Row) → P r → p (entry r).0 ≡ true → back (output (query_by tree terms show order no_limit) (params ∷ r ∷ [])) ≡ entry r)
+      → ((a b : Row) → P a → P b → output_cmp (query_by tree terms show order no_limit) (output (query_by tree terms show order no_limit) (params ∷ a ∷ [])) (output (query_by tree terms show order no_limit) (params ∷ b ∷ [])) ≡ whole_cmp R total tie V (entry a) (entry b))
+      → (rows : List Row) (answer : IsAnswer (query_by tree terms show order no_limit) db params rows) → map back answer.ordered ≡ where_key R p (keyed R (map entry (db tree)))
+  found_outputs db tree typed apart terms show order params p back tests shows orders rows answer =
+      all_selected (whole_cmp R total tie V) whole_total entry P db tree whole_tie typed terms show order no_limit params (λ e. p e.0) back tests
+      (λ r h passed. shows r h (sym (tests r h) ∙ passed)) (λ a b h k _ _. orders a b h k) rows answer
+      ∙ ap (filter (λ e. p e.0)) (sorted-keyed R total tie V (map entry (db tree)) apart)
+
   found : (db : Trees) (tree : ℕ) → AllByRecursion P (db tree) → AreApart R (map entry (db tree)) → (terms : List Term) (show : List ℕ) (order : List (Term × Key)) (params : Row) (p : K → Bool) (decode : Row → K × X)
       → ((r : Row) → P r → list_all (holds (params ∷ r ∷ [])) terms ≡ p (entry r).0)
       → ((r : Row) → P r → p (entry r).0 ≡ true → decode (output (query_by tree terms show order no_limit) (params ∷ r ∷ [])).1 ≡ entry r)
@@ -134,9 +148,7 @@ module _ {K X : Type 0} (R : K → K → Ordering) (total : IsTotalOrder R) (tie
       → (rows : List Row) → IsAnswer (query_by tree terms show order no_limit) db params rows → map decode rows ≡ where_key R p (keyed R (map entry (db tree)))
   found db tree typed apart terms show order params p decode tests shows orders rows answer =
       ap (map decode) answer.shown ∙ map-map decode (λ (o : Output). o.1) answer.ordered
-      ∙ all_selected (whole_cmp R total tie V) whole_total entry P db tree whole_tie typed terms show order no_limit params (λ e. p e.0) decode tests
-      (λ r h passed. shows r h (sym (tests r h) ∙ passed)) (λ a b h k _ _. orders a b h k) rows answer
-      ∙ ap (filter (λ e. p e.0)) (sorted-keyed R total tie V (map entry (db tree)) apart)
+      ∙ found_outputs db tree typed apart terms show order params p (λ o. decode o.1) tests shows orders rows answer
 
 pub sound_of : (s : State) → IsStore s.now → IsSound store_schema s.now.trees
 sound_of s store = subst (λ c. IsSound c s.now.trees) store.schema store.sound
@@ -218,17 +230,6 @@ noted_shown old new rows if_open h =
     (λ a b p q. then_key (cmp_cases _ _ _ _ p.name q.name) (last_key (cmp_texts _ _ _ _ p.name q.name)))
     rows ((reads_as noted_text ([]) old new store_schema kept.schema _ noted_is noted_plain noted_unlisted rows h).answer Null)
 
-pub term_stored_shown : (tab : ℤ) (term : List ℕ) (old new : State) (rows : List Row) → (IsTrue old.is_open → IsStore old.now) → Shown term_text (Int tab ∷ Text term ∷ []) old new rows
-    → map (found_list tab) rows ≡ where_key list_key_cmp (λ k. int_eq tab k.0 && is_eq (name_cmp term k.1)) (keyed list_key_cmp (map stored_entry (old.now.trees 7)))
-term_stored_shown tab term old new rows if_open h =
-    let kept = if_open (shown_open _ _ old new rows h) in
-    let sound = sound_of old kept in
-    found list_key_cmp list_key_total tied_list_keys name_cmp name_total tied_names stored_entry IsListRow (overlay old.now.trees []) 7 (are_lists old.now.trees sound) (lists_apart old.now.trees sound kept.numbered.1.1.1.1.0) term_query.filter list_shown (rising list_order) (Int tab ∷ Text term ∷ []) (λ k. int_eq tab k.0 && is_eq (name_cmp term k.1)) (found_list tab)
-    (λ r h. then_term (turned _ _ _ _ h.tab refl) (last_term (turned_text _ _ _ _ h.term refl)))
-    (λ r h passed. ap (λ t. ((t, (stored_entry r).0.1, (stored_entry r).0.2), (stored_entry r).1)) (same_int tab (stored_entry r).0.0 (and_first _ _ passed)))
-    (λ a b p q. then_key (cmp_ints _ _ _ _ p.tab q.tab) (then_key (cmp_texts _ _ _ _ p.term q.term) (then_key (cmp_ints _ _ _ _ p.docid q.docid) (last_key (cmp_blobs _ _ _ _ p.list q.list)))) ∙ regroup_3 (int_cmp (stored_entry a).0.0 (stored_entry b).0.0) (name_cmp (stored_entry a).0.1 (stored_entry b).0.1) (int_cmp (stored_entry a).0.2 (stored_entry b).0.2) (name_cmp (stored_entry a).1 (stored_entry b).1))
-    rows ((reads_as term_text (Int tab ∷ Text term ∷ []) old new store_schema kept.schema _ term_is term_plain term_unlisted rows h).answer Null)
-
 pub prefix_stored_shown : (tab : ℤ) (from end : List ℕ) (old new : State) (rows : List Row) → from ≢ [] → end ≡ after_last from → (IsTrue old.is_open → IsStore old.now) → Shown prefix_text (Int tab ∷ Text from ∷ Text end ∷ []) old new rows
     → map (found_list tab) rows ≡ where_key list_key_cmp (λ k. int_eq tab k.0 && starts_with nat_eq k.1 from) (keyed list_key_cmp (map stored_entry (old.now.trees 7)))
 prefix_stored_shown tab from end old new rows some past if_open h =
@@ -276,3 +277,52 @@ all_kept R (e ∷ es) = ap (λ l. e ∷ l) (all_kept R es)
 pub placed : (db : Trees) (tab : ℤ) (p : ListKey → Bool) (rows : List Row) → map (found_list tab) rows ≡ where_key list_key_cmp p (keyed list_key_cmp (map stored_entry (db 7)))
     → map (found_places tab) rows ≡ where_key list_key_cmp p (value_of db).lists
 placed db tab p rows is = sym (map-map (at_value list_key_cmp spots_of) (found_list tab) rows) ∙ with_places db p (map (found_list tab) rows) is
+
+-- ---- lists without their terms, which what the rows are sorted by still has
+
+abbrev with_term : ℤ → Output → ListKey × List ℕ
+with_term tab o = ((tab, bytes (column o.0 1), id_in (column o.1 0)), bytes (column o.1 1))
+
+bare_found : (tab : ℤ) (old : State) (kept : IsStore old.now) (terms : List Term) (params : Row) (p : ListKey → Bool)
+    → ((r : Row) → IsListRow r → list_all (holds (params ∷ r ∷ [])) terms ≡ p (stored_entry r).0) → ((k : ListKey) → p k ≡ true → int_eq tab k.0 ≡ true)
+    → (rows : List Row) → IsAnswer (query_by 7 terms bare_shown (rising list_order) no_limit) (overlay old.now.trees []) params rows
+    → map found_spots rows ≡ map bare_list (where_key list_key_cmp p (value_of old.now.trees).lists)
+bare_found tab old kept terms params p tests in_table rows answer =
+    let sound = sound_of old kept in
+    let outputs = found_outputs list_key_cmp list_key_total tied_list_keys name_cmp name_total tied_names stored_entry IsListRow (overlay old.now.trees []) 7 (are_lists old.now.trees sound) (lists_apart old.now.trees sound kept.numbered.1.1.1.1.0) terms bare_shown (rising list_order) params p (with_term tab) tests
+    (λ r h passed. ap (λ t. ((t, (stored_entry r).0.1, (stored_entry r).0.2), (stored_entry r).1)) (same_int tab (stored_entry r).0.0 (in_table (stored_entry r).0 passed)))
+    (λ a b p q. then_key (cmp_ints _ _ _ _ p.tab q.tab) (then_key (cmp_texts _ _ _ _ p.term q.term) (then_key (cmp_ints _ _ _ _ p.docid q.docid) (last_key (cmp_blobs _ _ _ _ p.list q.list)))) ∙ regroup_3 (int_cmp (stored_entry a).0.0 (stored_entry b).0.0) (name_cmp (stored_entry a).0.1 (stored_entry b).0.1) (int_cmp (stored_entry a).0.2 (stored_entry b).0.2) (name_cmp (stored_entry a).1 (stored_entry b).1))
+    rows answer in
+    ap (map found_spots) answer.shown ∙ map-map found_spots (λ (o : Output). o.1) answer.ordered
+    ∙ sym (map-map (λ (e : ListKey × List ℕ). bare_list (at_value list_key_cmp spots_of e)) (with_term tab) answer.ordered)
+    ∙ sym (map-map bare_list (at_value list_key_cmp spots_of) (map (with_term tab) answer.ordered))
+    ∙ ap (map bare_list) (with_places old.now.trees p (map (with_term tab) answer.ordered) outputs)
+
+pub term_shown : (tab : ℤ) (term : List ℕ) (old new : State) (rows : List Row) → (IsTrue old.is_open → IsStore old.now) → Shown term_text (Int tab ∷ Text term ∷ []) old new rows
+    → map found_spots rows ≡ map bare_list (lists_of_term tab term (value_of old.now.trees))
+term_shown tab term old new rows if_open h =
+    let kept = if_open (shown_open _ _ old new rows h) in
+    bare_found tab old kept term_query.filter (Int tab ∷ Text term ∷ []) (λ k. int_eq tab k.0 && is_eq (name_cmp term k.1))
+    (λ r h. then_term (turned _ _ _ _ h.tab refl) (last_term (turned_text _ _ _ _ h.term refl)))
+    (λ k passed. and_first _ _ passed)
+    rows ((reads_as term_text (Int tab ∷ Text term ∷ []) old new store_schema kept.schema _ term_is term_plain term_unlisted rows h).answer Null)
+
+pub bare_prefix_shown : (tab : ℤ) (from end : List ℕ) (old new : State) (rows : List Row) → from ≢ [] → end ≡ after_last from → (IsTrue old.is_open → IsStore old.now) → Shown bare_prefix_text (Int tab ∷ Text from ∷ Text end ∷ []) old new rows
+    → map found_spots rows ≡ map bare_list (lists_of_prefix tab from (value_of old.now.trees))
+bare_prefix_shown tab from end old new rows some past if_open h =
+    let kept = if_open (shown_open _ _ old new rows h) in
+    let params = Int tab ∷ Text from ∷ Text end ∷ [] in
+    bare_found tab old kept bare_prefix_query.filter params (λ k. int_eq tab k.0 && starts_with nat_eq k.1 from)
+    (λ r h. then_term (turned _ _ _ _ h.tab refl) (then_term (test_texts Ge _ _ _ _ h.term refl) (last_term (test_texts Lt _ _ _ _ h.term refl)))
+    ∙ ap (λ e. int_eq tab (stored_entry r).0.0 && (is_le (name_cmp from (stored_entry r).0.1) && is_lt (name_cmp (stored_entry r).0.1 e))) past ∙ ap (λ t. int_eq tab (stored_entry r).0.0 && t) (in_range from (stored_entry r).0.1 some))
+    (λ k passed. and_first _ _ passed)
+    rows ((reads_as bare_prefix_text params old new store_schema kept.schema _ bare_prefix_is bare_prefix_plain bare_prefix_unlisted rows h).answer Null)
+
+pub bare_lists_shown : (tab : ℤ) (old new : State) (rows : List Row) → (IsTrue old.is_open → IsStore old.now) → Shown bare_lists_text (Int tab ∷ []) old new rows
+    → map found_spots rows ≡ map bare_list (where_key list_key_cmp (λ k. int_eq tab k.0) (value_of old.now.trees).lists)
+bare_lists_shown tab old new rows if_open h =
+    let kept = if_open (shown_open _ _ old new rows h) in
+    bare_found tab old kept bare_lists_query.filter (Int tab ∷ []) (λ k. int_eq tab k.0)
+    (λ r h. last_term (turned _ _ _ _ h.tab refl))
+    (λ k passed. passed)
+    rows ((reads_as bare_lists_text (Int tab ∷ []) old new store_schema kept.schema _ bare_lists_is bare_lists_plain bare_lists_unlisted rows h).answer Null)

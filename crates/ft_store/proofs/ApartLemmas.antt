@@ -27,7 +27,7 @@ use Rattle.sqlite_typed.proofs.TestLemmas.{at_ints, at_texts}
 use Rattle.sqlite_keyed.proofs.ListLemmas.{all_weaker}
 use Rattle.ft_store.specs.Tables.{store_schema, plain_order, case_order}
 use Rattle.ft_store.specs.Store.{cell_key_cmp, list_key_cmp, column_key_cmp, name_cmp}
-use Rattle.ft_store.specs.Rows.{table_entry, column_key, column_entry, skip_entry, cell_key, cell_entry, list_key, size_entry, note_entry}
+use Rattle.ft_store.specs.Rows.{table_entry, column_key, column_entry, skip_entry, cell_key, cell_entry, list_key, list_entry, size_entry, note_entry}
 use Rattle.ft_store.proofs.StoredLemmas.{stored_entry}
 use Rattle.ft_store.proofs.KeyedLemmas.{AreApart, none_from, equal_from}
 use Rattle.ft_store.proofs.OrderLemmas.{tied_cell_keys, tied_list_keys, tied_column_keys, tied_names}
@@ -167,6 +167,11 @@ cells_apart db sound shaped =
 pub lists_apart : (db : Trees) → IsSound store_schema db → HasOwnRowids (db 7) → AreApart list_key_cmp (map stored_entry (db 7))
 lists_apart db sound shaped =
     apart list_key_cmp plain_order (1 ∷ 2 ∷ 3 ∷ []) IsListRow stored_entry lists_agree (db 7) shaped.0 shaped.1 (are_lists db sound)
+    (all_weaker _ (λ r. clashes plain_order (1 ∷ 2 ∷ 3 ∷ []) (db 7) r ≡ false) (λ r h. not_first _ h) (db 7) (sound.obeys.rules Unique).1.1.1.1.0)
+
+pub places_apart : (db : Trees) → IsSound store_schema db → HasOwnRowids (db 7) → AreApart list_key_cmp (map list_entry (db 7))
+places_apart db sound shaped =
+    apart list_key_cmp plain_order (1 ∷ 2 ∷ 3 ∷ []) IsListRow list_entry lists_agree (db 7) shaped.0 shaped.1 (are_lists db sound)
     (all_weaker _ (λ r. clashes plain_order (1 ∷ 2 ∷ 3 ∷ []) (db 7) r ≡ false) (λ r h. not_first _ h) (db 7) (sound.obeys.rules Unique).1.1.1.1.0)
 
 pub sizes_apart : (db : Trees) → IsSound store_schema db → HasOwnRowids (db 9) → AreApart cell_key_cmp (map size_entry (db 9))

@@ -1,13 +1,19 @@
 -- What follows from a call of the connection, whatever its text is.
 use Rattle.std.proofs.Common.{◌≡◌, ℕ, ◌+◌, ◌<◌, List, [], ◌∷◌, ◌++◌, map, length, get_or, take, arith, Option, Some, None, sym, ap, ap₂, ◌∙◌, subst, Result, refl, Ok, Err, inl, inr, ◌⊎◌, IsTrue}
+use Rattle.std.specs.Prelude.{Bool, true, false, MatchBool}
 use Rattle.std.proofs.lemmas.List.{take_more, map-append}
 use Rattle.sqlite.specs.Order.{Row}
 use Rattle.sqlite.specs.Schema.{Schema}
 use Rattle.sqlite_schema.specs.declared.command.Returning.{Returning}
 use Rattle.sqlite.specs.Clock.{timed}
 use Rattle.sqlite.specs.Listing.{understood}
-use Rattle.sqlite.specs.State.{State, HasCleanDisk, IsUnchanged, IsRolledBack, IsNotRun, FailsToQuery, FailsToShow, Survives, KeepsCommit, ExecutesInside, CommitsShowing, Shown, ShowsRows}
+use Rattle.sqlite.specs.State.{State, HasCleanDisk, IsUnchanged, IsRolledBack, IsNotRun, Fails, ExecutesIn, RunsCommand, shows_rows, store_error, FailsToQuery, FailsToShow, Survives, KeepsCommit, ExecutesInside, CommitsShowing, Shown, ShowsRows}
 use Rattle.sqlite.specs.declared.error.Error.{Error}
+use Rattle.sqlite.specs.declared.error.Error.TheVariants.{SqliteFailure, ExecuteReturnedResults}
+use Rattle.sqlite.specs.declared.error.ErrorCode.TheVariants as code
+use Rattle.sqlite_schema.specs.declared.schema.Constraint.{Constraint}
+use Rattle.sqlite_trees.specs.declared.error.StoreError.{StoreError}
+use Rattle.sqlite_trees.specs.declared.error.StoreError.TheVariants.{OutOfMemory, Io, Corrupt, Full, Broken, Unstorable}
 use Rattle.sqlite.proofs.StateLemmas.{survives_weaker}
 use Rattle.ft_store.specs.Calls.{Keeps}
 use Rattle.sqlite.proofs.Callers.{IsPlain, never_commits}
@@ -65,3 +71,31 @@ keeps_same s = record { was_open = λ o. o; committed = λ _. refl }
 
 pub keeps_then : (a b c : State) → KeepsCommit a b → KeepsCommit b c → KeepsCommit a c
 keeps_then a b c one two = record { was_open = λ o. one.was_open (two.was_open o); committed = λ o. two.committed o ∙ one.committed (two.was_open o) }
+
+-- ---- a statement in a transaction that breaks a rule changes nothing
+
+no_failure : (old new : State) (rule : Constraint) (TooBig : Type 0) → Fails old new TooBig (SqliteFailure (code.ConstraintViolation rule)) → ⊥
+no_failure old new rule TooBig h = go h.0 h.1
+  where
+    go : (cause : StoreError) → SqliteFailure (code.ConstraintViolation rule) ≡ store_error cause → ⊥
+    go OutOfMemory e = cc
+    go Io e = cc
+    go Corrupt e = cc
+    go Full e = cc
+    go Broken e = cc
+    go Unstorable e = cc
+
+pub broken_keeps : (sql : List ℕ) (params : Row) (old new : State) (rule : Constraint) → ExecutesInside 0 sql params old new (Err (SqliteFailure (code.ConstraintViolation rule))) → IsUnchanged old new
+unfolding ExecutesIn IsNotRun
+broken_keeps sql params old new rule (inr ends) = ends.2
+broken_keeps sql params old new rule (inl (inl (inl none), kept)) = none.1
+broken_keeps sql params old new rule (inl (inl (inr fails), kept)) = absurd (no_failure old new rule ⊥ fails)
+broken_keeps sql params old new rule (inl (inr ran, kept)) = go (shows_rows false ran.0) ran.2
+  where
+    runs : RunsCommand old new sql ran.0 (timed params ran.0.formats ran.1.now) (Err (SqliteFailure (code.ConstraintViolation rule))) → IsUnchanged old new
+    runs (inl refused) = refused.1
+    runs (inr fails) = absurd (no_failure old new rule _ fails)
+
+    go : (b : Bool) → MatchBool b (◌≡◌ {A = Result ℕ Error} (Err (SqliteFailure (code.ConstraintViolation rule))) (Err ExecuteReturnedResults) × IsUnchanged old new) (RunsCommand old new sql ran.0 (timed params ran.0.formats ran.1.now) (Err (SqliteFailure (code.ConstraintViolation rule)))) → IsUnchanged old new
+    go true h = h.1
+    go false h = runs h

@@ -12,7 +12,7 @@ use Rattle.sqlite.specs.Tree.{Trees}
 use Rattle.sqlite_trees.specs.Tree.{IsAscending, rowid, has_rowid, without_rowid, put_row}
 use Rattle.sqlite_trees.specs.View.{is_int}
 use Rattle.ft_store.specs.Calls.{HasOwnRowids}
-use Rattle.ft_store.proofs.RowidLemmas.{IsInt, DifferIn, apart_rows}
+use Rattle.ft_store.proofs.RowidLemmas.{IsInt, DifferIn, apart_rows, fresh_first}
 use Rattle.sqlite.specs.Edit.{edit_of, id_in, without_all, is_taken, are_fresh, put_all}
 use Rattle.sqlite.specs.Cast.{cast}
 use Rattle.sqlite_sql.specs.Ops.{unary}
@@ -161,18 +161,14 @@ deletes old new text params at table terms count has is plain found here shaped 
       sound = w.sound;
     }
 
--- ---- the row that an INSERT adds
+-- ---- the rows that an INSERT adds
 
-free_from : (b : Bool) → (not b && true) ≡ true → b ≡ false
-free_from true h = sym h
-free_from false h = refl
-
-pub inserts : (old new : State) (text : List ℕ) (params : Row) (at tree : ℕ) (name : List ℕ) (columns : List Column) (key : Option ℕ) (primary : List ℕ) (uniques : List (List ℕ)) (orders : List Order) (checks : List Term)
-    (terms : List Term) (width : ℕ) (row : Row) (count : ℕ) → old.now.schema ≡ store_schema
+pub inserts_all : (old new : State) (text : List ℕ) (params : Row) (at tree : ℕ) (name : List ℕ) (columns : List Column) (key : Option ℕ) (primary : List ℕ) (uniques : List (List ℕ)) (orders : List Order) (checks : List Term)
+    (terms : List Term) (width : ℕ) (rows : List Row) (count : ℕ) → old.now.schema ≡ store_schema
     → command_of (understood store_schema text) ≡ Insert at (Values terms width) → IsPlain (understood store_schema text) → slice_get store_schema.tables at ≡ Some (a_table tree name columns key primary uniques orders checks)
-    → (edit_of old.now.trees (a_table tree name columns key primary uniques orders checks) [] Chosen 0 (value_rows (stamped (a_table tree name columns key primary uniques orders checks) params) width (length terms / width) terms)).news ≡ row ∷ [] → Executes text params old new (Ok count)
-    → Wrote tree old new (put_row row (old.now.trees tree)) × (is_taken (old.now.trees tree) row ≡ false)
-inserts old new text params at tree name columns key primary uniques orders checks terms width row count has is plain found makes h =
+    → (edit_of old.now.trees (a_table tree name columns key primary uniques orders checks) [] Chosen 0 (value_rows (stamped (a_table tree name columns key primary uniques orders checks) params) width (length terms / width) terms)).news ≡ rows → Executes text params old new (Ok count)
+    → Wrote tree old new (put_all (old.now.trees tree) rows) × (are_fresh (old.now.trees tree) rows ≡ true)
+inserts_all old new text params at tree name columns key primary uniques orders checks terms width rows count has is plain found makes h =
     let table = a_table tree name columns key primary uniques orders checks in
     let db = old.now.trees in
     let command = Insert at (Values terms width) in
@@ -191,15 +187,24 @@ inserts old new text params at tree name columns key primary uniques orders chec
     let trees : done.0.trees ≡ edited_by.0 = ap (λ (it : Written). it.trees) (same_value counted.2) ∙ same_value counted.1 in
     let edit = edit_of db table [] Chosen 0 given.0 in
     let applies = one_step store_schema _ db edited_by.0 edit refl edited_by.1 in
-    let news : edit.news ≡ row ∷ [] = ap (λ all. (edit_of db table [] Chosen 0 all).news) given.1.1 ∙ makes in
+    let news : edit.news ≡ rows = ap (λ all. (edit_of db table [] Chosen 0 all).news) given.1.1 ∙ makes in
     let after : new.now.trees ≡ edited_by.0 = ap (λ (d : Database). d.trees) now ∙ trees in
-    let wrote : Wrote table.tree old new (put_row row (db table.tree)) = record {
+    let wrote : Wrote table.tree old new (put_all (db table.tree) rows) = record {
       schema = ap (λ (d : Database). d.schema) now;
       written = ap (λ (t : Trees). t table.tree) after ∙ applies.rows ∙ ap (put_all (db table.tree)) news;
       others = subst (KeepsOthers table.tree db) (sym after) applies.tables;
       sound = w.sound;
     } in
-    (wrote, free_from _ (subst (λ l. are_fresh (db table.tree) l ≡ true) news applies.fresh))
+    (wrote, subst (λ l. are_fresh (db table.tree) l ≡ true) news applies.fresh)
+
+-- one row
+pub inserts : (old new : State) (text : List ℕ) (params : Row) (at tree : ℕ) (name : List ℕ) (columns : List Column) (key : Option ℕ) (primary : List ℕ) (uniques : List (List ℕ)) (orders : List Order) (checks : List Term)
+    (terms : List Term) (width : ℕ) (row : Row) (count : ℕ) → old.now.schema ≡ store_schema
+    → command_of (understood store_schema text) ≡ Insert at (Values terms width) → IsPlain (understood store_schema text) → slice_get store_schema.tables at ≡ Some (a_table tree name columns key primary uniques orders checks)
+    → (edit_of old.now.trees (a_table tree name columns key primary uniques orders checks) [] Chosen 0 (value_rows (stamped (a_table tree name columns key primary uniques orders checks) params) width (length terms / width) terms)).news ≡ row ∷ [] → Executes text params old new (Ok count)
+    → Wrote tree old new (put_row row (old.now.trees tree)) × (is_taken (old.now.trees tree) row ≡ false)
+inserts old new text params at tree name columns key primary uniques orders checks terms width row count has is plain found makes h =
+    let made = inserts_all old new text params at tree name columns key primary uniques orders checks terms width (row ∷ []) count has is plain found makes h in (made.0, fresh_first _ _ made.1)
 
 -- ---- what a column makes of the value that is written to it
 

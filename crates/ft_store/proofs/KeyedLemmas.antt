@@ -6,9 +6,11 @@ use Rattle.std.specs.FinMap.Entries.{put, where_key, find, is_sorted, by_order, 
 use Rattle.sqlite_keyed.specs.Lists.{sort_by, insert_sorted}
 use Rattle.sqlite_value.specs.Order.{Row, value_cmp}
 use Rattle.sqlite_trees.specs.Tree.{put_row, rowid}
-use Rattle.sqlite_rules.specs.Edit.{is_taken}
+use Rattle.sqlite_rules.specs.Edit.{is_taken, are_fresh, put_all}
+use Rattle.ft_store.specs.Groups.{put_each}
 use Rattle.ft_store.specs.Store.{without_key}
 use Rattle.ft_store.specs.Rows.{keyed}
+use Rattle.ft_store.proofs.RowidLemmas.{fresh_first, fresh_later}
 
 pub some_first : {X : Type 0} (b : Bool) (x : X) (o : Option X) → cond b (Some x) o ≡ None → (b ≡ false) × (o ≡ None)
 some_first true x o h = absurd cc
@@ -33,6 +35,14 @@ module _ {K : Type 0} (R : K → K → Ordering) (total : IsTotalOrder R) (tie :
   both_tie : (q k j : K) → eq_by_cmp R k j ≡ false → eq_by_cmp R q j ≡ true → eq_by_cmp R q k ≡ true → ⊥
   both_tie q k j apart a b =
       true≢false (sym (itself k) ∙ ap (eq_by_cmp R k) (sym (tie q k (equal_from _ b)) ∙ tie q j (equal_from _ a)) ∙ apart)
+
+  pub apart_back : (q k : K) → eq_by_cmp R q k ≡ false → eq_by_cmp R k q ≡ false
+  apart_back q k e = back (R k q) refl
+    where
+      back : (o : Ordering) → R k q ≡ o → is_eq o ≡ false
+      back Less h = refl
+      back Greater h = refl
+      back Equal h = absurd (true≢false (sym (ap (λ x. eq_by_cmp R x k) (sym (tie k q h)) ∙ itself k) ∙ e))
 
 -- no two rows have one key
 module _ {K X : Type 0} (R : K → K → Ordering) where
@@ -68,15 +78,7 @@ module _ {K X : Type 0} (R : K → K → Ordering) (total : IsTotalOrder R) (tie
     where
       go : (q : K) (b : Bool) → eq_by_cmp R q k ≡ b → cond b (Some v) (cond (not (eq_by_cmp R k q)) (find R q es) None) ≡ cond b (Some v) (find R q es)
       go q true e = refl
-      go q false e = ap (λ t. cond (not t) (find R q es) None) (turned q e)
-        where
-          turned : (q : K) → eq_by_cmp R q k ≡ false → eq_by_cmp R k q ≡ false
-          turned q e = back (R k q) refl
-            where
-              back : (o : Ordering) → R k q ≡ o → is_eq o ≡ false
-              back Less h = refl
-              back Greater h = refl
-              back Equal h = absurd (true≢false (sym (ap (λ x. eq_by_cmp R x k) (sym (tie k q h)) ∙ itself R total tie k) ∙ e))
+      go q false e = ap (λ t. cond (not t) (find R q es) None) (apart_back R total tie q k e)
 
   apart_swap : (a b : Bool) (x y : X) (z : Option X) → (a ≡ true → b ≡ true → ⊥) → cond a (Some x) (cond b (Some y) z) ≡ cond b (Some y) (cond a (Some x) z)
   apart_swap true true x y z h = absurd (h refl refl)
@@ -108,6 +110,35 @@ module _ {K X : Type 0} (R : K → K → Ordering) (total : IsTotalOrder R) (tie
         same_entries R total tie _ _ (is_sorted-keyed (map entry (put_row new rows))) (is_sorted-put R total (entry new).0 (entry new).1 _ (is_sorted-keyed (map entry rows)))
         (λ q. find-keyed q (map entry (put_row new rows)) ∙ find-put_row rows free (sym (find-keyed (entry new).0 (map entry rows)) ∙ none) q
         ∙ ap (cond (eq_by_cmp R q (entry new).0) (Some (entry new).1)) (sym (find-keyed q (map entry rows))) ∙ sym (find-put R total q (entry new).0 (entry new).1 (keyed R (map entry rows))))
+
+    -- rows that are apart with a new one were so before, and none had its key
+    apart-put_row : (rows : List Row) → is_taken rows new ≡ false → AreApart R (map entry (put_row new rows)) → (find R (entry new).0 (map entry rows) ≡ None) × AreApart R (map entry rows)
+    apart-put_row [] free apart = (refl, tt)
+    apart-put_row (r ∷ rows) free apart = go (value_cmp (rowid r) (rowid new)) free apart (apart-put_row rows)
+      where
+        go : (o : Ordering) → (is_eq o || is_taken rows new) ≡ false → AreApart R (map entry (match_ordering o (r ∷ put_row new rows) (new ∷ rows) (new ∷ r ∷ rows)))
+            → (is_taken rows new ≡ false → AreApart R (map entry (put_row new rows)) → (find R (entry new).0 (map entry rows) ≡ None) × AreApart R (map entry rows))
+            → (find R (entry new).0 (map entry (r ∷ rows)) ≡ None) × AreApart R (map entry (r ∷ rows))
+        go Less h apart more =
+            let before = more h apart.1 in
+            let split = some_first (eq_by_cmp R (entry r).0 (entry new).0) (entry new).1 (find R (entry r).0 (map entry rows)) (sym (find-put_row rows h before.0 (entry r).0) ∙ apart.0) in
+            (none_from (eq_by_cmp R (entry new).0 (entry r).0) (entry r).1 (find R (entry new).0 (map entry rows)) (apart_back R total tie (entry r).0 (entry new).0 split.0) before.0, (split.1, before.1))
+        go Equal h apart more = absurd (true≢false h)
+        go Greater h apart more = apart
+
+  -- new rows that are apart from all others and from each other are put one after the other
+  module _ (entry : Row → K × X) where
+    apart-put_all : (news rows : List Row) → are_fresh rows news ≡ true → AreApart R (map entry (put_all rows news)) → AreApart R (map entry rows)
+    apart-put_all [] rows fresh apart = apart
+    apart-put_all (n ∷ news) rows fresh apart = (apart-put_row entry n rows (fresh_first _ _ fresh) (apart-put_all news (put_row n rows) (fresh_later _ _ fresh) apart)).1
+
+    pub keyed-put_all : (news rows : List Row) → are_fresh rows news ≡ true → AreApart R (map entry (put_all rows news))
+        → keyed R (map entry (put_all rows news)) ≡ put_each R (map entry news) (keyed R (map entry rows))
+    keyed-put_all [] rows fresh apart = refl
+    keyed-put_all (n ∷ news) rows fresh apart =
+        let later = fresh_later _ _ fresh in
+        let before = apart-put_row entry n rows (fresh_first _ _ fresh) (apart-put_all news (put_row n rows) later apart) in
+        keyed-put_all news (put_row n rows) later apart ∙ ap (put_each R (map entry news)) (keyed-put_row entry n rows (fresh_first _ _ fresh) (find-keyed (entry n).0 (map entry rows) ∙ before.0))
 
   module _ (V : X → X → Ordering) where
     abbrev pub whole_cmp : K × X → K × X → Ordering

@@ -24,7 +24,8 @@ use Rattle.sqlite.specs.State.{State, Shown}
 use Rattle.sqlite.proofs.Callers.{reads_as}
 use Rattle.sqlite_typed.proofs.TestLemmas.{then_key, last_key, last_term}
 use Rattle.ft_store.specs.Tables.{store_schema}
-use Rattle.ft_store.specs.Store.{Cell, CellKey, cell_key_cmp}
+use Rattle.ft_values.specs.Cells.{Cell}
+use Rattle.ft_store.specs.Store.{CellKey, cell_key_cmp}
 use Rattle.ft_store.specs.Rows.{keyed, cell_key, cell_entry, value_of}
 use Rattle.ft_store.specs.Shown.{last_docid_of}
 use Rattle.ft_store.specs.Calls.{IsStore}
@@ -135,7 +136,7 @@ last_read tab db typed apart rows answer =
     let all = keyed cell_key_cmp (map cell_entry (db 5)) in
     ap (map (found_key tab)) answer.shown ∙ sym (take-map (found_key tab) 1 (map (λ (o : Output). o.1) answer.ordered))
     ∙ ap (take 1) (map-map (found_key tab) (λ (o : Output). o.1) answer.ordered
-    ∙ all_selected (back key_cmp key_total key_tie) (back_total key_total) key_entry IsCellRow db 5 (back_tie key_cmp key_total key_tie) typed last_query.filter (2 ∷ 3 ∷ []) (falling (1 ∷ 2 ∷ 3 ∷ [])) (lit (Int (pos 1))) (Int tab ∷ []) test (found_key tab)
+    ∙ all_selected (back key_cmp key_total key_tie) (back_total key_total) key_entry IsCellRow db 5 (back_tie key_cmp key_total key_tie) typed last_query.filter (2 ∷ 3 ∷ []) (falling (1 ∷ 2 ∷ 3 ∷ [])) (lit (Int (pos 1))) (Int tab ∷ []) test (λ o. found_key tab o.1)
     (λ r h. last_term (turned _ _ _ _ h.tab refl))
     (λ r h passed. ap (λ t. ((t, (cell_key r).1, (cell_key r).2), tt)) (same_int tab (cell_key r).0 (sym (last_term (turned _ _ _ _ h.tab refl)) ∙ passed)))
     (λ a b p q _ _. then_key (cmp_ints _ _ _ _ q.tab p.tab) (then_key (cmp_ints _ _ _ _ q.docid p.docid) (last_key (cmp_ints _ _ _ _ q.at p.at))) ∙ alone (cell_key_cmp (cell_key b) (cell_key a)))

@@ -6,6 +6,7 @@ pub mod CallLemmas
 pub mod ChainLemmas
 pub mod ChangeLemmas
 pub mod EntryLemmas
+pub mod GroupLemmas
 pub mod KeyedLemmas
 pub mod LastLemmas
 pub mod MakeLemmas

@@ -1,7 +1,7 @@
 -- The places that can be packed, tested one after another.
 use Rattle.std.proofs.Common.{◌≡◌, ℕ, Bool, true, false, ◌&&◌, List, [], ◌∷◌, map, ℤ, pos, negsuc, refl, sym, ap, ◌∙◌}
 use Rattle.std.proofs.lemmas.Bool.{and_parts, and_from}
-use Rattle.ft_store.specs.declared.rows.Spot.{Spot as StoredSpot}
+use Rattle.ft_values.specs.declared.rows.Spot.{Spot as StoredSpot}
 use Rattle.ft_store.specs.Packed.{Spot, CanPack, is_natural, is_nonnegative, natural, is_spot, is_after, rise_after, origin, stored_spot, plain_spot}
 use Rattle.ft_store.specs.Unpacking.{passes}
 

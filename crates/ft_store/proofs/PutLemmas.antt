@@ -1,5 +1,5 @@
 -- How the steps of a change are put together.
-use Rattle.std.proofs.Common.{Bool, true, false, nat_lt, ltb-true, ltb-false, ◌≡◌, ℕ, ◌+◌, ◌<◌, ◌≤◌, ℤ, pos, not, cond, List, [], ◌∷◌, ◌++◌, map, length, get_or, take, Option, None, refl, sym, ap, ◌∙◌, subst, arith, IsTrue, is_eq}
+use Rattle.std.proofs.Common.{◌≡◌, ℕ, ◌+◌, ◌<◌, ◌≤◌, ℤ, pos, not, cond, List, [], ◌∷◌, ◌++◌, map, length, get_or, take, Option, None, refl, sym, ap, ◌∙◌, subst, arith, IsTrue, is_eq}
 use Rattle.std.specs.Prelude.{unwrap_or, option_map, string_bytes, String}
 use Rattle.std.specs.declared.alloc.Global.{Global}
 use Rattle.std.specs.List.{enumerate_from}
@@ -7,18 +7,19 @@ use Rattle.std.specs.Ordering.{int_cmp, int_eq}
 use Rattle.std.specs.FinMap.Entries.{put, where_key, find, find-where_key}
 use Rattle.std.specs.Cmp.{tied_itself}
 use Rattle.std.proofs.lemmas.Cmp.{int_cmp_total}
-use Rattle.std.proofs.lemmas.List.{get_or_default, take_more, take_all, map-append, length-map, length-take-le}
+use Rattle.std.proofs.lemmas.List.{take_more, take_all, map-append, length-map, length-take-le}
 use Rattle.sqlite.specs.Tree.{Trees}
 use Rattle.sqlite_catalog.specs.Listing.{IsSound}
 use Rattle.sqlite.specs.State.{State, HasCleanDisk}
 use Rattle.sqlite.specs.Store.{Ghosts}
 use Rattle.sqlite.specs.Held.{Held, state}
-use Rattle.ft_store.specs.declared.rows.Spot.{Spot}
-use Rattle.ft_store.specs.declared.rows.RowChange.{RowChange}
+use Rattle.ft_values.specs.declared.rows.Spot.{Spot}
+use Rattle.ft_values.specs.declared.rows.RowChange.{RowChange}
 use Rattle.ft_store.specs.Packed.{CanPack, packed_spots, plain_spot, stored_spot, spots_in}
-use Rattle.ft_store.specs.Store.{Cell, CellKey, ListKey, ColumnKey, cell_key_cmp, list_key_cmp, column_key_cmp, name_cmp, StoreValue, Change, without_key, with_columns, with_skipped, applied, all_applied}
+use Rattle.ft_values.specs.Cells.{Cell}
+use Rattle.ft_store.specs.Store.{CellKey, ListKey, ColumnKey, cell_key_cmp, list_key_cmp, column_key_cmp, name_cmp, StoreValue, Change, without_key, with_columns, with_skipped, applied, all_applied}
 use Rattle.ft_store.specs.Rows.{column_entry, skip_entry, cell_entry, list_entry, size_entry, note_entry, value_of}
-use Rattle.ft_store.specs.Changes.{shown_change, CanApply}
+use Rattle.ft_store.specs.Changes.{shown_change}
 use Rattle.ft_store.specs.Calls.{IsStore, Steps, Goes, IsStored}
 use Rattle.ft_store.proofs.PackedLemmas.{packed_is_read}
 use Rattle.ft_store.proofs.KeyedLemmas.{is_sorted-keyed, find-without_key, put-without_key, respects}
@@ -194,14 +195,3 @@ column_step old was now tab at names i name inside is number before step =
     ∙ sym (one_more_column tab xs (string_bytes name) v.columns) ∙ ap (λ l. with_columns tab (enumerate_from 0 l) v.columns) more in
     subst (λ l. Steps old now (record v { columns = l })) last
     (then_step old was now _ (λ (u : StoreValue). record u { columns = put column_key_cmp (tab, at) (string_bytes name) u.columns }) before step)
-
--- ---- which changes can be made
-
-pub one_more_can : (changes : List RowChange) (i : ℕ) (change : RowChange) → i < length changes → change ≡ get_or changes i change → ((k : ℕ) (d : RowChange) → k < i → CanApply (get_or changes k d)) → CanApply change → (k : ℕ) (d : RowChange) → k < i + 1 → CanApply (get_or changes k d)
-one_more_can changes i change inside is before can k d h = go (nat_lt k i) refl
-  where
-    go : (b : Bool) → nat_lt k i ≡ b → CanApply (get_or changes k d)
-    go true e = before k d (ltb-true k i e)
-    go false e =
-        let here : k ≡ i = (let le : i ≤ k = ltb-false k i e in omega (arith, h, le)) in
-        subst (λ n. CanApply (get_or changes n d)) (sym here) (subst CanApply (is ∙ get_or_default changes i change d inside) can)

@@ -8,7 +8,7 @@ use Rattle.std.proofs.lemmas.Option.{option_and_then_some, cond_some}
 use Rattle.std.proofs.lemmas.Bool.{eqb-true, eqb-false}
 use Rattle.std.proofs.lemmas.Bool.Decides.{nat_tests}
 use Rattle.ft_store.specs.Packed.{Spot, leb128_within, leb128, going_on, numbers_in, is_spot, origin, numbers_after, spots_after, rise_after, are_spots, unpacked, plain_spot, stored_spot, spots_in}
-use Rattle.ft_store.specs.declared.rows.Spot.{Spot as StoredSpot}
+use Rattle.ft_values.specs.declared.rows.Spot.{Spot as StoredSpot}
 use Rattle.ft_store.specs.Unpacking.{next_numbers, spot_from, passes, checked}
 use Rattle.ft_store.proofs.PackedLemmas.{reach, more_fuel, last_byte, AllFit, writes_spots, fits_all, same_some}
 

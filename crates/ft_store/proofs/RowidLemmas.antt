@@ -1,5 +1,5 @@
 -- Rows whose rowids are integers, no two the same.
-use Rattle.std.proofs.Common.{◌≡◌, ◌≢◌, ℤ, Bool, true, false, ◌||◌, List, [], ◌∷◌, filter, refl, sym, ap, ap₂, ◌∙◌, Ordering, Less, Equal, Greater, is_eq, true≢false, IsTrue}
+use Rattle.std.proofs.Common.{◌≡◌, ◌≢◌, ℤ, Bool, true, false, not, ◌&&◌, ◌||◌, List, [], ◌∷◌, filter, refl, sym, ap, ap₂, ◌∙◌, Ordering, Less, Equal, Greater, is_eq, true≢false, IsTrue}
 use Rattle.std.specs.List.{AllByRecursion}
 use Rattle.std.specs.Ordering.{int_cmp, match_ordering}
 use Rattle.std.specs.Cmp.{tied_itself}
@@ -10,7 +10,7 @@ use Rattle.sqlite_value.specs.Order.{value_cmp}
 use Rattle.sqlite_value.proofs.OrderLemmas.{value_cmp_total, value_cmp-Int}
 use Rattle.sqlite_trees.specs.Tree.{IsAscending, rowid, put_row}
 use Rattle.sqlite_trees.specs.View.{is_int}
-use Rattle.sqlite_rules.specs.Edit.{is_taken}
+use Rattle.sqlite_rules.specs.Edit.{is_taken, are_fresh, put_all}
 use Rattle.sqlite_keyed.proofs.ListLemmas.{all-filter, ascending-filter}
 use Rattle.ft_store.specs.Calls.{HasOwnRowids}
 use Rattle.ft_store.proofs.OrderLemmas.{tied_ints}
@@ -67,9 +67,22 @@ differ-put_row new (r ∷ rows) apart up = elim (value_cmp (rowid r) (rowid new)
   | Greater ↦ (apart, up)
 ]
 
--- a row is added, and rows are taken out
+-- the first new row has a rowid of its own, and so have those after it
+pub fresh_first : (a b : Bool) → (not a && b) ≡ true → a ≡ false
+fresh_first true b h = sym h
+fresh_first false b h = refl
+
+pub fresh_later : (a b : Bool) → (not a && b) ≡ true → b ≡ true
+fresh_later true b h = absurd (true≢false (sym h))
+fresh_later false b h = h
+
+-- rows are added, and rows are taken out
 pub own-put_row : (new : Row) (rows : List Row) → IsInt new → is_taken rows new ≡ false → HasOwnRowids rows → HasOwnRowids (put_row new rows)
 own-put_row new rows int free own = (differ-put_row new rows (all_untaken rows new free) own.0, all-put_row IsInt new rows int own.1)
+
+pub own-put_all : (news rows : List Row) → AllByRecursion IsInt news → are_fresh rows news ≡ true → HasOwnRowids rows → HasOwnRowids (put_all rows news)
+own-put_all [] rows ints fresh own = own
+own-put_all (new ∷ news) rows ints fresh own = own-put_all news (put_row new rows) ints.1 (fresh_later _ _ fresh) (own-put_row new rows ints.0 (fresh_first _ _ fresh) own)
 
 pub own-filter : (p : Row → Bool) (rows : List Row) → HasOwnRowids rows → HasOwnRowids (filter p rows)
 own-filter p rows own = (ascending-filter DifferIn p rows own.0, all-filter IsInt p rows own.1)

@@ -10,25 +10,28 @@ use Rattle.sqlite.specs.Tree.{Trees}
 use Rattle.sqlite.specs.Table.{Table}
 use Rattle.sqlite_trees.specs.Tree.{put_row, rowid}
 use Rattle.sqlite_trees.specs.View.{is_int}
-use Rattle.ft_store.proofs.RowidLemmas.{own-filter, own-put_row}
+use Rattle.ft_store.proofs.RowidLemmas.{IsInt, own-filter, own-put_row, own-put_all}
 use Rattle.sqlite_catalog.specs.Listing.{IsSound}
-use Rattle.sqlite_rules.specs.Edit.{is_taken}
+use Rattle.sqlite_rules.specs.Edit.{is_taken, are_fresh, put_all}
 use Rattle.sqlite.specs.Term.{Term, holds}
 use Rattle.sqlite.specs.Command.TheVariants.{Delete}
 use Rattle.sqlite.specs.Listing.{understood}
 use Rattle.sqlite.specs.State.{State, Executes, Shows}
 use Rattle.sqlite.proofs.Callers.{IsPlain, command_of}
 use Rattle.sqlite_keyed.proofs.ListLemmas.{filter-map}
-use Rattle.ft_store.specs.declared.rows.Spot.{Spot}
+use Rattle.ft_values.specs.declared.rows.Spot.{Spot}
 use Rattle.ft_store.specs.Tables.{store_schema, tab_table, col_table, cell_table, posting_table, sizes_table, noted_table, skip_table}
-use Rattle.ft_store.specs.Store.{Cell, CellKey, ListKey, ColumnKey, cell_key_cmp, list_key_cmp, column_key_cmp, name_cmp, StoreValue}
+use Rattle.ft_values.specs.Cells.{Cell}
+use Rattle.ft_store.specs.Store.{CellKey, ListKey, ColumnKey, cell_key_cmp, list_key_cmp, column_key_cmp, name_cmp, StoreValue}
+use Rattle.ft_store.specs.Groups.{put_each}
 use Rattle.ft_store.specs.Rows.{keyed, table_entry, column_entry, skip_entry, cell_entry, list_entry, size_entry, note_entry, value_of}
 use Rattle.ft_store.specs.Calls.{HasOwnRowids, AreNumbered, IsStore, Steps}
 use Rattle.ft_store.proofs.TextLemmas.{table_query}
-use Rattle.ft_store.proofs.KeyedLemmas.{keyed-where, keyed-put_row}
+use Rattle.ft_store.proofs.KeyedLemmas.{AreApart, keyed-where, keyed-put_row, keyed-put_all}
 use Rattle.ft_store.proofs.OrderLemmas.{tied_ints, tied_names, tied_cell_keys, cell_key_total, tied_list_keys, list_key_total, tied_column_keys, column_key_total, name_total}
 use Rattle.ft_store.proofs.SelectLemmas.{filter_same_on}
 use Rattle.ft_store.proofs.TypedLemmas.{IsNameRow, IsColumnRow, IsSkipRow, IsCellRow, IsListRow, IsSizeRow, IsNoteRow, are_names, are_columns, are_skips, are_cells, are_lists, are_sizes, are_notes}
+use Rattle.ft_store.proofs.ApartLemmas.{places_apart}
 use Rattle.ft_store.proofs.ChangeLemmas.{Wrote, deletes}
 
 -- ---- what a write to one table leaves
@@ -170,6 +173,16 @@ module _ (old new : State) (store : IsStore old.now) (shown : Shows old new new.
   lists_added row int made free =
       let rows = old.now.trees 7 in
       on_lists _ _ made.0 (own-put_row row rows int made.1 store.numbered.1.1.1.1.0) (keyed-put_row list_key_cmp list_key_total tied_list_keys list_entry row rows made.1 free)
+
+  -- rows that were added at once are as if put one after the other
+  pub lists_added_all : (news : List Row) → AllByRecursion IsInt news → Wrote 7 old new (put_all (old.now.trees 7) news) × (are_fresh (old.now.trees 7) news ≡ true)
+      → Steps old new (record (value_of old.now.trees) { lists = put_each list_key_cmp (map list_entry news) (value_of old.now.trees).lists })
+  lists_added_all news ints made =
+      let rows = old.now.trees 7 in
+      let own = own-put_all news rows ints made.1 store.numbered.1.1.1.1.0 in
+      let own_now = subst HasOwnRowids (sym made.0.written) own in
+      let apart = places_apart new.now.trees (subst (λ s. IsSound s new.now.trees) made.0.schema made.0.sound) own_now in
+      on_lists _ _ made.0 own (keyed-put_all list_key_cmp list_key_total tied_list_keys list_entry news rows made.1 (subst (λ l. AreApart list_key_cmp (map list_entry l)) made.0.written apart))
 
   on_sizes : (rows : List Row) (to : List (CellKey × ℤ)) → Wrote 9 old new rows → HasOwnRowids rows → keyed cell_key_cmp (map size_entry rows) ≡ to
       → Steps old new (record (value_of old.now.trees) { sizes = to })

@@ -4,7 +4,7 @@ use Rattle.std.specs.Prelude.{string_bytes}
 use Rattle.std.specs.Ordering.{int_eq}
 use Rattle.std.specs.FinMap.Entries.{where_key}
 use Rattle.sqlite_keyed.proofs.ListLemmas.{map-map}
-use Rattle.ft_store.specs.declared.rows.TabRow.{TabRow}
+use Rattle.ft_values.specs.declared.rows.TabRow.{TabRow}
 use Rattle.ft_store.specs.Store.{StoreValue, ColumnKey, column_key_cmp}
 use Rattle.ft_store.specs.Shown.{shown_column, shown_skip, shown_table, table_listed}
 

@@ -1,5 +1,6 @@
 -- What the texts mean.
-use Rattle.std.proofs.Common.{◌≡◌, map, ℕ, true, false, List, [], ◌∷◌, pos, negsuc, codes, None, refl}
+use Rattle.std.proofs.Common.{◌≡◌, ◌+◌, map, ℕ, true, false, List, [], ◌∷◌, pos, negsuc, codes, None, refl}
+use Rattle.std.specs.List.{flat_map}
 use Rattle.sqlite_tied.specs.Compute.{everything}
 use Rattle.sqlite.specs.Listing.{understood, reads_listing}
 use Rattle.sqlite.specs.declared.types.Value.TheVariants.{Null, Int}
@@ -14,7 +15,7 @@ use Rattle.sqlite_value.specs.Keys.{ascending}
 use Rattle.sqlite_value.specs.declared.keys.Key.{Key}
 use Rattle.sqlite.specs.Source.TheVariants.{Values}
 use Rattle.sqlite.proofs.Callers.{IsPlain, command_of}
-use Rattle.ft_store.proofs.Texts.{drop_name_text, drop_columns_text, drop_column_text, drop_contents_text, drop_cells_text, drop_cell_text, drop_lists_text, drop_list_text, drop_sizes_text, drop_size_text, drop_note_text, drop_skips_text, drop_skip_text, add_name_text, add_column_text, add_cell_text, add_list_text, add_size_text, add_note_text, add_skip_text, names_text, columns_text, skips_text, cells_text, document_text, last_text, term_text, prefix_text, lists_text, sizes_text, noted_text}
+use Rattle.ft_store.proofs.Texts.{drop_name_text, drop_columns_text, drop_column_text, drop_contents_text, drop_cells_text, drop_cell_text, drop_lists_text, drop_list_text, drop_sizes_text, drop_size_text, drop_note_text, drop_skips_text, drop_skip_text, add_name_text, add_column_text, add_cell_text, add_list_text, add_lists_text, add_size_text, add_note_text, add_skip_text, names_text, columns_text, skips_text, cells_text, document_text, last_text, term_text, prefix_text, bare_prefix_text, lists_text, bare_lists_text, sizes_text, noted_text}
 use Rattle.ft_store.specs.Tables.{store_schema}
 
 abbrev pub compares : CompareOp → ℕ → ℕ → Term
@@ -50,7 +51,10 @@ abbrev pub table_query : ℕ → List Term → List ℕ → List ℕ → Query
 table_query tree filter shown order = query_by tree filter shown (rising order) no_limit
 
 abbrev pub list_shown : List ℕ
-list_shown = 2 ∷ 3 ∷ 4 ∷ []
+list_shown = 3 ∷ 4 ∷ 2 ∷ []
+
+abbrev pub bare_shown : List ℕ
+bare_shown = 3 ∷ 4 ∷ []
 
 abbrev pub list_order : List ℕ
 list_order = 1 ∷ 2 ∷ 3 ∷ 4 ∷ []
@@ -244,6 +248,21 @@ pub add_list_plain : IsPlain (understood store_schema add_list_text)
 unfolding understood everything
 add_list_plain = (refl, refl)
 
+-- the terms of a row whose parameters begin at a place
+abbrev list_terms : ℕ → List Term
+list_terms from = lit Null ∷ col 0 from ∷ col 0 (from + 1) ∷ col 0 (from + 2) ∷ col 0 (from + 3) ∷ []
+
+abbrev pub add_lists_terms : List Term
+add_lists_terms = flat_map list_terms (0 ∷ 4 ∷ 8 ∷ 12 ∷ 16 ∷ 20 ∷ 24 ∷ 28 ∷ [])
+
+pub add_lists_is : command_of (understood store_schema add_lists_text) ≡ Insert 4 (Values add_lists_terms 5)
+unfolding understood everything
+add_lists_is = refl
+
+pub add_lists_plain : IsPlain (understood store_schema add_lists_text)
+unfolding understood everything
+add_lists_plain = (refl, refl)
+
 abbrev pub add_size_terms : List Term
 add_size_terms = lit Null ∷ col 0 0 ∷ col 0 1 ∷ col 0 2 ∷ col 0 3 ∷ []
 
@@ -370,9 +389,9 @@ unfolding understood everything
 last_plain = (refl, refl)
 
 abbrev pub term_query : Query
-term_query = table_query 7 (is_param 1 0 ∷ is_param 2 1 ∷ []) list_shown list_order
+term_query = table_query 7 (is_param 1 0 ∷ is_param 2 1 ∷ []) bare_shown list_order
 
-pub term_is : command_of (understood store_schema term_text) ≡ Select (record { lets = []; body = term_query }) (codes "term" ∷ codes "docid" ∷ codes "list" ∷ [])
+pub term_is : command_of (understood store_schema term_text) ≡ Select (record { lets = []; body = term_query }) (codes "docid" ∷ codes "list" ∷ [])
 unfolding understood everything
 term_is = refl
 
@@ -387,7 +406,7 @@ term_plain = (refl, refl)
 abbrev pub prefix_query : Query
 prefix_query = table_query 7 (is_param 1 0 ∷ compares Ge 2 1 ∷ compares Lt 2 2 ∷ []) list_shown list_order
 
-pub prefix_is : command_of (understood store_schema prefix_text) ≡ Select (record { lets = []; body = prefix_query }) (codes "term" ∷ codes "docid" ∷ codes "list" ∷ [])
+pub prefix_is : command_of (understood store_schema prefix_text) ≡ Select (record { lets = []; body = prefix_query }) (codes "docid" ∷ codes "list" ∷ codes "term" ∷ [])
 unfolding understood everything
 prefix_is = refl
 
@@ -399,10 +418,25 @@ pub prefix_plain : IsPlain (understood store_schema prefix_text)
 unfolding understood everything
 prefix_plain = (refl, refl)
 
+abbrev pub bare_prefix_query : Query
+bare_prefix_query = table_query 7 (is_param 1 0 ∷ compares Ge 2 1 ∷ compares Lt 2 2 ∷ []) bare_shown list_order
+
+pub bare_prefix_is : command_of (understood store_schema bare_prefix_text) ≡ Select (record { lets = []; body = bare_prefix_query }) (codes "docid" ∷ codes "list" ∷ [])
+unfolding understood everything
+bare_prefix_is = refl
+
+pub bare_prefix_unlisted : reads_listing store_schema bare_prefix_text ≡ false
+unfolding understood everything
+bare_prefix_unlisted = refl
+
+pub bare_prefix_plain : IsPlain (understood store_schema bare_prefix_text)
+unfolding understood everything
+bare_prefix_plain = (refl, refl)
+
 abbrev pub lists_query : Query
 lists_query = table_query 7 (is_param 1 0 ∷ []) list_shown list_order
 
-pub lists_is : command_of (understood store_schema lists_text) ≡ Select (record { lets = []; body = lists_query }) (codes "term" ∷ codes "docid" ∷ codes "list" ∷ [])
+pub lists_is : command_of (understood store_schema lists_text) ≡ Select (record { lets = []; body = lists_query }) (codes "docid" ∷ codes "list" ∷ codes "term" ∷ [])
 unfolding understood everything
 lists_is = refl
 
@@ -413,6 +447,21 @@ lists_unlisted = refl
 pub lists_plain : IsPlain (understood store_schema lists_text)
 unfolding understood everything
 lists_plain = (refl, refl)
+
+abbrev pub bare_lists_query : Query
+bare_lists_query = table_query 7 (is_param 1 0 ∷ []) bare_shown list_order
+
+pub bare_lists_is : command_of (understood store_schema bare_lists_text) ≡ Select (record { lets = []; body = bare_lists_query }) (codes "docid" ∷ codes "list" ∷ [])
+unfolding understood everything
+bare_lists_is = refl
+
+pub bare_lists_unlisted : reads_listing store_schema bare_lists_text ≡ false
+unfolding understood everything
+bare_lists_unlisted = refl
+
+pub bare_lists_plain : IsPlain (understood store_schema bare_lists_text)
+unfolding understood everything
+bare_lists_plain = (refl, refl)
 
 abbrev pub sizes_query : Query
 sizes_query = table_query 9 (is_param 1 0 ∷ []) (2 ∷ 3 ∷ 4 ∷ []) (1 ∷ 2 ∷ 3 ∷ 4 ∷ [])

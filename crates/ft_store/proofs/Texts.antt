@@ -54,6 +54,9 @@ add_cell_text = codes "INSERT INTO cell (tab, docid, col, num, txt) VALUES (?1, 
 abbrev pub add_list_text : List ℕ
 add_list_text = codes "INSERT INTO posting (tab, term, docid, list) VALUES (?1, ?2, ?3, ?4)"
 
+abbrev pub add_lists_text : List ℕ
+add_lists_text = codes "INSERT INTO posting (tab, term, docid, list) VALUES (?, ?, ?, ?), (?, ?, ?, ?), (?, ?, ?, ?), (?, ?, ?, ?), (?, ?, ?, ?), (?, ?, ?, ?), (?, ?, ?, ?), (?, ?, ?, ?)"
+
 abbrev pub add_size_text : List ℕ
 add_size_text = codes "INSERT INTO sizes (tab, docid, col, n) VALUES (?1, ?2, ?3, ?4)"
 
@@ -84,13 +87,19 @@ abbrev pub last_text : List ℕ
 last_text = codes "SELECT docid, col FROM cell WHERE tab = ?1 ORDER BY tab DESC, docid DESC, col DESC LIMIT 1"
 
 abbrev pub term_text : List ℕ
-term_text = codes "SELECT term, docid, list FROM posting WHERE tab = ?1 AND term = ?2 ORDER BY tab, term, docid, list"
+term_text = codes "SELECT docid, list FROM posting WHERE tab = ?1 AND term = ?2 ORDER BY tab, term, docid, list"
 
 abbrev pub prefix_text : List ℕ
-prefix_text = codes "SELECT term, docid, list FROM posting WHERE tab = ?1 AND term >= ?2 AND term < ?3 ORDER BY tab, term, docid, list"
+prefix_text = codes "SELECT docid, list, term FROM posting WHERE tab = ?1 AND term >= ?2 AND term < ?3 ORDER BY tab, term, docid, list"
+
+abbrev pub bare_prefix_text : List ℕ
+bare_prefix_text = codes "SELECT docid, list FROM posting WHERE tab = ?1 AND term >= ?2 AND term < ?3 ORDER BY tab, term, docid, list"
 
 abbrev pub lists_text : List ℕ
-lists_text = codes "SELECT term, docid, list FROM posting WHERE tab = ?1 ORDER BY tab, term, docid, list"
+lists_text = codes "SELECT docid, list, term FROM posting WHERE tab = ?1 ORDER BY tab, term, docid, list"
+
+abbrev pub bare_lists_text : List ℕ
+bare_lists_text = codes "SELECT docid, list FROM posting WHERE tab = ?1 ORDER BY tab, term, docid, list"
 
 abbrev pub sizes_text : List ℕ
 sizes_text = codes "SELECT docid, col, n FROM sizes WHERE tab = ?1 ORDER BY tab, docid, col, n"

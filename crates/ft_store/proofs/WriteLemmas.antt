@@ -1,6 +1,7 @@
 -- What each statement of a change makes of the value of a store.
-use Rattle.std.proofs.Common.{◌≡◌, ℕ, ℤ, Bool, true, false, Some, not, ◌&&◌, List, [], ◌∷◌, None, Ok, refl, ap, ap₂, subst, ◌∙◌, Ordering, Less, Equal, Greater, is_eq}
+use Rattle.std.proofs.Common.{◌≡◌, ℕ, ℤ, Bool, true, false, Some, not, ◌&&◌, List, [], ◌∷◌, map, drop, None, Ok, refl, ap, ap₂, subst, ◌∙◌, Ordering, Less, Equal, Greater, is_eq}
 use Rattle.std.specs.Prelude.{unwrap_or}
+use Rattle.std.specs.List.{AllByRecursion, flat_map}
 use Rattle.std.specs.Ordering.{int_cmp, int_eq, eq_by_cmp, ordering_then, ordering_reverse}
 use Rattle.std.specs.FinMap.Entries.{put, where_key, find}
 use Rattle.std.proofs.lemmas.Cmp.{int_cmp_total, nat_list_cmp_total}
@@ -12,22 +13,28 @@ use Rattle.sqlite_sql.specs.Ops.{is_true, binary, from_truth}
 use Rattle.sqlite_sql.specs.declared.ops.BinaryOp.TheVariants.{Compare}
 use Rattle.sqlite_sql.specs.declared.ops.CompareOp.TheVariants.{Eq}
 use Rattle.sqlite.specs.Collation.TheVariants.{Binary, NoCase}
-use Rattle.sqlite.specs.Edit.{next_rowid}
-use Rattle.sqlite.specs.Cast.{cast}
+use Rattle.sqlite.specs.Edit.{next_rowid, numbered}
+use Rattle.sqlite.specs.Rowids.TheVariants.{Chosen}
+use Rattle.sqlite.specs.Order.{Row}
+use Rattle.sqlite.specs.Cast.{cast, cast_row}
 use Rattle.sqlite.specs.Kind.TheVariants as kind
 use Rattle.sqlite.specs.State.{State, Executes, Shows}
 use Rattle.sqlite.specs.Values.{bound_value}
 use Rattle.sqlite_typed.proofs.TestLemmas.{at_ints, at_texts, then_term, last_term}
 use Rattle.ft_store.specs.Packed.{spots_in}
-use Rattle.ft_store.specs.Store.{Cell, cell_key_cmp, list_key_cmp, column_key_cmp, name_cmp}
-use Rattle.ft_store.specs.Store as store
-use Rattle.ft_store.specs.Rows.{cell_in, value_of}
+use Rattle.ft_values.specs.Cells.{Cell}
+use Rattle.ft_store.specs.Store.{cell_key_cmp, list_key_cmp, column_key_cmp, name_cmp}
+use Rattle.ft_values.specs.Cells as cells
+use Rattle.ft_store.specs.Groups.{Entry, entry_values, entry_spots, put_each, with_entries}
+use Rattle.ft_store.specs.Tables.{posting_table}
+use Rattle.ft_store.specs.Rows.{cell_in, list_entry, value_of}
+use Rattle.ft_store.proofs.RowidLemmas.{IsInt}
 use Rattle.ft_store.specs.Changes.{num_of, txt_of}
 use Rattle.ft_store.specs.Calls.{IsStore, Steps}
-use Rattle.ft_store.proofs.Texts.{drop_name_text, drop_columns_text, drop_column_text, drop_skips_text, drop_skip_text, drop_contents_text, drop_cells_text, drop_cell_text, drop_lists_text, drop_list_text, drop_sizes_text, drop_size_text, drop_note_text, add_name_text, add_column_text, add_skip_text, add_cell_text, add_list_text, add_size_text, add_note_text}
-use Rattle.ft_store.proofs.TextLemmas.{drop_name_terms, drop_name_is, drop_name_plain, drop_columns_terms, drop_columns_is, drop_columns_plain, drop_column_terms, drop_column_is, drop_column_plain, drop_skips_terms, drop_skips_is, drop_skips_plain, drop_skip_terms, drop_skip_is, drop_skip_plain, drop_contents_terms, drop_contents_is, drop_contents_plain, drop_cells_terms, drop_cells_is, drop_cells_plain, drop_cell_terms, drop_cell_is, drop_cell_plain, drop_lists_terms, drop_lists_is, drop_lists_plain, drop_list_terms, drop_list_is, drop_list_plain, drop_sizes_terms, drop_sizes_is, drop_sizes_plain, drop_size_terms, drop_size_is, drop_size_plain, drop_note_terms, drop_note_is, drop_note_plain, add_name_terms, add_name_is, add_name_plain, add_column_terms, add_column_is, add_column_plain, add_skip_terms, add_skip_is, add_skip_plain, add_cell_terms, add_cell_is, add_cell_plain, add_list_terms, add_list_is, add_list_plain, add_size_terms, add_size_is, add_size_plain, add_note_terms, add_note_is, add_note_plain}
-use Rattle.ft_store.proofs.ChangeLemmas.{inserts, cast_null, cast_int}
-use Rattle.ft_store.proofs.StepLemmas.{tables_deleted, columns_deleted, skipped_deleted, cells_deleted, lists_deleted, sizes_deleted, noted_deleted, tables_added, columns_added, skipped_added, cells_added, lists_added, sizes_added, noted_added}
+use Rattle.ft_store.proofs.Texts.{drop_name_text, drop_columns_text, drop_column_text, drop_skips_text, drop_skip_text, drop_contents_text, drop_cells_text, drop_cell_text, drop_lists_text, drop_list_text, drop_sizes_text, drop_size_text, drop_note_text, add_name_text, add_column_text, add_skip_text, add_cell_text, add_list_text, add_lists_text, add_size_text, add_note_text}
+use Rattle.ft_store.proofs.TextLemmas.{drop_name_terms, drop_name_is, drop_name_plain, drop_columns_terms, drop_columns_is, drop_columns_plain, drop_column_terms, drop_column_is, drop_column_plain, drop_skips_terms, drop_skips_is, drop_skips_plain, drop_skip_terms, drop_skip_is, drop_skip_plain, drop_contents_terms, drop_contents_is, drop_contents_plain, drop_cells_terms, drop_cells_is, drop_cells_plain, drop_cell_terms, drop_cell_is, drop_cell_plain, drop_lists_terms, drop_lists_is, drop_lists_plain, drop_list_terms, drop_list_is, drop_list_plain, drop_sizes_terms, drop_sizes_is, drop_sizes_plain, drop_size_terms, drop_size_is, drop_size_plain, drop_note_terms, drop_note_is, drop_note_plain, add_name_terms, add_name_is, add_name_plain, add_column_terms, add_column_is, add_column_plain, add_skip_terms, add_skip_is, add_skip_plain, add_cell_terms, add_cell_is, add_cell_plain, add_list_terms, add_list_is, add_list_plain, add_lists_terms, add_lists_is, add_lists_plain, add_size_terms, add_size_is, add_size_plain, add_note_terms, add_note_is, add_note_plain}
+use Rattle.ft_store.proofs.ChangeLemmas.{inserts, inserts_all, cast_null, cast_int}
+use Rattle.ft_store.proofs.StepLemmas.{tables_deleted, columns_deleted, skipped_deleted, cells_deleted, lists_deleted, sizes_deleted, noted_deleted, tables_added, columns_added, skipped_added, cells_added, lists_added, lists_added_all, sizes_added, noted_added}
 
 -- ---- a column that equals a parameter
 
@@ -67,30 +74,46 @@ then_tie o u p q = ap₂ ◌&&◌ p q ∙ both_tie o u
 -- ---- what a column makes of the value that is written to it
 
 cast_num : (v : Cell) → cast kind.Integer (num_of v) ≡ num_of v
-cast_num store.Null = cast_null
-cast_num (store.Int n) = cast_int n
-cast_num (store.Text t) = cast_null
+cast_num cells.Null = cast_null
+cast_num (cells.Int n) = cast_int n
+cast_num (cells.Text t) = cast_null
 
 cast_txt : (v : Cell) → cast kind.Text (txt_of v) ≡ txt_of v
-cast_txt store.Null = refl
-cast_txt (store.Int n) = refl
-cast_txt (store.Text t) = refl
+cast_txt cells.Null = refl
+cast_txt (cells.Int n) = refl
+cast_txt (cells.Text t) = refl
 
 same_again : (v : Cell) → cell_in (num_of v) (txt_of v) ≡ v
-same_again store.Null = refl
-same_again (store.Int n) = refl
-same_again (store.Text t) = refl
+same_again cells.Null = refl
+same_again (cells.Int n) = refl
+same_again (cells.Text t) = refl
 
 -- a parameter is bound as it is
 pub bound_num : (v : Cell) → bound_value (num_of v) ≡ num_of v
-bound_num store.Null = refl
-bound_num (store.Int n) = refl
-bound_num (store.Text t) = refl
+bound_num cells.Null = refl
+bound_num (cells.Int n) = refl
+bound_num (cells.Text t) = refl
 
 pub bound_txt : (v : Cell) → bound_value (txt_of v) ≡ txt_of v
-bound_txt store.Null = refl
-bound_txt (store.Int n) = refl
-bound_txt (store.Text t) = refl
+bound_txt cells.Null = refl
+bound_txt (cells.Int n) = refl
+bound_txt (cells.Text t) = refl
+
+-- a posting row as it is added, before it has a rowid
+abbrev list_row : Entry → Row
+list_row e = Null ∷ entry_values e
+
+cast_lists : (es : List Entry) → map (λ s. cast_row (posting_table 7) (drop 0 s)) (map list_row es) ≡ map list_row es
+cast_lists [] = refl
+cast_lists (e ∷ es) = rw (cast_null, cast_int e.0.0, cast_int e.0.2, cast_lists es) refl
+
+added_ints : (es : List Entry) (rows : List Row) → AllByRecursion IsInt (numbered Chosen rows (map list_row es))
+added_ints [] rows = tt
+added_ints (e ∷ es) rows = (refl, added_ints es _)
+
+added_entries : (es : List Entry) (rows : List Row) → map list_entry (numbered Chosen rows (map list_row es)) ≡ map entry_spots es
+added_entries [] rows = refl
+added_entries (e ∷ es) rows = ap (λ l. entry_spots e ∷ l) (added_entries es _)
 
 module _ (old new : State) (kept : IsStore old.now) (shown : Shows old new new.now old.committed true) where
   pub does_drop_name : (tab : ℤ) (count : ℕ) → Executes drop_name_text (Int tab ∷ []) old new (Ok count)
@@ -182,6 +205,15 @@ module _ (old new : State) (kept : IsStore old.now) (shown : Shows old new new.n
       → Steps old new (record (value_of old.now.trees) { lists = put list_key_cmp (tab, term, docid) (unwrap_or (spots_in list) []) (value_of old.now.trees).lists })
   does_add_list tab term docid list count free h =
       lists_added old new kept shown (Int (next_rowid (old.now.trees 7)) ∷ Int tab ∷ Text term ∷ Int docid ∷ Blob list ∷ []) refl (inserts old new add_list_text (Int tab ∷ Text term ∷ Int docid ∷ Blob list ∷ []) 4 7 _ _ _ _ _ _ _ add_list_terms 5 (Int (next_rowid (old.now.trees 7)) ∷ Int tab ∷ Text term ∷ Int docid ∷ Blob list ∷ []) count kept.schema add_list_is add_list_plain refl (rw (cast_null, cast_int tab, cast_int docid) refl) h) free
+
+  pub does_add_eight : (a b c d e f g h : Entry) (count : ℕ) → Executes add_lists_text (flat_map entry_values (a ∷ b ∷ c ∷ d ∷ e ∷ f ∷ g ∷ h ∷ [])) old new (Ok count)
+      → Steps old new (with_entries (a ∷ b ∷ c ∷ d ∷ e ∷ f ∷ g ∷ h ∷ []) (value_of old.now.trees))
+  does_add_eight a b c d e f g h count ran =
+      let es = a ∷ b ∷ c ∷ d ∷ e ∷ f ∷ g ∷ h ∷ [] in
+      let rows = old.now.trees 7 in
+      subst (λ l. Steps old new (record (value_of old.now.trees) { lists = put_each list_key_cmp l (value_of old.now.trees).lists })) (added_entries es rows)
+      (lists_added_all old new kept shown (numbered Chosen rows (map list_row es)) (added_ints es rows)
+      (inserts_all old new add_lists_text (flat_map entry_values es) 4 7 _ _ _ _ _ _ _ add_lists_terms 5 (numbered Chosen rows (map list_row es)) count kept.schema add_lists_is add_lists_plain refl (ap (numbered Chosen rows) (cast_lists es)) ran))
 
   pub does_add_size : (tab : ℤ) (docid : ℤ) (column : ℤ) (n : ℤ) (count : ℕ) → find cell_key_cmp (tab, docid, column) (value_of old.now.trees).sizes ≡ None → Executes add_size_text (Int tab ∷ Int docid ∷ Int column ∷ Int n ∷ []) old new (Ok count)
       → Steps old new (record (value_of old.now.trees) { sizes = put cell_key_cmp (tab, docid, column) n (value_of old.now.trees).sizes })

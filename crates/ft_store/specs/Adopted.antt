@@ -1,4 +1,4 @@
--- Which databases are taken as stores, and why others are not (own choice).
+-- Meaning. Which databases are taken as stores, and why others are not (own choice).
 use Rattle.std.specs.Prelude.{◌≡◌, ◌≢◌, ◌⊎◌, ◌||◌, ℤ, pos, false, length, map, IsTrue, Bool, if◌then◌else◌, List, [], ◌∷◌, true, Result, Ok, Err, Vec}
 use Rattle.std.specs.List.{list_any}
 use Rattle.std.specs.Ordering.{int_eq}

@@ -1,4 +1,4 @@
--- What a call does to a store.
+-- Meaning. What a call does to a store.
 use Rattle.std.specs.Prelude.{◌≡◌, ◌≢◌, ◌⊎◌, pos, true, Result, List, [], ◌∷◌, map, IsTrue, OnOk}
 use Rattle.std.specs.List.{AllByRecursion}
 use Rattle.sqlite.specs.declared.error.Error.{Error}
@@ -17,6 +17,8 @@ use Rattle.sqlite.specs.Store.{Ghosts}
 use Rattle.sqlite.specs.Held.{Held, state}
 use Rattle.ft_store.specs.declared.fault.StoreFault.{StoreFault}
 use Rattle.ft_store.specs.declared.fault.StoreFault.TheVariants as fault
+use Rattle.ft_values.specs.declared.fault.Fault.{Fault}
+use Rattle.ft_values.specs.declared.fault.Fault.TheVariants as told
 use Rattle.ft_store.specs.Tables.{store_schema}
 use Rattle.ft_store.specs.Store.{StoreValue}
 use Rattle.ft_store.specs.Rows.{value_of}
@@ -110,3 +112,8 @@ fault_of _ = fault.Refused
 -- what is kept true of the connection of a store between calls
 abbrev pub IsStoreIfOpen : State → Type 0
 IsStoreIfOpen s = HasCleanDisk s → IsTrue s.is_open → IsStore s.now
+
+-- what a full-text command answers where the store refused a call for this reason (own choice)
+abbrev pub fault_of_read : StoreFault → Fault
+fault_of_read fault.Memory = told.Memory
+fault_of_read _ = told.Store

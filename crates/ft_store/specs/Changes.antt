@@ -1,18 +1,12 @@
--- The row changes of a call as changes of the store's value.
+-- Meaning. The row changes of a call as changes of the store's value.
 use Rattle.std.specs.Prelude.{map, string_bytes}
 use Rattle.sqlite.specs.declared.types.Value.{Value as SqlValue}
 use Rattle.sqlite.specs.declared.types.Value.TheVariants as sql
-use Rattle.ft_store.specs.declared.rows.Value.{Value}
-use Rattle.ft_store.specs.declared.rows.Value.TheVariants as value
-use Rattle.ft_store.specs.declared.rows.RowChange.{RowChange}
-use Rattle.ft_store.specs.declared.rows.RowChange.TheVariants as row
+use Rattle.ft_values.specs.declared.rows.RowChange.{RowChange}
+use Rattle.ft_values.specs.declared.rows.RowChange.TheVariants as row
 use Rattle.ft_store.specs.Packed.{CanPack}
-use Rattle.ft_store.specs.Store.{Cell, Null, Int, Text, Change, AddTable, DropTable, PutCell, DropCells, PutEntries, DropEntries, PutSize, DropSize, ClearIndex, Note}
-
-abbrev pub shown_value : Value → Cell
-shown_value value.Null = Null
-shown_value (value.Int n) = Int n
-shown_value (value.Text s) = Text (string_bytes s)
+use Rattle.ft_values.specs.Cells.{Cell, Null, Int, Text, shown_value}
+use Rattle.ft_store.specs.Store.{Change, AddTable, DropTable, PutCell, DropCells, PutEntries, DropEntries, PutSize, DropSize, ClearIndex, Note}
 
 abbrev pub shown_change : RowChange → Change
 shown_change (row.AddTable id name columns skipped) = AddTable id (string_bytes name) (map string_bytes columns.items) skipped.items

@@ -1,12 +1,13 @@
--- The rows that the queries of a store give, as rows under their keys.
+-- Steps. The rows that the queries of a store give, as rows under their keys.
 use Rattle.std.specs.Prelude.{ℕ, ℤ, List, [], unwrap_or}
-use Rattle.ft_store.specs.declared.rows.Spot.{Spot}
+use Rattle.ft_values.specs.declared.rows.Spot.{Spot}
 use Rattle.ft_store.specs.Packed.{spots_in}
 use Rattle.sqlite.specs.Order.{Row, column}
 use Rattle.sqlite_value.specs.Order.{bytes}
 use Rattle.sqlite_value.specs.Keys.{without_case}
 use Rattle.sqlite_rules.specs.Edit.{id_in}
-use Rattle.ft_store.specs.Store.{Cell, CellKey, ListKey, ColumnKey}
+use Rattle.ft_values.specs.Cells.{Cell}
+use Rattle.ft_store.specs.Store.{CellKey, ListKey, ColumnKey}
 use Rattle.ft_store.specs.Rows.{cell_in}
 
 abbrev pub found_table : Row → ℤ × List ℕ
@@ -27,10 +28,14 @@ found_size tab row = ((tab, id_in (column row 0), id_in (column row 1)), id_in (
 abbrev pub found_note : Row → List ℕ × List ℕ
 found_note row = (without_case (bytes (column row 0)), bytes (column row 0))
 
--- a list as its bytes
-abbrev pub found_list : ℤ → Row → ListKey × List ℕ
-found_list tab row = ((tab, bytes (column row 0), id_in (column row 1)), bytes (column row 2))
+-- a list as its places, none where it is damaged: its docid and its bytes come first
+abbrev pub found_spots : Row → ℤ × List Spot
+found_spots row = (id_in (column row 0), unwrap_or (spots_in (bytes (column row 1))) [])
 
--- a list as its places, none where it is damaged
+-- a list as its bytes, with its term behind them
+abbrev pub found_list : ℤ → Row → ListKey × List ℕ
+found_list tab row = ((tab, bytes (column row 2), id_in (column row 0)), bytes (column row 1))
+
+-- the same as its places
 abbrev pub found_places : ℤ → Row → ListKey × List Spot
-found_places tab row = ((found_list tab row).0, unwrap_or (spots_in (found_list tab row).1) [])
+found_places tab row = ((found_list tab row).0, (found_spots row).1)

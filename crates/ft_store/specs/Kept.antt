@@ -1,4 +1,4 @@
--- A store as callers see it: the connection that it holds, and how many rows its reads gave.
+-- Meaning. A store as callers see it: the connection that it holds, and how many rows its reads gave.
 use Rattle.std.specs.Prelude.{◌≡◌, ℕ, ◌+◌, ◌-◌, ◌^◌, min, false, refl}
 use Rattle.std.specs.Coded.{Coded, code_by, coded×, coded_ℕ}
 use Rattle.sqlite.specs.State.{State}

@@ -1,17 +1,20 @@
+-- Meaning
 pub mod Adopted
 pub mod Calls
 pub mod Changes
-pub mod Found
 pub mod Kept
-pub mod Made
 pub mod Older
-pub mod Opened
 pub mod Packed
-pub mod Range
 pub mod Rows
-pub mod Same
-pub mod Scan
 pub mod Shown
 pub mod Store
 pub mod Tables
+-- Steps
+pub mod Found
+pub mod Groups
+pub mod Made
+pub mod Opened
+pub mod Range
+pub mod Same
+pub mod Scan
 pub mod Unpacking

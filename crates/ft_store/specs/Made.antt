@@ -1,4 +1,4 @@
--- How the tables of a store are made.
+-- Steps. How the tables of a store are made.
 use Rattle.std.specs.Prelude.{◌≡◌, Result, Ok, Err, ℕ, true, false, List, [], IsTrue, OnOk}
 use Rattle.std.specs.List.{AllByRecursion}
 use Rattle.sqlite.specs.Tree.{Trees}

@@ -1,4 +1,4 @@
--- A store of version 2, of which an adoption makes one of version 3 (own choice).
+-- Meaning. A store of version 2, of which an adoption makes one of version 3 (own choice).
 use Rattle.std.specs.Prelude.{◌≡◌, ◌⊎◌, ℕ, ℤ, pos, [], ◌∷◌, map, take}
 use Rattle.sqlite.specs.declared.types.Value.TheVariants.{Int}
 use Rattle.sqlite.specs.Order.{Row, column}

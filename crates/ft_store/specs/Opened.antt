@@ -1,4 +1,4 @@
--- What a store holds that is opened from files (own choice).
+-- Steps. What a store holds that is opened from files (own choice).
 use Rattle.std.specs.Prelude.{◌⊎◌, Result, IfErr}
 use Rattle.sqlite_disk.specs.declared.Disk as disk
 use Rattle.sqlite_store.specs.declared.store.FileStore.{FileStore}

@@ -1,9 +1,9 @@
--- The packed list: the spots of one term in one document as bytes (own choice; the numbers are not those of "Variable Length
+-- Meaning. The packed list: the spots of one term in one document as bytes (own choice; the numbers are not those of "Variable Length
 -- Integer (varint) Format").
 use Rattle.std.specs.Prelude.{◌≡◌, ℕ, zero, suc, ◌+◌, ◌-◌, ◌*◌, ◌/◌, ◌%◌, ◌<◌, ℤ, pos, negsuc, option_map, Bool, true, false, ◌&&◌, ◌||◌, List, [], ◌∷◌, map, Option, Some, None, nat_lt, nat_le, ◌==◌, slice_index, IsTrue, if◌then◌else◌}
 use Rattle.std.specs.List.{flat_map}
 use Rattle.std.specs.Option.{option_and_then}
-use Rattle.ft_store.specs.declared.rows.Spot.{Spot as StoredSpot}
+use Rattle.ft_values.specs.declared.rows.Spot.{Spot as StoredSpot}
 
 -- where a term stands in a document: its column, its position among the tokens there, its place and its size in bytes
 pub record Spot : Type 0 where

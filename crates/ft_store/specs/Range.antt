@@ -1,4 +1,4 @@
--- The texts that begin so are a range in the order of bytes (own choice).
+-- Steps. The texts that begin so are a range in the order of bytes (own choice).
 use Rattle.std.specs.Prelude.{ℕ, ◌+◌, List, [], ◌∷◌}
 
 -- A text with its last byte one higher: what begins with the text is below it, and all else that isn't below the text is not.

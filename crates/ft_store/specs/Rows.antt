@@ -1,4 +1,4 @@
--- What the trees of a store stand for. Column 0 of a row is its rowid.
+-- Meaning. What the trees of a store stand for. Column 0 of a row is its rowid.
 use Rattle.std.specs.Prelude.{ℕ, ℤ, List, [], ◌∷◌, map, unwrap_or}
 use Rattle.std.specs.declared.cmp.Ordering.{Ordering}
 use Rattle.std.specs.Ordering.{int_cmp}
@@ -9,9 +9,10 @@ use Rattle.sqlite_value.specs.Order.{Row, column, bytes}
 use Rattle.sqlite_value.specs.Keys.{without_case}
 use Rattle.sqlite_trees.specs.Tree.{Trees}
 use Rattle.sqlite_rules.specs.Edit.{id_in}
-use Rattle.ft_store.specs.declared.rows.Spot.{Spot}
+use Rattle.ft_values.specs.declared.rows.Spot.{Spot}
 use Rattle.ft_store.specs.Packed.{spots_in}
-use Rattle.ft_store.specs.Store.{Cell, Null, Int, Text, CellKey, ListKey, ColumnKey, cell_key_cmp, list_key_cmp, column_key_cmp, name_cmp, StoreValue}
+use Rattle.ft_values.specs.Cells.{Cell, Null, Int, Text}
+use Rattle.ft_store.specs.Store.{CellKey, ListKey, ColumnKey, cell_key_cmp, list_key_cmp, column_key_cmp, name_cmp, StoreValue}
 
 -- rows under their keys, in the order of the keys; of two with one key the first counts
 abbrev pub keyed : {K X : Type 0} → (K → K → Ordering) → List (K × X) → List (K × X)

@@ -1,4 +1,4 @@
--- Parts of a table.
+-- Steps. Parts of a table.
 use Rattle.std.specs.Prelude.{◌≡◌, ℕ, false, Option, List, [], ◌∷◌}
 use Rattle.sqlite.specs.Table.{Table}
 

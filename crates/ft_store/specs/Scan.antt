@@ -1,4 +1,4 @@
--- What is seen of a database that has the tables of a store, before it is taken for one (own choice).
+-- Steps. What is seen of a database that has the tables of a store, before it is taken for one (own choice).
 use Rattle.std.specs.Prelude.{◌≡◌, ℕ, ◌-◌, ◌*◌, pos, negsuc, false, List, [], ◌∷◌, None}
 use Rattle.sqlite.specs.declared.types.Value.TheVariants.{Int}
 use Rattle.sqlite.specs.Command.TheVariants.{Select}

@@ -1,19 +1,19 @@
--- The rows that reads give, as rows under their keys.
-use Rattle.std.specs.Prelude.{◌≡◌, ◌≢◌, ℕ, ℤ, Bool, false, ◌||◌, List, [], ◌∷◌, map, reverse, slice_get, Option, option_map, string_bytes, String}
-use Rattle.std.specs.List.{AllByRecursion, flat_map, list_any}
+-- Meaning. The rows that reads give, as rows under their keys.
+use Rattle.std.specs.Prelude.{◌≡◌, ◌≢◌, ℕ, ℤ, Bool, false, ◌&&◌, ◌||◌, List, [], ◌∷◌, map, length, sum_by, reverse, nat_eq, slice_get, Option, option_map, string_bytes, String}
+use Rattle.std.specs.List.{AllByRecursion, flat_map, list_any, starts_with}
 use Rattle.std.specs.Str.{str_eq_ignore_ascii_case}
 use Rattle.std.specs.declared.alloc.Global.{Global}
-use Rattle.std.specs.Ordering.{int_eq}
+use Rattle.std.specs.Ordering.{int_eq, is_eq}
 use Rattle.std.specs.FinMap.Entries.{where_key}
 use Rattle.sqlite_value.specs.Keys.{without_case}
-use Rattle.ft_store.specs.declared.rows.CellRow.{CellRow}
-use Rattle.ft_store.specs.declared.rows.SizeRow.{SizeRow}
-use Rattle.ft_store.specs.declared.rows.EntryRow.{EntryRow}
-use Rattle.ft_store.specs.declared.rows.Spot.{Spot}
-use Rattle.ft_store.specs.declared.rows.TabRow.{TabRow}
-use Rattle.ft_store.specs.declared.lists.ListRow.{ListRow}
-use Rattle.ft_store.specs.Store.{Cell, CellKey, ListKey, ColumnKey, cell_key_cmp, column_key_cmp, StoreValue}
-use Rattle.ft_store.specs.Changes.{shown_value}
+use Rattle.ft_values.specs.declared.rows.CellRow.{CellRow}
+use Rattle.ft_values.specs.declared.rows.SizeRow.{SizeRow}
+use Rattle.ft_values.specs.declared.rows.EntryRow.{EntryRow}
+use Rattle.ft_values.specs.declared.rows.ListRow.{ListRow}
+use Rattle.ft_values.specs.declared.rows.Spot.{Spot}
+use Rattle.ft_values.specs.declared.rows.TabRow.{TabRow}
+use Rattle.ft_values.specs.Cells.{Cell, shown_value}
+use Rattle.ft_store.specs.Store.{CellKey, ListKey, ColumnKey, cell_key_cmp, list_key_cmp, column_key_cmp, name_cmp, StoreValue}
 
 abbrev pub shown_cell : ℤ → CellRow → CellKey × Cell
 shown_cell tab row = ((tab, row.docid, row.column), shown_value row.value)
@@ -33,8 +33,24 @@ shown_skip tab column = ((tab, column), tt)
 abbrev pub shown_note : String Global → List ℕ × List ℕ
 shown_note name = (without_case (string_bytes name), string_bytes name)
 
-abbrev pub shown_list : ℤ → ListRow → ListKey × List Spot
-shown_list tab l = ((tab, string_bytes l.term, l.docid), l.spots.items)
+abbrev pub shown_list : ListRow → ℤ × List Spot
+shown_list l = (l.docid, l.spots.items)
+
+-- a list without its table and its term
+abbrev pub bare_list : ListKey × List Spot → ℤ × List Spot
+bare_list l = (l.0.2, l.1)
+
+-- the lists under the keys of a table and a term
+abbrev pub lists_of_term : ℤ → List ℕ → StoreValue → List (ListKey × List Spot)
+lists_of_term tab term store = where_key list_key_cmp (λ k. int_eq tab k.0 && is_eq (name_cmp term k.1)) store.lists
+
+-- the lists under the keys of a table and the terms that begin so
+abbrev pub lists_of_prefix : ℤ → List ℕ → StoreValue → List (ListKey × List Spot)
+lists_of_prefix tab begin store = where_key list_key_cmp (λ k. int_eq tab k.0 && starts_with nat_eq k.1 begin) store.lists
+
+-- how many places lists have
+abbrev pub spot_count : List (ℤ × List Spot) → ℕ
+spot_count lists = sum_by (λ l. length l.1) lists
 
 -- an entry: a term, a docid and a place
 abbrev pub Entry : Type 0
@@ -43,19 +59,26 @@ Entry = List ℕ × ℤ × Spot
 abbrev pub shown_entry : EntryRow → Entry
 shown_entry e = (string_bytes e.term, e.docid, e.spot)
 
--- one entry for each place of a list, in its order
+-- one entry for each place of a list of this term, in its order
+abbrev pub entries_with : List ℕ → ℤ × List Spot → List Entry
+entries_with term l = map (λ s. (term, l.0, s)) l.1
+
 abbrev pub list_entries : ListKey × List Spot → List Entry
-list_entries l = map (λ s. (l.0.1, l.0.2, s)) l.1
+list_entries l = entries_with l.0.1 (bare_list l)
 
 abbrev pub entries_of : List (ListKey × List Spot) → List Entry
 entries_of = flat_map list_entries
 
 -- no list is damaged
-abbrev pub AreWhole : List (ListKey × List Spot) → Type 0
-AreWhole = AllByRecursion (λ l. l.1 ≢ [])
+abbrev pub AreWhole : {K : Type 0} → List (K × List Spot) → Type 0
+AreWhole lists = AllByRecursion (λ l. l.1 ≢ []) lists
 
-abbrev pub SomeDamaged : List (ListKey × List Spot) → Type 0
+abbrev pub SomeDamaged : {K : Type 0} → List (K × List Spot) → Type 0
 SomeDamaged lists = ¬ AreWhole lists
+
+-- rows of these lists, of which none is damaged
+abbrev pub AreRead : List (ListKey × List Spot) → List ListRow → Type 0
+AreRead lists rows = (map shown_list rows ≡ map bare_list lists) × AreWhole lists
 
 -- A table as it is listed: its number and its name, its columns by their rising numbers, and the numbers of those that
 -- aren't indexed.

@@ -1,4 +1,4 @@
--- A store seen as a value: rows under their keys, in the order of the keys, and what row changes make of them. All of it is
+-- Meaning. A store seen as a value: rows under their keys, in the order of the keys, and what row changes make of them. All of it is
 -- our own choice.
 use Rattle.std.specs.Prelude.{ℕ, ℤ, pos, not, ◌&&◌, List, [], ◌∷◌, IsTrue}
 use Rattle.std.specs.declared.cmp.Ordering.{Ordering}
@@ -7,13 +7,8 @@ use Rattle.std.specs.Cmp.Lexicographic.{slice_cmp}
 use Rattle.std.specs.List.{enumerate_from}
 use Rattle.std.specs.FinMap.Entries.{put, where_key, is_sorted}
 use Rattle.sqlite_value.specs.Keys.{without_case}
-use Rattle.ft_store.specs.declared.rows.Spot.{Spot}
-
--- what a cell holds
-pub data Cell : Type 0 where
-  Null : Cell
-  Int : (number : ℤ) → Cell
-  Text : (bytes : List ℕ) → Cell
+use Rattle.ft_values.specs.declared.rows.Spot.{Spot}
+use Rattle.ft_values.specs.Cells.{Cell}
 
 -- a table with a docid and a column, a table with a term and a docid, and a table with a column
 abbrev pub CellKey : Type 0

@@ -1,4 +1,4 @@
--- How a packed list is read: its numbers from the last byte on, and then its places from the first on, each tested as it comes.
+-- Steps. How a packed list is read: its numbers from the last byte on, and then its places from the first on, each tested as it comes.
 use Rattle.std.specs.Prelude.{ℕ, ◌+◌, Bool, false, ◌&&◌, ◌||◌, ◌==◌, List, [], ◌∷◌, Option, Some, None, nat_lt, if◌then◌else◌}
 use Rattle.std.specs.Option.{option_and_then}
 use Rattle.ft_store.specs.Packed.{Spot, going_on, is_spot, is_after}

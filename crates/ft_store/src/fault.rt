@@ -1,7 +1,8 @@
 ghost use Rattle.std.specs.Prelude.{◌≡◌};
-ghost use Rattle.ft_store.specs.Calls.{IsPlainFault, fault_of};
+ghost use Rattle.ft_store.specs.Calls.{IsPlainFault, fault_of, fault_of_read};
 ghost use Rattle.ft_store.specs.declared.fault.StoreFault.TheVariants as fault;
 
+use ft_values::Fault;
 use sqlite::{Error as SqlError, ErrorCode};
 use std::alloc::{AllocError, AllocFailed};
 use thiserror::Error;
@@ -48,6 +49,17 @@ impl From<SqlError> for StoreFault {
         match error {
             SqlError::SqliteFailure(ErrorCode::OutOfMemory) => StoreFault::Memory,
             _ => StoreFault::Refused,
+        }
+    }
+}
+
+impl From<StoreFault> for Fault {
+    ghost from_gives = { λ store fault. fault ≡ fault_of_read store };
+
+    fn from(fault: StoreFault) -> Fault {
+        match fault {
+            StoreFault::Memory => Fault::Memory,
+            _ => Fault::Store,
         }
     }
 }

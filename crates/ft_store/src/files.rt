@@ -30,6 +30,10 @@ const LEAST_CACHE: u64 = 2000;
 
 const MOST_CACHE: u64 = 20_000;
 
+// How many pages are logged before they are written into the database: a change of a document logs some 100 to 200, and each that
+// is written back costs once more. So the log has some 16 MB at the most, beside what the last command wrote.
+const CHECKPOINT_FRAMES: usize = 4000;
+
 // The files of a database, as they are opened.
 fn open_pair<S: Start>(rt: &HostRuntime, path: &str, start: S) -> Result<Files<FileFrom<S>>, Error>
     ensures memory { path.now ≡ codes ":memory:" → result ≡ Err (Error.SqliteFailure ErrorCode.CannotOpen) }
@@ -68,6 +72,7 @@ fn file_options(rt: &HostRuntime, path: &str) -> Result<Options, Error>
     let mut options = Options::new(seed);
     options.cache_pages = cache_pages(rt, path);
     options.spill_pages = MOST_CACHE as usize;
+    options.checkpoint_frames = CHECKPOINT_FRAMES;
     Ok(options)
 }
 

@@ -10,7 +10,6 @@ mod make;
 mod migrate;
 mod packed;
 mod read;
-mod rows;
 mod same;
 mod statements;
 mod store;
@@ -19,6 +18,6 @@ mod write;
 
 pub use fault::StoreFault;
 pub use files::open_database;
+pub use ft_values::{CellRow, EntryRow, ListRow, RowChange, SizeRow, Spot, TabRow, Value};
 pub use packed::packed_lists;
-pub use rows::{CellRow, EntryRow, RowChange, SizeRow, Spot, TabRow, Value};
 pub use store::{AdoptFault, Store};

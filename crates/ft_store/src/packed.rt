@@ -6,7 +6,7 @@ ghost use Rattle.ft_store.specs.Packed.{CanPack, is_natural, PackedIsRead, Packe
 ghost use Rattle.ft_store.specs.Unpacking.{next_numbers, spot_from, passes, checked};
 
 use crate::fault::StoreFault;
-use crate::rows::Spot;
+use ft_values::Spot;
 use std::alloc::{AllocError, Global};
 
 /// A packed list is read as the places that it was made of, and no others have it.

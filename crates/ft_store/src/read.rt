@@ -16,7 +16,7 @@ ghost use Rattle.ft_store.specs.Shown.{shown_cell, shown_size, shown_name, shown
 ghost use Rattle.ft_store.specs.Calls.{IsStoreIfOpen, IsPlainFault, Keeps};
 
 use crate::fault::StoreFault;
-use crate::rows::{CellRow, SizeRow, Value};
+use ft_values::{CellRow, SizeRow, Value};
 use sqlite::types::ValueRef;
 use sqlite::{Alter, Connection, Row, params};
 use std::alloc::Global;

@@ -1,8 +1,9 @@
 //! The statements that change rows, each with what it makes of the store's value.
-ghost use Rattle.std.specs.Prelude.{◌≡◌, ℕ, [], not, ◌&&◌, unwrap_or, IsTrue, IfErr, OnOk, Ok, None};
+ghost use Rattle.std.specs.Prelude.{◌≡◌, ℕ, List, [], length, not, ◌&&◌, if◌then◌else◌, unwrap_or, MatchBool, IsTrue, IfOk, IfErr, OnOk, Ok, None};
+ghost use Rattle.std.specs.List.{flat_map};
 ghost use Rattle.std.specs.Ordering.{int_cmp, int_eq, eq_by_cmp};
 ghost use Rattle.std.specs.FinMap.Entries.{put, where_key, find};
-ghost use Rattle.sqlite.specs.State.{HasCleanDisk, Survives, ExecutesInside, KeepsCommit};
+ghost use Rattle.sqlite.specs.State.{HasCleanDisk, Survives, ExecutesInside, IsUnchanged, KeepsCommit};
 ghost use Rattle.sqlite.specs.Held.{state};
 ghost use Rattle.sqlite.specs.Values.{bound};
 ghost use Rattle.sqlite_value.specs.Value.{owned};
@@ -10,13 +11,15 @@ ghost use Rattle.sqlite_value.specs.Keys.{without_case};
 ghost use Rattle.sqlite.specs.declared.types.Value.TheVariants.{Int};
 ghost use Rattle.ft_store.specs.Packed.{spots_in};
 ghost use Rattle.ft_store.specs.Store.{StoreValue, cell_key_cmp, list_key_cmp, column_key_cmp, name_cmp};
-ghost use Rattle.ft_store.specs.Changes.{shown_value, num_of, txt_of};
+ghost use Rattle.ft_values.specs.Cells.{shown_value};
+ghost use Rattle.ft_store.specs.Changes.{num_of, txt_of};
 ghost use Rattle.ft_store.specs.Calls.{IsPlainFault, StepsOnOk, AddsOnOk, KeepsLast, LeavesNothing};
+ghost use Rattle.ft_store.specs.Groups.{Entry, entry_values, with_entries, GoesOnOk};
 
 use crate::fault::StoreFault;
-use crate::rows::Value;
+use ft_values::Value;
 use sqlite::types::{ToSql, ValueRef};
-use sqlite::{Alter, Transaction};
+use sqlite::{Alter, Error as SqlError, ErrorCode, Transaction};
 
 /// One statement that changes rows.
 pub(crate) fn run<S: Alter>(
@@ -33,6 +36,31 @@ pub(crate) fn run<S: Alter>(
 {
     let _count = tx.execute(sql, params)?;
     Ok(())
+}
+
+/// One statement that adds rows. False where a rule of their table refuses them, and then nothing
+/// is changed.
+fn add<S: Alter>(
+    tx: &mut Transaction<'_, S>,
+    sql: &str,
+    params: &[ValueRef<'_>],
+) -> Result<bool, StoreFault>
+    ensures same_reference { tx.new.conn.ghost_name ≡ tx.old.conn.ghost_name }
+    ensures ran { HasCleanDisk (state S.Store tx.new.conn.now)
+        → IsTrue (state S.Store tx.old.conn.now).in_transaction
+        → IfOk result (λ added. MatchBool added
+        ((count : ℕ) × ExecutesInside 0 sql.now (bound params.now)
+        (state S.Store tx.old.conn.now) (state S.Store tx.new.conn.now) (Ok count))
+        (IsUnchanged (state S.Store tx.old.conn.now) (state S.Store tx.new.conn.now))) }
+    ensures fault { IfErr result IsPlainFault }
+    ensures kept { KeepsLast S.Store tx.old.conn.now tx.new.conn.now }
+    ensures survives { LeavesNothing S.Store tx.old.conn.now tx.new.conn.now }
+{
+    match tx.execute(sql, params) {
+        Ok(_) => Ok(true),
+        Err(SqlError::SqliteFailure(ErrorCode::ConstraintViolation(_))) => Ok(false),
+        Err(error) => Err(StoreFault::from(error)),
+    }
 }
 
 /// A number as a parameter beside a text.
@@ -375,6 +403,28 @@ pub(crate) fn add_list<'a, S: Alter>(
             beside(docid, term),
             list.to_sql(),
         ],
+    )
+}
+
+/// Adds eight packed lists, whose rows are bound one after the other. False where a table has one
+/// of its terms in a docid already, or twice among the eight, and then nothing is changed.
+pub(crate) fn add_lists<S: Alter>(
+    tx: &mut Transaction<'_, S>,
+    values: &[ValueRef<'_>],
+) -> Result<bool, StoreFault>
+    ensures same_reference { tx.new.conn.ghost_name ≡ tx.old.conn.ghost_name }
+    ensures goes { (entries : List Entry) → length entries ≡ 8
+        → bound values.now ≡ flat_map entry_values entries
+        → GoesOnOk S.Store tx.old.conn.now tx.new.conn.now result
+        (λ added v. if added then with_entries entries v else v) }
+    ensures fault { IfErr result IsPlainFault }
+    ensures kept { KeepsLast S.Store tx.old.conn.now tx.new.conn.now }
+    ensures survives { LeavesNothing S.Store tx.old.conn.now tx.new.conn.now }
+{
+    add(
+        tx,
+        "INSERT INTO posting (tab, term, docid, list) VALUES (?, ?, ?, ?), (?, ?, ?, ?), (?, ?, ?, ?), (?, ?, ?, ?), (?, ?, ?, ?), (?, ?, ?, ?), (?, ?, ?, ?), (?, ?, ?, ?)",
+        values,
     )
 }
 

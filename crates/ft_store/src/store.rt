@@ -9,7 +9,7 @@ ghost use Rattle.sqlite_wal.specs.Files.{image_at};
 ghost use Rattle.sqlite_trees.specs.Tree.{Trees};
 ghost use Rattle.ft_store.specs.Store.{cell_key_cmp, list_key_cmp, name_cmp, nothing_held, all_applied, AreInOrder};
 ghost use Rattle.ft_store.specs.Changes.{shown_change, CanApply};
-ghost use Rattle.ft_store.specs.Shown.{shown_cell, shown_size, shown_note, shown_entry, tables_listed, shown_table, last_docid_of, entries_of, AreWhole, SomeDamaged, AreNamedApart};
+ghost use Rattle.ft_store.specs.Shown.{shown_cell, shown_size, shown_note, shown_list, shown_entry, lists_of_term, lists_of_prefix, spot_count, tables_listed, shown_table, last_docid_of, entries_of, AreWhole, AreRead, SomeDamaged, AreNamedApart};
 ghost use Rattle.ft_store.specs.Calls.{IsPlainFault, IsReadFault, IsChangeFault, IsStored, Keeps};
 ghost use Rattle.ft_store.specs.Adopted.{IsTaken, IsNotTaken, LeavesMade};
 ghost use Rattle.ft_store.specs.Older.{IsOlder};
@@ -17,9 +17,10 @@ ghost use Rattle.ft_store.specs.Older.{IsOlder};
 use crate::adopt::take;
 use crate::fault::StoreFault;
 use crate::files::open_for_store;
+use crate::lists::count_spots;
 use crate::make::make;
-use crate::rows::{CellRow, EntryRow, RowChange, SizeRow, TabRow};
 use crate::{lists, read, tables, write};
+use ft_values::{CellRow, EntryRow, ListRow, RowChange, SizeRow, TabRow};
 use ram_disk::{Ram, open_ram};
 use sqlite::{Alter, Connection, File, FileFrom, FileStore, Start, Unknown};
 use std::alloc::Global;
@@ -229,6 +230,24 @@ impl<S: Alter> Store<S> {
         Ok(found)
     }
 
+    /// The lists of one term, by rising docid. Damaged where one of them is. Each place counts as a row.
+    pub fn term_lists(&mut self, tab: i64, term: &str) -> Result<Vec<ListRow>, StoreFault>
+        ensures rows { HasCleanDisk (shows S.Store self.new)
+            → IfOk result (λ found. AreRead (lists_of_term tab term.now (value_in S.Store self.old)) found.items) }
+        ensures damaged { HasCleanDisk (shows S.Store self.new) → result ≡ Err StoreFault.Damaged
+            → SomeDamaged (lists_of_term tab term.now (value_in S.Store self.old)) }
+        ensures causes { IfErr result IsReadFault }
+        ensures kept { HasCleanDisk (shows S.Store self.new) → Keeps (shows S.Store self.old) (shows S.Store self.new) }
+        ensures survives { Survives (shows S.Store self.old) (shows S.Store self.new) (λ _. IsTrue (shows S.Store self.old).is_open → ⊥) }
+        ensures counted { IfOk result (λ found. self.new.rows_read ≡ more_rows (spot_count (map shown_list found.items)) self.old) }
+        ensures uncounted { OnErr result (self.new.rows_read ≡ self.old.rows_read) }
+        ensures live { HasCleanDisk (shows S.Store self.new) → OnOk result (IsTrue (shows S.Store self.new).is_open) }
+    {
+        let found = lists::term_lists(&mut self.conn, self.alloc, tab, term)?;
+        self.rows_read = self.rows_read.saturating_add(count_spots(found.as_slice()));
+        Ok(found)
+    }
+
     /// The entries of the terms that begin so, by term, then docid, column and position. Damaged where one of their
     /// lists is.
     pub fn prefix(&mut self, tab: i64, begin: &str) -> Result<Vec<EntryRow>, StoreFault>
@@ -243,6 +262,25 @@ impl<S: Alter> Store<S> {
     {
         let found = lists::prefix(&mut self.conn, self.alloc, tab, begin)?;
         self.rows_read = self.rows_read.saturating_add(found.len() as u64);
+        Ok(found)
+    }
+
+    /// The lists of the terms that begin so, by term and then docid. Damaged where one of them is. Each place counts as
+    /// a row.
+    pub fn prefix_lists(&mut self, tab: i64, begin: &str) -> Result<Vec<ListRow>, StoreFault>
+        ensures rows { HasCleanDisk (shows S.Store self.new)
+            → IfOk result (λ found. AreRead (lists_of_prefix tab begin.now (value_in S.Store self.old)) found.items) }
+        ensures damaged { HasCleanDisk (shows S.Store self.new) → result ≡ Err StoreFault.Damaged
+            → SomeDamaged (lists_of_prefix tab begin.now (value_in S.Store self.old)) }
+        ensures causes { IfErr result IsReadFault }
+        ensures kept { HasCleanDisk (shows S.Store self.new) → Keeps (shows S.Store self.old) (shows S.Store self.new) }
+        ensures survives { Survives (shows S.Store self.old) (shows S.Store self.new) (λ _. IsTrue (shows S.Store self.old).is_open → ⊥) }
+        ensures counted { IfOk result (λ found. self.new.rows_read ≡ more_rows (spot_count (map shown_list found.items)) self.old) }
+        ensures uncounted { OnErr result (self.new.rows_read ≡ self.old.rows_read) }
+        ensures live { HasCleanDisk (shows S.Store self.new) → OnOk result (IsTrue (shows S.Store self.new).is_open) }
+    {
+        let found = lists::prefix_lists(&mut self.conn, self.alloc, tab, begin)?;
+        self.rows_read = self.rows_read.saturating_add(count_spots(found.as_slice()));
         Ok(found)
     }
 

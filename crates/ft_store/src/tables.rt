@@ -8,7 +8,7 @@ ghost use Rattle.ft_store.specs.Calls.{IsStoreIfOpen, IsPlainFault, Keeps};
 
 use crate::fault::StoreFault;
 use crate::read::{columns, names, skips};
-use crate::rows::TabRow;
+use ft_values::TabRow;
 use sqlite::{Alter, Connection};
 use std::alloc::Global;
 

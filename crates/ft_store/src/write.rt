@@ -1,27 +1,32 @@
 //! Row changes, all in one transaction.
-ghost use Rattle.std.specs.Prelude.{◌≡◌, false, ℕ, ℤ, [], pos, map, unwrap_or, string_bytes, All, IsTrue, IfErr, OnOk, OnErr};
+ghost use Rattle.std.specs.Prelude.{◌≡◌, false, ℕ, ◌<◌, ◌≤◌, ℤ, [], ◌++◌, pos, length, map, if◌then◌else◌, unwrap_or, string_bytes, All, IsTrue, IfOk, IfSome, IfErr, OnOk, OnErr};
 ghost use Rattle.std.specs.Ordering.{int_cmp};
-ghost use Rattle.std.specs.List.{enumerate_from};
+ghost use Rattle.std.specs.Vec.{vec_items};
+ghost use Rattle.std.specs.List.{enumerate_from, flat_map};
 ghost use Rattle.std.specs.FinMap.Entries.{put, find};
 ghost use Rattle.sqlite.specs.State.{HasCleanDisk, Survives};
 ghost use Rattle.sqlite.specs.Held.{state};
+ghost use Rattle.sqlite.specs.Values.{bound};
 ghost use Rattle.sqlite_value.specs.Keys.{without_case};
 ghost use Rattle.ft_store.specs.Packed.{CanPack, spots_in};
 ghost use Rattle.ft_store.specs.Store.{StoreValue, cell_key_cmp, list_key_cmp, column_key_cmp, name_cmp, without_index, without_rows, with_columns, with_skipped, AddTable, applied, all_applied};
 ghost use Rattle.ft_store.specs.Rows.{value_of};
-ghost use Rattle.ft_store.specs.Changes.{shown_value, shown_change, CanApply};
+ghost use Rattle.ft_values.specs.Cells.{shown_value};
+ghost use Rattle.ft_store.specs.Changes.{shown_change, CanApply};
 ghost use Rattle.ft_store.specs.Calls.{IsPlainFault, IsChangeFault, StepsOnOk, StepsIfOpen, KeepsLast, LeavesNothing, IsStore, IsStored, IsStoreIfOpen, Keeps};
+ghost use Rattle.ft_store.specs.Groups.{entry_values, entry_put, PutsList, GoesOnOk};
 
 use crate::fault::StoreFault;
 use crate::packed::{can_pack, pack};
-use crate::rows::{RowChange, Spot, Value};
 use crate::statements::{
-    add_cell, add_column, add_list, add_name, add_note, add_size, add_skip, drop_cell, drop_cells,
-    drop_column, drop_columns, drop_contents, drop_list, drop_lists, drop_name, drop_note,
-    drop_size, drop_sizes, drop_skip, drop_skips,
+    add_cell, add_column, add_list, add_lists, add_name, add_note, add_size, add_skip, drop_cell,
+    drop_cells, drop_column, drop_columns, drop_contents, drop_list, drop_lists, drop_name,
+    drop_note, drop_size, drop_sizes, drop_skip, drop_skips,
 };
+use ft_values::{RowChange, Spot, Value};
+use sqlite::types::ValueRef;
 use sqlite::{Alter, Connection, Transaction};
-use std::alloc::Global;
+use std::alloc::{AllocError, Global};
 
 /// Puts a column's name.
 fn put_column<S: Alter>(
@@ -259,6 +264,156 @@ fn apply<S: Alter>(
     }
 }
 
+/// Makes row changes one by one.
+fn apply_each<S: Alter>(
+    tx: &mut Transaction<'_, S>,
+    alloc: Global,
+    changes: &[RowChange],
+) -> Result<(), StoreFault>
+    ensures packable { OnOk result (All CanApply changes.now) }
+    ensures fault { IfErr result (IsChangeFault (All CanApply changes.now)) }
+    ensures same_reference { tx.new.conn.ghost_name ≡ tx.old.conn.ghost_name }
+    ensures goes { GoesOnOk S.Store tx.old.conn.now tx.new.conn.now result
+        (λ _ v. all_applied (map shown_change changes.now) v) }
+    ensures kept { KeepsLast S.Store tx.old.conn.now tx.new.conn.now }
+    ensures survives { LeavesNothing S.Store tx.old.conn.now tx.new.conn.now }
+{
+    for change in changes {
+        apply(tx, alloc, change)?;
+    }
+    Ok(())
+}
+
+// ---- lists that are added by one statement
+
+/// So many lists are added by one statement.
+const GROUP: usize = 8;
+
+fn puts_list(change: &RowChange) -> bool {
+    matches!(change, RowChange::PutEntries(_, _, _, _))
+}
+
+/// How many of the first changes are made together: eight that put lists, or else one.
+fn group_size(changes: &[RowChange]) -> usize
+    requires { 0 < length changes.now }
+    ensures some { 0 < result }
+    ensures within { result ≤ length changes.now }
+{
+    if changes.len() < GROUP {
+        return 1;
+    }
+    for change in &changes[..GROUP] {
+        if !puts_list(change) {
+            return 1;
+        }
+    }
+    GROUP
+}
+
+/// The packed lists of changes, if each puts one that can be packed.
+fn packed_lists(alloc: Global, changes: &[RowChange]) -> Result<Option<Vec<Vec<u8>>>, AllocError>
+    ensures puts { IfOk result (λ o. IfSome o (λ _. All PutsList changes.now)) }
+    ensures packed { IfOk result (λ o. IfSome o
+        (λ lists. map vec_items lists.items ≡ map (λ c. (entry_put c).1) changes.now)) }
+{
+    let mut lists = Vec::new(alloc);
+    for change in changes {
+        let RowChange::PutEntries(_, _, _, spots) = change else {
+            return Ok(None);
+        };
+        if !can_pack(spots.as_slice()) {
+            return Ok(None);
+        }
+        lists.push(pack(alloc, spots.as_slice())?)?;
+    }
+    Ok(Some(lists))
+}
+
+/// Binds the row of a packed list.
+fn push_values<'a>(
+    values: &mut Vec<ValueRef<'a>>,
+    change: &'a RowChange,
+    list: &'a [u8],
+) -> Result<(), AllocError>
+    requires { PutsList change.now }
+    ensures { OnOk result (bound values.new.items
+        ≡ bound values.old.items ++ entry_values ((entry_put change.now).0, list.now)) }
+{
+    if let RowChange::PutEntries(tab, term, docid, _) = change {
+        values.extend_from_slice(&[
+            ValueRef::Int(*tab),
+            ValueRef::Text(term.as_bytes()),
+            ValueRef::Int(*docid),
+            ValueRef::Blob(list),
+        ])?;
+    }
+    Ok(())
+}
+
+/// What is bound for the rows of packed lists.
+fn list_values<'a>(
+    alloc: Global,
+    changes: &'a [RowChange],
+    lists: &'a [Vec<u8>],
+) -> Result<Vec<ValueRef<'a>>, AllocError>
+    requires puts { All PutsList changes.now }
+    requires packed { map vec_items lists.now ≡ map (λ c. (entry_put c).1) changes.now }
+    ensures { IfOk result
+        (λ values. bound values.items ≡ flat_map entry_values (map entry_put changes.now)) }
+{
+    let mut values = Vec::new(alloc);
+    for at in 0..changes.len() {
+        push_values(&mut values, &changes[at], lists[at].as_slice())?;
+    }
+    Ok(values)
+}
+
+/// Adds the lists that eight changes put, by one statement. False where that can't be done, and
+/// then nothing is changed.
+fn add_group<S: Alter>(
+    tx: &mut Transaction<'_, S>,
+    alloc: Global,
+    changes: &[RowChange],
+) -> Result<bool, StoreFault>
+    ensures packable { IfOk result (λ added. IsTrue added → All CanApply changes.now) }
+    ensures fault { IfErr result IsPlainFault }
+    ensures same_reference { tx.new.conn.ghost_name ≡ tx.old.conn.ghost_name }
+    ensures goes { GoesOnOk S.Store tx.old.conn.now tx.new.conn.now result
+        (λ added v. if added then all_applied (map shown_change changes.now) v else v) }
+    ensures kept { KeepsLast S.Store tx.old.conn.now tx.new.conn.now }
+    ensures survives { LeavesNothing S.Store tx.old.conn.now tx.new.conn.now }
+{
+    if changes.len() != GROUP {
+        return Ok(false);
+    }
+    let Some(lists) = packed_lists(alloc, changes)? else {
+        return Ok(false);
+    };
+    let values = list_values(alloc, changes, lists.as_slice())?;
+    add_lists(tx, values.as_slice())
+}
+
+/// Makes row changes, eight lists by one statement where their keys are new.
+fn apply_group<S: Alter>(
+    tx: &mut Transaction<'_, S>,
+    alloc: Global,
+    changes: &[RowChange],
+) -> Result<(), StoreFault>
+    ensures packable { OnOk result (All CanApply changes.now) }
+    ensures fault { IfErr result (IsChangeFault (All CanApply changes.now)) }
+    ensures same_reference { tx.new.conn.ghost_name ≡ tx.old.conn.ghost_name }
+    ensures goes { GoesOnOk S.Store tx.old.conn.now tx.new.conn.now result
+        (λ _ v. all_applied (map shown_change changes.now) v) }
+    ensures kept { KeepsLast S.Store tx.old.conn.now tx.new.conn.now }
+    ensures survives { LeavesNothing S.Store tx.old.conn.now tx.new.conn.now }
+{
+    let added = add_group(tx, alloc, changes)?;
+    if added {
+        return Ok(());
+    }
+    apply_each(tx, alloc, changes)
+}
+
 /// Makes all changes, in their order, or none.
 pub(crate) fn change<S: Alter>(
     conn: &mut Connection<S>,
@@ -279,8 +434,11 @@ pub(crate) fn change<S: Alter>(
 {
     let _settled = conn.is_autocommit();
     let mut tx = conn.transaction();
-    for change in changes {
-        apply(&mut tx, alloc, change)?;
+    let mut at = 0;
+    while at < changes.len() {
+        let end = at + group_size(&changes[at..]);
+        apply_group(&mut tx, alloc, &changes[at..end])?;
+        at = end;
     }
     tx.commit()?;
     Ok(())

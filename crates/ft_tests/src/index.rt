@@ -8,7 +8,7 @@ mod queries;
 mod stops;
 mod worked;
 
-use ft_index::{FullText, TableInfo};
+use ft_index::{Command, Fault, FullText, Reply};
 use ft_store::Store;
 use sqlite::Alter;
 use std::alloc::Global;
@@ -22,15 +22,12 @@ pub(crate) fn taken<S: Alter + Drop>(alloc: Global, store: Store<S>) -> Result<F
     }
 }
 
-// Whether a mark is that of a sound table, for each table, and how many there are.
-fn marked(known: &[TableInfo]) -> (usize, bool) {
-    (known.len(), known.iter().all(|table| table.sound))
+// What a command is answered: of a call by itself the checker follows the fewest ways out.
+fn answer<S: Alter>(tables: &mut FullText<S>, command: &Command) -> Result<Reply, Fault> {
+    tables.execute(command)
 }
 
-// How many tables there are, whether all are marked as sound, and whether all are.
-fn marks<S: Alter + Drop>(alloc: Global, store: Store<S>) -> Result<(usize, bool, bool), Fail> {
-    let mut tables = taken(alloc, store)?;
-    let all = tables.check_all()?;
-    let (count, mark) = marked(tables.tables());
-    Ok((count, mark, all))
+// Whether all tables are sound.
+fn are_sound<S: Alter>(tables: &mut FullText<S>) -> Result<bool, Fault> {
+    tables.check_all()
 }

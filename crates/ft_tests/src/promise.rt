@@ -3,7 +3,7 @@
 ghost use Rattle.std.specs.Prelude.{[]};
 ghost use Rattle.ft_index.specs.Kept.{Holds};
 ghost use Rattle.ft_shell.specs.Told.{Deeds};
-ghost use Rattle.ft_shell.specs.Promise.{IsOpen, Keeps};
+ghost use Rattle.ft_shell.specs.Promise.{IsOpen, PromiseKept};
 
 use ft_shell::{Session, Source};
 use ram_disk::Honest;
@@ -17,7 +17,7 @@ pub fn two_runs<S: Honest, R: Read, Q: Read, O: Write, E: Write, F: Source>(
     err: &mut E,
     source: &mut F,
 )
-    ensures { Holds S.Store session.old.known [] → IsOpen S.Store session.new.known → (all : Deeds) × Keeps S.Store S.Store [] session.old all session.new }
+    ensures { Holds S.Store session.old.full_text [] → IsOpen S.Store session.new.full_text → (all : Deeds) × PromiseKept S.Store S.Store [] session.old all session.new }
 {
     Session::<S, S>::kept_in_memory();
     let _ = session.run(first, out, err, source);

@@ -1,6 +1,6 @@
 //! Sessions over memory databases: worked inputs, with every byte that they write.
 
-use crate::empty::{Begins, InMemory};
+use crate::empty::{Begins, Trial, tried};
 use crate::index::taken;
 use ft_index::FullText;
 use ft_shell::{RunFault, Session, Source, SourceFault, Status};
@@ -98,14 +98,25 @@ fn run_both<S: Alter, R: Read, O: Write>(
 }
 
 // A session over empty databases, which runs an input and then a second one.
-fn ran_over<S: Begins, R: Read, O: Write>(
-    alloc: Global,
-    reader: &mut R,
-    out: &mut O,
-    second: &[u8],
-) -> Result<Ended, Fail> {
-    let mut session = session_of::<S>(alloc)?;
-    run_both(alloc, &mut session, reader, out, second)
+#[derive(Drop)]
+struct Twice<'a, R, O> {
+    reader: &'a mut R,
+    out: &'a mut O,
+    second: &'a [u8],
+}
+
+impl<'a, R: Read, O: Write> Trial for Twice<'a, R, O> {
+    type Found = Ended;
+
+    fn over<S: Begins>(self, alloc: Global) -> Result<Ended, Fail> {
+        let Twice {
+            reader,
+            out,
+            second,
+        } = self;
+        let mut session = session_of::<S>(alloc)?;
+        run_both(alloc, &mut session, reader, out, second)
+    }
 }
 
 fn ran<R: Read, O: Write>(
@@ -114,7 +125,12 @@ fn ran<R: Read, O: Write>(
     out: &mut O,
     second: &[u8],
 ) -> Result<Ended, Fail> {
-    ran_over::<InMemory, R, O>(alloc, reader, out, second)
+    let trial = Twice {
+        reader,
+        out,
+        second,
+    };
+    tried(alloc, trial)
 }
 
 // How many fault lines there are.

@@ -1,11 +1,13 @@
 //! A store of full-text rows in memory.
 
 mod adopting;
+mod groups;
+mod lists;
 mod packed;
 mod rows;
 
 use crate::empty::Begins;
-use ft_store::{CellRow, EntryRow, RowChange, Store, StoreFault, TabRow, Value};
+use ft_store::{CellRow, EntryRow, RowChange, SizeRow, Spot, Store, StoreFault, TabRow, Value};
 use sqlite::{Alter, Connection};
 use std::alloc::{AllocError, Global};
 use std::test::Fail;
@@ -37,12 +39,41 @@ pub(crate) fn begun<S: Begins>(alloc: Global, texts: &str) -> Result<Store<S>, F
     with_rows(alloc, S::store(alloc)?, texts)
 }
 
-// One change by itself: the checker follows each way out of a call, and of a list of changes that may fail there are many.
-fn done<S: Alter>(store: &mut Store<S>, change: RowChange) -> Result<(), StoreFault> {
-    store.change(&[change])
+// A change of the table 1, `d`, of one column `x`. What is copied has no way out of a function to be followed.
+#[derive(Clone, Copy)]
+enum Step {
+    MakeTable,
+    DropTable,
+    ClearIndex,
+    PutText(i64, &'static str),
+    PutNull(i64),
+    DropCells(i64),
+    // A term at the first place of a document, with a size in bytes.
+    PutTerm(&'static str, i64, i64),
+    DropTerm(&'static str, i64),
+    PutSize(i64, i64),
+    DropSize(i64),
+    Note(&'static str),
 }
 
-// The table 1, `d`, of one column `x`.
+fn change_of(alloc: Global, step: Step) -> Result<RowChange, AllocError> {
+    match step {
+        Step::MakeTable => table_d(alloc),
+        Step::DropTable => Ok(RowChange::DropTable(1)),
+        Step::ClearIndex => Ok(RowChange::ClearIndex(1)),
+        Step::PutText(docid, words) => put_text(alloc, docid, words),
+        Step::PutNull(docid) => Ok(RowChange::PutCell(1, docid, 0, Value::Null)),
+        Step::DropCells(docid) => Ok(RowChange::DropCells(1, docid)),
+        Step::PutTerm(term, docid, size) => {
+            put_term(alloc, String::from_str(alloc, term)?, docid, size)
+        }
+        Step::DropTerm(term, docid) => drop_term(alloc, term, docid),
+        Step::PutSize(docid, count) => Ok(RowChange::PutSize(1, docid, 0, count)),
+        Step::DropSize(docid) => Ok(RowChange::DropSize(1, docid, 0)),
+        Step::Note(name) => Ok(RowChange::Note(String::from_str(alloc, name)?)),
+    }
+}
+
 fn table_d(alloc: Global) -> Result<RowChange, AllocError> {
     let mut columns = Vec::new(alloc);
     columns.push(String::from_str(alloc, "x")?)?;
@@ -53,6 +84,43 @@ fn table_d(alloc: Global) -> Result<RowChange, AllocError> {
 fn put_text(alloc: Global, docid: i64, words: &str) -> Result<RowChange, AllocError> {
     let text = String::from_str(alloc, words)?;
     Ok(RowChange::PutCell(1, docid, 0, Value::Text(text)))
+}
+
+fn put_term(alloc: Global, term: String, docid: i64, size: i64) -> Result<RowChange, AllocError> {
+    let spots = spots_of(alloc, &[(0, 0, 0, size)])?;
+    Ok(RowChange::PutEntries(1, term, docid, spots))
+}
+
+fn drop_term(alloc: Global, term: &str, docid: i64) -> Result<RowChange, AllocError> {
+    let term = String::from_str(alloc, term)?;
+    Ok(RowChange::DropEntries(1, term, docid))
+}
+
+// Places by column, position, place and size.
+fn spots_of(alloc: Global, places: &[(i64, i64, i64, i64)]) -> Result<Vec<Spot>, AllocError> {
+    let mut spots = Vec::new(alloc);
+    for (column, pos, place, size) in places {
+        spots.push(Spot {
+            column: *column,
+            pos: *pos,
+            place: *place,
+            size: *size,
+        })?;
+    }
+    Ok(spots)
+}
+
+fn done<S: Alter>(store: &mut Store<S>, change: RowChange) -> Result<(), StoreFault> {
+    store.change(&[change])
+}
+
+// Steps, each by a call of its own.
+fn go<S: Alter>(store: &mut Store<S>, alloc: Global, steps: &[Step]) -> Result<(), StoreFault> {
+    for step in steps {
+        let change = change_of(alloc, *step)?;
+        done(store, change)?;
+    }
+    Ok(())
 }
 
 fn value_text(alloc: Global, value: &Value) -> Result<String, AllocError> {
@@ -95,6 +163,21 @@ fn entries_text(alloc: Global, rows: &[EntryRow]) -> Result<String, AllocError> 
     Ok(all)
 }
 
+fn sizes_text(alloc: Global, rows: &[SizeRow]) -> Result<String, AllocError> {
+    let mut all = String::new(alloc);
+    for row in rows {
+        write!(all, "{} {} {};", row.docid, row.column, row.n)?;
+    }
+    Ok(all)
+}
+
+// What is read of all rows, each by one call.
+
+fn tables<S: Alter>(store: &mut Store<S>, alloc: Global) -> Result<String, StoreFault> {
+    let rows = store.tables()?;
+    Ok(tables_text(alloc, rows.as_slice())?)
+}
+
 fn cells<S: Alter>(store: &mut Store<S>, alloc: Global) -> Result<String, StoreFault> {
     let rows = store.cells(1)?;
     Ok(cells_text(alloc, rows.as_slice())?)
@@ -106,11 +189,8 @@ fn entries<S: Alter>(store: &mut Store<S>, alloc: Global) -> Result<String, Stor
 }
 
 fn sizes<S: Alter>(store: &mut Store<S>, alloc: Global) -> Result<String, StoreFault> {
-    let mut all = String::new(alloc);
-    for row in store.sizes(1)? {
-        write!(all, "{} {} {};", row.docid, row.column, row.n)?;
-    }
-    Ok(all)
+    let rows = store.sizes(1)?;
+    Ok(sizes_text(alloc, rows.as_slice())?)
 }
 
 /// What is read of all rows: the tables, and the cells, entries and sizes of the first.
@@ -118,9 +198,9 @@ pub(crate) fn all_read<S: Alter>(
     store: &mut Store<S>,
     alloc: Global,
 ) -> Result<String, StoreFault> {
-    let tables = store.tables()?;
-    let tables = tables_text(alloc, tables.as_slice())?;
-    let (cells, entries) = (cells(store, alloc)?, entries(store, alloc)?);
+    let tables = tables(store, alloc)?;
+    let cells = cells(store, alloc)?;
+    let entries = entries(store, alloc)?;
     let sizes = sizes(store, alloc)?;
     Ok(format!(in alloc; "{tables}|{cells}|{entries}|{sizes}")?)
 }

@@ -1,4 +1,4 @@
--- What a `Ram` shows.
+-- Steps. What a `Ram` shows.
 use Rattle.std.specs.Prelude.{ℕ, List}
 use Rattle.ram_disk.specs.declared.disk.Ram.{Ram}
 

@@ -6,7 +6,7 @@ use Rattle.std.specs.Str.{IsUtf8}
 use Rattle.std.proofs.lemmas.List.{append_assoc, append-nil, take-append-drop}
 use Rattle.shell_text.specs.Words.{Piece, PieceKind, Closed, Open, turn, first_byte, is_gap, is_open, is_word, pieces_from, pieces_of, text_of}
 use Rattle.shell_text.specs.Units.{Sql, Fault, ended_unit, ended_units, ends_statement, from_first_word, gaps_before, last_member, line_behind, line_of, numbered, parts_of, tail_of, unit_of}
-use Rattle.shell_text.specs.Lexed.{IsFront, Keeps, Reads, first_word, handed, is_between, is_semicolon, last_of, onto}
+use Rattle.shell_text.specs.Lexed.{IsFront, KeepsPending, Reads, first_word, handed, is_between, is_semicolon, last_of, onto}
 use Rattle.shell_text.specs.declared.units.SplitFault.TheVariants as fault
 use Rattle.shell_text.specs.declared.words.SqlKind.{SqlKind}
 use Rattle.shell_text.specs.declared.words.SqlKind.TheVariants as kinds
@@ -28,12 +28,12 @@ use Rattle.shell_text.proofs.Scanning.{ended_by, ended_first, first_part, first_
 abbrev pub byte_line : Pending → ℕ → ℕ
 byte_line p b = line_behind p.line (b ∷ [])
 
-line_on : {before rest : List ℕ} {p : Pending} (b : ℕ) → Keeps before rest p → byte_line p b ≡ line_behind p.first (before ++ b ∷ [])
+line_on : {before rest : List ℕ} {p : Pending} (b : ℕ) → KeepsPending before rest p → byte_line p b ≡ line_behind p.first (before ++ b ∷ [])
 line_on {before} {rest} {p} b k = ap (λ n. line_behind n (b ∷ [])) k.line ∙ line_behind-append p.first before (b ∷ [])
 
 -- a byte leads on
-pub keeps_goes : {before rest : List ℕ} {b : ℕ} {p : Pending} (to : Place) → Keeps before (b ∷ rest) p → turn p.place b (first_byte rest) ≡ Goes to
-    → Keeps (before ++ b ∷ []) rest (record p { line = byte_line p b; place = to })
+pub keeps_goes : {before rest : List ℕ} {b : ℕ} {p : Pending} (to : Place) → KeepsPending before (b ∷ rest) p → turn p.place b (first_byte rest) ≡ Goes to
+    → KeepsPending (before ++ b ∷ []) rest (record p { line = byte_line p b; place = to })
 keeps_goes {before} {rest} {b} {p} to k e = record {
   front = k.front ++ b ∷ [];
   done = k.done;
@@ -54,9 +54,9 @@ whole_piece : {before rest front : List ℕ} {b : ℕ} {place : Place} {done : L
 whole_piece {before} {rest} {front} {b} {place} {done} what r =
     text_of-more done (closed what (front ++ b ∷ [])) ∙ sym (append_assoc (text_of done) front (b ∷ [])) ∙ ap (λ t. t ++ b ∷ []) (sym r.text)
 
-keeps_ends : {before rest : List ℕ} {b : ℕ} {p : Pending} (what : Ended) (at : ℕ) (word : Option Spot) (k : Keeps before (b ∷ rest) p) → turn p.place b (first_byte rest) ≡ Ends what
+keeps_ends : {before rest : List ℕ} {b : ℕ} {p : Pending} (what : Ended) (at : ℕ) (word : Option Spot) (k : KeepsPending before (b ∷ rest) p) → turn p.place b (first_byte rest) ≡ Ends what
     → at ≡ length before + 1 → ends_statement (closed what (k.front ++ b ∷ [])) ≡ false → word ≡ first_word 0 p.first (k.done ++ closed what (k.front ++ b ∷ []) ∷ [])
-    → Keeps (before ++ b ∷ []) rest (behind_piece p b at word)
+    → KeepsPending (before ++ b ∷ []) rest (behind_piece p b at word)
 keeps_ends {before} {rest} {b} {p} what at word k e here plain found =
     let q = closed what (k.front ++ b ∷ []) in
     let all = whole_piece what k.reads in
@@ -72,8 +72,8 @@ keeps_ends {before} {rest} {b} {p} what at word k e here plain found =
     }
 
 -- a gap ends
-pub keeps_gap : {before rest : List ℕ} {b : ℕ} {p : Pending} (at : ℕ) → Keeps before (b ∷ rest) p → turn p.place b (first_byte rest) ≡ Ends Gap → at ≡ length before + 1
-    → Keeps (before ++ b ∷ []) rest (behind_piece p b at p.word)
+pub keeps_gap : {before rest : List ℕ} {b : ℕ} {p : Pending} (at : ℕ) → KeepsPending before (b ∷ rest) p → turn p.place b (first_byte rest) ≡ Ends Gap → at ≡ length before + 1
+    → KeepsPending (before ++ b ∷ []) rest (behind_piece p b at p.word)
 keeps_gap {before} {rest} {b} {p} at k e here =
     keeps_ends Gap at p.word k e here refl
     (k.word ∙ sym (first_word-append k.done (closed Gap (k.front ++ b ∷ []) ∷ []) 0 p.first ∙ or_none (first_word 0 p.first k.done)))
@@ -96,7 +96,7 @@ same_spot at line n text e = ap (λ a. spot a (numbered (line_behind n text))) (
     twice n text = omega arith
 
 -- where the first word begins, where the piece at hand is no gap
-pub word_with : {before rest : List ℕ} {p : Pending} (k : Keeps before rest p) (q : Piece) → is_gap q ≡ false → Some (unwrap_or p.word p.piece) ≡ first_word 0 p.first (k.done ++ q ∷ [])
+pub word_with : {before rest : List ℕ} {p : Pending} (k : KeepsPending before rest p) (q : Piece) → is_gap q ≡ false → Some (unwrap_or p.word p.piece) ≡ first_word 0 p.first (k.done ++ q ∷ [])
 word_with {before} {rest} {p} k q plain =
     sym (some_or p.word p.piece) ∙ ap (λ o. or_else o (Some p.piece)) k.word
     ∙ ap (λ a. or_else (first_word 0 p.first k.done) (spot a p.piece.line)) k.piece_at
@@ -133,8 +133,8 @@ semicolon_piece kinds.Number r e = refl
 semicolon_piece {b = b} kinds.Symbol r e = ap (λ f. ends_statement (closed (Word kinds.Symbol) (f ++ b ∷ []))) (symbol_front r e)
 
 -- a word ends, and no statement
-pub keeps_word : {before rest : List ℕ} {b : ℕ} {p : Pending} (kind : SqlKind) (at : ℕ) → Keeps before (b ∷ rest) p → turn p.place b (first_byte rest) ≡ Ends (Word kind) → at ≡ length before + 1
-    → is_semicolon kind b ≡ false → Keeps (before ++ b ∷ []) rest (behind_piece p b at (Some (unwrap_or p.word p.piece)))
+pub keeps_word : {before rest : List ℕ} {b : ℕ} {p : Pending} (kind : SqlKind) (at : ℕ) → KeepsPending before (b ∷ rest) p → turn p.place b (first_byte rest) ≡ Ends (Word kind) → at ≡ length before + 1
+    → is_semicolon kind b ≡ false → KeepsPending (before ++ b ∷ []) rest (behind_piece p b at (Some (unwrap_or p.word p.piece)))
 keeps_word {before} {rest} {b} {p} kind at k e here other =
     keeps_ends (Word kind) at (Some (unwrap_or p.word p.piece)) k e here (semicolon_piece kind k.reads e ∙ other) (word_with k (closed (Word kind) (k.front ++ b ∷ [])) refl)
 
@@ -143,7 +143,7 @@ pub record EndsStatement (before rest : List ℕ) (b : ℕ) (p : Pending) : Type
   pub units : ended_units p.first (parts_of (pieces_of (before ++ b ∷ rest))) ≡ handed p.word (before ++ b ∷ []) ++ ended_units (byte_line p b) (parts_of (pieces_of rest))
   pub tail : tail_of p.first (parts_of (pieces_of (before ++ b ∷ rest))) ≡ tail_of (byte_line p b) (parts_of (pieces_of rest))
 
-pub keeps_semicolon : {before rest : List ℕ} {b : ℕ} {p : Pending} (kind : SqlKind) → Keeps before (b ∷ rest) p → turn p.place b (first_byte rest) ≡ Ends (Word kind) → is_semicolon kind b ≡ true
+pub keeps_semicolon : {before rest : List ℕ} {b : ℕ} {p : Pending} (kind : SqlKind) → KeepsPending before (b ∷ rest) p → turn p.place b (first_byte rest) ≡ Ends (Word kind) → is_semicolon kind b ≡ true
     → EndsStatement before rest b p
 keeps_semicolon {before} {rest} {b} {p} kind k e ends =
     let q = closed (Word kind) (k.front ++ b ∷ []) in
@@ -220,7 +220,7 @@ closed_last n done (Some w) o f =
 abbrev open_piece : List ℕ → Piece
 open_piece text = record { kind = Open; text = text }
 
-open_last : {text rest : List ℕ} {p : Pending} (k : Keeps text rest p) → last_member (p.first, k.done ++ open_piece k.front ∷ []) ≡ (let line = (unwrap_or p.word p.piece).line in Fault line (fault.Incomplete line) ∷ [])
+open_last : {text rest : List ℕ} {p : Pending} (k : KeepsPending text rest p) → last_member (p.first, k.done ++ open_piece k.front ∷ []) ≡ (let line = (unwrap_or p.word p.piece).line in Fault line (fault.Incomplete line) ∷ [])
 open_last {text} {rest} {p} k =
     let ps = k.done ++ open_piece k.front ∷ [] in
     let w = unwrap_or p.word p.piece in
@@ -228,7 +228,7 @@ open_last {text} {rest} {p} k =
     ap (λ b. if b then Fault (line_of p.first ps) (fault.Incomplete (line_of p.first ps)) ∷ [] else (if list_any is_word ps then unit_of p.first ps ∷ [] else [])) (any_last k.done (open_piece k.front) refl)
     ∙ ap (λ l. Fault l (fault.Incomplete l) ∷ []) (sym is.line)
 
-at_end_between : {text : List ℕ} {p : Pending} → Keeps text [] p → p.place ≡ Between → AtEnd text p
+at_end_between : {text : List ℕ} {p : Pending} → KeepsPending text [] p → p.place ≡ Between → AtEnd text p
 at_end_between {text} {p} k e =
     let pieces : pieces_of text ≡ k.done = between_pieces (subst (λ at. Reads text [] at k.front k.done) e k.reads) in
     let whole : text_of k.done ≡ text = ap text_of (sym pieces) ∙ text_of-pieces text Between in
@@ -255,7 +255,7 @@ not_between CommentMark h = refl
 not_between BlockComment h = refl
 not_between Star h = refl
 
-at_end_inside : {text : List ℕ} {p : Pending} → Keeps text [] p → p.place ≢ Between → AtEnd text p
+at_end_inside : {text : List ℕ} {p : Pending} → KeepsPending text [] p → p.place ≢ Between → AtEnd text p
 at_end_inside {text} {p} k h =
     let pieces : pieces_of text ≡ k.done ++ open_piece k.front ∷ [] = inside_piece h k.reads in
     let outside = not_between p.place h in
@@ -282,11 +282,11 @@ is_place CommentMark = inr (λ e. cc)
 is_place BlockComment = inr (λ e. cc)
 is_place Star = inr (λ e. cc)
 
-pub at_end : {text : List ℕ} {p : Pending} → Keeps text [] p → AtEnd text p
+pub at_end : {text : List ℕ} {p : Pending} → KeepsPending text [] p → AtEnd text p
 at_end {text} {p} k = elim (is_place p.place) [ inl e ↦ at_end_between k e | inr h ↦ at_end_inside k h ]
 
 -- the next line follows
-pub keeps_on : {before : List ℕ} {p : Pending} (line : List ℕ) → Keeps before [] p → Keeps before (0x0A ∷ line) p
+pub keeps_on : {before : List ℕ} {p : Pending} (line : List ℕ) → KeepsPending before [] p → KeepsPending before (0x0A ∷ line) p
 keeps_on line k = record { front = k.front; done = k.done; reads = reads_on line k.reads; ends = k.ends; piece_at = k.piece_at; piece_line = k.piece_line; word = k.word; line = k.line }
 
 -- ---- where the first word may be cut off
@@ -294,14 +294,14 @@ keeps_on line k = record { front = k.front; done = k.done; reads = reads_on line
 split_gaps : (done : List Piece) → gaps_before done ++ from_first_word done ≡ done
 split_gaps done = take-append-drop (prefix_len is_gap done) done
 
-pub word_within : {before rest : List ℕ} {p : Pending} (w : Spot) → Keeps before rest p → p.word ≡ Some w → w.at ≤ length before
+pub word_within : {before rest : List ℕ} {p : Pending} (w : Spot) → KeepsPending before rest p → p.word ≡ Some w → w.at ≤ length before
 word_within {before} {rest} {p} w k e =
     let is = is_first k.done 0 p.first w (sym k.word ∙ e) in
     let parts : text_of k.done ≡ text_of (gaps_before k.done) ++ text_of (from_first_word k.done) = ap text_of (sym (split_gaps k.done)) ∙ text_of-append (gaps_before k.done) (from_first_word k.done) in
     let place = is.place in
     omega (arith, read_length k.reads, ap length parts, length-append (text_of (gaps_before k.done)) (text_of (from_first_word k.done)))
 
-pub word_boundary : {before rest : List ℕ} {p : Pending} (w : Spot) → Keeps before rest p → p.word ≡ Some w → IsUtf8 (before ++ rest) → IsCharBoundary (before ++ rest) w.at
+pub word_boundary : {before rest : List ℕ} {p : Pending} (w : Spot) → KeepsPending before rest p → p.word ≡ Some w → IsUtf8 (before ++ rest) → IsCharBoundary (before ++ rest) w.at
 word_boundary {before} {rest} {p} w k e utf8 =
     let is = is_first k.done 0 p.first w (sym k.word ∙ e) in
     let later = onto k.front (pieces_from p.place rest) in

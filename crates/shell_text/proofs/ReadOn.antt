@@ -7,7 +7,7 @@ use Rattle.std.proofs.lemmas.List.{append_assoc, append-nil, take-append-drop, d
 use Rattle.std.proofs.lemmas.Str.{IsUtf8-drop, IsCharBoundary-after_ascii, IsCharBoundary-start}
 use Rattle.shell_text.specs.Words.{turn, first_byte, pieces_of}
 use Rattle.shell_text.specs.Units.{Member, ended_units, parts_of, tail_of}
-use Rattle.shell_text.specs.Lexed.{Keeps, Splits, handed, is_semicolon}
+use Rattle.shell_text.specs.Lexed.{KeepsPending, Splits, handed, is_semicolon}
 use Rattle.shell_text.specs.declared.words.SqlKind.{SqlKind}
 use Rattle.shell_text.specs.declared.words.SqlKind.TheVariants as kinds
 use Rattle.shell_text.specs.declared.words.Place.{Place}
@@ -20,18 +20,18 @@ use Rattle.shell_text.proofs.Keeping.{EndsStatement, at_end, byte_line, word_bou
 pub record ReadTo (n : ℕ) (text : List ℕ) (told now : List Member) (cut i : ℕ) (p : Pending) : Type 0 where
   pub units : now ++ ended_units p.first (parts_of (pieces_of (drop cut text))) ≡ told ++ ended_units n (parts_of (pieces_of text))
   pub tail : tail_of n (parts_of (pieces_of text)) ≡ tail_of p.first (parts_of (pieces_of (drop cut text)))
-  pub keeps : Keeps (take (i - cut) (drop cut text)) (drop i text) p
+  pub keeps : KeepsPending (take (i - cut) (drop cut text)) (drop i text) p
   pub low : cut ≤ i
   pub boundary : IsCharBoundary text cut
 
 sub-zero : (i : ℕ) → i ≡ i - 0
 sub-zero i = omega arith
 
-pub read_none : (n : ℕ) (text : List ℕ) (told : List Member) (i : ℕ) (p : Pending) → IsUtf8 text → p.first ≡ n → Keeps (take i text) (drop i text) p → ReadTo n text told told 0 i p
+pub read_none : (n : ℕ) (text : List ℕ) (told : List Member) (i : ℕ) (p : Pending) → IsUtf8 text → p.first ≡ n → KeepsPending (take i text) (drop i text) p → ReadTo n text told told 0 i p
 read_none n text told i p utf8 e k = record {
   units = ap (λ m. told ++ ended_units m (parts_of (pieces_of text))) e;
   tail = ap (λ m. tail_of m (parts_of (pieces_of text))) (sym e);
-  keeps = subst (λ m. Keeps (take m text) (drop i text) p) (sub-zero i) k;
+  keeps = subst (λ m. KeepsPending (take m text) (drop i text) p) (sub-zero i) k;
   low = omega arith;
   boundary = IsCharBoundary-start text utf8;
 }
@@ -65,22 +65,22 @@ turned text i = sym (first_byte-drop text (i + 1))
 
 -- a byte that ends no statement
 pub read_more : {n : ℕ} {text : List ℕ} {told now : List Member} {cut i : ℕ} {p : Pending} (b : ℕ) (q : Pending) → IsByte text i b → ReadTo n text told now cut i p → q.first ≡ p.first
-    → Keeps (take (i - cut) (drop cut text) ++ b ∷ []) (drop (i + 1) text) q → ReadTo n text told now cut (i + 1) q
+    → KeepsPending (take (i - cut) (drop cut text) ++ b ∷ []) (drop (i + 1) text) q → ReadTo n text told now cut (i + 1) q
 read_more {n} {text} {told} {now} {cut} {i} {p} b q at r e k = record {
   units = ap (λ m. now ++ ended_units m (parts_of (pieces_of (drop cut text)))) e ∙ r.units;
   tail = r.tail ∙ ap (λ m. tail_of m (parts_of (pieces_of (drop cut text)))) (sym e);
-  keeps = subst (λ before. Keeps before (drop (i + 1) text) q) (sym (front_more text i b cut at r.low)) k;
+  keeps = subst (λ before. KeepsPending before (drop (i + 1) text) q) (sym (front_more text i b cut at r.low)) k;
   low = let low = r.low in omega arith;
   boundary = r.boundary;
 }
 
 pub keeps_at : {n : ℕ} {text : List ℕ} {told now : List Member} {cut i : ℕ} {p : Pending} (b : ℕ) → IsByte text i b → ReadTo n text told now cut i p
-    → Keeps (take (i - cut) (drop cut text)) (b ∷ drop (i + 1) text) p
-keeps_at {n} {text} {told} {now} {cut} {i} {p} b at r = subst (λ rest. Keeps (take (i - cut) (drop cut text)) rest p) at.rest r.keeps
+    → KeepsPending (take (i - cut) (drop cut text)) (b ∷ drop (i + 1) text) p
+keeps_at {n} {text} {told} {now} {cut} {i} {p} b at r = subst (λ rest. KeepsPending (take (i - cut) (drop cut text)) rest p) at.rest r.keeps
 
 -- a byte that ends a statement
 pub read_semicolon : {n : ℕ} {text : List ℕ} {told now : List Member} {cut i : ℕ} {p : Pending} (b : ℕ) (q : Pending) (later : List Member) → IsUtf8 text → b < 128 → IsByte text i b → ReadTo n text told now cut i p
-    → EndsStatement (take (i - cut) (drop cut text)) (drop (i + 1) text) b p → later ≡ now ++ handed p.word (take (i + 1 - cut) (drop cut text)) → q.first ≡ byte_line p b → Keeps [] (drop (i + 1) text) q
+    → EndsStatement (take (i - cut) (drop cut text)) (drop (i + 1) text) b p → later ≡ now ++ handed p.word (take (i + 1 - cut) (drop cut text)) → q.first ≡ byte_line p b → KeepsPending [] (drop (i + 1) text) q
     → ReadTo n text told later (i + 1) (i + 1) q
 read_semicolon {n} {text} {told} {now} {cut} {i} {p} b q later utf8 low at r ends told_now first k =
     let front = take (i - cut) (drop cut text) in
@@ -93,7 +93,7 @@ read_semicolon {n} {text} {told} {now} {cut} {i} {p} b q later utf8 low at r end
           ∙ ap (λ t. now ++ (handed p.word t ++ ended_units (byte_line p b) (parts_of (pieces_of rest)))) (front_more text i b cut at r.low)
           ∙ ap (λ us. now ++ us) (sym ends.units) ∙ ap (λ t. now ++ ended_units p.first (parts_of (pieces_of t))) same ∙ r.units;
       tail = r.tail ∙ ap (λ t. tail_of p.first (parts_of (pieces_of t))) (sym same) ∙ ends.tail ∙ ap (λ m. tail_of m (parts_of (pieces_of rest))) (sym first);
-      keeps = subst (λ m. Keeps (take m rest) rest q) (let none : 0 ≡ i + 1 - (i + 1) = omega arith in none) k;
+      keeps = subst (λ m. KeepsPending (take m rest) rest q) (let none : 0 ≡ i + 1 - (i + 1) = omega arith in none) k;
       low = omega arith;
       boundary = IsCharBoundary-after_ascii text i utf8 at.within (subst (λ c. c < 128) (sym at.byte) low);
     }
@@ -124,8 +124,8 @@ pub read_all : {n : ℕ} {text : List ℕ} {told now : List Member} {cut i : ℕ
 read_all {n} {text} {told} {now} {cut} {i} {p} past within r =
     let low = r.low in
     let full : length (drop cut text) ≤ i - cut = omega (arith, length-drop cut text) in
-    let k : Keeps (drop cut text) [] p =
-    subst (λ before. Keeps before [] p) (take_all (i - cut) (drop cut text) full) (subst (λ rest. Keeps (take (i - cut) (drop cut text)) rest p) (drop_all i text past) r.keeps) in
+    let k : KeepsPending (drop cut text) [] p =
+    subst (λ before. KeepsPending before [] p) (take_all (i - cut) (drop cut text) full) (subst (λ rest. KeepsPending (take (i - cut) (drop cut text)) rest p) (drop_all i text past) r.keeps) in
     let end = at_end k in
     record {
       units = sym (append-nil now) ∙ ap (λ ps. now ++ ended_units p.first ps) (sym end.one) ∙ r.units;

@@ -9,7 +9,7 @@ use Rattle.std.proofs.lemmas.List.{append-nil, take_at, drop_at}
 use Rattle.std.proofs.lemmas.Str.{IsUtf8-from_is_utf8}
 use Rattle.shell_text.specs.Words.{Piece, first_byte, is_gap, next_is, pieces_from, pieces_of, text_of}
 use Rattle.shell_text.specs.Units.{Member, Dot, Fault, Reading, Role, Refused, Command, after_role, ended_units, is_idle, joined, last_member, member_of, most_bytes, numbered, parts_of, pending_in, role_of, size_with, tail_in, tail_of, units_in, with_line, without_block}
-use Rattle.shell_text.specs.Lexed.{Keeps, handed, is_between, last_of}
+use Rattle.shell_text.specs.Lexed.{KeepsPending, handed, is_between, last_of}
 use Rattle.shell_text.specs.Splitting.{IsAccepted, IsKept, Splitting, TakesLine, TakesText, block_as, emptied, first_as, without_ended}
 use Rattle.shell_text.specs.declared.units.SplitFault.TheVariants as fault
 use Rattle.shell_text.specs.declared.units.Pending.{Pending}
@@ -18,15 +18,15 @@ use Rattle.shell_text.specs.declared.words.Place.TheVariants.{Between}
 use Rattle.shell_text.proofs.Keeping.{at_end, keeps_on}
 use Rattle.shell_text.proofs.Restart.{text_of-pieces}
 
-pub start_keeps : (kept : Option Pending) (text line whole : List ℕ) (fresh : Pending) → IsKept kept text → whole ≡ text ++ (if is_some kept then 0x0A ∷ line else line) → ((rest : List ℕ) → Keeps [] rest fresh)
-    → Keeps (take (length text) whole) (drop (length text) whole) (unwrap_or kept fresh)
+pub start_keeps : (kept : Option Pending) (text line whole : List ℕ) (fresh : Pending) → IsKept kept text → whole ≡ text ++ (if is_some kept then 0x0A ∷ line else line) → ((rest : List ℕ) → KeepsPending [] rest fresh)
+    → KeepsPending (take (length text) whole) (drop (length text) whole) (unwrap_or kept fresh)
 start_keeps None text line whole fresh k e f =
-    subst (λ w. Keeps (take (length text) w) (drop (length text) w) fresh) (sym e)
-    (subst (λ t. Keeps (take (length t) (t ++ line)) (drop (length t) (t ++ line)) fresh) (sym k) (f line))
+    subst (λ w. KeepsPending (take (length text) w) (drop (length text) w) fresh) (sym e)
+    (subst (λ t. KeepsPending (take (length t) (t ++ line)) (drop (length t) (t ++ line)) fresh) (sym k) (f line))
 start_keeps (Some p) text line whole fresh k e f =
-    subst (λ w. Keeps (take (length text) w) (drop (length text) w) p) (sym e)
-    (subst (λ t. Keeps t (drop (length text) (text ++ 0x0A ∷ line)) p) (sym (take_at text (0x0A ∷ line) (length text) refl))
-    (subst (λ t. Keeps text t p) (sym (drop_at text (0x0A ∷ line) (length text) refl)) (keeps_on line k)))
+    subst (λ w. KeepsPending (take (length text) w) (drop (length text) w) p) (sym e)
+    (subst (λ t. KeepsPending t (drop (length text) (text ++ 0x0A ∷ line)) p) (sym (take_at text (0x0A ∷ line) (length text) refl))
+    (subst (λ t. KeepsPending text t p) (sym (drop_at text (0x0A ∷ line) (length text) refl)) (keeps_on line k)))
 
 -- ---- readings
 
@@ -124,7 +124,7 @@ not_utf8 bytes h = by_test (is_utf8 bytes) refl
 pub none_emptied : (kept : Option Pending) (line : ℕ) (text : List ℕ) (waiting : List Member) → kept ≡ None → splitting (reading_of kept line text) waiting ≡ emptied (splitting (reading_of kept line text) waiting)
 none_emptied kept line text waiting e = subst (λ k. splitting (reading_of k line text) waiting ≡ emptied (splitting (reading_of k line text) waiting)) (sym e) refl
 
-pub kept_keeps : (kept : Option Pending) (p : Pending) (text : List ℕ) → kept ≡ Some p → IsKept kept text → Keeps text [] p
+pub kept_keeps : (kept : Option Pending) (p : Pending) (text : List ℕ) → kept ≡ Some p → IsKept kept text → KeepsPending text [] p
 kept_keeps kept p text e k = subst (λ o. IsKept o text) e k
 
 pub last_open : (p : Pending) (text : List ℕ) (n : ℕ) → is_between p.place ≡ false → n ≡ (unwrap_or p.word p.piece).line → last_of p text ≡ Fault n (fault.Incomplete n) ∷ []

@@ -1,4 +1,4 @@
--- What clauses see of a splitter (own choice).
+-- Steps. What clauses see of a splitter (own choice).
 use Rattle.std.specs.Prelude.{map, string_bytes}
 use Rattle.shell_text.specs.Splitting.{IsKept, Splitting, block_as, first_as, member_of_unit}
 use Rattle.shell_text.specs.declared.units.Splitter.TheInside.{Inside}

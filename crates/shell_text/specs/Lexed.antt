@@ -1,4 +1,4 @@
--- What a splitter keeps of the text that it has read, so that no byte is read twice. All of it is our own choice: what an input
+-- Meaning. What a splitter keeps of the text that it has read, so that no byte is read twice. All of it is our own choice: what an input
 -- means stands in Units, without any of this.
 use Rattle.std.specs.Prelude.{ℕ, ◌+◌, ◌<◌, ◌≤◌, ◌≡◌, ◌==◌, Bool, true, false, List, [], ◌∷◌, ◌++◌, length, drop, Option, Some, None, unwrap_or, IsCharBoundary, if◌then◌else◌}
 use Rattle.std.specs.List.{list_any}
@@ -36,7 +36,7 @@ first_word at n [] = None
 first_word at n (p ∷ ps) = if is_gap p then first_word (at + length p.text) (line_behind n p.text) ps else Some (record { at = at; line = numbered n })
 
 -- what is kept of the pending text `before`
-pub record Keeps (before rest : List ℕ) (p : Pending) : Type 0 where
+pub record KeepsPending (before rest : List ℕ) (p : Pending) : Type 0 where
   pub front : List ℕ
   pub done : List Piece
   pub reads : Reads before rest p.place front done
@@ -71,6 +71,6 @@ last_of p text =
 pub record Splits (n : ℕ) (text : List ℕ) (told now : List Member) (cut : ℕ) (p : Pending) : Type 0 where
   pub units : now ≡ told ++ ended_units n (parts_of (pieces_of text))
   pub tail : tail_of n (parts_of (pieces_of text)) ≡ (p.first, pieces_of (drop cut text))
-  pub keeps : Keeps (drop cut text) [] p
+  pub keeps : KeepsPending (drop cut text) [] p
   pub within : cut ≤ length text
   pub boundary : IsCharBoundary text cut

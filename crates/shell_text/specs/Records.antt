@@ -1,4 +1,4 @@
--- Records of CSV, as the `csv` crate reads them: RFC 4180, section 2, with any ASCII delimiter. "Command Line Shell For SQLite",
+-- Meaning. Records of CSV, as the `csv` crate reads them: RFC 4180, section 2, with any ASCII delimiter. "Command Line Shell For SQLite",
 -- section "Importing files as CSV or other formats", reads such files. That they are UTF-8 is our own choice.
 use Rattle.std.specs.Prelude.{ℕ, ◌≡◌, ◌⊎◌, false, List}
 use Rattle.std.specs.List.{list_all}

@@ -1,10 +1,10 @@
--- What a splitter is seen as, and what its calls do. The units are those of Units ("Command Line Shell For SQLite", section "Line
+-- Meaning. What a splitter is seen as, and what its calls do. The units are those of Units ("Command Line Shell For SQLite", section "Line
 -- Structure"); how a splitter is fed, and what it keeps after a fault, is our own choice.
 use Rattle.std.specs.Prelude.{ℕ, ◌≡◌, ◌==◌, Bool, true, false, ⊤, List, [], ◌∷◌, ◌++◌, Option, Some, None, Result, Ok, Err, option_map, string_bytes}
 use Rattle.std.specs.List.{list_any}
 use Rattle.std.specs.Str.{is_utf8}
 use Rattle.shell_text.specs.Words.{pieces_of, text_of}
-use Rattle.shell_text.specs.Lexed.{Keeps}
+use Rattle.shell_text.specs.Lexed.{KeepsPending}
 use Rattle.shell_text.specs.declared.units.Pending.{Pending}
 use Rattle.shell_text.specs.Units.{Member, at_line, ended_units, parts_of, tail_of, Sql, Dot, Fault, Reading, Role, Refused, Command, Joins, after, last_member, member_of, role_of, tail_in, units_in}
 use Rattle.shell_text.specs.declared.units.SplitFault.{SplitFault}
@@ -88,10 +88,10 @@ first_as (Some p) line = p.first
 -- what is kept is that of the text; without a block there is no text
 abbrev pub IsKept : Option Pending → List ℕ → Type 0
 IsKept None text = text ≡ []
-IsKept (Some p) text = Keeps text [] p
+IsKept (Some p) text = KeepsPending text [] p
 
 -- a text that begins on line n was read: its statements are told behind `told`, and `text` is what follows the last of them
 pub record TakesText (n : ℕ) (whole : List ℕ) (told now : List Member) (text : List ℕ) (p : Pending) : Type 0 where
   pub units : now ≡ told ++ ended_units n (parts_of (pieces_of whole))
   pub tail : tail_of n (parts_of (pieces_of whole)) ≡ (p.first, pieces_of text)
-  pub keeps : Keeps text [] p
+  pub keeps : KeepsPending text [] p

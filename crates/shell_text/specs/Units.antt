@@ -1,4 +1,4 @@
--- The units of a shell's input. Each block of lines is read whole.
+-- Meaning. The units of a shell's input. Each block of lines is read whole.
 -- The rules are those of "Command Line Shell For SQLite", section "Line Structure": statements end with a semicolon and may go
 -- over lines, a dot-command is one line that begins with a full stop, does not stand inside a statement and knows no comments.
 -- Own choice: the largest size of a statement, which lines are refused, what is left open at the end, and the numbers of lines.

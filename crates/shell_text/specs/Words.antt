@@ -1,4 +1,4 @@
--- The words of SQL. A text falls into pieces: words, and gaps of white space and comments between them.
+-- Meaning. The words of SQL. A text falls into pieces: words, and gaps of white space and comments between them.
 -- Words are those of "SQL As Understood By SQLite" so far as the shell needs them: literals in quotation
 -- marks (its page "SQL Language Expressions", section "Literal Values (Constants)"), names quoted in any of
 -- three ways (page "SQLite Keywords"), comments (page "SQL Comment Syntax"), words, runs of digits, and

@@ -1,7 +1,7 @@
 //! How answers are printed, and what the shell does beside.
 
 ghost use Rattle.std.specs.Prelude.{◌≡◌, ◌∷◌, None, Some, true, false, OnOk, OnErr, IsErrOf};
-ghost use Rattle.shell_text.specs.Print.{first_look, is_csv_separator, may_separate, separator_of, shows_headers, with_mode};
+ghost use Rattle.shell_text.specs.Print.{first_settings, is_csv_separator, may_separate, separator_of, shows_headers, with_mode};
 ghost use Rattle.shell_text.specs.declared.settings.SetFault.TheVariants.{Memory};
 
 use std::alloc::{AllocError, Global};
@@ -46,11 +46,12 @@ impl Mode {
     }
 }
 
-// One byte from U+0001 to U+007F other than a quotation mark, CR and LF.
-pub(crate) fn is_csv_separator(text: &[u8]) -> bool
+/// Whether a text may part the fields of CSV: one byte from U+0001 to U+007F other than a quotation mark, CR and LF. That
+/// is our own choice, since RFC 4180 has the comma alone.
+pub fn is_csv_separator(text: &str) -> bool
     ensures { result ≡ is_csv_separator text.now }
 {
-    match text {
+    match text.as_bytes() {
         [b] => *b > 0 && *b < 0x80 && !(*b == b'"' || *b == b'\r' || *b == b'\n'),
         _ => false,
     }
@@ -70,19 +71,19 @@ pub struct Settings {
 }
 
 impl Model for Settings {
-    ghost use Rattle.shell_text.specs.Print.{Look};
+    ghost use Rattle.shell_text.specs.Print as forms;
 
-    ghost Value = { Look };
+    ghost Value = { forms.Settings };
 
-    ghost use Rattle.shell_text.specs.Looks.{look_of};
+    ghost use Rattle.shell_text.specs.SettingsViews.{settings_of};
 
-    ghost view = { look_of };
+    ghost view = { settings_of };
 }
 
 impl Settings {
     /// List mode with its own separator, an empty null text, headers never set, no echo, no bail.
     pub fn new(alloc: Global) -> Settings
-        ensures { result ≡ first_look }
+        ensures { result ≡ first_settings }
     {
         Settings {
             alloc,
@@ -141,7 +142,7 @@ impl Settings {
         ensures err { OnErr result (self.new ≡ self.old) }
     {
         if let Mode::Csv = self.mode {
-            if !is_csv_separator(separator.as_bytes()) {
+            if !is_csv_separator(separator) {
                 return Err(SetFault::BadSeparator);
             }
         }

@@ -1,13 +1,14 @@
 // One term's list of documents, passed from front to back.
-ghost use Rattle.std.specs.Prelude.{◌≡◌, ◌+◌, ◌-◌, ◌^◌, ◌≤◌, None, map, min};
-ghost use Rattle.ft_query.specs.Documents.{plain_list};
-ghost use Rattle.ft_query.specs.Cursors.{lists_left, lists_kept, places_at, passed, least_of};
+ghost use Rattle.std.specs.Prelude.{◌≡◌, ◌+◌, ◌-◌, ◌^◌, ◌≤◌, if◌then◌else◌, None, map, min};
+ghost use Rattle.ft_query.specs.Documents.{plain_list, is_filled};
+ghost use Rattle.ft_query.specs.Cursors.{lists_left, lists_kept, next_docid, is_next, next_places, after_next};
 
-use crate::lists::{DocList, Place};
-use crate::walk::steps::Steps;
+use crate::lists::DocList;
+use crate::walk::matches::Steps;
+use crate::walk::places::Places;
 
-/// A term's list: where the walk stands in it, and how far the search for the next hit has come. Each look at the next docid of the
-/// search is a step.
+/// A term's list: where the walk stands in it, and how far the search for the next hit has come. Docids are seen here alone: each look
+/// at the next one of the search is a step.
 #[derive(Drop)]
 pub(crate) struct Cursor {
     lists: Vec<DocList>,
@@ -43,46 +44,51 @@ impl Cursor {
         self.kept = self.at;
     }
 
-    /// The lesser of this docid and the next one here.
-    pub(crate) fn lesser(&self, docid: Option<i64>, steps: &mut Steps) -> Option<i64>
-        ensures docid { result ≡ least_of docid (lists_left self.now) }
+    /// The next docid here, if there is one, which is looked at.
+    pub(crate) fn docid(&self, steps: &mut Steps) -> Option<i64>
+        ensures docid { result ≡ next_docid (lists_left self.now) }
+        ensures looks { steps.new.taken
+            ≡ (if is_filled (lists_left self.now) then min (steps.old.taken + 1) (2 ^ 64 - 1) else steps.old.taken) }
         ensures at_least { steps.old.taken ≤ steps.new.taken }
         ensures at_most { steps.new.taken ≤ steps.old.taken + 1 }
         ensures none { result ≡ None → steps.new.taken ≡ steps.old.taken }
     {
-        let Some(list) = self.lists.get(self.at) else {
-            return docid;
-        };
+        let list = self.lists.get(self.at)?;
         steps.take();
-        match docid {
-            Some(least) if least <= list.docid => docid,
-            _ => Some(list.docid),
-        }
+        Some(list.docid)
     }
 
-    /// The places in this document, if it is the next one here.
-    pub(crate) fn places(&self, docid: i64, steps: &mut Steps) -> &[Place]
-        ensures places { result.now ≡ places_at docid (lists_left self.now) }
+    /// This document is the next one here. It is a step to ask, also where there is no next one.
+    pub(crate) fn is_at(&self, docid: i64, steps: &mut Steps) -> bool
+        ensures next { result ≡ is_next docid (lists_left self.now) }
         ensures step { steps.new.taken ≡ min (steps.old.taken + 1) (2 ^ 64 - 1) }
+        ensures at_least { steps.old.taken ≤ steps.new.taken }
+        ensures at_most { steps.new.taken ≤ steps.old.taken + 1 }
     {
         steps.take();
         match self.lists.get(self.at) {
-            Some(list) if list.docid == docid => list.places.as_slice(),
-            _ => &[],
+            Some(list) => list.docid == docid,
+            None => false,
         }
     }
 
-    /// Goes on past this document.
-    pub(crate) fn pass(&mut self, docid: i64, steps: &mut Steps)
-        ensures left { lists_left self.new ≡ passed docid (lists_left self.old) }
-        ensures kept { lists_kept self.new ≡ lists_kept self.old }
-        ensures step { steps.new.taken ≡ min (steps.old.taken + 1) (2 ^ 64 - 1) }
+    /// The places in the next document, if there is one. No docid is looked at.
+    pub(crate) fn here(&self) -> Places<'_>
+        ensures { result.places.now ≡ next_places (lists_left self.now) }
     {
-        steps.take();
-        if let Some(list) = self.lists.get(self.at) {
-            if list.docid == docid {
-                self.at += 1;
-            }
+        match self.lists.get(self.at) {
+            Some(list) => Places::new(list.places.as_slice()),
+            None => Places::new(&[]),
+        }
+    }
+
+    /// Goes on past the next document, if there is one. No docid is looked at.
+    pub(crate) fn go_on(&mut self)
+        ensures left { lists_left self.new ≡ after_next (lists_left self.old) }
+        ensures kept { lists_kept self.new ≡ lists_kept self.old }
+    {
+        if let Some(_) = self.lists.get(self.at) {
+            self.at += 1;
         }
     }
 }

@@ -5,8 +5,10 @@ ghost use Rattle.ft_query.specs.Trees.{tree_of};
 ghost use Rattle.ft_query.specs.Lists.{is_failed, Reaches};
 ghost use Rattle.ft_query.specs.Work.{terms_in, entry_count};
 ghost use Rattle.ft_query.specs.Cursors.{lists_left, lists_kept};
-ghost use Rattle.ft_query.specs.Walk.{lists_to_come, StandsBefore, Walked};
-ghost use Rattle.ft_query.specs.Search.{stands_at};
+ghost use Rattle.ft_query.specs.Walk.{lists_to_come, StandsBefore, Walked, WalkedTo};
+ghost use Rattle.ft_query.specs.Search.{stands_at, Finds};
+
+mod steps;
 
 use crate::lists::{ListFault, Lists};
 use crate::query::Query;
@@ -14,9 +16,10 @@ use crate::walk::Hit;
 use crate::walk::cursor::Cursor;
 use crate::walk::load::load;
 use crate::walk::search::search;
-use crate::walk::steps::Steps;
+use crate::walk::visit::Wanted;
 use std::alloc::{AllocError, Global};
 use std::marker::Model;
+pub(crate) use steps::Steps;
 
 /// Begins a search where the walk stands.
 fn begin(cursors: &mut [Cursor])
@@ -37,22 +40,23 @@ fn keep(cursors: &mut [Cursor])
     }
 }
 
-/// The next hit. The walk then stands behind it, and after an error where it stood.
+/// The next hit, without offsets where they aren't wanted. The walk then stands behind it, and after an error where it stood.
 fn advance(
     alloc: Global,
     query: &Query,
     cursors: &mut [Cursor],
+    wanted: Wanted,
     steps: &mut Steps,
 ) -> Result<Option<Hit>, AllocError>
     requires { length cursors.old ≡ length (terms_in (tree_of query.now)) }
-    ensures walked { IfOk result (λ hit. (documents : List Document) → StandsBefore (stands_at query.now cursors.old steps.old.taken) documents →
-        Walked (stands_at query.now cursors.old steps.old.taken) (stands_at query.now cursors.new steps.new.taken) hit documents) }
+    ensures finds { IfOk result (λ hit. (documents : List Document) → StandsBefore (stands_at query.now cursors.old steps.old.taken) documents →
+        Finds wanted (stands_at query.now cursors.old steps.old.taken) (stands_at query.now cursors.new steps.new.taken) hit documents) }
     ensures passes { IfOk result (λ hit. IfSome hit (λ _. sum_by length (map lists_kept cursors.new) < sum_by length (map lists_kept cursors.old))) }
-    ensures err { OnErr result ((map lists_kept cursors.new ≡ map lists_kept cursors.old) × (steps.new ≡ steps.old)) }
+    ensures err { OnErr result ((map lists_kept cursors.new ≡ map lists_kept cursors.old) × (steps.new.taken ≡ steps.old.taken)) }
 {
-    let mut taken = *steps;
+    let mut taken = steps.going_on();
     begin(cursors);
-    let hit = search(alloc, query, cursors, &mut taken)?;
+    let hit = search(alloc, query, cursors, wanted, &mut taken)?;
     keep(cursors);
     *steps = taken;
     Ok(hit)
@@ -106,9 +110,21 @@ impl<'q> Matches<'q> {
         Ok(Matches {
             query,
             cursors,
-            steps: Steps { taken: 0 },
+            steps: Steps::none(),
             alloc,
         })
+    }
+
+    // The next hit, without offsets where they aren't wanted.
+    fn find(&mut self, wanted: Wanted) -> Result<Option<Hit>, AllocError>
+        ensures finds { IfOk result (λ hit. (documents : List Document) → StandsBefore self.old documents
+            → Finds wanted self.old self.new hit documents) }
+        ensures passes { IfOk result (λ hit. IfSome hit (λ _. lists_to_come self.new < lists_to_come self.old)) }
+        ensures query { self.new.query ≡ self.old.query }
+        ensures err { OnErr result (self.new ≡ self.old) }
+    {
+        let cursors = self.cursors.as_mut_slice();
+        advance(self.alloc, self.query, cursors, wanted, &mut self.steps)
     }
 
     /// The next hit, or `None` where there is none left. After an error the walk stands where it stood.
@@ -118,8 +134,22 @@ impl<'q> Matches<'q> {
         ensures query { self.new.query ≡ self.old.query }
         ensures err { OnErr result (self.new ≡ self.old) }
     {
-        let cursors = self.cursors.as_mut_slice();
-        advance(self.alloc, self.query, cursors, &mut self.steps)
+        self.find(Wanted::Offsets)
+    }
+
+    /// The docid of the next hit, or `None` where there is none left. No offsets are made. After an error the walk stands where it
+    /// stood.
+    pub fn next_docid(&mut self) -> Result<Option<i64>, AllocError>
+        ensures walked { IfOk result (λ docid. (documents : List Document) → StandsBefore self.old documents
+            → WalkedTo self.old self.new docid documents) }
+        ensures passes { IfOk result (λ docid. IfSome docid (λ _. lists_to_come self.new < lists_to_come self.old)) }
+        ensures query { self.new.query ≡ self.old.query }
+        ensures err { OnErr result (self.new ≡ self.old) }
+    {
+        match self.find(Wanted::Docids)? {
+            Some(hit) => Ok(Some(hit.docid)),
+            None => Ok(None),
+        }
     }
 
     /// The steps that the walk has taken: docids and positions that were looked at, and parts of the query that were visited for a
@@ -127,6 +157,6 @@ impl<'q> Matches<'q> {
     pub fn steps(&self) -> u64
         ensures { result ≡ self.now.steps }
     {
-        self.steps.taken
+        self.steps.taken()
     }
 }

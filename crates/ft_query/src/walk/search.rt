@@ -1,17 +1,17 @@
 // The search for the next document that a query accepts.
-ghost use Rattle.std.specs.Prelude.{◌≡◌, ◌+◌, ◌-◌, ◌^◌, ◌<◌, ◌≤◌, None, List, map, min, length, sum_by, IfOk, IfSome};
-ghost use Rattle.ft_query.specs.Documents.{Document};
+ghost use Rattle.std.specs.Prelude.{◌≡◌, ◌+◌, ◌-◌, ◌^◌, ◌<◌, ◌≤◌, if◌then◌else◌, None, List, map, min, length, sum_by, IfOk, IfSome};
+ghost use Rattle.ft_query.specs.Documents.{Document, is_filled};
 ghost use Rattle.ft_query.specs.Trees.{tree_of};
 ghost use Rattle.ft_query.specs.Work.{terms_in};
-ghost use Rattle.ft_query.specs.Cursors.{lists_left, lists_kept, passed, least_from};
-ghost use Rattle.ft_query.specs.Walk.{StandsBefore, Walked};
-ghost use Rattle.ft_query.specs.Search.{walk_at, IsDocument, Considers};
+ghost use Rattle.ft_query.specs.Cursors.{lists_left, lists_kept, passed, least_of, least_from};
+ghost use Rattle.ft_query.specs.Walk.{StandsBefore};
+ghost use Rattle.ft_query.specs.Search.{walk_at, IsDocument, Considers, Finds};
 
 use crate::query::Query;
 use crate::walk::Hit;
 use crate::walk::cursor::Cursor;
-use crate::walk::steps::Steps;
-use crate::walk::visit::visit;
+use crate::walk::matches::Steps;
+use crate::walk::visit::{Wanted, visit};
 use std::alloc::{AllocError, Global};
 
 /// What became of the next document.
@@ -20,6 +20,37 @@ enum Considered {
     NoDocument,
     Passed,
     Found(Hit),
+}
+
+impl Cursor {
+    /// The lesser of this docid and the next one here, which is looked at if there is one.
+    fn lesser(&self, docid: Option<i64>, steps: &mut Steps) -> Option<i64>
+        ensures docid { result ≡ least_of docid (lists_left self.now) }
+        ensures looks { steps.new.taken
+            ≡ (if is_filled (lists_left self.now) then min (steps.old.taken + 1) (2 ^ 64 - 1) else steps.old.taken) }
+        ensures at_least { steps.old.taken ≤ steps.new.taken }
+        ensures at_most { steps.new.taken ≤ steps.old.taken + 1 }
+        ensures none { result ≡ None → steps.new.taken ≡ steps.old.taken }
+    {
+        let Some(next) = self.docid(steps) else {
+            return docid;
+        };
+        match docid {
+            Some(least) if least <= next => docid,
+            _ => Some(next),
+        }
+    }
+
+    /// Goes on past this document.
+    fn pass(&mut self, docid: i64, steps: &mut Steps)
+        ensures left { lists_left self.new ≡ passed docid (lists_left self.old) }
+        ensures kept { lists_kept self.new ≡ lists_kept self.old }
+        ensures step { steps.new.taken ≡ min (steps.old.taken + 1) (2 ^ 64 - 1) }
+    {
+        if self.is_at(docid, steps) {
+            self.go_on();
+        }
+    }
 }
 
 /// The least docid that is next in some list.
@@ -52,18 +83,19 @@ fn consider(
     alloc: Global,
     query: &Query,
     cursors: &mut [Cursor],
+    wanted: Wanted,
     steps: &mut Steps,
 ) -> Result<Considered, AllocError>
     requires { length cursors.old ≡ length (terms_in (tree_of query.now)) }
     ensures kept { map lists_kept cursors.new ≡ map lists_kept cursors.old }
     ensures considers { IfOk result (λ c. (documents : List Document) → StandsBefore (walk_at query.now cursors.old steps.old.taken) documents →
-        Considers (walk_at query.now cursors.old steps.old.taken) (walk_at query.now cursors.new steps.new.taken) c documents) }
+        Considers wanted (walk_at query.now cursors.old steps.old.taken) (walk_at query.now cursors.new steps.new.taken) c documents) }
     ensures passes { IfOk result (λ c. IsDocument c → sum_by length (map lists_left cursors.new) < sum_by length (map lists_left cursors.old)) }
 {
     let Some(docid) = least(cursors, steps) else {
         return Ok(Considered::NoDocument);
     };
-    let offsets = visit(alloc, query, cursors, docid, steps)?;
+    let offsets = visit(alloc, query, cursors, docid, wanted, steps)?;
     pass(cursors, docid, steps);
     match offsets {
         Some(offsets) => Ok(Considered::Found(Hit { docid, offsets })),
@@ -71,21 +103,22 @@ fn consider(
     }
 }
 
-/// The next document that the query accepts. The search then stands behind it.
+/// The next document that the query accepts, without offsets where they aren't wanted. The search then stands behind it.
 pub(crate) fn search(
     alloc: Global,
     query: &Query,
     cursors: &mut [Cursor],
+    wanted: Wanted,
     steps: &mut Steps,
 ) -> Result<Option<Hit>, AllocError>
     requires { length cursors.old ≡ length (terms_in (tree_of query.now)) }
     ensures kept { map lists_kept cursors.new ≡ map lists_kept cursors.old }
-    ensures walked { IfOk result (λ hit. (documents : List Document) → StandsBefore (walk_at query.now cursors.old steps.old.taken) documents →
-        Walked (walk_at query.now cursors.old steps.old.taken) (walk_at query.now cursors.new steps.new.taken) hit documents) }
+    ensures finds { IfOk result (λ hit. (documents : List Document) → StandsBefore (walk_at query.now cursors.old steps.old.taken) documents →
+        Finds wanted (walk_at query.now cursors.old steps.old.taken) (walk_at query.now cursors.new steps.new.taken) hit documents) }
     ensures passes { IfOk result (λ hit. IfSome hit (λ _. sum_by length (map lists_left cursors.new) < sum_by length (map lists_left cursors.old))) }
 {
     loop {
-        match consider(alloc, query, cursors, steps)? {
+        match consider(alloc, query, cursors, wanted, steps)? {
             Considered::NoDocument => return Ok(None),
             Considered::Found(hit) => return Ok(Some(hit)),
             Considered::Passed => {}

@@ -6,14 +6,13 @@ ghost use Rattle.ft_query.specs.Documents.{Posting, IsBefore, is_filled};
 ghost use Rattle.ft_query.specs.Occurs.{accepts, offsets_of};
 ghost use Rattle.ft_query.specs.Trees.{plain_term, plain_phrase, plain_link, tree_of, phrase, chain};
 ghost use Rattle.ft_query.specs.Work.{terms_in, width};
-ghost use Rattle.ft_query.specs.Visit.{among, followed, starts_of, marks_from, head_of, linked, link_marks, is_accepted, marks_of, numbered, plain_starts, plain_lists, listed_places, precedes, places_in, total, linked_cost, link_cost, visit_cost};
+ghost use Rattle.ft_query.specs.Visit.{among, followed, if_wanted, starts_of, marks_from, head_of, linked, link_marks, is_accepted, marks_of, numbered, plain_starts, plain_lists, listed_places, precedes, places_in, total, linked_cost, link_cost, visit_cost};
 
-use crate::lists::Place;
 use crate::query::{Chain, Link, Phrase, Query, QueryTerm};
 use crate::walk::Offset;
 use crate::walk::cursor::Cursor;
-use crate::walk::starts::{Starts, take_step};
-use crate::walk::steps::Steps;
+use crate::walk::matches::Steps;
+use crate::walk::places::{Places, Starts};
 use std::alloc::{AllocError, Global};
 
 // Of these occurrences the ones that this term follows after i positions, which has this list. A first term follows nothing.
@@ -22,13 +21,13 @@ fn follow_one(
     starts: &Starts,
     i: usize,
     term: &QueryTerm,
-    list: &[Place],
+    list: Places<'_>,
     steps: &mut Steps,
 ) -> Result<Starts, AllocError>
     ensures starts { IfOk result (λ s. s.places.items
-        ≡ (if term.now.first then [] else among i 0 starts.now.places.items list.now)) }
+        ≡ (if term.now.first then [] else among i 0 starts.now.places.items list.entry.places.now)) }
     ensures at_least { steps.old.taken ≤ steps.new.taken }
-    ensures at_most { steps.new.taken ≤ steps.old.taken + length starts.now.places.items + length list.now }
+    ensures at_most { steps.new.taken ≤ steps.old.taken + length starts.now.places.items + length list.entry.places.now }
 {
     if term.first {
         Ok(Starts::none(alloc))
@@ -42,7 +41,7 @@ fn follow(
     alloc: Global,
     first: Starts,
     terms: &[QueryTerm],
-    lists: &[&[Place]],
+    lists: &[Places<'_>],
     steps: &mut Steps,
 ) -> Result<Starts, AllocError>
     requires { length lists.now ≡ length terms.now }
@@ -63,7 +62,7 @@ fn follow(
 fn starts_of(
     alloc: Global,
     phrase: &Phrase,
-    lists: &[&[Place]],
+    lists: &[Places<'_>],
     steps: &mut Steps,
 ) -> Result<Starts, AllocError>
     requires { length lists.now ≡ vec_len phrase.now.terms }
@@ -77,25 +76,36 @@ fn starts_of(
     let Some((list, lists)) = lists.split_first() else {
         return Ok(Starts::none(alloc));
     };
-    let first = Starts::begin(alloc, list, phrase.filter, term.first, steps)?;
+    let first = Starts::begin(alloc, *list, phrase.filter, term.first, steps)?;
     follow(alloc, first, terms, lists, steps)
 }
 
-// The offsets so far, the number of the next term, and where memory comes from.
+/// What is asked of a document that is accepted: its docid alone, or also its offsets.
+#[derive(Clone, Copy, Debug, PartialEq, Eq)]
+pub(crate) enum Wanted {
+    Docids,
+    Offsets,
+}
+
+// What is asked, the offsets so far, the number of the next term, and where memory comes from. Where docids alone are asked for no
+// offsets are added.
 #[derive(Drop)]
 struct Found {
     alloc: Global,
+    wanted: Wanted,
     offsets: Vec<Offset>,
     next: usize,
 }
 
 // No offsets so far.
-fn no_offsets(alloc: Global) -> Found
+fn no_offsets(alloc: Global, wanted: Wanted) -> Found
+    ensures wanted { result.wanted ≡ wanted }
     ensures offsets { result.offsets.items ≡ [] }
     ensures next { result.next ≡ 0 }
 {
     Found {
         alloc,
+        wanted,
         offsets: Vec::new(alloc),
         next: 0,
     }
@@ -105,19 +115,20 @@ fn no_offsets(alloc: Global) -> Found
 fn mark_phrase(
     found: &mut Found,
     starts: &Starts,
-    lists: &[&[Place]],
+    lists: &[Places<'_>],
     steps: &mut Steps,
 ) -> Result<(), AllocError>
     requires { found.old.next + length lists.now < 2 ^ 64 }
     ensures offsets { OnOk result (found.new.offsets.items ≡ found.old.offsets.items
         ++ numbered found.old.next (marks_from 0 (plain_lists lists.now) starts.now.places.items)) }
+    ensures wanted { found.new.wanted ≡ found.old.wanted }
     ensures next { OnOk result (found.new.next ≡ found.old.next + length lists.now) }
     ensures at_least { steps.old.taken ≤ steps.new.taken }
     ensures at_most { steps.new.taken
         ≤ steps.old.taken + total (plain_lists lists.now) + length lists.now * length starts.now.places.items }
 {
     for (i, list) in lists.iter().enumerate() {
-        starts.mark(&mut found.offsets, found.next, i, list, steps)?;
+        starts.mark(&mut found.offsets, found.next, i, *list, steps)?;
         found.next += 1;
     }
     Ok(())
@@ -129,7 +140,7 @@ fn linked(
     alloc: Global,
     first: &Phrase,
     links: &[Link],
-    lists: &[&[Place]],
+    lists: &[Places<'_>],
     steps: &mut Steps,
 ) -> Result<(Starts, Vec<Starts>), AllocError>
     requires { length lists.now ≡ length (terms_in (chain (plain_phrase first.now) (map plain_link links.now))) }
@@ -161,7 +172,7 @@ fn mark_links(
     k: usize,
     starts: &Starts,
     links: &[Link],
-    lists: &[&[Place]],
+    lists: &[Places<'_>],
     all: &[Starts],
     steps: &mut Steps,
 ) -> Result<(), AllocError>
@@ -170,6 +181,7 @@ fn mark_links(
     requires fits { found.old.next + length lists.now < 2 ^ 64 }
     ensures offsets { OnOk result (found.new.offsets.items ≡ found.old.offsets.items
         ++ numbered found.old.next (link_marks k starts.now.places.items (map plain_link links.now) (plain_lists lists.now) (plain_starts all.now))) }
+    ensures wanted { found.new.wanted ≡ found.old.wanted }
     ensures next { OnOk result (found.new.next ≡ found.old.next + length lists.now) }
     ensures at_least { steps.old.taken ≤ steps.new.taken }
     ensures at_most { steps.new.taken
@@ -189,44 +201,53 @@ fn mark_links(
 }
 
 #[tactic(auto, using(crate::proofs::Marks::phrase_marks_count))]
-// Adds the offsets of a phrase, and says whether it occurs.
+// Adds the offsets of a phrase, if they are wanted, and says whether it occurs.
 fn visit_phrase(
     words: &Phrase,
-    lists: &[&[Place]],
+    lists: &[Places<'_>],
     found: &mut Found,
     steps: &mut Steps,
 ) -> Result<bool, AllocError>
     requires lists { length lists.now ≡ vec_len words.now.terms }
     requires fits { found.old.next + length lists.now < 2 ^ 64 }
     ensures accepted { IfOk result (λ b. b ≡ is_filled (starts_of (plain_phrase words.now) (plain_lists lists.now))) }
+    ensures wanted { found.new.wanted ≡ found.old.wanted }
     ensures offsets { OnOk result (found.new.offsets.items ≡ found.old.offsets.items
-        ++ numbered found.old.next (marks_from 0 (plain_lists lists.now) (starts_of (plain_phrase words.now) (plain_lists lists.now)))) }
-    ensures next { OnOk result (found.new.next ≡ found.old.next
-        + length (marks_from 0 (plain_lists lists.now) (starts_of (plain_phrase words.now) (plain_lists lists.now)))) }
+        ++ numbered found.old.next (if_wanted found.old.wanted
+        (marks_from 0 (plain_lists lists.now) (starts_of (plain_phrase words.now) (plain_lists lists.now))))) }
+    ensures next { OnOk result (found.new.next ≡ found.old.next + length (if_wanted found.old.wanted
+        (marks_from 0 (plain_lists lists.now) (starts_of (plain_phrase words.now) (plain_lists lists.now))))) }
     ensures room { OnOk result (found.new.next ≤ found.old.next + length lists.now) }
     ensures at_least { steps.old.taken ≤ steps.new.taken }
     ensures at_most { steps.new.taken + 1 ≤ steps.old.taken + visit_cost (phrase (plain_phrase words.now)) (plain_lists lists.now) }
 {
     let starts = starts_of(found.alloc, words, lists, steps)?;
-    mark_phrase(found, &starts, lists, steps)?;
-    Ok(starts.are_filled())
+    match found.wanted {
+        Wanted::Docids => Ok(starts.are_filled()),
+        Wanted::Offsets => {
+            mark_phrase(found, &starts, lists, steps)?;
+            Ok(starts.are_filled())
+        }
+    }
 }
 
 #[tactic(auto, using(crate::proofs::Marks::chain_marks_count))]
-// Adds the offsets of a chain, and says whether its phrases occur near one another.
+// Adds the offsets of a chain, if they are wanted, and says whether its phrases occur near one another.
 fn visit_chain(
     near: &Chain,
-    lists: &[&[Place]],
+    lists: &[Places<'_>],
     found: &mut Found,
     steps: &mut Steps,
 ) -> Result<bool, AllocError>
     requires lists { length lists.now ≡ length (terms_in (chain (plain_phrase near.now.first) (map plain_link near.now.links.items))) }
     requires fits { found.old.next + length lists.now < 2 ^ 64 }
     ensures accepted { IfOk result (λ b. b ≡ is_accepted (chain (plain_phrase near.now.first) (map plain_link near.now.links.items)) (plain_lists lists.now)) }
+    ensures wanted { found.new.wanted ≡ found.old.wanted }
     ensures offsets { OnOk result (found.new.offsets.items ≡ found.old.offsets.items
-        ++ numbered found.old.next (marks_of (chain (plain_phrase near.now.first) (map plain_link near.now.links.items)) (plain_lists lists.now))) }
-    ensures next { OnOk result (found.new.next ≡ found.old.next
-        + length (marks_of (chain (plain_phrase near.now.first) (map plain_link near.now.links.items)) (plain_lists lists.now))) }
+        ++ numbered found.old.next (if_wanted found.old.wanted
+        (marks_of (chain (plain_phrase near.now.first) (map plain_link near.now.links.items)) (plain_lists lists.now)))) }
+    ensures next { OnOk result (found.new.next ≡ found.old.next + length (if_wanted found.old.wanted
+        (marks_of (chain (plain_phrase near.now.first) (map plain_link near.now.links.items)) (plain_lists lists.now)))) }
     ensures room { OnOk result (found.new.next ≤ found.old.next + length lists.now) }
     ensures at_least { steps.old.taken ≤ steps.new.taken }
     ensures at_most { steps.new.taken + 1 ≤ steps.old.taken
@@ -234,12 +255,17 @@ fn visit_chain(
 {
     let links = near.links.as_slice();
     let (starts, mut all) = linked(found.alloc, &near.first, links, lists, steps)?;
-    all.reverse();
-    let size = near.first.terms.len();
-    let (own, lists) = lists.split_at(size);
-    mark_phrase(found, &starts, own, steps)?;
-    mark_links(found, size, &starts, links, lists, &all, steps)?;
-    Ok(starts.are_filled())
+    match found.wanted {
+        Wanted::Docids => Ok(starts.are_filled()),
+        Wanted::Offsets => {
+            all.reverse();
+            let size = near.first.terms.len();
+            let (own, lists) = lists.split_at(size);
+            mark_phrase(found, &starts, own, steps)?;
+            mark_links(found, size, &starts, links, lists, &all, steps)?;
+            Ok(starts.are_filled())
+        }
+    }
 }
 
 #[tactic(auto, using(crate::proofs::Marks::count_more))]
@@ -269,24 +295,27 @@ fn term_count(query: &Query) -> usize
     }
 }
 
-// Adds the offsets of a query or of a part of one, and says whether it accepts the document.
+// Adds the offsets of a query or of a part of one, if they are wanted, and says whether it accepts the document. Nothing is added
+// right of a NOT, which is visited only where its left side accepts.
 fn visit_part(
     query: &Query,
-    lists: &[&[Place]],
+    lists: &[Places<'_>],
     found: &mut Found,
     steps: &mut Steps,
 ) -> Result<bool, AllocError>
     requires lists { length lists.now ≡ length (terms_in (tree_of query.now)) }
     requires fits { found.old.next + length lists.now < 2 ^ 64 }
     ensures accepted { IfOk result (λ b. b ≡ is_accepted (tree_of query.now) (plain_lists lists.now)) }
+    ensures wanted { found.new.wanted ≡ found.old.wanted }
     ensures offsets { OnOk result (found.new.offsets.items ≡ found.old.offsets.items
-        ++ numbered found.old.next (marks_of (tree_of query.now) (plain_lists lists.now))) }
-    ensures next { OnOk result (found.new.next ≡ found.old.next + length (marks_of (tree_of query.now) (plain_lists lists.now))) }
+        ++ numbered found.old.next (if_wanted found.old.wanted (marks_of (tree_of query.now) (plain_lists lists.now)))) }
+    ensures next { OnOk result (found.new.next
+        ≡ found.old.next + length (if_wanted found.old.wanted (marks_of (tree_of query.now) (plain_lists lists.now)))) }
     ensures room { OnOk result (found.new.next ≤ found.old.next + length lists.now) }
     ensures at_least { min (steps.old.taken + 1) (2 ^ 64 - 1) ≤ steps.new.taken }
     ensures at_most { steps.new.taken ≤ steps.old.taken + visit_cost (tree_of query.now) (plain_lists lists.now) }
 {
-    take_step(steps);
+    steps.take();
     match query {
         Query::Phrase(phrase) => visit_phrase(phrase, lists, found, steps),
         Query::Near(near) => visit_chain(near, lists, found, steps),
@@ -304,10 +333,12 @@ fn visit_part(
         }
         Query::Not(left, right) => {
             let (own, rest) = lists.split_at(term_count(left));
-            let is_left = visit_part(left, own, found, steps)?;
-            let mut unmarked = no_offsets(found.alloc);
+            if !visit_part(left, own, found, steps)? {
+                return Ok(false);
+            }
+            let mut unmarked = no_offsets(found.alloc, Wanted::Docids);
             let is_right = visit_part(right, rest, &mut unmarked, steps)?;
-            Ok(is_left && !is_right)
+            Ok(!is_right)
         }
     }
 }
@@ -320,16 +351,20 @@ fn sort_offsets(offsets: &mut Vec<Offset>)
     offsets.sort_unstable_by_key(|offset| (offset.column, offset.place, offset.term));
 }
 
-// The places of a term in this document.
-fn places_of<'a>(cursor: &'a Cursor, docid: i64, steps: &mut Steps) -> &'a [Place]
-    ensures places { result.now ≡ places_at docid (lists_left cursor.now) }
-    ensures step { steps.new.taken ≡ min (steps.old.taken + 1) (2 ^ 64 - 1) }
-    ensures at_least { steps.old.taken ≤ steps.new.taken }
-    ensures at_most { steps.new.taken ≤ steps.old.taken + 1 }
-{
-    // Read, so that the count is known to be no more than its type holds.
-    let _before = steps.taken;
-    cursor.places(docid, steps)
+impl Cursor {
+    // The places in this document, if it is the next one here.
+    fn places(&self, docid: i64, steps: &mut Steps) -> Places<'_>
+        ensures places { result.places.now ≡ places_at docid (lists_left self.now) }
+        ensures step { steps.new.taken ≡ min (steps.old.taken + 1) (2 ^ 64 - 1) }
+        ensures at_least { steps.old.taken ≤ steps.new.taken }
+        ensures at_most { steps.new.taken ≤ steps.old.taken + 1 }
+    {
+        if self.is_at(docid, steps) {
+            self.here()
+        } else {
+            Places::new(&[])
+        }
+    }
 }
 
 // The places of each term in this document.
@@ -338,7 +373,7 @@ fn lists_of<'a>(
     cursors: &'a [Cursor],
     docid: i64,
     steps: &mut Steps,
-) -> Result<Vec<&'a [Place]>, AllocError>
+) -> Result<Vec<Places<'a>>, AllocError>
     ensures lists { IfOk result (λ v. plain_lists v.items ≡ places_in docid cursors.now) }
     ensures looked { OnErr result (min (steps.old.taken + 1) (2 ^ 64 - 1) ≤ steps.new.taken) }
     ensures at_least { steps.old.taken ≤ steps.new.taken }
@@ -346,30 +381,32 @@ fn lists_of<'a>(
 {
     let mut lists = Vec::new(alloc);
     for cursor in cursors {
-        lists.push(places_of(cursor, docid, steps))?;
+        lists.push(cursor.places(docid, steps))?;
     }
     Ok(lists)
 }
 
-/// The offsets of a document, if the query accepts it. The cursors are those of the query's terms, in the text's order.
+/// The offsets of a document, if the query accepts it: none where they aren't wanted. The cursors are those of the query's terms, in
+/// the text's order.
 pub(crate) fn visit(
     alloc: Global,
     query: &Query,
     cursors: &[Cursor],
     docid: i64,
+    wanted: Wanted,
     steps: &mut Steps,
 ) -> Result<Option<Vec<Offset>>, AllocError>
     requires { length cursors.now ≡ length (terms_in (tree_of query.now)) }
     ensures offsets { IfOk result (λ offsets. (postings : List Posting) → AllPairs IsBefore postings →
         map (λ c. places_at docid (lists_left c)) cursors.now ≡ map (listed_places postings) (terms_in (tree_of query.now)) →
         option_map (λ o. o.items) offsets
-        ≡ (if accepts postings (tree_of query.now) then Some (offsets_of postings (tree_of query.now)) else None)) }
+        ≡ (if accepts postings (tree_of query.now) then Some (if_wanted wanted (offsets_of postings (tree_of query.now))) else None)) }
     ensures at_least { min (steps.old.taken + 1) (2 ^ 64 - 1) ≤ steps.new.taken }
     ensures at_most { steps.new.taken ≤ steps.old.taken
         + 12 * (sum_by (λ c. length (places_at docid (lists_left c))) cursors.now) + 3 * width (tree_of query.now) }
 {
     let lists = lists_of(alloc, cursors, docid, steps)?;
-    let mut found = no_offsets(alloc);
+    let mut found = no_offsets(alloc, wanted);
     if !visit_part(query, &lists, &mut found, steps)? {
         return Ok(None);
     }

@@ -1,7 +1,6 @@
 //! Many inputs of statements that are drawn by a generator: lists of documents answer them as full-text tables do.
 
 use super::worked::{answers_of, plain_answers};
-use crate::empty::InMemory;
 use std::alloc::{AllocError, Global};
 use std::test::Fail;
 
@@ -79,7 +78,7 @@ fn drawn_inputs_are_answered_alike(rt: HostRuntime) -> Result<(), Fail> {
     let alloc = rt.alloc();
     for first in 1..40 {
         let input = input_from(alloc, first, 30)?;
-        let (seen, all) = answers_of::<InMemory>(alloc, input.as_str())?;
+        let (seen, all) = answers_of(alloc, input.as_str())?;
         seen.is_like(&rt, &plain_answers(alloc, input.as_str())?);
         assert!(&rt; all);
     }

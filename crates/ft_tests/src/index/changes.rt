@@ -1,22 +1,132 @@
 //! The rows that commands leave, and those that they read.
 
-use super::taken;
 use super::worked::begun;
-use crate::empty::{Begins, InMemory};
+use super::{answer, taken};
+use crate::empty::{Begins, Trial, tried};
 use crate::store::all_read;
-use ft_index::{Command, Fault, Filter, FullText};
-use ft_store::Store;
+use ft_index::{Command, Fault, Filter, FullText, Reply};
+use ft_store::{RowChange, Store};
 use sqlite::Alter;
 use std::alloc::{AllocError, Global};
 use std::test::Fail;
+
+// A command on the table `d`.
+#[derive(Clone, Copy)]
+enum Order {
+    InsertNone,
+    DeleteFirst,
+    DeleteAll,
+    Check,
+    Drop { if_there: bool },
+}
+
+fn command_of(alloc: Global, order: Order) -> Result<Command, AllocError> {
+    let table = "d".to_string(alloc)?;
+    match order {
+        Order::InsertNone => Ok(Command::Insert {
+            table,
+            columns: None,
+            rows: Vec::new(alloc),
+        }),
+        Order::DeleteFirst => Ok(Command::Delete {
+            table,
+            filter: Filter::Docid(1),
+        }),
+        Order::DeleteAll => Ok(Command::Delete {
+            table,
+            filter: Filter::All,
+        }),
+        Order::Check => Ok(Command::Check { table }),
+        Order::Drop { if_there } => Ok(Command::Drop { table, if_there }),
+    }
+}
+
+// What the order is answered.
+fn answered<S: Alter>(
+    tables: &mut FullText<S>,
+    alloc: Global,
+    order: Order,
+) -> Result<Result<Reply, Fault>, Fail> {
+    let command = command_of(alloc, order)?;
+    Ok(answer(tables, &command))
+}
+
+// The changes that the plan of the order names.
+fn planned<S: Alter>(
+    tables: &mut FullText<S>,
+    alloc: Global,
+    order: Order,
+) -> Result<Vec<RowChange>, Fail> {
+    let command = command_of(alloc, order)?;
+    Ok(tables.plan(&command)?)
+}
+
+// How a store goes on.
+#[derive(Clone, Copy)]
+enum Deed {
+    Nothing,
+    Execute(Order),
+    // The changes are made that its plan names.
+    Plan(Order),
+}
+
+fn after_order<S: Alter + Drop>(
+    alloc: Global,
+    store: Store<S>,
+    order: Order,
+) -> Result<Store<S>, Fail> {
+    let mut tables = taken(alloc, store)?;
+    answered(&mut tables, alloc, order)??;
+    Ok(tables.into_store())
+}
+
+fn after_plan<S: Alter + Drop>(
+    alloc: Global,
+    store: Store<S>,
+    order: Order,
+) -> Result<Store<S>, Fail> {
+    let mut tables = taken(alloc, store)?;
+    let changes = planned(&mut tables, alloc, order)?;
+    changed(tables.into_store(), changes)
+}
+
+fn changed<S: Alter + Drop>(store: Store<S>, changes: Vec<RowChange>) -> Result<Store<S>, Fail> {
+    let mut store = store;
+    store.change(changes.as_slice())?;
+    Ok(store)
+}
+
+fn gone_on<S: Alter + Drop>(alloc: Global, store: Store<S>, deed: Deed) -> Result<Store<S>, Fail> {
+    match deed {
+        Deed::Nothing => Ok(store),
+        Deed::Execute(order) => after_order(alloc, store, order),
+        Deed::Plan(order) => after_plan(alloc, store, order),
+    }
+}
 
 fn rows_of<S: Alter + Drop>(alloc: Global, store: Store<S>) -> Result<String, Fail> {
     let mut store = store;
     Ok(all_read(&mut store, alloc)?)
 }
 
-fn rows_after<S: Begins>(alloc: Global, input: &str) -> Result<String, Fail> {
-    rows_of(alloc, begun::<S>(alloc, input)?)
+// The rows that an input leaves, and then a deed.
+#[derive(Clone, Copy)]
+struct After<'a> {
+    input: &'a str,
+    deed: Deed,
+}
+
+impl<'a> Trial for After<'a> {
+    type Found = String;
+
+    fn over<S: Begins>(self, alloc: Global) -> Result<String, Fail> {
+        let store = begun::<S>(alloc, self.input)?;
+        rows_of(alloc, gone_on(alloc, store, self.deed)?)
+    }
+}
+
+fn rows_after(alloc: Global, input: &str, deed: Deed) -> Result<String, Fail> {
+    tried(alloc, After { input, deed })
 }
 
 // Inputs with the tables, cells, entries and sizes that they leave.
@@ -49,44 +159,18 @@ const CHANGES: [(&str, &str); 4] = [
 #[test]
 fn commands_leave_these_rows(rt: HostRuntime) -> Result<(), Fail> {
     for (input, rows) in CHANGES {
-        assert_eq!(&rt; rows_after::<InMemory>(rt.alloc(), input)?.as_str(), rows);
+        let found = rows_after(rt.alloc(), input, Deed::Nothing)?;
+        assert_eq!(&rt; found.as_str(), rows);
     }
     Ok(())
 }
 
-// The name `d` of a table.
-fn d(alloc: Global) -> Result<String, AllocError> {
-    "d".to_string(alloc)
-}
-
-// The rows after a command is executed on a table that the input makes.
-fn executed<S: Begins>(alloc: Global, input: &str, command: &Command) -> Result<String, Fail> {
-    let mut tables = taken(alloc, begun::<S>(alloc, input)?)?;
-    tables.execute(command)?;
-    rows_of(alloc, tables.into_store())
-}
-
 #[test]
 fn an_insert_of_no_rows_does_nothing(rt: HostRuntime) -> Result<(), Fail> {
-    let alloc = rt.alloc();
-    let insert = Command::Insert {
-        table: d(alloc)?,
-        columns: None,
-        rows: Vec::new(alloc),
-    };
     let input = "CREATE VIRTUAL TABLE d USING fts4(x);\n";
-    let rows = executed::<InMemory>(alloc, input, &insert)?;
-    assert_eq!(&rt; rows.as_str(), "1 d 1 0;|||");
+    let found = rows_after(rt.alloc(), input, Deed::Execute(Order::InsertNone))?;
+    assert_eq!(&rt; found.as_str(), "1 d 1 0;|||");
     Ok(())
-}
-
-// The rows after the changes are made that the plan of a command names.
-fn planned<S: Begins>(alloc: Global, input: &str, command: &Command) -> Result<String, Fail> {
-    let mut tables = taken(alloc, begun::<S>(alloc, input)?)?;
-    let changes = tables.plan(command)?;
-    let mut store = tables.into_store();
-    store.change(changes.as_slice())?;
-    rows_of(alloc, store)
 }
 
 // Inputs with the rows that are left by the plan that deletes the first document.
@@ -105,49 +189,38 @@ const DELETES: [(&str, &str); 2] = [
 
 #[test]
 fn a_plan_is_what_is_done(rt: HostRuntime) -> Result<(), Fail> {
-    let alloc = rt.alloc();
-    let delete = Command::Delete {
-        table: d(alloc)?,
-        filter: Filter::Docid(1),
-    };
     for (input, rows) in DELETES {
-        assert_eq!(&rt; planned::<InMemory>(alloc, input, &delete)?.as_str(), rows);
+        let found = rows_after(rt.alloc(), input, Deed::Plan(Order::DeleteFirst))?;
+        assert_eq!(&rt; found.as_str(), rows);
     }
     Ok(())
 }
 
-// Whether a command is refused since its table isn't there.
-fn is_missed<S: Alter>(tables: &mut FullText<S>, command: &Command) -> bool {
-    matches!(tables.execute(command), Err(Fault::NoSuchTable))
-}
+// What an order is answered where no table is. A shell never gives such a command: it takes it for a plain statement.
+#[derive(Clone, Copy)]
+struct Missing(Order);
 
-// Whether commands on a table that isn't there are refused so. A shell never gives such a command: it takes it for a plain statement.
-fn are_missed<S: Begins>(alloc: Global) -> Result<bool, Fail> {
-    let mut tables = taken(alloc, S::store(alloc)?)?;
-    let dropped = Command::Drop {
-        table: d(alloc)?,
-        if_there: false,
-    };
-    let deleted = Command::Delete {
-        table: d(alloc)?,
-        filter: Filter::All,
-    };
-    let checked = Command::Check { table: d(alloc)? };
-    let spared = Command::Drop {
-        table: d(alloc)?,
-        if_there: true,
-    };
-    Ok(
-        is_missed(&mut tables, &dropped)
-            && is_missed(&mut tables, &deleted)
-            && is_missed(&mut tables, &checked)
-            && tables.execute(&spared).is_ok(),
-    )
+impl Trial for Missing {
+    type Found = Result<Reply, Fault>;
+
+    fn over<S: Begins>(self, alloc: Global) -> Result<Result<Reply, Fault>, Fail> {
+        let mut tables = taken(alloc, S::store(alloc)?)?;
+        answered(&mut tables, alloc, self.0)
+    }
 }
 
 #[test]
 fn missing_tables_are_told(rt: HostRuntime) -> Result<(), Fail> {
-    assert!(&rt; are_missed::<InMemory>(rt.alloc())?);
+    for order in [
+        Order::Drop { if_there: false },
+        Order::DeleteAll,
+        Order::Check,
+    ] {
+        let answer = tried(rt.alloc(), Missing(order))?;
+        assert!(&rt; matches!(&answer, Err(Fault::NoSuchTable)));
+    }
+    let spared = tried(rt.alloc(), Missing(Order::Drop { if_there: true }))?;
+    assert!(&rt; spared.is_ok());
     Ok(())
 }
 
@@ -169,22 +242,33 @@ fn thousand_and(alloc: Global, last: &str) -> Result<String, AllocError> {
     Ok(input)
 }
 
-// How many rows the store was read for in all.
-fn rows_read_after<S: Begins>(alloc: Global, last: &str) -> Result<u64, Fail> {
+// How many rows the store was read for in all, where an input is executed.
+#[derive(Clone, Copy)]
+struct RowsRead<'a>(&'a str);
+
+impl<'a> Trial for RowsRead<'a> {
+    type Found = u64;
+
+    fn over<S: Begins>(self, alloc: Global) -> Result<u64, Fail> {
+        Ok(begun::<S>(alloc, self.0)?.rows_read())
+    }
+}
+
+fn rows_read_after(alloc: Global, last: &str) -> Result<u64, Fail> {
     let input = thousand_and(alloc, last)?;
-    Ok(begun::<S>(alloc, input.as_str())?.rows_read())
+    tried(alloc, RowsRead(input.as_str()))
 }
 
 #[test]
 fn a_match_reads_what_it_answers(rt: HostRuntime) -> Result<(), Fail> {
     let alloc = rt.alloc();
-    let before = rows_read_after::<InMemory>(alloc, "")?;
+    let before = rows_read_after(alloc, "")?;
     for (last, more) in [
         ("SELECT docid FROM d WHERE d MATCH 'rare';\n", 1),
         ("SELECT count(*) FROM d WHERE d MATCH 'rare';\n", 1),
         ("SELECT docid, x FROM d WHERE d MATCH 'rare';\n", 2),
     ] {
-        let after = rows_read_after::<InMemory>(alloc, last)?;
+        let after = rows_read_after(alloc, last)?;
         assert_eq!(&rt; after.checked_sub(before), Some(more));
     }
     Ok(())

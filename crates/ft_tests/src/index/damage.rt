@@ -1,10 +1,13 @@
 //! Which tables of a store are sound, and what a damaged one answers.
 
-use super::marks;
 use super::worked::{Seen, answers_over, made};
-use crate::empty::{Begins, InMemory};
+use super::{are_sound, taken};
+use crate::empty::{Begins, Trial, tried};
 use crate::session::Row;
 use crate::store::{all_read, begun, with_rows};
+use ft_index::TableInfo;
+use ft_store::Store;
+use sqlite::Alter;
 use std::alloc::Global;
 use std::test::Fail;
 
@@ -21,13 +24,33 @@ const NONE: &str = "DELETE FROM noted";
 // A list of places of a table that isn't there.
 const STRAY: &str = "INSERT INTO posting VALUES (1, 'red', 1, x'00000003')";
 
+// How many tables there are, and whether each has the mark of a sound one.
+fn marked(known: &[TableInfo]) -> (usize, bool) {
+    (known.len(), known.iter().all(|table| table.sound))
+}
+
+// How many tables there are, whether all are marked as sound, and whether all are.
+fn marks<S: Alter + Drop>(alloc: Global, store: Store<S>) -> Result<(usize, bool, bool), Fail> {
+    let mut tables = taken(alloc, store)?;
+    let all = are_sound(&mut tables)?;
+    let (count, mark) = marked(tables.tables());
+    Ok((count, mark, all))
+}
+
 // The marks of a store of these rows after these statements.
-fn marks_after<S: Begins>(
-    alloc: Global,
-    rows: &str,
-    texts: &str,
-) -> Result<(usize, bool, bool), Fail> {
-    marks(alloc, with_rows(alloc, begun::<S>(alloc, rows)?, texts)?)
+#[derive(Clone, Copy)]
+struct Changed<'a> {
+    rows: &'a str,
+    texts: &'a str,
+}
+
+impl<'a> Trial for Changed<'a> {
+    type Found = (usize, bool, bool);
+
+    fn over<S: Begins>(self, alloc: Global) -> Result<(usize, bool, bool), Fail> {
+        let store = begun::<S>(alloc, self.rows)?;
+        marks(alloc, with_rows(alloc, store, self.texts)?)
+    }
 }
 
 // Rows, statements behind them, how many tables there are then, and whether all are sound.
@@ -58,24 +81,38 @@ const MARKS: [(&str, &str, usize, bool); 11] = [
 #[test]
 fn tables_are_marked(rt: HostRuntime) -> Result<(), Fail> {
     for (rows, texts, count, sound) in MARKS {
-        let seen = marks_after::<InMemory>(rt.alloc(), rows, texts)?;
-        assert_eq!(&rt; seen, (count, sound, sound), "{texts}");
+        let found = tried(rt.alloc(), Changed { rows, texts })?;
+        assert_eq!(&rt; found, (count, sound, sound), "{texts}");
     }
     Ok(())
 }
 
-// What is read of all rows where a table is made in a store of these rows.
-fn made_beside<S: Begins>(alloc: Global, rows: &str) -> Result<String, Fail> {
-    let store = begun::<S>(alloc, rows)?;
-    let mut store = made(alloc, store, "CREATE VIRTUAL TABLE d USING fts4(x);\n")?;
+fn rows_of<S: Alter + Drop>(alloc: Global, store: Store<S>) -> Result<String, Fail> {
+    let mut store = store;
     Ok(all_read(&mut store, alloc)?)
+}
+
+// What is read of all rows where a table is made in a store of these rows.
+#[derive(Clone, Copy)]
+struct Beside<'a>(&'a str);
+
+impl<'a> Trial for Beside<'a> {
+    type Found = String;
+
+    fn over<S: Begins>(self, alloc: Global) -> Result<String, Fail> {
+        let store = begun::<S>(alloc, self.0)?;
+        rows_of(
+            alloc,
+            made(alloc, store, "CREATE VIRTUAL TABLE d USING fts4(x);\n")?,
+        )
+    }
 }
 
 #[test]
 fn no_row_of_a_table_waits_for_it(rt: HostRuntime) -> Result<(), Fail> {
     for rows in [NONE, STRAY] {
-        let seen = made_beside::<InMemory>(rt.alloc(), rows)?;
-        assert_eq!(&rt; seen.as_str(), "1 d 1 0;|||", "{rows}");
+        let found = tried(rt.alloc(), Beside(rows))?;
+        assert_eq!(&rt; found.as_str(), "1 d 1 0;|||", "{rows}");
     }
     Ok(())
 }
@@ -95,14 +132,20 @@ const BOTH: &str = "CREATE VIRTUAL TABLE d USING fts4(x);\n\
     INSERT INTO e VALUES('red');\n";
 
 // What is answered to the input once the store that another input made was changed so, and whether all tables are sound then.
-fn answers_after<S: Begins>(
-    alloc: Global,
-    first: &str,
-    damage: &str,
-    input: &str,
-) -> Result<(Seen, bool), Fail> {
-    let store = made(alloc, S::store(alloc)?, first)?;
-    answers_over(alloc, with_rows(alloc, store, damage)?, input)
+#[derive(Clone, Copy)]
+struct Damaged<'a> {
+    first: &'a str,
+    damage: &'a str,
+    input: &'a str,
+}
+
+impl<'a> Trial for Damaged<'a> {
+    type Found = (Seen, bool);
+
+    fn over<S: Begins>(self, alloc: Global) -> Result<(Seen, bool), Fail> {
+        let store = made(alloc, S::store(alloc)?, self.first)?;
+        answers_over(alloc, with_rows(alloc, store, self.damage)?, self.input)
+    }
 }
 
 // What an index that isn't that of the documents answers, until it is made again.
@@ -228,7 +271,12 @@ const DAMAGES: [(&str, &str, Row, bool); 13] = [
 fn damage_is_told_and_mended(rt: HostRuntime) -> Result<(), Fail> {
     let alloc = rt.alloc();
     for (first, damage, (input, out, err), is_sound) in DAMAGES {
-        let (seen, all) = answers_after::<InMemory>(alloc, first, damage, input)?;
+        let trial = Damaged {
+            first,
+            damage,
+            input,
+        };
+        let (seen, all) = tried(alloc, trial)?;
         seen.is(&rt, out, err);
         assert_eq!(&rt; all, is_sound, "{damage}");
     }

@@ -1,12 +1,14 @@
 //! Stops at each call of a disk. The two files that are left are taken again: each table is sound, and all is as before the command or
 //! all as after it, and as after it where it was answered.
 
-use super::taken;
 use super::worked::are_done;
+use super::{are_sound, taken};
+use crate::empty::number;
+use crate::store::adopted;
 use ft_index::FullText;
 use ft_store::Store;
 use ram_disk::ram_options;
-use sqlite::{Alter, Connection, FileStore, Files, Options};
+use sqlite::{Alter, Connection, Files, Options};
 use sqlite_disk::{Crash, Disk, Fuse, Memory};
 use std::alloc::{AllocError, Global};
 use std::process::Abort;
@@ -48,17 +50,41 @@ fn options() -> Options {
     options
 }
 
-// The database in files, or the files where it isn't opened.
-fn opened<D: Disk + Drop>(
+// What is done with a database, whatever it stands on.
+trait Work {
+    // What is found by it.
+    type Found;
+
+    fn over<S: Alter + Drop>(
+        self,
+        alloc: Global,
+        conn: Connection<S>,
+    ) -> Result<(Self::Found, Connection<S>), Fail>;
+}
+
+// What is found by work on the database in files, and what is left of them. Nothing is where it isn't opened.
+fn worked<W: Work + Copy>(
     alloc: Global,
-    files: Files<D>,
-) -> Result<Connection<FileStore<D>>, Files<D>> {
+    files: Disks,
+    work: W,
+) -> Result<(Option<W::Found>, Disks), Fail> {
     if !files.may_be_used() {
-        return Err(files);
+        return Ok((None, files));
     }
     match Connection::open_files(alloc, files, options()) {
-        Ok(conn) => Ok(conn),
-        Err((_, left)) => Err(left.into_files()),
+        Ok(conn) => {
+            let (found, conn) = work.over(alloc, conn)?;
+            Ok((Some(found), conn.into_store().close()))
+        }
+        Err((_, left)) => Ok((None, left.into_files())),
+    }
+}
+
+// What has to be found.
+fn opened<F>(found: Option<F>) -> Result<F, Fail> {
+    match found {
+        Some(found) => Ok(found),
+        None => Err(Fail::new("not opened")),
     }
 }
 
@@ -105,19 +131,22 @@ fn done_over<S: Alter + Drop>(
     }
 }
 
-// Whether a deed is done on files, and what is left of them.
-fn ran<D: Disk + Drop>(
-    alloc: Global,
-    files: Files<D>,
-    deed: Deed,
-) -> Result<(bool, Files<D>), Fail> {
-    match opened(alloc, files) {
-        Ok(conn) => {
-            let (done, conn) = done_over(alloc, conn, deed)?;
-            Ok((done, conn.into_store().close()))
-        }
-        Err(files) => Ok((false, files)),
+impl Work for Deed {
+    type Found = bool;
+
+    fn over<S: Alter + Drop>(
+        self,
+        alloc: Global,
+        conn: Connection<S>,
+    ) -> Result<(bool, Connection<S>), Fail> {
+        done_over(alloc, conn, self)
     }
+}
+
+// Whether a deed is done on files, and what is left of them.
+fn ran(alloc: Global, files: Disks, deed: Deed) -> Result<(bool, Disks), Fail> {
+    let (done, left) = worked(alloc, files, deed)?;
+    Ok((done == Some(true), left))
 }
 
 fn image_of(alloc: Global, files: &Disks) -> Result<Image, AllocError> {
@@ -127,63 +156,79 @@ fn image_of(alloc: Global, files: &Disks) -> Result<Image, AllocError> {
     })
 }
 
-// The database in files, which is opened.
-fn reopened<D: Disk + Drop>(
-    alloc: Global,
-    files: Files<D>,
-) -> Result<Connection<FileStore<D>>, Fail> {
-    match opened(alloc, files) {
-        Ok(conn) => Ok(conn),
-        Err(_) => Err(Fail::new("not opened")),
+// Statements of SQL.
+#[derive(Clone, Copy)]
+struct Texts<'a>(&'a str);
+
+impl<'a> Work for Texts<'a> {
+    type Found = ();
+
+    fn over<S: Alter + Drop>(
+        self,
+        _: Global,
+        conn: Connection<S>,
+    ) -> Result<((), Connection<S>), Fail> {
+        let mut conn = conn;
+        conn.execute_batch(self.0)?;
+        Ok(((), conn))
     }
 }
 
-// What statements of SQL leave of files.
-fn after<D: Disk + Drop>(alloc: Global, files: Files<D>, texts: &str) -> Result<Files<D>, Fail> {
-    let mut conn = reopened(alloc, files)?;
-    conn.execute_batch(texts)?;
-    Ok(conn.into_store().close())
-}
-
+// What statements leave of files.
 fn altered(alloc: Global, image: &Image, texts: &str) -> Result<Image, Fail> {
-    let left = after(alloc, disks_of(alloc, image, NEVER, NEVER)?, texts)?;
+    let (found, left) = worked(alloc, disks_of(alloc, image, NEVER, NEVER)?, Texts(texts))?;
+    opened(found)?;
     Ok(image_of(alloc, &left)?)
 }
 
 // The version and all rows of a store, each of whose tables has to be sound.
-fn seen(alloc: Global, image: &Image) -> Result<String, Fail> {
-    seen_over(alloc, disks_of(alloc, image, NEVER, NEVER)?)
+#[derive(Clone, Copy)]
+struct Sight;
+
+impl Work for Sight {
+    type Found = String;
+
+    fn over<S: Alter + Drop>(
+        self,
+        alloc: Global,
+        conn: Connection<S>,
+    ) -> Result<(String, Connection<S>), Fail> {
+        let mut conn = conn;
+        let version = number(&mut conn, "SELECT version FROM meta")?;
+        seen_in(alloc, sound(alloc, adopted(alloc, conn)?)?, version)
+    }
 }
 
-fn seen_over<D: Disk + Drop>(alloc: Global, files: Files<D>) -> Result<String, Fail> {
-    seen_in(alloc, reopened(alloc, files)?)
-}
-
-fn seen_in<S: Alter + Drop>(alloc: Global, conn: Connection<S>) -> Result<String, Fail> {
-    let mut conn = conn;
-    let version: i64 = conn.query_row("SELECT version FROM meta", &[])?.get(0)?;
-    let rows = sound_rows(alloc, conn)?;
-    Ok(format!(in alloc; "{version} {rows}")?)
-}
-
-fn sound_rows<S: Alter + Drop>(alloc: Global, conn: Connection<S>) -> Result<String, Fail> {
-    let Ok(store) = Store::adopt(alloc, conn) else {
-        return Err(Fail::new("not a store"));
-    };
+// A store, each of whose tables has to be sound.
+fn sound<S: Alter + Drop>(alloc: Global, store: Store<S>) -> Result<Store<S>, Fail> {
     let mut tables = taken(alloc, store)?;
-    if !tables.check_all()? {
+    if !are_sound(&mut tables)? {
         return Err(Fail::new("unsound"));
     }
-    rows_of(alloc, tables.into_store())
+    Ok(tables.into_store())
 }
 
-fn rows_of<S: Alter + Drop>(alloc: Global, store: Store<S>) -> Result<String, Fail> {
+fn seen_in<S: Alter + Drop>(
+    alloc: Global,
+    store: Store<S>,
+    version: i64,
+) -> Result<(String, Connection<S>), Fail> {
     let mut store = store;
-    let mut all = String::new(alloc);
+    let all = rows_of(alloc, &mut store, version)?;
+    Ok((all, store.into_connection()))
+}
+
+fn seen(alloc: Global, image: &Image) -> Result<String, Fail> {
+    let disks = disks_of(alloc, image, NEVER, NEVER)?;
+    opened(worked(alloc, disks, Sight)?.0)
+}
+
+fn rows_of<S: Alter>(alloc: Global, store: &mut Store<S>, version: i64) -> Result<String, Fail> {
+    let mut all = format!(in alloc; "{version} ")?;
     write!(all, "{:?}", store.noted()?)?;
     for table in store.tables()? {
         write!(all, "{table:?}")?;
-        write_rows(&mut all, &mut store, table.id)?;
+        write_rows(&mut all, store, table.id)?;
     }
     Ok(all)
 }

@@ -1,7 +1,7 @@
 //! Worked inputs with each statement as a command: on full-text tables over a store, and on lists of documents.
 
-use super::{commands, queries, taken};
-use crate::empty::{Begins, InMemory};
+use super::{answer, are_sound, commands, queries, taken};
+use crate::empty::{Begins, Trial, tried};
 use crate::session::Row;
 use ft_index::{Command, Fault, FullText, Reply, TableInfo};
 use ft_lists::ListTables;
@@ -87,7 +87,7 @@ fn run_line<S: Alter>(
     seen: &mut Seen,
 ) -> Result<(), Fail> {
     match command_of(alloc, text, tables.tables())? {
-        Some(command) => seen.show(line, tables.execute(&command)),
+        Some(command) => seen.show(line, answer(tables, &command)),
         None => seen.tell(line, statement_text(StatementFault::Syntax)),
     }
 }
@@ -137,7 +137,7 @@ pub(crate) fn answers_over<S: Alter + Drop>(
 ) -> Result<(Seen, bool), Fail> {
     let mut tables = taken(alloc, store)?;
     let seen = answers(alloc, &mut tables, input)?;
-    Ok((seen, tables.check_all()?))
+    Ok((seen, are_sound(&mut tables)?))
 }
 
 /// Whether all statements of an input are executed.
@@ -167,15 +167,27 @@ pub(crate) fn begun<S: Begins>(alloc: Global, input: &str) -> Result<Store<S>, F
     made(alloc, S::store(alloc)?, input)
 }
 
+// An input to the tables of an empty store.
+#[derive(Clone, Copy)]
+struct Input<'a>(&'a str);
+
+impl<'a> Trial for Input<'a> {
+    type Found = (Seen, bool);
+
+    fn over<S: Begins>(self, alloc: Global) -> Result<(Seen, bool), Fail> {
+        answers_over(alloc, S::store(alloc)?, self.0)
+    }
+}
+
 /// What the tables of an empty store answer, and whether all are sound then.
-pub(crate) fn answers_of<S: Begins>(alloc: Global, input: &str) -> Result<(Seen, bool), Fail> {
-    answers_over(alloc, S::store(alloc)?, input)
+pub(crate) fn answers_of(alloc: Global, input: &str) -> Result<(Seen, bool), Fail> {
+    tried(alloc, Input(input))
 }
 
 // A store in memory and lists of documents answer these inputs so.
 fn all_hold(rt: &impl Abort, alloc: Global, rows: &[Row]) -> Result<(), Fail> {
     for (input, out, err) in rows {
-        let (seen, all) = answers_of::<InMemory>(alloc, input)?;
+        let (seen, all) = answers_of(alloc, input)?;
         seen.is(rt, out, err);
         assert!(rt; all);
         plain_answers(alloc, input)?.is(rt, out, err);

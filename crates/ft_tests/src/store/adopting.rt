@@ -1,35 +1,44 @@
 //! Databases that are taken as stores, and those that aren't.
 
-use super::{adopted, cells, done, put_text, table_d};
-use crate::empty::{Begins, InMemory};
+use super::{Step, adopted, cells, go, with_rows};
+use crate::empty::{Begins, Trial, number, tried};
 use ft_store::{Store, StoreFault};
 use sqlite::{Alter, Connection};
 use std::alloc::Global;
 use std::test::Fail;
 
-// The database of a store that an empty database becomes, with a document.
-fn with_document<S: Begins>(alloc: Global) -> Result<Connection<S>, Fail> {
+// The store that an empty database becomes, with a document.
+fn with_document<S: Begins>(alloc: Global) -> Result<Store<S>, Fail> {
     let mut store = adopted(alloc, S::database(alloc)?)?;
-    done(&mut store, table_d(alloc)?)?;
-    done(&mut store, put_text(alloc, 7, "p")?)?;
-    Ok(store.into_connection())
+    go(&mut store, alloc, &[Step::MakeTable, Step::PutText(7, "p")])?;
+    Ok(store)
 }
 
-// What is found, and which version, where that database is taken again after these statements.
-fn found_after<S: Begins>(alloc: Global, texts: &str) -> Result<(String, i64), Fail> {
-    let mut conn = with_document::<S>(alloc)?;
-    conn.execute_batch(texts)?;
-    let mut store = adopted(alloc, conn)?;
+// The cells of a store, and the version of its database.
+fn found_in<S: Alter + Drop>(alloc: Global, store: Store<S>) -> Result<(String, i64), Fail> {
+    let mut store = store;
     let found = cells(&mut store, alloc)?;
     let mut conn = store.into_connection();
-    let row = conn.query_row("SELECT version FROM meta", &[])?;
-    Ok((found, row.get(0)?))
+    Ok((found, number(&mut conn, "SELECT version FROM meta")?))
+}
+
+// What is found, and which version, where the database of such a store is taken again after these statements.
+#[derive(Clone, Copy)]
+struct Again<'a>(&'a str);
+
+impl<'a> Trial for Again<'a> {
+    type Found = (String, i64);
+
+    fn over<S: Begins>(self, alloc: Global) -> Result<(String, i64), Fail> {
+        let store = with_document::<S>(alloc)?;
+        found_in(alloc, with_rows(alloc, store, self.0)?)
+    }
 }
 
 #[test]
 fn stores_are_taken_with_what_they_hold(rt: HostRuntime) -> Result<(), Fail> {
     for texts in ["", "DROP TABLE skip; UPDATE meta SET version = 2"] {
-        let (found, version) = found_after::<InMemory>(rt.alloc(), texts)?;
+        let (found, version) = tried(rt.alloc(), Again(texts))?;
         assert_eq!(&rt; (found.as_str(), version), ("7 0 'p';", 3), "{texts}");
     }
     Ok(())
@@ -55,21 +64,25 @@ fn begun<S: Begins>(alloc: Global, is_store: bool) -> Result<Connection<S>, Fail
     }
 }
 
-// Why it isn't taken after these statements, and how many tables called `meta` it still has.
-fn refused_after<S: Begins>(
-    alloc: Global,
+const META: &str = "SELECT count(*) FROM sqlite_schema WHERE name = 'meta'";
+
+// Why such a database isn't taken after these statements, and how many tables called `meta` it still has.
+#[derive(Clone, Copy)]
+struct Other<'a> {
     is_store: bool,
-    texts: &str,
-) -> Result<(StoreFault, i64), Fail> {
-    let mut conn = begun::<S>(alloc, is_store)?;
-    conn.execute_batch(texts)?;
-    let (cause, left) = refused(alloc, conn)?;
-    let mut conn = left;
-    let row = conn.query_row(
-        "SELECT count(*) FROM sqlite_schema WHERE name = 'meta'",
-        &[],
-    )?;
-    Ok((cause, row.get(0)?))
+    texts: &'a str,
+}
+
+impl<'a> Trial for Other<'a> {
+    type Found = (StoreFault, i64);
+
+    fn over<S: Begins>(self, alloc: Global) -> Result<(StoreFault, i64), Fail> {
+        let mut conn = begun::<S>(alloc, self.is_store)?;
+        conn.execute_batch(self.texts)?;
+        let (cause, left) = refused(alloc, conn)?;
+        let mut conn = left;
+        Ok((cause, number(&mut conn, META)?))
+    }
 }
 
 const BARE: &str = "CREATE TABLE meta (one INTEGER PRIMARY KEY, version INTEGER NOT NULL)";
@@ -122,8 +135,8 @@ const REFUSED: [(bool, &str, StoreFault, i64); 11] = [
 #[test]
 fn other_databases_are_handed_back(rt: HostRuntime) -> Result<(), Fail> {
     for (is_store, texts, cause, count) in REFUSED {
-        let seen = refused_after::<InMemory>(rt.alloc(), is_store, texts)?;
-        assert_eq!(&rt; seen, (cause, count), "{texts}");
+        let found = tried(rt.alloc(), Other { is_store, texts })?;
+        assert_eq!(&rt; found, (cause, count), "{texts}");
     }
     Ok(())
 }

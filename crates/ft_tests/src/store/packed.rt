@@ -1,16 +1,29 @@
 //! Packed lists as they stand in the database.
 
-use super::{begun, done, entries};
-use crate::empty::{Begins, InMemory};
-use ft_store::{RowChange, Spot, StoreFault};
-use std::alloc::Global;
+use super::{begun, done, entries, spots_of};
+use crate::empty::{Begins, Trial, tried};
+use ft_store::{RowChange, StoreFault};
+use sqlite::{Alter, Connection};
+use std::alloc::{AllocError, Global};
 use std::test::Fail;
 
-// What the entries of a store are read as whose one posting row has this list, or that it is damaged.
-fn read_list<S: Begins>(alloc: Global, list: &str) -> Result<String, Fail> {
+// What the entries of a store are read as whose one posting row is put so.
+#[derive(Clone, Copy)]
+struct OneRow<'a>(&'a str);
+
+impl<'a> Trial for OneRow<'a> {
+    type Found = Result<String, StoreFault>;
+
+    fn over<S: Begins>(self, alloc: Global) -> Result<Result<String, StoreFault>, Fail> {
+        let mut store = begun::<S>(alloc, self.0)?;
+        Ok(entries(&mut store, alloc))
+    }
+}
+
+// What the entries are read as where the one list is this, or that it is damaged.
+fn read_list(alloc: Global, list: &str) -> Result<String, Fail> {
     let row = format!(in alloc; "INSERT INTO posting VALUES (1, 'a', 1, x'{list}')")?;
-    let mut store = begun::<S>(alloc, row.as_str())?;
-    match entries(&mut store, alloc) {
+    match tried(alloc, OneRow(row.as_str()))? {
         Ok(read) => Ok(read),
         Err(StoreFault::Damaged) => Ok(DAMAGED.to_string(alloc)?),
         Err(fault) => Err(fault)?,
@@ -38,34 +51,44 @@ const LISTS: [(&str, &str); 9] = [
 #[test]
 fn lists_are_read(rt: HostRuntime) -> Result<(), Fail> {
     for (list, want) in LISTS {
-        let read = read_list::<InMemory>(rt.alloc(), list)?;
-        assert_eq!(&rt; read.as_str(), want, "{list}");
+        assert_eq!(&rt; read_list(rt.alloc(), list)?.as_str(), want, "{list}");
     }
     Ok(())
 }
 
+// A term at two places.
+fn put_two(alloc: Global) -> Result<RowChange, AllocError> {
+    let spots = spots_of(alloc, &[(0, 1, 6, 5), (1, 5, 24, 5)])?;
+    Ok(RowChange::PutEntries(1, String::from_str(alloc, "a")?, 1, spots))
+}
+
+// The one list, as hexadecimal digits.
+fn digits<S: Alter>(conn: &mut Connection<S>) -> Result<String, Fail> {
+    Ok(
+        conn.query_row("SELECT hex(list) FROM posting", &[])?
+            .get(0)?,
+    )
+}
+
 // The list of a term at two places, as hexadecimal digits.
-fn list_of_two<S: Begins>(alloc: Global) -> Result<String, Fail> {
-    let mut spots = Vec::new(alloc);
-    for (column, pos, place, size) in [(0, 1, 6, 5), (1, 5, 24, 5)] {
-        spots.push(Spot {
-            column,
-            pos,
-            place,
-            size,
-        })?;
+#[derive(Clone, Copy)]
+struct Two;
+
+impl Trial for Two {
+    type Found = String;
+
+    fn over<S: Begins>(self, alloc: Global) -> Result<String, Fail> {
+        let two = put_two(alloc)?;
+        let mut store = S::store(alloc)?;
+        done(&mut store, two)?;
+        let mut conn = store.into_connection();
+        digits(&mut conn)
     }
-    let term = String::from_str(alloc, "a")?;
-    let mut store = S::store(alloc)?;
-    done(&mut store, RowChange::PutEntries(1, term, 1, spots))?;
-    let mut conn = store.into_connection();
-    let row = conn.query_row("SELECT hex(list) FROM posting", &[])?;
-    Ok(row.get(0)?)
 }
 
 #[test]
 fn lists_are_packed(rt: HostRuntime) -> Result<(), Fail> {
-    let list = list_of_two::<InMemory>(rt.alloc())?;
+    let list = tried(rt.alloc(), Two)?;
     assert_eq!(&rt; list.as_str(), "0001060501051805");
     Ok(())
 }

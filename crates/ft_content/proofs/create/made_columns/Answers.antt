@@ -3,7 +3,7 @@ use Rattle.std.proofs.Common.{◌≡◌, ℕ, List, [], ◌∷◌, ◌++◌, map
 use Rattle.std.proofs.lemmas.List.{map-append}
 use Rattle.std.specs.List.{list_any}
 use Rattle.ft_content.specs.Content.{same_name}
-use Rattle.ft_content.specs.declared.table.Column.{Column}
+use Rattle.ft_values.specs.declared.table.Column.{Column}
 use Rattle.ft_content.specs.Deserved.{is_notindexed}
 use Rattle.ft_content.specs.Step.{made_column}
 use Rattle.ft_content.specs.Views.{option_of, column_of}

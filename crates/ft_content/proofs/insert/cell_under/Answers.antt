@@ -2,8 +2,7 @@
 use Rattle.std.proofs.Common.{◌≡◌, ℕ, List, Option, Some, map, option_map, ap, subst, ◌∙◌, string_bytes}
 use Rattle.std.specs.Prelude.{zip, find, unwrap_or, IfOk}
 use denote.Ref.{Bor}
-use Rattle.ft_store.specs.Store.{Cell, Null}
-use Rattle.ft_store.specs.Changes.{shown_value}
+use Rattle.ft_values.specs.Cells.{Cell, Null, shown_value}
 use Rattle.ft_content.specs.Content.{same_name}
 use Rattle.ft_content.proofs.insert.cell_under.Goals as goal
 

@@ -5,9 +5,8 @@ use Rattle.std.specs.List.{list_any}
 use Rattle.std.proofs.lemmas.Iterator.{YieldsList-from_slice, YieldsList-from_zip}
 use Rattle.std.proofs.lemmas.Iterator.Search.{any_from_yields_List}
 use denote.Ref.{Bor}
-use Rattle.ft_store.specs.declared.rows.Value.{Value}
-use Rattle.ft_store.specs.Store.{Cell}
-use Rattle.ft_store.specs.Changes.{shown_value}
+use Rattle.ft_values.specs.declared.rows.Value.{Value}
+use Rattle.ft_values.specs.Cells.{Cell, shown_value}
 use Rattle.ft_content.specs.Content.{is_docid}
 use Rattle.ft_content.specs.Deserved.{is_text}
 use Rattle.ft_content.proofs.Lists.{any_of_map}

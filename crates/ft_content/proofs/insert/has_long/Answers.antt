@@ -2,9 +2,8 @@
 use Rattle.std.proofs.Common.{Bool, sym, ◌∙◌, rules, tests}
 use Rattle.std.proofs.lemmas.Iterator.{YieldsList-from_slice}
 use Rattle.std.proofs.lemmas.Iterator.Search.{any_from_yields_List}
-use Rattle.ft_store.specs.declared.rows.Value.{Value}
-use Rattle.ft_store.specs.Store.{Cell}
-use Rattle.ft_store.specs.Changes.{shown_value}
+use Rattle.ft_values.specs.declared.rows.Value.{Value}
+use Rattle.ft_values.specs.Cells.{Cell, shown_value}
 use Rattle.ft_content.specs.Content.{is_too_long}
 use Rattle.ft_content.proofs.Lists.{any_of_map}
 use Rattle.ft_content.proofs.insert.has_long.Goals as goal

@@ -4,8 +4,8 @@ use Rattle.std.specs.List.{list_any}
 use Rattle.std.proofs.lemmas.Iterator.{YieldsList-from_slice}
 use Rattle.std.proofs.lemmas.Iterator.Search.{any_from_yields_List}
 use Rattle.std.specs.declared.alloc.Global.{Global}
-use Rattle.ft_store.specs.declared.rows.Value.{Value}
-use Rattle.ft_store.specs.Store.{Cell}
+use Rattle.ft_values.specs.declared.rows.Value.{Value}
+use Rattle.ft_values.specs.Cells.{Cell}
 use Rattle.ft_content.specs.Content.{has_nul}
 use Rattle.ft_content.specs.Views.{cells_of}
 use Rattle.ft_content.proofs.Lists.{any_of_map}

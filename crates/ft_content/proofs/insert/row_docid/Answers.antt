@@ -4,8 +4,8 @@ use Rattle.std.specs.Prelude.{zip, option_and_then}
 use Rattle.std.proofs.lemmas.Iterator.{YieldsList-from_slice, YieldsList-from_zip}
 use Rattle.std.proofs.lemmas.Iterator.Search.{find_from_yields_List}
 use denote.Ref.{Bor}
-use Rattle.ft_store.specs.declared.rows.Value.{Value}
-use Rattle.ft_store.specs.Changes.{shown_value}
+use Rattle.ft_values.specs.declared.rows.Value.{Value}
+use Rattle.ft_values.specs.Cells.{shown_value}
 use Rattle.ft_content.proofs.GivenLemmas.{given, find_given, docid_given, first_docid, pointed, gives_docid}
 use Rattle.ft_content.proofs.insert.row_docid.Goals as goal
 

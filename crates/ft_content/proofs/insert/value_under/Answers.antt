@@ -3,8 +3,8 @@ use Rattle.std.proofs.Common.{ℕ, List, Bool, Option, option_map, ap, sym, ◌�
 use Rattle.std.proofs.lemmas.Iterator.{YieldsList-from_slice, YieldsList-from_zip}
 use Rattle.std.proofs.lemmas.Iterator.Search.{find_from_yields_List}
 use denote.Ref.{Bor}
-use Rattle.ft_store.specs.declared.rows.Value.{Value}
-use Rattle.ft_store.specs.Store.{Cell}
+use Rattle.ft_values.specs.declared.rows.Value.{Value}
+use Rattle.ft_values.specs.Cells.{Cell}
 use Rattle.ft_content.specs.Content.{same_name}
 use Rattle.ft_content.proofs.GivenLemmas.{given, find_given, pointed}
 use Rattle.ft_content.proofs.insert.value_under.Goals as goal

@@ -4,8 +4,7 @@ use Rattle.std.proofs.Common.{◌≡◌, ℤ, List, map, sym, ap, ◌∙◌, rul
 use Rattle.std.specs.List.{flat_map}
 use Rattle.std.specs.Int.{w64}
 use Rattle.std.proofs.lemmas.List.{take_all}
-use Rattle.ft_store.specs.Store.{Cell, Text}
-use Rattle.ft_store.specs.Changes.{shown_value}
+use Rattle.ft_values.specs.Cells.{Cell, Text, shown_value}
 use Rattle.ft_content.specs.declared.command.Item.{Item}
 use Rattle.ft_content.specs.Command as plain
 use Rattle.ft_content.specs.Answer.{cells_with, offsets_cell}

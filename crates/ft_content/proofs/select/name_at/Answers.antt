@@ -3,7 +3,7 @@ use Rattle.std.proofs.Common.{◌≡◌, List, [], ℕ, Option, Some, None, map,
 use Rattle.std.specs.Prelude.{slice_get, unwrap_or}
 use Rattle.std.proofs.lemmas.Option.{slice_get-map, slice_get_past, slice_get_read}
 use Rattle.ft_content.specs.Content.{Column as PlainColumn, names_of}
-use Rattle.ft_content.specs.declared.table.Column.{Column}
+use Rattle.ft_values.specs.declared.table.Column.{Column}
 use Rattle.ft_content.specs.Views.{column_of}
 use Rattle.ft_content.proofs.select.name_at.Goals as goal
 

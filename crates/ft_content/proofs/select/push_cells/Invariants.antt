@@ -1,6 +1,6 @@
 -- the cells so far
 use Rattle.std.proofs.Common.{◌≡◌, ◌++◌, map, take}
-use Rattle.ft_store.specs.Changes.{shown_value}
+use Rattle.ft_values.specs.Cells.{shown_value}
 use Rattle.ft_content.specs.Views.{cells_of}
 use Rattle.ft_content.proofs.select.push_cells.Given as goal
 

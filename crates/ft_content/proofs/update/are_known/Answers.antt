@@ -3,8 +3,8 @@ use Rattle.std.proofs.Common.{ℕ, List, Bool, String, sym, ◌∙◌, rules, te
 use Rattle.std.proofs.lemmas.Iterator.{YieldsList-from_slice}
 use Rattle.std.proofs.lemmas.Iterator.Search.{all_from_yields_List}
 use Rattle.std.specs.declared.alloc.Global.{Global}
-use Rattle.ft_store.specs.declared.rows.Value.{Value}
-use Rattle.ft_store.specs.Store.{Cell}
+use Rattle.ft_values.specs.declared.rows.Value.{Value}
+use Rattle.ft_values.specs.Cells.{Cell}
 use Rattle.ft_content.specs.Deserved.{has_column}
 use Rattle.ft_content.specs.Views.{bare_content, set_of}
 use Rattle.ft_content.proofs.Lists.{all_of_map}

@@ -1,8 +1,7 @@
 -- a copy of the value under the column's name, or of the cell
 use Rattle.std.proofs.Common.{◌≡◌, ℕ, List, Option, Some, None, map, option_map, ap, subst, ◌∙◌, string_bytes}
 use Rattle.std.specs.Prelude.{find, unwrap_or, IfOk}
-use Rattle.ft_store.specs.Store.{Cell}
-use Rattle.ft_store.specs.Changes.{shown_value}
+use Rattle.ft_values.specs.Cells.{Cell, shown_value}
 use Rattle.ft_content.specs.Content.{same_name}
 use Rattle.ft_content.specs.Views.{set_of}
 use Rattle.ft_content.proofs.update.cell_after.Goals as goal

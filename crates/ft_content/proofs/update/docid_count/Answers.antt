@@ -3,7 +3,7 @@ use Rattle.std.proofs.Common.{length, String, map, ap, sym, ◌∙◌, rules, te
 use Rattle.std.proofs.lemmas.Iterator.{YieldsList-from_slice}
 use Rattle.std.proofs.lemmas.Iterator.Consumers.{YieldsList-from_filter_map, count_from_yields_List}
 use Rattle.std.specs.declared.alloc.Global.{Global}
-use Rattle.ft_store.specs.declared.rows.Value.{Value}
+use Rattle.ft_values.specs.declared.rows.Value.{Value}
 use Rattle.ft_content.specs.Views.{set_of}
 use Rattle.ft_content.proofs.GivenLemmas.{filter_map_of_map, docid_given, docids_are}
 use Rattle.ft_content.proofs.update.docid_count.Goals as goal

@@ -2,8 +2,8 @@
 use Rattle.std.proofs.Common.{ℕ, List, String, string_bytes, ap, sym, ◌∙◌}
 use Rattle.std.proofs.lemmas.List.{take_rest}
 use Rattle.std.specs.declared.alloc.Global.{Global}
-use Rattle.ft_store.specs.declared.rows.Value.{Value}
-use Rattle.ft_store.specs.Store.{Cell}
+use Rattle.ft_values.specs.declared.rows.Value.{Value}
+use Rattle.ft_values.specs.Cells.{Cell}
 use Rattle.ft_content.specs.Content.{repeats_name}
 use Rattle.ft_content.specs.Views.{set_of}
 use Rattle.ft_content.proofs.Lists.{map_of_map}

@@ -4,11 +4,10 @@ use Rattle.std.specs.Prelude.{zip}
 use Rattle.std.proofs.lemmas.Iterator.{YieldsList-from_slice, YieldsList-from_zip}
 use Rattle.std.proofs.lemmas.Iterator.Consumers.{YieldsList-end}
 use denote.Ref.{Bor}
-use Rattle.ft_store.specs.declared.rows.Value.{Value}
-use Rattle.ft_store.specs.Store.{Cell}
-use Rattle.ft_store.specs.Changes.{shown_value}
+use Rattle.ft_values.specs.declared.rows.Value.{Value}
+use Rattle.ft_values.specs.Cells.{Cell, shown_value}
 use Rattle.ft_content.specs.Content.{Column as PlainColumn}
-use Rattle.ft_content.specs.declared.table.Column.{Column}
+use Rattle.ft_values.specs.declared.table.Column.{Column}
 use Rattle.ft_content.specs.Deserved.{value_under}
 use Rattle.ft_content.specs.Views.{column_of, set_of}
 use Rattle.ft_content.proofs.Lists.{map_of_map}

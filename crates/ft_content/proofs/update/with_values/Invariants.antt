@@ -1,6 +1,6 @@
 -- the cells so far
 use Rattle.std.proofs.Common.{◌≡◌, map}
-use Rattle.ft_store.specs.Changes.{shown_value}
+use Rattle.ft_values.specs.Cells.{shown_value}
 use Rattle.ft_content.specs.Deserved as deserved
 use Rattle.ft_content.specs.Views.{column_of, set_of}
 use Rattle.ft_content.proofs.update.with_values.Given as goal

@@ -2,7 +2,7 @@
 use Rattle.std.proofs.Common.{ap, ◌∙◌}
 use Rattle.std.specs.List.{list_all}
 use Rattle.ft_store.specs.Kept.{value_in}
-use Rattle.ft_content.specs.declared.table.TableInfo.{TableInfo}
+use Rattle.ft_values.specs.declared.table.TableInfo.{TableInfo}
 use Rattle.ft_index.proofs.CheckLemmas.{all_are_sound}
 use Rattle.ft_index.proofs.check.check_all.Goals as goal
 

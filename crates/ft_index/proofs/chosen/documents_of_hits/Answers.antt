@@ -5,7 +5,7 @@ use Rattle.std.specs.Ordering.{int_cmp}
 use Rattle.std.specs.FinMap.Entries.{find}
 use Rattle.std.proofs.lemmas.List.{take_more, take_all, map-append}
 use Rattle.ft_query.specs.declared.walk.Hit.{Hit}
-use Rattle.ft_store.specs.Store.{Cell}
+use Rattle.ft_values.specs.Cells.{Cell}
 use Rattle.ft_content.specs.Views.{cells_of}
 use Rattle.ft_index.specs.DocumentsRead.{HasRows, shown_document}
 use Rattle.ft_index.specs.Chosen.{document_at}

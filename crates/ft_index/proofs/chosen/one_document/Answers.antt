@@ -2,7 +2,7 @@
 use Rattle.std.proofs.Common.{◌≡◌, ℤ, [], ◌∷◌, ◌++◌, Option, None, map, option_map, Vec, Global, sym, ap, subst, ◌∙◌, to_z, of_z, w64, to_z-of_z, rules}
 use Rattle.std.specs.Ordering.{int_cmp}
 use Rattle.std.specs.FinMap.Entries.{find}
-use Rattle.ft_store.specs.declared.rows.Value.{Value}
+use Rattle.ft_values.specs.declared.rows.Value.{Value}
 use Rattle.ft_content.specs.Views.{cells_of}
 use Rattle.ft_index.specs.declared.document.Document.{Document}
 use Rattle.ft_index.specs.DocumentsRead.{HasRows, shown_document}

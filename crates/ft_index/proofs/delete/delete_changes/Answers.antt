@@ -1,11 +1,11 @@
 -- by the table, and what is written
 use Rattle.std.proofs.Common.{rules, ◌≡◌, ℕ, List, map, string_bytes, Err, Ok, Result, Vec, Global, sym, ap, subst, ◌∙◌, to_z-of_z, to_z, of_z, w64, FitsSigned}
 use Rattle.std.specs.Prelude.{All}
-use Rattle.ft_store.specs.declared.rows.RowChange.{RowChange}
+use Rattle.ft_values.specs.declared.rows.RowChange.{RowChange}
 use Rattle.ft_store.specs.Changes.{shown_change}
-use Rattle.ft_content.specs.declared.fault.Fault.{Fault}
+use Rattle.ft_values.specs.declared.fault.Fault.{Fault}
 use Rattle.ft_content.specs.Command as plain
-use Rattle.ft_content.specs.Views.{column_of, filter_of, known_info}
+use Rattle.ft_content.specs.Views.{column_of, filter_of, shown_info}
 use Rattle.ft_index.specs.declared.rewrite.Rewrite.{Rewrite}
 use Rattle.ft_index.specs.Found.{IsSoundNamed, IsUnfit}
 use Rattle.ft_index.specs.Rewrite.{AreRight, shown_rewrite, docids_of}
@@ -18,7 +18,7 @@ use Rattle.ft_index.proofs.delete.delete_changes.Goals as goal
 pub returns-in_err-known-clause-plans : goal.returns-in_err-known-clause-plans
 returns-in_err-known-clause-plans g c =
     let f = filter_of c.args.filter.now in
-    let tables = map known_info c.args.tables.now in
+    let tables = map shown_info c.args.tables.now in
     let fault : Fault = c.in_err-known.field-0.0 in
     let is : c.from_residual.result ≡ Err fault = search rules in
     let unfit : IsUnfit tables c.args.table.now fault = c.in_err-known.ensures in
@@ -29,12 +29,12 @@ returns-in_err-known-clause-plans g c =
 pub returns-in_err-rewrites-clause-plans : goal.returns-in_err-rewrites-clause-plans
 returns-in_err-rewrites-clause-plans g c =
     let f = filter_of c.args.filter.now in
-    let tables = map known_info c.args.tables.now in
+    let tables = map shown_info c.args.tables.now in
     let fault : Fault = c.in_err-rewrites.field-0.0 in
     let is : c.from_residual-in_err-rewrites.result ≡ Err fault = search rules in
     let failed : c.written_by_delete.result ≡ Err fault = search rules in
     let command = plain.Delete c.args.table.now f in
-    let known = known_info c.in_ok-known.known.now in
+    let known = shown_info c.in_ok-known.known.now in
     let named : IsSoundNamed tables c.args.table.now known = c.in_ok-known.ensures in
     subst (λ (r : Result (Vec RowChange Global) Fault). PlansIn g.S.Store tables c.args.store.now c.written_by_delete.new.store command r) (sym is)
     (plans_fail g.S.Store command c.args.table.now (due f) (made f) (gone f) (is_write f c.args.table.now) c.args.store.now c.written_by_delete.new.store tables known c.is_in_order.ensures.order named fault
@@ -43,9 +43,9 @@ returns-in_err-rewrites-clause-plans g c =
 pub returns-clause-plans : goal.returns-clause-plans
 returns-clause-plans g c =
     let f = filter_of c.args.filter.now in
-    let tables = map known_info c.args.tables.now in
+    let tables = map shown_info c.args.tables.now in
     let command = plain.Delete c.args.table.now f in
-    let known = known_info c.in_ok-known.known.now in
+    let known = shown_info c.in_ok-known.known.now in
     let named : IsSoundNamed tables c.args.table.now known = c.in_ok-known.ensures in
     let rewrites = c.in_ok-rewrites.rewrites in
     let changes = c.in_ok-changes.changes in

@@ -1,13 +1,13 @@
 -- by the plan, and what the store does
 use Rattle.std.proofs.Common.{rules, ◌≡◌, ◌⊎◌, ℕ, List, map, Bool, true, Err, Ok, Result, Vec, Global, sym, subst}
 use Rattle.std.specs.Prelude.{is_ok}
-use Rattle.ft_store.specs.declared.rows.RowChange.{RowChange}
+use Rattle.ft_values.specs.declared.rows.RowChange.{RowChange}
 use Rattle.ft_store.specs.Changes.{shown_change}
-use Rattle.ft_content.specs.declared.fault.Fault.{Fault}
-use Rattle.ft_content.specs.declared.fault.Fault.TheVariants as faults
+use Rattle.ft_values.specs.declared.fault.Fault.{Fault}
+use Rattle.ft_values.specs.declared.fault.Fault.TheVariants as faults
 use Rattle.ft_content.specs.declared.command.Reply.{Reply}
 use Rattle.ft_content.specs.Command as plain
-use Rattle.ft_content.specs.Views.{filter_of, known_info, answer_of}
+use Rattle.ft_content.specs.Views.{filter_of, shown_info, answer_of}
 use Rattle.sqlite.specs.State.{Survives}
 use Rattle.ft_store.specs.Kept.{shows}
 use Rattle.ft_index.specs.Kept.{Executes}
@@ -22,7 +22,7 @@ pub returns-in_err-changes-clause-executes : goal.returns-in_err-changes-clause-
 returns-in_err-changes-clause-executes g c =
     let f = filter_of c.args.filter.now in
     let command = plain.Delete c.args.table.now f in
-    let tables = map known_info c.args.tables.now in
+    let tables = map shown_info c.args.tables.now in
     let fault : Fault = c.in_err-changes.field-0.0 in
     let is : c.from_residual.result ≡ Err fault = search rules in
     let planned : c.delete_changes.result ≡ Err fault = search rules in
@@ -34,7 +34,7 @@ pub returns-in_err-change_rows-clause-executes : goal.returns-in_err-change_rows
 returns-in_err-change_rows-clause-executes g c =
     let f = filter_of c.args.filter.now in
     let command = plain.Delete c.args.table.now f in
-    let tables = map known_info c.args.tables.now in
+    let tables = map shown_info c.args.tables.now in
     let fault : Fault = c.in_err-change_rows.field-0.0 in
     let is : c.from_residual-in_err-change_rows.result ≡ Err fault = search rules in
     let refused : c.change_rows.result ≡ Err fault = search rules in
@@ -47,7 +47,7 @@ pub returns-clause-executes : goal.returns-clause-executes
 returns-clause-executes g c =
     let f = filter_of c.args.filter.now in
     let command = plain.Delete c.args.table.now f in
-    let tables = map known_info c.args.tables.now in
+    let tables = map shown_info c.args.tables.now in
     let changes = c.in_ok-changes.changes in
     let planned : c.delete_changes.result ≡ Ok changes = search rules in
     let done : c.change_rows.result ≡ Ok tt = search rules in
@@ -61,14 +61,14 @@ pub returns-in_err-changes-clause-crash : goal.returns-in_err-changes-clause-cra
 returns-in_err-changes-clause-crash g c =
     let f = filter_of c.args.filter.now in
     let command = plain.Delete c.args.table.now f in
-    let tables = map known_info c.args.tables.now in
+    let tables = map shown_info c.args.tables.now in
     crash_read g.S.Store c.args.store.now c.delete_changes.new.store tables tables command c.delete_changes.ensures.looks
 
 pub returns-in_err-change_rows-clause-crash : goal.returns-in_err-change_rows-clause-crash
 returns-in_err-change_rows-clause-crash g c =
     let f = filter_of c.args.filter.now in
     let command = plain.Delete c.args.table.now f in
-    let tables = map known_info c.args.tables.now in
+    let tables = map shown_info c.args.tables.now in
     let changes = c.in_ok-changes.changes in
     let planned : c.delete_changes.result ≡ Ok changes = search rules in
     crash_written g.S.Store c.args.store.now c.delete_changes.new.store c.change_rows.new.store tables tables command changes c.delete_changes.ensures.looks c.in_ok-changes.ensures.live
@@ -79,7 +79,7 @@ pub returns-clause-crash : goal.returns-clause-crash
 returns-clause-crash g c =
     let f = filter_of c.args.filter.now in
     let command = plain.Delete c.args.table.now f in
-    let tables = map known_info c.args.tables.now in
+    let tables = map shown_info c.args.tables.now in
     let changes = c.in_ok-changes.changes in
     let planned : c.delete_changes.result ≡ Ok changes = search rules in
     crash_written g.S.Store c.args.store.now c.delete_changes.new.store c.change_rows.new.store tables tables command changes c.delete_changes.ensures.looks c.in_ok-changes.ensures.live

@@ -1,8 +1,8 @@
 -- by its tests, and the documents that are chosen
 use Rattle.std.proofs.Common.{rules, ◌≡◌, ◌≢◌, inr, ℕ, List, map, string_bytes, option_map, Err, Ok, Option, Some, None, Result, Vec, Global, sym, ap, subst, ◌∙◌, to_z-of_z, to_z, of_z, w64, FitsSigned}
 use Rattle.ft_query.specs.Trees.{tree_of}
-use Rattle.ft_content.specs.declared.fault.Fault.{Fault}
-use Rattle.ft_content.specs.declared.fault.Fault.TheVariants as faults
+use Rattle.ft_values.specs.declared.fault.Fault.{Fault}
+use Rattle.ft_values.specs.declared.fault.Fault.TheVariants as faults
 use Rattle.ft_content.specs.Answer.{chosen}
 use Rattle.ft_content.specs.Deserved.{delete_tests, query_fault}
 use Rattle.ft_content.specs.Views.{bare_content, column_of, filter_of}

@@ -1,7 +1,7 @@
 -- the cells of the rows, where there are rows
 use Rattle.std.proofs.Common.{◌≡◌, ◌==◌, ℕ, Some, length, vec_len, arith, sym, ap, ◌∙◌, to_z-of_z}
 use Rattle.std.proofs.lemmas.List.{length-map}
-use Rattle.ft_store.specs.Changes.{shown_value}
+use Rattle.ft_values.specs.Cells.{shown_value}
 use Rattle.ft_store.specs.Kept.{value_in, more_rows}
 use Rattle.ft_index.proofs.ReadRows.{none_read, some_read}
 use Rattle.ft_index.proofs.documents.document.Goals as goal

@@ -1,8 +1,8 @@
 -- the last document with the cell, or one more
 use Rattle.std.proofs.Common.{◌≡◌, ◌++◌, [], ◌∷◌, List, map, sym, ap, ◌∙◌, rules, FitsSigned, w64, to_z, of_z, to_z-of_z, arith}
 use Rattle.std.proofs.lemmas.List.{map-append}
-use Rattle.ft_store.specs.declared.rows.Value.{Value}
-use Rattle.ft_store.specs.Changes.{shown_value}
+use Rattle.ft_values.specs.declared.rows.Value.{Value}
+use Rattle.ft_values.specs.Cells.{shown_value}
 use Rattle.ft_index.specs.declared.document.Document.{Document}
 use Rattle.ft_index.specs.DocumentsRead.{shown_document, shown_row}
 use Rattle.ft_index.proofs.GatheredRows.{joined, behind, first_of_all}

@@ -1,6 +1,6 @@
 -- the values so far
 use Rattle.std.proofs.Common.{◌≡◌, map}
-use Rattle.ft_store.specs.Changes.{shown_value}
+use Rattle.ft_values.specs.Cells.{shown_value}
 use Rattle.ft_content.specs.Views as views
 use Rattle.ft_index.proofs.documents.values_of.Given as goal
 

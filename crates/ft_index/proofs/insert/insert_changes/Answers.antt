@@ -1,11 +1,11 @@
 -- by the table, and what is written
 use Rattle.std.proofs.Common.{rules, ◌≡◌, inr, ℕ, List, map, option_map, string_bytes, Err, Ok, Option, Result, Vec, Global, sym, ap, subst, ◌∙◌, to_z-of_z, to_z, of_z, w64, FitsSigned}
 use Rattle.std.specs.Prelude.{All}
-use Rattle.ft_store.specs.declared.rows.RowChange.{RowChange}
-use Rattle.ft_content.specs.declared.fault.Fault.{Fault}
+use Rattle.ft_values.specs.declared.rows.RowChange.{RowChange}
+use Rattle.ft_values.specs.declared.fault.Fault.{Fault}
 use Rattle.ft_content.specs.Command as plain
 use Rattle.ft_content.specs.Content.{Content}
-use Rattle.ft_content.specs.Views.{KnownTable, cells_of, column_of, known_info}
+use Rattle.ft_content.specs.Views.{TableInfo, cells_of, column_of, shown_info}
 use Rattle.ft_index.specs.declared.rewrite.Rewrite.{Rewrite}
 use Rattle.ft_index.specs.Found.{IsSoundNamed, IsUnfit}
 use Rattle.ft_index.specs.Rewrite.{AreRight, shown_rewrite, docids_of}
@@ -26,7 +26,7 @@ pub returns-in_err-known-clause-plans : goal.returns-in_err-known-clause-plans
 returns-in_err-known-clause-plans g c =
     let columns = option_map (λ n. map string_bytes n.now) c.args.columns in
     let rows = map cells_of c.args.rows.now in
-    let tables = map known_info c.args.tables.now in
+    let tables = map shown_info c.args.tables.now in
     let fault : Fault = c.in_err-known.field-0.0 in
     let is : c.from_residual.result ≡ Err fault = search rules in
     let unfit : IsUnfit tables c.args.table.now fault = c.in_err-known.ensures in
@@ -39,13 +39,13 @@ pub returns-in_err-rewrites-clause-plans : goal.returns-in_err-rewrites-clause-p
 returns-in_err-rewrites-clause-plans g c =
     let columns = option_map (λ n. map string_bytes n.now) c.args.columns in
     let rows = map cells_of c.args.rows.now in
-    let tables = map known_info c.args.tables.now in
+    let tables = map shown_info c.args.tables.now in
     let fault : Fault = c.in_err-rewrites.field-0.0 in
     let is : c.from_residual-in_err-rewrites.result ≡ Err fault = search rules in
     let failed : c.written_by_insert.result ≡ Err fault = search rules in
     let apart = sym c.lists_twice.ensures ∙ c.if-lists_twice.false in
     let command = plain.Insert c.args.table.now columns rows in
-    let known = known_info c.in_ok-known.known.now in
+    let known = shown_info c.in_ok-known.known.now in
     let named : IsSoundNamed tables c.args.table.now known = c.in_ok-known.ensures in
     subst (λ (r : Result (Vec RowChange Global) Fault). PlansIn g.S.Store tables c.args.store.now c.written_by_insert.new.store command r) (sym is)
     (plans_fail g.S.Store command c.args.table.now (λ table content. due columns rows content) (made columns rows) (news columns rows) (is_write columns rows c.args.table.now apart) c.args.store.now c.written_by_insert.new.store tables known c.is_in_order.ensures.order named fault
@@ -55,10 +55,10 @@ pub returns-clause-plans : goal.returns-clause-plans
 returns-clause-plans g c =
     let columns = option_map (λ n. map string_bytes n.now) c.args.columns in
     let rows = map cells_of c.args.rows.now in
-    let tables = map known_info c.args.tables.now in
+    let tables = map shown_info c.args.tables.now in
     let apart = sym c.lists_twice.ensures ∙ c.if-lists_twice.false in
     let command = plain.Insert c.args.table.now columns rows in
-    let known = known_info c.in_ok-known.known.now in
+    let known = shown_info c.in_ok-known.known.now in
     let named : IsSoundNamed tables c.args.table.now known = c.in_ok-known.ensures in
     let rewrites = c.in_ok-rewrites.rewrites in
     let changes = c.in_ok-changes.changes in

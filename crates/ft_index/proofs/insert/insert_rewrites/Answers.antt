@@ -4,7 +4,7 @@ use Rattle.sqlite.specs.State.{HasCleanDisk}
 use Rattle.sqlite.specs.Effect.{Database}
 use Rattle.ft_store.specs.Kept.{shows, value_in}
 use Rattle.ft_store.specs.Rows.{value_of}
-use Rattle.ft_content.specs.declared.fault.Fault.{Fault}
+use Rattle.ft_values.specs.declared.fault.Fault.{Fault}
 use Rattle.ft_content.specs.Content.{content_rows}
 use Rattle.ft_content.specs.Deserved.{insert_rows}
 use Rattle.ft_content.specs.Views.{cells_of, column_of}

@@ -3,7 +3,7 @@ use Rattle.std.proofs.Common.{map}
 use Rattle.std.specs.Prelude.{IsTrue}
 use Rattle.sqlite.specs.State.{HasCleanDisk}
 use Rattle.ft_store.specs.Kept.{shows, value_in}
-use Rattle.ft_content.specs.Views.{known_info}
+use Rattle.ft_content.specs.Views.{shown_info}
 use Rattle.ft_index.specs.DocumentsRead.{Looks}
 use Rattle.ft_index.proofs.OpenedTables.{AreMarkedRows}
 use Rattle.ft_index.proofs.open.opened_tables.Given as goal
@@ -11,4 +11,4 @@ use Rattle.ft_index.proofs.open.opened_tables.Given as goal
 abbrev pub invariant-loop-row : goal.invariant-loop-row
 invariant-loop-row g l =
     Looks g.S.Store l.fn.store l.store × (HasCleanDisk (shows g.S.Store l.store) → IsTrue (shows g.S.Store l.store).is_open)
-    × (HasCleanDisk (shows g.S.Store l.store) → HasCleanDisk (shows g.S.Store l.initial.store)) × (HasCleanDisk (shows g.S.Store l.store) → AreMarkedRows (value_in g.S.Store l.fn.store) l.yielded (map known_info l.tables.items))
+    × (HasCleanDisk (shows g.S.Store l.store) → HasCleanDisk (shows g.S.Store l.initial.store)) × (HasCleanDisk (shows g.S.Store l.store) → AreMarkedRows (value_in g.S.Store l.fn.store) l.yielded (map shown_info l.tables.items))

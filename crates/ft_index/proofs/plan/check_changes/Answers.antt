@@ -1,13 +1,13 @@
 -- by what a Check is answered
 use Rattle.std.proofs.Common.{rules, ◌≡◌, [], List, map, Ok, Err, Result, Vec, Global, sym, ap, subst}
-use Rattle.ft_store.specs.declared.rows.RowChange.{RowChange}
+use Rattle.ft_values.specs.declared.rows.RowChange.{RowChange}
 use Rattle.ft_store.specs.Store.{Change}
 use Rattle.ft_store.specs.Changes.{shown_change}
 use Rattle.ft_store.specs.Kept.{value_in}
-use Rattle.ft_content.specs.declared.fault.Fault.{Fault}
+use Rattle.ft_values.specs.declared.fault.Fault.{Fault}
 use Rattle.ft_content.specs.declared.command.Reply.{Reply}
 use Rattle.ft_content.specs.Command as plain
-use Rattle.ft_content.specs.Views.{known_info, answer_of, reply_of}
+use Rattle.ft_content.specs.Views.{shown_info, answer_of, reply_of}
 use Rattle.ft_index.specs.Kept.{Answers, PlansFrom}
 use Rattle.ft_index.specs.Planned.{changes_of}
 use Rattle.ft_index.proofs.PlanAnswers.{answered_fine, answered_fault, check_plans}
@@ -31,5 +31,5 @@ returns-clause-plans g c up contents held =
     let answered = c.check_table.ensures.checks.steps up contents held in
     let same : map shown_change c.new.result.items ≡ [] = ap (map shown_change) c.new.ensures.items in
     subst (λ (cs : List Change). PlansFrom contents command (value_in g.S.Store c.args.store.now) (Ok cs)) (sym same)
-    (check_plans contents c.args.table.now (value_in g.S.Store c.args.store.now) (map known_info c.args.tables.now) held
+    (check_plans contents c.args.table.now (value_in g.S.Store c.args.store.now) (map shown_info c.args.tables.now) held
     (answered_fine contents answered.0 command (reply_of reply) (subst (λ (r : Result Reply Fault). Answers contents command (answer_of r) answered.0) done answered.2)))

@@ -1,12 +1,12 @@
 -- by what an Optimize is answered
 use Rattle.std.proofs.Common.{rules, ◌≡◌, [], List, map, Ok, Err, Result, Vec, Global, sym, ap, subst}
-use Rattle.ft_store.specs.declared.rows.RowChange.{RowChange}
+use Rattle.ft_values.specs.declared.rows.RowChange.{RowChange}
 use Rattle.ft_store.specs.Store.{Change}
 use Rattle.ft_store.specs.Changes.{shown_change}
-use Rattle.ft_content.specs.declared.fault.Fault.{Fault}
+use Rattle.ft_values.specs.declared.fault.Fault.{Fault}
 use Rattle.ft_content.specs.declared.command.Reply.{Reply}
 use Rattle.ft_content.specs.Command as plain
-use Rattle.ft_content.specs.Views.{known_info, answer_of, reply_of}
+use Rattle.ft_content.specs.Views.{shown_info, answer_of, reply_of}
 use Rattle.ft_index.specs.Kept.{Answers, PlansFrom}
 use Rattle.ft_index.specs.Planned.{changes_of}
 use Rattle.ft_index.proofs.PlanAnswers.{answered_fine, answered_fault, optimize_plans}
@@ -28,5 +28,5 @@ returns c store contents order held =
     let done : c.optimize.result ≡ Ok reply = search rules in
     let same : map shown_change c.new.result.items ≡ [] = ap (map shown_change) c.new.ensures.items in
     subst (λ (cs : List Change). PlansFrom contents command store (Ok cs)) (sym same)
-    (optimize_plans contents c.args.table.now store (map known_info c.args.tables.now) held
+    (optimize_plans contents c.args.table.now store (map shown_info c.args.tables.now) held
     (answered_fine contents contents command (reply_of reply) (subst (λ (r : Result Reply Fault). Answers contents command (answer_of r) contents) done (c.optimize.ensures contents held.told))))

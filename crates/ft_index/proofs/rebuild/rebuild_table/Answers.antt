@@ -7,16 +7,16 @@ use Rattle.ft_index.specs.Written.{PlansIn}
 use Rattle.ft_index.proofs.Crashing.{CommitsRows, crash_read, crash_written}
 use Rattle.ft_store.specs.Changes.{shown_change}
 use Rattle.ft_store.specs.Kept.{shows, value_in}
-use Rattle.ft_store.specs.declared.rows.RowChange.{RowChange}
-use Rattle.ft_content.specs.declared.fault.Fault.{Fault}
-use Rattle.ft_content.specs.declared.fault.Fault.TheVariants as faults
+use Rattle.ft_values.specs.declared.rows.RowChange.{RowChange}
+use Rattle.ft_values.specs.declared.fault.Fault.{Fault}
+use Rattle.ft_values.specs.declared.fault.Fault.TheVariants as faults
 use Rattle.ft_content.specs.declared.command.Reply.{Reply}
-use Rattle.ft_content.specs.declared.table.TableInfo.{TableInfo}
+use Rattle.ft_values.specs.declared.table.TableInfo.{TableInfo as RustTableInfo}
 use Rattle.ft_content.specs.Content.{same_name}
 use Rattle.ft_content.specs.Command as plain
 use Rattle.ft_content.specs.Deserved.{Contents}
-use Rattle.ft_content.specs.Views.{KnownTable, known_info, answer_of}
-use Rattle.ft_index.specs.Found.{known_named}
+use Rattle.ft_content.specs.Views.{TableInfo, shown_info, answer_of}
+use Rattle.ft_index.specs.Found.{info_named}
 use Rattle.ft_index.specs.Kept.{AreHeld, Executes, PlansFrom}
 use Rattle.ft_index.specs.Planned.{changes_of}
 use Rattle.ft_index.specs.Rebuild.{with_sound}
@@ -32,20 +32,20 @@ returns-in_err-changes-clause-executes g c =
     let fault : Fault = c.in_err-changes.field-0.0 in
     let is : c.from_residual.result ≡ Err fault = search rules in
     let planned : c.rebuild_changes.result ≡ Err fault = search rules in
-    let tables = map known_info c.args.tables.now.items in
+    let tables = map shown_info c.args.tables.now.items in
     let command = plain.Rebuild c.args.table.now in
     let value = value_in g.S.Store c.args.store.now in
     subst (λ (a : Result Reply Fault). Executes g.S.Store (with_tables c.args.store.now tables) command (answer_of a) (with_tables c.rebuild_changes.new.store tables)) (sym is)
     (refused_plan g.S.Store c.args.store.now c.rebuild_changes.new.store tables command fault c.rebuild_changes.ensures.looks
     (λ clean contents held. subst (λ (r : Result (Vec RowChange Global) Fault). PlansFrom contents command value (changes_of r)) planned
-    (c.rebuild_changes.ensures.plan clean contents (subst (λ ts. AreHeld value (map known_info ts) contents) (sym c.as_slice.ensures.value) held))))
+    (c.rebuild_changes.ensures.plan clean contents (subst (λ ts. AreHeld value (map shown_info ts) contents) (sym c.as_slice.ensures.value) held))))
 
 pub returns-in_err-change_rows-clause-executes : goal.returns-in_err-change_rows-clause-executes
 returns-in_err-change_rows-clause-executes g c =
     let fault : Fault = c.in_err-change_rows.field-0.0 in
     let is : c.from_residual-in_err-change_rows.result ≡ Err fault = search rules in
     let refused : c.change_rows.result ≡ Err fault = search rules in
-    let tables = map known_info c.args.tables.now.items in
+    let tables = map shown_info c.args.tables.now.items in
     let command = plain.Rebuild c.args.table.now in
     let outside : (fault ≡ faults.Store) ⊎ (fault ≡ faults.Memory) = search rules in
     let mid = c.rebuild_changes.new.store in
@@ -55,7 +55,7 @@ returns-in_err-change_rows-clause-executes g c =
 
 pub returns-clause-executes : goal.returns-clause-executes
 returns-clause-executes g c =
-    let tables = map known_info c.args.tables.now.items in
+    let tables = map shown_info c.args.tables.now.items in
     let command = plain.Rebuild c.args.table.now in
     let value = value_in g.S.Store c.args.store.now in
     let mid = c.rebuild_changes.new.store in
@@ -67,30 +67,30 @@ returns-clause-executes g c =
     (subst (λ (r : Result (Unit {0}) Fault). Changed g.S.Store mid c.change_rows.new.store (map shown_change c.as_slice-2.result.now) (is_ok r)) done c.change_rows.ensures.changed) in
     let plans : HasCleanDisk (shows g.S.Store mid) → (contents : Contents) → AreHeld value tables contents → PlansFrom contents command value (Ok changes) =
     λ clean contents held. subst (λ (r : Result (Vec RowChange Global) Fault). PlansFrom contents command value (changes_of r)) planned
-    (c.rebuild_changes.ensures.plan clean contents (subst (λ ts. AreHeld value (map known_info ts) contents) (sym c.as_slice.ensures.value) held)) in
-    elim c.match-place_of.branch [
+    (c.rebuild_changes.ensures.plan clean contents (subst (λ ts. AreHeld value (map shown_info ts) contents) (sym c.as_slice.ensures.value) held)) in
+    elim c.match-table_place.branch [
       | in-Some w ↦
           let here : c.as_slice-known.result.now ≡ c.args.tables.now.items = c.as_slice-known.ensures.value in
-          let s = placed known_info (λ (t : KnownTable). same_name t.name c.args.table.now) c.as_slice-known.result.now w.in-Some.place (sym c.place_of.ensures ∙ w.in-Some.is) in
-          let named = ap (λ ts. known_named (map known_info ts) c.args.table.now) (sym here) ∙ s.found in
+          let s = placed shown_info (λ (t : TableInfo). same_name t.name c.args.table.now) c.as_slice-known.result.now w.in-Some.place (sym c.table_place.ensures ∙ w.in-Some.is) in
+          let named = ap (λ ts. info_named (map shown_info ts) c.args.table.now) (sym here) ∙ s.found in
           let fits : FitsSigned w64 w.index-known-place.result.id = search rules in
           let read = slice_get_read c.as_slice-known.result.now _ w.in-Some.place w.index-known-place.result refl (slice_get_within c.as_slice-known.result.now w.in-Some.place s.item s.is) w.index-known-place.is in
           let same : w.index-known-place.result ≡ s.item = same_Some w.index-known-place.result s.item (sym read ∙ s.is) in
-          let told : map known_info c.match-place_of.tables.items ≡ with_sound s.item.id tables =
-          ap (λ (v : Vec TableInfo Global). map known_info v.items) w.tables-is ∙ w.mark_sound.ensures
-          ∙ ap (λ (t : TableInfo). with_sound (to_z w64 (of_z w64 t.id)) tables) (sym w.index-known-place.is)
+          let told : map shown_info c.match-table_place.tables.items ≡ with_sound s.item.id tables =
+          ap (λ (v : Vec RustTableInfo Global). map shown_info v.items) w.tables-is ∙ w.mark_sound.ensures
+          ∙ ap (λ (t : RustTableInfo). with_sound (to_z w64 (of_z w64 t.id)) tables) (sym w.index-known-place.is)
           ∙ ap (λ k. with_sound k tables) (to_z-of_z fits)
-          ∙ ap (λ (t : TableInfo). with_sound t.id tables) same in
-          subst (λ (ts : List KnownTable). Executes g.S.Store (with_tables c.args.store.now tables) command (Ok plain.Done) (with_tables c.change_rows.new.store ts)) (sym told)
+          ∙ ap (λ (t : RustTableInfo). with_sound t.id tables) same in
+          subst (λ (ts : List TableInfo). Executes g.S.Store (with_tables c.args.store.now tables) command (Ok plain.Done) (with_tables c.change_rows.new.store ts)) (sym told)
           (executes_after g.S.Store c.args.store.now mid c.change_rows.new.store tables changes command c.rebuild_changes.ensures.looks (with_sound s.item.id tables) plans changed
-          (λ contents held fine. told_after value tables contents c.args.table.now (known_info s.item) (told_here value tables contents c.args.table.now (known_info s.item) c.is_in_order.ensures.order held named) held.told fine)
+          (λ contents held fine. told_after value tables contents c.args.table.now (shown_info s.item) (told_here value tables contents c.args.table.now (shown_info s.item) c.is_in_order.ensures.order held named) held.told fine)
           (λ contents. rebuild_reply contents c.args.table.now))
       | in_default w ↦
           let here : c.as_slice-known.result.now ≡ c.args.tables.now.items = c.as_slice-known.ensures.value in
-          let none : c.place_of.result ≡ None = search rules in
-          let named = ap (λ ts. known_named (map known_info ts) c.args.table.now) (sym here) ∙ unplaced known_info (λ (t : KnownTable). same_name t.name c.args.table.now) c.as_slice-known.result.now (sym c.place_of.ensures ∙ none) in
-          let told : map known_info c.match-place_of.tables.items ≡ tables = ap (λ (v : Vec TableInfo Global). map known_info v.items) w.tables-is in
-          subst (λ (ts : List KnownTable). Executes g.S.Store (with_tables c.args.store.now tables) command (Ok plain.Done) (with_tables c.change_rows.new.store ts)) (sym told)
+          let none : c.table_place.result ≡ None = search rules in
+          let named = ap (λ ts. info_named (map shown_info ts) c.args.table.now) (sym here) ∙ unplaced shown_info (λ (t : TableInfo). same_name t.name c.args.table.now) c.as_slice-known.result.now (sym c.table_place.ensures ∙ none) in
+          let told : map shown_info c.match-table_place.tables.items ≡ tables = ap (λ (v : Vec RustTableInfo Global). map shown_info v.items) w.tables-is in
+          subst (λ (ts : List TableInfo). Executes g.S.Store (with_tables c.args.store.now tables) command (Ok plain.Done) (with_tables c.change_rows.new.store ts)) (sym told)
           (executes_after g.S.Store c.args.store.now mid c.change_rows.new.store tables changes command c.rebuild_changes.ensures.looks tables plans changed
           (λ contents held fine. absurd (let no = sym fine ∙ rebuild_missing contents tables c.args.table.now held.told named in cc))
           (λ contents. rebuild_reply contents c.args.table.now))
@@ -98,12 +98,12 @@ returns-clause-executes g c =
 
 pub returns-in_err-changes-clause-crash : goal.returns-in_err-changes-clause-crash
 returns-in_err-changes-clause-crash g c =
-    let tables = map known_info c.args.tables.now.items in
+    let tables = map shown_info c.args.tables.now.items in
     crash_read g.S.Store c.args.store.now c.rebuild_changes.new.store tables tables (plain.Rebuild c.args.table.now) c.rebuild_changes.ensures.looks
 
 pub returns-in_err-change_rows-clause-crash : goal.returns-in_err-change_rows-clause-crash
 returns-in_err-change_rows-clause-crash g c =
-    let tables = map known_info c.args.tables.now.items in
+    let tables = map shown_info c.args.tables.now.items in
     let after = tables in
     let command = plain.Rebuild c.args.table.now in
     let value = value_in g.S.Store c.args.store.now in
@@ -112,14 +112,14 @@ returns-in_err-change_rows-clause-crash g c =
     let planned : c.rebuild_changes.result ≡ Ok changes = search rules in
     let plans : PlansIn g.S.Store tables c.args.store.now mid command (Ok changes) =
     λ up contents held. subst (λ (r : Result (Vec RowChange Global) Fault). PlansFrom contents command value (changes_of r)) planned
-    (c.rebuild_changes.ensures.plan up.clean contents (subst (λ ts. AreHeld value (map known_info ts) contents) (sym c.as_slice.ensures.value) held)) in
+    (c.rebuild_changes.ensures.plan up.clean contents (subst (λ ts. AreHeld value (map shown_info ts) contents) (sym c.as_slice.ensures.value) held)) in
     crash_written g.S.Store c.args.store.now mid c.change_rows.new.store tables after command changes c.rebuild_changes.ensures.looks c.in_ok-changes.ensures.live plans
     (subst (λ (cs : List RowChange). Survives (shows g.S.Store mid) (shows g.S.Store c.change_rows.new.store) (CommitsRows g.S.Store mid (map shown_change cs))) c.as_slice-2.ensures.value c.change_rows.ensures.crash)
 
 pub returns-clause-crash : goal.returns-clause-crash
 returns-clause-crash g c =
-    let tables = map known_info c.args.tables.now.items in
-    let after = map known_info c.match-place_of.tables.items in
+    let tables = map shown_info c.args.tables.now.items in
+    let after = map shown_info c.match-table_place.tables.items in
     let command = plain.Rebuild c.args.table.now in
     let value = value_in g.S.Store c.args.store.now in
     let mid = c.rebuild_changes.new.store in
@@ -127,6 +127,6 @@ returns-clause-crash g c =
     let planned : c.rebuild_changes.result ≡ Ok changes = search rules in
     let plans : PlansIn g.S.Store tables c.args.store.now mid command (Ok changes) =
     λ up contents held. subst (λ (r : Result (Vec RowChange Global) Fault). PlansFrom contents command value (changes_of r)) planned
-    (c.rebuild_changes.ensures.plan up.clean contents (subst (λ ts. AreHeld value (map known_info ts) contents) (sym c.as_slice.ensures.value) held)) in
+    (c.rebuild_changes.ensures.plan up.clean contents (subst (λ ts. AreHeld value (map shown_info ts) contents) (sym c.as_slice.ensures.value) held)) in
     crash_written g.S.Store c.args.store.now mid c.change_rows.new.store tables after command changes c.rebuild_changes.ensures.looks c.in_ok-changes.ensures.live plans
     (subst (λ (cs : List RowChange). Survives (shows g.S.Store mid) (shows g.S.Store c.change_rows.new.store) (CommitsRows g.S.Store mid (map shown_change cs))) c.as_slice-2.ensures.value c.change_rows.ensures.crash)

@@ -1,6 +1,6 @@
 use Rattle.std.proofs.Common.{sym, ap, ◌∙◌, map, ◌<◌, ◌≤◌, length}
 use Rattle.std.proofs.lemmas.List.{length-map, get_or-map}
-use Rattle.ft_store.specs.Changes.{shown_value}
+use Rattle.ft_values.specs.Cells.{shown_value}
 use Rattle.ft_index.specs.RewriteRows.{same_cell, was_there}
 use Rattle.ft_index.proofs.CellSteps.{found_within, found_past}
 use Rattle.ft_index.proofs.rewrite.is_at.Goals as goal

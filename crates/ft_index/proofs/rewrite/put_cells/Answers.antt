@@ -3,7 +3,8 @@ use Rattle.std.specs.Ordering.{int_cmp}
 use Rattle.std.specs.FinMap.Entries.{find}
 use Rattle.std.proofs.lemmas.List.{drop_all}
 use Rattle.ft_store.specs.Store.{PutCell}
-use Rattle.ft_store.specs.Changes.{shown_value, shown_change}
+use Rattle.ft_values.specs.Cells.{shown_value}
+use Rattle.ft_store.specs.Changes.{shown_change}
 use Rattle.ft_index.specs.RewriteRows.{same_cell, was_there, numbered}
 use Rattle.ft_index.proofs.Steps.{all_taken, taken_more, change_more}
 use Rattle.ft_index.proofs.CellSteps.{put_from, cell_more}

@@ -1,6 +1,7 @@
 -- the changes so far, and those of the cells that are left
 use Rattle.std.proofs.Common.{◌≡◌, ◌++◌, map, drop}
-use Rattle.ft_store.specs.Changes.{shown_value, shown_change}
+use Rattle.ft_values.specs.Cells.{shown_value}
+use Rattle.ft_store.specs.Changes.{shown_change}
 use Rattle.ft_index.specs.RewriteRows.{put_cells}
 use Rattle.ft_index.proofs.CellSteps.{put_from}
 use Rattle.ft_index.proofs.rewrite.put_cells.Given as goal

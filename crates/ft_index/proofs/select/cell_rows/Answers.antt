@@ -5,8 +5,7 @@ use Rattle.std.specs.Ordering.{int_cmp}
 use Rattle.std.specs.FinMap.Entries.{find}
 use Rattle.std.proofs.lemmas.List.{take_more, take_all, map-append, length-map}
 use Rattle.ft_query.specs.declared.walk.Hit.{Hit}
-use Rattle.ft_store.specs.Changes.{shown_value}
-use Rattle.ft_store.specs.Store.{Cell}
+use Rattle.ft_values.specs.Cells.{shown_value, Cell}
 use Rattle.ft_content.specs.Content.{Content}
 use Rattle.ft_content.specs.Views.{cells_of, column_of, item_of}
 use Rattle.ft_index.specs.DocumentsRead.{HasRows}

@@ -1,7 +1,7 @@
 -- the names and the rows
 use Rattle.std.proofs.Common.{◌≡◌, ℤ, List, Option, option_map, map, string_bytes, Bor, sym, subst, ◌∙◌, to_z, of_z, w64, to_z-of_z, FitsSigned, rules}
 use Rattle.ft_query.specs.Trees.{Tree, tree_of}
-use Rattle.ft_content.specs.declared.table.Column.{Column}
+use Rattle.ft_values.specs.declared.table.Column.{Column}
 use Rattle.ft_content.specs.Answer.{answer_names, answer}
 use Rattle.ft_content.specs.Views.{bare_content, column_of, items_of, filter_of, names_in}
 use Rattle.ft_index.specs.Selected.{IsAsked}

@@ -1,6 +1,6 @@
 -- the tests, and then the query
 use Rattle.std.proofs.Common.{◌≡◌, inr, ◌∙◌, Option, Some, string_bytes, sym, ap}
-use Rattle.ft_content.specs.declared.fault.Fault.{Fault}
+use Rattle.ft_values.specs.declared.fault.Fault.{Fault}
 use Rattle.ft_content.specs.declared.command.Filter.{Filter}
 use Rattle.ft_content.specs.Deserved.{or_else, select_tests, reading_fault, query_fault}
 use Rattle.ft_content.specs.Answer.{reading}

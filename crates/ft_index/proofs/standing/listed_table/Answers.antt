@@ -2,7 +2,7 @@
 use Rattle.std.proofs.Common.{ap, subst, sym, ◌∙◌, to_z-of_z}
 use Rattle.std.specs.List.{find}
 use Rattle.std.specs.Ordering.{int_eq}
-use Rattle.ft_store.specs.declared.rows.TabRow.{TabRow}
+use Rattle.ft_values.specs.declared.rows.TabRow.{TabRow}
 use Rattle.ft_store.specs.Kept.{value_in}
 use Rattle.ft_index.specs.Opened.{IsFound}
 use Rattle.ft_index.proofs.OpenedTables.{found_listed}

@@ -1,7 +1,7 @@
 use Rattle.std.proofs.Common.{rules}
 use Rattle.std.proofs.lemmas.Result.{on_ok_weaker}
 use Rattle.std.proofs.lemmas.List.Sorted.{answers_always}
-use Rattle.ft_store.specs.declared.rows.EntryRow.{EntryRow}
+use Rattle.ft_values.specs.declared.rows.EntryRow.{EntryRow}
 use Rattle.ft_index.proofs.standing_index.sort_by_docid.Goals as goal
 
 pub returns-clause-sorted : goal.returns-clause-sorted

@@ -1,11 +1,11 @@
 -- by what is made
 use Rattle.std.proofs.Common.{rules, ◌≡◌, [], ◌∷◌, List, map, string_bytes, Ok, Err, None, Some, Result, Vec, Global, sym, ap, subst, ◌∙◌}
-use Rattle.ft_store.specs.declared.rows.RowChange.{RowChange}
+use Rattle.ft_values.specs.declared.rows.RowChange.{RowChange}
 use Rattle.ft_store.specs.Store.{Change}
 use Rattle.ft_store.specs.Changes.{shown_change}
-use Rattle.ft_content.specs.declared.fault.Fault.{Fault}
+use Rattle.ft_values.specs.declared.fault.Fault.{Fault}
 use Rattle.ft_content.specs.Command as plain
-use Rattle.ft_content.specs.Views.{known_info, option_of}
+use Rattle.ft_content.specs.Views.{shown_info, option_of}
 use Rattle.ft_index.specs.Kept.{PlansFrom}
 use Rattle.ft_index.specs.Planned.{Makes, changes_of, table_change}
 use Rattle.ft_index.proofs.PlanAnswers.{create_refused, create_nothing, create_makes}
@@ -20,14 +20,14 @@ returns-in_err-made c store contents order held =
     let is : c.from_residual.result ≡ Err fault = search rules in
     let made : c.made_table.result ≡ Err fault = search rules in
     subst (λ (r : Result (Vec RowChange Global) Fault). PlansFrom contents (plain.Create c.args.table.now c.args.module_name.now options names c.args.if_new) store (changes_of r)) (sym is)
-    (create_refused contents c.args.table.now c.args.module_name.now options names c.args.if_new store (map known_info c.args.tables.now) fault
+    (create_refused contents c.args.table.now c.args.module_name.now options names c.args.if_new store (map shown_info c.args.tables.now) fault
     (subst (Makes contents c.args.table.now c.args.module_name.now options names c.args.if_new) made (c.made_table.ensures contents held.told)))
 
 pub returns : goal.returns
 returns c store contents order held =
     let options = map option_of c.args.options.now in
     let names = map string_bytes c.args.columns.now in
-    let tables = map known_info c.args.tables.now in
+    let tables = map shown_info c.args.tables.now in
     let command = plain.Create c.args.table.now c.args.module_name.now options names c.args.if_new in
     let made : c.made_table.result ≡ Ok c.in_ok-made.made = search rules in
     let makes = subst (Makes contents c.args.table.now c.args.module_name.now options names c.args.if_new) made (c.made_table.ensures contents held.told) in

@@ -3,14 +3,14 @@ use Rattle.std.proofs.Common.{inr, ◌≡◌, ◌∷◌, [], List, ◌++◌, Ok,
 use Rattle.std.specs.Prelude.{slice_index_or}
 use Rattle.ft_store.specs.Changes.{shown_change}
 use Rattle.ft_store.specs.Store.{Change, DropTable}
-use Rattle.ft_store.specs.declared.rows.RowChange.{RowChange}
-use Rattle.ft_store.specs.declared.rows.RowChange.TheVariants as changes
-use Rattle.ft_content.specs.declared.table.TableInfo.{TableInfo}
+use Rattle.ft_values.specs.declared.rows.RowChange.{RowChange}
+use Rattle.ft_values.specs.declared.rows.RowChange.TheVariants as changes
+use Rattle.ft_values.specs.declared.table.TableInfo.{TableInfo as RustTableInfo}
 use Rattle.std.proofs.lemmas.Option.{slice_get_read, slice_get_within, same_Some}
 use Rattle.ft_content.specs.Content.{same_name}
 use Rattle.ft_content.specs.Command.{Drop}
-use Rattle.ft_content.specs.Views.{KnownTable, known_info}
-use Rattle.ft_index.specs.Found.{known_named}
+use Rattle.ft_content.specs.Views.{TableInfo, shown_info}
+use Rattle.ft_index.specs.Found.{info_named}
 use Rattle.ft_index.specs.Kept.{PlansFrom}
 use Rattle.ft_index.proofs.FoundLemmas.{placed, unplaced}
 use Rattle.ft_index.proofs.KnownLemmas.{none_named}
@@ -20,21 +20,21 @@ use Rattle.ft_index.proofs.tables.drop_changes.Goals.{in-Some+in_ok-push-in-Some
 
 pub returns-in-None : goal.returns-in-None
 returns-in-None c = λ store contents order held. inr (drop_missing contents c.args.table.now c.args.if_there
-    (none_named contents c.args.table.now (ap (λ ts. known_named ts c.args.table.now) (sym held.told) ∙ unplaced known_info (λ (t : KnownTable). same_name t.name c.args.table.now) c.args.tables.now (sym c.place_of.ensures ∙ c.in-None.is)))
+    (none_named contents c.args.table.now (ap (λ ts. info_named ts c.args.table.now) (sym held.told) ∙ unplaced shown_info (λ (t : TableInfo). same_name t.name c.args.table.now) c.args.tables.now (sym c.table_place.ensures ∙ c.in-None.is)))
     c.if-not-if_there.true)
 
 pub returns : goal.returns
-returns c = elim c.match-place_of.branch [
+returns c = elim c.match-table_place.branch [
   | in-Some+in_ok-push-in-Some w ↦ λ store contents order held.
       let fits : FitsSigned w64 w.index-tables-place.result.id = search rules in
-      let s = placed known_info (λ (t : KnownTable). same_name t.name c.args.table.now) c.args.tables.now w.in-Some.place (sym c.place_of.ensures ∙ w.in-Some.is) in
-      let same : map shown_change c.match-place_of.changes.items ≡ DropTable s.item.id ∷ [] =
+      let s = placed shown_info (λ (t : TableInfo). same_name t.name c.args.table.now) c.args.tables.now w.in-Some.place (sym c.table_place.ensures ∙ w.in-Some.is) in
+      let same : map shown_change c.match-table_place.changes.items ≡ DropTable s.item.id ∷ [] =
       ap (λ (v : Vec RowChange Global). map shown_change v.items) w.changes-is
       ∙ ap (map shown_change) (w.in_ok-push-in-Some.ensures.items ∙ ap (λ l. l ++ changes.DropTable (to_z w64 (of_z w64 (slice_index_or c.args.tables.now w.in-Some.place w.index-tables-place.result).id)) ∷ []) c.new-changes.ensures.items)
-      ∙ ap (λ (t : TableInfo). DropTable (to_z w64 (of_z w64 t.id)) ∷ []) (sym w.index-tables-place.is)
-      ∙ ap (λ k. DropTable k ∷ []) (to_z-of_z fits ∙ ap (λ (t : TableInfo). t.id) (sym (same_Some s.item w.index-tables-place.result (sym s.is ∙ slice_get_read c.args.tables.now _ w.in-Some.place w.index-tables-place.result refl (slice_get_within c.args.tables.now w.in-Some.place s.item s.is) w.index-tables-place.is)))) in
-      subst (λ (cs : List Change). PlansFrom contents (Drop c.args.table.now c.args.if_there) store (Ok cs)) (sym same) (drop_planned store (map known_info c.args.tables.now) contents c.args.table.now c.args.if_there (known_info s.item) order held s.found)
+      ∙ ap (λ (t : RustTableInfo). DropTable (to_z w64 (of_z w64 t.id)) ∷ []) (sym w.index-tables-place.is)
+      ∙ ap (λ k. DropTable k ∷ []) (to_z-of_z fits ∙ ap (λ (t : RustTableInfo). t.id) (sym (same_Some s.item w.index-tables-place.result (sym s.is ∙ slice_get_read c.args.tables.now _ w.in-Some.place w.index-tables-place.result refl (slice_get_within c.args.tables.now w.in-Some.place s.item s.is) w.index-tables-place.is)))) in
+      subst (λ (cs : List Change). PlansFrom contents (Drop c.args.table.now c.args.if_there) store (Ok cs)) (sym same) (drop_planned store (map shown_info c.args.tables.now) contents c.args.table.now c.args.if_there (shown_info s.item) order held s.found)
   | in-None+else-not-if_there w ↦ λ store contents order held.
-      let same : map shown_change c.match-place_of.changes.items ≡ [] = ap (λ (v : Vec RowChange Global). map shown_change v.items) w.changes-is ∙ ap (map shown_change) c.new-changes.ensures.items in
-      subst (λ (cs : List Change). PlansFrom contents (Drop c.args.table.now c.args.if_there) store (Ok cs)) (sym same) (drop_spared store (map known_info c.args.tables.now) contents c.args.table.now c.args.if_there w.if-not-if_there.false held (unplaced known_info (λ (t : KnownTable). same_name t.name c.args.table.now) c.args.tables.now (sym c.place_of.ensures ∙ w.in-None.is)))
+      let same : map shown_change c.match-table_place.changes.items ≡ [] = ap (λ (v : Vec RowChange Global). map shown_change v.items) w.changes-is ∙ ap (map shown_change) c.new-changes.ensures.items in
+      subst (λ (cs : List Change). PlansFrom contents (Drop c.args.table.now c.args.if_there) store (Ok cs)) (sym same) (drop_spared store (map shown_info c.args.tables.now) contents c.args.table.now c.args.if_there w.if-not-if_there.false held (unplaced shown_info (λ (t : TableInfo). same_name t.name c.args.table.now) c.args.tables.now (sym c.table_place.ensures ∙ w.in-None.is)))
 ]

@@ -2,9 +2,9 @@
 use Rattle.std.proofs.Common.{◌≤◌, ◌<◌, sym, ap, subst, ◌∙◌, map, length, arith, rules, FitsSigned, w64, to_z-of_z}
 use Rattle.std.specs.List.{insert, remove}
 use Rattle.std.specs.Prelude.{vec_len}
-use Rattle.ft_content.specs.Views.{known_info}
+use Rattle.ft_content.specs.Views.{shown_info}
 use Rattle.ft_index.specs.Found.{with_told}
-use Rattle.ft_index.proofs.ToldLemmas.{known_insert, taken_out}
+use Rattle.ft_index.proofs.ToldLemmas.{info_insert, taken_out}
 use Rattle.ft_index.proofs.told.insert_table.Goals as goal
 
 pub insert-requires : goal.insert-requires
@@ -13,10 +13,10 @@ insert-requires c = subst (λ n. c.place_for-place.result ≤ n) c.as_slice.ensu
 pub returns-clause-added : goal.returns-clause-added
 returns-clause-added c =
     let place = c.place_for-place.result in
-    ap (map known_info) c.in_ok-insert.ensures.items ∙ known_insert c.args.tables.now.items place c.args.table
-    ∙ ap (λ ts. insert (map known_info ts) place (known_info c.args.table)) (sym c.as_slice.ensures.value)
-    ∙ sym (c.place_for-place.ensures.place (known_info c.args.table) (let fits : FitsSigned w64 c.args.table.id = search rules in sym (to_z-of_z fits)))
-    ∙ ap (λ ts. with_told (known_info c.args.table) (map known_info ts)) c.as_slice.ensures.value
+    ap (map shown_info) c.in_ok-insert.ensures.items ∙ info_insert c.args.tables.now.items place c.args.table
+    ∙ ap (λ ts. insert (map shown_info ts) place (shown_info c.args.table)) (sym c.as_slice.ensures.value)
+    ∙ sym (c.place_for-place.ensures.place (shown_info c.args.table) (let fits : FitsSigned w64 c.args.table.id = search rules in sym (to_z-of_z fits)))
+    ∙ ap (λ ts. with_told (shown_info c.args.table) (map shown_info ts)) c.as_slice.ensures.value
 
 pub returns-clause-back : goal.returns-clause-back
 returns-clause-back c =

@@ -10,6 +10,6 @@ pub returns-in-Tables-clause-turn : goal.returns-in-Tables-clause-turn
 returns-in-Tables-clause-turn g c =
     let is : command_as c.args.command.now ≡ Tables = search rules in
     inl (subst (DotTurn g.P.Store g.S.Store c.args.line
-    (record { look = c.args.settings.now; plain = c.args.plain.now; known = c.args.fulltext.now; holds = g.F.Source.holds c.args.source.now })
-    (record { look = c.args.settings.now; plain = c.tables_turn.new.plain; known = c.tables_turn.new.full; holds = g.F.Source.holds c.args.source.now })
+    (record { settings = c.args.settings.now; plain = c.args.plain.now; full_text = c.args.full_text.now; holds = g.F.Source.holds c.args.source.now })
+    (record { settings = c.args.settings.now; plain = c.tables_turn.new.plain; full_text = c.tables_turn.new.full_text; holds = g.F.Source.holds c.args.source.now })
     (told_as c.tables_turn.result)) (sym is) ((refl, refl), c.tables_turn.ensures))

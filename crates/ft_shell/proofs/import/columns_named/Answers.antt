@@ -1,17 +1,24 @@
--- the table has the name, or not
-use Rattle.std.proofs.Common.{rules, ◌≡◌, Some, length, true, false, sym, ap, ◌∙◌, subst}
-use Rattle.ft_statements.specs.Statements.{is_named}
-use Rattle.ft_shell.proofs.ImportTurnLemmas.{named_here, named_later}
+-- the table is the first of its name, or there is none
+use Rattle.std.proofs.Common.{◌≡◌, Some, length, refl, sym, ap, ◌∙◌, arith}
+use Rattle.std.specs.Prelude.{option_map}
+use Rattle.std.proofs.lemmas.List.{length-map}
+use Rattle.std.proofs.lemmas.Option.{slice_get_read, slice_get_within, same_Some}
+use Rattle.ft_values.specs.Names.{same_name}
+use Rattle.ft_values.specs.declared.table.TableInfo.{TableInfo as RustTableInfo}
+use Rattle.ft_content.specs.Views.{TableInfo, shown_info, column_of}
+use Rattle.ft_index.proofs.FoundLemmas.{placed, unplaced}
 use Rattle.ft_shell.proofs.import.columns_named.Goals as goal
 
-pub returns-then-eq_ignore_ascii_case : goal.returns-then-eq_ignore_ascii_case
-returns-then-eq_ignore_ascii_case c =
-    let test : is_named c.args.name.now c.as_str.result.now ≡ true = search rules in
-    let count : c.len.result ≡ length c.table-item.result.columns.items = search rules in
-    ap Some count
-    ∙ sym (c.loop-table.invariant ∙ named_here c.args.tables.now c.loop-table.table-index c.table-item.result c.args.name.now c.loop-table-test.true c.table-item.is (subst (λ t. is_named c.args.name.now t ≡ true) c.as_str.ensures.value test))
+pub returns-in-Some : goal.returns-in-Some
+returns-in-Some c =
+    let s = placed shown_info (λ (t : TableInfo). same_name t.name c.args.name.now) c.args.tables.now c.in-Some.place (sym c.table_place.ensures ∙ c.in-Some.is) in
+    let read = slice_get_read c.args.tables.now _ c.in-Some.place c.index-tables-place.result refl (slice_get_within c.args.tables.now c.in-Some.place s.item s.is) c.index-tables-place.is in
+    let same : s.item ≡ c.index-tables-place.result = same_Some s.item c.index-tables-place.result (sym s.is ∙ read) in
+    let full : s.item.columns.len ≡ length s.item.columns.items = omega (arith, s.item.columns.ok.0) in
+    ap Some (c.len.ensures ∙ ap (λ (t : RustTableInfo). t.columns.len) (sym (same ∙ c.index-tables-place.is)) ∙ full ∙ sym (length-map s.item.columns.items column_of))
+    ∙ ap (λ o. option_map (λ (t : TableInfo). length t.columns) o) (sym s.found)
 
-pub loop-table-preserved : goal.loop-table-preserved
-loop-table-preserved c =
-    let test : is_named c.args.name.now c.as_str.result.now ≡ false = search rules in
-    c.loop-table.invariant ∙ named_later c.args.tables.now c.loop-table.table-index c.table-item.result c.args.name.now c.loop-table-test.true c.table-item.is (subst (λ t. is_named c.args.name.now t ≡ false) c.as_str.ensures.value test)
+pub returns-in-None : goal.returns-in-None
+returns-in-None c =
+    ap (λ o. option_map (λ (t : TableInfo). length t.columns) o)
+    (sym (unplaced shown_info (λ (t : TableInfo). same_name t.name c.args.name.now) c.args.tables.now (sym c.table_place.ensures ∙ c.in-None.is)))

@@ -18,5 +18,5 @@ returns g c =
     let lines : string_bytes c.in-Ok.lines ≡ warnings (string_bytes c.args.what.now.file) c.args.columns rows =
     c.in-Ok.ensures ∙ (λ j. warnings (c.as_str.ensures.value j) c.args.columns (enumerate_from c.args.first (map texts_of (c.as_slice.ensures.value j)))) in
     executed
-    (subst (λ l. InsertTurn g.S.Store c.args.settings.now c.args.line (Insert (string_bytes c.args.what.now.table) None (map (fitted c.args.columns) (records_in rows))) l c.args.full.now c.insert_told.new.full (told_as c.insert_told.result)) lines
-    (subst (λ k. InsertTurn g.S.Store c.args.settings.now c.args.line k (string_bytes c.in-Ok.lines) c.args.full.now c.insert_told.new.full (told_as c.insert_told.result)) command c.insert_told.ensures))
+    (subst (λ l. InsertTurn g.S.Store c.args.settings.now c.args.line (Insert (string_bytes c.args.what.now.table) None (map (fitted c.args.columns) (records_in rows))) l c.args.full_text.now c.insert_told.new.full_text (told_as c.insert_told.result)) lines
+    (subst (λ k. InsertTurn g.S.Store c.args.settings.now c.args.line k (string_bytes c.in-Ok.lines) c.args.full_text.now c.insert_told.new.full_text (told_as c.insert_told.result)) command c.insert_told.ensures))

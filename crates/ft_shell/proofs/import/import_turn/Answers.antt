@@ -7,5 +7,5 @@ use Rattle.ft_shell.proofs.import.import_turn.Goals as goal
 
 pub returns-in-Some-clause-turn : goal.returns-in-Some-clause-turn
 returns-in-Some-clause-turn g c =
-    subst (DelimitedTurn g.P.Store g.S.Store c.args.settings.now c.args.line (import_as c.args.what.now) c.args.plain.now c.file_turn.new.plain c.args.full.now c.file_turn.new.full (told_as c.file_turn.result) (g.F.Source.holds c.args.source.now))
+    subst (DelimitedTurn g.P.Store g.S.Store c.args.settings.now c.args.line (import_as c.args.what.now) c.args.plain.now c.file_turn.new.plain c.args.full_text.now c.file_turn.new.full_text (told_as c.file_turn.result) (g.F.Source.holds c.args.source.now))
     c.in-Some.ensures c.file_turn.ensures.turn

@@ -29,8 +29,8 @@ returns-in-Ok-import_records g c =
     made (c.args.first, names) rest refl narrow
     (subst (λ s. CommitsAll g.P.Store s c.args.plain.now c.import_records.new.plain) (same_steps (Some names) c.as_str-table.result.now (string_bytes c.args.what.now.table) (length c.args.names.now) (length names) found (c.args.first + 1) table count)
     c.in-Ok-import_records.ensures.done)
-    (subst (λ l. NotesAfter g.S.Store c.args.settings.now c.args.line (string_bytes c.args.what.now.table) l c.args.full.now c.noted_told.new.full (told_as c.noted_told.result)) lines
-    (subst (λ t. NotesAfter g.S.Store c.args.settings.now c.args.line t (string_bytes c.in-Ok.lines) c.args.full.now c.noted_told.new.full (told_as c.noted_told.result)) table c.noted_told.ensures))
+    (subst (λ l. NotesAfter g.S.Store c.args.settings.now c.args.line (string_bytes c.args.what.now.table) l c.args.full_text.now c.noted_told.new.full_text (told_as c.noted_told.result)) lines
+    (subst (λ t. NotesAfter g.S.Store c.args.settings.now c.args.line t (string_bytes c.in-Ok.lines) c.args.full_text.now c.noted_told.new.full_text (told_as c.noted_told.result)) table c.noted_told.ensures))
 
 pub returns-in-Err : goal.returns-in-Err
 returns-in-Err g c =
@@ -41,7 +41,7 @@ returns-in-Err g c =
     let narrow : length names ≤ 100 = omega (arith, c.if-columns-gt100.false, count) in
     let table : c.as_str-table.result.now ≡ string_bytes c.args.what.now.table = c.as_str-table.ensures.value in
     making_refused g.P.Store c.args.settings.now c.args.line (import_as c.args.what.now) ((c.args.first, names) ∷ rest) {T = Unit {0}} g.S.Store c.in-Err.fault (c.args.first, names) rest
-    c.args.plain.now c.import_records.new.plain c.args.full.now (told_as c.refusal-in-Err.result) refl narrow c.in-Err.ensures.kept
+    c.args.plain.now c.import_records.new.plain c.args.full_text.now (told_as c.refusal-in-Err.result) refl narrow c.in-Err.ensures.kept
     (λ refused. subst (λ s. Declines g.P.Store s c.args.plain.now c.import_records.new.plain) (same_steps (Some names) c.as_str-table.result.now (string_bytes c.args.what.now.table) (length c.args.names.now) (length names) found (c.args.first + 1) table count)
     (c.in-Err.ensures.declined refused))
     c.refusal-in-Err.ensures

@@ -11,12 +11,12 @@ pub returns-in-Err-Memory : goal.returns-in-Err-Memory
 returns-in-Err-Memory g c = (
   lacks_memory c.args.settings.now c.args.line,
   record { is_noted = false; notes = c.in-Err-Memory.ensures.noted; survives = c.in-Err-Memory.ensures.crash; tells = inr refl },
-  c.warned_and_blamed.ensures,
+  c.blames_behind.ensures,
 )
 
 pub returns-in-Err : goal.returns-in-Err
 returns-in-Err g c = (
   blames c.args.settings.now c.args.line (codes "table not noted"),
   record { is_noted = false; notes = c.in-Err.ensures.noted; survives = c.in-Err.ensures.crash; tells = inl refl },
-  c.warned_and_blamed-in-Err.ensures,
+  c.blames_behind-in-Err.ensures,
 )

@@ -1,7 +1,7 @@
 -- one value more
 use Rattle.std.proofs.Common.{◌≡◌, ◌-◌, ◌++◌, ◌∷◌, [], map, length, replicate, ap, ◌∙◌, append_assoc, arith}
 use Rattle.std.proofs.lemmas.List.{map-append, replicate_more}
-use Rattle.ft_store.specs.Changes.{shown_value}
+use Rattle.ft_values.specs.Cells.{shown_value}
 use Rattle.ft_content.specs.Content.{Null}
 use Rattle.ft_content.specs.Views.{cells_of}
 use Rattle.ft_shell.proofs.imports.fill.Goals as goal

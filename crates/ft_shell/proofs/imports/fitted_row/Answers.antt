@@ -1,7 +1,7 @@
 -- cut, and then filled
 use Rattle.std.proofs.Common.{◌≡◌, ◌-◌, ◌++◌, map, take, length, replicate, sym, ap, ◌∙◌}
 use Rattle.std.proofs.lemmas.List.{take-map, length-map}
-use Rattle.ft_store.specs.Changes.{shown_value}
+use Rattle.ft_values.specs.Cells.{shown_value}
 use Rattle.ft_content.specs.Content.{Null, Text}
 use Rattle.ft_content.specs.Views.{cells_of}
 use Rattle.ft_statements.specs.Views.{texts_of}

@@ -2,7 +2,7 @@
 use Rattle.std.proofs.Common.{rules, ◌≡◌, ◌+◌, [], ◌∷◌, ◌++◌, map, take, drop, get_or, true, None, Some, string_bytes, sym, ap, ◌∙◌, subst, inl, inr}
 use Rattle.std.proofs.lemmas.List.{map-append}
 use Rattle.ft_statements.specs.Views.{texts_of}
-use Rattle.ft_shell.specs.TablesTurns.{Finds, Stops, Tries}
+use Rattle.ft_shell.specs.TablesTurns.{Finds, StopsTrying, Tries}
 use Rattle.ft_shell.proofs.TablesLemmas.{finds_can, finds_cannot, stops_after, stops_now, names_split, names_more, on_err}
 use Rattle.ft_shell.proofs.listing.found_tables.Goals as goal
 use Rattle.ft_shell.proofs.listing.found_tables.Goals.{then-can_read+in_ok-from_str+in_ok-push, else-can_read}
@@ -13,7 +13,7 @@ returns-in_default-clause-stops g c =
     let none : c.reads_table.result ≡ None = search rules in
     let tries : Tries g.P.Store c.as_str.result.now None c.loop-name.plain c.reads_table.new.conn = subst (λ r. Tries g.P.Store c.as_str.result.now r c.loop-name.plain c.reads_table.new.conn) none c.reads_table.ensures in
     let name : c.as_str.result.now ≡ string_bytes (get_or c.args.names.now i c.name-item.result) = c.as_str.ensures.value ∙ ap string_bytes c.name-item.is in
-    subst (λ names. Stops g.P.Store names c.args.plain.now c.reads_table.new.conn) (names_split c.args.names.now i c.name-item.result c.as_str.result.now c.loop-name-test.true name)
+    subst (λ names. StopsTrying g.P.Store names c.args.plain.now c.reads_table.new.conn) (names_split c.args.names.now i c.name-item.result c.as_str.result.now c.loop-name-test.true name)
     (stops_after g.P.Store (map string_bytes (take i c.args.names.now)) (c.as_str.result.now ∷ map string_bytes (drop (i + 1) c.args.names.now)) c.args.plain.now c.loop-name.plain c.reads_table.new.conn (texts_of c.loop-name.found)
     c.loop-name.invariant (inr (inl tries)))
 
@@ -23,7 +23,7 @@ returns-in_err-from_str-clause-stops g c =
     let tries : Tries g.P.Store c.as_str.result.now (Some true) c.loop-name.plain c.reads_table.new.conn = subst (λ b. Tries g.P.Store c.as_str.result.now (Some b) c.loop-name.plain c.reads_table.new.conn) c.if-can_read.true c.in-Some.ensures in
     let name : c.as_str.result.now ≡ string_bytes (get_or c.args.names.now i c.name-item.result) = c.as_str.ensures.value ∙ ap string_bytes c.name-item.is in
     on_err c.from_residual.result
-    (subst (λ names. Stops g.P.Store names c.args.plain.now c.reads_table.new.conn) (names_split c.args.names.now i c.name-item.result c.as_str.result.now c.loop-name-test.true name)
+    (subst (λ names. StopsTrying g.P.Store names c.args.plain.now c.reads_table.new.conn) (names_split c.args.names.now i c.name-item.result c.as_str.result.now c.loop-name-test.true name)
     (stops_after g.P.Store (map string_bytes (take i c.args.names.now)) (c.as_str.result.now ∷ map string_bytes (drop (i + 1) c.args.names.now)) c.args.plain.now c.loop-name.plain c.reads_table.new.conn (texts_of c.loop-name.found)
     c.loop-name.invariant (inr (inr (c.reads_table.new.conn, true, tries, stops_now g.P.Store (map string_bytes (drop (i + 1) c.args.names.now)) c.reads_table.new.conn)))))
 
@@ -33,7 +33,7 @@ returns-in_err-push-clause-stops g c =
     let tries : Tries g.P.Store c.as_str.result.now (Some true) c.loop-name.plain c.reads_table.new.conn = subst (λ b. Tries g.P.Store c.as_str.result.now (Some b) c.loop-name.plain c.reads_table.new.conn) c.if-can_read.true c.in-Some.ensures in
     let name : c.as_str.result.now ≡ string_bytes (get_or c.args.names.now i c.name-item.result) = c.as_str.ensures.value ∙ ap string_bytes c.name-item.is in
     on_err c.from_residual-in_err-push.result
-    (subst (λ names. Stops g.P.Store names c.args.plain.now c.reads_table.new.conn) (names_split c.args.names.now i c.name-item.result c.as_str.result.now c.loop-name-test.true name)
+    (subst (λ names. StopsTrying g.P.Store names c.args.plain.now c.reads_table.new.conn) (names_split c.args.names.now i c.name-item.result c.as_str.result.now c.loop-name-test.true name)
     (stops_after g.P.Store (map string_bytes (take i c.args.names.now)) (c.as_str.result.now ∷ map string_bytes (drop (i + 1) c.args.names.now)) c.args.plain.now c.loop-name.plain c.reads_table.new.conn (texts_of c.loop-name.found)
     c.loop-name.invariant (inr (inr (c.reads_table.new.conn, true, tries, stops_now g.P.Store (map string_bytes (drop (i + 1) c.args.names.now)) c.reads_table.new.conn)))))
 

@@ -5,7 +5,7 @@ use Rattle.std.specs.Borrow.{Bor}
 use Rattle.sqlite.specs.Held.{state}
 use Rattle.ft_shell.specs.declared.plain_import.ImportFault.TheVariants.{Refused, Memory}
 use Rattle.ft_shell.specs.PlainStatements.{IfClean, is_memory_error}
-use Rattle.ft_shell.specs.PlainImports.{Keeps, KeepsLast, import_steps, DoesAll, Stops, CommitsAll, Declines, stopped, uncommitted}
+use Rattle.ft_shell.specs.PlainImports.{CommitsNothing, KeepsLast, import_steps, DoesAll, StopsAtStep, CommitsAll, Declines, stopped, uncommitted}
 use Rattle.ft_statements.specs.Views.{texts_of}
 use Rattle.ft_shell.proofs.PlainTurnLemmas.{clean_before}
 use Rattle.ft_shell.proofs.PlainImportLemmas.{other_cause, uncommitted_all_kept}
@@ -18,7 +18,7 @@ returns-in_err-fill-clause-declined g c =
     let settled : c.args.plain.now.in_transaction ≡ false = search rules in
     let same : c.drop-tx.new.self.0 ≡ c.plain-1.given.0 = search rules in
     λ refused. subst (λ h. Declines g.P.Store steps c.args.plain.now h) same
-    (stopped c.fill.new.tx.conn.now settled (subst (λ h. Stops g.P.Store steps h c.fill.new.tx.conn.now) c.transaction-tx.ensures.begun (c.in_err-fill.ensures.refused (sym is ∙ refused)))
+    (stopped c.fill.new.tx.conn.now settled (subst (λ h. StopsAtStep g.P.Store steps h c.fill.new.tx.conn.now) c.transaction-tx.ensures.begun (c.in_err-fill.ensures.refused (sym is ∙ refused)))
     (λ clean. (clean_before c.drop-tx.ensures.survives clean, c.drop-tx.ensures.undone clean)))
 
 pub returns-in_err-commit-clause-declined : goal.returns-in_err-commit-clause-declined
@@ -39,7 +39,7 @@ returns-in_err-commit-clause-kept g c =
     let is : c.from_residual-in_err-commit.result ≡ Err (if is_memory_error e then Memory else Refused) = search rules in
     let same : c.commit.new.self.0 ≡ c.plain-2-1.given.0 = search rules in
     let begins = subst (λ h. KeepsLast g.P.Store h c.fill.new.tx.conn.now) c.transaction-tx.ensures.begun c.fill.ensures.kept in
-    let kept : IfClean g.P.Store c.args.plain.now c.plain-2-1.given.0 (Keeps (state g.P.Store c.args.plain.now) (state g.P.Store c.plain-2-1.given.0)) = subst (λ h. IfClean g.P.Store c.args.plain.now h (Keeps (state g.P.Store c.args.plain.now) (state g.P.Store h))) same
+    let kept : IfClean g.P.Store c.args.plain.now c.plain-2-1.given.0 (CommitsNothing (state g.P.Store c.args.plain.now) (state g.P.Store c.plain-2-1.given.0)) = subst (λ h. IfClean g.P.Store c.args.plain.now h (CommitsNothing (state g.P.Store c.args.plain.now) (state g.P.Store h))) same
     (uncommitted_all_kept g.P.Store c.args.plain.now c.fill.new.tx.conn.now c.commit.new.self.0 e begins c.in_ok-fill.ensures.inside (λ clean. (clean_before c.commit.ensures.survives clean, c.in_err-commit.ensures.err clean))) in
     search (rules, kept, is)
 

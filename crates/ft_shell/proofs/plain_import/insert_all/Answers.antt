@@ -1,7 +1,7 @@
 -- one record more goes in, or is refused
 use Rattle.std.proofs.Common.{rules, ◌≡◌, ◌+◌, map, take, drop, get_or, Err, string_bytes, sym, ap, subst, ◌∙◌, String, Vec, Global}
 use Rattle.ft_statements.specs.Views.{texts_of}
-use Rattle.ft_shell.specs.PlainImports.{Run, fitted_row, runs_of, DoesAll, Stops}
+use Rattle.ft_shell.specs.PlainImports.{Run, fitted_row, runs_of, DoesAll, StopsAtStep}
 use Rattle.ft_shell.proofs.PlainImportLemmas.{runs_more, runs_split, does_more, stops_at, last_then}
 use Rattle.ft_shell.proofs.plain_import.insert_all.Goals as goal
 
@@ -10,7 +10,7 @@ returns-in_err-insert_record-clause-refused g c =
     let is : c.from_residual.result ≡ Err c.in_err-insert_record.field-0.0 = search rules in
     let row : map string_bytes c.as_slice.result.now ≡ texts_of (get_or c.args.records.now c.loop-fields.fields-index c.fields-item.result) = (λ j. map string_bytes ((c.as_slice.ensures.value ∙ ap (λ (v : Vec (String Global) Global). v.items) c.fields-item.is) j)) in
     λ refused text same.
-    subst (λ steps. Stops g.P.Store steps c.args.tx.now.conn.now c.insert_record.new.tx.conn.now)
+    subst (λ steps. StopsAtStep g.P.Store steps c.args.tx.now.conn.now c.insert_record.new.tx.conn.now)
     (runs_split text c.args.columns c.args.records.now c.loop-fields.fields-index c.fields-item.result (map string_bytes c.as_slice.result.now) c.loop-fields-test.true row)
     (stops_at g.P.Store (runs_of text c.args.columns (map texts_of (take c.loop-fields.fields-index c.args.records.now))) (Run text (fitted_row c.args.columns (map string_bytes c.as_slice.result.now)))
     (runs_of text c.args.columns (map texts_of (drop (c.loop-fields.fields-index + 1) c.args.records.now))) c.args.tx.now.conn.now c.loop-fields.tx.conn.now c.insert_record.new.tx.conn.now

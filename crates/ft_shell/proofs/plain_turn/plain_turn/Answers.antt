@@ -10,10 +10,10 @@ use Rattle.ft_shell.proofs.plain_turn.plain_turn.Goals as goal
 pub returns-then-statement : goal.returns-then-statement
 returns-then-statement g c =
     let is : asks (tokens_of c.args.text.now) ≡ true = search rules in
-    inl (asks_turn g.P.Store g.S.Store c.args.settings.now c.args.line c.args.text.now c.args.plain.now c.query_turn.new.plain c.args.fulltext.now (told_as c.query_turn.result) is c.query_turn.ensures)
+    inl (asks_turn g.P.Store g.S.Store c.args.settings.now c.args.line c.args.text.now c.args.plain.now c.query_turn.new.plain c.args.full_text.now (told_as c.query_turn.result) is c.query_turn.ensures)
 
 pub returns : goal.returns
 returns g c =
     let is : asks (tokens_of c.args.text.now) ≡ false = search rules in
-    inl (runs_turn g.P.Store g.S.Store c.args.settings.now c.args.line c.args.text.now c.args.plain.now c.command_turn.new.plain c.args.fulltext.now c.command_turn.new.fulltext (told_as c.command_turn.result)
+    inl (runs_turn g.P.Store g.S.Store c.args.settings.now c.args.line c.args.text.now c.args.plain.now c.command_turn.new.plain c.args.full_text.now c.command_turn.new.full_text (told_as c.command_turn.result)
     (option_map (λ n. n.now) c.made_in.result) is (c.made_in.ensures ∙ c.in-Ok.ensures.made) c.command_turn.ensures)

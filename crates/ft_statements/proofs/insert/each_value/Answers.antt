@@ -2,7 +2,7 @@
 use Rattle.std.proofs.Common.{sym, ap, ◌∙◌, map, ◌∷◌, [], Some}
 use Rattle.std.specs.Prelude.{option_map}
 use Rattle.std.proofs.lemmas.List.{map-append}
-use Rattle.ft_store.specs.Changes.{shown_value}
+use Rattle.ft_values.specs.Cells.{shown_value}
 use Rattle.ft_statements.specs.Insert.{only_value}
 use Rattle.ft_statements.proofs.EachLemmas.{each_more, each_ends, each_all}
 use Rattle.ft_statements.proofs.insert.each_value.Goals as goal

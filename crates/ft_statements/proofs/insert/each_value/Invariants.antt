@@ -1,6 +1,6 @@
 -- the values so far
 use Rattle.std.proofs.Common.{◌≡◌, take, map, Some}
-use Rattle.ft_store.specs.Changes.{shown_value}
+use Rattle.ft_values.specs.Cells.{shown_value}
 use Rattle.ft_statements.specs.Insert.{only_value}
 use Rattle.ft_statements.specs.Reading.{each}
 use Rattle.ft_statements.specs.Views.{runs}

@@ -1,7 +1,7 @@
 -- the values so far
 use Rattle.std.proofs.Common.{◌≡◌, map}
 use Rattle.shell_text.specs.Print.{value_of}
-use Rattle.ft_store.specs.Changes.{shown_value}
+use Rattle.ft_values.specs.Cells.{shown_value}
 use Rattle.ft_statements.specs.Replies.{cell_value}
 use Rattle.ft_statements.proofs.replies.row_of.Given as goal
 

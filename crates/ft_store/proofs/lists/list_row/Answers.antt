@@ -1,5 +1,5 @@
 use Rattle.std.proofs.Common.{◌≡◌, [], rules, sym, ap, ◌∙◌, to_z-of_z, FitsSigned, w64}
-use Rattle.std.specs.Prelude.{unwrap_or, string_bytes}
+use Rattle.std.specs.Prelude.{unwrap_or}
 use Rattle.sqlite.specs.Order.{column}
 use Rattle.sqlite_value.specs.Order.{bytes}
 use Rattle.sqlite_rules.specs.Edit.{id_in}
@@ -8,14 +8,13 @@ use Rattle.ft_store.proofs.ReadLemmas.{some_places}
 use Rattle.ft_store.proofs.lists.list_row.Goals as goal
 
 pub returns-clause-found : goal.returns-clause-found
-returns-clause-found c = λ tab.
+returns-clause-found c =
     let fits : FitsSigned w64 c.in_ok-docid.docid = search rules in
-    let term : string_bytes c.in_ok-term.term ≡ bytes (column c.args.row.now 0) = search rules in
-    let docid : c.in_ok-docid.docid ≡ id_in (column c.args.row.now 1) = search rules in
-    let list : c.in_ok-list.list.items ≡ bytes (column c.args.row.now 2) = search rules in
+    let docid : c.in_ok-docid.docid ≡ id_in (column c.args.row.now 0) = search rules in
+    let list : c.in_ok-list.list.items ≡ bytes (column c.args.row.now 1) = search rules in
     let places = ap spots_in (sym list ∙ sym c.as_slice.ensures.value) ∙ c.in_ok-spots.ensures.spots in
-    let spots : c.in_ok-spots.spots.items ≡ unwrap_or (spots_in (bytes (column c.args.row.now 2))) [] = sym (ap (λ o. unwrap_or o []) places) in
+    let spots : c.in_ok-spots.spots.items ≡ unwrap_or (spots_in (bytes (column c.args.row.now 1))) [] = sym (ap (λ o. unwrap_or o []) places) in
     let number = to_z-of_z fits ∙ docid in (
-      λ i. ((tab, term i, number i), spots i),
+      λ i. (number i, spots i),
       λ none. some_places _ _ places (spots ∙ none),
     )

@@ -2,7 +2,7 @@ use Rattle.std.proofs.Common.{arith, to_z-of_z}
 use Rattle.std.proofs.lemmas.Result.{on_ok_weaker}
 use Rattle.sqlite.specs.Held.{state}
 use Rattle.sqlite.specs.State.{HasCleanDisk}
-use Rattle.ft_store.specs.Changes.{shown_value}
+use Rattle.ft_values.specs.Cells.{shown_value}
 use Rattle.ft_store.proofs.PutLemmas.{puts_cells}
 use Rattle.ft_store.proofs.write.put_cell.Goals as goal
 

@@ -3,7 +3,7 @@ use Rattle.std.proofs.lemmas.List.{take_all}
 use Rattle.std.specs.Prelude.{IsCharBoundary}
 use Rattle.std.proofs.lemmas.Str.{IsCharBoundary-after_ascii}
 use Rattle.shell_text.specs.Words.{first_byte, turn}
-use Rattle.shell_text.specs.Lexed.{Keeps, Splits, handed, is_semicolon}
+use Rattle.shell_text.specs.Lexed.{KeepsPending, Splits, handed, is_semicolon}
 use Rattle.shell_text.specs.Splitting.{member_of_unit}
 use Rattle.shell_text.specs.declared.words.Turn.TheVariants.{Ends}
 use Rattle.shell_text.proofs.WordLoop.{IsByte, is_byte}
@@ -17,7 +17,7 @@ loop-i-init c = record {
   read = let text = c.as_bytes-bytes.result.now in
       let is_text = sym c.as_bytes-bytes.ensures.value in
       read_none c.args.pending.first text (map member_of_unit c.args.waiting.now.items) c.args.from c.args.pending c.as_bytes-bytes.ensures.utf8 refl
-      (subst (λ t. Keeps (take c.args.from t) (drop c.args.from t) c.args.pending) is_text c.requires.keeps);
+      (subst (λ t. KeepsPending (take c.args.from t) (drop c.args.from t) c.args.pending) is_text c.requires.keeps);
   waited = take_all (length c.args.waiting.now.items) c.args.waiting.now.items (omega arith);
 }
 

@@ -1,7 +1,7 @@
 use Rattle.std.proofs.Common.{◌≡◌, ◌<◌, ◌≤◌, ◌+◌, ◌∷◌, [], true, false, cond, subst, map, drop, length, min, sym, ap, ◌∙◌, to_z-of_z, arith}
 use Rattle.std.proofs.lemmas.List.{length-map}
 use Rattle.ft_query.specs.Tokens.{tokens_of}
-use Rattle.ft_store.specs.Changes.{shown_value}
+use Rattle.ft_values.specs.Cells.{shown_value}
 use Rattle.ft_store.specs.Store.{column_key_cmp}
 use Rattle.ft_content.specs.Content.{cell_text}
 use Rattle.ft_content.specs.Index.{cell_tokens, document_tokens}

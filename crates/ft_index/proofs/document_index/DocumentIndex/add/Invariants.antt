@@ -1,5 +1,5 @@
 use Rattle.std.proofs.Common.{◌≡◌, [], ◌∷◌, map, drop}
-use Rattle.ft_store.specs.Changes.{shown_value}
+use Rattle.ft_values.specs.Cells.{shown_value}
 use Rattle.ft_store.specs.Store.{column_key_cmp}
 use Rattle.ft_content.specs.Index.{document_tokens}
 use Rattle.ft_content.specs.Views.{column_of}

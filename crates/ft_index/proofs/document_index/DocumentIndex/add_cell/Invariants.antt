@@ -1,7 +1,7 @@
 use Rattle.std.proofs.Common.{◌≡◌, map, length}
 use Rattle.std.specs.Vec.Iter.{into_iter_items}
 use Rattle.ft_query.specs.Tokens.{plain_token, tokens_of}
-use Rattle.ft_store.specs.Changes.{shown_value}
+use Rattle.ft_values.specs.Cells.{shown_value}
 use Rattle.ft_store.specs.Store.{column_key_cmp}
 use Rattle.ft_content.specs.Content.{cell_text}
 use Rattle.ft_index.specs.RewriteRows.{lists_in, sizes_in, with_entries, cell_entries, cell_sizes, sized, all_put}

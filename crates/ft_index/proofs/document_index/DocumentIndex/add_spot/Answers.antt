@@ -23,4 +23,4 @@ returns-clause-lists c =
     ∙ insert_shown key c.push-2.new.self c.get_mut.follows.lender-at-none.entries
     ∙ ap (put key_cmp (string_bytes key.0, key.1) c.push-2.new.self.items) (ap (λ m. map shown_list m.entries) c.get_mut.follows.holds-at-none)
     ∙ ap (λ spots. put key_cmp (string_bytes key.0, key.1) spots (map shown_list es))
-    (c.in_ok-push-2.ensures.items ∙ ap (λ xs. xs ++ c.args.spot ∷ []) (c.new-spots.ensures.items ∙ ap (λ o. unwrap_or o []) (sym (find_shown key es ∙ ap (option_map (λ v. v.items)) (sym c.in_default.ensures.value)))))
+    (c.in_ok-push-2.ensures.items ∙ ap (λ xs. xs ++ c.args.spot ∷ []) (c.in_ok-spots.ensures.items ∙ ap (λ o. unwrap_or o []) (sym (find_shown key es ∙ ap (option_map (λ v. v.items)) (sym c.in_default.ensures.value)))))

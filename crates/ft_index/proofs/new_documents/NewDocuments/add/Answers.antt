@@ -5,9 +5,8 @@ use Rattle.std.specs.Ordering.{int_cmp}
 use Rattle.std.specs.Cmp.{int_cmp_total}
 use Rattle.std.specs.FinMap.Entries.{find, put}
 use Rattle.std.proofs.lemmas.Map.Lookups.{exact_signed}
-use Rattle.ft_store.specs.Store.{Cell}
-use Rattle.ft_store.specs.Changes.{shown_value}
-use Rattle.ft_content.specs.declared.fault.Fault.{Fault}
+use Rattle.ft_values.specs.Cells.{Cell, shown_value}
+use Rattle.ft_values.specs.declared.fault.Fault.{Fault}
 use Rattle.ft_content.specs.Deserved as deserved
 use Rattle.ft_content.specs.Views.{cells_of, column_of, placed}
 use Rattle.ft_index.specs.NewDocuments.{documents_in, with_new, Places}

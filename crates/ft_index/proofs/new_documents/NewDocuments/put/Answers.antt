@@ -5,7 +5,7 @@ use Rattle.std.specs.Ordering.{int_cmp}
 use Rattle.std.specs.Cmp.{int_cmp_total}
 use Rattle.std.specs.FinMap.Entries.{find, put, is_sorted, is_sorted-put}
 use Rattle.std.proofs.lemmas.Map.Lookups.{exact_signed}
-use Rattle.ft_store.specs.Store.{Cell}
+use Rattle.ft_values.specs.Cells.{Cell}
 use Rattle.ft_content.specs.Views.{cells_of, last_docid}
 use Rattle.ft_index.specs.NewDocuments.{shown_entry, documents_in, with_new}
 use Rattle.ft_index.specs.RewriteRows.{all_put}

@@ -3,7 +3,7 @@ use Rattle.std.proofs.Common.{ℤ, ◌+◌, ◌-◌, ◌^◌, List, min, w64, SF
 use Rattle.std.specs.List.{starts_with}
 use Rattle.std.specs.Ordering.{int_eq}
 use Rattle.ft_query.specs.Documents.{plain_list, lists_with}
-use Rattle.ft_store.specs.declared.rows.EntryRow.{EntryRow}
+use Rattle.ft_values.specs.declared.rows.EntryRow.{EntryRow}
 use Rattle.ft_index.specs.Placed.{AreListsOf}
 use Rattle.ft_index.specs.Walked.{table_documents}
 use Rattle.ft_index.proofs.AskedLemmas.{rows_count}

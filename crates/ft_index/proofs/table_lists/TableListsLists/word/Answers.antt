@@ -3,7 +3,7 @@ use Rattle.std.proofs.Common.{ℤ, ◌+◌, ◌-◌, ◌^◌, List, min, w64, SF
 use Rattle.std.specs.Prelude.{bytes_eq}
 use Rattle.std.specs.Ordering.{int_eq, is_eq}
 use Rattle.ft_query.specs.Documents.{plain_list, lists_with}
-use Rattle.ft_store.specs.declared.rows.EntryRow.{EntryRow}
+use Rattle.ft_values.specs.declared.rows.EntryRow.{EntryRow}
 use Rattle.ft_store.specs.Store.{name_cmp}
 use Rattle.ft_index.specs.Placed.{AreListsOf}
 use Rattle.ft_index.specs.Walked.{table_documents}

@@ -16,29 +16,25 @@ passed_none same = true≢false (ap (λ (o : Considered). elim o [ NoDocument �
 
 pub returns-in_default-clause-considers : goal.returns-in_default-clause-considers
 returns-in_default-clause-considers c =
-    λ documents stands. nothing_left c.args.query.now (map lists_left c.args.cursors.now) c.args.steps.now.taken c.least.new.steps.taken documents stands (sym c.least.ensures.docid ∙ c.in_default.is) (c.least.ensures.none c.in_default.is)
+    λ documents stands. nothing_left c.args.wanted c.args.query.now (map lists_left c.args.cursors.now) c.args.steps.now.taken c.least.new.steps.taken documents stands (sym c.least.ensures.docid ∙ c.in_default.is) (c.least.ensures.none c.in_default.is)
 
 pub returns-in-Some-offsets-clause-considers : goal.returns-in-Some-offsets-clause-considers
 returns-in-Some-offsets-clause-considers c = λ documents stands.
     let least = sym c.least.ensures.docid ∙ c.in-Some.is in
     let same : c.in-Some.docid ≡ to_z w64 (of_z w64 c.in-Some.docid) = search rules in
     let one = subst (λ z. least_from None (map lists_left c.args.cursors.now) ≡ Some z) same least in
-    record {
-      went = went_on c.args.query.now c.args.cursors.now c.pass.new.cursors c.args.steps.now.taken c.least.new.steps.taken c.visit.new.steps.taken c.pass.new.steps.taken _ (Some c.in-Some-offsets.offsets.items) documents stands one (λ postings ordered places. sym (ap (option_map (λ (o : Vec Offset Global). o.items)) c.in-Some-offsets.is) ∙ c.in_ok-offsets.ensures.offsets postings ordered places)
-          c.pass.ensures.left c.requires c.least.ensures.at_least c.least.ensures.at_most c.visit.ensures.at_least c.visit.ensures.at_most c.pass.ensures.steps;
-      ended = λ never. absurd (found_some never);
-    }
+    let added = went_on c.args.wanted c.args.query.now c.args.cursors.now c.pass.new.cursors c.args.steps.now.taken c.least.new.steps.taken c.visit.new.steps.taken c.pass.new.steps.taken _ (Some c.in-Some-offsets.offsets.items) documents stands one (λ postings ordered places. sym (ap (option_map (λ (o : Vec Offset Global). o.items)) c.in-Some-offsets.is) ∙ c.in_ok-offsets.ensures.offsets postings ordered places)
+    c.pass.ensures.left c.requires c.least.ensures.at_least c.least.ensures.at_most c.visit.ensures.at_least c.visit.ensures.at_most c.pass.ensures.steps in
+    record { offsets = added.offsets; went = added.went; told = added.told; ended = λ never. absurd (found_some never) }
 
 pub returns-in-None-clause-considers : goal.returns-in-None-clause-considers
 returns-in-None-clause-considers c = λ documents stands.
     let least = sym c.least.ensures.docid ∙ c.in-Some.is in
     let same : c.in-Some.docid ≡ to_z w64 (of_z w64 c.in-Some.docid) = search rules in
     let one = subst (λ z. least_from None (map lists_left c.args.cursors.now) ≡ Some z) same least in
-    record {
-      went = went_on c.args.query.now c.args.cursors.now c.pass.new.cursors c.args.steps.now.taken c.least.new.steps.taken c.visit.new.steps.taken c.pass.new.steps.taken _ None documents stands one (λ postings ordered places. sym (ap (option_map (λ (o : Vec Offset Global). o.items)) c.in-None.is) ∙ c.in_ok-offsets.ensures.offsets postings ordered places)
-          c.pass.ensures.left c.requires c.least.ensures.at_least c.least.ensures.at_most c.visit.ensures.at_least c.visit.ensures.at_most c.pass.ensures.steps;
-      ended = λ never. absurd (passed_none never);
-    }
+    let added = went_on c.args.wanted c.args.query.now c.args.cursors.now c.pass.new.cursors c.args.steps.now.taken c.least.new.steps.taken c.visit.new.steps.taken c.pass.new.steps.taken _ None documents stands one (λ postings ordered places. sym (ap (option_map (λ (o : Vec Offset Global). o.items)) c.in-None.is) ∙ c.in_ok-offsets.ensures.offsets postings ordered places)
+    c.pass.ensures.left c.requires c.least.ensures.at_least c.least.ensures.at_most c.visit.ensures.at_least c.visit.ensures.at_most c.pass.ensures.steps in
+    record { offsets = added.offsets; went = added.went; told = tt; ended = λ never. absurd (passed_none never) }
 
 pub returns-in-None-clause-passes : goal.returns-in-None-clause-passes
 returns-in-None-clause-passes c = λ _.

@@ -1,7 +1,7 @@
 use Rattle.std.proofs.Common.{◌≡◌, ◌+◌, ◌++◌, length, ap, ◌∙◌, rules}
 use Rattle.ft_query.specs.Trees.{tree_of, both, either}
 use Rattle.ft_query.specs.Work.{terms_in}
-use Rattle.ft_query.specs.Visit.{marks_of, numbered, plain_lists}
+use Rattle.ft_query.specs.Visit.{marks_of, numbered, plain_lists, if_wanted}
 use Rattle.ft_query.proofs.Marks.{tree_offsets}
 use Rattle.ft_query.proofs.walk.visit.+visit_part.Goals as goal
 
@@ -12,18 +12,19 @@ returns-then-is_left-clause-offsets t c =
     let lists = c.args.lists.now in
     let own = c.split_at.result.0.now in
     let rest = c.split_at.result.1.now in
+    let wanted = c.args.found.now.wanted in
     let old = c.args.found.now.offsets.items in
     let mid = c.visit_part.new.found.offsets.items in
     let k = c.args.found.now.next in
     let more = c.visit_part.new.found.next in
     let size : c.term_count.result ≡ length (terms_in p) = search rules in
-    let is_mid : mid ≡ old ++ numbered k (marks_of p (plain_lists own)) = search rules in
-    let is_more : more ≡ k + length (marks_of p (plain_lists own)) = search rules in
-    let end : c.visit_part-in-And.new.found.offsets.items ≡ mid ++ numbered more (marks_of q (plain_lists rest)) = search rules in
+    let is_mid : mid ≡ old ++ numbered k (if_wanted wanted (marks_of p (plain_lists own))) = search rules in
+    let is_more : more ≡ k + length (if_wanted wanted (marks_of p (plain_lists own))) = search rules in
+    let end : c.visit_part-in-And.new.found.offsets.items ≡ mid ++ numbered more (if_wanted wanted (marks_of q (plain_lists rest))) = search rules in
     let same : both p q ≡ tree_of c.args.query.now = search rules in
     end
-    ∙ tree_offsets p q lists own rest c.term_count.result old mid k more size c.split_at.ensures.front c.split_at.ensures.back is_mid is_more
-    ∙ ap (λ tree. old ++ numbered k (marks_of tree (plain_lists lists))) same
+    ∙ tree_offsets wanted p q lists own rest c.term_count.result old mid k more size c.split_at.ensures.front c.split_at.ensures.back is_mid is_more
+    ∙ ap (λ tree. old ++ numbered k (if_wanted wanted (marks_of tree (plain_lists lists)))) same
 
 pub returns-else-is_left-clause-offsets : goal.returns-else-is_left-clause-offsets
 returns-else-is_left-clause-offsets t c =
@@ -32,18 +33,19 @@ returns-else-is_left-clause-offsets t c =
     let lists = c.args.lists.now in
     let own = c.split_at.result.0.now in
     let rest = c.split_at.result.1.now in
+    let wanted = c.args.found.now.wanted in
     let old = c.args.found.now.offsets.items in
     let mid = c.visit_part.new.found.offsets.items in
     let k = c.args.found.now.next in
     let more = c.visit_part.new.found.next in
     let size : c.term_count.result ≡ length (terms_in p) = search rules in
-    let is_mid : mid ≡ old ++ numbered k (marks_of p (plain_lists own)) = search rules in
-    let is_more : more ≡ k + length (marks_of p (plain_lists own)) = search rules in
-    let end : c.visit_part-in-And.new.found.offsets.items ≡ mid ++ numbered more (marks_of q (plain_lists rest)) = search rules in
+    let is_mid : mid ≡ old ++ numbered k (if_wanted wanted (marks_of p (plain_lists own))) = search rules in
+    let is_more : more ≡ k + length (if_wanted wanted (marks_of p (plain_lists own))) = search rules in
+    let end : c.visit_part-in-And.new.found.offsets.items ≡ mid ++ numbered more (if_wanted wanted (marks_of q (plain_lists rest))) = search rules in
     let same : both p q ≡ tree_of c.args.query.now = search rules in
     end
-    ∙ tree_offsets p q lists own rest c.term_count.result old mid k more size c.split_at.ensures.front c.split_at.ensures.back is_mid is_more
-    ∙ ap (λ tree. old ++ numbered k (marks_of tree (plain_lists lists))) same
+    ∙ tree_offsets wanted p q lists own rest c.term_count.result old mid k more size c.split_at.ensures.front c.split_at.ensures.back is_mid is_more
+    ∙ ap (λ tree. old ++ numbered k (if_wanted wanted (marks_of tree (plain_lists lists)))) same
 
 pub returns-then-is_left-2-clause-offsets : goal.returns-then-is_left-2-clause-offsets
 returns-then-is_left-2-clause-offsets t c =
@@ -52,18 +54,19 @@ returns-then-is_left-2-clause-offsets t c =
     let lists = c.args.lists.now in
     let own = c.split_at-in-Or.result.0.now in
     let rest = c.split_at-in-Or.result.1.now in
+    let wanted = c.args.found.now.wanted in
     let old = c.args.found.now.offsets.items in
     let mid = c.visit_part-in-Or.new.found.offsets.items in
     let k = c.args.found.now.next in
     let more = c.visit_part-in-Or.new.found.next in
     let size : c.term_count-in-Or.result ≡ length (terms_in p) = search rules in
-    let is_mid : mid ≡ old ++ numbered k (marks_of p (plain_lists own)) = search rules in
-    let is_more : more ≡ k + length (marks_of p (plain_lists own)) = search rules in
-    let end : c.visit_part-in-Or-2.new.found.offsets.items ≡ mid ++ numbered more (marks_of q (plain_lists rest)) = search rules in
+    let is_mid : mid ≡ old ++ numbered k (if_wanted wanted (marks_of p (plain_lists own))) = search rules in
+    let is_more : more ≡ k + length (if_wanted wanted (marks_of p (plain_lists own))) = search rules in
+    let end : c.visit_part-in-Or-2.new.found.offsets.items ≡ mid ++ numbered more (if_wanted wanted (marks_of q (plain_lists rest))) = search rules in
     let same : either p q ≡ tree_of c.args.query.now = search rules in
     end
-    ∙ tree_offsets p q lists own rest c.term_count-in-Or.result old mid k more size c.split_at-in-Or.ensures.front c.split_at-in-Or.ensures.back is_mid is_more
-    ∙ ap (λ tree. old ++ numbered k (marks_of tree (plain_lists lists))) same
+    ∙ tree_offsets wanted p q lists own rest c.term_count-in-Or.result old mid k more size c.split_at-in-Or.ensures.front c.split_at-in-Or.ensures.back is_mid is_more
+    ∙ ap (λ tree. old ++ numbered k (if_wanted wanted (marks_of tree (plain_lists lists)))) same
 
 pub returns-else-is_left-2-clause-offsets : goal.returns-else-is_left-2-clause-offsets
 returns-else-is_left-2-clause-offsets t c =
@@ -72,15 +75,16 @@ returns-else-is_left-2-clause-offsets t c =
     let lists = c.args.lists.now in
     let own = c.split_at-in-Or.result.0.now in
     let rest = c.split_at-in-Or.result.1.now in
+    let wanted = c.args.found.now.wanted in
     let old = c.args.found.now.offsets.items in
     let mid = c.visit_part-in-Or.new.found.offsets.items in
     let k = c.args.found.now.next in
     let more = c.visit_part-in-Or.new.found.next in
     let size : c.term_count-in-Or.result ≡ length (terms_in p) = search rules in
-    let is_mid : mid ≡ old ++ numbered k (marks_of p (plain_lists own)) = search rules in
-    let is_more : more ≡ k + length (marks_of p (plain_lists own)) = search rules in
-    let end : c.visit_part-in-Or-2.new.found.offsets.items ≡ mid ++ numbered more (marks_of q (plain_lists rest)) = search rules in
+    let is_mid : mid ≡ old ++ numbered k (if_wanted wanted (marks_of p (plain_lists own))) = search rules in
+    let is_more : more ≡ k + length (if_wanted wanted (marks_of p (plain_lists own))) = search rules in
+    let end : c.visit_part-in-Or-2.new.found.offsets.items ≡ mid ++ numbered more (if_wanted wanted (marks_of q (plain_lists rest))) = search rules in
     let same : either p q ≡ tree_of c.args.query.now = search rules in
     end
-    ∙ tree_offsets p q lists own rest c.term_count-in-Or.result old mid k more size c.split_at-in-Or.ensures.front c.split_at-in-Or.ensures.back is_mid is_more
-    ∙ ap (λ tree. old ++ numbered k (marks_of tree (plain_lists lists))) same
+    ∙ tree_offsets wanted p q lists own rest c.term_count-in-Or.result old mid k more size c.split_at-in-Or.ensures.front c.split_at-in-Or.ensures.back is_mid is_more
+    ∙ ap (λ tree. old ++ numbered k (if_wanted wanted (marks_of tree (plain_lists lists)))) same

@@ -8,3 +8,4 @@ invariant-loop-i l =
     × (l.found.next ≡ l.initial.found.next + l.i)
     × (l.initial.steps.taken ≤ l.steps.taken)
     × (l.steps.taken + total (plain_lists (drop l.i l.lists)) + length (drop l.i l.lists) * length l.starts.places.items ≤ l.initial.steps.taken + total (plain_lists l.lists) + length l.lists * length l.starts.places.items)
+    × (l.found.wanted ≡ l.initial.found.wanted)

@@ -1,6 +1,8 @@
-use Rattle.std.proofs.Common.{◌≡◌, ◌++◌, ap, ◌∙◌, to_z-of_z, refl, arith}
+use Rattle.std.proofs.Common.{◌≡◌, ◌++◌, List, ap, ◌∙◌, to_z-of_z, refl, arith}
 use Rattle.ft_query.specs.Trees.{tree_of}
-use Rattle.ft_query.specs.Visit.{numbered, marks_of, plain_lists, places_in}
+use Rattle.ft_query.specs.declared.lists.Place.{Place}
+use Rattle.ft_query.specs.declared.walk.visit.Wanted.{Wanted}
+use Rattle.ft_query.specs.Visit.{numbered, marks_of, plain_lists, places_in, if_wanted}
 use Rattle.ft_query.proofs.Costs.{document_bound}
 use Rattle.ft_query.proofs.Visits.{rejected_is, found_is}
 use Rattle.ft_query.proofs.walk.visit.visit.Goals as goal
@@ -9,15 +11,20 @@ pub returns-then-not-branch-clause-offsets : goal.returns-then-not-branch-clause
 returns-then-not-branch-clause-offsets c = λ postings ordered same.
     let lists = plain_lists c.deref.result.now in
     let is = ap plain_lists c.deref.ensures.value ∙ c.in_ok-lists.ensures.lists ∙ ap (λ z. places_in z c.args.cursors.now) (to_z-of_z c.ranges.docid) ∙ same in
-    rejected_is postings (tree_of c.args.query.now) lists c.in_ok-visit_part.field-0 ordered is c.in_ok-visit_part.ensures.accepted c.if-not-branch.true
+    rejected_is c.args.wanted postings (tree_of c.args.query.now) lists c.in_ok-visit_part.field-0 ordered is c.in_ok-visit_part.ensures.accepted c.if-not-branch.true
 
 pub returns-clause-offsets : goal.returns-clause-offsets
 returns-clause-offsets c = λ postings ordered same.
     let tree = tree_of c.args.query.now in
     let lists = plain_lists c.deref.result.now in
     let is = ap plain_lists c.deref.ensures.value ∙ c.in_ok-lists.ensures.lists ∙ ap (λ z. places_in z c.args.cursors.now) (to_z-of_z c.ranges.docid) ∙ same in
-    let marked : c.visit_part.new.found.offsets.items ≡ numbered 0 (marks_of tree lists) = c.in_ok-visit_part.ensures.offsets ∙ ap (λ os. os ++ numbered c.no_offsets-found.result.next (marks_of tree lists)) c.no_offsets-found.ensures.offsets ∙ ap (λ n. numbered n (marks_of tree lists)) c.no_offsets-found.ensures.next in
-    found_is postings tree lists c.in_ok-visit_part.field-0 c.visit_part.new.found.offsets.items c.sort_offsets.new.offsets.items ordered is c.in_ok-visit_part.ensures.accepted c.if-not-branch.false marked c.sort_offsets.ensures.permutation c.sort_offsets.ensures.sorted
+    let told : Wanted → List (List Place) = λ wanted. if_wanted wanted (marks_of tree lists) in
+    let marked : c.visit_part.new.found.offsets.items ≡ numbered 0 (told c.args.wanted) =
+    c.in_ok-visit_part.ensures.offsets
+    ∙ ap (λ os. os ++ numbered c.no_offsets-found.result.next (told c.no_offsets-found.result.wanted)) c.no_offsets-found.ensures.offsets
+    ∙ ap (λ n. numbered n (told c.no_offsets-found.result.wanted)) c.no_offsets-found.ensures.next
+    ∙ ap (λ wanted. numbered 0 (told wanted)) c.no_offsets-found.ensures.wanted in
+    found_is c.args.wanted postings tree lists c.in_ok-visit_part.field-0 c.visit_part.new.found.offsets.items c.sort_offsets.new.offsets.items ordered is c.in_ok-visit_part.ensures.accepted c.if-not-branch.false marked c.sort_offsets.ensures.permutation c.sort_offsets.ensures.sorted
 
 pub returns-in_err-lists-clause-at_most : goal.returns-in_err-lists-clause-at_most
 returns-in_err-lists-clause-at_most c =

@@ -1,7 +1,7 @@
-use Rattle.std.proofs.Common.{◌≡◌, ◌++◌, ◌+◌, ◌*◌, drop, map, length, ap, ◌∙◌, refl, rules, arith}
+use Rattle.std.proofs.Common.{◌≡◌, ◌++◌, ◌+◌, ◌*◌, drop, map, length, sym, ap, ◌∙◌, refl, rules, arith}
 use Rattle.std.proofs.lemmas.List.{length-map}
 use Rattle.ft_query.specs.Trees.{plain_phrase, plain_link, chain}
-use Rattle.ft_query.specs.Visit.{link_cost, visit_cost, linked, link_marks, marks_of, numbered, marks_from, plain_lists, plain_starts}
+use Rattle.ft_query.specs.Visit.{link_cost, visit_cost, linked, link_marks, marks_of, numbered, if_wanted, marks_from, plain_lists, plain_starts}
 use Rattle.ft_query.proofs.Marks.{chain_marks_count}
 use Rattle.ft_query.proofs.Passes.{chain_cost, numbered_marks, linked_length, starts_forward, starts_many, chain_marks}
 use Rattle.ft_query.proofs.walk.visit.visit_chain.Goals as goal
@@ -29,21 +29,24 @@ returns-clause-offsets c =
     let one = chain_marks first links lists own behind starts later c.len-size.result size c.split_at.ensures.front c.split_at.ensures.back c.in_ok-starts.ensures.first refl in
     let old = c.args.found.now.offsets.items in
     let n = c.args.found.now.next in
-    c.in_ok-mark_links.ensures.offsets
-    ∙ ap (λ os. os ++ numbered c.mark_phrase.new.found.next (link_marks c.len-size.result starts (map plain_link links) (plain_lists behind) (plain_starts c.deref.result.now))) c.in_ok-mark_phrase.ensures.offsets
-    ∙ ap (λ k. old ++ numbered n (marks_from 0 (plain_lists own) starts) ++ numbered k (link_marks c.len-size.result starts (map plain_link links) (plain_lists behind) (plain_starts c.deref.result.now))) c.in_ok-mark_phrase.ensures.next
+    c.in_ok-mark_links-in-Offsets.ensures.offsets
+    ∙ ap (λ os. os ++ numbered c.mark_phrase.new.found.next (link_marks c.len-size.result starts (map plain_link links) (plain_lists behind) (plain_starts c.deref.result.now))) c.in_ok-mark_phrase-in-Offsets.ensures.offsets
+    ∙ ap (λ k. old ++ numbered n (marks_from 0 (plain_lists own) starts) ++ numbered k (link_marks c.len-size.result starts (map plain_link links) (plain_lists behind) (plain_starts c.deref.result.now))) c.in_ok-mark_phrase-in-Offsets.ensures.next
     ∙ ap (λ ss. old ++ numbered n (marks_from 0 (plain_lists own) starts) ++ numbered (n + length own) (link_marks c.len-size.result starts (map plain_link links) (plain_lists behind) ss)) all
     ∙ numbered_marks old n own starts (link_marks c.len-size.result starts (map plain_link links) (plain_lists behind) later)
     ∙ ap (λ ms. old ++ numbered n ms) one
     ∙ ap (λ ls. old ++ numbered n (marks_of (chain (plain_phrase first) (map plain_link ls)) (plain_lists lists))) c.as_slice-links.ensures.value
+    ∙ ap (λ wanted. old ++ numbered n (if_wanted wanted (marks_of (chain (plain_phrase first) (map plain_link c.args.near.now.links.items)) (plain_lists lists)))) (sym c.in-Offsets.is)
 
 pub returns-clause-next : goal.returns-clause-next
 returns-clause-next c =
+    let tree = chain (plain_phrase c.args.near.now.first) (map plain_link c.args.near.now.links.items) in
+    let told = ap (λ wanted. length (if_wanted wanted (marks_of tree (plain_lists c.args.lists.now)))) c.in-Offsets.is in
     let count = chain_marks_count (plain_phrase c.args.near.now.first) (map plain_link c.args.near.now.links.items) c.args.lists.now c.requires.lists in
-    omega (arith, count, c.in_ok-mark_links.ensures.next, c.in_ok-mark_phrase.ensures.next, c.split_at.ensures.front_len, c.split_at.ensures.back_len)
+    omega (arith, told, count, c.in_ok-mark_links-in-Offsets.ensures.next, c.in_ok-mark_phrase-in-Offsets.ensures.next, c.split_at.ensures.front_len, c.split_at.ensures.back_len)
 
-pub returns-in_err-mark_links-clause-at_most : goal.returns-in_err-mark_links-clause-at_most
-returns-in_err-mark_links-clause-at_most c =
+pub returns-in_err-mark_links-in-Offsets-clause-at_most : goal.returns-in_err-mark_links-in-Offsets-clause-at_most
+returns-in_err-mark_links-in-Offsets-clause-at_most c =
     let first = c.args.near.now.first in
     let links = c.as_slice-links.result.now in
     let lists = c.args.lists.now in
@@ -57,7 +60,7 @@ returns-in_err-mark_links-clause-at_most c =
     let same = ap (λ ls. visit_cost (chain (plain_phrase first) (map plain_link ls)) (plain_lists lists)) c.as_slice-links.ensures.value in
     let links_too = ap (link_cost c.len-size.result starts (map plain_link links) (plain_lists behind)) all in
     let own_too = ap (λ n. n * length starts) c.split_at.ensures.front_len in
-    omega (arith, whole, same, links_too, own_too, c.in_ok-starts.ensures.at_most, c.in_ok-mark_phrase.ensures.at_most, c.in_err-mark_links.ensures.at_most)
+    omega (arith, whole, same, links_too, own_too, c.in_ok-starts.ensures.at_most, c.in_ok-mark_phrase-in-Offsets.ensures.at_most, c.in_err-mark_links-in-Offsets.ensures.at_most)
 
 pub returns-clause-at_most : goal.returns-clause-at_most
 returns-clause-at_most c =
@@ -74,4 +77,4 @@ returns-clause-at_most c =
     let same = ap (λ ls. visit_cost (chain (plain_phrase first) (map plain_link ls)) (plain_lists lists)) c.as_slice-links.ensures.value in
     let links_too = ap (link_cost c.len-size.result starts (map plain_link links) (plain_lists behind)) all in
     let own_too = ap (λ n. n * length starts) c.split_at.ensures.front_len in
-    omega (arith, whole, same, links_too, own_too, c.in_ok-starts.ensures.at_most, c.in_ok-mark_phrase.ensures.at_most, c.in_ok-mark_links.ensures.at_most)
+    omega (arith, whole, same, links_too, own_too, c.in_ok-starts.ensures.at_most, c.in_ok-mark_phrase-in-Offsets.ensures.at_most, c.in_ok-mark_links-in-Offsets.ensures.at_most)

@@ -12,10 +12,10 @@ use Rattle.ft_shell.proofs.session.Session.refuse.Goals as goal
 
 pub returns : goal.returns
 returns g c = λ holds.
-    let parts : Parts g.row.P.Denot g.row.S.Denot = record { look = c.self.inside.settings; plain = c.self.inside.plain; known = c.self.inside.fulltext } in
+    let parts : Parts g.row.P.Denot g.row.S.Denot = record { settings = c.self.inside.settings; plain = c.self.inside.plain; full_text = c.self.inside.full_text } in
     let old : Shell g.row.P.Denot g.row.S.Denot = lent parts holds in
     let told = told_as c.blames-told.result in
-    let due : told ≡ blames old.look c.args.refusal.now.line (split_text c.args.refusal.now.fault) = c.blames-told.ensures ∙ ap (blames c.self.inside.settings c.args.refusal.now.line) c.split_text-text.ensures in
+    let due : told ≡ blames old.settings c.args.refusal.now.line (split_text c.args.refusal.now.fault) = c.blames-told.ensures ∙ ap (blames c.self.inside.settings c.args.refusal.now.line) c.split_text-text.ensures in
     let a = g.O.Write.contents c.args.out.now in
     let e = g.E.Write.contents c.args.err.now in
     subst (λ s. Runs g.P.Store g.S.Store c.tell.result (λ (rest : List Member). Fault c.args.refusal.now.line c.args.refusal.now.fault ∷ rest) (λ rest. rest) (record { shell = lent s holds; status = c.args.status.now; out = a; err = e }) (record { shell = lent s holds; status = c.tell.new.status; out = g.O.Write.contents c.tell.new.out; err = g.E.Write.contents c.tell.new.err })) c.self.view_is

@@ -4,7 +4,7 @@ use Rattle.std.specs.Prelude.{IsCharBoundary}
 use Rattle.std.specs.Str.{IsUtf8}
 use Rattle.std.proofs.lemmas.Str.{IsUtf8-string_bytes}
 use Rattle.shell_text.specs.Units.{Sql, last_member, tail_in}
-use Rattle.shell_text.specs.Lexed.{Keeps}
+use Rattle.shell_text.specs.Lexed.{KeepsPending}
 use Rattle.shell_text.specs.Splitting.{emptied}
 use Rattle.shell_text.proofs.Keeping.{word_boundary}
 use Rattle.shell_text.proofs.Splitters.{kept_keeps, kept_reading, last_as, last_closed, last_open, none_emptied}
@@ -41,7 +41,7 @@ pub range_from-requires : goal.range_from-requires
 range_from-requires c _ =
     let inside = c.self.inside in
     let text = string_bytes inside.text in
-    let keeps : Keeps text [] c.in-Some.p = kept_keeps inside.kept c.in-Some.p text c.in-Some.is c.self.invariant in
+    let keeps : KeepsPending text [] c.in-Some.p = kept_keeps inside.kept c.in-Some.p text c.in-Some.is c.self.invariant in
     subst (λ t. IsCharBoundary t c.in-Some-word.word.at) (append-nil text ∙ sym c.as_str.ensures.value)
     (word_boundary c.in-Some-word.word keeps c.in-Some-word.is (subst IsUtf8 (sym (append-nil text)) (IsUtf8-string_bytes inside.text)))
 

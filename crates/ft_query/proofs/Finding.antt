@@ -1,0 +1,30 @@
+-- What a search answers, as callers of a walk are told it.
+use Rattle.std.proofs.Common.{◌≡◌, true, false, true≢false, [], ◌∷◌, refl, sym, ap, subst, Option, Some, None, Result, Ok, Err, IfOk}
+use Rattle.std.specs.Prelude.{List, option_map}
+use Rattle.std.specs.declared.alloc.AllocError.{AllocError}
+use Rattle.ft_query.specs.declared.walk.Hit.{Hit}
+use Rattle.ft_query.specs.declared.walk.visit.Wanted.TheVariants.{Docids, Offsets}
+use Rattle.ft_query.specs.Documents.{Document}
+use Rattle.ft_query.specs.Walk.{Walk, StandsBefore, Went, Walked, WalkedTo}
+use Rattle.ft_query.specs.Search.{Finds}
+
+there_is : {X : Type 0} {x : X} → Some x ≡ None → ⊥
+there_is same = true≢false (ap (λ o. elim o [ Some _ ↦ true | None ↦ false ]) same)
+
+-- with offsets
+pub found_hit : (old new : Walk) (hit : Option Hit) (documents : List Document) → Finds Offsets old new hit documents → Walked old new hit documents
+found_hit old new None documents found = record { went = found.went; ended = found.ended }
+found_hit old new (Some hit) documents found = record {
+  went = subst (λ offsets. Went old new (record { docid = hit.docid; offsets = offsets } ∷ []) documents) (sym found.told) found.went;
+  ended = λ never. absurd (there_is never);
+}
+
+pub hits_found : (result : Result (Option Hit) AllocError) (old new : Walk) → IfOk result (λ hit. (documents : List Document) → StandsBefore old documents → Finds Offsets old new hit documents)
+    → IfOk result (λ hit. (documents : List Document) → StandsBefore old documents → Walked old new hit documents)
+hits_found (Ok hit) old new found = λ documents stands. found_hit old new hit documents (found documents stands)
+hits_found (Err error) old new found = tt
+
+-- without
+pub found_docid : (old new : Walk) (hit : Option Hit) (documents : List Document) → Finds Docids old new hit documents → WalkedTo old new (option_map (λ h. h.docid) hit) documents
+found_docid old new None documents found = record { offsets = found.offsets; went = found.went; ended = λ _. found.ended refl }
+found_docid old new (Some hit) documents found = record { offsets = found.offsets; went = found.went; ended = λ never. absurd (there_is never) }

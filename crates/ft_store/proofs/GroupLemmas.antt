@@ -1,0 +1,135 @@
+-- How lists that are added together make the steps of a change.
+use Rattle.std.proofs.Common.{◌≡◌, ℕ, suc, ◌+◌, ◌-◌, ◌<◌, ◌≤◌, Bool, true, false, List, [], ◌∷◌, ◌++◌, map, length, take, get_or, All, Ok, refl, sym, ap, ap₂, ◌∙◌, subst, arith, IsTrue}
+use Rattle.std.specs.Prelude.{if◌then◌else◌, MatchBool}
+use Rattle.std.specs.List.{flat_map, between}
+use Rattle.std.specs.FinMap.Entries.{put}
+use Rattle.std.proofs.Math.Seq.{take-add}
+use Rattle.std.proofs.lemmas.List.{nil_from_length, map-append, map_push, take_more, get_or-map}
+use Rattle.std.proofs.lemmas.List.Concat.{flat_map-append}
+use Rattle.std.proofs.lemmas.List.Elements.{All-append}
+use Rattle.sqlite.specs.Order.{Row}
+use Rattle.sqlite.specs.State.{State, Executes, Shows, ExecutesInside, IsUnchanged}
+use Rattle.ft_values.specs.declared.rows.RowChange.{RowChange}
+use Rattle.ft_values.specs.declared.rows.RowChange.TheVariants as row
+use Rattle.ft_store.specs.Store.{StoreValue, Change, list_key_cmp, all_applied}
+use Rattle.ft_store.specs.Rows.{value_of}
+use Rattle.ft_store.specs.Changes.{shown_change, CanApply}
+use Rattle.ft_store.specs.Calls.{IsStore, Steps, Goes}
+use Rattle.ft_store.specs.Groups.{Entry, entry_values, with_entries, entry_put, PutsList}
+use Rattle.ft_store.proofs.Texts.{add_lists_text}
+use Rattle.ft_store.proofs.WriteLemmas.{does_add_eight}
+use Rattle.ft_store.proofs.PutLemmas.{packed_back}
+
+-- ---- eight lists
+
+first_of : {X : Type 0} (n : ℕ) (xs : List X) → length xs ≡ suc n → (x : X) × (rest : List X) × (xs ≡ x ∷ rest) × (length rest ≡ n)
+first_of n [] len = absurd (omega (arith, len))
+first_of n (x ∷ xs) len = (x, xs, refl, omega (arith, len))
+
+does_add_lists : (old new : State) → IsStore old.now → Shows old new new.now old.committed true → (es : List Entry) → length es ≡ 8 → (values : Row) → values ≡ flat_map entry_values es
+    → (count : ℕ) → Executes add_lists_text values old new (Ok count) → Steps old new (with_entries es (value_of old.now.trees))
+does_add_lists old new kept shown es len values is count ran =
+    let a = first_of 7 es len in
+    let b = first_of 6 a.1 a.3 in
+    let c = first_of 5 b.1 b.3 in
+    let d = first_of 4 c.1 c.3 in
+    let e = first_of 3 d.1 d.3 in
+    let f = first_of 2 e.1 e.3 in
+    let g = first_of 1 f.1 f.3 in
+    let h = first_of 0 g.1 g.3 in
+    let eight : es ≡ a.0 ∷ b.0 ∷ c.0 ∷ d.0 ∷ e.0 ∷ f.0 ∷ g.0 ∷ h.0 ∷ [] =
+    a.2 ∙ ap (λ l. a.0 ∷ l) (b.2 ∙ ap (λ l. b.0 ∷ l) (c.2 ∙ ap (λ l. c.0 ∷ l) (d.2 ∙ ap (λ l. d.0 ∷ l) (e.2 ∙ ap (λ l. e.0 ∷ l) (f.2 ∙ ap (λ l. f.0 ∷ l) (g.2 ∙ ap (λ l. g.0 ∷ l) (h.2 ∙ ap (λ l. h.0 ∷ l) (nil_from_length h.1 h.3)))))))) in
+    subst (λ l. Steps old new (with_entries l (value_of old.now.trees))) (sym eight)
+    (does_add_eight old new kept shown a.0 b.0 c.0 d.0 e.0 f.0 g.0 h.0 count (subst (λ l. Executes add_lists_text l old new (Ok count)) (is ∙ ap (flat_map entry_values) eight) ran))
+
+-- ---- what steps make
+
+goes_of : (old new : State) (v : StoreValue) → Steps old new v → Goes old new v
+goes_of old new v step = record { going = λ _. (step.shown.is_open, step.store, step.is); was_open = λ _. step.shown.was_open; committed = step.shown.committed_is; inside = step.shown.mode }
+
+pub goes_nowhere : (old new : State) → IsUnchanged old new → IsTrue old.in_transaction → (IsTrue old.is_open → IsStore old.now) → Goes old new (value_of old.now.trees)
+goes_nowhere old new same inside kept = record {
+  going = λ is_open. (same.0.is_open, subst IsStore (sym same.0.now_is) (kept is_open), ap (λ d. value_of d.trees) same.0.now_is);
+  was_open = λ _. same.0.was_open;
+  committed = same.0.committed_is;
+  inside = same.0.mode ∙ inside;
+}
+
+pub goes_then : (a b c : State) (v : StoreValue) (f : StoreValue → StoreValue) → Goes a b v → Goes b c (f (value_of b.now.trees)) → Goes a c (f v)
+goes_then a b c v f one two = record {
+  going = λ is_open.
+      let first = one.going is_open in
+      let second = two.going first.0 in (second.0, second.1, second.2 ∙ ap f first.2);
+  was_open = λ is_open. one.was_open (two.was_open is_open);
+  committed = two.committed ∙ one.committed;
+  inside = two.inside;
+}
+
+-- the statement that adds eight lists
+pub adds_eight : (old new : State) (es : List Entry) (values : Row) (added : Bool) → length es ≡ 8 → values ≡ flat_map entry_values es → IsTrue old.in_transaction → (IsTrue old.is_open → IsStore old.now)
+    → MatchBool added ((count : ℕ) × ExecutesInside 0 add_lists_text values old new (Ok count)) (IsUnchanged old new) → Goes old new (if added then with_entries es (value_of old.now.trees) else value_of old.now.trees)
+adds_eight old new es values true len is inside kept ran = goes_of old new _ (does_add_lists old new (kept ran.1.1.was_open) ran.1.1 es len values is ran.0 ran.1.0)
+adds_eight old new es values false len is inside kept same = goes_nowhere old new same inside kept
+
+-- ---- changes that put lists
+
+each_puts : (changes : List RowChange) → All PutsList changes → (v : StoreValue) → with_entries (map entry_put changes) v ≡ all_applied (map shown_change changes) v
+each_puts [] all v = refl
+each_puts (change ∷ changes) all v = go change (all 0 change (omega arith)) (each_puts changes (λ i d low. all (suc i) d (omega (arith, low))))
+  where
+    go : (c : RowChange) → PutsList c → ((w : StoreValue) → with_entries (map entry_put changes) w ≡ all_applied (map shown_change changes) w)
+        → with_entries (map entry_put (c ∷ changes)) v ≡ all_applied (map shown_change (c ∷ changes)) v
+    go (row.PutEntries tab term docid spots) can more =
+        ap (λ l. with_entries (map entry_put changes) (record v { lists = put list_key_cmp (entry_put (row.PutEntries tab term docid spots)).0 l v.lists })) (packed_back spots.items can) ∙ more _
+    go _ can more = absurd can
+
+can_put : (c : RowChange) → PutsList c → CanApply c
+can_put (row.PutEntries tab term docid spots) can = can
+can_put _ can = absurd can
+
+pub all_can : (changes : List RowChange) → All PutsList changes → All CanApply changes
+all_can changes all i d low = can_put _ (all i d low)
+
+pub adds_all : (old new : State) (changes : List RowChange) (added : Bool) → All PutsList changes → Goes old new (if added then with_entries (map entry_put changes) (value_of old.now.trees) else value_of old.now.trees)
+    → Goes old new (if added then all_applied (map shown_change changes) (value_of old.now.trees) else value_of old.now.trees)
+adds_all old new changes true all goes = subst (Goes old new) (each_puts changes all _) goes
+adds_all old new changes false all goes = goes
+
+-- ---- what the loops make, one change more
+
+-- the packed lists
+pub one_more_list : (changes : List RowChange) (i : ℕ) (change : RowChange) (lists : List (List ℕ)) (list : List ℕ) → i < length changes → change ≡ get_or changes i change → list ≡ (entry_put change).1
+    → lists ≡ map (λ c. (entry_put c).1) (take i changes) → lists ++ list ∷ [] ≡ map (λ c. (entry_put c).1) (take (i + 1) changes)
+one_more_list changes i change lists list inside is here before =
+    let f = λ (c : RowChange). (entry_put c).1 in
+    ap₂ (λ a b. a ++ b ∷ []) before here ∙ sym (map_push f (take i changes) change) ∙ ap (map f) (ap (λ c. take i changes ++ c ∷ []) is ∙ sym (take_more changes i change inside))
+
+-- what is bound for them
+pub one_more_bound : (changes : List RowChange) (i : ℕ) (change : RowChange) (lists : List (List ℕ)) (list : List ℕ) (values : Row) → i < length changes → change ≡ get_or changes i change
+    → lists ≡ map (λ c. (entry_put c).1) changes → list ≡ get_or lists i list → values ≡ flat_map entry_values (map entry_put (take i changes))
+    → values ++ entry_values ((entry_put change).0, list) ≡ flat_map entry_values (map entry_put (take (i + 1) changes))
+one_more_bound changes i change lists list values inside is all at before =
+    let f = λ (c : RowChange). (entry_put c).1 in
+    let here : list ≡ f change = at ∙ ap (λ l. get_or l i list) all ∙ get_or-map f changes i change list inside ∙ ap f (sym is) in
+    ap₂ (λ a b. a ++ entry_values ((entry_put change).0, b)) before here ∙ sym (flat_map-append entry_values (map entry_put (take i changes)) (entry_put change ∷ []))
+    ∙ ap (flat_map entry_values) (sym (map_push entry_put (take i changes) change) ∙ ap (map entry_put) (ap (λ c. take i changes ++ c ∷ []) is ∙ sym (take_more changes i change inside)))
+
+-- ---- one group after the other
+
+applied-append : (xs ys : List Change) (v : StoreValue) → all_applied (xs ++ ys) v ≡ all_applied ys (all_applied xs v)
+applied-append [] ys v = refl
+applied-append (x ∷ xs) ys v = applied-append xs ys _
+
+module _ (changes : List RowChange) (at end : ℕ) (le : at ≤ end) where
+  front : take end changes ≡ take at changes ++ between at end changes
+  front = let e : end ≡ at + (end - at) = omega (arith, le) in ap (λ n. take n changes) e ∙ take-add at (end - at) changes
+
+  pub group_can : All CanApply (take at changes) → All CanApply (between at end changes) → All CanApply (take end changes)
+  group_can before group = subst (All CanApply) (sym front) (All-append CanApply (take at changes) (between at end changes) before group)
+
+  pub group_goes : (old was now : State) (v : StoreValue) → Goes old was (all_applied (map shown_change (take at changes)) v)
+      → Goes was now (all_applied (map shown_change (between at end changes)) (value_of was.now.trees)) → Goes old now (all_applied (map shown_change (take end changes)) v)
+  group_goes old was now v before step =
+      subst (λ l. Goes old now (all_applied l v)) (sym (map-append shown_change (take at changes) (between at end changes)) ∙ ap (map shown_change) (sym front))
+      (subst (Goes old now) (sym (applied-append (map shown_change (take at changes)) (map shown_change (between at end changes)) v))
+      (goes_then old was now _ (all_applied (map shown_change (between at end changes))) before step))

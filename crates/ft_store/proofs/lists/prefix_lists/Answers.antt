@@ -1,0 +1,38 @@
+use Rattle.std.proofs.Common.{◌≡◌, Bool, [], map, sym, ap, subst, ◌∙◌, to_z-of_z, rules}
+use Rattle.std.specs.Prelude.{IfOk}
+use Rattle.std.specs.FinMap.Entries.{where_key}
+use Rattle.sqlite.specs.Held.{state}
+use Rattle.std.proofs.lemmas.Result.{IfOk-weaker}
+use Rattle.ft_store.specs.Store.{ListKey, list_key_cmp}
+use Rattle.ft_store.specs.Rows.{value_of}
+use Rattle.ft_store.specs.Found.{found_spots}
+use Rattle.ft_store.specs.Shown.{AreRead, AreWhole, SomeDamaged}
+use Rattle.ft_store.proofs.RangeLemmas.{below_255, all_begin, none_of}
+use Rattle.ft_store.proofs.EntryLemmas.{whole_bare, bare_whole}
+use Rattle.ft_store.proofs.lists.prefix_lists.Goals as goal
+
+pub returns-then-is_empty-clause-rows : goal.returns-then-is_empty-clause-rows
+returns-then-is_empty-clause-rows g c clean =
+    let lists = (value_of (state g.S.Store c.args.conn.now).now.trees).lists in
+    let none : c.args.begin.now ≡ [] = none_of c.args.begin.now (search rules) in
+    subst (λ (p : ListKey → Bool). IfOk c.table_lists.result (λ found. AreRead (where_key list_key_cmp p lists) found.items))
+    (all_begin c.args.tab c.args.begin.now none) (simp (to_z-of_z, c.ranges.tab) at (c.table_lists.ensures.rows clean))
+
+pub returns-then-is_empty-clause-damaged : goal.returns-then-is_empty-clause-damaged
+returns-then-is_empty-clause-damaged g c clean is =
+    let lists = (value_of (state g.S.Store c.args.conn.now).now.trees).lists in
+    let none : c.args.begin.now ≡ [] = none_of c.args.begin.now (search rules) in
+    subst (λ (p : ListKey → Bool). SomeDamaged (where_key list_key_cmp p lists)) (all_begin c.args.tab c.args.begin.now none) (simp (to_z-of_z, c.ranges.tab) at (c.table_lists.ensures.damaged clean is))
+
+pub after_last-requires : goal.after_last-requires
+after_last-requires g c = below_255 c.as_bytes.result.now c.as_bytes.ensures.utf8
+
+pub returns-clause-rows : goal.returns-clause-rows
+returns-clause-rows g c clean =
+    let all = ap (map found_spots) c.as_slice-2.ensures.value ∙ rw c.as_bytes-2.ensures.value at (simp (to_z-of_z, c.ranges.tab) at (c.in_ok-rows.ensures.rows clean)) in
+    IfOk-weaker c.list_rows.result _ _ (λ found h. (h.0 ∙ all, bare_whole _ (subst AreWhole all h.1))) c.list_rows.ensures.found
+
+pub returns-clause-damaged : goal.returns-clause-damaged
+returns-clause-damaged g c clean is = λ whole.
+    let all = ap (map found_spots) c.as_slice-2.ensures.value ∙ rw c.as_bytes-2.ensures.value at (simp (to_z-of_z, c.ranges.tab) at (c.in_ok-rows.ensures.rows clean)) in
+    c.list_rows.ensures.damaged is (subst AreWhole (sym all) (whole_bare _ whole))

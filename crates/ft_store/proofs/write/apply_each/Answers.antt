@@ -1,0 +1,40 @@
+use Rattle.std.proofs.Common.{List, map, All, subst, ◌∙◌, arith}
+use Rattle.std.proofs.lemmas.List.{take_all}
+use Rattle.std.proofs.lemmas.List.Elements.{All-more}
+use Rattle.sqlite.specs.Held.{state}
+use Rattle.sqlite.proofs.StateLemmas.{survives_then}
+use Rattle.ft_values.specs.declared.rows.RowChange.{RowChange}
+use Rattle.ft_store.specs.Store.{all_applied}
+use Rattle.ft_store.specs.Rows.{value_of}
+use Rattle.ft_store.specs.Changes.{shown_change, CanApply}
+use Rattle.ft_store.specs.Calls.{Goes}
+use Rattle.ft_store.proofs.CallLemmas.{keeps_then}
+use Rattle.ft_store.proofs.PutLemmas.{goes_on}
+use Rattle.ft_store.proofs.write.apply_each.Goals as goal
+
+pub loop-change-preserved : goal.loop-change-preserved
+loop-change-preserved g c =
+    let old = state g.S.Store c.args.tx.now.conn.now in
+    let was = state g.S.Store c.loop-change.tx.conn.now in
+    let now = state g.S.Store c.apply.new.tx.conn.now in
+    let at = c.loop-change.change-index in (
+      (
+        c.apply.ensures.same_reference ∙ c.loop-change.invariant.0.0,
+        All-more CanApply c.args.changes.now at c.change-item.result c.loop-change-test.true c.loop-change.invariant.0.1 (subst CanApply c.change-item.is c.in_ok-apply.ensures.packable),
+      ),
+      survives_then old was now _ _ _ (λ _ db none. none) (λ _ db none. none) c.loop-change.invariant.1 c.apply.ensures.survives,
+      λ clean. keeps_then old was now (c.loop-change.invariant.2 (omega (arith, c.apply.ensures.survives.clean))) (c.apply.ensures.kept clean),
+      λ clean inside kept.
+          let before = c.loop-change.invariant.3 (omega (arith, c.apply.ensures.survives.clean)) inside kept in
+          goes_on old was now c.args.changes.now at c.change-item.result (value_of old.now.trees) c.loop-change-test.true c.change-item.is before
+          (c.in_ok-apply.ensures.steps clean before.inside (λ is_open. (before.going (before.was_open is_open)).1)),
+    )
+
+pub returns-clause-packable : goal.returns-clause-packable
+returns-clause-packable g c = subst (All CanApply) (take_all c.loop-change.change-index c.args.changes.now c.loop-change-test.false) c.loop-change.invariant.0.1
+
+pub returns-clause-goes : goal.returns-clause-goes
+returns-clause-goes g c clean inside kept =
+    let old = state g.S.Store c.args.tx.now.conn.now in
+    subst (λ (l : List RowChange). Goes old (state g.S.Store c.loop-change.tx.conn.now) (all_applied (map shown_change l) (value_of old.now.trees)))
+    (take_all c.loop-change.change-index c.args.changes.now c.loop-change-test.false) (c.loop-change.invariant.3 clean inside kept)

@@ -1,0 +1,8 @@
+use Rattle.std.proofs.Common.{◌≡◌, map, take}
+use Rattle.std.specs.List.{flat_map}
+use Rattle.sqlite.specs.Values.{bound}
+use Rattle.ft_store.specs.Groups.{entry_values, entry_put}
+use Rattle.ft_store.proofs.write.list_values.Given as goal
+
+abbrev pub invariant-loop-at : goal.invariant-loop-at
+invariant-loop-at l = bound l.values.items ≡ flat_map entry_values (map entry_put (take l.at l.changes))

@@ -1,0 +1,3 @@
+-- Meaning
+pub mod Cells
+pub mod Names
