@@ -145,7 +145,7 @@ fn add_byte(numbers: &mut Vec<u32>, byte: u8) -> Result<bool, AllocError>
 fn numbers_in(alloc: Global, bytes: &[u8]) -> Result<Option<Vec<u32>>, AllocError>
     ensures { IfOk result (λ o. MatchOption o (unpacked bytes.now ≡ None) (λ ns. numbers_in bytes.now ≡ Some ns.items)) }
 {
-    let mut numbers = Vec::new(alloc);
+    let mut numbers = Vec::with_capacity(alloc, bytes.len())?;
     let mut at = bytes.len();
     while at > 0 {
         at -= 1;
@@ -210,7 +210,7 @@ fn spot_at(last: &Spot, is_first: bool, c: u32, p: u32, l: u32, z: u32) -> Optio
 fn spots_from(alloc: Global, numbers: &[u32]) -> Result<Option<Vec<Spot>>, AllocError>
     ensures { IfOk result (λ o. MatchOption o (checked true origin numbers.now ≡ None) (λ spots. (checked true origin numbers.now ≡ Some (map plain_spot spots.items)) × (spots.items ≡ map stored_spot (map plain_spot spots.items)))) }
 {
-    let mut spots = Vec::new(alloc);
+    let mut spots = Vec::with_capacity(alloc, numbers.len() / 4)?;
     let mut last = ORIGIN;
     let mut at = 0;
     while at < numbers.len() {

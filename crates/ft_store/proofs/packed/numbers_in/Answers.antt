@@ -3,7 +3,7 @@ use Rattle.ft_store.proofs.ReadLemmas.{numbers_none, numbers_next, damaged_at}
 use Rattle.ft_store.proofs.packed.numbers_in.Goals as goal
 
 pub loop-at-init : goal.loop-at-init
-loop-at-init c = (omega arith, numbers_none c.args.bytes.now ∙ ap (λ l. Some (reverse l)) (sym c.new-numbers.ensures.items))
+loop-at-init c = (omega arith, numbers_none c.args.bytes.now ∙ ap (λ l. Some (reverse l)) (sym c.in_ok-numbers.ensures.items))
 
 pub returns-then-not-branch : goal.returns-then-not-branch
 returns-then-not-branch c =
