@@ -1,6 +1,6 @@
 -- The rows that are asked for a content's terms are the lists that a walk wants.
-use Rattle.std.proofs.Common.{◌≡◌, ℕ, ℤ, ◌+◌, ◌≤◌, Bool, true, false, cond, ◌&&◌, T, inl, inr, List, [], ◌∷◌, ◌++◌, map, Some, None, Option, length, suc, refl, sym, ap, subst, ◌∙◌, arith, IsPermutation, IsSorted}
-use Rattle.std.specs.Prelude.{filter, is_some, nat_abs, AllPairs, ◌<ℤ◌}
+use Rattle.std.proofs.Common.{◌≡◌, ℕ, ℤ, ◌+◌, ◌≤◌, ◌<◌, Bool, true, false, cond, ◌&&◌, inl, inr, List, [], ◌∷◌, ◌++◌, map, Some, None, Option, length, suc, refl, sym, ap, subst, ◌∙◌, arith, IsPermutation}
+use Rattle.std.specs.Prelude.{filter, is_some, AllPairs, ◌<ℤ◌}
 use Rattle.std.specs.List.{flat_map, AllByRecursion}
 use Rattle.std.specs.declared.cmp.Ordering.{Ordering}
 use Rattle.std.specs.declared.cmp.Ordering.TheVariants.{Less, Equal, Greater}
@@ -18,47 +18,48 @@ use Rattle.sqlite_keyed.proofs.SortLemmas.{sorted_unique}
 use Rattle.ft_query.specs.declared.lists.Place.{Place}
 use Rattle.ft_query.specs.Documents.{Posting, Document, IsBefore, AreDocuments, PlaceList, is_filled, has_places, places_with, lists_with, place_count}
 use Rattle.ft_store.specs.Store.{ListKey, list_key_cmp}
-use Rattle.ft_values.specs.declared.rows.EntryRow.{EntryRow}
-use Rattle.ft_store.specs.Shown.{entries_of}
+use Rattle.ft_values.specs.declared.rows.ListRow.{ListRow}
+use Rattle.ft_store.specs.Shown.{shown_list, bare_list, spot_count}
 use Rattle.ft_store.proofs.SelectLemmas.{filter_passes}
 use Rattle.ft_content.specs.Index.{Entry, Key, StoredSpot}
 use Rattle.ft_content.specs.Meaning.{plain_spot, entries_in, entry_cmp, entry_set, posting_of, with_entry, grouped, documents_in, lists_of_terms, all_places}
 use Rattle.ft_content.proofs.MeaningLemmas.{entry_total, sorted_set}
 use Rattle.ft_index.specs.declared.doc_lists.Placed.{Placed}
-use Rattle.ft_index.specs.Placed.{placed_at, placed_cmp, with_placed, by_docid, AreListsOf}
+use Rattle.ft_index.specs.Placed.{place_of, list_of, placed_in, all_in, placed_cmp, with_placed, by_docid, AreListsOf}
 use Rattle.ft_index.proofs.PlacedLemmas.{docids_same, counted}
 
 -- ---- rows as entries
-
-abbrev pub placed_in : ℤ → Place → Placed
-placed_in docid p = record { docid = docid; column = p.column; pos = p.pos; start = p.start; size = p.size }
 
 -- an entry without its term
 abbrev pub bare : Entry → Placed
 bare e = placed_in e.docid (posting_of e).place
 
-abbrev pub placed_row : List ℕ × ℤ × StoredSpot → Placed
-placed_row e = record { docid = e.1; column = nat_abs e.2.column; pos = nat_abs e.2.pos; start = nat_abs e.2.place; size = nat_abs e.2.size }
+-- a list as a row gives it
+abbrev pub read_list : ℤ × List StoredSpot → PlaceList
+read_list l = record { docid = l.0; places = map place_of l.1 }
 
-one_list : (t : List ℕ) (d : ℤ) (ss : List StoredSpot) (xs : List (List ℕ × ℤ × StoredSpot)) (ys : List Entry) → map placed_row xs ≡ map bare ys →
-    map placed_row (map (λ (s : StoredSpot). (t, d, s)) ss ++ xs) ≡ map bare (map (λ (s : StoredSpot). record { term = t; docid = d; spot = plain_spot s }) ss ++ ys)
+one_list : (t : List ℕ) (d : ℤ) (ss : List StoredSpot) (xs : List Placed) (ys : List Entry) → xs ≡ map bare ys →
+    map (placed_in d) (map place_of ss) ++ xs ≡ map bare (map (λ (s : StoredSpot). record { term = t; docid = d; spot = plain_spot s }) ss ++ ys)
 one_list t d [] xs ys rest = rest
-one_list t d (s ∷ ss) xs ys rest = ap (λ ps. placed_row (t, d, s) ∷ ps) (one_list t d ss xs ys rest)
+one_list t d (s ∷ ss) xs ys rest = ap (λ ps. placed_in d (place_of s) ∷ ps) (one_list t d ss xs ys rest)
 
 abbrev of_table : ℤ → List (ListKey × List StoredSpot) → List (Key × List StoredSpot)
 of_table tab lists = map (λ (l : ListKey × List StoredSpot). ((l.0.1, l.0.2), l.1)) (where_key list_key_cmp (λ k. int_eq tab k.0) lists)
 
--- the rows of the lists that are asked
+abbrev asked_places : List (ListKey × List StoredSpot) → List Placed
+asked_places lists = all_in (map read_list (map bare_list lists))
+
+-- the places of the lists that are asked
 pub asked_entries : (tab : ℤ) (asks : ListKey → Bool) (test : List ℕ → Bool) → ((k : ListKey) → asks k ≡ (int_eq tab k.0 && test k.1)) → (lists : List (ListKey × List StoredSpot)) →
-    map placed_row (entries_of (where_key list_key_cmp asks lists)) ≡ map bare (entries_in (lists_of_terms test (of_table tab lists)))
+    all_in (map read_list (map bare_list (where_key list_key_cmp asks lists))) ≡ map bare (entries_in (lists_of_terms test (of_table tab lists)))
 asked_entries tab asks test same [] = refl
 asked_entries tab asks test same (l ∷ ls) =
-    ap (λ b. map placed_row (entries_of (cond b (l ∷ where_key list_key_cmp asks ls) (where_key list_key_cmp asks ls)))) (same l.0)
-    ∙ elim (int_eq tab l.0.0) as (λ b. map placed_row (entries_of (cond (b && test l.0.1) (l ∷ where_key list_key_cmp asks ls) (where_key list_key_cmp asks ls)))
+    ap (λ b. asked_places (cond b (l ∷ where_key list_key_cmp asks ls) (where_key list_key_cmp asks ls))) (same l.0)
+    ∙ elim (int_eq tab l.0.0) as (λ b. asked_places (cond (b && test l.0.1) (l ∷ where_key list_key_cmp asks ls) (where_key list_key_cmp asks ls))
     ≡ map bare (entries_in (lists_of_terms test (map (λ (l : ListKey × List StoredSpot). ((l.0.1, l.0.2), l.1)) (cond b (l ∷ where_key list_key_cmp (λ k. int_eq tab k.0) ls) (where_key list_key_cmp (λ k. int_eq tab k.0) ls)))))) [
-      | true ↦ elim (test l.0.1) as (λ b. map placed_row (entries_of (cond b (l ∷ where_key list_key_cmp asks ls) (where_key list_key_cmp asks ls)))
+      | true ↦ elim (test l.0.1) as (λ b. asked_places (cond b (l ∷ where_key list_key_cmp asks ls) (where_key list_key_cmp asks ls))
           ≡ map bare (entries_in (cond b (((l.0.1, l.0.2), l.1) ∷ lists_of_terms test (of_table tab ls)) (lists_of_terms test (of_table tab ls))))) [
-            | true ↦ one_list l.0.1 l.0.2 l.1 (entries_of (where_key list_key_cmp asks ls)) (entries_in (lists_of_terms test (of_table tab ls))) (asked_entries tab asks test same ls)
+            | true ↦ one_list l.0.1 l.0.2 l.1 (asked_places (where_key list_key_cmp asks ls)) (entries_in (lists_of_terms test (of_table tab ls))) (asked_entries tab asks test same ls)
             | false ↦ asked_entries tab asks test same ls
           ]
       | false ↦ asked_entries tab asks test same ls
@@ -105,9 +106,6 @@ set_moves (e ∷ es) count = go (find entry_cmp e (entry_set es)) refl (length-p
 
 -- ---- the places of lists, one after another
 
-abbrev all_in : List PlaceList → List Placed
-all_in lists = flat_map (λ (l : PlaceList). map (placed_in l.docid) l.places) lists
-
 in_entry : (e : Entry) (ds : List Document) → all_in (map all_places (with_entry e ds)) ≡ bare e ∷ all_in (map all_places ds)
 in_entry e [] = refl
 in_entry e (d ∷ ds) = go (int_eq e.docid d.docid) refl
@@ -130,33 +128,40 @@ all_count (l ∷ ls) =
 
 -- ---- places in order
 
-placed_total : IsTotalOrder placed_cmp
+pub placed_total : IsTotalOrder placed_cmp
 placed_total =
     then_total (on_total (λ (p : Placed). p.docid) int_cmp_total)
     (then_total (on_total (λ (p : Placed). p.column) nat_cmp_total)
     (then_total (on_total (λ (p : Placed). p.pos) nat_cmp_total)
     (then_total (on_total (λ (p : Placed). p.start) nat_cmp_total) (on_total (λ (p : Placed). p.size) nat_cmp_total))))
 
-abbrev Below : Placed → Placed → Type 0
+abbrev pub Below : Placed → Placed → Type 0
 Below a b = placed_cmp a b ≡ Less
 
-below_docid : (a b : Placed) → a.docid <ℤ b.docid → Below a b
+pub below_docid : (a b : Placed) → a.docid <ℤ b.docid → Below a b
 below_docid a b h = ap (λ o. ordering_then o (ordering_then (nat_cmp a.column b.column) (ordering_then (nat_cmp a.pos b.pos) (ordering_then (nat_cmp a.start b.start) (nat_cmp a.size b.size))))) (sym (int_cmp_is a.docid b.docid Less h))
 
+module _ (x : ℤ) (p q : Place) where
+  abbrev by_size : Ordering
+  by_size = ordering_then (nat_cmp p.start q.start) (nat_cmp p.size q.size)
+
+  abbrev by_pos : Ordering
+  by_pos = ordering_then (nat_cmp p.pos q.pos) by_size
+
+  pub below_column : p.column < q.column → Below (placed_in x p) (placed_in x q)
+  below_column column =
+      ap (λ o. ordering_then o (ordering_then (nat_cmp p.column q.column) by_pos)) (tied_itself int_cmp_total x)
+      ∙ ap (λ o. ordering_then o by_pos) (sym (nat_cmp_is p.column q.column Less column))
+
+  pub below_pos : p.column ≡ q.column → p.pos < q.pos → Below (placed_in x p) (placed_in x q)
+  below_pos column pos =
+      ap (λ o. ordering_then o (ordering_then (nat_cmp p.column q.column) by_pos)) (tied_itself int_cmp_total x)
+      ∙ ap (λ o. ordering_then o by_pos) (sym (nat_cmp_is p.column q.column Equal column))
+      ∙ ap (λ o. ordering_then o by_size) (sym (nat_cmp_is p.pos q.pos Less pos))
+
 below_place : (x : ℤ) (p q : Posting) → IsBefore p q → Below (placed_in x p.place) (placed_in x q.place)
-below_place x p q (inl column) =
-    ap (λ o. ordering_then o (ordering_then (nat_cmp p.place.column q.place.column) (rest p q))) (tied_itself int_cmp_total x)
-    ∙ ap (λ o. ordering_then o (rest p q)) (sym (nat_cmp_is p.place.column q.place.column Less column))
-  where
-    rest : Posting → Posting → Ordering
-    rest p q = ordering_then (nat_cmp p.place.pos q.place.pos) (ordering_then (nat_cmp p.place.start q.place.start) (nat_cmp p.place.size q.place.size))
-below_place x p q (inr h) =
-    ap (λ o. ordering_then o (ordering_then (nat_cmp p.place.column q.place.column) (ordering_then (nat_cmp p.place.pos q.place.pos) (last p q)))) (tied_itself int_cmp_total x)
-    ∙ ap (λ o. ordering_then o (ordering_then (nat_cmp p.place.pos q.place.pos) (last p q))) (sym (nat_cmp_is p.place.column q.place.column Equal h.0))
-    ∙ ap (λ o. ordering_then o (last p q)) (sym (nat_cmp_is p.place.pos q.place.pos Less h.1))
-  where
-    last : Posting → Posting → Ordering
-    last p q = ordering_then (nat_cmp p.place.start q.place.start) (nat_cmp p.place.size q.place.size)
+below_place x p q (inl column) = below_column x p.place q.place column
+below_place x p q (inr h) = below_pos x p.place q.place h.0 h.1
 
 ascending_from_pairs : {X : Type 0} (R : X → X → Type 0) (xs : List X) → AllPairs R xs → IsAscending R xs
 ascending_from_pairs R [] pairs = tt
@@ -226,7 +231,7 @@ one_group x (p ∷ []) qs ls is h = ap (with_placed (placed_in x p)) is ∙ begi
 one_group x (p ∷ q ∷ ps) qs ls is h = ap (with_placed (placed_in x p)) (one_group x (q ∷ ps) qs ls is h)
     ∙ ap (λ o. cond (is_eq o) (record { docid = x; places = p ∷ q ∷ ps } ∷ ls) (record { docid = x; places = p ∷ [] } ∷ record { docid = x; places = q ∷ ps } ∷ ls)) (tied_itself int_cmp_total x)
 
-all_groups : (ls : List PlaceList) → AllByRecursion (λ l. has_places l ≡ true) ls → IsAscending (λ a b. a.docid <ℤ b.docid) ls → by_docid (all_in ls) ≡ ls
+pub all_groups : (ls : List PlaceList) → AllByRecursion (λ l. has_places l ≡ true) ls → IsAscending (λ a b. a.docid <ℤ b.docid) ls → by_docid (all_in ls) ≡ ls
 unfolding by_docid
 all_groups [] filled up = refl
 all_groups (l ∷ ls) filled up =
@@ -248,7 +253,7 @@ lists_group test ds order =
 module _ (ds : List Document) (order : AreDocuments ds) (test : List ℕ → Bool) (lists : List (Key × List StoredSpot)) where
   -- rows of the lists of some terms give what a walk wants, where these mean it and none of their entries comes twice
   pub rows_answer : lists_with test ds ≡ map all_places (documents_in (lists_of_terms test lists)) → place_count (lists_with test ds) ≡ length (entries_in (lists_of_terms test lists)) →
-      (rows : List EntryRow) → map placed_at rows ≡ map bare (entries_in (lists_of_terms test lists)) → (found : List PlaceList) → AreListsOf rows found → found ≡ lists_with test ds
+      (rows : List ListRow) → all_in (map list_of rows) ≡ map bare (entries_in (lists_of_terms test lists)) → (found : List PlaceList) → AreListsOf rows found → found ≡ lists_with test ds
   unfolding documents_in
   rows_answer means counted rows are found shown =
       let es = entries_in (lists_of_terms test lists) in
@@ -258,13 +263,24 @@ module _ (ds : List Document) (order : AreDocuments ds) (test : List ℕ → Boo
       sym (length-map (entry_set es) (λ (e : Entry × Unit {0}). e.0)) ∙ sym (length-map set bare) ∙ sym (ap length same) ∙ all_count (lists_with test ds) ∙ counted in
       let moved : IsPermutation (map bare es) (map bare set) = IsPermutation-map bare es set (set_moves es many) in
       let ordered : IsPermutation (all_in (lists_with test ds)) shown.places =
-      IsPermutation-trans _ _ _ (subst (λ (ps : List Placed). IsPermutation ps (map placed_at rows)) (sym same)
+      IsPermutation-trans _ _ _ (subst (λ (ps : List Placed). IsPermutation ps (all_in (map list_of rows))) (sym same)
       (subst (λ (ps : List Placed). IsPermutation (map bare set) ps) (sym are) (IsPermutation-sym _ _ moved))) shown.same in
       shown.lists
       ∙ ap by_docid (sorted_unique placed_cmp placed_total (all_in (lists_with test ds)) shown.places (lists_rise test ds order) ordered shown.sorted)
       ∙ lists_group test ds order
 
--- as many places as there are rows
-pub rows_count : (rows : List EntryRow) (found : List PlaceList) → AreListsOf rows found → place_count found ≡ length rows
+-- ---- how many places there are
+
+same_count : (rows : List ListRow) → place_count (map list_of rows) ≡ spot_count (map shown_list rows)
+same_count [] = refl
+same_count (r ∷ rows) =
+    let here = length-map r.spots.items place_of in
+    let rest = same_count rows in
+    let places = sum_by-cons (λ (l : PlaceList). length l.places) (list_of r) (map list_of rows) in
+    let spots = sum_by-cons (λ (l : ℤ × List StoredSpot). length l.1) (shown_list r) (map shown_list rows) in
+    omega arith
+
+-- as many as the rows have
+pub rows_count : (rows : List ListRow) (found : List PlaceList) → AreListsOf rows found → place_count found ≡ spot_count (map shown_list rows)
 rows_count rows found shown =
-    ap place_count shown.lists ∙ counted shown.places ∙ length_permutation (map placed_at rows) shown.places shown.same ∙ length-map rows placed_at
+    ap place_count shown.lists ∙ counted shown.places ∙ length_permutation (all_in (map list_of rows)) shown.places shown.same ∙ all_count (map list_of rows) ∙ same_count rows

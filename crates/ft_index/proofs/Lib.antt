@@ -13,6 +13,7 @@ pub mod PlacedLemmas
 pub mod Changing
 pub mod ToldLemmas
 pub mod AskedLemmas
+pub mod RisingRows
 pub mod WalkedLemmas
 pub mod ReadsLemmas
 pub mod TakenLemmas

@@ -20,7 +20,7 @@ use Rattle.ft_content.proofs.AnswerLemmas.{item_cells_are, cut_of_map}
 use Rattle.ft_index.specs.declared.document.Document.{Document}
 use Rattle.ft_index.specs.DocumentsRead.{shown_document}
 use Rattle.ft_index.specs.Chosen.{cells_at, document_at}
-use Rattle.ft_index.specs.Matched.{hit_read, chosen_hits}
+use Rattle.ft_index.specs.Matched.{hit_read, chosen_hits, told}
 use Rattle.ft_index.specs.RowsRead.{is_column, has_column_item, entries_asked, rows_asked}
 use Rattle.ft_index.specs.Selected.{hit_cells}
 use Rattle.ft_index.proofs.ChosenLemmas.{chosen_again}
@@ -102,8 +102,8 @@ plain_rows : (columns : List Column) (content : Content) (items : List Item) (ce
 plain_rows columns content items cells [] same = refl
 plain_rows columns content items cells (h ∷ hs) same = λ i. cells_bare (Text (offsets_text h.offsets.items)) columns content (h.docid, cells h.docid) items same i ∷ plain_rows columns content items cells hs same i
 
--- the rows of the documents that hits are of
-module _ (name : List ℕ) (content : Content) (f : Filter) (columns : List Column) (items : List Item) (limit : Option ℕ) (offset : ℕ) (is : IsContent name content) (same : content.columns ≡ columns) where
+-- The rows of the documents that hits are of, which are told with their offsets where an item asks for them.
+module _ (name : List ℕ) (content : Content) (f : Filter) (columns : List Column) (items : List Item) (limit : Option ℕ) (offset : ℕ) (is : IsContent name content) (same : content.columns ≡ columns) (wanted : Bool) (asks : wanted ≡ list_any is_offsets items) where
   abbrev query : Option Tree
   query = query_in content f
 
@@ -124,23 +124,34 @@ module _ (name : List ℕ) (content : Content) (f : Filter) (columns : List Colu
   rows_are [] = refl
   rows_are (d ∷ ds) = λ i. sym (item_cells_are query content d items) i ∷ rows_are ds i
 
-  pub hit_rows : (hits : List Hit) → map plain_hit hits ≡ cut limit offset (chosen_hits content f) → map (hit_cells columns items (cells_at content)) hits ≡ cut limit offset (item_rows query content items (chosen content f))
+  as_told : (cells : ℤ → List Cell) (hits : List PlainHit) → map (row_with content items cells) (map (told wanted) hits) ≡ map (row_with content items cells) hits
+  as_told cells [] = refl
+  as_told cells (h ∷ hs) =
+      let one = offsets_if_asked (offsets_text (cond wanted h.offsets [])) (offsets_text h.offsets) content (h.docid, cells h.docid) items (λ asked. ap (λ b. offsets_text (cond b h.offsets [])) (asks ∙ asked)) in
+      λ i. one i ∷ as_told cells hs i
+
+  -- the hits that are answered, before they are told
+  answered_hits : cut limit offset (map (told wanted) (chosen_hits content f)) ≡ map (told wanted) (map (hit_read content query) answered_here)
+  answered_hits = cut_of_map (told wanted) limit offset (chosen_hits content f) ∙ ap (map (told wanted)) (cut_of_map (hit_read content query) limit offset (chosen content f))
+
+  pub hit_rows : (hits : List Hit) → map plain_hit hits ≡ cut limit offset (map (told wanted) (chosen_hits content f)) → map (hit_cells columns items (cells_at content)) hits ≡ cut limit offset (item_rows query content items (chosen content f))
   hit_rows hits are =
       plain_rows columns content items (cells_at content) hits same
-      ∙ ap (map (row_with content items (cells_at content))) (are ∙ cut_of_map (hit_read content query) limit offset (chosen content f))
+      ∙ ap (map (row_with content items (cells_at content))) (are ∙ answered_hits)
+      ∙ as_told (cells_at content) (map (hit_read content query) answered_here)
       ∙ by_documents answered_here ∙ same_each (λ (d : ℤ × List Cell). document_at content d.0) row_of answered_here again ∙ rows_are answered_here
       ∙ sym (cut_of_map (λ (d : ℤ × List Cell). flat_map (item_cells query content d) items) limit offset (chosen content f))
 
   -- no cell is needed where no item is a column
-  pub hit_rows_unread : (hits : List Hit) → list_any is_column items ≡ false → map plain_hit hits ≡ cut limit offset (chosen_hits content f) → map (hit_cells columns items (λ docid. [])) hits ≡ cut limit offset (item_rows query content items (chosen content f))
+  pub hit_rows_unread : (hits : List Hit) → list_any is_column items ≡ false → map plain_hit hits ≡ cut limit offset (map (told wanted) (chosen_hits content f)) → map (hit_cells columns items (λ docid. [])) hits ≡ cut limit offset (item_rows query content items (chosen content f))
   hit_rows_unread hits none are = each hits ∙ hit_rows hits are
     where
       each : (hs : List Hit) → map (hit_cells columns items (λ docid. [])) hs ≡ map (hit_cells columns items (cells_at content)) hs
       each [] = refl
       each (h ∷ hs) = λ i. cells_unread (Text (offsets_text h.offsets.items)) (record { columns = columns; documents = [] }) h.docid [] (cells_at content h.docid) items none i ∷ each hs i
 
-  pub as_many : (hits : List Hit) → map plain_hit hits ≡ cut limit offset (chosen_hits content f) → length hits ≡ length answered_here
-  as_many hits are = sym (length-map hits plain_hit) ∙ ap length (are ∙ cut_of_map (hit_read content query) limit offset (chosen content f)) ∙ length-map answered_here (hit_read content query)
+  pub as_many : (hits : List Hit) → map plain_hit hits ≡ cut limit offset (map (told wanted) (chosen_hits content f)) → length hits ≡ length answered_here
+  as_many hits are = sym (length-map hits plain_hit) ∙ ap length (are ∙ answered_hits) ∙ length-map (map (hit_read content query) answered_here) (told wanted) ∙ length-map answered_here (hit_read content query)
 
 -- ---- as many cells as columns
 

@@ -2,6 +2,7 @@
 use Rattle.std.proofs.Common.{◌≡◌, ℕ, ◌+◌, ◌<◌, Bool, true, false, cond, List, [], ◌∷◌, ◌++◌, map, length, drop, get_or, sym, ap, ◌∙◌, append_assoc, append-nil}
 use Rattle.std.specs.Prelude.{filter}
 use Rattle.std.proofs.lemmas.List.{at_drop_more, map-append, length-map, get_or-map}
+use Rattle.std.proofs.lemmas.List.Elements.{filter-append}
 use Rattle.ft_values.specs.declared.rows.RowChange.{RowChange}
 use Rattle.ft_store.specs.Changes.{shown_change}
 
@@ -16,6 +17,15 @@ kept_more {X} {Y} p f x xs old new all =
       | true ↦ λ grown so_far. piece_more old new (f x ∷ []) (map f (filter p xs)) all grown so_far
       | false ↦ λ same so_far. ap (λ ys. ys ++ map f (filter p xs)) same ∙ so_far
     ]
+
+-- an element more behind those before, that may have no piece
+pub kept_last : {X Y : Type 0} (p : X → Bool) (f : X → Y) (x : X) (xs : List X) (old new first : List Y) → new ≡ cond (p x) (old ++ f x ∷ []) old → old ≡ first ++ map f (filter p xs) → new ≡ first ++ map f (filter p (xs ++ x ∷ []))
+kept_last {X} {Y} p f x xs old new first grown so_far =
+    elim (p x) as (λ b. new ≡ cond b (old ++ f x ∷ []) old → new ≡ first ++ (map f (filter p xs) ++ map f (cond b (x ∷ []) []))) [
+      | true ↦ λ more. more ∙ ap (λ ys. ys ++ f x ∷ []) so_far ∙ append_assoc first (map f (filter p xs)) (f x ∷ [])
+      | false ↦ λ same. same ∙ so_far ∙ ap (λ ys. first ++ ys) (sym (append-nil (map f (filter p xs))))
+    ] grown
+    ∙ ap (λ ys. first ++ ys) (sym (ap (map f) (filter-append p xs (x ∷ [])) ∙ map-append f (filter p xs) (filter p (x ∷ []))))
 
 -- nothing is left
 pub all_taken : {X : Type 0} (made rest all : List X) → rest ≡ [] → made ++ rest ≡ all → made ≡ all

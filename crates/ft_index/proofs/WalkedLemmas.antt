@@ -13,20 +13,20 @@ use Rattle.sqlite_keyed.proofs.ListLemmas.{map-map}
 use Rattle.ft_query.specs.Documents.{AreDocuments, PlaceList, lists_with}
 use Rattle.ft_query.proofs.Bridge.{postings_rise}
 use Rattle.ft_query.proofs.BridgeDocuments.{documents_are}
-use Rattle.ft_values.specs.declared.rows.EntryRow.{EntryRow}
+use Rattle.ft_values.specs.declared.rows.ListRow.{ListRow}
 use Rattle.ft_store.specs.Store.{StoreValue, ListKey, list_key_cmp, name_cmp}
 use Rattle.ft_store.specs.Rows.{value_of}
-use Rattle.ft_store.specs.Shown.{shown_entry, entries_of}
+use Rattle.ft_store.specs.Shown.{shown_list, bare_list}
 use Rattle.ft_store.specs.Calls.{Keeps}
 use Rattle.ft_store.specs.Kept.{StoreState, shows, value_in}
 use Rattle.ft_content.specs.Content.{Content, IsContent}
 use Rattle.ft_content.specs.Index.{IndexRows, index_rows}
 use Rattle.ft_content.specs.Meaning.{content_documents, documents_in, entries_in, lists_of_terms, ListsMeanDocuments, TermsAreTheirLists, DocumentsAreInOrder}
 use Rattle.ft_content.proofs.MeaningLemmas.{lists_mean_documents, terms_are_their_lists, terms_are_counted, documents_are_in_order}
-use Rattle.ft_index.specs.Placed.{placed_at, AreListsOf}
+use Rattle.ft_index.specs.Placed.{list_of, all_in, AreListsOf}
 use Rattle.ft_index.specs.Tables.{table_index}
 use Rattle.ft_index.specs.Walked.{table_documents, AreReliable, IsIndexed}
-use Rattle.ft_index.proofs.AskedLemmas.{placed_row, bare, asked_entries, rows_answer}
+use Rattle.ft_index.proofs.AskedLemmas.{read_list, bare, asked_entries, rows_answer}
 
 means : ListsMeanDocuments
 means = lists_mean_documents postings_rise
@@ -72,16 +72,15 @@ module _ {S : Type 0} (g : Ghosts S) (tab : ℤ) (old new : StoreState S) (kept 
       )
 
   -- the rows of the lists that are asked are what a walk wants
-  pub walk_answer : (asks : ListKey → Bool) (test : List ℕ → Bool) → ((k : ListKey) → asks k ≡ (int_eq tab k.0 && test k.1)) → (rows : List EntryRow) →
-      (HasCleanDisk (shows g new) → map shown_entry rows ≡ entries_of (where_key list_key_cmp asks (value_in g old).lists)) →
+  pub walk_answer : (asks : ListKey → Bool) (test : List ℕ → Bool) → ((k : ListKey) → asks k ≡ (int_eq tab k.0 && test k.1)) → (rows : List ListRow) →
+      (HasCleanDisk (shows g new) → map shown_list rows ≡ map bare_list (where_key list_key_cmp asks (value_in g old).lists)) →
       (found : List PlaceList) → AreListsOf rows found → AreReliable g tab new → found ≡ lists_with test (table_documents g tab new)
   walk_answer asks test same rows read found shown h =
       let order = in_order h.name h.content h.is_content in
       let lists = (index_rows h.content).lists in
-      let are : map placed_at rows ≡ map bare (entries_in (lists_of_terms test lists)) =
-      sym (map-map placed_row shown_entry rows)
-      ∙ ap (map placed_row) (read h.clean)
-      ∙ ap (λ (v : StoreValue). map placed_row (entries_of (where_key list_key_cmp asks v.lists))) (sym (same_value h))
+      let are : all_in (map list_of rows) ≡ map bare (entries_in (lists_of_terms test lists)) =
+      ap all_in (sym (map-map read_list shown_list rows) ∙ ap (map read_list) (read h.clean))
+      ∙ ap (λ (v : StoreValue). all_in (map read_list (map bare_list (where_key list_key_cmp asks v.lists)))) (sym (same_value h))
       ∙ asked_entries tab asks test same (value_in g new).lists
       ∙ ap (λ (r : IndexRows). map bare (entries_in (lists_of_terms test r.lists))) h.index in
       rows_answer (content_documents h.content) order test lists (their_lists h.name h.content test h.is_content) (terms_are_counted h.name h.content test h.is_content) rows are found shown

@@ -1,8 +1,11 @@
 -- Steps. What a filter chooses, as hits ("The Offsets Function").
-use Rattle.std.specs.Prelude.{ℤ, List, [], map, Option}
+use Rattle.std.specs.Prelude.{◌≡◌, ℤ, Bool, if◌then◌else◌, List, [], ◌++◌, map, Option, None}
 use Rattle.std.specs.Option.{option_map_or}
-use Rattle.ft_query.specs.Trees.{Tree}
-use Rattle.ft_query.specs.Occurs.{PlainHit, offsets_of}
+use Rattle.ft_query.specs.declared.walk.Hit.{Hit}
+use Rattle.ft_query.specs.Documents.{Document}
+use Rattle.ft_query.specs.Trees.{Tree, tree_of}
+use Rattle.ft_query.specs.Occurs.{PlainHit, offsets_of, hits_of}
+use Rattle.ft_query.specs.Walk.{Walk, StandsBefore, hit_list}
 use Rattle.ft_values.specs.Cells.{Cell}
 use Rattle.ft_content.specs.Content.{Content}
 use Rattle.ft_content.specs.Index.{document_postings}
@@ -16,3 +19,14 @@ hit_read content query document = record { docid = document.0; offsets = option_
 -- the documents that a filter chooses, each with its offsets
 abbrev pub chosen_hits : Content → Filter → List PlainHit
 chosen_hits content f = map (hit_read content (query_in content f)) (chosen content f)
+
+-- a hit as it is told: with its offsets where they are wanted, else with none
+abbrev pub told : Bool → PlainHit → PlainHit
+told wanted hit = record { docid = hit.docid; offsets = if wanted then hit.offsets else [] }
+
+-- From before these documents the walk went on to stand before the rest, with this hit between, as it is told. Without one there is no rest.
+pub record Tells (wanted : Bool) (old new : Walk) (hit : Option Hit) (documents : List Document) : Type 0 where
+  pub rest : List Document
+  pub stands : StandsBefore new rest
+  pub hits_are : map (told wanted) (hits_of (tree_of old.query) documents) ≡ hit_list hit ++ map (told wanted) (hits_of (tree_of old.query) rest)
+  pub ended : hit ≡ None → rest ≡ []

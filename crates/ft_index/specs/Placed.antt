@@ -1,15 +1,27 @@
 -- Steps. Index rows, as the lists of places of documents that they mean (own choice).
-use Rattle.std.specs.Prelude.{◌≡◌, ℕ, if◌then◌else◌, List, [], ◌∷◌, map, nat_abs, IsPermutation, IsSorted}
-use Rattle.std.specs.List.{prefix_len}
+use Rattle.std.specs.Prelude.{◌≡◌, ℕ, ℤ, Bool, true, nat_lt, int_lt, ◌==◌, ◌&&◌, ◌||◌, if◌then◌else◌, List, [], ◌∷◌, map, nat_abs, IsPermutation, IsSorted}
+use Rattle.std.specs.List.{prefix_len, flat_map, list_all}
 use Rattle.std.specs.declared.cmp.Ordering.{Ordering}
 use Rattle.std.specs.Ordering.{nat_cmp, int_cmp, int_eq, ordering_then}
 use Rattle.ft_query.specs.declared.lists.Place.{Place}
-use Rattle.ft_query.specs.Documents.{PlaceList}
-use Rattle.ft_values.specs.declared.rows.EntryRow.{EntryRow}
+use Rattle.ft_query.specs.Documents.{PlaceList, is_filled}
+use Rattle.ft_values.specs.declared.rows.ListRow.{ListRow}
+use Rattle.ft_values.specs.declared.rows.Spot.{Spot}
 use Rattle.ft_index.specs.declared.doc_lists.Placed.{Placed}
 
-abbrev pub placed_at : EntryRow → Placed
-placed_at row = record { docid = row.docid; column = nat_abs row.spot.column; pos = nat_abs row.spot.pos; start = nat_abs row.spot.place; size = nat_abs row.spot.size }
+abbrev pub place_of : Spot → Place
+place_of s = record { column = nat_abs s.column; pos = nat_abs s.pos; start = nat_abs s.place; size = nat_abs s.size }
+
+-- the list of a row
+abbrev pub list_of : ListRow → PlaceList
+list_of row = record { docid = row.docid; places = map place_of row.spots.items }
+
+abbrev pub placed_in : ℤ → Place → Placed
+placed_in docid p = record { docid = docid; column = p.column; pos = p.pos; start = p.start; size = p.size }
+
+-- the places of lists, one after another
+abbrev pub all_in : List PlaceList → List Placed
+all_in lists = flat_map (λ l. map (placed_in l.docid) l.places) lists
 
 abbrev pub place_in : Placed → Place
 place_in p = record { column = p.column; pos = p.pos; start = p.start; size = p.size }
@@ -21,6 +33,30 @@ placed_cmp a b =
     (ordering_then (nat_cmp a.column b.column)
     (ordering_then (nat_cmp a.pos b.pos)
     (ordering_then (nat_cmp a.start b.start) (nat_cmp a.size b.size))))
+
+-- a place before another of its document
+abbrev pub is_before : Place → Place → Bool
+is_before a b = nat_lt a.column b.column || (a.column == b.column && nat_lt a.pos b.pos)
+
+-- each stands before the next
+abbrev pub rise : {X : Type 0} → (X → X → Bool) → List X → Bool
+rise before [] = true
+rise before (x ∷ []) = true
+rise before (x ∷ y ∷ xs) = before x y && rise before (y ∷ xs)
+
+abbrev pub places_rise : List Spot → Bool
+places_rise spots = rise (λ s t. is_before (place_of s) (place_of t)) spots
+
+-- a row with places, in order
+abbrev pub is_in_order : ListRow → Bool
+is_in_order row = is_filled row.spots.items && places_rise row.spots.items
+
+abbrev pub docids_rise : List ListRow → Bool
+docids_rise rows = rise (λ a b. int_lt a.docid b.docid) rows
+
+-- rows by rising docid, each with places in order
+abbrev pub are_in_order : List ListRow → Bool
+are_in_order rows = docids_rise rows && list_all is_in_order rows
 
 -- the list of a document's places, of which the first is this one
 abbrev pub list_with : Placed → List Placed → PlaceList
@@ -40,8 +76,8 @@ by_docid [] = []
 by_docid (p ∷ ps) = with_placed p (by_docid ps)
 
 -- the lists of rows in any order: the rows' places in order, by docid
-pub record AreListsOf (rows : List EntryRow) (found : List PlaceList) : Type 0 where
+pub record AreListsOf (rows : List ListRow) (found : List PlaceList) : Type 0 where
   pub places : List Placed
-  pub same : IsPermutation (map placed_at rows) places
+  pub same : IsPermutation (all_in (map list_of rows)) places
   pub sorted : IsSorted placed_cmp places
   pub lists : found ≡ by_docid places

@@ -42,7 +42,7 @@ pub(crate) fn chosen_documents<S: Alter>(
         Filter::All => all_documents(alloc, store, tab),
         Filter::Docid(docid) => one_document(alloc, store, tab, *docid),
         Filter::Match { .. } => {
-            let hits = matched(store, alloc, tab, query, None)?;
+            let hits = matched(store, alloc, tab, query, false, None)?;
             documents_of_hits(alloc, store, tab, hits.as_slice())
         }
     }

@@ -12,12 +12,18 @@ use itoa::Buffer;
 use std::alloc::{AllocError, Global};
 use std::collections::BTreeMap;
 
-/// The posting lists of documents under term and docid, and the sizes of their cells under docid and column.
+/// Posting lists under term and docid.
+pub(crate) type PostingLists = BTreeMap<(String, i64), Vec<Spot>>;
+
+/// The sizes of cells under docid and column.
+pub(crate) type Sizes = BTreeMap<(i64, i64), i64>;
+
+/// The posting lists of documents, and the sizes of their cells.
 #[derive(Drop)]
 pub(crate) struct DocumentIndex {
     alloc: Global,
-    lists: BTreeMap<(String, i64), Vec<Spot>>,
-    sizes: BTreeMap<(i64, i64), i64>,
+    lists: PostingLists,
+    sizes: Sizes,
 }
 
 impl DocumentIndex {
@@ -185,6 +191,14 @@ impl DocumentIndex {
     ghost use Rattle.ft_content.specs.Index.{key_cmp};
     ghost use Rattle.ft_index.specs.RewriteRows as rows;
 
+    /// Its lists and its sizes.
+    pub(crate) fn into_parts(self) -> (PostingLists, Sizes)
+        ensures { (result.0 ≡ self.lists) × (result.1 ≡ self.sizes) }
+    {
+        let DocumentIndex { lists, sizes, .. } = self;
+        (lists, sizes)
+    }
+
     /// Drops the lists that another index has not.
     pub(crate) fn drop_lists(
         &self,
@@ -203,21 +217,19 @@ impl DocumentIndex {
         Ok(())
     }
 
-    /// Puts the lists of another index that are new or differ.
+    /// Puts the lists of another index that are new or differ. They are moved into the changes.
     pub(crate) fn put_lists(
         &self,
         changes: &mut Vec<RowChange>,
         tab: i64,
-        new: &DocumentIndex,
+        new: PostingLists,
     ) -> Result<(), AllocError>
-        ensures { OnOk result (map shown_change changes.new.items ≡ map shown_change changes.old.items ++ rows.put_lists tab (rows.changed key_cmp rows.same_spots (rows.lists_in self.now) (rows.lists_in new.now))) }
+        ensures { OnOk result (map shown_change changes.new.items ≡ map shown_change changes.old.items ++ rows.put_lists tab (rows.changed key_cmp rows.same_spots (rows.lists_in self.now) (map rows.shown_list new.entries))) }
     {
-        for (key, spots) in new.lists.iter() {
-            let docid = key.1;
-            if !self.has_list(key, spots.as_slice()) {
-                let term = key.0.clone()?;
-                let copy = Vec::from_slice(self.alloc, spots.as_slice())?;
-                changes.push(RowChange::PutEntries(tab, term, docid, copy))?;
+        for (key, spots) in new {
+            if !self.has_list(&key, spots.as_slice()) {
+                let (term, docid) = key;
+                changes.push(RowChange::PutEntries(tab, term, docid, spots))?;
             }
         }
         Ok(())
@@ -238,13 +250,13 @@ impl DocumentIndex {
         &self,
         changes: &mut Vec<RowChange>,
         tab: i64,
-        new: &DocumentIndex,
+        new: &Sizes,
     ) -> Result<(), AllocError>
-        ensures { OnOk result (map shown_change changes.new.items ≡ map shown_change changes.old.items ++ rows.dropped_sizes tab (rows.gone column_key_cmp (rows.sizes_in self.now) (rows.sizes_in new.now))) }
+        ensures { OnOk result (map shown_change changes.new.items ≡ map shown_change changes.old.items ++ rows.dropped_sizes tab (rows.gone column_key_cmp (rows.sizes_in self.now) new.now.entries)) }
     {
         for (key, _n) in self.sizes.iter() {
             let (docid, column) = *key;
-            if !new.sizes.contains_key(key) {
+            if !new.contains_key(key) {
                 changes.push(RowChange::DropSize(tab, docid, column))?;
             }
         }
@@ -256,11 +268,11 @@ impl DocumentIndex {
         &self,
         changes: &mut Vec<RowChange>,
         tab: i64,
-        new: &DocumentIndex,
+        new: &Sizes,
     ) -> Result<(), AllocError>
-        ensures { OnOk result (map shown_change changes.new.items ≡ map shown_change changes.old.items ++ rows.put_sizes tab (rows.changed column_key_cmp int_eq (rows.sizes_in self.now) (rows.sizes_in new.now))) }
+        ensures { OnOk result (map shown_change changes.new.items ≡ map shown_change changes.old.items ++ rows.put_sizes tab (rows.changed column_key_cmp int_eq (rows.sizes_in self.now) new.now.entries)) }
     {
-        for (key, n) in new.sizes.iter() {
+        for (key, n) in new.iter() {
             let (docid, column) = *key;
             let n = *n;
             if !self.has_size(key, n) {

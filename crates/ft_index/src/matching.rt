@@ -1,11 +1,11 @@
 // What a MATCH finds in a table's index.
-ghost use Rattle.std.specs.Prelude.{◌≡◌, ◌^◌, ◌<◌, ◌⊎◌, ℕ, List, map, option_map, Ok, IsTrue, IfOk, IfErr, OnOk, MatchOption, ⊤, ◌↔◌};
+ghost use Rattle.std.specs.Prelude.{◌≡◌, ◌^◌, ◌<◌, ◌⊎◌, ℕ, List, [], map, option_map, Ok, IsTrue, IfOk, IfErr, IfSome, OnOk, MatchOption, ⊤, ◌↔◌};
 ghost use Rattle.sqlite.specs.State.{HasCleanDisk, Survives};
 ghost use Rattle.ft_query.specs.Documents.{Document};
 ghost use Rattle.ft_query.specs.Trees.{tree_of};
 ghost use Rattle.ft_query.specs.Work.{entry_count};
 ghost use Rattle.ft_query.specs.Occurs.{plain_hit, hits_of};
-ghost use Rattle.ft_query.specs.Walk.{StandsBefore};
+ghost use Rattle.ft_query.specs.Walk.{StandsBefore, lists_to_come, hit_list, hit_at};
 ghost use Rattle.ft_store.specs.Calls.{Keeps};
 ghost use Rattle.ft_store.specs.Kept.{shows, more_rows};
 ghost use Rattle.ft_values.specs.declared.fault.Fault.TheVariants as faults;
@@ -14,7 +14,7 @@ ghost use Rattle.ft_content.specs.Meaning.{content_documents};
 ghost use Rattle.ft_content.specs.Command.{Match};
 ghost use Rattle.ft_content.specs.Answer.{reading, query_in, cut};
 ghost use Rattle.ft_index.specs.Walked.{IsIndexed};
-ghost use Rattle.ft_index.specs.Matched.{chosen_hits};
+ghost use Rattle.ft_index.specs.Matched.{chosen_hits, told, Tells};
 ghost use Rattle.ft_index.specs.RowsRead.{entries_asked};
 
 use crate::table_lists::TableLists;
@@ -33,14 +33,47 @@ fn is_below(count: usize, most: Option<u64>) -> bool
     }
 }
 
+/// A hit without offsets.
+fn bare_hit(alloc: Global, docid: Option<i64>) -> Option<Hit>
+    ensures { hit_list result ≡ hit_at docid [] }
+{
+    Some(Hit {
+        docid: docid?,
+        offsets: Vec::new(alloc),
+    })
+}
+
+/// The next hit, with its offsets where they are wanted, or `None` where there is none left.
+fn next_hit(
+    alloc: Global,
+    walk: &mut Matches<'_>,
+    wants_offsets: bool,
+) -> Result<Option<Hit>, AllocError>
+    ensures told { IfOk result (λ hit. (documents : List Document) → StandsBefore walk.old documents → Tells wants_offsets walk.old walk.new hit documents) }
+    ensures passes { IfOk result (λ hit. IfSome hit (λ _. lists_to_come walk.new < lists_to_come walk.old)) }
+    ensures query { walk.new.query ≡ walk.old.query }
+{
+    if wants_offsets {
+        walk.next()
+    } else {
+        let docid = walk.next_docid()?;
+        Ok(bare_hit(alloc, docid))
+    }
+}
+
 /// The hits that are left, or the first ones where there are more than wanted.
-fn taken(alloc: Global, walk: &mut Matches<'_>, most: Option<u64>) -> Result<Vec<Hit>, AllocError>
+fn taken(
+    alloc: Global,
+    walk: &mut Matches<'_>,
+    wants_offsets: bool,
+    most: Option<u64>,
+) -> Result<Vec<Hit>, AllocError>
     ensures { IfOk result (λ hits. (documents : List Document) → StandsBefore walk.old documents
-        → map plain_hit hits.items ≡ cut most 0 (hits_of (tree_of walk.old.query) documents)) }
+        → map plain_hit hits.items ≡ cut most 0 (map (told wants_offsets) (hits_of (tree_of walk.old.query) documents))) }
 {
     let mut hits = Vec::new(alloc);
     while is_below(hits.len(), most) {
-        let Some(hit) = walk.next()? else {
+        let Some(hit) = next_hit(alloc, walk, wants_offsets)? else {
             break;
         };
         hits.push(hit)?;
@@ -79,17 +112,18 @@ fn fault_of(fault: ListFault) -> Fault
     }
 }
 
-/// The documents that a query finds by the lists of a table's index, the first ones where a number is given, each with its offsets. One
-/// read for each term of the query. The store is only read, whatever is answered.
+/// The documents that a query finds by the lists of a table's index, the first ones where a number is given, each with its offsets where
+/// they are wanted. One read for each term of the query. The store is only read, whatever is answered.
 pub(crate) fn hits<S: Alter>(
     store: &mut Store<S>,
     alloc: Global,
     tab: i64,
     query: &Query,
+    wants_offsets: bool,
     most: Option<u64>,
 ) -> Result<Vec<Hit>, Fault>
     ensures found { IfOk result (λ hits. (content : Content) → IsIndexed S.Store tab store.old store.new content
-        → map plain_hit hits.items ≡ cut most 0 (hits_of (tree_of query.now) (content_documents content))) }
+        → map plain_hit hits.items ≡ cut most 0 (map (told wants_offsets) (hits_of (tree_of query.now) (content_documents content)))) }
     ensures counted { OnOk result ((content : Content) → IsIndexed S.Store tab store.old store.new content
         → store.new.rows_read ≡ more_rows (entry_count (tree_of query.now) (content_documents content)) store.old) }
     ensures faults { IfErr result (λ fault. (fault ≡ faults.Store) ⊎ (fault ≡ faults.Memory)) }
@@ -101,7 +135,7 @@ pub(crate) fn hits<S: Alter>(
     let _read = store.rows_read();
     let mut lists = TableLists::new(store, tab);
     match opened(alloc, query, &mut lists) {
-        Ok(mut walk) => Ok(taken(alloc, &mut walk, most)?),
+        Ok(mut walk) => Ok(taken(alloc, &mut walk, wants_offsets, most)?),
         Err(fault) => Err(fault_of(fault)),
     }
 }
@@ -112,10 +146,11 @@ pub(crate) fn matched<S: Alter>(
     alloc: Global,
     tab: i64,
     query: Option<&Query>,
+    wants_offsets: bool,
     most: Option<u64>,
 ) -> Result<Vec<Hit>, Fault>
     ensures found { IfOk result (λ hits. (content : Content) (name text : List ℕ) → reading content name text ≡ Ok (option_map (λ q. tree_of q.now) query.entry)
-        → IsIndexed S.Store tab store.old store.new content → map plain_hit hits.items ≡ cut most 0 (chosen_hits content (Match name text))) }
+        → IsIndexed S.Store tab store.old store.new content → map plain_hit hits.items ≡ cut most 0 (map (told wants_offsets) (chosen_hits content (Match name text)))) }
     ensures counted { OnOk result ((content : Content) (name text : List ℕ) → reading content name text ≡ Ok (option_map (λ q. tree_of q.now) query.entry)
         → IsIndexed S.Store tab store.old store.new content → store.new.rows_read ≡ more_rows (entries_asked content (query_in content (Match name text))) store.old) }
     ensures faults { IfErr result (λ fault. (fault ≡ faults.Store) ⊎ (fault ≡ faults.Memory)) }
@@ -126,7 +161,7 @@ pub(crate) fn matched<S: Alter>(
     // So the count of rows is known to be of 64 bits.
     let _read = store.rows_read();
     match query {
-        Some(query) => hits(store, alloc, tab, query, most),
+        Some(query) => hits(store, alloc, tab, query, wants_offsets, most),
         None => Ok(Vec::new(alloc)),
     }
 }

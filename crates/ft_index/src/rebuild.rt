@@ -52,7 +52,7 @@ pub(crate) fn index_changes(
     ensures packable { IfOk result (λ changes. length columns.now ≤ 100 → IsTrue (is_sorted int_cmp (map shown_document documents.now)) → All (λ d. IsTrue (is_document (length columns.now) d)) (map shown_document documents.now) → All CanApply changes.items) }
 {
     let index = index_of(alloc, columns, documents)?;
-    let changes = rebuilt(alloc, tab, &index)?;
+    let changes = rebuilt(alloc, tab, index)?;
     Ok(changes)
 }
 
@@ -75,14 +75,15 @@ fn index_of(
 }
 
 // No index row of before, and all of this index.
-fn rebuilt(alloc: Global, tab: i64, index: &DocumentIndex) -> Result<Vec<RowChange>, AllocError>
-    ensures { IfOk result (λ changes. map shown_change changes.items ≡ rows.rebuild_changes tab (rows.lists_in index.now) (rows.sizes_in index.now)) }
+fn rebuilt(alloc: Global, tab: i64, index: DocumentIndex) -> Result<Vec<RowChange>, AllocError>
+    ensures { IfOk result (λ changes. map shown_change changes.items ≡ rows.rebuild_changes tab (rows.lists_in index) (rows.sizes_in index)) }
 {
     let none = DocumentIndex::new(alloc);
     let mut changes = Vec::new(alloc);
     changes.push(RowChange::ClearIndex(tab))?;
-    none.put_lists(&mut changes, tab, index)?;
-    none.put_sizes(&mut changes, tab, index)?;
+    let (lists, sizes) = index.into_parts();
+    none.put_lists(&mut changes, tab, lists)?;
+    none.put_sizes(&mut changes, tab, &sizes)?;
     Ok(changes)
 }
 

@@ -66,9 +66,10 @@ fn planned_changes(
     put_documents(alloc, &mut changes, tab, rewrites)?;
     let (old, new) = indexes(alloc, columns, rewrites)?;
     old.drop_lists(&mut changes, tab, &new)?;
-    old.put_lists(&mut changes, tab, &new)?;
-    old.drop_sizes(&mut changes, tab, &new)?;
-    old.put_sizes(&mut changes, tab, &new)?;
+    let (lists, sizes) = new.into_parts();
+    old.put_lists(&mut changes, tab, lists)?;
+    old.drop_sizes(&mut changes, tab, &sizes)?;
+    old.put_sizes(&mut changes, tab, &sizes)?;
     Ok(changes)
 }
 

@@ -192,7 +192,7 @@ fn chosen_count<S: Alter>(
 {
     match filter {
         Filter::Match { .. } => {
-            let hits = matched(store, alloc, tab, query, None)?;
+            let hits = matched(store, alloc, tab, query, false, None)?;
             Ok(hits.len() as i64)
         }
         Filter::All | Filter::Docid(_) => {
@@ -262,7 +262,8 @@ fn matched_rows<S: Alter>(
     ensures looks { Looks S.Store store.old store.new }
     ensures live { HasCleanDisk (shows S.Store store.new) → OnOk result (IsTrue (shows S.Store store.old).is_open → IsTrue (shows S.Store store.new).is_open) }
 {
-    let hits = matched(store, alloc, tab, query, most_hits(limit, offset))?;
+    let most = most_hits(limit, offset);
+    let hits = matched(store, alloc, tab, query, any_offsets(items), most)?;
     let answered = cut(hits.as_slice(), limit, offset);
     if has_column(items) {
         cell_rows(alloc, store, tab, columns, items, answered)

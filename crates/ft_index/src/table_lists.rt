@@ -1,14 +1,26 @@
 // The posting lists of one table.
-ghost use Rattle.std.specs.Prelude.{◌≡◌, ◌+◌, ◌-◌, ◌^◌, ◌||◌, false, min, length, map, Err, IfOk, OnOk, OnErr};
-ghost use Rattle.ft_query.specs.Documents.{plain_list};
+ghost use Rattle.std.specs.Prelude.{◌≡◌, ◌+◌, ◌-◌, ◌^◌, ◌||◌, false, min, map, Err, IfOk, OnOk, OnErr};
+ghost use Rattle.ft_query.specs.Documents.{plain_list, place_count};
 ghost use Rattle.ft_query.specs.Lists.{is_failed};
+ghost use Rattle.ft_store.specs.Shown.{shown_list, spot_count};
 ghost use Rattle.ft_index.specs.Placed.{AreListsOf};
 
 use crate::doc_lists::doc_lists;
 use ft_query::{DocList, ListFault, Lists};
-use ft_store::{EntryRow, Store, StoreFault};
+use ft_store::{ListRow, Store, StoreFault};
 use sqlite::Alter;
 use std::alloc::{AllocError, Global};
+
+/// How many places lists have, up to 2^64 - 1.
+fn count_places(lists: &[DocList]) -> u64
+    ensures { result ≡ min (place_count (map plain_list lists.now)) (2 ^ 64 - 1) }
+{
+    let mut count: u64 = 0;
+    for list in lists {
+        count = count.saturating_add(list.places.len() as u64);
+    }
+    count
+}
 
 /// The posting lists of one table of a store, as a walk asks for them: one read for each term.
 #[derive(Drop)]
@@ -35,13 +47,13 @@ impl<'s, S: Alter> TableLists<'s, S> {
     }
 
     /// The lists of rows that were read.
-    fn answered(&mut self, alloc: Global, rows: &[EntryRow]) -> Result<Vec<DocList>, AllocError>
+    fn answered(&mut self, alloc: Global, rows: &[ListRow]) -> Result<Vec<DocList>, AllocError>
         ensures lists { IfOk result (λ lists. AreListsOf rows.now (map plain_list lists.items)) }
-        ensures counted { OnOk result (self.new ≡ record self.old { given = min (self.old.given + length rows.now) (2 ^ 64 - 1) }) }
+        ensures counted { OnOk result (self.new ≡ record self.old { given = min (self.old.given + spot_count (map shown_list rows.now)) (2 ^ 64 - 1) }) }
         ensures err { OnErr result (self.new ≡ self.old) }
     {
         let lists = doc_lists(alloc, rows)?;
-        self.given = self.given.saturating_add(rows.len() as u64);
+        self.given = self.given.saturating_add(count_places(lists.as_slice()));
         Ok(lists)
     }
 
@@ -76,14 +88,14 @@ impl<'s, S: Alter> Lists for TableLists<'s, S> {
     ghost in_order = { λ l reliable. reliable.in_order };
 
     fn word(&mut self, alloc: Global, term: &str) -> Result<Vec<DocList>, ListFault> {
-        match self.store.term(self.tab, term) {
+        match self.store.term_lists(self.tab, term) {
             Ok(rows) => Ok(self.answered(alloc, rows.as_slice())?),
             Err(fault) => Err(self.refused(fault)),
         }
     }
 
     fn prefix(&mut self, alloc: Global, begin: &str) -> Result<Vec<DocList>, ListFault> {
-        match self.store.prefix(self.tab, begin) {
+        match self.store.prefix_lists(self.tab, begin) {
             Ok(rows) => Ok(self.answered(alloc, rows.as_slice())?),
             Err(fault) => Err(self.refused(fault)),
         }

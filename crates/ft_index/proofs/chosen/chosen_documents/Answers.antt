@@ -1,5 +1,5 @@
 -- by the kind of the filter
-use Rattle.std.proofs.Common.{◌≡◌, ◌∙◌, ℤ, Option, map, option_map, string_bytes, Bor, refl, sym, ap, subst, to_z-of_z, to_z, of_z, w64}
+use Rattle.std.proofs.Common.{◌≡◌, ◌∙◌, ℤ, false, Option, map, option_map, string_bytes, Bor, refl, sym, ap, subst, to_z-of_z, to_z, of_z, w64}
 use Rattle.std.proofs.lemmas.Result.{IfOk-weaker}
 use Rattle.ft_query.specs.declared.walk.Hit.{Hit}
 use Rattle.ft_query.specs.Trees.{Tree, tree_of}
@@ -11,7 +11,7 @@ use Rattle.ft_content.specs.Views.{filter_of}
 use Rattle.ft_index.specs.DocumentsRead.{HasRows, Looks}
 use Rattle.ft_index.specs.Walked.{IsIndexed}
 use Rattle.ft_index.specs.Chosen.{ReadsAs, document_at}
-use Rattle.ft_index.specs.Matched.{chosen_hits}
+use Rattle.ft_index.specs.Matched.{chosen_hits, told}
 use Rattle.ft_index.proofs.ChosenLemmas.{chosen_all, of_hits}
 use Rattle.ft_index.proofs.LookLemmas.{rows_then, index_first}
 use Rattle.ft_index.proofs.chosen.chosen_documents.Goals as goal
@@ -36,9 +36,9 @@ returns-in_ok-hits-in-Match-clause-chosen g c = IfOk-weaker c.documents_of_hits.
     let at = subst (λ (k : ℤ). IsIndexed g.S.Store k first last content) t indexed in
     let query : Option Tree = option_map {T = Bor _} (λ q. tree_of q.now) c.args.query in
     let as_read = subst (λ (f : Filter). ReadsAs content (filter_of f) query) c.in-Match.is reads in
-    let hits : map plain_hit c.in_ok-hits-in-Match.hits.items ≡ chosen_hits content (Match name text) =
+    let hits : map plain_hit c.in_ok-hits-in-Match.hits.items ≡ map (told false) (chosen_hits content (Match name text)) =
     c.in_ok-hits-in-Match.ensures.found content name text as_read (index_first g.S.Store first middle last one two tab content at) in
     read content (rows_then g.S.Store first middle last one two tab content here)
     ∙ ap (map (λ (h : Hit). document_at content h.docid)) c.as_slice.ensures.value
-    ∙ of_hits (λ (h : Hit). h.docid) plain_hit (λ h. refl) rows.name content (Match name text) c.in_ok-hits-in-Match.hits.items rows.is_content hits
+    ∙ of_hits (λ (h : Hit). h.docid) plain_hit (λ h. refl) rows.name content (Match name text) false c.in_ok-hits-in-Match.hits.items rows.is_content hits
     ∙ sym (ap (λ (f : Filter). chosen content (filter_of f)) c.in-Match.is)) c.documents_of_hits.ensures.found

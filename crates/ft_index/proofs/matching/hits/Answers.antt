@@ -1,5 +1,5 @@
 -- what the walk finds, said of the store that the lists were lent
-use Rattle.std.proofs.Common.{◌≡◌, ◌∙◌, ◌+◌, ◌-◌, ◌<◌, ◌^◌, min, ap, arith, rules}
+use Rattle.std.proofs.Common.{◌≡◌, ◌∙◌, ◌+◌, ◌-◌, ◌<◌, ◌^◌, min, map, ap, arith, rules}
 use Rattle.ft_query.specs.Trees.{tree_of}
 use Rattle.ft_query.specs.Work.{entry_count}
 use Rattle.ft_query.specs.Occurs.{hits_of}
@@ -7,6 +7,7 @@ use Rattle.ft_store.specs.Kept.{StoreState}
 use Rattle.ft_content.specs.Answer.{cut}
 use Rattle.ft_content.specs.Meaning.{content_documents}
 use Rattle.ft_index.specs.Walked.{IsIndexed}
+use Rattle.ft_index.specs.Matched.{told}
 use Rattle.ft_index.proofs.WalkedLemmas.{indexed_at, rows_at}
 use Rattle.ft_index.proofs.matching.hits.Goals as goal
 
@@ -15,7 +16,7 @@ returns-in_ok-taken-in-Ok-clause-found g c content indexed =
     let tab : c.new-lists.result.tab ≡ c.args.tab = search rules in
     let at : IsIndexed g.S.Store c.new-lists.result.tab c.new-lists.result.store.now c.opened.new.lists.store.now content = indexed_at _ _ _ indexed tab c.new-lists.ensures.same_store (search rules) in
     c.in_ok-taken-in-Ok.ensures (content_documents content) (c.in-Ok.ensures.stands content at)
-    ∙ ap (λ q. cut c.args.most 0 (hits_of (tree_of q) (content_documents content))) c.in-Ok.ensures.query
+    ∙ ap (λ q. cut c.args.most 0 (map (told c.args.wants_offsets) (hits_of (tree_of q) (content_documents content)))) c.in-Ok.ensures.query
 
 pub returns-in_ok-taken-in-Ok-clause-counted : goal.returns-in_ok-taken-in-Ok-clause-counted
 returns-in_ok-taken-in-Ok-clause-counted g c content indexed =

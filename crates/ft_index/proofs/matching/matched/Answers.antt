@@ -4,6 +4,7 @@ use Rattle.std.proofs.lemmas.Result.{IfOk-weaker}
 use Rattle.ft_query.specs.Trees.{tree_of}
 use Rattle.ft_query.specs.Occurs.{plain_hit}
 use Rattle.ft_content.specs.Answer.{query_read, cut}
+use Rattle.ft_index.specs.Matched.{told}
 use Rattle.ft_index.specs.RowsRead.{entries_asked}
 use Rattle.ft_index.proofs.MatchedLemmas.{hits_chosen, none_chosen, cut_none}
 use Rattle.ft_index.proofs.ReadsLemmas.{on_ok_from}
@@ -11,7 +12,7 @@ use Rattle.ft_index.proofs.matching.matched.Goals as goal
 
 pub returns-in-Some-clause-found : goal.returns-in-Some-clause-found
 returns-in-Some-clause-found g c = IfOk-weaker c.hits.result _ _ (λ hits found content name text read indexed.
-    found content indexed ∙ ap (cut c.args.most 0) (hits_chosen indexed.name content name text (tree_of c.in-Some.query.now) indexed.is_content (read ∙ ap (λ q. Ok (option_map (λ q. tree_of q.now) q)) c.in-Some.is)))
+    found content indexed ∙ ap (λ hs. cut c.args.most 0 (map (told c.args.wants_offsets) hs)) (hits_chosen indexed.name content name text (tree_of c.in-Some.query.now) indexed.is_content (read ∙ ap (λ q. Ok (option_map (λ q. tree_of q.now) q)) c.in-Some.is)))
     (simp (to_z-of_z, c.ranges.tab) at c.hits.ensures.found)
 
 pub returns-in-Some-clause-counted : goal.returns-in-Some-clause-counted
@@ -22,4 +23,4 @@ returns-in-Some-clause-counted g c = on_ok_from c.hits.result _ _ (λ whole coun
 pub returns-in-None-clause-found : goal.returns-in-None-clause-found
 returns-in-None-clause-found g c content name text read indexed =
     ap (map plain_hit) c.new.ensures.items
-    ∙ sym (ap (cut c.args.most 0) (none_chosen content name text (read ∙ ap (λ q. Ok (option_map (λ q. tree_of q.now) q)) c.in-None.is)) ∙ cut_none c.args.most)
+    ∙ sym (ap (λ hs. cut c.args.most 0 (map (told c.args.wants_offsets) hs)) (none_chosen content name text (read ∙ ap (λ q. Ok (option_map (λ q. tree_of q.now) q)) c.in-None.is)) ∙ cut_none c.args.most)

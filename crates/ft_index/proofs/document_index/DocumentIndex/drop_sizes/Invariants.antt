@@ -6,4 +6,4 @@ use Rattle.ft_index.specs.RewriteRows as rows
 use Rattle.ft_index.proofs.document_index.DocumentIndex.drop_sizes.Given as goal
 
 abbrev pub invariant-loop-key : goal.invariant-loop-key
-invariant-loop-key l = map shown_change l.changes.items ++ rows.dropped_sizes l.tab (rows.gone column_key_cmp l.key-iterator (rows.sizes_in l.new)) ≡ map shown_change l.fn.changes.items ++ rows.dropped_sizes l.tab (rows.gone column_key_cmp (rows.sizes_in l.self) (rows.sizes_in l.new))
+invariant-loop-key l = map shown_change l.changes.items ++ rows.dropped_sizes l.tab (rows.gone column_key_cmp l.key-iterator l.new.entries) ≡ map shown_change l.fn.changes.items ++ rows.dropped_sizes l.tab (rows.gone column_key_cmp (rows.sizes_in l.self) l.new.entries)

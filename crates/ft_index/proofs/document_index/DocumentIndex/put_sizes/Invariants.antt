@@ -7,4 +7,4 @@ use Rattle.ft_index.specs.RewriteRows as rows
 use Rattle.ft_index.proofs.document_index.DocumentIndex.put_sizes.Given as goal
 
 abbrev pub invariant-loop-key : goal.invariant-loop-key
-invariant-loop-key l = map shown_change l.changes.items ++ rows.put_sizes l.tab (rows.changed column_key_cmp int_eq (rows.sizes_in l.self) l.key-iterator) ≡ map shown_change l.fn.changes.items ++ rows.put_sizes l.tab (rows.changed column_key_cmp int_eq (rows.sizes_in l.self) (rows.sizes_in l.new))
+invariant-loop-key l = map shown_change l.changes.items ++ rows.put_sizes l.tab (rows.changed column_key_cmp int_eq (rows.sizes_in l.self) l.key-iterator) ≡ map shown_change l.fn.changes.items ++ rows.put_sizes l.tab (rows.changed column_key_cmp int_eq (rows.sizes_in l.self) l.new.entries)
