@@ -16,7 +16,8 @@ use Rattle.ft_content.specs.Command.{Insert}
 use Rattle.ft_statements.specs.Dots.{DotCommand, Import, Nothing, SetMode, SetHeaders, SetSeparator, SetNull, SetEcho, SetBail, Print, Importing, Tables, Quit, Usage, Unknown, dot_command_of}
 use Rattle.ft_shell.specs.DotTurns.{DotTurn, behind_stop}
 use Rattle.ft_shell.specs.FullTextTurns.{MaybeNotes, NoteTurn}
-use Rattle.ft_shell.specs.Imports.{delimiter_of, fitted, warnings}
+use Rattle.ft_shell.specs.Imports.{delimiter_of, row_cells}
+use Rattle.ft_shell.specs.Records.{warnings}
 use Rattle.ft_shell.specs.ImportTurns.{BytesTurn, DelimitedTurn, FileTurn, IntoNamed, IntoNew, PlainImport, TextImport, columns_in, kept, records_in, executed, no_memory, no_header, too_wide, declined, there, new_table, untried, read, no_text, fetched, unfetched, fetch_words}
 use Rattle.ft_shell.specs.TablesTurns.{TablesTurn}
 use Rattle.ft_shell.specs.ImportTurns as imports
@@ -108,7 +109,7 @@ note_calls h settings line name old new told it = notes_one h old new name it.is
 
 -- one Insert of these records
 abbrev Inserts : Settings → ℕ → Import → ℕ → List (ℕ × List (List ℕ)) → Told → List Call → Type 0
-Inserts settings line what n rows told calls = OneCommand settings line told calls (Insert what.table None (map (fitted n) (records_in rows))) (imports.insert_told settings line (warnings what.file n rows))
+Inserts settings line what n rows told calls = OneCommand settings line told calls (Insert what.table None (map (row_cells n) (records_in rows))) (imports.insert_told settings line (warnings what.file n rows))
 
 text_calls : {S : Type 0} (h : Ghosts S) (settings : Settings) (line : ℕ) (what : Import) (n : ℕ) (rows : List (ℕ × List (List ℕ))) (before after : FullText S) (told : Told) → (it : TextImport h settings line what n rows before after told) →
     Called h (λ calls. Inserts settings line what n rows told calls ⊎ NoCall settings line told calls) (text_in h settings line what n rows before after told it) before after

@@ -1,9 +1,7 @@
 -- Turns of imports, from their parts.
-use Rattle.std.proofs.Common.{◌≡◌, ◌≤◌, ◌<◌, ◌+◌, ◌-◌, ℕ, zero, suc, List, [], ◌∷◌, map, length, get_or, take, drop, true, false, Option, Some, None, Result, Err, refl, sym, ap, subst, ◌∙◌, arith, min, append-nil, string_bytes, String, Vec, Global}
-use Rattle.std.specs.Prelude.{unwrap_or, if◌then◌else◌}
-use Rattle.std.proofs.lemmas.List.{drop-map, drop_more, length-map, take_all}
-use Rattle.ft_values.specs.declared.table.TableInfo.{TableInfo}
-use Rattle.ft_content.specs.Views.{shown_info, column_of}
+use Rattle.std.proofs.Common.{◌≡◌, ◌≤◌, ◌<◌, ◌+◌, ◌-◌, ℕ, zero, suc, List, [], ◌∷◌, map, length, get_or, take, drop, false, Option, Some, None, Result, Err, refl, sym, ap, subst, ◌∙◌, arith, min, append-nil, String, Vec, Global}
+use Rattle.std.specs.Prelude.{unwrap_or}
+use Rattle.std.proofs.lemmas.List.{drop-map, length-map, take_all}
 use Rattle.std.specs.List.{enumerate_from}
 use Rattle.sqlite.specs.Store.{Ghosts}
 use Rattle.sqlite.specs.Held.{Held, state}

@@ -1,4 +1,5 @@
 pub mod ImportLemmas
+pub mod RecordLemmas
 pub mod AnswerLemmas
 pub mod PlainTurnLemmas
 pub mod ClassLemmas

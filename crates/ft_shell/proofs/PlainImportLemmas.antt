@@ -1,10 +1,7 @@
 -- Steps of an import into the plain database.
-use Rattle.std.proofs.Common.{◌≡◌, ◌<◌, ◌+◌, ℕ, zero, suc, List, [], ◌∷◌, ◌++◌, map, length, get_or, take, drop, replicate, true, false, Bool, Result, Ok, Err, refl, sym, ap, subst, ◌∙◌, arith, inl, inr, IsTrue, string_bytes, String, Vec, Global, length-append}
+use Rattle.std.proofs.Common.{◌≡◌, ◌<◌, ◌+◌, ℕ, List, [], ◌∷◌, ◌++◌, map, length, get_or, take, drop, true, false, Bool, Result, Ok, Err, refl, sym, ap, subst, ◌∙◌, inl, inr, IsTrue, String, Vec, Global}
 use Rattle.std.specs.Prelude.{◌⊎◌, if◌then◌else◌}
-use Rattle.std.proofs.lemmas.List.{take_more, drop_more, take-append-drop, map-append, length-map, length-replicate, get_or-map}
-use Rattle.sqlite_value.specs.declared.value.Value.{Value}
-use Rattle.sqlite_value.specs.declared.value.Value.TheVariants as value
-use Rattle.sqlite.specs.Values.{bound_value}
+use Rattle.std.proofs.lemmas.List.{take_more, drop_more, take-append-drop, map-append}
 use Rattle.ft_statements.specs.Views.{texts_of}
 use Rattle.sqlite_value.specs.Order.{Row}
 use Rattle.sqlite.specs.Store.{Ghosts}
@@ -16,7 +13,7 @@ use Rattle.sqlite.specs.declared.error.Error.{Error}
 use Rattle.ft_shell.specs.declared.plain_import.ImportFault.{ImportFault}
 use Rattle.ft_shell.specs.declared.plain_import.ImportFault.TheVariants.{Refused, Memory}
 use Rattle.ft_shell.specs.PlainStatements.{IfClean, is_memory_error}
-use Rattle.ft_shell.specs.PlainImports.{Step, Prepare, Run, field_value, fitted_row, runs_of, Stays, CommitsNothing, Does, IsRefused, DoesAll, StopsAtStep, begun, IsInside, KeepsLast}
+use Rattle.ft_shell.specs.PlainImports.{Step, Prepare, Run, row_values, runs_of, Stays, CommitsNothing, Does, IsRefused, DoesAll, StopsAtStep, begun, IsInside, KeepsLast}
 use Rattle.ft_shell.proofs.PlainTurnLemmas.{clean_before}
 
 -- ---- what a call leaves of the last commit
@@ -87,49 +84,21 @@ other_cause {T} e r is other = go (is_memory_error e) refl
 pub passed_on : {T U : Type 0} (fault : ImportFault) (r : Result T ImportFault) → r ≡ Err fault → r ≡ Err Refused → ◌≡◌ {A = Result U ImportFault} (Err fault) (Err Refused)
 passed_on {T} {U} fault r is refused = let same : ◌≡◌ {A = Result T ImportFault} (Err fault) (Err Refused) = sym is ∙ refused in let inner : fault ≡ Refused = cc in ap Err inner
 
--- ---- the values of a record
-
-pub looked_up : (fields : List (String Global)) (at : ℕ) (field : String Global) → at < length fields → field ≡ get_or fields at field → field_value (map string_bytes fields) at ≡ value.Text (string_bytes field)
-looked_up fields at field within is =
-    let inside : at < length (map string_bytes fields) = omega (arith, within, length-map fields string_bytes) in
-    get_or-map value.Text (map string_bytes fields) at [] value.Null inside ∙ ap value.Text (get_or-map string_bytes fields at field [] within ∙ ap string_bytes (sym is))
-
-bound_text : (fields : List (List ℕ)) (at : ℕ) → bound_value (field_value fields at) ≡ field_value fields at
-bound_text [] at = refl
-bound_text (field ∷ fields) zero = refl
-bound_text (field ∷ fields) (suc at) = bound_text fields at
-
-padded : {A : Type 0} (xs : List A) (n i : ℕ) (z : A) → get_or (xs ++ replicate n z) i z ≡ get_or xs i z
-padded [] zero i z = refl
-padded [] (suc n) zero z = refl
-padded [] (suc n) (suc i) z = padded [] n i z
-padded (x ∷ xs) n zero z = refl
-padded (x ∷ xs) n (suc i) z = padded xs n i z
-
--- one value more
-pub value_more : (fields : List (List ℕ)) (columns at : ℕ) (given : Value) → at < columns → given ≡ field_value fields at →
-    take at (map value.Text fields ++ replicate columns value.Null) ++ bound_value given ∷ [] ≡ take (at + 1) (map value.Text fields ++ replicate columns value.Null)
-value_more fields columns at given within is =
-    let all = map value.Text fields ++ replicate columns value.Null in
-    let size : at < length all = omega (arith, within, length-append (map value.Text fields) (replicate columns value.Null), length-replicate columns value.Null) in
-    let same : bound_value given ≡ get_or all at value.Null = ap bound_value is ∙ bound_text fields at ∙ sym (padded (map value.Text fields) columns at value.Null) in
-    ap (λ v. take at all ++ v ∷ []) same ∙ sym (take_more all at value.Null size)
-
 -- ---- the insertions of records
 
 pub runs_more : (text : List ℕ) (n : ℕ) (records : List (Vec (String Global) Global)) (i : ℕ) (d : Vec (String Global) Global) (row : List (List ℕ)) → i < length records → row ≡ texts_of (get_or records i d) →
-    runs_of text n (map texts_of (take i records)) ++ Run text (fitted_row n row) ∷ [] ≡ runs_of text n (map texts_of (take (i + 1) records))
+    runs_of text n (map texts_of (take i records)) ++ Run text (row_values n row) ∷ [] ≡ runs_of text n (map texts_of (take (i + 1) records))
 runs_more text n records i d row within is =
-    let step = λ (fields : List (List ℕ)). Run text (fitted_row n fields) in
+    let step = λ (fields : List (List ℕ)). Run text (row_values n fields) in
     ap (λ fields. runs_of text n (map texts_of (take i records)) ++ step fields ∷ []) is
     ∙ sym (map-append step (map texts_of (take i records)) (texts_of (get_or records i d) ∷ []))
     ∙ ap (map step) (sym (map-append texts_of (take i records) (get_or records i d ∷ [])))
     ∙ ap (λ rs. map step (map texts_of rs)) (sym (take_more records i d within))
 
 pub runs_split : (text : List ℕ) (n : ℕ) (records : List (Vec (String Global) Global)) (i : ℕ) (d : Vec (String Global) Global) (row : List (List ℕ)) → i < length records → row ≡ texts_of (get_or records i d) →
-    runs_of text n (map texts_of (take i records)) ++ Run text (fitted_row n row) ∷ runs_of text n (map texts_of (drop (i + 1) records)) ≡ runs_of text n (map texts_of records)
+    runs_of text n (map texts_of (take i records)) ++ Run text (row_values n row) ∷ runs_of text n (map texts_of (drop (i + 1) records)) ≡ runs_of text n (map texts_of records)
 runs_split text n records i d row within is =
-    let step = λ (fields : List (List ℕ)). Run text (fitted_row n fields) in
+    let step = λ (fields : List (List ℕ)). Run text (row_values n fields) in
     ap (λ fields. runs_of text n (map texts_of (take i records)) ++ step fields ∷ runs_of text n (map texts_of (drop (i + 1) records))) is
     ∙ sym (map-append step (map texts_of (take i records)) (map texts_of (get_or records i d ∷ drop (i + 1) records)))
     ∙ ap (map step) (sym (map-append texts_of (take i records) (get_or records i d ∷ drop (i + 1) records)))

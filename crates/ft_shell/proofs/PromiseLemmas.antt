@@ -19,7 +19,7 @@ use Rattle.ft_statements.specs.Replies.{reply_text}
 use Rattle.ft_shell.specs.declared.session.Status.{Status}
 use Rattle.ft_shell.specs.declared.session.RunFault.{RunFault}
 use Rattle.ft_shell.specs.Shell.{Parts, Shell}
-use Rattle.ft_shell.specs.Imports.{fitted}
+use Rattle.ft_shell.specs.Imports.{row_cells}
 use Rattle.ft_shell.specs.ImportTurns.{columns_in, kept, records_in}
 use Rattle.ft_shell.specs.FullTextTurns.{reply_told}
 use Rattle.ft_shell.specs.StatementTurns.{table_names}
@@ -116,7 +116,7 @@ few_class settings line told calls made (Some (FullTextClass command)) (inr it) 
 
 few_import : (settings : Settings) (line : ℕ) (told : Told) (calls : List Call) (holds : Files) (what : Import) (there : Option ℕ) → CallsOfImport settings line told calls holds what there → Few calls
 few_import settings line told calls holds what None it = inl (note_of (Some what.table) calls it)
-few_import settings line told calls holds what (Some n) (inl it) = inr (Insert what.table None (map (fitted n) (records_in (kept what.skip it.0))), it.2.0, it.2.1)
+few_import settings line told calls holds what (Some n) (inl it) = inr (Insert what.table None (map (row_cells n) (records_in (kept what.skip it.0))), it.2.0, it.2.1)
 few_import settings line told calls holds what (Some n) (inr it) = inl (none_of calls it.0)
 
 few_dot : {P S : Type 0} (line : ℕ) (old : Shell P S) (told : Told) (calls : List Call) (command : DotCommand) → CallsOfDot line old told calls command → Few calls

@@ -195,7 +195,7 @@ runs_turn g h (Ok x) member a b told mid body turn is echo out err cause faults 
 runs_turn g h (Err fault) member a b told mid body turn is echo (front, rest, split, written) err cause faults quit =
     (breaks_one g h fault member a b told front rest cause turn (is ∙ ap (λ xs. echo_of a.shell.settings member ++ xs) split) (appends_then a.out mid b.out (echo_of a.shell.settings member) front echo written) err, inl cause)
 
-pub unit_echo : (settings : Settings) (kind : UnitKind) (line : ℕ) (text : List ℕ) → echo_of settings (member_as kind line text) ≡ echo_text settings text
+pub unit_echo : (settings : Settings) (kind : UnitKind) (line : ℕ) (text : List ℕ) → echo_of settings (member_as kind line text) ≡ echo_text settings.echo text
 unit_echo settings kinds.Sql line text = refl
 unit_echo settings kinds.Dot line text = refl
 

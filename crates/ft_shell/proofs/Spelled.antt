@@ -17,7 +17,8 @@ use Rattle.ft_statements.specs.Dots.{DotCommand, Import, Importing, Tables, dot_
 use Rattle.ft_statements.specs.Plain.{made_name}
 use Rattle.ft_shell.specs.Shell.{Shell}
 use Rattle.ft_shell.specs.Sources.{Files, Gives}
-use Rattle.ft_shell.specs.Imports.{delimiter_of, fitted, warnings}
+use Rattle.ft_shell.specs.Imports.{delimiter_of, row_cells}
+use Rattle.ft_shell.specs.Records.{warnings}
 use Rattle.ft_shell.specs.FullTextTurns.{reply_told}
 use Rattle.ft_shell.specs.StatementTurns.{table_names}
 use Rattle.ft_shell.specs.ImportTurns.{columns_in, insert_told, kept, records_in}
@@ -60,7 +61,7 @@ module _ (settings : Settings) (line : ℕ) (told : Told) (calls : List Call) wh
   CallsOfImport holds what None = MayNote (Some what.table) calls
   CallsOfImport holds what (Some n) =
       ((found : List (List (List ℕ))) × HasRecords settings holds what found
-      × OneCommand (Insert what.table None (map (fitted n) (records_in (kept what.skip found)))) (insert_told settings line (warnings what.file n (kept what.skip found)))) ⊎ NoCall
+      × OneCommand (Insert what.table None (map (row_cells n) (records_in (kept what.skip found)))) (insert_told settings line (warnings what.file n (kept what.skip found)))) ⊎ NoCall
 
 -- what a member calls, over the tables and the files that are there, where this is told of it
 abbrev pub CallsOfDot : {P S : Type 0} → ℕ → Shell P S → Told → List Call → DotCommand → Type 0

@@ -1,6 +1,6 @@
 -- Meaning. What `.import` does in a session ("Importing files as CSV or other formats" of "Command Line Shell For SQLite"; that an import is one
--- command, whole or not at all, that short records are filled with NULL and long ones cut, and each refusal, are own choices).
-use Rattle.std.specs.Prelude.{ℕ, ◌≡◌, ◌⊎◌, ◌<◌, ◌≤◌, List, [], ◌∷◌, length, map, drop, true, false, codes, Option, Some, None, option_map, unwrap_or, Result, Ok, Err, if◌then◌else◌}
+-- command, whole or not at all, and each refusal, are own choices).
+use Rattle.std.specs.Prelude.{ℕ, ◌≡◌, ◌⊎◌, ◌<◌, ◌≤◌, List, [], ◌∷◌, length, map, drop, true, false, codes, Option, Some, None, option_map, unwrap_or, Result, Ok, Err}
 use Rattle.std.specs.List.{enumerate_from}
 use Rattle.csv.specs.Reading.{AreRecords, strip_bom}
 use Rattle.csv.specs.declared.parser.State.TheVariants as csv
@@ -18,9 +18,10 @@ use Rattle.ft_statements.specs.Dots.{Import}
 use Rattle.ft_shell.specs.declared.plain_import.ImportFault.{ImportFault}
 use Rattle.ft_shell.specs.declared.plain_import.ImportFault.TheVariants.{Refused, Memory}
 use Rattle.ft_shell.specs.FullTextTurns.{NoteTurn}
-use Rattle.ft_shell.specs.Imports.{delimiter_of, fitted, warnings}
+use Rattle.ft_shell.specs.Imports.{delimiter_of, row_cells}
 use Rattle.ft_shell.specs.PlainImports.{HasColumns, Stays, CommitsNothing, import_steps, CommitsAll, Declines, Uncounted}
 use Rattle.ft_shell.specs.PlainStatements.{IfClean}
+use Rattle.ft_shell.specs.Records.{warnings}
 use Rattle.ft_shell.specs.Sources.{Files, Gives, Refuses}
 use Rattle.ft_shell.specs.declared.source.SourceFault.{SourceFault}
 use Rattle.ft_shell.specs.declared.source.SourceFault.TheVariants as sources
@@ -55,7 +56,7 @@ pub record InsertTurn {S : Type 0} (h : Ghosts S) (settings : Settings) (line : 
 
 -- All records go in by one Insert, or none does. Where memory is wanting before it, nothing is done.
 pub data TextImport {S : Type 0} (h : Ghosts S) (settings : Settings) (line : ℕ) (what : Import) (n : ℕ) (rows : List (ℕ × List (List ℕ))) (before after : FullText S) (told : Told) : Type 0 where
-  executed : InsertTurn h settings line (Insert what.table None (map (fitted n) (records_in rows))) (warnings what.file n rows) before after told → TextImport h settings line what n rows before after told
+  executed : InsertTurn h settings line (Insert what.table None (map (row_cells n) (records_in rows))) (warnings what.file n rows) before after told → TextImport h settings line what n rows before after told
   no_memory : after ≡ before → told ≡ lacks_memory settings line → TextImport h settings line what n rows before after told
 
 -- ---- into a plain table

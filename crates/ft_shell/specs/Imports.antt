@@ -1,10 +1,11 @@
--- Meaning. The parts of an import: the texts that are made for `sqlite`, the rows out of records, and the warnings ("Importing files as CSV
--- or other formats" of "Command Line Shell For SQLite"; that each record has its place in one command is an own choice).
-use Rattle.std.specs.Prelude.{ℕ, Bool, ◌==◌, List, [], ◌∷◌, ◌++◌, length, map, take, replicate, Option, Some, None, if◌then◌else◌, codes, decimal, chars, encode_utf8}
+-- Meaning. The parts of an import: the texts that are made for `sqlite`, the rows of a full-text table, and the delimiter ("Importing files as
+-- CSV or other formats" of "Command Line Shell For SQLite"; that each record has its place in one command is an own choice).
+use Rattle.std.specs.Prelude.{ℕ, Bool, ◌==◌, List, [], ◌∷◌, ◌++◌, map, replicate, Option, Some, None, if◌then◌else◌, codes, chars, encode_utf8}
 use Rattle.std.specs.List.{flat_map}
 use Rattle.shell_text.specs.Print.{Settings, is_csv_separator}
 use Rattle.shell_text.specs.Words.{first_byte}
 use Rattle.ft_content.specs.Content.{Cell, Null, Text}
+use Rattle.ft_shell.specs.Records.{fitted}
 
 -- ---- texts for sqlite
 
@@ -36,21 +37,18 @@ text_column column = identifier column ++ codes " TEXT"
 abbrev pub creation_of : List ℕ → List (List ℕ) → List ℕ
 creation_of name columns = codes "CREATE TABLE " ++ (identifier name ++ (codes " (" ++ (with_commas text_column columns ++ codes ")")))
 
--- ---- records
+-- ---- rows of a full-text table
 
--- a record's fields in n columns: cut, or filled with NULL
-abbrev pub fitted : ℕ → List (List ℕ) → List Cell
-fitted n fields = take n (map Text fields ++ replicate n Null)
+-- a field as what a cell holds: its text, or NULL
+abbrev pub field_cell : Option (List ℕ) → Cell
+field_cell None = Null
+field_cell (Some text) = Text text
 
--- the line for a record that doesn't fit
-abbrev pub warning : List ℕ → ℕ → ℕ × List (List ℕ) → List ℕ
-warning file n record_at =
-    if length record_at.1 == n then []
-    else codes "Warning: " ++ (file ++ (codes ":" ++ (decimal record_at.0 ++ (codes ": fields " ++ (decimal (length record_at.1) ++ (codes ", columns " ++ (decimal n ++ 10 ∷ [])))))))
+-- a record as a row of n cells
+abbrev pub row_cells : ℕ → List (List ℕ) → List Cell
+row_cells n fields = map field_cell (fitted n fields)
 
--- the lines for those of the records that don't fit, each with its number
-abbrev pub warnings : List ℕ → ℕ → List (ℕ × List (List ℕ)) → List ℕ
-warnings file n records = flat_map (warning file n) records
+-- ---- the delimiter
 
 -- what parts fields: a comma where that is said, or else the separator, if it may part fields
 abbrev pub delimiter_of : Bool → Settings → Option ℕ

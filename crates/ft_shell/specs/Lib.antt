@@ -1,4 +1,5 @@
 -- Meaning
+pub mod Records
 pub mod Imports
 pub mod Told
 pub mod Shell

@@ -1,7 +1,7 @@
 -- Meaning. What an import does to the plain database: one transaction, whole or not at all ("Importing files as CSV or other formats" of
 -- "Command Line Shell For SQLite"; that an import is one command is an own choice). All that is said of a step has the premise that the
 -- disk is clean as the step ends; then it was clean as the step began.
-use Rattle.std.specs.Prelude.{ℕ, Bool, ◌≡◌, ◌⊎◌, ◌<◌, ◌≤◌, List, [], ◌∷◌, ◌++◌, map, take, replicate, slice_index_or, true, false, Option, Some, None, Ok, Err, is_ok, IsTrue}
+use Rattle.std.specs.Prelude.{ℕ, Bool, ◌≡◌, ◌⊎◌, ◌<◌, ◌≤◌, List, [], ◌∷◌, ◌++◌, map, true, false, Option, Some, None, Ok, Err, is_ok, IsTrue}
 use Rattle.sqlite_value.specs.Order.{Row}
 use Rattle.sqlite_value.specs.declared.value.Value.{Value}
 use Rattle.sqlite_value.specs.declared.value.Value.TheVariants as value
@@ -15,6 +15,7 @@ use Rattle.sqlite.specs.Steps.{FailsToCommit}
 use Rattle.sqlite.specs.declared.error.Error.{Error}
 use Rattle.ft_shell.specs.Imports.{creation_of, insertion_of}
 use Rattle.ft_shell.specs.PlainStatements.{IfClean, is_memory_error}
+use Rattle.ft_shell.specs.Records.{fitted}
 
 -- ---- the number of columns
 
@@ -53,16 +54,17 @@ pub data Step : Type 0 where
   Prepare : (text : List ℕ) → Step
   Run : (text : List ℕ) → (values : Row) → Step
 
--- a record's field as a value, or NULL past the last one
-abbrev pub field_value : List (List ℕ) → ℕ → Value
-field_value fields at = slice_index_or (map value.Text fields) at value.Null
+-- a field as a value: its text, or NULL
+abbrev pub field_value : Option (List ℕ) → Value
+field_value None = value.Null
+field_value (Some text) = value.Text text
 
--- a record's fields in n columns: cut, or filled with NULL
-abbrev pub fitted_row : ℕ → List (List ℕ) → Row
-fitted_row n fields = take n (map value.Text fields ++ replicate n value.Null)
+-- a record as a row of n values
+abbrev pub row_values : ℕ → List (List ℕ) → Row
+row_values n fields = map field_value (fitted n fields)
 
 abbrev pub runs_of : List ℕ → ℕ → List (List (List ℕ)) → List Step
-runs_of text n records = map (λ fields. Run text (fitted_row n fields)) records
+runs_of text n records = map (λ fields. Run text (row_values n fields)) records
 
 -- the insertion is prepared once, and run for each record
 abbrev pub insertions : List ℕ → ℕ → List (List (List ℕ)) → List Step

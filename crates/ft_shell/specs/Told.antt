@@ -27,12 +27,12 @@ abbrev pub warned : List ℕ → Told
 warned lines = record { out = []; err = lines; faults = 0; ends = false }
 
 -- where echo is on, a unit's text and a line feed are written before the unit is run
-abbrev pub echo_text : Settings → List ℕ → List ℕ
-echo_text settings text = if settings.echo then text ++ 10 ∷ [] else []
+abbrev pub echo_text : Bool → List ℕ → List ℕ
+echo_text echo text = if echo then text ++ 10 ∷ [] else []
 
 -- so they stand before what it tells
 abbrev pub echoed : Settings → List ℕ → Told → Told
-echoed settings text told = record told { out = echo_text settings text ++ told.out }
+echoed settings text told = record told { out = echo_text settings.echo text ++ told.out }
 
 -- what a turn tells, and then what the turns after it tell
 abbrev pub followed : Told → Told → Told

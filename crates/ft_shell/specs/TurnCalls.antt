@@ -14,7 +14,7 @@ use Rattle.ft_statements.specs.Statements.{Class, Plain, FullText as FullTextCla
 use Rattle.ft_statements.specs.Dots.{DotCommand, Import, Nothing, SetMode, SetHeaders, SetSeparator, SetNull, SetEcho, SetBail, Print, Importing, Tables, Quit, Usage, Unknown}
 use Rattle.ft_shell.specs.Shell.{Shell}
 use Rattle.ft_shell.specs.Sources.{Files}
-use Rattle.ft_shell.specs.Imports.{delimiter_of, fitted}
+use Rattle.ft_shell.specs.Imports.{delimiter_of, row_cells}
 use Rattle.ft_shell.specs.FullTextTurns.{MaybeNotes}
 use Rattle.ft_shell.specs.PlainStatements.{CommandTurn, QueryTurn, done, refused}
 use Rattle.ft_shell.specs.StatementTurns.{ClassTurn, Declines, StatementTurn, table_names}
@@ -31,7 +31,7 @@ module _ {S : Type 0} (h : Ghosts S) (settings : Settings) (line : ℕ) where
 
   -- all records go into a full-text table by one Insert
   abbrev pub text_in : (what : Import) (n : ℕ) (rows : List (ℕ × List (List ℕ))) (before after : FullText S) (told : Told) → TextImport h settings line what n rows before after told → List Call
-  text_in what n rows before after told (imports.executed it) = Executed (Insert what.table None (map (fitted n) (records_in rows))) it.answer ∷ []
+  text_in what n rows before after told (imports.executed it) = Executed (Insert what.table None (map (row_cells n) (records_in rows))) it.answer ∷ []
   text_in what n rows before after told (imports.no_memory same is) = []
 
 module _ {P S : Type 0} (g : Ghosts P) (h : Ghosts S) (settings : Settings) (line : ℕ) where

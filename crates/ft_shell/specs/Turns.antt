@@ -18,8 +18,8 @@ use Rattle.shell_text.specs.Print.{Settings}
 -- what is written of a member before it is run
 abbrev pub echo_of : Settings → Member → List ℕ
 echo_of settings (Fault line fault) = []
-echo_of settings (Sql line text) = echo_text settings text
-echo_of settings (Dot line text) = echo_text settings text
+echo_of settings (Sql line text) = echo_text settings.echo text
+echo_of settings (Dot line text) = echo_text settings.echo text
 
 module _ {P S : Type 0} (g : Ghosts P) (h : Ghosts S) where
   -- a dot-command's turn, or, for want of memory, nothing

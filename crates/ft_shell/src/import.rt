@@ -6,16 +6,17 @@ ghost use Rattle.ft_content.specs.Command.{Insert};
 ghost use Rattle.ft_content.specs.Views as views;
 ghost use Rattle.ft_content.specs.Views.{shown_info};
 ghost use Rattle.ft_statements.specs.DotViews.{import_as};
-ghost use Rattle.ft_shell.specs.Imports.{fitted};
+ghost use Rattle.ft_shell.specs.Imports.{row_cells};
 ghost use Rattle.ft_shell.specs.ImportTurns.{columns_in, InsertTurn, TextImport, NotesAfter, IntoTable, IntoNew, PlainImport, fault_words, fetch_words, RecordsTurn, BytesTurn, FileTurn, ImportTurn};
 ghost use Rattle.ft_shell.specs.Told as forms;
 ghost use Rattle.ft_shell.specs.ToldViews.{told_as};
 ghost use Rattle.ft_statements.specs.Views.{texts_of};
 
 use crate::full_text_turn::fault_told;
-use crate::imports::{delimiter_of, fitted_row, warnings};
+use crate::imports::{delimiter_of, row_cells};
 use crate::plain_import::{ImportFault, column_count, import_records};
 use crate::readable::reads_table;
+use crate::records::warnings;
 use crate::source::{Source, SourceFault};
 use crate::told::{FaultText, Told};
 use ft_content::{Command, Fault, TableInfo, Value};
@@ -205,11 +206,11 @@ fn insert_of(
     columns: usize,
     records: Vec<Vec<String>>,
 ) -> Result<Command, AllocError>
-    ensures { IfOk result (λ command. views.command_of command ≡ Insert table.now None (map (fitted columns) (map texts_of records.items))) }
+    ensures { IfOk result (λ command. views.command_of command ≡ Insert table.now None (map (row_cells columns) (map texts_of records.items))) }
 {
     let mut rows: Vec<Vec<Value>> = Vec::new(alloc);
     for fields in records {
-        rows.push(fitted_row(alloc, fields, columns)?)?;
+        rows.push(row_cells(alloc, fields.as_slice(), columns)?)?;
     }
     Ok(Command::Insert {
         table: String::from_str(alloc, table)?,

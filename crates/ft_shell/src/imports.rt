@@ -1,15 +1,14 @@
 // The parts of an import.
-ghost use Rattle.std.specs.Prelude.{◌≡◌, ◌+◌, ◌-◌, ◌^◌, ◌<◌, ◌++◌, length, map, codes, chars, string_bytes, replicate, IfOk, OnOk};
-ghost use Rattle.std.specs.List.{flat_map, enumerate_from};
+ghost use Rattle.std.specs.Prelude.{◌≡◌, ◌++◌, map, option_map, codes, chars, string_bytes, replicate, IfOk, OnOk};
+ghost use Rattle.std.specs.List.{flat_map};
+ghost use Rattle.ft_values.specs.Cells.{shown_value};
 ghost use Rattle.ft_content.specs.Views as views;
-ghost use Rattle.ft_content.specs.Content.{Null, Text};
 ghost use Rattle.ft_shell.specs.Imports as forms;
-ghost use Rattle.ft_statements.specs.Views.{texts_of};
 
+use crate::records::fitted;
 use ft_content::Value;
 use shell_text::{Settings, is_csv_separator};
 use std::alloc::{AllocError, Global};
-use std::fmt::Write;
 
 // Puts a name between quotation marks behind a text.
 fn push_identifier(text: &mut String, name: &str) -> Result<(), AllocError>
@@ -118,78 +117,29 @@ pub(crate) fn creation_text(
     Ok(text)
 }
 
-// Puts NULL behind values up to so many.
-fn fill(row: &mut Vec<Value>, count: usize) -> Result<(), AllocError>
-    ensures { OnOk result (views.cells_of row.new ≡ views.cells_of row.old ++ replicate (count - length row.old.items) Null) }
+// A field as a value: its text, or NULL.
+fn field_cell(alloc: Global, field: Option<&str>) -> Result<Value, AllocError>
+    ensures { IfOk result (λ value. shown_value value ≡ forms.field_cell (option_map (λ text. text.now) field.entry)) }
 {
-    let missing = count.saturating_sub(row.len());
-    for place in 0..missing {
-        row.push(Value::Null)?;
+    match field {
+        Some(text) => Ok(Value::Text(String::from_str(alloc, text)?)),
+        None => Ok(Value::Null),
     }
-    Ok(())
 }
 
-// Fields as values.
-fn text_values(alloc: Global, fields: Vec<String>) -> Result<Vec<Value>, AllocError>
-    ensures { IfOk result (λ row. views.cells_of row ≡ map Text (texts_of fields)) }
+/// A record as a row of so many values of a full-text table.
+pub(crate) fn row_cells(
+    alloc: Global,
+    fields: &[String],
+    columns: usize,
+) -> Result<Vec<Value>, AllocError>
+    ensures { IfOk result (λ row. views.cells_of row ≡ forms.row_cells columns (map string_bytes fields.now)) }
 {
     let mut row = Vec::new(alloc);
-    for field in fields {
-        row.push(Value::Text(field))?;
+    for field in fitted(alloc, fields, columns)? {
+        row.push(field_cell(alloc, field)?)?;
     }
     Ok(row)
-}
-
-/// A record's fields in so many columns: cut, or filled with NULL.
-pub(crate) fn fitted_row(
-    alloc: Global,
-    fields: Vec<String>,
-    count: usize,
-) -> Result<Vec<Value>, AllocError>
-    ensures { IfOk result (λ row. views.cells_of row ≡ forms.fitted count (texts_of fields)) }
-{
-    let mut row = text_values(alloc, fields)?;
-    row.truncate(count);
-    fill(&mut row, count)?;
-    Ok(row)
-}
-
-// The line for a record of this number that doesn't fit.
-fn push_warning(
-    text: &mut String,
-    file: &str,
-    columns: usize,
-    number: usize,
-    fields: &[String],
-) -> Result<(), AllocError>
-    ensures { OnOk result (string_bytes text.new ≡ string_bytes text.old ++ forms.warning file.now columns (number, map string_bytes fields.now)) }
-{
-    let count = fields.len();
-    if count != columns {
-        writeln!(
-            text,
-            "Warning: {file}:{number}: fields {count}, columns {columns}"
-        )?;
-    }
-    Ok(())
-}
-
-/// The lines for those of the records that don't fit so many columns. The first of the records has this number.
-pub(crate) fn warnings(
-    alloc: Global,
-    file: &str,
-    columns: usize,
-    first: usize,
-    records: &[Vec<String>],
-) -> Result<String, AllocError>
-    requires { first + length records.now < 2 ^ 64 }
-    ensures { IfOk result (λ text. string_bytes text ≡ forms.warnings file.now columns (enumerate_from first (map texts_of records.now))) }
-{
-    let mut text = String::new(alloc);
-    for (i, record) in records.iter().enumerate() {
-        push_warning(&mut text, file, columns, first + i, record.as_slice())?;
-    }
-    Ok(text)
 }
 
 /// What parts the fields of a file: a comma where that is said, or else the separator, if it may part fields.

@@ -11,6 +11,7 @@ mod listing;
 mod plain_import;
 mod plain_turn;
 mod readable;
+mod records;
 mod session;
 mod source;
 mod statement_turn;

@@ -7,7 +7,7 @@ ghost use Rattle.sqlite.specs.Held.{state};
 ghost use Rattle.sqlite.specs.State.{HasCleanDisk};
 ghost use Rattle.ft_shell.specs.declared.plain_import.ImportFault.TheVariants.{Refused, Memory};
 ghost use Rattle.ft_shell.specs.Imports.{creation_of, insertion_of};
-ghost use Rattle.ft_shell.specs.PlainImports.{HasColumns, IsOnlyBelow, Stays, CommitsNothing, Prepare, Run, fitted_row, runs_of, insertions, import_steps, Does, IsRefused, DoesAll, StopsAtStep, CommitsAll, Declines, Uncounted, IsInside, KeepsLast};
+ghost use Rattle.ft_shell.specs.PlainImports.{HasColumns, IsOnlyBelow, Stays, CommitsNothing, Prepare, Run, runs_of, insertions, import_steps, Does, IsRefused, DoesAll, StopsAtStep, CommitsAll, Declines, Uncounted, IsInside, KeepsLast};
 ghost use Rattle.ft_shell.specs.PlainStatements.{IfClean};
 ghost use Rattle.ft_shell.specs.PlainStatements as turns;
 ghost use Rattle.ft_shell.specs.PlainImports as forms;
@@ -15,6 +15,7 @@ ghost use Rattle.ft_statements.specs.Views.{texts_of};
 
 use crate::imports::{creation_text, insertion_text};
 use crate::plain_turn::is_memory_error;
+use crate::records::fitted;
 use sqlite::types::ValueRef;
 use sqlite::{Alter, Connection, Error, Statement, Transaction};
 use std::alloc::{AllocError, AllocFailed, Global};
@@ -208,8 +209,8 @@ fn insert_record<P: Alter>(
 ) -> Result<(), ImportFault>
     requires inside { IsInside P.Store tx.old.conn.now }
     ensures same_reference { tx.new.conn.ghost_name ≡ tx.old.conn.ghost_name }
-    ensures done { OnOk result ((text : List ℕ) → (HasCleanDisk (state P.Store tx.old.conn.now) → statement.now.text ≡ text) → Does P.Store (Run text (fitted_row columns (map string_bytes fields.now))) tx.old.conn.now tx.new.conn.now) }
-    ensures refused { IsErrOf result ImportFault.Refused → (text : List ℕ) → (HasCleanDisk (state P.Store tx.old.conn.now) → statement.now.text ≡ text) → IsRefused P.Store (Run text (fitted_row columns (map string_bytes fields.now))) tx.old.conn.now tx.new.conn.now }
+    ensures done { OnOk result ((text : List ℕ) → (HasCleanDisk (state P.Store tx.old.conn.now) → statement.now.text ≡ text) → Does P.Store (Run text (forms.row_values columns (map string_bytes fields.now))) tx.old.conn.now tx.new.conn.now) }
+    ensures refused { IsErrOf result ImportFault.Refused → (text : List ℕ) → (HasCleanDisk (state P.Store tx.old.conn.now) → statement.now.text ≡ text) → IsRefused P.Store (Run text (forms.row_values columns (map string_bytes fields.now))) tx.old.conn.now tx.new.conn.now }
     ensures kept { KeepsLast P.Store tx.old.conn.now tx.new.conn.now }
     ensures inside { OnOk result (IsInside P.Store tx.new.conn.now) }
 {
@@ -218,29 +219,28 @@ fn insert_record<P: Alter>(
     Ok(())
 }
 
-// A record's fields in so many columns: cut, or filled with NULL.
+// A record as a row of so many values.
 fn row_values(
     alloc: Global,
     fields: &[String],
     columns: usize,
 ) -> Result<Vec<ValueRef<'_>>, AllocError>
-    ensures { IfOk result (λ row. bound row.items ≡ fitted_row columns (map string_bytes fields.now)) }
+    ensures { IfOk result (λ row. bound row.items ≡ forms.row_values columns (map string_bytes fields.now)) }
 {
     let mut row = Vec::new(alloc);
-    for at in 0..columns {
-        row.push(field_value(fields, at))?;
+    for field in fitted(alloc, fields, columns)? {
+        row.push(field_value(field))?;
     }
     Ok(row)
 }
 
-// The value for a column: its field, or NULL.
-fn field_value(fields: &[String], at: usize) -> ValueRef<'_>
-    ensures { owned result ≡ forms.field_value (map string_bytes fields.now) at }
+// A field as a value: its text, or NULL.
+fn field_value(field: Option<&str>) -> ValueRef<'_>
+    ensures { owned result ≡ forms.field_value (option_map (λ text. text.now) field.entry) }
 {
-    if at < fields.len() {
-        ValueRef::Text(fields[at].as_bytes())
-    } else {
-        ValueRef::Null
+    match field {
+        Some(text) => ValueRef::Text(text.as_bytes()),
+        None => ValueRef::Null,
     }
 }
 

@@ -1,9 +1,10 @@
 // A session: the units of an input in turn, and what is written for them.
-ghost use Rattle.std.specs.Prelude.{◌≡◌, ◌≢◌, ◌⊎◌, ◌≤◌, ◌<◌, ◌+◌, ◌-◌, ◌^◌, ◌∷◌, ◌++◌, ◌||◌, ℕ, List, Option, [], ⊤, min, if◌then◌else◌, true, false, length, take, IfOk, IfErr, OnOk, OnErr};
+ghost use Rattle.std.specs.Prelude.{◌≡◌, ◌≢◌, ◌⊎◌, ◌≤◌, ◌<◌, ◌+◌, ◌-◌, ◌^◌, ◌∷◌, ◌++◌, ◌||◌, ℕ, List, Option, [], ⊤, min, true, false, length, take, IfOk, IfErr, OnOk, OnErr};
 ghost use Rattle.std.specs.Io.KnownBytes.{Consumes, IsAtEnd, Keeps};
 ghost use Rattle.shell_text.specs.Units.{Fault, Member};
 ghost use Rattle.shell_text.specs.Splitting.{member_of_unit};
 ghost use Rattle.ft_shell.specs.declared.session.RunFault.TheVariants.{Memory, Write};
+ghost use Rattle.ft_shell.specs.Told as forms;
 ghost use Rattle.ft_shell.specs.ToldViews.{told_as};
 ghost use Rattle.ft_shell.specs.Feeds.{end_line, members_left, refused_as};
 ghost use Rattle.ft_shell.specs.Writing.{Sends};
@@ -543,7 +544,7 @@ fn tell<O: Write, E: Write>(
 
 // Writes the text of a unit where echo is on.
 fn echo_text<O: Write>(echo: bool, text: &str, out: &mut O) -> Result<(), RunFault>
-    ensures out { Sends result (O.contents out.old) (O.contents out.new) (if echo then text.now ++ 10 ∷ [] else []) }
+    ensures out { Sends result (O.contents out.old) (O.contents out.new) (forms.echo_text echo text.now) }
     ensures fault { IfErr result (λ fault. fault ≡ RunFault.Write) }
 {
     if echo {

@@ -3,7 +3,7 @@ use Rattle.std.proofs.Common.{◌≡◌, ◌<◌, ◌≤◌, ◌+◌, ◌∷◌,
 use Rattle.std.specs.List.{enumerate_from}
 use Rattle.std.proofs.lemmas.List.{length-map}
 use Rattle.ft_statements.specs.DotViews.{import_as}
-use Rattle.ft_shell.specs.Imports.{warnings}
+use Rattle.ft_shell.specs.Records.{warnings}
 use Rattle.ft_shell.specs.ImportTurns.{NotesAfter, too_wide, made}
 use Rattle.ft_shell.specs.PlainImports.{CommitsAll, Declines}
 use Rattle.ft_shell.specs.ToldViews.{told_as}

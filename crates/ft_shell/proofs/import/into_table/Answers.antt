@@ -3,7 +3,7 @@ use Rattle.std.proofs.Common.{◌≡◌, ℕ, None, map, string_bytes, refl, ap,
 use Rattle.std.specs.List.{enumerate_from}
 use Rattle.sqlite.specs.Held.{state}
 use Rattle.ft_statements.specs.DotViews.{import_as}
-use Rattle.ft_shell.specs.Imports.{warnings}
+use Rattle.ft_shell.specs.Records.{warnings}
 use Rattle.ft_shell.specs.ImportTurns.{into}
 use Rattle.ft_shell.specs.PlainStatements.{IfClean}
 use Rattle.ft_shell.specs.PlainImports.{HasColumns, Stays, CommitsAll, Declines, Uncounted}

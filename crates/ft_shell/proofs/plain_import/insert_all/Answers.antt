@@ -1,7 +1,7 @@
 -- one record more goes in, or is refused
 use Rattle.std.proofs.Common.{rules, ◌≡◌, ◌+◌, map, take, drop, get_or, Err, string_bytes, sym, ap, subst, ◌∙◌, String, Vec, Global}
 use Rattle.ft_statements.specs.Views.{texts_of}
-use Rattle.ft_shell.specs.PlainImports.{Run, fitted_row, runs_of, DoesAll, StopsAtStep}
+use Rattle.ft_shell.specs.PlainImports.{Run, row_values, runs_of, DoesAll, StopsAtStep}
 use Rattle.ft_shell.proofs.PlainImportLemmas.{runs_more, runs_split, does_more, stops_at, last_then}
 use Rattle.ft_shell.proofs.plain_import.insert_all.Goals as goal
 
@@ -12,7 +12,7 @@ returns-in_err-insert_record-clause-refused g c =
     λ refused text same.
     subst (λ steps. StopsAtStep g.P.Store steps c.args.tx.now.conn.now c.insert_record.new.tx.conn.now)
     (runs_split text c.args.columns c.args.records.now c.loop-fields.fields-index c.fields-item.result (map string_bytes c.as_slice.result.now) c.loop-fields-test.true row)
-    (stops_at g.P.Store (runs_of text c.args.columns (map texts_of (take c.loop-fields.fields-index c.args.records.now))) (Run text (fitted_row c.args.columns (map string_bytes c.as_slice.result.now)))
+    (stops_at g.P.Store (runs_of text c.args.columns (map texts_of (take c.loop-fields.fields-index c.args.records.now))) (Run text (row_values c.args.columns (map string_bytes c.as_slice.result.now)))
     (runs_of text c.args.columns (map texts_of (drop (c.loop-fields.fields-index + 1) c.args.records.now))) c.args.tx.now.conn.now c.loop-fields.tx.conn.now c.insert_record.new.tx.conn.now
     (c.loop-fields.invariant.done text same) (c.in_err-insert_record.ensures.refused (sym is ∙ refused) text (λ clean. same (c.loop-fields.invariant.kept clean).0)))
 
@@ -26,7 +26,7 @@ loop-fields-preserved g c =
       done = λ text same.
           subst (λ steps. DoesAll g.P.Store steps c.args.tx.now.conn.now c.insert_record.new.tx.conn.now)
           (runs_more text c.args.columns c.args.records.now c.loop-fields.fields-index c.fields-item.result (map string_bytes c.as_slice.result.now) c.loop-fields-test.true row)
-          (does_more g.P.Store (runs_of text c.args.columns (map texts_of (take c.loop-fields.fields-index c.args.records.now))) (Run text (fitted_row c.args.columns (map string_bytes c.as_slice.result.now)))
+          (does_more g.P.Store (runs_of text c.args.columns (map texts_of (take c.loop-fields.fields-index c.args.records.now))) (Run text (row_values c.args.columns (map string_bytes c.as_slice.result.now)))
           c.args.tx.now.conn.now c.loop-fields.tx.conn.now c.insert_record.new.tx.conn.now (c.loop-fields.invariant.done text same)
           (c.in_ok-insert_record.ensures.done text (λ clean. same (c.loop-fields.invariant.kept clean).0)));
     }

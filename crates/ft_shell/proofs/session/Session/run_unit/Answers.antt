@@ -1,6 +1,5 @@
 -- its text is echoed, and what it tells is written
-use Rattle.std.proofs.Common.{rules, ◌≡◌, ◌++◌, ◌∷◌, [], List, Err, string_bytes, subst, sym, ap, inl}
-use Rattle.std.specs.Prelude.{if◌then◌else◌}
+use Rattle.std.proofs.Common.{rules, ◌≡◌, ◌++◌, ◌∷◌, List, Err, string_bytes, subst, sym, ap, inl}
 use Rattle.std.specs.Io.KnownBytes.{Appends}
 use Rattle.shell_text.specs.Units.{Member}
 use Rattle.shell_text.specs.Splitting.{member_of_unit}
@@ -23,8 +22,8 @@ returns-in_err-echo_text-clause-runs g c =
     let old : Shell g.row.P.Denot g.row.S.Denot = record { settings = c.self.inside.settings; plain = c.self.inside.plain; full_text = c.self.inside.full_text; holds = held } in
     let unit = member_of_unit c.args.unit.now in
     let is : c.from_residual.result ≡ Err c.in_err-echo_text.field-0.0 = search rules in
-    let spoken : AppendsUpTo a b (if c.echo.result then text ++ 10 ∷ [] else []) = subst (λ t. AppendsUpTo a b (if c.echo.result then t ++ 10 ∷ [] else [])) c.as_str.ensures.value c.in_err-echo_text.ensures.out in
-    let first : AppendsUpTo a b (echo_text old.settings text) = subst (λ on. AppendsUpTo a b (if on then text ++ 10 ∷ [] else [])) c.echo.ensures spoken in
+    let spoken : AppendsUpTo a b (echo_text c.echo.result text) = subst (λ t. AppendsUpTo a b (echo_text c.echo.result t)) c.as_str.ensures.value c.in_err-echo_text.ensures.out in
+    let first : AppendsUpTo a b (echo_text old.settings.echo text) = subst (λ on. AppendsUpTo a b (echo_text on text)) c.echo.ensures spoken in
     let part : AppendsUpTo a b (echo_of old.settings unit) = subst (AppendsUpTo a b) (sym (unit_echo old.settings c.args.unit.now.kind c.args.unit.now.line text)) first in
     subst (λ s. Runs g.P.Store g.S.Store c.from_residual.result (λ (rest : List Member). unit ∷ rest) (λ rest. rest) (record { shell = lent s held; status = c.args.status.now; out = a; err = e }) (record { shell = lent s held; status = c.args.status.now; out = b; err = e })) c.self.view_is
     (runs_err g.P.Store g.S.Store c.from_residual.result c.in_err-echo_text.field-0.0 (λ (rest : List Member). unit ∷ rest) (λ rest. rest) _ _ is
@@ -43,9 +42,9 @@ returns-clause-runs g c =
     let new : Shell g.row.P.Denot g.row.S.Denot = record { settings = c.unit_turn-told.new.settings; plain = c.unit_turn-told.new.plain; full_text = c.unit_turn-told.new.full_text; holds = g.F.Source.holds c.unit_turn-told.new.source } in
     let body = told_as c.unit_turn-told.result in
     let calls = calls_in g.P.Store g.S.Store (member_of_unit c.args.unit.now) old new body c.unit_turn-told.ensures.body in
-    let spoken : Appends a b (if c.echo.result then text ++ 10 ∷ [] else []) = subst (λ t. Appends a b (if c.echo.result then t ++ 10 ∷ [] else [])) c.as_str.ensures.value c.in_ok-echo_text.ensures.out in
+    let spoken : Appends a b (echo_text c.echo.result text) = subst (λ t. Appends a b (echo_text c.echo.result t)) c.as_str.ensures.value c.in_ok-echo_text.ensures.out in
     let spells = unit_echo old.settings c.args.unit.now.kind c.args.unit.now.line text in
-    let first : Appends a b (echo_text old.settings text) = subst (λ on. Appends a b (if on then text ++ 10 ∷ [] else [])) c.echo.ensures spoken in
+    let first : Appends a b (echo_text old.settings.echo text) = subst (λ on. Appends a b (echo_text on text)) c.echo.ensures spoken in
     subst (λ s. Runs g.P.Store g.S.Store c.tell.result (λ (rest : List Member). member_of_unit c.args.unit.now ∷ rest) (λ rest. rest) (record { shell = lent s held; status = c.args.status.now; out = a; err = e }) (record { shell = new; status = c.tell.new.status; out = d; err = f })) c.self.view_is
     (runs_turn g.P.Store g.S.Store c.tell.result (member_of_unit c.args.unit.now) (record { shell = old; status = c.args.status.now; out = a; err = e }) (record { shell = new; status = c.tell.new.status; out = d; err = f }) (deeds_of (echoed old.settings text body) calls) b body.out
     (unit_turned g.P.Store g.S.Store c.args.unit.now.kind c.args.unit.now.line text old new body c.unit_turn-told.ensures.body)
