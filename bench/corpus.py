@@ -25,24 +25,28 @@ def word(rank):
     return text
 
 
-def documents(count, seed=1):
-    """Pairs of a subject and a body."""
+def documents(count, seed=1, words=100):
+    """Pairs of a subject and a body, which has about so many words."""
     drawn = random.Random(seed)
-    words = [word(rank) for rank in range(VOCABULARY)]
+    vocabulary = [word(rank) for rank in range(VOCABULARY)]
     sums = list(itertools.accumulate(1 / (rank + 1) for rank in range(VOCABULARY)))
 
     def text(least, most):
         length = least + int(drawn.random() * (most - least + 1))
-        return " ".join(words[bisect.bisect(sums, drawn.random() * sums[-1])] for _ in range(length))
+        return " ".join(vocabulary[bisect.bisect(sums, drawn.random() * sums[-1])] for _ in range(length))
 
     for _ in range(count):
-        yield text(3, 8), text(60, 140)
+        yield text(3, 8), text(words * 6 // 10, words * 14 // 10)
+
+
+def write_csv(path, rows):
+    with open(path, "w", newline="") as out:
+        csv.writer(out, lineterminator="\n").writerows(rows)
 
 
 def main(folder, count):
     rows = list(documents(count))
-    with open(f"{folder}/corpus.csv", "w", newline="") as out:
-        csv.writer(out, lineterminator="\n").writerows(rows)
+    write_csv(f"{folder}/corpus.csv", rows)
     values = [f"('{subject}', '{body}')" for subject, body in rows]
     with open(f"{folder}/singles.sql", "w") as out:
         out.write(CREATE)

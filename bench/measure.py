@@ -84,11 +84,11 @@ def load(program, folder, name, path):
     return time.perf_counter() - begun, memory
 
 
-def start(program, path):
-    """Seconds of a whole run with one SELECT of one row."""
+def start(program, path, query="SELECT docid FROM mail WHERE docid = 1;"):
+    """Seconds of a whole run with one statement."""
     begun = time.perf_counter()
     shell = Shell(program, path, os.devnull)
-    shell.seconds("SELECT docid FROM mail WHERE docid = 1;")
+    shell.seconds(query)
     shell.end()
     return time.perf_counter() - begun
 
