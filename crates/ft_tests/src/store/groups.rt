@@ -14,7 +14,7 @@ fn word(alloc: Global, number: usize) -> Result<String, AllocError> {
     format!(in alloc; "w{tens}{ones}")
 }
 
-// A word at the first place of the document 1, with a size in bytes. A size of 0 can't be packed.
+// A word at the front of the only document, with a size in bytes. A place without a byte can't be packed.
 fn put_word(alloc: Global, number: usize, size: i64) -> Result<RowChange, AllocError> {
     put_term(alloc, word(alloc, number)?, 1, size)
 }
