@@ -17,7 +17,7 @@ use Rattle.sqlite_sql.specs.declared.ops.BinaryOp.TheVariants.{Compare}
 use Rattle.sqlite_sql.specs.declared.ops.CompareOp.{CompareOp}
 use Rattle.sqlite_sql.specs.declared.ops.CompareOp.TheVariants.{Ge, Lt}
 use Rattle.sqlite_value.specs.declared.keys.Key.{Key}
-use Rattle.sqlite_value.proofs.OrderLemmas.{value_cmp_total, value_cmp-Int, value_cmp-Text, value_cmp-Blob}
+use Rattle.sqlite_value.proofs.OrderLemmas.{value_cmp_total, value_cmp-Int, value_cmp-Text}
 use Rattle.sqlite.specs.Tree.{Trees}
 use Rattle.sqlite.specs.Term.{Term, holds}
 use Rattle.sqlite.specs.Query.{Output, output, output_cmp, IsAnswer}
@@ -40,11 +40,11 @@ use Rattle.ft_store.specs.Found.{found_table, found_column, found_skip, found_ce
 use Rattle.ft_store.specs.Shown.{bare_list, lists_of_term, lists_of_prefix}
 use Rattle.ft_store.specs.Calls.{IsStore}
 use Rattle.ft_store.proofs.Texts.{names_text, columns_text, skips_text, cells_text, document_text, term_text, prefix_text, bare_prefix_text, lists_text, bare_lists_text, sizes_text, noted_text}
-use Rattle.ft_store.proofs.TextLemmas.{query_by, rising, no_limit, list_shown, bare_shown, list_order, names_query, names_is, names_plain, names_unlisted, columns_query, columns_is, columns_plain, columns_unlisted, skips_query, skips_is, skips_plain, skips_unlisted, cells_query, cells_is, cells_plain, cells_unlisted, document_query, document_is, document_plain, document_unlisted, term_query, term_is, term_plain, term_unlisted, prefix_query, prefix_is, prefix_plain, prefix_unlisted, bare_prefix_query, bare_prefix_is, bare_prefix_plain, bare_prefix_unlisted, bare_lists_query, bare_lists_is, bare_lists_plain, bare_lists_unlisted, lists_query, lists_is, lists_plain, lists_unlisted, sizes_query, sizes_is, sizes_plain, sizes_unlisted, noted_query, noted_is, noted_plain, noted_unlisted}
+use Rattle.ft_store.proofs.TextLemmas.{query_by, rising, no_limit, list_shown, bare_shown, list_order, cell_order, names_query, names_is, names_plain, names_unlisted, columns_query, columns_is, columns_plain, columns_unlisted, skips_query, skips_is, skips_plain, skips_unlisted, cells_query, cells_is, cells_plain, cells_unlisted, document_query, document_is, document_plain, document_unlisted, term_query, term_is, term_plain, term_unlisted, prefix_query, prefix_is, prefix_plain, prefix_unlisted, bare_prefix_query, bare_prefix_is, bare_prefix_plain, bare_prefix_unlisted, bare_lists_query, bare_lists_is, bare_lists_plain, bare_lists_unlisted, lists_query, lists_is, lists_plain, lists_unlisted, sizes_query, sizes_is, sizes_plain, sizes_unlisted, noted_query, noted_is, noted_plain, noted_unlisted}
 use Rattle.ft_store.specs.Range.{after_last}
 use Rattle.ft_store.proofs.RangeLemmas.{in_range}
-use Rattle.ft_store.proofs.SelectLemmas.{all_selected}
-use Rattle.ft_store.proofs.KeyedLemmas.{AreApart, whole_cmp, sorted-keyed, at_value, keyed-map}
+use Rattle.ft_store.proofs.SelectLemmas.{all_selected, permuted, still_sorted}
+use Rattle.ft_store.proofs.KeyedLemmas.{AreApart, whole_cmp, whole_total, whole_tie, apart-filter, sorted_by_key, keyed-where, sorted-keyed, at_value, keyed-map}
 use Rattle.ft_store.proofs.OrderLemmas.{tied_first, tied_second, tied_ints, tied_names, tied_cell_keys, cell_key_total, tied_list_keys, list_key_total, tied_column_keys, column_key_total, name_total}
 use Rattle.ft_store.proofs.TypedLemmas.{and_first, IsNameRow, IsColumnRow, IsSkipRow, IsCellRow, IsListRow, IsSizeRow, IsNoteRow, are_names, are_columns, are_skips, are_cells, are_lists, are_sizes, are_notes}
 use Rattle.ft_store.proofs.ApartLemmas.{names_apart, columns_apart, skips_apart, cells_apart, lists_apart, sizes_apart, notes_apart}
@@ -57,9 +57,6 @@ cmp_ints v w m n p q = ap₂ value_cmp p q ∙ value_cmp-Int m n
 
 cmp_texts : (v w : Value) (s t : List ℕ) → v ≡ Text s → w ≡ Text t → value_cmp v w ≡ name_cmp s t
 cmp_texts v w s t p q = ap₂ value_cmp p q ∙ value_cmp-Text s t
-
-cmp_blobs : (v w : Value) (s t : List ℕ) → v ≡ Blob s → w ≡ Blob t → value_cmp v w ≡ name_cmp s t
-cmp_blobs v w s t p q = ap₂ value_cmp p q ∙ value_cmp-Blob s t
 
 pub same_int : (a b : ℤ) → int_eq a b ≡ true → a ≡ b
 same_int a b h = tied_ints a b (equal_from (int_cmp a b) h)
@@ -80,11 +77,6 @@ regroup_2 : (x y z : Ordering) → ordering_then x (ordering_then y z) ≡ order
 regroup_2 Less y z = refl
 regroup_2 Equal y z = refl
 regroup_2 Greater y z = refl
-
-regroup_3 : (w x y z : Ordering) → ordering_then w (ordering_then x (ordering_then y z)) ≡ ordering_then (ordering_then w (ordering_then x y)) z
-regroup_3 Less x y z = refl
-regroup_3 Equal x y z = regroup_2 x y z
-regroup_3 Greater x y z = refl
 
 pub alone : (x : Ordering) → x ≡ ordering_then x Equal
 alone Less = refl
@@ -124,12 +116,6 @@ all_tie_total = on_total (λ (u : Unit {0}). Rattle.std.proofs.Common.pos 0) int
 
 module _ {K X : Type 0} (R : K → K → Ordering) (total : IsTotalOrder R) (tie : (x y : K) → R x y ≡ Equal → x ≡ y)
     (V : X → X → Ordering) (v_total : IsTotalOrder V) (v_tie : (x y : X) → V x y ≡ Equal → x ≡ y) (entry : Row → K × X) (P : Row → Type 0) where
-  pub whole_total : IsTotalOrder (whole_cmp R total tie V)
-  whole_total = then_total (on_total (λ (e : K × X). e.0) total) (on_total (λ (e : K × X). e.1) v_total)
-
-  pub whole_tie : (a b : K × X) → whole_cmp R total tie V a b ≡ Equal → a ≡ b
-  whole_tie a b h = let key = tie a.0 b.0 (tied_first _ _ h) in let value = v_tie a.1 b.1 (tied_second _ _ h) in λ i. (key i, value i)
-
   -- what is found, where the output of a row shows its entry
   found_outputs : (db : Trees) (tree : ℕ) → AllByRecursion P (db tree) → AreApart R (map entry (db tree)) → (terms : List Term) (show : List ℕ) (order : List (Term × Key)) (params : Row) (p : K → Bool) (back : Output → K × X)
       → ((r : Row) → P r → list_all (holds (params ∷ r ∷ [])) terms ≡ p (entry r).0)
@@ -137,8 +123,8 @@ module _ {K X : Type 0} (R : K → K → Ordering) (total : IsTotalOrder R) (tie
       → ((a b : Row) → P a → P b → output_cmp (query_by tree terms show order no_limit) (output (query_by tree terms show order no_limit) (params ∷ a ∷ [])) (output (query_by tree terms show order no_limit) (params ∷ b ∷ [])) ≡ whole_cmp R total tie V (entry a) (entry b))
       → (rows : List Row) (answer : IsAnswer (query_by tree terms show order no_limit) db params rows) → map back answer.ordered ≡ where_key R p (keyed R (map entry (db tree)))
   found_outputs db tree typed apart terms show order params p back tests shows orders rows answer =
-      all_selected (whole_cmp R total tie V) whole_total entry P db tree whole_tie typed terms show order no_limit params (λ e. p e.0) back tests
-      (λ r h passed. shows r h (sym (tests r h) ∙ passed)) (λ a b h k _ _. orders a b h k) rows answer
+      all_selected (whole_cmp R total tie V) (whole_total R total tie V v_total v_tie) entry P db tree typed terms show order no_limit params (λ e. p e.0) back tests
+      (λ r h passed. shows r h (sym (tests r h) ∙ passed)) (λ a b h k _ _. orders a b h k) (whole_tie R total tie V v_total v_tie) rows answer
       ∙ ap (filter (λ e. p e.0)) (sorted-keyed R total tie V (map entry (db tree)) apart)
 
   found : (db : Trees) (tree : ℕ) → AllByRecursion P (db tree) → AreApart R (map entry (db tree)) → (terms : List Term) (show : List ℕ) (order : List (Term × Key)) (params : Row) (p : K → Bool) (decode : Row → K × X)
@@ -150,6 +136,31 @@ module _ {K X : Type 0} (R : K → K → Ordering) (total : IsTotalOrder R) (tie
       ap (map decode) answer.shown ∙ map-map decode (λ (o : Output). o.1) answer.ordered
       ∙ found_outputs db tree typed apart terms show order params p (λ o. decode o.1) tests shows orders rows answer
 
+  -- The same, where rows are ordered by their keys alone: no two have one.
+  keyed_outputs : (db : Trees) (tree : ℕ) → AllByRecursion P (db tree) → AreApart R (map entry (db tree)) → (terms : List Term) (show : List ℕ) (order : List (Term × Key)) (params : Row) (p : K → Bool) (back : Output → K × X)
+      → ((r : Row) → P r → list_all (holds (params ∷ r ∷ [])) terms ≡ p (entry r).0)
+      → ((r : Row) → P r → p (entry r).0 ≡ true → back (output (query_by tree terms show order no_limit) (params ∷ r ∷ [])) ≡ entry r)
+      → ((a b : Row) → P a → P b → output_cmp (query_by tree terms show order no_limit) (output (query_by tree terms show order no_limit) (params ∷ a ∷ [])) (output (query_by tree terms show order no_limit) (params ∷ b ∷ [])) ≡ R (entry a).0 (entry b).0)
+      → (rows : List Row) (answer : IsAnswer (query_by tree terms show order no_limit) db params rows) → map back answer.ordered ≡ where_key R p (keyed R (map entry (db tree)))
+  keyed_outputs db tree typed apart terms show order params p back tests shows orders rows answer =
+      let by_key = λ (a b : K × X). R a.0 b.0 in
+      let by_total : IsTotalOrder by_key = on_total (λ (e : K × X). e.0) total in
+      let test = λ (e : K × X). p e.0 in
+      let shown = λ (r : Row) (h : P r) (passed : list_all (holds (params ∷ r ∷ [])) terms ≡ true). shows r h (sym (tests r h) ∙ passed) in
+      sorted_by_key R total tie V v_total v_tie (filter test (map entry (db tree))) (map back answer.ordered) (apart-filter R total tie test (map entry (db tree)) apart)
+      (permuted by_key by_total entry P db tree typed terms show order no_limit params test back tests shown (λ a b h k _ _. orders a b h k) rows answer)
+      (still_sorted by_key by_total entry P db tree typed terms show order no_limit params test back tests shown (λ a b h k _ _. orders a b h k) rows answer)
+      ∙ keyed-where R total tie p (map entry (db tree))
+
+  keyed_found : (db : Trees) (tree : ℕ) → AllByRecursion P (db tree) → AreApart R (map entry (db tree)) → (terms : List Term) (show : List ℕ) (order : List (Term × Key)) (params : Row) (p : K → Bool) (decode : Row → K × X)
+      → ((r : Row) → P r → list_all (holds (params ∷ r ∷ [])) terms ≡ p (entry r).0)
+      → ((r : Row) → P r → p (entry r).0 ≡ true → decode (output (query_by tree terms show order no_limit) (params ∷ r ∷ [])).1 ≡ entry r)
+      → ((a b : Row) → P a → P b → output_cmp (query_by tree terms show order no_limit) (output (query_by tree terms show order no_limit) (params ∷ a ∷ [])) (output (query_by tree terms show order no_limit) (params ∷ b ∷ [])) ≡ R (entry a).0 (entry b).0)
+      → (rows : List Row) → IsAnswer (query_by tree terms show order no_limit) db params rows → map decode rows ≡ where_key R p (keyed R (map entry (db tree)))
+  keyed_found db tree typed apart terms show order params p decode tests shows orders rows answer =
+      ap (map decode) answer.shown ∙ map-map decode (λ (o : Output). o.1) answer.ordered
+      ∙ keyed_outputs db tree typed apart terms show order params p (λ o. decode o.1) tests shows orders rows answer
+
 pub sound_of : (s : State) → IsStore s.now → IsSound store_schema s.now.trees
 sound_of s store = subst (λ c. IsSound c s.now.trees) store.schema store.sound
 
@@ -158,10 +169,10 @@ pub cells_shown : (tab : ℤ) (old new : State) (rows : List Row) → (IsTrue ol
 cells_shown tab old new rows if_open h =
     let kept = if_open (shown_open _ _ old new rows h) in
     let sound = sound_of old kept in
-    found cell_key_cmp cell_key_total tied_cell_keys cell_cmp cell_total tied_cells cell_entry IsCellRow (overlay old.now.trees []) 5 (are_cells old.now.trees sound) (cells_apart old.now.trees sound kept.numbered.1.1.1.0) cells_query.filter (2 ∷ 3 ∷ 4 ∷ 5 ∷ []) (rising (1 ∷ 2 ∷ 3 ∷ 4 ∷ 5 ∷ [])) (Int tab ∷ []) (λ k. int_eq tab k.0) (found_cell tab)
+    keyed_found cell_key_cmp cell_key_total tied_cell_keys cell_cmp cell_total tied_cells cell_entry IsCellRow (overlay old.now.trees []) 5 (are_cells old.now.trees sound) (cells_apart old.now.trees sound kept.numbered.1.1.1.0) cells_query.filter (2 ∷ 3 ∷ 4 ∷ 5 ∷ []) (rising cell_order) (Int tab ∷ []) (λ k. int_eq tab k.0) (found_cell tab)
     (λ r h. last_term (turned _ _ _ _ h.tab refl))
     (λ r h passed. ap (λ t. ((t, (cell_entry r).0.1, (cell_entry r).0.2), (cell_entry r).1)) (same_int tab (cell_entry r).0.0 passed))
-    (λ a b p q. then_key (cmp_ints _ _ _ _ p.tab q.tab) (then_key (cmp_ints _ _ _ _ p.docid q.docid) (then_key (cmp_ints _ _ _ _ p.at q.at) (then_key (ap₂ value_cmp p.num q.num) (last_key (ap₂ value_cmp p.txt q.txt))))) ∙ regroup_3 (int_cmp (cell_entry a).0.0 (cell_entry b).0.0) (int_cmp (cell_entry a).0.1 (cell_entry b).0.1) (int_cmp (cell_entry a).0.2 (cell_entry b).0.2) (cell_cmp (cell_entry a).1 (cell_entry b).1))
+    (λ a b p q. then_key (cmp_ints _ _ _ _ p.tab q.tab) (then_key (cmp_ints _ _ _ _ p.docid q.docid) (last_key (cmp_ints _ _ _ _ p.at q.at))))
     rows ((reads_as cells_text (Int tab ∷ []) old new store_schema kept.schema _ cells_is cells_plain cells_unlisted rows h).answer Null)
 
 pub document_shown : (tab docid : ℤ) (old new : State) (rows : List Row) → (IsTrue old.is_open → IsStore old.now) → Shown document_text (Int tab ∷ Int docid ∷ []) old new rows
@@ -169,10 +180,10 @@ pub document_shown : (tab docid : ℤ) (old new : State) (rows : List Row) → (
 document_shown tab docid old new rows if_open h =
     let kept = if_open (shown_open _ _ old new rows h) in
     let sound = sound_of old kept in
-    found cell_key_cmp cell_key_total tied_cell_keys cell_cmp cell_total tied_cells cell_entry IsCellRow (overlay old.now.trees []) 5 (are_cells old.now.trees sound) (cells_apart old.now.trees sound kept.numbered.1.1.1.0) document_query.filter (2 ∷ 3 ∷ 4 ∷ 5 ∷ []) (rising (1 ∷ 2 ∷ 3 ∷ 4 ∷ 5 ∷ [])) (Int tab ∷ Int docid ∷ []) (λ k. int_eq tab k.0 && int_eq docid k.1) (found_cell tab)
+    keyed_found cell_key_cmp cell_key_total tied_cell_keys cell_cmp cell_total tied_cells cell_entry IsCellRow (overlay old.now.trees []) 5 (are_cells old.now.trees sound) (cells_apart old.now.trees sound kept.numbered.1.1.1.0) document_query.filter (2 ∷ 3 ∷ 4 ∷ 5 ∷ []) (rising cell_order) (Int tab ∷ Int docid ∷ []) (λ k. int_eq tab k.0 && int_eq docid k.1) (found_cell tab)
     (λ r h. then_term (turned _ _ _ _ h.tab refl) (last_term (turned _ _ _ _ h.docid refl)))
     (λ r h passed. ap (λ t. ((t, (cell_entry r).0.1, (cell_entry r).0.2), (cell_entry r).1)) (same_int tab (cell_entry r).0.0 (and_first _ _ passed)))
-    (λ a b p q. then_key (cmp_ints _ _ _ _ p.tab q.tab) (then_key (cmp_ints _ _ _ _ p.docid q.docid) (then_key (cmp_ints _ _ _ _ p.at q.at) (then_key (ap₂ value_cmp p.num q.num) (last_key (ap₂ value_cmp p.txt q.txt))))) ∙ regroup_3 (int_cmp (cell_entry a).0.0 (cell_entry b).0.0) (int_cmp (cell_entry a).0.1 (cell_entry b).0.1) (int_cmp (cell_entry a).0.2 (cell_entry b).0.2) (cell_cmp (cell_entry a).1 (cell_entry b).1))
+    (λ a b p q. then_key (cmp_ints _ _ _ _ p.tab q.tab) (then_key (cmp_ints _ _ _ _ p.docid q.docid) (last_key (cmp_ints _ _ _ _ p.at q.at))))
     rows ((reads_as document_text (Int tab ∷ Int docid ∷ []) old new store_schema kept.schema _ document_is document_plain document_unlisted rows h).answer Null)
 
 pub sizes_shown : (tab : ℤ) (old new : State) (rows : List Row) → (IsTrue old.is_open → IsStore old.now) → Shown sizes_text (Int tab ∷ []) old new rows
@@ -180,10 +191,10 @@ pub sizes_shown : (tab : ℤ) (old new : State) (rows : List Row) → (IsTrue ol
 sizes_shown tab old new rows if_open h =
     let kept = if_open (shown_open _ _ old new rows h) in
     let sound = sound_of old kept in
-    found cell_key_cmp cell_key_total tied_cell_keys int_cmp int_cmp_total tied_ints size_entry IsSizeRow (overlay old.now.trees []) 9 (are_sizes old.now.trees sound) (sizes_apart old.now.trees sound kept.numbered.1.1.1.1.1.0) sizes_query.filter (2 ∷ 3 ∷ 4 ∷ []) (rising (1 ∷ 2 ∷ 3 ∷ 4 ∷ [])) (Int tab ∷ []) (λ k. int_eq tab k.0) (found_size tab)
+    keyed_found cell_key_cmp cell_key_total tied_cell_keys int_cmp int_cmp_total tied_ints size_entry IsSizeRow (overlay old.now.trees []) 9 (are_sizes old.now.trees sound) (sizes_apart old.now.trees sound kept.numbered.1.1.1.1.1.0) sizes_query.filter (2 ∷ 3 ∷ 4 ∷ []) (rising cell_order) (Int tab ∷ []) (λ k. int_eq tab k.0) (found_size tab)
     (λ r h. last_term (turned _ _ _ _ h.tab refl))
     (λ r h passed. ap (λ t. ((t, (size_entry r).0.1, (size_entry r).0.2), (size_entry r).1)) (same_int tab (size_entry r).0.0 passed))
-    (λ a b p q. then_key (cmp_ints _ _ _ _ p.tab q.tab) (then_key (cmp_ints _ _ _ _ p.docid q.docid) (then_key (cmp_ints _ _ _ _ p.at q.at) (last_key (cmp_ints _ _ _ _ p.n q.n)))) ∙ regroup_3 (int_cmp (size_entry a).0.0 (size_entry b).0.0) (int_cmp (size_entry a).0.1 (size_entry b).0.1) (int_cmp (size_entry a).0.2 (size_entry b).0.2) (int_cmp (size_entry a).1 (size_entry b).1))
+    (λ a b p q. then_key (cmp_ints _ _ _ _ p.tab q.tab) (then_key (cmp_ints _ _ _ _ p.docid q.docid) (last_key (cmp_ints _ _ _ _ p.at q.at))))
     rows ((reads_as sizes_text (Int tab ∷ []) old new store_schema kept.schema _ sizes_is sizes_plain sizes_unlisted rows h).answer Null)
 
 pub columns_shown : (tab : ℤ) (old new : State) (rows : List Row) → (IsTrue old.is_open → IsStore old.now) → Shown columns_text (Int tab ∷ []) old new rows
@@ -236,11 +247,11 @@ prefix_stored_shown tab from end old new rows some past if_open h =
     let kept = if_open (shown_open _ _ old new rows h) in
     let sound = sound_of old kept in
     let params = Int tab ∷ Text from ∷ Text end ∷ [] in
-    found list_key_cmp list_key_total tied_list_keys name_cmp name_total tied_names stored_entry IsListRow (overlay old.now.trees []) 7 (are_lists old.now.trees sound) (lists_apart old.now.trees sound kept.numbered.1.1.1.1.0) prefix_query.filter list_shown (rising list_order) params (λ k. int_eq tab k.0 && starts_with nat_eq k.1 from) (found_list tab)
+    keyed_found list_key_cmp list_key_total tied_list_keys name_cmp name_total tied_names stored_entry IsListRow (overlay old.now.trees []) 7 (are_lists old.now.trees sound) (lists_apart old.now.trees sound kept.numbered.1.1.1.1.0) prefix_query.filter list_shown (rising list_order) params (λ k. int_eq tab k.0 && starts_with nat_eq k.1 from) (found_list tab)
     (λ r h. then_term (turned _ _ _ _ h.tab refl) (then_term (test_texts Ge _ _ _ _ h.term refl) (last_term (test_texts Lt _ _ _ _ h.term refl)))
     ∙ ap (λ e. int_eq tab (stored_entry r).0.0 && (is_le (name_cmp from (stored_entry r).0.1) && is_lt (name_cmp (stored_entry r).0.1 e))) past ∙ ap (λ t. int_eq tab (stored_entry r).0.0 && t) (in_range from (stored_entry r).0.1 some))
     (λ r h passed. ap (λ t. ((t, (stored_entry r).0.1, (stored_entry r).0.2), (stored_entry r).1)) (same_int tab (stored_entry r).0.0 (and_first _ _ passed)))
-    (λ a b p q. then_key (cmp_ints _ _ _ _ p.tab q.tab) (then_key (cmp_texts _ _ _ _ p.term q.term) (then_key (cmp_ints _ _ _ _ p.docid q.docid) (last_key (cmp_blobs _ _ _ _ p.list q.list)))) ∙ regroup_3 (int_cmp (stored_entry a).0.0 (stored_entry b).0.0) (name_cmp (stored_entry a).0.1 (stored_entry b).0.1) (int_cmp (stored_entry a).0.2 (stored_entry b).0.2) (name_cmp (stored_entry a).1 (stored_entry b).1))
+    (λ a b p q. then_key (cmp_ints _ _ _ _ p.tab q.tab) (then_key (cmp_texts _ _ _ _ p.term q.term) (last_key (cmp_ints _ _ _ _ p.docid q.docid))))
     rows ((reads_as prefix_text params old new store_schema kept.schema _ prefix_is prefix_plain prefix_unlisted rows h).answer Null)
 
 pub lists_stored_shown : (tab : ℤ) (old new : State) (rows : List Row) → (IsTrue old.is_open → IsStore old.now) → Shown lists_text (Int tab ∷ []) old new rows
@@ -248,10 +259,10 @@ pub lists_stored_shown : (tab : ℤ) (old new : State) (rows : List Row) → (Is
 lists_stored_shown tab old new rows if_open h =
     let kept = if_open (shown_open _ _ old new rows h) in
     let sound = sound_of old kept in
-    found list_key_cmp list_key_total tied_list_keys name_cmp name_total tied_names stored_entry IsListRow (overlay old.now.trees []) 7 (are_lists old.now.trees sound) (lists_apart old.now.trees sound kept.numbered.1.1.1.1.0) lists_query.filter list_shown (rising list_order) (Int tab ∷ []) (λ k. int_eq tab k.0) (found_list tab)
+    keyed_found list_key_cmp list_key_total tied_list_keys name_cmp name_total tied_names stored_entry IsListRow (overlay old.now.trees []) 7 (are_lists old.now.trees sound) (lists_apart old.now.trees sound kept.numbered.1.1.1.1.0) lists_query.filter list_shown (rising list_order) (Int tab ∷ []) (λ k. int_eq tab k.0) (found_list tab)
     (λ r h. last_term (turned _ _ _ _ h.tab refl))
     (λ r h passed. ap (λ t. ((t, (stored_entry r).0.1, (stored_entry r).0.2), (stored_entry r).1)) (same_int tab (stored_entry r).0.0 passed))
-    (λ a b p q. then_key (cmp_ints _ _ _ _ p.tab q.tab) (then_key (cmp_texts _ _ _ _ p.term q.term) (then_key (cmp_ints _ _ _ _ p.docid q.docid) (last_key (cmp_blobs _ _ _ _ p.list q.list)))) ∙ regroup_3 (int_cmp (stored_entry a).0.0 (stored_entry b).0.0) (name_cmp (stored_entry a).0.1 (stored_entry b).0.1) (int_cmp (stored_entry a).0.2 (stored_entry b).0.2) (name_cmp (stored_entry a).1 (stored_entry b).1))
+    (λ a b p q. then_key (cmp_ints _ _ _ _ p.tab q.tab) (then_key (cmp_texts _ _ _ _ p.term q.term) (last_key (cmp_ints _ _ _ _ p.docid q.docid))))
     rows ((reads_as lists_text (Int tab ∷ []) old new store_schema kept.schema _ lists_is lists_plain lists_unlisted rows h).answer Null)
 
 -- ---- lists, with their places
@@ -289,9 +300,9 @@ bare_found : (tab : ℤ) (old : State) (kept : IsStore old.now) (terms : List Te
     → map found_spots rows ≡ map bare_list (where_key list_key_cmp p (value_of old.now.trees).lists)
 bare_found tab old kept terms params p tests in_table rows answer =
     let sound = sound_of old kept in
-    let outputs = found_outputs list_key_cmp list_key_total tied_list_keys name_cmp name_total tied_names stored_entry IsListRow (overlay old.now.trees []) 7 (are_lists old.now.trees sound) (lists_apart old.now.trees sound kept.numbered.1.1.1.1.0) terms bare_shown (rising list_order) params p (with_term tab) tests
+    let outputs = keyed_outputs list_key_cmp list_key_total tied_list_keys name_cmp name_total tied_names stored_entry IsListRow (overlay old.now.trees []) 7 (are_lists old.now.trees sound) (lists_apart old.now.trees sound kept.numbered.1.1.1.1.0) terms bare_shown (rising list_order) params p (with_term tab) tests
     (λ r h passed. ap (λ t. ((t, (stored_entry r).0.1, (stored_entry r).0.2), (stored_entry r).1)) (same_int tab (stored_entry r).0.0 (in_table (stored_entry r).0 passed)))
-    (λ a b p q. then_key (cmp_ints _ _ _ _ p.tab q.tab) (then_key (cmp_texts _ _ _ _ p.term q.term) (then_key (cmp_ints _ _ _ _ p.docid q.docid) (last_key (cmp_blobs _ _ _ _ p.list q.list)))) ∙ regroup_3 (int_cmp (stored_entry a).0.0 (stored_entry b).0.0) (name_cmp (stored_entry a).0.1 (stored_entry b).0.1) (int_cmp (stored_entry a).0.2 (stored_entry b).0.2) (name_cmp (stored_entry a).1 (stored_entry b).1))
+    (λ a b p q. then_key (cmp_ints _ _ _ _ p.tab q.tab) (then_key (cmp_texts _ _ _ _ p.term q.term) (last_key (cmp_ints _ _ _ _ p.docid q.docid))))
     rows answer in
     ap (map found_spots) answer.shown ∙ map-map found_spots (λ (o : Output). o.1) answer.ordered
     ∙ sym (map-map (λ (e : ListKey × List ℕ). bare_list (at_value list_key_cmp spots_of e)) (with_term tab) answer.ordered)

@@ -1,15 +1,19 @@
 -- Rows under their keys, as they are filtered, added to and read.
-use Rattle.std.proofs.Common.{◌≡◌, Bool, true, false, not, ◌||◌, cond, List, [], ◌∷◌, map, filter, Option, Some, None, refl, sym, ap, ◌∙◌, Ordering, Less, Equal, Greater, is_eq, is_gt, T, true≢false}
+use Rattle.std.proofs.Common.{◌≡◌, ℕ, ◌+◌, ◌<◌, zero, suc, Bool, true, false, not, ◌||◌, cond, List, [], ◌∷◌, map, filter, length, get_or, Option, Some, None, refl, sym, ap, subst, ◌∙◌, arith, Ordering, Less, Equal, Greater, is_eq, is_lt, is_gt, T, true≢false, IsPermutation, IsSorted}
 use Rattle.std.specs.Ordering.{eq_by_cmp, ordering_then, match_ordering}
 use Rattle.std.specs.Cmp.{IsTotalOrder, tied_itself}
 use Rattle.std.specs.FinMap.Entries.{put, where_key, find, is_sorted, by_order, is_sorted-put, is_sorted-where_key, find-put, find-where_key, same_entries}
+use Rattle.std.proofs.lemmas.Cmp.{on_total, then_total}
 use Rattle.sqlite_keyed.specs.Lists.{sort_by, insert_sorted}
+use Rattle.sqlite_keyed.proofs.ListLemmas.{along_permutation}
 use Rattle.sqlite_value.specs.Order.{Row, value_cmp}
 use Rattle.sqlite_trees.specs.Tree.{put_row, rowid}
 use Rattle.sqlite_rules.specs.Edit.{is_taken, are_fresh, put_all}
 use Rattle.ft_store.specs.Groups.{put_each}
 use Rattle.ft_store.specs.Store.{without_key}
 use Rattle.ft_store.specs.Rows.{keyed}
+use Rattle.ft_store.proofs.OrderLemmas.{tied_first, tied_second}
+use Rattle.ft_store.proofs.SortedLemmas.{sorted_is}
 use Rattle.ft_store.proofs.RowidLemmas.{fresh_first, fresh_later}
 
 pub some_first : {X : Type 0} (b : Bool) (x : X) (o : Option X) → cond b (Some x) o ≡ None → (b ≡ false) × (o ≡ None)
@@ -159,6 +163,86 @@ module _ {K X : Type 0} (R : K → K → Ordering) (total : IsTotalOrder R) (tie
     pub sorted-keyed : (es : List (K × X)) → AreApart R es → sort_by whole_cmp es ≡ keyed R es
     sorted-keyed [] apart = refl
     sorted-keyed (e ∷ es) apart = ap (insert_sorted whole_cmp e) (sorted-keyed es apart.1) ∙ insert_is_put e.0 e.1 (keyed R es) (find-keyed e.0 es ∙ apart.0)
+
+-- rows that are apart stay so in any order, and so do some of them
+module _ {K X : Type 0} (R : K → K → Ordering) (total : IsTotalOrder R) (tie : (x y : K) → R x y ≡ Equal → x ≡ y) where
+  abbrev Missing : List (K × X) → List (K × X) → Type 0
+  Missing es fs = (k : K) → find R k es ≡ None → find R k fs ≡ None
+
+  missing_cons : (e : K × X) (es fs : List (K × X)) → Missing es fs → Missing (e ∷ es) (e ∷ fs)
+  missing_cons e es fs more k none = let split = some_first (eq_by_cmp R k e.0) e.1 (find R k es) none in none_from (eq_by_cmp R k e.0) e.1 (find R k fs) split.0 (more k split.1)
+
+  missing_filter : (p : K × X → Bool) (es : List (K × X)) → Missing es (filter p es)
+  missing_filter p [] k none = none
+  missing_filter p (e ∷ es) k none =
+      let split = some_first (eq_by_cmp R k e.0) e.1 (find R k es) none in
+      let more = missing_filter p es k split.1 in
+      elim (p e) as (λ b. find R k (cond b (e ∷ filter p es) (filter p es)) ≡ None) [ true ↦ none_from (eq_by_cmp R k e.0) e.1 (find R k (filter p es)) split.0 more | false ↦ more ]
+
+  pub apart-filter : (p : K × X → Bool) (es : List (K × X)) → AreApart R es → AreApart R (filter p es)
+  apart-filter p [] apart = tt
+  apart-filter p (e ∷ es) apart =
+      let more = apart-filter p es apart.1 in
+      elim (p e) as (λ b. AreApart R (cond b (e ∷ filter p es) (filter p es))) [ true ↦ (missing_filter p es e.0 apart.0, more) | false ↦ more ]
+
+  abbrev StayApart : List (K × X) → List (K × X) → Type 0
+  StayApart es fs = Missing es fs × (AreApart R es → AreApart R fs)
+
+  swap_apart : (a b : K × X) (es : List (K × X)) → StayApart (a ∷ b ∷ es) (b ∷ a ∷ es)
+  swap_apart a b es = (
+    (λ k none.
+      let first = some_first (eq_by_cmp R k a.0) a.1 (find R k (b ∷ es)) none in
+      let second = some_first (eq_by_cmp R k b.0) b.1 (find R k es) first.1 in
+      none_from (eq_by_cmp R k b.0) b.1 (find R k (a ∷ es)) second.0 (none_from (eq_by_cmp R k a.0) a.1 (find R k es) first.0 second.1)),
+    (λ apart.
+      let first = some_first (eq_by_cmp R a.0 b.0) b.1 (find R a.0 es) apart.0 in
+      (none_from (eq_by_cmp R b.0 a.0) a.1 (find R b.0 es) (apart_back R total tie a.0 b.0 first.0) apart.1.0, (first.1, apart.1.1))),
+  )
+
+  pub stays_apart : (es fs : List (K × X)) → IsPermutation es fs → StayApart es fs
+  stays_apart =
+      along_permutation StayApart (λ es. ((λ k none. none), (λ apart. apart)))
+      (λ e es fs h. (missing_cons e es fs h.0, λ apart. (h.0 e.0 apart.0, h.1 apart.1))) swap_apart
+      (λ es fs gs h k. ((λ q none. k.0 q (h.0 q none)), (λ apart. k.1 (h.1 apart))))
+
+  found_at : (k : K) (es : List (K × X)) (i : ℕ) (d : K × X) → i < length es → find R k es ≡ None → eq_by_cmp R k (get_or es i d).0 ≡ false
+  found_at k [] i d h none = absurd (omega (arith, h))
+  found_at k (e ∷ es) zero d h none = (some_first (eq_by_cmp R k e.0) e.1 (find R k es) none).0
+  found_at k (e ∷ es) (suc i) d h none = found_at k es i d (omega (arith, h)) (some_first (eq_by_cmp R k e.0) e.1 (find R k es) none).1
+
+  -- the key of a row and that of the next one
+  next_apart : (es : List (K × X)) (i : ℕ) (d : K × X) → suc i < length es → AreApart R es → eq_by_cmp R (get_or es i d).0 (get_or es (suc i) d).0 ≡ false
+  next_apart [] i d h apart = absurd (omega (arith, h))
+  next_apart (e ∷ es) zero d h apart = found_at e.0 es 0 d (omega (arith, h)) apart.0
+  next_apart (e ∷ es) (suc i) d h apart = next_apart es i d (omega (arith, h)) apart.1
+
+  module _ (V : X → X → Ordering) (v_total : IsTotalOrder V) (v_tie : (x y : X) → V x y ≡ Equal → x ≡ y) where
+    pub whole_total : IsTotalOrder (whole_cmp R total tie V)
+    whole_total = then_total (on_total (λ (e : K × X). e.0) total) (on_total (λ (e : K × X). e.1) v_total)
+
+    pub whole_tie : (a b : K × X) → whole_cmp R total tie V a b ≡ Equal → a ≡ b
+    whole_tie a b h = let key = tie a.0 b.0 (tied_first _ _ h) in let value = v_tie a.1 b.1 (tied_second _ _ h) in λ i. (key i, value i)
+
+    by_values_too : (es : List (K × X)) → AreApart R es → IsSorted (λ (a b : K × X). R a.0 b.0) es → IsSorted (whole_cmp R total tie V) es
+    by_values_too es apart sorted k d low within =
+        let one : k + 1 ≡ suc k = omega arith in
+        let inside : suc k < length es = omega arith in
+        let a = get_or es k d in
+        let b = get_or es (k + 1) d in
+        let not_less : is_lt (R b.0 a.0) ≡ false = sorted k d low within in
+        let not_equal : eq_by_cmp R b.0 a.0 ≡ false = apart_back R total tie a.0 b.0 (subst (λ n. eq_by_cmp R a.0 (get_or es n d).0 ≡ false) (sym one) (next_apart es k d inside apart)) in
+        greater (R b.0 a.0) (V b.1 a.1) not_less not_equal
+      where
+        greater : (o u : Ordering) → is_lt o ≡ false → is_eq o ≡ false → is_lt (ordering_then o u) ≡ false
+        greater Less u h e = absurd (true≢false h)
+        greater Equal u h e = absurd (true≢false e)
+        greater Greater u h e = refl
+
+    -- rows that are apart, sorted by their keys alone
+    pub sorted_by_key : (es fs : List (K × X)) → AreApart R es → IsPermutation es fs → IsSorted (λ (a b : K × X). R a.0 b.0) fs → fs ≡ keyed R es
+    sorted_by_key es fs apart same sorted =
+        sorted_is (whole_cmp R total tie V) whole_total whole_tie es fs same (by_values_too fs ((stays_apart es fs same).1 apart) sorted)
+        ∙ sorted-keyed R total tie V es apart
 
 module _ {K X Y : Type 0} (R : K → K → Ordering) (f : X → Y) where
   abbrev pub at_value : K × X → K × Y

@@ -33,13 +33,13 @@ use Rattle.ft_store.proofs.Texts.{last_text}
 use Rattle.ft_store.proofs.TextLemmas.{falling, last_query, last_is, last_plain, last_unlisted}
 use Rattle.ft_store.proofs.SortedLemmas.{sort_by-permutation, sort_by-rising, rises-sort_by}
 use Rattle.ft_store.proofs.SelectLemmas.{all_selected}
-use Rattle.ft_store.proofs.KeyedLemmas.{AreApart, at_value, keyed-map, whole_cmp, sorted-keyed, none_from, some_first}
+use Rattle.ft_store.proofs.KeyedLemmas.{AreApart, at_value, keyed-map, whole_cmp, sorted-keyed, none_from, some_first, whole_total, whole_tie}
 use Rattle.ft_store.proofs.OrderLemmas.{tied_cell_keys, cell_key_total}
 use Rattle.ft_store.proofs.TypedLemmas.{IsCellRow, are_cells}
 use Rattle.ft_store.proofs.ApartLemmas.{cells_apart}
 use Rattle.ft_store.proofs.WriteLemmas.{turned}
 use Rattle.ft_store.proofs.CallLemmas.{shown_open}
-use Rattle.ft_store.proofs.AnswerLemmas.{cmp_ints, same_int, alone, all_tie, all_tie_total, whole_total, whole_tie, sound_of}
+use Rattle.ft_store.proofs.AnswerLemmas.{cmp_ints, same_int, alone, all_tie, all_tie_total, sound_of}
 
 -- ---- lists the other way round
 
@@ -124,10 +124,10 @@ abbrev key_cmp : CellKey × Unit {0} → CellKey × Unit {0} → Ordering
 key_cmp = whole_cmp cell_key_cmp cell_key_total tied_cell_keys all_tie
 
 key_total : IsTotalOrder key_cmp
-key_total = whole_total cell_key_cmp cell_key_total tied_cell_keys all_tie all_tie_total (λ x y h. refl) key_entry IsCellRow
+key_total = whole_total cell_key_cmp cell_key_total tied_cell_keys all_tie all_tie_total (λ x y h. refl)
 
 key_tie : (a b : CellKey × Unit {0}) → key_cmp a b ≡ Equal → a ≡ b
-key_tie = whole_tie cell_key_cmp cell_key_total tied_cell_keys all_tie all_tie_total (λ x y h. refl) key_entry IsCellRow
+key_tie = whole_tie cell_key_cmp cell_key_total tied_cell_keys all_tie all_tie_total (λ x y h. refl)
 
 last_read : (tab : ℤ) (db : Trees) → AllByRecursion IsCellRow (db 5) → AreApart cell_key_cmp (map cell_entry (db 5)) → (rows : List Row) → IsAnswer last_query db (Int tab ∷ []) rows
     → map (found_key tab) rows ≡ take 1 (map key_alone (reverse (where_key cell_key_cmp (λ k. int_eq tab k.0) (keyed cell_key_cmp (map cell_entry (db 5))))))
@@ -136,11 +136,11 @@ last_read tab db typed apart rows answer =
     let all = keyed cell_key_cmp (map cell_entry (db 5)) in
     ap (map (found_key tab)) answer.shown ∙ sym (take-map (found_key tab) 1 (map (λ (o : Output). o.1) answer.ordered))
     ∙ ap (take 1) (map-map (found_key tab) (λ (o : Output). o.1) answer.ordered
-    ∙ all_selected (back key_cmp key_total key_tie) (back_total key_total) key_entry IsCellRow db 5 (back_tie key_cmp key_total key_tie) typed last_query.filter (2 ∷ 3 ∷ []) (falling (1 ∷ 2 ∷ 3 ∷ [])) (lit (Int (pos 1))) (Int tab ∷ []) test (λ o. found_key tab o.1)
+    ∙ all_selected (back key_cmp key_total key_tie) (back_total key_total) key_entry IsCellRow db 5 typed last_query.filter (2 ∷ 3 ∷ []) (falling (1 ∷ 2 ∷ 3 ∷ [])) (lit (Int (pos 1))) (Int tab ∷ []) test (λ o. found_key tab o.1)
     (λ r h. last_term (turned _ _ _ _ h.tab refl))
     (λ r h passed. ap (λ t. ((t, (cell_key r).1, (cell_key r).2), tt)) (same_int tab (cell_key r).0 (sym (last_term (turned _ _ _ _ h.tab refl)) ∙ passed)))
     (λ a b p q _ _. then_key (cmp_ints _ _ _ _ q.tab p.tab) (then_key (cmp_ints _ _ _ _ q.docid p.docid) (last_key (cmp_ints _ _ _ _ q.at p.at))) ∙ alone (cell_key_cmp (cell_key b) (cell_key a)))
-    rows answer
+    (back_tie key_cmp key_total key_tie) rows answer
     ∙ ap (filter test) (sort_by-back key_cmp key_total key_tie (map key_entry (db 5)) ∙ ap reverse (keys_are (db 5) apart) ∙ sym (map-reverse key_alone all))
     ∙ filter-map test key_alone (reverse all) ∙ ap (map key_alone) (filter-reverse (λ (e : CellKey × Cell). int_eq tab e.0.0) all))
 

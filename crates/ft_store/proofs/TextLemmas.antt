@@ -57,7 +57,10 @@ abbrev pub bare_shown : List ℕ
 bare_shown = 3 ∷ 4 ∷ []
 
 abbrev pub list_order : List ℕ
-list_order = 1 ∷ 2 ∷ 3 ∷ 4 ∷ []
+list_order = 1 ∷ 2 ∷ 3 ∷ []
+
+abbrev pub cell_order : List ℕ
+cell_order = 1 ∷ 2 ∷ 3 ∷ []
 
 -- ---- changes
 
@@ -344,7 +347,7 @@ unfolding understood everything
 skips_plain = (refl, refl)
 
 abbrev pub cells_query : Query
-cells_query = table_query 5 (is_param 1 0 ∷ []) (2 ∷ 3 ∷ 4 ∷ 5 ∷ []) (1 ∷ 2 ∷ 3 ∷ 4 ∷ 5 ∷ [])
+cells_query = table_query 5 (is_param 1 0 ∷ []) (2 ∷ 3 ∷ 4 ∷ 5 ∷ []) cell_order
 
 pub cells_is : command_of (understood store_schema cells_text) ≡ Select (record { lets = []; body = cells_query }) (codes "docid" ∷ codes "col" ∷ codes "num" ∷ codes "txt" ∷ [])
 unfolding understood everything
@@ -359,7 +362,7 @@ unfolding understood everything
 cells_plain = (refl, refl)
 
 abbrev pub document_query : Query
-document_query = table_query 5 (is_param 1 0 ∷ is_param 2 1 ∷ []) (2 ∷ 3 ∷ 4 ∷ 5 ∷ []) (1 ∷ 2 ∷ 3 ∷ 4 ∷ 5 ∷ [])
+document_query = table_query 5 (is_param 1 0 ∷ is_param 2 1 ∷ []) (2 ∷ 3 ∷ 4 ∷ 5 ∷ []) cell_order
 
 pub document_is : command_of (understood store_schema document_text) ≡ Select (record { lets = []; body = document_query }) (codes "docid" ∷ codes "col" ∷ codes "num" ∷ codes "txt" ∷ [])
 unfolding understood everything
@@ -464,7 +467,7 @@ unfolding understood everything
 bare_lists_plain = (refl, refl)
 
 abbrev pub sizes_query : Query
-sizes_query = table_query 9 (is_param 1 0 ∷ []) (2 ∷ 3 ∷ 4 ∷ []) (1 ∷ 2 ∷ 3 ∷ 4 ∷ [])
+sizes_query = table_query 9 (is_param 1 0 ∷ []) (2 ∷ 3 ∷ 4 ∷ []) cell_order
 
 pub sizes_is : command_of (understood store_schema sizes_text) ≡ Select (record { lets = []; body = sizes_query }) (codes "docid" ∷ codes "col" ∷ codes "n" ∷ [])
 unfolding understood everything

@@ -78,31 +78,31 @@ abbrev pub skips_text : List ℕ
 skips_text = codes "SELECT col FROM skip WHERE tab = ?1 ORDER BY tab, col"
 
 abbrev pub cells_text : List ℕ
-cells_text = codes "SELECT docid, col, num, txt FROM cell WHERE tab = ?1 ORDER BY tab, docid, col, num, txt"
+cells_text = codes "SELECT docid, col, num, txt FROM cell WHERE tab = ?1 ORDER BY tab, docid, col"
 
 abbrev pub document_text : List ℕ
-document_text = codes "SELECT docid, col, num, txt FROM cell WHERE tab = ?1 AND docid = ?2 ORDER BY tab, docid, col, num, txt"
+document_text = codes "SELECT docid, col, num, txt FROM cell WHERE tab = ?1 AND docid = ?2 ORDER BY tab, docid, col"
 
 abbrev pub last_text : List ℕ
 last_text = codes "SELECT docid, col FROM cell WHERE tab = ?1 ORDER BY tab DESC, docid DESC, col DESC LIMIT 1"
 
 abbrev pub term_text : List ℕ
-term_text = codes "SELECT docid, list FROM posting WHERE tab = ?1 AND term = ?2 ORDER BY tab, term, docid, list"
+term_text = codes "SELECT docid, list FROM posting WHERE tab = ?1 AND term = ?2 ORDER BY tab, term, docid"
 
 abbrev pub prefix_text : List ℕ
-prefix_text = codes "SELECT docid, list, term FROM posting WHERE tab = ?1 AND term >= ?2 AND term < ?3 ORDER BY tab, term, docid, list"
+prefix_text = codes "SELECT docid, list, term FROM posting WHERE tab = ?1 AND term >= ?2 AND term < ?3 ORDER BY tab, term, docid"
 
 abbrev pub bare_prefix_text : List ℕ
-bare_prefix_text = codes "SELECT docid, list FROM posting WHERE tab = ?1 AND term >= ?2 AND term < ?3 ORDER BY tab, term, docid, list"
+bare_prefix_text = codes "SELECT docid, list FROM posting WHERE tab = ?1 AND term >= ?2 AND term < ?3 ORDER BY tab, term, docid"
 
 abbrev pub lists_text : List ℕ
-lists_text = codes "SELECT docid, list, term FROM posting WHERE tab = ?1 ORDER BY tab, term, docid, list"
+lists_text = codes "SELECT docid, list, term FROM posting WHERE tab = ?1 ORDER BY tab, term, docid"
 
 abbrev pub bare_lists_text : List ℕ
-bare_lists_text = codes "SELECT docid, list FROM posting WHERE tab = ?1 ORDER BY tab, term, docid, list"
+bare_lists_text = codes "SELECT docid, list FROM posting WHERE tab = ?1 ORDER BY tab, term, docid"
 
 abbrev pub sizes_text : List ℕ
-sizes_text = codes "SELECT docid, col, n FROM sizes WHERE tab = ?1 ORDER BY tab, docid, col, n"
+sizes_text = codes "SELECT docid, col, n FROM sizes WHERE tab = ?1 ORDER BY tab, docid, col"
 
 abbrev pub noted_text : List ℕ
 noted_text = codes "SELECT name FROM noted ORDER BY name, name COLLATE BINARY"

@@ -129,7 +129,7 @@ pub(crate) fn term_lists<S: Alter>(
 {
     let rows = select(
         conn,
-        "SELECT docid, list FROM posting WHERE tab = ?1 AND term = ?2 ORDER BY tab, term, docid, list",
+        "SELECT docid, list FROM posting WHERE tab = ?1 AND term = ?2 ORDER BY tab, term, docid",
         params![tab, term],
     )?;
     list_rows(alloc, rows.as_slice())
@@ -177,7 +177,7 @@ pub(crate) fn entries<S: Alter>(
 {
     let rows = select(
         conn,
-        "SELECT docid, list, term FROM posting WHERE tab = ?1 ORDER BY tab, term, docid, list",
+        "SELECT docid, list, term FROM posting WHERE tab = ?1 ORDER BY tab, term, docid",
         params![tab],
     )?;
     entry_rows(alloc, rows.as_slice())
@@ -203,7 +203,7 @@ fn table_lists<S: Alter>(
 {
     let rows = select(
         conn,
-        "SELECT docid, list FROM posting WHERE tab = ?1 ORDER BY tab, term, docid, list",
+        "SELECT docid, list FROM posting WHERE tab = ?1 ORDER BY tab, term, docid",
         params![tab],
     )?;
     list_rows(alloc, rows.as_slice())
@@ -249,7 +249,7 @@ fn range<'a, S: Alter>(
 {
     select(
         conn,
-        "SELECT docid, list, term FROM posting WHERE tab = ?1 AND term >= ?2 AND term < ?3 ORDER BY tab, term, docid, list",
+        "SELECT docid, list, term FROM posting WHERE tab = ?1 AND term >= ?2 AND term < ?3 ORDER BY tab, term, docid",
         &[beside(tab, from), ValueRef::Text(from), ValueRef::Text(end)],
     )
 }
@@ -276,7 +276,7 @@ fn bare_range<'a, S: Alter>(
 {
     select(
         conn,
-        "SELECT docid, list FROM posting WHERE tab = ?1 AND term >= ?2 AND term < ?3 ORDER BY tab, term, docid, list",
+        "SELECT docid, list FROM posting WHERE tab = ?1 AND term >= ?2 AND term < ?3 ORDER BY tab, term, docid",
         &[beside(tab, from), ValueRef::Text(from), ValueRef::Text(end)],
     )
 }

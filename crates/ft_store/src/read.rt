@@ -263,7 +263,7 @@ pub(crate) fn cells<S: Alter>(
 {
     let rows = select(
         conn,
-        "SELECT docid, col, num, txt FROM cell WHERE tab = ?1 ORDER BY tab, docid, col, num, txt",
+        "SELECT docid, col, num, txt FROM cell WHERE tab = ?1 ORDER BY tab, docid, col",
         params![tab],
     )?;
     cell_rows(alloc, rows.as_slice())
@@ -287,7 +287,7 @@ pub(crate) fn document<S: Alter>(
 {
     let rows = select(
         conn,
-        "SELECT docid, col, num, txt FROM cell WHERE tab = ?1 AND docid = ?2 ORDER BY tab, docid, col, num, txt",
+        "SELECT docid, col, num, txt FROM cell WHERE tab = ?1 AND docid = ?2 ORDER BY tab, docid, col",
         params![tab, docid],
     )?;
     cell_rows(alloc, rows.as_slice())
@@ -343,7 +343,7 @@ pub(crate) fn sizes<S: Alter>(
 {
     let rows = select(
         conn,
-        "SELECT docid, col, n FROM sizes WHERE tab = ?1 ORDER BY tab, docid, col, n",
+        "SELECT docid, col, n FROM sizes WHERE tab = ?1 ORDER BY tab, docid, col",
         params![tab],
     )?;
     size_rows(alloc, rows.as_slice())
