@@ -6,11 +6,10 @@ use Rattle.std.specs.FinMap.Entries.{where_key}
 use Rattle.std.proofs.lemmas.List.{take_more, map-append}
 use Rattle.std.proofs.Common.{append_assoc, append-nil}
 use Rattle.sqlite.specs.Order.{Row}
-use Rattle.sqlite_keyed.proofs.ListLemmas.{all-append}
 use Rattle.sqlite_typed.proofs.TestLemmas.{same_bytes}
 use Rattle.ft_values.specs.declared.rows.Spot.{Spot}
 use Rattle.ft_store.specs.Store.{ListKey, list_key_cmp, name_cmp}
-use Rattle.ft_store.specs.Shown.{bare_list, entries_with, entries_of, AreWhole, SomeDamaged}
+use Rattle.ft_store.specs.Shown.{Entry, bare_list, entries_with, entries_of, AreWhole, SomeDamaged}
 use Rattle.ft_store.proofs.TypedLemmas.{and_second}
 
 flat_more : {Y Z : Type 0} (f : Y → List Z) (ys : List Y) (y : Y) → flat_map f (ys ++ y ∷ []) ≡ flat_map f ys ++ f y
@@ -24,17 +23,24 @@ module _ {X Y : Type 0} (found : X → Y) (rows : List X) (i : ℕ) (row : X) (i
   pub one_more_list : {Z : Type 0} (f : Y → List Z) (old new : List Z) → new ≡ old ++ f (found row) → old ≡ flat_map f (map found (take i rows)) → new ≡ flat_map f (map found (take (i + 1) rows))
   one_more_list f old new added before = added ∙ ap (λ es. es ++ f (found row)) before ∙ sym (flat_more f (map found (take i rows)) (found row)) ∙ ap (flat_map f) more
 
-module _ {K : Type 0} (found : Row → K × List Spot) (rows : List Row) (i : ℕ) (row : Row) (inside : i < length rows) (is : row ≡ get_or rows i row) where
-  pub one_more_whole : AreWhole (map found (take i rows)) → (found row).1 ≢ [] → AreWhole (map found (take (i + 1) rows))
-  one_more_whole whole some = subst AreWhole (more found rows i row inside is) (all-append (λ (l : K × List Spot). l.1 ≢ []) (map found (take i rows)) (found row ∷ []) whole (some, tt))
+-- rows of lists, and one row more
+module _ {K : Type 0} (found : Row → K × List Spot) (row : Row) where
+  pub whole_more : (rows : List Row) → AreWhole (map found rows) → (found row).1 ≢ [] → AreWhole (map found (rows ++ row ∷ []))
+  whole_more [] whole some = (some, tt)
+  whole_more (r ∷ rows) whole some = (whole.0, whole_more rows whole.1 some)
 
-whole_at : {K : Type 0} (found : Row → K × List Spot) (rows : List Row) (i : ℕ) (d : Row) → i < length rows → AreWhole (map found rows) → (found (get_or rows i d)).1 ≢ []
-whole_at found [] i d inside whole = absurd (omega (arith, inside))
-whole_at found (r ∷ rows) zero d inside whole = whole.0
-whole_at found (r ∷ rows) (suc i) d inside whole = whole_at found rows i d (omega (arith, inside)) whole.1
+  were_whole : (rows : List Row) → AreWhole (map found (rows ++ row ∷ [])) → AreWhole (map found rows) × ((found row).1 ≢ [])
+  were_whole [] whole = (tt, whole.0)
+  were_whole (r ∷ rows) whole = let rest = were_whole rows whole.1 in ((whole.0, rest.0), rest.1)
 
-pub damaged_list : {K : Type 0} (found : Row → K × List Spot) (rows : List Row) (i : ℕ) (row : Row) → i < length rows → row ≡ get_or rows i row → (found row).1 ≡ [] → SomeDamaged (map found rows)
-damaged_list found rows i row inside is none whole = whole_at found rows i row inside whole (ap (λ r. (found r).1) (sym is) ∙ none)
+  pub damaged_more : (rows : List Row) → SomeDamaged (map found rows) → SomeDamaged (map found (rows ++ row ∷ []))
+  damaged_more rows damaged whole = damaged (were_whole rows whole).0
+
+  pub damaged_last : (rows : List Row) → (found row).1 ≡ [] → SomeDamaged (map found (rows ++ row ∷ []))
+  damaged_last rows none whole = (were_whole rows whole).1 none
+
+  pub entries_more : (f : K × List Spot → List Entry) (rows : List Row) (old new : List Entry) → new ≡ old ++ f (found row) → old ≡ flat_map f (map found rows) → new ≡ flat_map f (map found (rows ++ row ∷ []))
+  entries_more f rows old new added before = added ∙ ap (λ es. es ++ f (found row)) before ∙ sym (flat_more f (map found rows) (found row)) ∙ ap (flat_map f) (sym (map-append found rows (row ∷ [])))
 
 -- ---- lists without their tables and terms
 

@@ -25,6 +25,7 @@ pub mod SelectLemmas
 pub mod SortedLemmas
 pub mod StepLemmas
 pub mod StoredLemmas
+pub mod StreamLemmas
 pub mod TableLemmas
 pub mod TextLemmas
 pub mod Texts

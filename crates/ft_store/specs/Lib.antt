@@ -17,4 +17,5 @@ pub mod Opened
 pub mod Range
 pub mod Same
 pub mod Scan
+pub mod Streamed
 pub mod Unpacking

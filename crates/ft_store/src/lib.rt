@@ -13,6 +13,7 @@ mod read;
 mod same;
 mod statements;
 mod store;
+mod stream;
 mod tables;
 mod write;
 

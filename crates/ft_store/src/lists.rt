@@ -1,9 +1,13 @@
 //! Queries on the lists of terms.
-ghost use Rattle.std.specs.Prelude.{◌≡◌, ◌≢◌, false, ◌&&◌, ℕ, ◌<◌, ◌-◌, ◌^◌, [], ◌++◌, map, min, nat_eq, Err, IsTrue, IfOk, IfErr, OnOk};
+ghost use Rattle.std.specs.Prelude.{◌≡◌, ◌≢◌, false, ◌&&◌, ℕ, ℤ, List, ◌<◌, ◌-◌, ◌^◌, [], ◌++◌, map, min, nat_eq, Err, IsTrue, IfOk, IfErr, OnOk};
 ghost use Rattle.std.specs.Ordering.{int_eq, is_eq};
 ghost use Rattle.std.specs.List.{AllByRecursion, starts_with, flat_map};
 ghost use Rattle.std.specs.FinMap.Entries.{where_key};
-ghost use Rattle.sqlite.specs.State.{HasCleanDisk, Survives};
+ghost use Rattle.sqlite.specs.State.{HasCleanDisk, Survives, Shown};
+ghost use Rattle.sqlite.specs.Given.{IsPlain};
+ghost use Rattle.sqlite.specs.Listing.{understood};
+ghost use Rattle.sqlite.specs.Order as order;
+ghost use Rattle.sqlite.specs.Values.{bound};
 ghost use Rattle.sqlite.specs.Held.{state};
 ghost use Rattle.sqlite_value.specs.Value.{owned};
 ghost use Rattle.sqlite.specs.declared.types.Value.TheVariants.{Int};
@@ -16,7 +20,7 @@ ghost use Rattle.ft_store.specs.Calls.{IsStoreIfOpen, IsPlainFault, IsReadFault,
 
 use crate::fault::StoreFault;
 use crate::packed::unpack;
-use crate::read::select;
+use crate::stream::{Gathered, gather};
 use ft_values::{EntryRow, ListRow};
 use sqlite::types::ValueRef;
 use sqlite::{Alter, Connection, Row, params};
@@ -36,17 +40,66 @@ fn list_row(alloc: Global, row: &Row) -> Result<ListRow, StoreFault>
     Ok(ListRow { docid, spots })
 }
 
-/// Lists, in the order of their rows.
-fn list_rows(alloc: Global, rows: &[Row]) -> Result<Vec<ListRow>, StoreFault>
-    ensures found { IfOk result (λ lists. (map shown_list lists.items ≡ map found_spots rows.now) × AreWhole (map found_spots rows.now)) }
-    ensures damaged { result ≡ Err StoreFault.Damaged → SomeDamaged (map found_spots rows.now) }
-    ensures fault { IfErr result IsReadFault }
-{
-    let mut lists = Vec::new(alloc);
-    for row in rows {
-        lists.push(list_row(alloc, row)?)?;
+/// Lists, as their rows come.
+#[derive(Drop)]
+struct ListsOf {
+    alloc: Global,
+    lists: Vec<ListRow>,
+}
+
+impl Gathered for ListsOf {
+    ghost use Rattle.std.specs.Prelude.{◌≡◌, map, MatchBool};
+    ghost use Rattle.ft_store.specs.Found.{found_spots};
+    ghost use Rattle.ft_store.specs.Shown.{shown_list, AreWhole, SomeDamaged};
+
+    ghost is_made_of = { λ made whole rows. MatchBool whole
+        ((map shown_list made.lists.items ≡ map found_spots rows) × AreWhole (map found_spots rows)) (SomeDamaged (map found_spots rows)) };
+
+    fn add(&mut self, whole: bool, row: &Row) -> Result<bool, StoreFault> {
+        if !whole {
+            return Ok(false);
+        }
+        match list_row(self.alloc, row) {
+            Ok(list) => {
+                self.lists.push(list)?;
+                Ok(true)
+            }
+            Err(StoreFault::Damaged) => Ok(false),
+            Err(fault) => Err(fault),
+        }
     }
-    Ok(lists)
+}
+
+/// The lists that a query gives, in the order of its rows. Damaged bytes are Damaged.
+fn select_lists<S: Alter>(
+    conn: &mut Connection<S>,
+    alloc: Global,
+    sql: &str,
+    params: &[ValueRef<'_>],
+) -> Result<Vec<ListRow>, StoreFault>
+    requires plain { HasCleanDisk (state S.Store conn.old) → IsTrue (state S.Store conn.old).is_open
+        → IsPlain (understood (state S.Store conn.old).now.schema sql.now) }
+    requires settled { (state S.Store conn.old).in_transaction ≡ false }
+    ensures found { HasCleanDisk (state S.Store conn.new) → IfOk result (λ lists. (rows : List order.Row)
+        × Shown sql.now (bound params.now) (state S.Store conn.old) (state S.Store conn.new) rows
+        × (map shown_list lists.items ≡ map found_spots rows) × AreWhole (map found_spots rows)) }
+    ensures damaged { HasCleanDisk (state S.Store conn.new) → result ≡ Err StoreFault.Damaged → (rows : List order.Row)
+        × Shown sql.now (bound params.now) (state S.Store conn.old) (state S.Store conn.new) rows × SomeDamaged (map found_spots rows) }
+    ensures fault { IfErr result IsReadFault }
+    ensures kept { HasCleanDisk (state S.Store conn.new) → Keeps (state S.Store conn.old) (state S.Store conn.new) }
+    ensures live { HasCleanDisk (state S.Store conn.new) → OnOk result (IsTrue (state S.Store conn.new).is_open) }
+    ensures mode { (state S.Store conn.new).in_transaction ≡ false }
+    ensures survives { Survives (state S.Store conn.old) (state S.Store conn.new) (λ _. IsTrue (state S.Store conn.old).is_open → ⊥) }
+{
+    let mut found = ListsOf {
+        alloc,
+        lists: Vec::new(alloc),
+    };
+    if gather(conn, sql, params, &mut found)? {
+        Ok(found.lists)
+    } else {
+        Err(StoreFault::Damaged)
+    }
 }
 
 /// How many places lists have, up to 2^64 - 1.
@@ -80,19 +133,70 @@ fn push_entries(
     Ok(())
 }
 
-/// The entries of lists, in their order. The term comes last in a row.
-fn entry_rows(alloc: Global, rows: &[Row]) -> Result<Vec<EntryRow>, StoreFault>
-    ensures found { IfOk result (λ entries. (tab : _) → (map shown_entry entries.items ≡ entries_of (map (found_places tab) rows.now)) × AreWhole (map (found_places tab) rows.now)) }
-    ensures damaged { result ≡ Err StoreFault.Damaged → (tab : _) → SomeDamaged (map (found_places tab) rows.now) }
-    ensures fault { IfErr result IsReadFault }
-{
-    let mut entries = Vec::new(alloc);
-    for row in rows {
+/// The entries of lists, as their rows come, in which the term stands last.
+#[derive(Drop)]
+struct EntriesOf {
+    alloc: Global,
+    entries: Vec<EntryRow>,
+}
+
+impl Gathered for EntriesOf {
+    ghost use Rattle.std.specs.Prelude.{◌≡◌, ℤ, map, MatchBool};
+    ghost use Rattle.ft_store.specs.Found.{found_places};
+    ghost use Rattle.ft_store.specs.Shown.{shown_entry, entries_of, AreWhole, SomeDamaged};
+
+    ghost is_made_of = { λ made whole rows. (tab : ℤ) → MatchBool whole
+        ((map shown_entry made.entries.items ≡ entries_of (map (found_places tab) rows)) × AreWhole (map (found_places tab) rows))
+        (SomeDamaged (map (found_places tab) rows)) };
+
+    fn add(&mut self, whole: bool, row: &Row) -> Result<bool, StoreFault> {
+        if !whole {
+            return Ok(false);
+        }
         let term: String = row.get(2)?;
-        let list = list_row(alloc, row)?;
-        push_entries(alloc, &mut entries, term.as_str(), &list)?;
+        match list_row(self.alloc, row) {
+            Ok(list) => {
+                push_entries(self.alloc, &mut self.entries, term.as_str(), &list)?;
+                Ok(true)
+            }
+            Err(StoreFault::Damaged) => Ok(false),
+            Err(fault) => Err(fault),
+        }
     }
-    Ok(entries)
+}
+
+/// The entries of the lists that a query gives, in the order of its rows. Damaged bytes are Damaged.
+fn select_entries<S: Alter>(
+    conn: &mut Connection<S>,
+    alloc: Global,
+    sql: &str,
+    params: &[ValueRef<'_>],
+) -> Result<Vec<EntryRow>, StoreFault>
+    requires plain { HasCleanDisk (state S.Store conn.old) → IsTrue (state S.Store conn.old).is_open
+        → IsPlain (understood (state S.Store conn.old).now.schema sql.now) }
+    requires settled { (state S.Store conn.old).in_transaction ≡ false }
+    ensures found { HasCleanDisk (state S.Store conn.new) → IfOk result (λ entries. (rows : List order.Row)
+        × Shown sql.now (bound params.now) (state S.Store conn.old) (state S.Store conn.new) rows
+        × ((tab : ℤ) → (map shown_entry entries.items ≡ entries_of (map (found_places tab) rows)) × AreWhole (map (found_places tab) rows))) }
+    ensures damaged { HasCleanDisk (state S.Store conn.new) → result ≡ Err StoreFault.Damaged → (rows : List order.Row)
+        × Shown sql.now (bound params.now) (state S.Store conn.old) (state S.Store conn.new) rows
+        × ((tab : ℤ) → SomeDamaged (map (found_places tab) rows)) }
+    ensures fault { IfErr result IsReadFault }
+    ensures kept { HasCleanDisk (state S.Store conn.new) → Keeps (state S.Store conn.old) (state S.Store conn.new) }
+    ensures live { HasCleanDisk (state S.Store conn.new) → OnOk result (IsTrue (state S.Store conn.new).is_open) }
+    ensures stays { HasCleanDisk (state S.Store conn.new) → result ≡ Err StoreFault.Damaged → IsTrue (state S.Store conn.new).is_open }
+    ensures mode { (state S.Store conn.new).in_transaction ≡ false }
+    ensures survives { Survives (state S.Store conn.old) (state S.Store conn.new) (λ _. IsTrue (state S.Store conn.old).is_open → ⊥) }
+{
+    let mut found = EntriesOf {
+        alloc,
+        entries: Vec::new(alloc),
+    };
+    if gather(conn, sql, params, &mut found)? {
+        Ok(found.entries)
+    } else {
+        Err(StoreFault::Damaged)
+    }
 }
 
 /// The entries of lists of one term, in their order.
@@ -127,12 +231,12 @@ pub(crate) fn term_lists<S: Alter>(
     ensures mode { (state S.Store conn.new).in_transaction ≡ false }
     ensures survives { Survives (state S.Store conn.old) (state S.Store conn.new) (λ _. IsTrue (state S.Store conn.old).is_open → ⊥) }
 {
-    let rows = select(
+    select_lists(
         conn,
+        alloc,
         "SELECT docid, list FROM posting WHERE tab = ?1 AND term = ?2 ORDER BY tab, term, docid",
         params![tab, term],
-    )?;
-    list_rows(alloc, rows.as_slice())
+    )
 }
 
 /// The entries of one term.
@@ -175,12 +279,12 @@ pub(crate) fn entries<S: Alter>(
     ensures mode { (state S.Store conn.new).in_transaction ≡ false }
     ensures survives { Survives (state S.Store conn.old) (state S.Store conn.new) (λ _. IsTrue (state S.Store conn.old).is_open → ⊥) }
 {
-    let rows = select(
+    select_entries(
         conn,
+        alloc,
         "SELECT docid, list, term FROM posting WHERE tab = ?1 ORDER BY tab, term, docid",
         params![tab],
-    )?;
-    entry_rows(alloc, rows.as_slice())
+    )
 }
 
 /// All lists of a table.
@@ -201,12 +305,12 @@ fn table_lists<S: Alter>(
     ensures mode { (state S.Store conn.new).in_transaction ≡ false }
     ensures survives { Survives (state S.Store conn.old) (state S.Store conn.new) (λ _. IsTrue (state S.Store conn.old).is_open → ⊥) }
 {
-    let rows = select(
+    select_lists(
         conn,
+        alloc,
         "SELECT docid, list FROM posting WHERE tab = ?1 ORDER BY tab, term, docid",
         params![tab],
-    )?;
-    list_rows(alloc, rows.as_slice())
+    )
 }
 
 /// The bytes with the last one raised by one.
@@ -228,54 +332,62 @@ fn beside(number: i64, _bytes: &[u8]) -> ValueRef<'_>
     ValueRef::Int(number)
 }
 
-/// The rows of the lists whose terms are at least the first text and below the second.
+/// The entries of the terms that are at least the first text and below the second.
 fn range<'a, S: Alter>(
     conn: &mut Connection<S>,
+    alloc: Global,
     tab: i64,
     from: &'a [u8],
     end: &'a [u8],
-) -> Result<Vec<Row>, StoreFault>
+) -> Result<Vec<EntryRow>, StoreFault>
     requires store { IsStoreIfOpen (state S.Store conn.old) }
     requires settled { (state S.Store conn.old).in_transaction ≡ false }
     requires some { from.now ≢ [] }
     requires past { end.now ≡ after_last from.now }
-    ensures rows { HasCleanDisk (state S.Store conn.new) → IfOk result (λ rows. map (found_places tab) rows.items ≡ where_key list_key_cmp (λ k. int_eq tab k.0 && starts_with nat_eq k.1 from.now) (value_of (state S.Store conn.old).now.trees).lists) }
+    ensures rows { HasCleanDisk (state S.Store conn.new) → IfOk result (λ found.
+        let asked = lists_of_prefix tab from.now (value_of (state S.Store conn.old).now.trees) in
+        (map shown_entry found.items ≡ entries_of asked) × AreWhole asked) }
+    ensures damaged { HasCleanDisk (state S.Store conn.new) → result ≡ Err StoreFault.Damaged
+        → SomeDamaged (lists_of_prefix tab from.now (value_of (state S.Store conn.old).now.trees)) }
+    ensures fault { IfErr result IsReadFault }
     ensures kept { HasCleanDisk (state S.Store conn.new) → Keeps (state S.Store conn.old) (state S.Store conn.new) }
     ensures live { HasCleanDisk (state S.Store conn.new) → OnOk result (IsTrue (state S.Store conn.new).is_open) }
     ensures mode { (state S.Store conn.new).in_transaction ≡ false }
-    ensures whole { ¬ (result ≡ Err StoreFault.Damaged) }
-    ensures fault { IfErr result IsPlainFault }
     ensures survives { Survives (state S.Store conn.old) (state S.Store conn.new) (λ _. IsTrue (state S.Store conn.old).is_open → ⊥) }
 {
-    select(
+    select_entries(
         conn,
+        alloc,
         "SELECT docid, list, term FROM posting WHERE tab = ?1 AND term >= ?2 AND term < ?3 ORDER BY tab, term, docid",
         &[beside(tab, from), ValueRef::Text(from), ValueRef::Text(end)],
     )
 }
 
-/// The same without the terms.
+/// The lists of those terms.
 fn bare_range<'a, S: Alter>(
     conn: &mut Connection<S>,
+    alloc: Global,
     tab: i64,
     from: &'a [u8],
     end: &'a [u8],
-) -> Result<Vec<Row>, StoreFault>
+) -> Result<Vec<ListRow>, StoreFault>
     requires store { IsStoreIfOpen (state S.Store conn.old) }
     requires settled { (state S.Store conn.old).in_transaction ≡ false }
     requires some { from.now ≢ [] }
     requires past { end.now ≡ after_last from.now }
-    ensures rows { HasCleanDisk (state S.Store conn.new) → IfOk result (λ rows.
-        map found_spots rows.items ≡ map bare_list (lists_of_prefix tab from.now (value_of (state S.Store conn.old).now.trees))) }
+    ensures rows { HasCleanDisk (state S.Store conn.new)
+        → IfOk result (λ found. AreRead (lists_of_prefix tab from.now (value_of (state S.Store conn.old).now.trees)) found.items) }
+    ensures damaged { HasCleanDisk (state S.Store conn.new) → result ≡ Err StoreFault.Damaged
+        → SomeDamaged (lists_of_prefix tab from.now (value_of (state S.Store conn.old).now.trees)) }
+    ensures fault { IfErr result IsReadFault }
     ensures kept { HasCleanDisk (state S.Store conn.new) → Keeps (state S.Store conn.old) (state S.Store conn.new) }
     ensures live { HasCleanDisk (state S.Store conn.new) → OnOk result (IsTrue (state S.Store conn.new).is_open) }
     ensures mode { (state S.Store conn.new).in_transaction ≡ false }
-    ensures whole { ¬ (result ≡ Err StoreFault.Damaged) }
-    ensures fault { IfErr result IsPlainFault }
     ensures survives { Survives (state S.Store conn.old) (state S.Store conn.new) (λ _. IsTrue (state S.Store conn.old).is_open → ⊥) }
 {
-    select(
+    select_lists(
         conn,
+        alloc,
         "SELECT docid, list FROM posting WHERE tab = ?1 AND term >= ?2 AND term < ?3 ORDER BY tab, term, docid",
         &[beside(tab, from), ValueRef::Text(from), ValueRef::Text(end)],
     )
@@ -302,8 +414,7 @@ pub(crate) fn prefix<S: Alter>(
         return entries(conn, alloc, tab);
     }
     let end = after_last(alloc, begin.as_bytes())?;
-    let rows = range(conn, tab, begin.as_bytes(), end.as_slice())?;
-    entry_rows(alloc, rows.as_slice())
+    range(conn, alloc, tab, begin.as_bytes(), end.as_slice())
 }
 
 /// The lists of the terms that begin so.
@@ -329,6 +440,5 @@ pub(crate) fn prefix_lists<S: Alter>(
         return table_lists(conn, alloc, tab);
     }
     let end = after_last(alloc, begin.as_bytes())?;
-    let rows = bare_range(conn, tab, begin.as_bytes(), end.as_slice())?;
-    list_rows(alloc, rows.as_slice())
+    bare_range(conn, alloc, tab, begin.as_bytes(), end.as_slice())
 }

@@ -1,5 +1,5 @@
 //! Queries, each with the rows of the store's value that it gives.
-ghost use Rattle.std.specs.Prelude.{◌≡◌, false, ◌&&◌, Err, map, slice_get, option_map, IsTrue, IfOk, IfErr, OnOk};
+ghost use Rattle.std.specs.Prelude.{◌≡◌, ℤ, List, false, ◌&&◌, Err, map, slice_get, option_map, IsTrue, IfOk, IfErr, OnOk};
 ghost use Rattle.std.specs.Ordering.{int_eq};
 ghost use Rattle.std.specs.FinMap.Entries.{where_key};
 ghost use Rattle.sqlite.specs.State.{HasCleanDisk, Survives, Shown};
@@ -7,6 +7,7 @@ ghost use Rattle.sqlite.specs.Given.{IsPlain};
 ghost use Rattle.sqlite.specs.Listing.{understood};
 ghost use Rattle.sqlite.specs.Values.{bound};
 ghost use Rattle.sqlite.specs.Held.{state};
+ghost use Rattle.sqlite.specs.Order as order;
 ghost use Rattle.sqlite.specs.Order.{column};
 ghost use Rattle.sqlite_rules.specs.Edit.{id_in};
 ghost use Rattle.ft_store.specs.Store.{cell_key_cmp, column_key_cmp};
@@ -16,6 +17,7 @@ ghost use Rattle.ft_store.specs.Shown.{shown_cell, shown_size, shown_name, shown
 ghost use Rattle.ft_store.specs.Calls.{IsStoreIfOpen, IsPlainFault, Keeps};
 
 use crate::fault::StoreFault;
+use crate::stream::{Gathered, gather};
 use ft_values::{CellRow, SizeRow, Value};
 use sqlite::types::ValueRef;
 use sqlite::{Alter, Connection, Row, params};
@@ -65,15 +67,50 @@ fn cell_row(row: &Row) -> Result<CellRow, StoreFault>
     })
 }
 
-fn cell_rows(alloc: Global, rows: &[Row]) -> Result<Vec<CellRow>, StoreFault>
-    ensures found { IfOk result (λ xs. (tab : _) → map (shown_cell tab) xs.items ≡ map (found_cell tab) rows.now) }
-    ensures fault { IfErr result IsPlainFault }
-{
-    let mut found = Vec::new(alloc);
-    for row in rows {
-        found.push(cell_row(row)?)?;
+/// Cells, as their rows come.
+#[derive(Drop)]
+struct CellsOf {
+    cells: Vec<CellRow>,
+}
+
+impl Gathered for CellsOf {
+    ghost use Rattle.std.specs.Prelude.{◌≡◌, ℤ, map, IsTrue};
+    ghost use Rattle.ft_store.specs.Found.{found_cell};
+    ghost use Rattle.ft_store.specs.Shown.{shown_cell};
+
+    ghost is_made_of = { λ made whole rows.
+        IsTrue whole × ((tab : ℤ) → map (shown_cell tab) made.cells.items ≡ map (found_cell tab) rows) };
+
+    fn add(&mut self, whole: bool, row: &Row) -> Result<bool, StoreFault> {
+        self.cells.push(cell_row(row)?)?;
+        Ok(whole)
     }
-    Ok(found)
+}
+
+/// The cells that a query gives, in the order of its rows.
+fn select_cells<S: Alter>(
+    conn: &mut Connection<S>,
+    alloc: Global,
+    sql: &str,
+    params: &[ValueRef<'_>],
+) -> Result<Vec<CellRow>, StoreFault>
+    requires plain { HasCleanDisk (state S.Store conn.old) → IsTrue (state S.Store conn.old).is_open
+        → IsPlain (understood (state S.Store conn.old).now.schema sql.now) }
+    requires settled { (state S.Store conn.old).in_transaction ≡ false }
+    ensures found { HasCleanDisk (state S.Store conn.new) → IfOk result (λ cells. (rows : List order.Row)
+        × Shown sql.now (bound params.now) (state S.Store conn.old) (state S.Store conn.new) rows
+        × ((tab : ℤ) → map (shown_cell tab) cells.items ≡ map (found_cell tab) rows)) }
+    ensures kept { HasCleanDisk (state S.Store conn.new) → Keeps (state S.Store conn.old) (state S.Store conn.new) }
+    ensures live { HasCleanDisk (state S.Store conn.new) → OnOk result (IsTrue (state S.Store conn.new).is_open) }
+    ensures fault { IfErr result IsPlainFault }
+    ensures mode { (state S.Store conn.new).in_transaction ≡ false }
+    ensures survives { Survives (state S.Store conn.old) (state S.Store conn.new) (λ _. IsTrue (state S.Store conn.old).is_open → ⊥) }
+{
+    let mut found = CellsOf {
+        cells: Vec::new(alloc),
+    };
+    gather(conn, sql, params, &mut found)?;
+    Ok(found.cells)
 }
 
 /// The size of a cell, of its row.
@@ -261,12 +298,12 @@ pub(crate) fn cells<S: Alter>(
     ensures mode { (state S.Store conn.new).in_transaction ≡ false }
     ensures survives { Survives (state S.Store conn.old) (state S.Store conn.new) (λ _. IsTrue (state S.Store conn.old).is_open → ⊥) }
 {
-    let rows = select(
+    select_cells(
         conn,
+        alloc,
         "SELECT docid, col, num, txt FROM cell WHERE tab = ?1 ORDER BY tab, docid, col",
         params![tab],
-    )?;
-    cell_rows(alloc, rows.as_slice())
+    )
 }
 
 /// The cells of a document.
@@ -285,12 +322,12 @@ pub(crate) fn document<S: Alter>(
     ensures mode { (state S.Store conn.new).in_transaction ≡ false }
     ensures survives { Survives (state S.Store conn.old) (state S.Store conn.new) (λ _. IsTrue (state S.Store conn.old).is_open → ⊥) }
 {
-    let rows = select(
+    select_cells(
         conn,
+        alloc,
         "SELECT docid, col, num, txt FROM cell WHERE tab = ?1 AND docid = ?2 ORDER BY tab, docid, col",
         params![tab, docid],
-    )?;
-    cell_rows(alloc, rows.as_slice())
+    )
 }
 
 /// The docid of the first row, where there is one.

@@ -1,36 +1,32 @@
-use Rattle.std.proofs.Common.{map, sym, ap, subst, ◌∙◌, arith, to_z-of_z, ◌≡◌, rules}
+use Rattle.std.proofs.Common.{◌≡◌, map, sym, subst, arith, to_z-of_z}
 use Rattle.std.specs.Ordering.{int_eq}
 use Rattle.sqlite.specs.Given.{IsPlain}
 use Rattle.sqlite.specs.Listing.{understood}
 use Rattle.sqlite.specs.Held.{state}
 use Rattle.std.proofs.lemmas.Result.{IfOk-weaker}
-use Rattle.ft_store.specs.Found.{found_places}
 use Rattle.ft_store.specs.Shown.{shown_entry, entries_of, AreWhole, SomeDamaged}
 use Rattle.ft_store.proofs.Texts.{lists_text}
 use Rattle.ft_store.proofs.TextLemmas.{lists_plain}
 use Rattle.ft_store.proofs.AnswerLemmas.{lists_stored_shown, placed}
 use Rattle.ft_store.proofs.lists.entries.Goals as goal
 
-pub select-requires-clause-plain : goal.select-requires-clause-plain
-select-requires-clause-plain g c clean is_open = subst (λ s. IsPlain (understood s lists_text)) (sym (c.requires.store clean is_open).schema) lists_plain
+pub select_entries-requires-clause-plain : goal.select_entries-requires-clause-plain
+select_entries-requires-clause-plain g c clean is_open = subst (λ s. IsPlain (understood s lists_text)) (sym (c.requires.store clean is_open).schema) lists_plain
 
 pub returns-clause-rows : goal.returns-clause-rows
 returns-clause-rows g c clean =
     let old = state g.S.Store c.args.conn.now in
-    let new = state g.S.Store c.select.new.conn in
-    let stored = lists_stored_shown c.args.tab old new c.in_ok-rows.rows.items (c.requires.store (omega (arith, c.select.ensures.survives.clean))) (simp (to_z-of_z, c.ranges.tab) at (rw c.params-to_sql.ensures at (c.in_ok-rows.ensures.shown clean))) in
-    let all = ap (map (found_places c.args.tab)) c.as_slice.ensures.value ∙ placed old.now.trees c.args.tab (λ k. int_eq c.args.tab k.0) c.in_ok-rows.rows.items stored in
-    IfOk-weaker c.entry_rows.result _ _ (λ found h. (subst (λ l. map shown_entry found.items ≡ entries_of l) all (h c.args.tab).0, subst AreWhole all (h c.args.tab).1)) c.entry_rows.ensures.found
+    let new = state g.S.Store c.select_entries.new.conn in
+    let store = c.requires.store (omega (arith, c.select_entries.ensures.survives.clean)) in
+    IfOk-weaker c.select_entries.result _ _
+    (λ found h. let all = placed old.now.trees c.args.tab (λ k. int_eq c.args.tab k.0) h.0 (lists_stored_shown c.args.tab old new h.0 store (simp (to_z-of_z, c.ranges.tab) at (rw c.params-to_sql.ensures at h.1))) in (subst (λ l. map shown_entry found.items ≡ entries_of l) all (h.2 c.args.tab).0, subst AreWhole all (h.2 c.args.tab).1))
+    (c.select_entries.ensures.found clean)
 
 pub returns-clause-damaged : goal.returns-clause-damaged
-returns-clause-damaged g c clean = λ is.
+returns-clause-damaged g c clean is =
     let old = state g.S.Store c.args.conn.now in
-    let new = state g.S.Store c.select.new.conn in
-    let stored = lists_stored_shown c.args.tab old new c.in_ok-rows.rows.items (c.requires.store (omega (arith, c.select.ensures.survives.clean))) (simp (to_z-of_z, c.ranges.tab) at (rw c.params-to_sql.ensures at (c.in_ok-rows.ensures.shown clean))) in
-    subst SomeDamaged (ap (map (found_places c.args.tab)) c.as_slice.ensures.value ∙ placed old.now.trees c.args.tab (λ k. int_eq c.args.tab k.0) c.in_ok-rows.rows.items stored) (c.entry_rows.ensures.damaged is c.args.tab)
-
-pub returns-in_err-rows-clause-damaged : goal.returns-in_err-rows-clause-damaged
-returns-in_err-rows-clause-damaged g c = λ clean is. absurd (c.in_err-rows.ensures.whole (search rules))
-
-pub returns-in_err-rows-clause-stays : goal.returns-in_err-rows-clause-stays
-returns-in_err-rows-clause-stays g c = λ clean is. absurd (c.in_err-rows.ensures.whole (search rules))
+    let new = state g.S.Store c.select_entries.new.conn in
+    let store = c.requires.store (omega (arith, c.select_entries.ensures.survives.clean)) in
+    let h = c.select_entries.ensures.damaged clean is in
+    let all = placed old.now.trees c.args.tab (λ k. int_eq c.args.tab k.0) h.0 (lists_stored_shown c.args.tab old new h.0 store (simp (to_z-of_z, c.ranges.tab) at (rw c.params-to_sql.ensures at h.1))) in
+    subst SomeDamaged all (h.2 c.args.tab)

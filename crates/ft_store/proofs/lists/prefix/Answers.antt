@@ -27,11 +27,7 @@ pub after_last-requires : goal.after_last-requires
 after_last-requires g c = below_255 c.as_bytes.result.now c.as_bytes.ensures.utf8
 
 pub returns-clause-rows : goal.returns-clause-rows
-returns-clause-rows g c clean =
-    let all = ap (map (found_places c.args.tab)) c.as_slice-2.ensures.value ∙ rw c.as_bytes-2.ensures.value at (simp (to_z-of_z, c.ranges.tab) at (c.in_ok-rows.ensures.rows clean)) in
-    IfOk-weaker c.entry_rows.result _ _ (λ found h. (subst (λ l. map shown_entry found.items ≡ entries_of l) all (h c.args.tab).0, subst AreWhole all (h c.args.tab).1)) c.entry_rows.ensures.found
+returns-clause-rows g c clean = rw c.as_bytes-2.ensures.value at (simp (to_z-of_z, c.ranges.tab) at (c.range.ensures.rows clean))
 
 pub returns-clause-damaged : goal.returns-clause-damaged
-returns-clause-damaged g c clean is =
-    let all = ap (map (found_places c.args.tab)) c.as_slice-2.ensures.value ∙ rw c.as_bytes-2.ensures.value at (simp (to_z-of_z, c.ranges.tab) at (c.in_ok-rows.ensures.rows clean)) in
-    subst SomeDamaged all (c.entry_rows.ensures.damaged is c.args.tab)
+returns-clause-damaged g c clean is = rw c.as_bytes-2.ensures.value at (simp (to_z-of_z, c.ranges.tab) at (c.range.ensures.damaged clean is))

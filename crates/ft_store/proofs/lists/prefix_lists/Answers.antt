@@ -28,11 +28,7 @@ pub after_last-requires : goal.after_last-requires
 after_last-requires g c = below_255 c.as_bytes.result.now c.as_bytes.ensures.utf8
 
 pub returns-clause-rows : goal.returns-clause-rows
-returns-clause-rows g c clean =
-    let all = ap (map found_spots) c.as_slice-2.ensures.value ∙ rw c.as_bytes-2.ensures.value at (simp (to_z-of_z, c.ranges.tab) at (c.in_ok-rows.ensures.rows clean)) in
-    IfOk-weaker c.list_rows.result _ _ (λ found h. (h.0 ∙ all, bare_whole _ (subst AreWhole all h.1))) c.list_rows.ensures.found
+returns-clause-rows g c clean = rw c.as_bytes-2.ensures.value at (simp (to_z-of_z, c.ranges.tab) at (c.bare_range.ensures.rows clean))
 
 pub returns-clause-damaged : goal.returns-clause-damaged
-returns-clause-damaged g c clean is = λ whole.
-    let all = ap (map found_spots) c.as_slice-2.ensures.value ∙ rw c.as_bytes-2.ensures.value at (simp (to_z-of_z, c.ranges.tab) at (c.in_ok-rows.ensures.rows clean)) in
-    c.list_rows.ensures.damaged is (subst AreWhole (sym all) (whole_bare _ whole))
+returns-clause-damaged g c clean is = rw c.as_bytes-2.ensures.value at (simp (to_z-of_z, c.ranges.tab) at (c.bare_range.ensures.damaged clean is))

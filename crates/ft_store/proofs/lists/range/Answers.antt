@@ -1,4 +1,4 @@
-use Rattle.std.proofs.Common.{sym, subst, arith, to_z-of_z, ◌&&◌}
+use Rattle.std.proofs.Common.{◌≡◌, ◌&&◌, map, sym, subst, arith, to_z-of_z}
 use Rattle.std.specs.Prelude.{nat_eq}
 use Rattle.std.specs.List.{starts_with}
 use Rattle.std.specs.Ordering.{int_eq}
@@ -6,19 +6,29 @@ use Rattle.sqlite.specs.Given.{IsPlain}
 use Rattle.sqlite.specs.Listing.{understood}
 use Rattle.sqlite.specs.Held.{state}
 use Rattle.std.proofs.lemmas.Result.{IfOk-weaker}
+use Rattle.ft_store.specs.Shown.{shown_entry, entries_of, AreWhole, SomeDamaged}
 use Rattle.ft_store.proofs.Texts.{prefix_text}
 use Rattle.ft_store.proofs.TextLemmas.{prefix_plain}
 use Rattle.ft_store.proofs.AnswerLemmas.{prefix_stored_shown, placed}
 use Rattle.ft_store.proofs.lists.range.Goals as goal
 
-pub select-requires-clause-plain : goal.select-requires-clause-plain
-select-requires-clause-plain g c clean is_open = subst (λ s. IsPlain (understood s prefix_text)) (sym (c.requires.store clean is_open).schema) prefix_plain
+pub select_entries-requires-clause-plain : goal.select_entries-requires-clause-plain
+select_entries-requires-clause-plain g c clean is_open = subst (λ s. IsPlain (understood s prefix_text)) (sym (c.requires.store clean is_open).schema) prefix_plain
 
 pub returns-clause-rows : goal.returns-clause-rows
 returns-clause-rows g c clean =
     let old = state g.S.Store c.args.conn.now in
-    let new = state g.S.Store c.select.new.conn in
-    IfOk-weaker c.select.result _ _
-    (λ rows h. placed old.now.trees c.args.tab (λ k. int_eq c.args.tab k.0 && starts_with nat_eq k.1 c.args.from.now) rows.items
-    (prefix_stored_shown c.args.tab c.args.from.now c.args.end.now old new rows.items c.requires.some c.requires.past (c.requires.store (omega (arith, c.select.ensures.survives.clean))) (simp (to_z-of_z, c.ranges.tab) at (rw c.beside.ensures at h))))
-    (c.select.ensures.shown clean)
+    let new = state g.S.Store c.select_entries.new.conn in
+    let store = c.requires.store (omega (arith, c.select_entries.ensures.survives.clean)) in
+    IfOk-weaker c.select_entries.result _ _
+    (λ found h. let all = placed old.now.trees c.args.tab (λ k. int_eq c.args.tab k.0 && starts_with nat_eq k.1 c.args.from.now) h.0 (prefix_stored_shown c.args.tab c.args.from.now c.args.end.now old new h.0 c.requires.some c.requires.past store (simp (to_z-of_z, c.ranges.tab) at (rw c.beside.ensures at h.1))) in (subst (λ l. map shown_entry found.items ≡ entries_of l) all (h.2 c.args.tab).0, subst AreWhole all (h.2 c.args.tab).1))
+    (c.select_entries.ensures.found clean)
+
+pub returns-clause-damaged : goal.returns-clause-damaged
+returns-clause-damaged g c clean is =
+    let old = state g.S.Store c.args.conn.now in
+    let new = state g.S.Store c.select_entries.new.conn in
+    let store = c.requires.store (omega (arith, c.select_entries.ensures.survives.clean)) in
+    let h = c.select_entries.ensures.damaged clean is in
+    let all = placed old.now.trees c.args.tab (λ k. int_eq c.args.tab k.0 && starts_with nat_eq k.1 c.args.from.now) h.0 (prefix_stored_shown c.args.tab c.args.from.now c.args.end.now old new h.0 c.requires.some c.requires.past store (simp (to_z-of_z, c.ranges.tab) at (rw c.beside.ensures at h.1))) in
+    subst SomeDamaged all (h.2 c.args.tab)

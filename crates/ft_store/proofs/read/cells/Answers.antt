@@ -1,20 +1,21 @@
-use Rattle.std.proofs.Common.{map, sym, ap, subst, ◌∙◌, arith, to_z-of_z}
+use Rattle.std.proofs.Common.{sym, subst, ◌∙◌, arith, to_z-of_z}
 use Rattle.sqlite.specs.Given.{IsPlain}
 use Rattle.sqlite.specs.Listing.{understood}
 use Rattle.sqlite.specs.Held.{state}
 use Rattle.std.proofs.lemmas.Result.{IfOk-weaker}
-use Rattle.ft_store.specs.Found.{found_cell}
 use Rattle.ft_store.proofs.Texts.{cells_text}
 use Rattle.ft_store.proofs.TextLemmas.{cells_plain}
 use Rattle.ft_store.proofs.AnswerLemmas.{cells_shown}
 use Rattle.ft_store.proofs.read.cells.Goals as goal
 
-pub select-requires-clause-plain : goal.select-requires-clause-plain
-select-requires-clause-plain g c clean is_open = subst (λ s. IsPlain (understood s cells_text)) (sym (c.requires.store clean is_open).schema) cells_plain
+pub select_cells-requires-clause-plain : goal.select_cells-requires-clause-plain
+select_cells-requires-clause-plain g c clean is_open = subst (λ s. IsPlain (understood s cells_text)) (sym (c.requires.store clean is_open).schema) cells_plain
 
 pub returns-clause-rows : goal.returns-clause-rows
 returns-clause-rows g c clean =
     let old = state g.S.Store c.args.conn.now in
-    let new = state g.S.Store c.select.new.conn in
-    let all = cells_shown c.args.tab old new c.in_ok-rows.rows.items (c.requires.store (omega (arith, c.select.ensures.survives.clean))) (simp (to_z-of_z, c.ranges.tab) at (rw c.params-to_sql.ensures at (c.in_ok-rows.ensures.shown clean))) in
-    IfOk-weaker c.cell_rows.result _ _ (λ found h. h c.args.tab ∙ ap (map (found_cell c.args.tab)) c.as_slice.ensures.value ∙ all) c.cell_rows.ensures.found
+    let new = state g.S.Store c.select_cells.new.conn in
+    let store = c.requires.store (omega (arith, c.select_cells.ensures.survives.clean)) in
+    IfOk-weaker c.select_cells.result _ _
+    (λ found h. h.2 c.args.tab ∙ cells_shown c.args.tab old new h.0 store (simp (to_z-of_z, c.ranges.tab) at (rw c.params-to_sql.ensures at h.1)))
+    (c.select_cells.ensures.found clean)

@@ -1,0 +1,58 @@
+//! The rows of a query, gathered as they come.
+ghost use Rattle.std.specs.Prelude.{◌≡◌, ◌++◌, ◌∷◌, [], List, Bool, true, false, Err, IsTrue, IfOk, IfErr, OnOk};
+ghost use Rattle.sqlite.specs.State.{HasCleanDisk, Survives, Shown};
+ghost use Rattle.sqlite.specs.Given.{IsPlain};
+ghost use Rattle.sqlite.specs.Listing.{understood};
+ghost use Rattle.sqlite.specs.Order as order;
+ghost use Rattle.sqlite.specs.Values.{bound};
+ghost use Rattle.sqlite.specs.Held.{state};
+ghost use Rattle.ft_store.specs.Calls.{IsPlainFault, Keeps};
+
+use crate::fault::StoreFault;
+use sqlite::types::ValueRef;
+use sqlite::{Alter, Connection, Row};
+
+/// What is made of rows, one after the other.
+pub(crate) trait Gathered: Sized {
+    /// It is made of these rows, which are all whole, or it is known that one of them isn't.
+    ghost is_made_of: { Self → Bool → List order.Row → Type 0 };
+
+    /// Adds what a row gives, where those before it are whole, and says whether all still are.
+    fn add(&mut self, whole: bool, row: &Row) -> Result<bool, StoreFault>
+        ensures added { IfOk result (λ still. (rows : List order.Row) → is_made_of self.old whole rows
+            → is_made_of self.new still (rows ++ row.now ∷ [])) }
+        ensures fault { IfErr result IsPlainFault };
+}
+
+/// Gathers the rows that a query gives, and says whether all are whole. It changes nothing.
+pub(crate) fn gather<S: Alter, G: Gathered>(
+    conn: &mut Connection<S>,
+    sql: &str,
+    params: &[ValueRef<'_>],
+    into: &mut G,
+) -> Result<bool, StoreFault>
+    requires plain { HasCleanDisk (state S.Store conn.old) → IsTrue (state S.Store conn.old).is_open
+        → IsPlain (understood (state S.Store conn.old).now.schema sql.now) }
+    requires settled { (state S.Store conn.old).in_transaction ≡ false }
+    requires none { G.Gathered.is_made_of into.old true [] }
+    ensures made { HasCleanDisk (state S.Store conn.new) → IfOk result (λ whole. (rows : List order.Row)
+        × Shown sql.now (bound params.now) (state S.Store conn.old) (state S.Store conn.new) rows × G.Gathered.is_made_of into.new whole rows) }
+    ensures kept { HasCleanDisk (state S.Store conn.new) → Keeps (state S.Store conn.old) (state S.Store conn.new) }
+    ensures live { HasCleanDisk (state S.Store conn.new) → OnOk result (IsTrue (state S.Store conn.new).is_open) }
+    ensures mode { (state S.Store conn.new).in_transaction ≡ false }
+    ensures whole { ¬ (result ≡ Err StoreFault.Damaged) }
+    ensures fault { IfErr result IsPlainFault }
+    ensures survives { Survives (state S.Store conn.old) (state S.Store conn.new) (λ _. IsTrue (state S.Store conn.old).is_open → ⊥) }
+{
+    let _schema = conn.schema();
+    let _settled = conn.is_autocommit();
+    let mut rows = conn.query(sql, params)?;
+    let mut whole = true;
+    'rows: for _ in 0..usize::MAX {
+        match rows.next()? {
+            Some(row) => whole = into.add(whole, row)?,
+            None => return Ok(whole),
+        }
+    }
+    Err(StoreFault::Refused)
+}
