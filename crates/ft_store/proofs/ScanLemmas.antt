@@ -24,7 +24,7 @@ use Rattle.ft_store.specs.declared.same.Layout.{Layout}
 use Rattle.ft_store.specs.declared.same.Layout.TheVariants.{Older, Present}
 use Rattle.ft_store.specs.Tables.{store_schema}
 use Rattle.ft_store.specs.Older.{schema_of, tables_of}
-use Rattle.ft_store.specs.Scan.{Scans, tree_at}
+use Rattle.ft_store.specs.Scan.{Scans, tree_at, AreUpTo}
 use Rattle.ft_store.specs.Calls.{HasOwnRowids, AreNumbered}
 use Rattle.ft_store.proofs.TextLemmas.{query_by, rising, no_limit}
 use Rattle.ft_store.proofs.SelectLemmas.{arranged}
@@ -134,11 +134,6 @@ own_again xs ys same own =
     let m = moves (map rowid ys) (map rowid xs) (IsPermutation-sym _ _ same) in
     (up_back rowid (λ a b. a ≢ b) xs (m.differ (up_to rowid (λ a b. a ≢ b) ys own.0)), all_back rowid (λ v. IsTrue (is_int v)) xs (m.ints (all_to rowid (λ v. IsTrue (is_int v)) ys own.1)))
 
--- all numbers so far are at most the last one
-abbrev pub AreUpTo : Option ℤ → List Row → Type 0
-AreUpTo None rows = rows ≡ []
-AreUpTo (Some m) rows = AllByRecursion (λ r. (n : ℤ) × (rowid r ≡ Int n) × (n ≤ℤ m)) rows
-
 differ_from : (m id : ℤ) (row : Row) → rowid row ≡ Int id → m <ℤ id → (rows : List Row) → AllByRecursion (λ r. (n : ℤ) × (rowid r ≡ Int n) × (n ≤ℤ m)) rows → AllByRecursion (λ r. DifferIn r row) rows
 differ_from m id row is less [] all = tt
 differ_from m id row is less (r ∷ rows) all =
@@ -155,18 +150,13 @@ raised m id less rows all = all_weaker (λ r. (n : ℤ) × (rowid r ≡ Int n) �
 itself_up_to : (id : ℤ) → id ≤ℤ id
 itself_up_to id = omega (arith, ints)
 
-joined_on : (last : Option ℤ) (id : ℤ) (row : Row) (rows : List Row) → rowid row ≡ Int id → IfSome last (λ before. before <ℤ id) → AreUpTo last rows → IsAscending DifferIn rows
+pub joined_on : (last : Option ℤ) (id : ℤ) (row : Row) (rows : List Row) → rowid row ≡ Int id → IfSome last (λ before. before <ℤ id) → AreUpTo last rows → IsAscending DifferIn rows
     → AreUpTo (Some id) (rows ++ row ∷ []) × IsAscending DifferIn (rows ++ row ∷ [])
 joined_on None id row rows is less none up = subst (λ l. AreUpTo (Some id) (l ++ row ∷ []) × IsAscending DifferIn (l ++ row ∷ [])) (sym none) (((id, is, itself_up_to id), tt), (tt, tt))
 joined_on (Some m) id row rows is less all up = (
   all-append (λ r. (n : ℤ) × (rowid r ≡ Int n) × (n ≤ℤ id)) rows (row ∷ []) (raised m id less rows all) ((id, is, itself_up_to id), tt),
   ascending-end DifferIn rows row up (differ_from m id row is less rows all),
 )
-
-pub rises_on : (last : Option ℤ) (rows : List Row) (i : ℕ) (row : Row) (id : ℤ) → i < length rows → row ≡ get_or rows i row → rowid row ≡ Int id → IfSome last (λ before. before <ℤ id)
-    → AreUpTo last (take i rows) × IsAscending DifferIn (take i rows) → AreUpTo (Some id) (take (i + 1) rows) × IsAscending DifferIn (take (i + 1) rows)
-rises_on last rows i row id inside at is less so_far =
-    subst (λ l. AreUpTo (Some id) l × IsAscending DifferIn l) (ap (λ r. take i rows ++ r ∷ []) at ∙ sym (take_more rows i row inside)) (joined_on last id row (take i rows) is less so_far.0 so_far.1)
 
 pub all_rise : (last : Option ℤ) (rows : List Row) → AreUpTo last rows × IsAscending DifferIn rows → HasOwnRowids rows
 all_rise None rows h = subst HasOwnRowids (sym h.0) (tt, tt)

@@ -1,11 +1,14 @@
 -- Steps. What is seen of a database that has the tables of a store, before it is taken for one (own choice).
-use Rattle.std.specs.Prelude.{◌≡◌, ℕ, ◌-◌, ◌*◌, pos, negsuc, false, List, [], ◌∷◌, None}
+use Rattle.std.specs.Prelude.{◌≡◌, ◌≢◌, ℕ, ℤ, ◌-◌, ◌*◌, ◌≤ℤ◌, pos, negsuc, false, List, [], ◌∷◌, Option, None, Some}
+use Rattle.std.specs.List.{AllByRecursion}
 use Rattle.sqlite.specs.declared.types.Value.TheVariants.{Int}
 use Rattle.sqlite.specs.Command.TheVariants.{Select}
 use Rattle.sqlite.specs.Query.{Query, inner, end}
 use Rattle.sqlite.specs.Term.{lit, col}
 use Rattle.sqlite.specs.Collation.TheVariants.{Binary}
 use Rattle.sqlite_value.specs.Keys.{ascending}
+use Rattle.sqlite.specs.Order.{Row}
+use Rattle.sqlite_trees.specs.Tree.{IsAscending, rowid}
 use Rattle.sqlite.specs.Listing.{understood, reads_listing}
 use Rattle.sqlite.specs.Given.{IsPlain}
 use Rattle.sqlite.specs.Schema.{Schema}
@@ -35,3 +38,12 @@ pub record Scans (schema : Schema) (text : List ℕ) (tree : ℕ) : Type 0 where
 -- the tree of each of the eight tables, in the order of the schema
 abbrev pub tree_at : ℕ → ℕ
 tree_at at = 2 * at - 1
+
+-- all numbers so far are at most the last one
+abbrev pub AreUpTo : Option ℤ → List Row → Type 0
+AreUpTo None rows = rows ≡ []
+AreUpTo (Some m) rows = AllByRecursion (λ r. (n : ℤ) × (rowid r ≡ Int n) × (n ≤ℤ m)) rows
+
+-- and no two are the same
+abbrev pub RiseTo : Option ℤ → List Row → Type 0
+RiseTo last rows = AreUpTo last rows × IsAscending (λ a b. rowid a ≢ rowid b) rows

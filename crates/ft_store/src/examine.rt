@@ -13,6 +13,7 @@ ghost use Rattle.ft_store.specs.Calls.{HasOwnRowids, AreNumbered, IsPlainFault, 
 use crate::fault::StoreFault;
 use crate::read::select;
 use crate::same::Layout;
+use crate::stream::{Gathered, gather};
 use sqlite::{Alter, Connection, Row};
 
 /// How many tables a store has.
@@ -52,20 +53,24 @@ fn follows(last: Option<i64>, id: i64) -> bool
     }
 }
 
-/// Whether the numbers in the first column rise.
-fn rises(rows: &[Row]) -> Result<bool, StoreFault>
-    ensures own { IfOk result (λ b. IsTrue b → HasOwnRowids rows.now) }
-    ensures fault { IfErr result IsPlainFault }
-{
-    let mut last: Option<i64> = None;
-    for row in rows {
+/// The numbers in the first column, as their rows come: whole as long as they rise.
+#[derive(Drop)]
+struct Rising {
+    last: Option<i64>,
+}
+
+impl Gathered for Rising {
+    ghost use Rattle.std.specs.Prelude.{IsTrue};
+    ghost use Rattle.ft_store.specs.Scan.{RiseTo};
+
+    ghost is_made_of = { λ made whole rows. IsTrue whole → RiseTo made.last rows };
+
+    fn add(&mut self, whole: bool, row: &Row) -> Result<bool, StoreFault> {
         let id: i64 = row.get(0)?;
-        if !follows(last, id) {
-            return Ok(false);
-        }
-        last = Some(id);
+        let rises = follows(self.last, id);
+        self.last = Some(id);
+        Ok(whole && rises)
     }
-    Ok(true)
 }
 
 /// Whether no two rows of a table have one rowid.
@@ -84,8 +89,8 @@ fn is_numbered<S: Alter>(
     ensures mode { (state S.Store conn.new).in_transaction ≡ false }
     ensures survives { Survives (state S.Store conn.old) (state S.Store conn.new) (λ _. IsTrue (state S.Store conn.old).is_open → ⊥) }
 {
-    let rows = select(conn, rowids_query(at), &[])?;
-    rises(rows.as_slice())
+    let mut numbers = Rising { last: None };
+    gather(conn, rowids_query(at), &[], &mut numbers)
 }
 
 /// The version, where `meta` has one row.

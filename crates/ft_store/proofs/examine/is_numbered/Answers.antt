@@ -5,18 +5,18 @@ use Rattle.sqlite.specs.Listing.{understood}
 use Rattle.sqlite.specs.Held.{state}
 use Rattle.ft_store.specs.Scan.{tree_at}
 use Rattle.ft_store.specs.Older.{schema_of}
-use Rattle.ft_store.specs.Calls.{HasOwnRowids}
 use Rattle.ft_store.proofs.CallLemmas.{shown_open}
-use Rattle.ft_store.proofs.ScanLemmas.{scanned}
+use Rattle.ft_store.proofs.ScanLemmas.{scanned, all_rise}
 use Rattle.ft_store.proofs.examine.is_numbered.Goals as goal
 
-pub select-requires-clause-plain : goal.select-requires-clause-plain
-select-requires-clause-plain g c clean is_open = subst (λ s. IsPlain (understood s c.rowids_query.result.now)) (sym (c.requires.schema clean is_open)) (c.rowids_query.ensures c.args.layout c.requires.within).plain
+pub gather-requires-clause-plain : goal.gather-requires-clause-plain
+gather-requires-clause-plain g c clean is_open = subst (λ s. IsPlain (understood s c.rowids_query.result.now)) (sym (c.requires.schema clean is_open)) (c.rowids_query.ensures c.args.layout c.requires.within).plain
 
 pub returns-clause-own : goal.returns-clause-own
 returns-clause-own g c clean =
     let old = state g.S.Store c.args.conn.now in
-    let new = state g.S.Store c.select.new.conn in
-    let shown = c.in_ok-rows.ensures.shown clean in
-    let schema = c.requires.schema (omega (arith, c.select.ensures.survives.clean)) (shown_open _ _ old new _ shown) in
-    IfOk-weaker c.rises.result _ _ (λ b own holds. scanned (schema_of c.args.layout) c.rowids_query.result.now (tree_at c.args.at) (c.rowids_query.ensures c.args.layout c.requires.within) old new schema c.in_ok-rows.rows.items shown (subst HasOwnRowids c.as_slice.ensures.value (own holds))) c.rises.ensures.own
+    let new = state g.S.Store c.gather.new.conn in
+    IfOk-weaker c.gather.result _ _
+    (λ b h rise. let schema = c.requires.schema (omega (arith, c.gather.ensures.survives.clean)) (shown_open _ _ old new _ h.1) in
+      scanned (schema_of c.args.layout) c.rowids_query.result.now (tree_at c.args.at) (c.rowids_query.ensures c.args.layout c.requires.within) old new schema h.0 h.1 (all_rise c.gather.new.into.last h.0 (h.2 rise)))
+    (c.gather.ensures.made clean)
