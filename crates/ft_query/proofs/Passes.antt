@@ -1,6 +1,6 @@
 -- How many places the passes keep.
 use Rattle.std.proofs.Common.{◌≡◌, ℕ, ◌+◌, ◌*◌, ◌<◌, ◌≤◌, Bool, true, false, cond, List, [], ◌∷◌, ◌++◌, length, get_or, map, take, drop, reverse, zero, suc, add-zero, refl, ap, sym, ◌∙◌, arith}
-use Rattle.std.specs.Prelude.{filter}
+use Rattle.std.specs.Prelude.{filter, None}
 use Rattle.std.specs.Ordering.{match_ordering}
 use Rattle.std.specs.declared.cmp.Ordering.{Ordering}
 use Rattle.std.specs.declared.cmp.Ordering.TheVariants.{Less, Equal, Greater}
@@ -12,7 +12,7 @@ use Rattle.ft_query.specs.declared.query.Link.{Link}
 use Rattle.ft_query.specs.declared.query.Phrase.{Phrase}
 use Rattle.ft_query.specs.declared.walk.Offset.{Offset}
 use Rattle.ft_query.specs.Trees.{PlainPhrase, PlainLink, plain_term, plain_phrase, plain_link, chain}
-use Rattle.ft_query.specs.Visit.{place_order, seek, among, skip_behind, begin_near, near_those, followed, head_of, linked, link_marks, marks_from, marks_of, numbered, offset_at, plain_starts, total, plain_lists, linked_cost, link_cost, visit_cost}
+use Rattle.ft_query.specs.Visit.{place_order, seek, among, skip_behind, begin_near, near_those, may_begin, followed, head_of, linked, link_marks, marks_from, marks_of, numbered, offset_at, plain_starts, total, plain_lists, linked_cost, link_cost, visit_cost}
 use Rattle.ft_query.specs.declared.walk.places.Starts.{Starts}
 
 -- what is left of a list, with the one that was found
@@ -62,6 +62,11 @@ near_short most k near m (b ∷ bs) =
 pub filter_short : (p : Place → Bool) (xs : List Place) → length (filter p xs) ≤ length xs
 filter_short p [] = omega arith
 filter_short p (x ∷ xs) = kept_le (p x) x (filter p xs) (length xs) (filter_short p xs)
+
+-- without a filter a phrase whose first term may stand anywhere may begin at each place
+pub all_may_begin : (xs : List Place) → filter (may_begin None false) xs ≡ xs
+all_may_begin [] = refl
+all_may_begin (x ∷ xs) = ap (λ ys. x ∷ ys) (all_may_begin xs)
 
 -- ---- the lists of a phrase's terms, one after the other
 

@@ -1,5 +1,5 @@
 // Places of tokens in one document, whose positions are seen here alone: each look at one is a step.
-ghost use Rattle.std.specs.Prelude.{◌≡◌, ◌≤◌, ◌+◌, ◌-◌, ◌^◌, ◌∷◌, ◌++◌, [], List, min, IfNone, IfSome, OnOk};
+ghost use Rattle.std.specs.Prelude.{◌≡◌, ◌≤◌, ◌+◌, ◌-◌, ◌^◌, ◌∷◌, ◌++◌, [], List, length, min, IfNone, IfSome, IfOk, OnOk};
 ghost use Rattle.ft_query.specs.Documents.{is_filled};
 ghost use Rattle.ft_query.specs.Occurs.{are_near};
 ghost use Rattle.ft_query.specs.Visit.{place_order, is_behind, may_begin, offset_at};
@@ -33,6 +33,13 @@ impl<'a> Places<'a> {
         ensures { result.places.now ≡ places.entry.now }
     {
         Places { places }
+    }
+
+    /// There are some.
+    pub(crate) fn are_filled(self) -> bool
+        ensures { result ≡ is_filled self.entry.places.now }
+    {
+        !self.places.is_empty()
     }
 
     /// The first one, and those behind it.
@@ -147,6 +154,31 @@ impl Starts {
         Starts {
             places: Vec::new(alloc),
         }
+    }
+
+    /// No occurrences, with room for as many as there are places here.
+    pub(crate) fn with_room(alloc: Global, most: Places<'_>) -> Result<Starts, AllocError>
+        ensures { IfOk result (λ s. s.places.items ≡ []) }
+    {
+        let places = Vec::with_capacity(alloc, most.places.len())?;
+        Ok(Starts { places })
+    }
+
+    /// An occurrence at each of these places, all of which are looked at.
+    pub(crate) fn at_all(
+        alloc: Global,
+        places: Places<'_>,
+        steps: &mut Steps,
+    ) -> Result<Starts, AllocError>
+        ensures starts { IfOk result (λ s. s.places.items ≡ places.entry.places.now) }
+        ensures step { steps.new.taken
+            ≡ min (steps.old.taken + length places.entry.places.now) (2 ^ 64 - 1) }
+        ensures at_least { steps.old.taken ≤ steps.new.taken }
+        ensures at_most { steps.new.taken ≤ steps.old.taken + length places.entry.places.now }
+    {
+        steps.take_all(places.places.len());
+        let places = places.places.to_vec(alloc)?;
+        Ok(Starts { places })
     }
 
     /// There are some.

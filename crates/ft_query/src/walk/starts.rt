@@ -87,7 +87,8 @@ fn begin_near(
 }
 
 impl Starts {
-    /// The places of a phrase's first term where the phrase may begin.
+    #[tactic(auto, using(crate::proofs::Passes::all_may_begin))]
+    /// The places of a phrase's first term where the phrase may begin: without a filter and `^` each of them.
     pub(crate) fn begin(
         alloc: Global,
         places: Places<'_>,
@@ -99,7 +100,10 @@ impl Starts {
         ensures at_least { steps.old.taken ≤ steps.new.taken }
         ensures at_most { steps.new.taken ≤ steps.old.taken + length places.entry.places.now }
     {
-        let mut kept = Starts::none(alloc);
+        if only.is_none() && !first {
+            return Starts::at_all(alloc, places, steps);
+        }
+        let mut kept = Starts::with_room(alloc, places)?;
         let mut left = places;
         while let Some((spot, behind)) = left.split_first() {
             if spot.may_begin(only, first, steps) {
@@ -123,7 +127,7 @@ impl Starts {
         ensures at_most { steps.new.taken
             ≤ steps.old.taken + length self.now.places.items + length places.entry.places.now }
     {
-        let mut kept = Starts::none(alloc);
+        let mut kept = Starts::with_room(alloc, self.all())?;
         let mut starts = self.all();
         let mut left = places;
         while let Some((start, more)) = starts.split_first() {
@@ -151,7 +155,7 @@ impl Starts {
         ensures at_least { steps.old.taken ≤ steps.new.taken }
         ensures at_most { steps.new.taken ≤ steps.old.taken + length self.now.places.items + 3 * length others.now.places.items }
     {
-        let mut kept = Starts::none(alloc);
+        let mut kept = Starts::with_room(alloc, others.all())?;
         let mut left = self.all();
         let mut others = others.all();
         while let Some((other, more)) = others.split_first() {

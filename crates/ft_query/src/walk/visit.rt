@@ -80,6 +80,30 @@ fn starts_of(
     follow(alloc, first, terms, lists, steps)
 }
 
+#[tactic(auto, using(crate::proofs::Passes::all_may_begin))]
+// Whether a phrase occurs. A single word does so where its list has a place, and no position is looked at, unless it has to stand in
+// one column or at the front.
+fn occurs(
+    alloc: Global,
+    phrase: &Phrase,
+    lists: &[Places<'_>],
+    steps: &mut Steps,
+) -> Result<bool, AllocError>
+    requires { length lists.now ≡ vec_len phrase.now.terms }
+    ensures occurs { IfOk result
+        (λ b. b ≡ is_filled (starts_of (plain_phrase phrase.now) (plain_lists lists.now))) }
+    ensures at_least { steps.old.taken ≤ steps.new.taken }
+    ensures at_most { steps.new.taken ≤ steps.old.taken + 2 * total (plain_lists lists.now) }
+{
+    if let ([term], [list]) = (phrase.terms.as_slice(), lists) {
+        if phrase.filter.is_none() && !term.first {
+            return Ok(list.are_filled());
+        }
+    }
+    let starts = starts_of(alloc, phrase, lists, steps)?;
+    Ok(starts.are_filled())
+}
+
 /// What is asked of a document that is accepted: its docid alone, or also its offsets.
 #[derive(Clone, Copy, Debug, PartialEq, Eq)]
 pub(crate) enum Wanted {
@@ -221,10 +245,10 @@ fn visit_phrase(
     ensures at_least { steps.old.taken ≤ steps.new.taken }
     ensures at_most { steps.new.taken + 1 ≤ steps.old.taken + visit_cost (phrase (plain_phrase words.now)) (plain_lists lists.now) }
 {
-    let starts = starts_of(found.alloc, words, lists, steps)?;
     match found.wanted {
-        Wanted::Docids => Ok(starts.are_filled()),
+        Wanted::Docids => occurs(found.alloc, words, lists, steps),
         Wanted::Offsets => {
+            let starts = starts_of(found.alloc, words, lists, steps)?;
             mark_phrase(found, &starts, lists, steps)?;
             Ok(starts.are_filled())
         }

@@ -37,4 +37,13 @@ impl Steps {
     {
         self.taken = self.taken.saturating_add(1);
     }
+
+    /// So many steps more.
+    pub(crate) fn take_all(&mut self, count: usize)
+        ensures taken { self.new.taken ≡ min (self.old.taken + count) (2 ^ 64 - 1) }
+        ensures at_least { self.old.taken ≤ self.new.taken }
+        ensures at_most { self.new.taken ≤ self.old.taken + count }
+    {
+        self.taken = self.taken.saturating_add(count as u64);
+    }
 }
