@@ -1,5 +1,5 @@
 -- Meaning. What a call does to a store.
-use Rattle.std.specs.Prelude.{◌≡◌, ◌≢◌, ◌⊎◌, pos, true, Result, List, [], ◌∷◌, map, IsTrue, OnOk}
+use Rattle.std.specs.Prelude.{◌≡◌, ◌≢◌, ◌⊎◌, pos, true, false, Result, List, [], ◌∷◌, map, IsTrue, OnOk}
 use Rattle.std.specs.List.{AllByRecursion}
 use Rattle.sqlite.specs.declared.error.Error.{Error}
 use Rattle.sqlite.specs.declared.error.Error.TheVariants.{SqliteFailure}
@@ -51,6 +51,13 @@ pub record Steps (old new : State) (value : StoreValue) : Type 0 where
 -- what is seen stays, as long as the connection is open
 abbrev pub Keeps : State → State → Type 0
 Keeps old new = IsTrue new.is_open → (new.now ≡ old.now) × (new.committed ≡ old.committed) × IsTrue old.is_open
+
+-- What a read leaves: nothing is changed and nothing is committed, and one that is answered leaves the connection open.
+pub record Reads {S X : Type 0} (g : Ghosts S) (old new : Held S) (result : Result X StoreFault) : Type 0 where
+  pub kept : HasCleanDisk (state g new) → Keeps (state g old) (state g new)
+  pub live : HasCleanDisk (state g new) → OnOk result (IsTrue (state g new).is_open)
+  pub mode : (state g new).in_transaction ≡ false
+  pub survives : Survives (state g old) (state g new) (λ _. IsTrue (state g old).is_open → ⊥)
 
 -- What one statement of a change does in a transaction: where the disk did what it was told and the call is Ok, the value is
 -- that of `f`.

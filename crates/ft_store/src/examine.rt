@@ -8,7 +8,7 @@ ghost use Rattle.ft_store.specs.declared.same.Layout.{Layout};
 ghost use Rattle.ft_store.specs.Scan.{Scans, tree_at};
 ghost use Rattle.ft_store.specs.Older.{schema_of, tables_of, version_of, IsStoreBy};
 ghost use Rattle.ft_store.specs.Adopted.{IsAdoptFault, IsOtherVersion, IsOfVersion};
-ghost use Rattle.ft_store.specs.Calls.{HasOwnRowids, AreNumbered, IsPlainFault, Keeps};
+ghost use Rattle.ft_store.specs.Calls.{HasOwnRowids, AreNumbered, IsPlainFault, Keeps, Reads};
 
 use crate::fault::StoreFault;
 use crate::read::select;
@@ -83,11 +83,8 @@ fn is_numbered<S: Alter>(
     requires schema { HasCleanDisk (state S.Store conn.old) → IsTrue (state S.Store conn.old).is_open → (state S.Store conn.old).now.schema ≡ schema_of layout }
     requires settled { (state S.Store conn.old).in_transaction ≡ false }
     ensures own { HasCleanDisk (state S.Store conn.new) → IfOk result (λ b. IsTrue b → HasOwnRowids ((state S.Store conn.old).now.trees (tree_at at))) }
-    ensures kept { HasCleanDisk (state S.Store conn.new) → Keeps (state S.Store conn.old) (state S.Store conn.new) }
-    ensures live { HasCleanDisk (state S.Store conn.new) → OnOk result (IsTrue (state S.Store conn.new).is_open) }
+    ensures read { Reads S.Store conn.old conn.new result }
     ensures fault { IfErr result IsPlainFault }
-    ensures mode { (state S.Store conn.new).in_transaction ≡ false }
-    ensures survives { Survives (state S.Store conn.old) (state S.Store conn.new) (λ _. IsTrue (state S.Store conn.old).is_open → ⊥) }
 {
     let mut numbers = Rising { last: None };
     gather(conn, rowids_query(at), &[], &mut numbers)
@@ -109,11 +106,8 @@ fn version<S: Alter>(conn: &mut Connection<S>, layout: Layout) -> Result<Option<
     requires schema { HasCleanDisk (state S.Store conn.old) → IsTrue (state S.Store conn.old).is_open → (state S.Store conn.old).now.schema ≡ schema_of layout }
     requires settled { (state S.Store conn.old).in_transaction ≡ false }
     ensures one { HasCleanDisk (state S.Store conn.new) → IfOk result (λ o. MatchOption o (length ((state S.Store conn.old).now.trees 0) ≢ 1) (λ n. map (λ r. column r 2) ((state S.Store conn.old).now.trees 0) ≡ Int n ∷ [])) }
-    ensures kept { HasCleanDisk (state S.Store conn.new) → Keeps (state S.Store conn.old) (state S.Store conn.new) }
-    ensures live { HasCleanDisk (state S.Store conn.new) → OnOk result (IsTrue (state S.Store conn.new).is_open) }
+    ensures read { Reads S.Store conn.old conn.new result }
     ensures fault { IfErr result IsPlainFault }
-    ensures mode { (state S.Store conn.new).in_transaction ≡ false }
-    ensures survives { Survives (state S.Store conn.old) (state S.Store conn.new) (λ _. IsTrue (state S.Store conn.old).is_open → ⊥) }
 {
     let rows = select(conn, "SELECT version FROM meta", &[])?;
     only_number(rows.as_slice())

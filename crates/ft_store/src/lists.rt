@@ -16,7 +16,7 @@ ghost use Rattle.ft_store.specs.Rows.{value_of};
 ghost use Rattle.ft_store.specs.Range.{after_last};
 ghost use Rattle.ft_store.specs.Found.{found_spots, found_places};
 ghost use Rattle.ft_store.specs.Shown.{shown_list, bare_list, shown_entry, entries_with, entries_of, lists_of_term, lists_of_prefix, spot_count, AreWhole, AreRead, SomeDamaged};
-ghost use Rattle.ft_store.specs.Calls.{IsStoreIfOpen, IsPlainFault, IsReadFault, Keeps};
+ghost use Rattle.ft_store.specs.Calls.{IsStoreIfOpen, IsPlainFault, IsReadFault, Keeps, Reads};
 
 use crate::fault::StoreFault;
 use crate::packed::unpack;
@@ -86,10 +86,7 @@ fn select_lists<S: Alter>(
     ensures damaged { HasCleanDisk (state S.Store conn.new) → result ≡ Err StoreFault.Damaged → (rows : List order.Row)
         × Shown sql.now (bound params.now) (state S.Store conn.old) (state S.Store conn.new) rows × SomeDamaged (map found_spots rows) }
     ensures fault { IfErr result IsReadFault }
-    ensures kept { HasCleanDisk (state S.Store conn.new) → Keeps (state S.Store conn.old) (state S.Store conn.new) }
-    ensures live { HasCleanDisk (state S.Store conn.new) → OnOk result (IsTrue (state S.Store conn.new).is_open) }
-    ensures mode { (state S.Store conn.new).in_transaction ≡ false }
-    ensures survives { Survives (state S.Store conn.old) (state S.Store conn.new) (λ _. IsTrue (state S.Store conn.old).is_open → ⊥) }
+    ensures read { Reads S.Store conn.old conn.new result }
 {
     let mut found = ListsOf {
         alloc,
@@ -182,11 +179,8 @@ fn select_entries<S: Alter>(
         × Shown sql.now (bound params.now) (state S.Store conn.old) (state S.Store conn.new) rows
         × ((tab : ℤ) → SomeDamaged (map (found_places tab) rows)) }
     ensures fault { IfErr result IsReadFault }
-    ensures kept { HasCleanDisk (state S.Store conn.new) → Keeps (state S.Store conn.old) (state S.Store conn.new) }
-    ensures live { HasCleanDisk (state S.Store conn.new) → OnOk result (IsTrue (state S.Store conn.new).is_open) }
+    ensures read { Reads S.Store conn.old conn.new result }
     ensures stays { HasCleanDisk (state S.Store conn.new) → result ≡ Err StoreFault.Damaged → IsTrue (state S.Store conn.new).is_open }
-    ensures mode { (state S.Store conn.new).in_transaction ≡ false }
-    ensures survives { Survives (state S.Store conn.old) (state S.Store conn.new) (λ _. IsTrue (state S.Store conn.old).is_open → ⊥) }
 {
     let mut found = EntriesOf {
         alloc,
@@ -226,10 +220,7 @@ pub(crate) fn term_lists<S: Alter>(
     ensures damaged { HasCleanDisk (state S.Store conn.new) → result ≡ Err StoreFault.Damaged
         → SomeDamaged (lists_of_term tab term.now (value_of (state S.Store conn.old).now.trees)) }
     ensures fault { IfErr result IsReadFault }
-    ensures kept { HasCleanDisk (state S.Store conn.new) → Keeps (state S.Store conn.old) (state S.Store conn.new) }
-    ensures live { HasCleanDisk (state S.Store conn.new) → OnOk result (IsTrue (state S.Store conn.new).is_open) }
-    ensures mode { (state S.Store conn.new).in_transaction ≡ false }
-    ensures survives { Survives (state S.Store conn.old) (state S.Store conn.new) (λ _. IsTrue (state S.Store conn.old).is_open → ⊥) }
+    ensures read { Reads S.Store conn.old conn.new result }
 {
     select_lists(
         conn,
@@ -251,10 +242,7 @@ pub(crate) fn term<S: Alter>(
     ensures rows { HasCleanDisk (state S.Store conn.new) → IfOk result (λ found. let asked = where_key list_key_cmp (λ k. int_eq tab k.0 && is_eq (name_cmp term.now k.1)) (value_of (state S.Store conn.old).now.trees).lists in (map shown_entry found.items ≡ entries_of asked) × AreWhole asked) }
     ensures damaged { HasCleanDisk (state S.Store conn.new) → result ≡ Err StoreFault.Damaged → SomeDamaged (where_key list_key_cmp (λ k. int_eq tab k.0 && is_eq (name_cmp term.now k.1)) (value_of (state S.Store conn.old).now.trees).lists) }
     ensures fault { IfErr result IsReadFault }
-    ensures kept { HasCleanDisk (state S.Store conn.new) → Keeps (state S.Store conn.old) (state S.Store conn.new) }
-    ensures live { HasCleanDisk (state S.Store conn.new) → OnOk result (IsTrue (state S.Store conn.new).is_open) }
-    ensures mode { (state S.Store conn.new).in_transaction ≡ false }
-    ensures survives { Survives (state S.Store conn.old) (state S.Store conn.new) (λ _. IsTrue (state S.Store conn.old).is_open → ⊥) }
+    ensures read { Reads S.Store conn.old conn.new result }
 {
     let lists = term_lists(conn, alloc, tab, term)?;
     Ok(term_entries(alloc, term, lists.as_slice())?)
@@ -273,11 +261,8 @@ pub(crate) fn entries<S: Alter>(
     ensures rows { HasCleanDisk (state S.Store conn.new) → IfOk result (λ found. let asked = where_key list_key_cmp (λ k. int_eq tab k.0) (value_of (state S.Store conn.old).now.trees).lists in (map shown_entry found.items ≡ entries_of asked) × AreWhole asked) }
     ensures damaged { HasCleanDisk (state S.Store conn.new) → result ≡ Err StoreFault.Damaged → SomeDamaged (where_key list_key_cmp (λ k. int_eq tab k.0) (value_of (state S.Store conn.old).now.trees).lists) }
     ensures fault { IfErr result IsReadFault }
-    ensures kept { HasCleanDisk (state S.Store conn.new) → Keeps (state S.Store conn.old) (state S.Store conn.new) }
-    ensures live { HasCleanDisk (state S.Store conn.new) → OnOk result (IsTrue (state S.Store conn.new).is_open) }
+    ensures read { Reads S.Store conn.old conn.new result }
     ensures stays { HasCleanDisk (state S.Store conn.new) → result ≡ Err StoreFault.Damaged → IsTrue (state S.Store conn.new).is_open }
-    ensures mode { (state S.Store conn.new).in_transaction ≡ false }
-    ensures survives { Survives (state S.Store conn.old) (state S.Store conn.new) (λ _. IsTrue (state S.Store conn.old).is_open → ⊥) }
 {
     select_entries(
         conn,
@@ -300,10 +285,7 @@ fn table_lists<S: Alter>(
     ensures damaged { HasCleanDisk (state S.Store conn.new) → result ≡ Err StoreFault.Damaged
         → SomeDamaged (where_key list_key_cmp (λ k. int_eq tab k.0) (value_of (state S.Store conn.old).now.trees).lists) }
     ensures fault { IfErr result IsReadFault }
-    ensures kept { HasCleanDisk (state S.Store conn.new) → Keeps (state S.Store conn.old) (state S.Store conn.new) }
-    ensures live { HasCleanDisk (state S.Store conn.new) → OnOk result (IsTrue (state S.Store conn.new).is_open) }
-    ensures mode { (state S.Store conn.new).in_transaction ≡ false }
-    ensures survives { Survives (state S.Store conn.old) (state S.Store conn.new) (λ _. IsTrue (state S.Store conn.old).is_open → ⊥) }
+    ensures read { Reads S.Store conn.old conn.new result }
 {
     select_lists(
         conn,
@@ -350,10 +332,7 @@ fn range<'a, S: Alter>(
     ensures damaged { HasCleanDisk (state S.Store conn.new) → result ≡ Err StoreFault.Damaged
         → SomeDamaged (lists_of_prefix tab from.now (value_of (state S.Store conn.old).now.trees)) }
     ensures fault { IfErr result IsReadFault }
-    ensures kept { HasCleanDisk (state S.Store conn.new) → Keeps (state S.Store conn.old) (state S.Store conn.new) }
-    ensures live { HasCleanDisk (state S.Store conn.new) → OnOk result (IsTrue (state S.Store conn.new).is_open) }
-    ensures mode { (state S.Store conn.new).in_transaction ≡ false }
-    ensures survives { Survives (state S.Store conn.old) (state S.Store conn.new) (λ _. IsTrue (state S.Store conn.old).is_open → ⊥) }
+    ensures read { Reads S.Store conn.old conn.new result }
 {
     select_entries(
         conn,
@@ -380,10 +359,7 @@ fn bare_range<'a, S: Alter>(
     ensures damaged { HasCleanDisk (state S.Store conn.new) → result ≡ Err StoreFault.Damaged
         → SomeDamaged (lists_of_prefix tab from.now (value_of (state S.Store conn.old).now.trees)) }
     ensures fault { IfErr result IsReadFault }
-    ensures kept { HasCleanDisk (state S.Store conn.new) → Keeps (state S.Store conn.old) (state S.Store conn.new) }
-    ensures live { HasCleanDisk (state S.Store conn.new) → OnOk result (IsTrue (state S.Store conn.new).is_open) }
-    ensures mode { (state S.Store conn.new).in_transaction ≡ false }
-    ensures survives { Survives (state S.Store conn.old) (state S.Store conn.new) (λ _. IsTrue (state S.Store conn.old).is_open → ⊥) }
+    ensures read { Reads S.Store conn.old conn.new result }
 {
     select_lists(
         conn,
@@ -405,10 +381,7 @@ pub(crate) fn prefix<S: Alter>(
     ensures rows { HasCleanDisk (state S.Store conn.new) → IfOk result (λ found. let asked = where_key list_key_cmp (λ k. int_eq tab k.0 && starts_with nat_eq k.1 begin.now) (value_of (state S.Store conn.old).now.trees).lists in (map shown_entry found.items ≡ entries_of asked) × AreWhole asked) }
     ensures damaged { HasCleanDisk (state S.Store conn.new) → result ≡ Err StoreFault.Damaged → SomeDamaged (where_key list_key_cmp (λ k. int_eq tab k.0 && starts_with nat_eq k.1 begin.now) (value_of (state S.Store conn.old).now.trees).lists) }
     ensures fault { IfErr result IsReadFault }
-    ensures kept { HasCleanDisk (state S.Store conn.new) → Keeps (state S.Store conn.old) (state S.Store conn.new) }
-    ensures live { HasCleanDisk (state S.Store conn.new) → OnOk result (IsTrue (state S.Store conn.new).is_open) }
-    ensures mode { (state S.Store conn.new).in_transaction ≡ false }
-    ensures survives { Survives (state S.Store conn.old) (state S.Store conn.new) (λ _. IsTrue (state S.Store conn.old).is_open → ⊥) }
+    ensures read { Reads S.Store conn.old conn.new result }
 {
     if begin.is_empty() {
         return entries(conn, alloc, tab);
@@ -431,10 +404,7 @@ pub(crate) fn prefix_lists<S: Alter>(
     ensures damaged { HasCleanDisk (state S.Store conn.new) → result ≡ Err StoreFault.Damaged
         → SomeDamaged (lists_of_prefix tab begin.now (value_of (state S.Store conn.old).now.trees)) }
     ensures fault { IfErr result IsReadFault }
-    ensures kept { HasCleanDisk (state S.Store conn.new) → Keeps (state S.Store conn.old) (state S.Store conn.new) }
-    ensures live { HasCleanDisk (state S.Store conn.new) → OnOk result (IsTrue (state S.Store conn.new).is_open) }
-    ensures mode { (state S.Store conn.new).in_transaction ≡ false }
-    ensures survives { Survives (state S.Store conn.old) (state S.Store conn.new) (λ _. IsTrue (state S.Store conn.old).is_open → ⊥) }
+    ensures read { Reads S.Store conn.old conn.new result }
 {
     if begin.is_empty() {
         return table_lists(conn, alloc, tab);

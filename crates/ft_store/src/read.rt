@@ -14,7 +14,7 @@ ghost use Rattle.ft_store.specs.Store.{cell_key_cmp, column_key_cmp};
 ghost use Rattle.ft_store.specs.Rows.{value_of};
 ghost use Rattle.ft_store.specs.Found.{found_table, found_column, found_skip, found_cell, found_size, found_note};
 ghost use Rattle.ft_store.specs.Shown.{shown_cell, shown_size, shown_name, shown_column, shown_skip, shown_note, last_docid_of};
-ghost use Rattle.ft_store.specs.Calls.{IsStoreIfOpen, IsPlainFault, Keeps};
+ghost use Rattle.ft_store.specs.Calls.{IsStoreIfOpen, IsPlainFault, Keeps, Reads};
 
 use crate::fault::StoreFault;
 use crate::stream::{Gathered, gather};
@@ -32,12 +32,9 @@ pub(crate) fn select<S: Alter>(
     requires plain { HasCleanDisk (state S.Store conn.old) → IsTrue (state S.Store conn.old).is_open → IsPlain (understood (state S.Store conn.old).now.schema sql.now) }
     requires settled { (state S.Store conn.old).in_transaction ≡ false }
     ensures shown { HasCleanDisk (state S.Store conn.new) → IfOk result (λ rows. Shown sql.now (bound params.now) (state S.Store conn.old) (state S.Store conn.new) rows.items) }
-    ensures kept { HasCleanDisk (state S.Store conn.new) → Keeps (state S.Store conn.old) (state S.Store conn.new) }
-    ensures live { HasCleanDisk (state S.Store conn.new) → OnOk result (IsTrue (state S.Store conn.new).is_open) }
-    ensures mode { (state S.Store conn.new).in_transaction ≡ false }
+    ensures read { Reads S.Store conn.old conn.new result }
     ensures whole { ¬ (result ≡ Err StoreFault.Damaged) }
     ensures fault { IfErr result IsPlainFault }
-    ensures survives { Survives (state S.Store conn.old) (state S.Store conn.new) (λ _. IsTrue (state S.Store conn.old).is_open → ⊥) }
 {
     let _schema = conn.schema();
     let _settled = conn.is_autocommit();
@@ -100,11 +97,8 @@ fn select_cells<S: Alter>(
     ensures found { HasCleanDisk (state S.Store conn.new) → IfOk result (λ cells. (rows : List order.Row)
         × Shown sql.now (bound params.now) (state S.Store conn.old) (state S.Store conn.new) rows
         × ((tab : ℤ) → map (shown_cell tab) cells.items ≡ map (found_cell tab) rows)) }
-    ensures kept { HasCleanDisk (state S.Store conn.new) → Keeps (state S.Store conn.old) (state S.Store conn.new) }
-    ensures live { HasCleanDisk (state S.Store conn.new) → OnOk result (IsTrue (state S.Store conn.new).is_open) }
+    ensures read { Reads S.Store conn.old conn.new result }
     ensures fault { IfErr result IsPlainFault }
-    ensures mode { (state S.Store conn.new).in_transaction ≡ false }
-    ensures survives { Survives (state S.Store conn.old) (state S.Store conn.new) (λ _. IsTrue (state S.Store conn.old).is_open → ⊥) }
 {
     let mut found = CellsOf {
         cells: Vec::new(alloc),
@@ -223,11 +217,8 @@ pub(crate) fn names<S: Alter>(
     requires store { IsStoreIfOpen (state S.Store conn.old) }
     requires settled { (state S.Store conn.old).in_transaction ≡ false }
     ensures rows { HasCleanDisk (state S.Store conn.new) → IfOk result (λ found. map shown_name found.items ≡ (value_of (state S.Store conn.old).now.trees).tables) }
-    ensures kept { HasCleanDisk (state S.Store conn.new) → Keeps (state S.Store conn.old) (state S.Store conn.new) }
-    ensures live { HasCleanDisk (state S.Store conn.new) → OnOk result (IsTrue (state S.Store conn.new).is_open) }
+    ensures read { Reads S.Store conn.old conn.new result }
     ensures fault { IfErr result IsPlainFault }
-    ensures mode { (state S.Store conn.new).in_transaction ≡ false }
-    ensures survives { Survives (state S.Store conn.old) (state S.Store conn.new) (λ _. IsTrue (state S.Store conn.old).is_open → ⊥) }
 {
     let rows = select(
         conn,
@@ -246,11 +237,8 @@ pub(crate) fn columns<S: Alter>(
     requires store { IsStoreIfOpen (state S.Store conn.old) }
     requires settled { (state S.Store conn.old).in_transaction ≡ false }
     ensures rows { HasCleanDisk (state S.Store conn.new) → IfOk result (λ found. map (shown_column tab) found.items ≡ where_key column_key_cmp (λ k. int_eq tab k.0) (value_of (state S.Store conn.old).now.trees).columns) }
-    ensures kept { HasCleanDisk (state S.Store conn.new) → Keeps (state S.Store conn.old) (state S.Store conn.new) }
-    ensures live { HasCleanDisk (state S.Store conn.new) → OnOk result (IsTrue (state S.Store conn.new).is_open) }
+    ensures read { Reads S.Store conn.old conn.new result }
     ensures fault { IfErr result IsPlainFault }
-    ensures mode { (state S.Store conn.new).in_transaction ≡ false }
-    ensures survives { Survives (state S.Store conn.old) (state S.Store conn.new) (λ _. IsTrue (state S.Store conn.old).is_open → ⊥) }
 {
     let rows = select(
         conn,
@@ -269,11 +257,8 @@ pub(crate) fn skips<S: Alter>(
     requires store { IsStoreIfOpen (state S.Store conn.old) }
     requires settled { (state S.Store conn.old).in_transaction ≡ false }
     ensures rows { HasCleanDisk (state S.Store conn.new) → IfOk result (λ found. map (shown_skip tab) found.items ≡ where_key column_key_cmp (λ k. int_eq tab k.0) (value_of (state S.Store conn.old).now.trees).skipped) }
-    ensures kept { HasCleanDisk (state S.Store conn.new) → Keeps (state S.Store conn.old) (state S.Store conn.new) }
-    ensures live { HasCleanDisk (state S.Store conn.new) → OnOk result (IsTrue (state S.Store conn.new).is_open) }
+    ensures read { Reads S.Store conn.old conn.new result }
     ensures fault { IfErr result IsPlainFault }
-    ensures mode { (state S.Store conn.new).in_transaction ≡ false }
-    ensures survives { Survives (state S.Store conn.old) (state S.Store conn.new) (λ _. IsTrue (state S.Store conn.old).is_open → ⊥) }
 {
     let rows = select(
         conn,
@@ -292,11 +277,8 @@ pub(crate) fn cells<S: Alter>(
     requires store { IsStoreIfOpen (state S.Store conn.old) }
     requires settled { (state S.Store conn.old).in_transaction ≡ false }
     ensures rows { HasCleanDisk (state S.Store conn.new) → IfOk result (λ found. map (shown_cell tab) found.items ≡ where_key cell_key_cmp (λ k. int_eq tab k.0) (value_of (state S.Store conn.old).now.trees).cells) }
-    ensures kept { HasCleanDisk (state S.Store conn.new) → Keeps (state S.Store conn.old) (state S.Store conn.new) }
-    ensures live { HasCleanDisk (state S.Store conn.new) → OnOk result (IsTrue (state S.Store conn.new).is_open) }
+    ensures read { Reads S.Store conn.old conn.new result }
     ensures fault { IfErr result IsPlainFault }
-    ensures mode { (state S.Store conn.new).in_transaction ≡ false }
-    ensures survives { Survives (state S.Store conn.old) (state S.Store conn.new) (λ _. IsTrue (state S.Store conn.old).is_open → ⊥) }
 {
     select_cells(
         conn,
@@ -316,11 +298,8 @@ pub(crate) fn document<S: Alter>(
     requires store { IsStoreIfOpen (state S.Store conn.old) }
     requires settled { (state S.Store conn.old).in_transaction ≡ false }
     ensures rows { HasCleanDisk (state S.Store conn.new) → IfOk result (λ found. map (shown_cell tab) found.items ≡ where_key cell_key_cmp (λ k. int_eq tab k.0 && int_eq docid k.1) (value_of (state S.Store conn.old).now.trees).cells) }
-    ensures kept { HasCleanDisk (state S.Store conn.new) → Keeps (state S.Store conn.old) (state S.Store conn.new) }
-    ensures live { HasCleanDisk (state S.Store conn.new) → OnOk result (IsTrue (state S.Store conn.new).is_open) }
+    ensures read { Reads S.Store conn.old conn.new result }
     ensures fault { IfErr result IsPlainFault }
-    ensures mode { (state S.Store conn.new).in_transaction ≡ false }
-    ensures survives { Survives (state S.Store conn.old) (state S.Store conn.new) (λ _. IsTrue (state S.Store conn.old).is_open → ⊥) }
 {
     select_cells(
         conn,
@@ -349,11 +328,8 @@ pub(crate) fn last_docid<S: Alter>(
     requires store { IsStoreIfOpen (state S.Store conn.old) }
     requires settled { (state S.Store conn.old).in_transaction ≡ false }
     ensures last { HasCleanDisk (state S.Store conn.new) → IfOk result (λ last. last ≡ last_docid_of tab (value_of (state S.Store conn.old).now.trees).cells) }
-    ensures kept { HasCleanDisk (state S.Store conn.new) → Keeps (state S.Store conn.old) (state S.Store conn.new) }
-    ensures live { HasCleanDisk (state S.Store conn.new) → OnOk result (IsTrue (state S.Store conn.new).is_open) }
+    ensures read { Reads S.Store conn.old conn.new result }
     ensures fault { IfErr result IsPlainFault }
-    ensures mode { (state S.Store conn.new).in_transaction ≡ false }
-    ensures survives { Survives (state S.Store conn.old) (state S.Store conn.new) (λ _. IsTrue (state S.Store conn.old).is_open → ⊥) }
 {
     let rows = select(
         conn,
@@ -372,11 +348,8 @@ pub(crate) fn sizes<S: Alter>(
     requires store { IsStoreIfOpen (state S.Store conn.old) }
     requires settled { (state S.Store conn.old).in_transaction ≡ false }
     ensures rows { HasCleanDisk (state S.Store conn.new) → IfOk result (λ found. map (shown_size tab) found.items ≡ where_key cell_key_cmp (λ k. int_eq tab k.0) (value_of (state S.Store conn.old).now.trees).sizes) }
-    ensures kept { HasCleanDisk (state S.Store conn.new) → Keeps (state S.Store conn.old) (state S.Store conn.new) }
-    ensures live { HasCleanDisk (state S.Store conn.new) → OnOk result (IsTrue (state S.Store conn.new).is_open) }
+    ensures read { Reads S.Store conn.old conn.new result }
     ensures fault { IfErr result IsPlainFault }
-    ensures mode { (state S.Store conn.new).in_transaction ≡ false }
-    ensures survives { Survives (state S.Store conn.old) (state S.Store conn.new) (λ _. IsTrue (state S.Store conn.old).is_open → ⊥) }
 {
     let rows = select(
         conn,
@@ -394,11 +367,8 @@ pub(crate) fn noted<S: Alter>(
     requires store { IsStoreIfOpen (state S.Store conn.old) }
     requires settled { (state S.Store conn.old).in_transaction ≡ false }
     ensures rows { HasCleanDisk (state S.Store conn.new) → IfOk result (λ found. map shown_note found.items ≡ (value_of (state S.Store conn.old).now.trees).noted) }
-    ensures kept { HasCleanDisk (state S.Store conn.new) → Keeps (state S.Store conn.old) (state S.Store conn.new) }
-    ensures live { HasCleanDisk (state S.Store conn.new) → OnOk result (IsTrue (state S.Store conn.new).is_open) }
+    ensures read { Reads S.Store conn.old conn.new result }
     ensures fault { IfErr result IsPlainFault }
-    ensures mode { (state S.Store conn.new).in_transaction ≡ false }
-    ensures survives { Survives (state S.Store conn.old) (state S.Store conn.new) (λ _. IsTrue (state S.Store conn.old).is_open → ⊥) }
 {
     let rows = select(
         conn,

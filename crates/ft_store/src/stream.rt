@@ -6,7 +6,7 @@ ghost use Rattle.sqlite.specs.Listing.{understood};
 ghost use Rattle.sqlite.specs.Order as order;
 ghost use Rattle.sqlite.specs.Values.{bound};
 ghost use Rattle.sqlite.specs.Held.{state};
-ghost use Rattle.ft_store.specs.Calls.{IsPlainFault, Keeps};
+ghost use Rattle.ft_store.specs.Calls.{IsPlainFault, Keeps, Reads};
 
 use crate::fault::StoreFault;
 use sqlite::types::ValueRef;
@@ -37,12 +37,9 @@ pub(crate) fn gather<S: Alter, G: Gathered>(
     requires none { G.Gathered.is_made_of into.old true [] }
     ensures made { HasCleanDisk (state S.Store conn.new) → IfOk result (λ whole. (rows : List order.Row)
         × Shown sql.now (bound params.now) (state S.Store conn.old) (state S.Store conn.new) rows × G.Gathered.is_made_of into.new whole rows) }
-    ensures kept { HasCleanDisk (state S.Store conn.new) → Keeps (state S.Store conn.old) (state S.Store conn.new) }
-    ensures live { HasCleanDisk (state S.Store conn.new) → OnOk result (IsTrue (state S.Store conn.new).is_open) }
-    ensures mode { (state S.Store conn.new).in_transaction ≡ false }
+    ensures read { Reads S.Store conn.old conn.new result }
     ensures whole { ¬ (result ≡ Err StoreFault.Damaged) }
     ensures fault { IfErr result IsPlainFault }
-    ensures survives { Survives (state S.Store conn.old) (state S.Store conn.new) (λ _. IsTrue (state S.Store conn.old).is_open → ⊥) }
 {
     let _schema = conn.schema();
     let _settled = conn.is_autocommit();

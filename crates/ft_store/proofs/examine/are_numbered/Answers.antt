@@ -20,10 +20,10 @@ loop-at-preserved g c =
     let was = state g.S.Store c.loop-at.conn in
     let now = state g.S.Store c.is_numbered.new.conn in
     let before = c.loop-at.invariant in (
-      look_on old was now before.0 c.is_numbered.ensures.kept c.is_numbered.ensures.survives c.is_numbered.ensures.mode c.in_ok-is_numbered.ensures.live,
+      look_on old was now before.0 c.is_numbered.ensures.read.kept c.is_numbered.ensures.read.survives c.is_numbered.ensures.read.mode c.in_ok-is_numbered.ensures.read.live,
       λ clean.
-          let clean_was : HasCleanDisk was = omega (arith, c.is_numbered.ensures.survives.clean, clean) in
-          let is_open = (c.is_numbered.ensures.kept clean (c.in_ok-is_numbered.ensures.live clean)).2 in
+          let clean_was : HasCleanDisk was = omega (arith, c.is_numbered.ensures.read.survives.clean, clean) in
+          let is_open = (c.is_numbered.ensures.read.kept clean (c.in_ok-is_numbered.ensures.read.live clean)).2 in
           let same = (before.0.kept clean_was is_open).0 in
           below_more (λ i. HasOwnRowids (old.now.trees (tree_at i))) c.loop-at.at (before.1 clean_was) (subst (λ (d : Database). HasOwnRowids (d.trees (tree_at c.loop-at.at))) same (c.in_ok-is_numbered.ensures.own clean c.if-not-branch.false)),
     )

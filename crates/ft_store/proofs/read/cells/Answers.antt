@@ -15,7 +15,7 @@ pub returns-clause-rows : goal.returns-clause-rows
 returns-clause-rows g c clean =
     let old = state g.S.Store c.args.conn.now in
     let new = state g.S.Store c.select_cells.new.conn in
-    let store = c.requires.store (omega (arith, c.select_cells.ensures.survives.clean)) in
+    let store = c.requires.store (omega (arith, c.select_cells.ensures.read.survives.clean)) in
     IfOk-weaker c.select_cells.result _ _
     (λ found h. h.2 c.args.tab ∙ cells_shown c.args.tab old new h.0 store (simp (to_z-of_z, c.ranges.tab) at (rw c.params-to_sql.ensures at h.1)))
     (c.select_cells.ensures.found clean)

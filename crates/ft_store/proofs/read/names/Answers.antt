@@ -17,5 +17,5 @@ pub returns-clause-rows : goal.returns-clause-rows
 returns-clause-rows g c clean =
     let old = state g.S.Store c.args.conn.now in
     let new = state g.S.Store c.select.new.conn in
-    let all = names_shown old new c.in_ok-rows.rows.items (c.requires.store (omega (arith, c.select.ensures.survives.clean))) (c.in_ok-rows.ensures.shown clean) in
+    let all = names_shown old new c.in_ok-rows.rows.items (c.requires.store (omega (arith, c.select.ensures.read.survives.clean))) (c.in_ok-rows.ensures.shown clean) in
     IfOk-weaker c.name_rows.result _ _ (λ found h. h ∙ ap (map found_table) c.as_slice.ensures.value ∙ all ∙ all_kept int_cmp _) c.name_rows.ensures.found

@@ -1,4 +1,4 @@
-use Rattle.std.proofs.Common.{◌≡◌, ◌∙◌, false, not, List, Ok, Some, None, refl, sym, ap, subst, IsTrue}
+use Rattle.std.proofs.Common.{◌≡◌, ◌∙◌, false, not, List, Ok, Some, None, refl, sym, ap, subst, IsTrue, rules}
 use Rattle.sqlite.specs.Order.{Row}
 use Rattle.sqlite.specs.Values.{bound}
 use Rattle.sqlite.specs.State.{HasCleanDisk, Shown, Survives}
@@ -8,13 +8,16 @@ use Rattle.ft_store.proofs.CallLemmas.{refused_keeps, kept_either, commits_nothi
 use Rattle.ft_store.proofs.StreamLemmas.{begun, one_row, rows_shown, moved_unchanged, moved_survives, stopped_keeps, keeps_unchanged}
 use Rattle.ft_store.proofs.stream.gather.Goals as goal
 
-pub returns-in_err-rows-clause-kept : goal.returns-in_err-rows-clause-kept
-returns-in_err-rows-clause-kept g c clean =
+pub returns-in_err-rows-clause-read : goal.returns-in_err-rows-clause-read
+returns-in_err-rows-clause-read g c =
     let settled = c.is_autocommit-settled.ensures.settled (c.is_autocommit-settled.ensures.value ∙ ap not c.requires.settled) in
-    kept_either _ _ settled (refused_keeps _ _ _ _ _ ((rw c.in_err-rows.was at c.query.follows.holds-at-none).err clean))
-
-pub returns-in_err-rows-clause-survives : goal.returns-in_err-rows-clause-survives
-returns-in_err-rows-clause-survives g c = commits_nothing _ _ _ _ c.requires.plain (rw c.in_err-rows.was at c.query.follows.holds-at-none).survives
+    let refused = rw c.in_err-rows.was at c.query.follows.holds-at-none in
+    record {
+      kept = λ clean. kept_either _ _ settled (refused_keeps _ _ _ _ _ (refused.err clean));
+      live = search rules;
+      mode = refused.mode c.requires.settled;
+      survives = commits_nothing _ _ _ _ c.requires.plain refused.survives;
+    }
 
 pub rows-init : goal.rows-init
 rows-init g c =
@@ -27,83 +30,52 @@ rows-preserved g c =
       moved.same_reference ∙ c.rows.invariant.1,
     )
 
-pub returns-in_err-row-clause-kept : goal.returns-in_err-row-clause-kept
-returns-in_err-row-clause-kept g c =
+pub returns-in_err-row-clause-read : goal.returns-in_err-row-clause-read
+returns-in_err-row-clause-read g c =
     let moved = c.next.follows.holds-at-none in
     let ended = c.conn-in_err-row-1.given.1 (sym (moved.same_reference ∙ c.rows.invariant.1 ∙ c.in_ok-rows.ensures.same_reference)) ∙ c.drop-rows.ensures in
-    subst (λ (now : Held g.row.S.Denot). HasCleanDisk (state g.S.Store now) → Keeps (state g.S.Store c.args.conn.now) (state g.S.Store now)) (sym ended) (stopped_keeps g.S.Store c.args.sql.now (bound c.args.params.now) c.args.conn.now c.requires.plain c.rows.rows c.next.follows.lender-at-none c.next.result moved _ c.rows.invariant.0 _ c.in_err-row.was (c.is_autocommit-settled.ensures.settled (c.is_autocommit-settled.ensures.value ∙ ap not c.requires.settled)))
+    record {
+      kept = subst (λ (now : Held g.row.S.Denot). HasCleanDisk (state g.S.Store now) → Keeps (state g.S.Store c.args.conn.now) (state g.S.Store now)) (sym ended) (stopped_keeps g.S.Store c.args.sql.now (bound c.args.params.now) c.args.conn.now c.requires.plain c.rows.rows c.next.follows.lender-at-none c.next.result moved _ c.rows.invariant.0 _ c.in_err-row.was (c.is_autocommit-settled.ensures.settled (c.is_autocommit-settled.ensures.value ∙ ap not c.requires.settled)));
+      live = search rules;
+      mode = subst (λ (now : Held g.row.S.Denot). now.in_transaction ≡ false) (sym ended) (moved.mode c.rows.invariant.0.mode);
+      survives = subst (λ (now : Held g.row.S.Denot). Survives (state g.S.Store c.args.conn.now) (state g.S.Store now) (λ _. IsTrue (state g.S.Store c.args.conn.now).is_open → ⊥)) (sym ended) (moved_survives g.S.Store c.args.sql.now (bound c.args.params.now) c.args.conn.now c.requires.plain c.rows.rows c.next.follows.lender-at-none c.next.result moved _ c.rows.invariant.0);
+    }
 
-pub returns-in_err-row-clause-mode : goal.returns-in_err-row-clause-mode
-returns-in_err-row-clause-mode g c =
-    let moved = c.next.follows.holds-at-none in
-    let ended = c.conn-in_err-row-1.given.1 (sym (moved.same_reference ∙ c.rows.invariant.1 ∙ c.in_ok-rows.ensures.same_reference)) ∙ c.drop-rows.ensures in
-    subst (λ (now : Held g.row.S.Denot). now.in_transaction ≡ false) (sym ended) (moved.mode c.rows.invariant.0.mode)
-
-pub returns-in_err-row-clause-survives : goal.returns-in_err-row-clause-survives
-returns-in_err-row-clause-survives g c =
-    let moved = c.next.follows.holds-at-none in
-    let ended = c.conn-in_err-row-1.given.1 (sym (moved.same_reference ∙ c.rows.invariant.1 ∙ c.in_ok-rows.ensures.same_reference)) ∙ c.drop-rows.ensures in
-    subst (λ (now : Held g.row.S.Denot). Survives (state g.S.Store c.args.conn.now) (state g.S.Store now) (λ _. IsTrue (state g.S.Store c.args.conn.now).is_open → ⊥)) (sym ended) (moved_survives g.S.Store c.args.sql.now (bound c.args.params.now) c.args.conn.now c.requires.plain c.rows.rows c.next.follows.lender-at-none c.next.result moved _ c.rows.invariant.0)
-
-pub returns-in_err-whole-in-Some-clause-kept : goal.returns-in_err-whole-in-Some-clause-kept
-returns-in_err-whole-in-Some-clause-kept g c =
+pub returns-in_err-whole-in-Some-clause-read : goal.returns-in_err-whole-in-Some-clause-read
+returns-in_err-whole-in-Some-clause-read g c =
     let moved = c.next.follows.holds-at-none in
     let ended = c.conn-in_err-whole-in-Some-1.given.1 (sym (moved.same_reference ∙ c.rows.invariant.1 ∙ c.in_ok-rows.ensures.same_reference)) ∙ c.drop-rows-in_err-whole-in-Some.ensures in
-    subst (λ (now : Held g.row.S.Denot). HasCleanDisk (state g.S.Store now) → Keeps (state g.S.Store c.args.conn.now) (state g.S.Store now)) (sym ended) (λ clean. keeps_unchanged _ _ (moved_unchanged g.S.Store c.args.sql.now (bound c.args.params.now) c.args.conn.now c.requires.plain c.rows.rows c.next.follows.lender-at-none c.next.result moved _ c.rows.invariant.0 (Some c.in-Some.row) (c.in_ok-row.was ∙ ap Ok c.in-Some.is) clean))
-
-pub returns-in_err-whole-in-Some-clause-mode : goal.returns-in_err-whole-in-Some-clause-mode
-returns-in_err-whole-in-Some-clause-mode g c =
-    let moved = c.next.follows.holds-at-none in
-    let ended = c.conn-in_err-whole-in-Some-1.given.1 (sym (moved.same_reference ∙ c.rows.invariant.1 ∙ c.in_ok-rows.ensures.same_reference)) ∙ c.drop-rows-in_err-whole-in-Some.ensures in
-    subst (λ (now : Held g.row.S.Denot). now.in_transaction ≡ false) (sym ended) (moved.mode c.rows.invariant.0.mode)
-
-pub returns-in_err-whole-in-Some-clause-survives : goal.returns-in_err-whole-in-Some-clause-survives
-returns-in_err-whole-in-Some-clause-survives g c =
-    let moved = c.next.follows.holds-at-none in
-    let ended = c.conn-in_err-whole-in-Some-1.given.1 (sym (moved.same_reference ∙ c.rows.invariant.1 ∙ c.in_ok-rows.ensures.same_reference)) ∙ c.drop-rows-in_err-whole-in-Some.ensures in
-    subst (λ (now : Held g.row.S.Denot). Survives (state g.S.Store c.args.conn.now) (state g.S.Store now) (λ _. IsTrue (state g.S.Store c.args.conn.now).is_open → ⊥)) (sym ended) (moved_survives g.S.Store c.args.sql.now (bound c.args.params.now) c.args.conn.now c.requires.plain c.rows.rows c.next.follows.lender-at-none c.next.result moved _ c.rows.invariant.0)
+    record {
+      kept = subst (λ (now : Held g.row.S.Denot). HasCleanDisk (state g.S.Store now) → Keeps (state g.S.Store c.args.conn.now) (state g.S.Store now)) (sym ended) (λ clean. keeps_unchanged _ _ (moved_unchanged g.S.Store c.args.sql.now (bound c.args.params.now) c.args.conn.now c.requires.plain c.rows.rows c.next.follows.lender-at-none c.next.result moved _ c.rows.invariant.0 (Some c.in-Some.row) (c.in_ok-row.was ∙ ap Ok c.in-Some.is) clean));
+      live = search rules;
+      mode = subst (λ (now : Held g.row.S.Denot). now.in_transaction ≡ false) (sym ended) (moved.mode c.rows.invariant.0.mode);
+      survives = subst (λ (now : Held g.row.S.Denot). Survives (state g.S.Store c.args.conn.now) (state g.S.Store now) (λ _. IsTrue (state g.S.Store c.args.conn.now).is_open → ⊥)) (sym ended) (moved_survives g.S.Store c.args.sql.now (bound c.args.params.now) c.args.conn.now c.requires.plain c.rows.rows c.next.follows.lender-at-none c.next.result moved _ c.rows.invariant.0);
+    }
 
 pub returns-in-None-clause-made : goal.returns-in-None-clause-made
 returns-in-None-clause-made g c =
     let moved = c.next.follows.holds-at-none in
     let ended = c.conn-in-None-1.given.1 (sym (moved.same_reference ∙ c.rows.invariant.1 ∙ c.in_ok-rows.ensures.same_reference)) ∙ c.drop-rows-in-None.ensures in
-    subst (λ (now : Held g.row.S.Denot). HasCleanDisk (state g.S.Store now) → (rows : List Row) × Shown c.args.sql.now (bound c.args.params.now) (state g.S.Store c.args.conn.now) (state g.S.Store now) rows × g.G.Gathered.is_made_of c.rows.into c.rows.whole rows) (sym ended) (rows_shown g.S.Store c.args.sql.now (bound c.args.params.now) c.args.conn.now c.requires.plain c.rows.rows c.next.follows.lender-at-none c.next.result moved _ c.rows.invariant.0 (c.in_ok-row.was ∙ ap Ok c.in-None.is))
+    subst (λ (now : Held g.row.S.Denot). HasCleanDisk (state g.S.Store now) → (rows : List Row) × Shown c.args.sql.now (bound c.args.params.now) (state g.S.Store c.args.conn.now) (state g.S.Store now) rows × g.G.Gathered.is_made_of c.rows.into c.rows.whole rows) (sym ended)
+    (rows_shown g.S.Store c.args.sql.now (bound c.args.params.now) c.args.conn.now c.requires.plain c.rows.rows c.next.follows.lender-at-none c.next.result moved _ c.rows.invariant.0 (c.in_ok-row.was ∙ ap Ok c.in-None.is))
 
-pub returns-in-None-clause-kept : goal.returns-in-None-clause-kept
-returns-in-None-clause-kept g c =
+pub returns-in-None-clause-read : goal.returns-in-None-clause-read
+returns-in-None-clause-read g c =
     let moved = c.next.follows.holds-at-none in
     let ended = c.conn-in-None-1.given.1 (sym (moved.same_reference ∙ c.rows.invariant.1 ∙ c.in_ok-rows.ensures.same_reference)) ∙ c.drop-rows-in-None.ensures in
-    subst (λ (now : Held g.row.S.Denot). HasCleanDisk (state g.S.Store now) → Keeps (state g.S.Store c.args.conn.now) (state g.S.Store now)) (sym ended) (λ clean. keeps_unchanged _ _ (moved_unchanged g.S.Store c.args.sql.now (bound c.args.params.now) c.args.conn.now c.requires.plain c.rows.rows c.next.follows.lender-at-none c.next.result moved _ c.rows.invariant.0 None (c.in_ok-row.was ∙ ap Ok c.in-None.is) clean))
+    record {
+      kept = subst (λ (now : Held g.row.S.Denot). HasCleanDisk (state g.S.Store now) → Keeps (state g.S.Store c.args.conn.now) (state g.S.Store now)) (sym ended) (λ clean. keeps_unchanged _ _ (moved_unchanged g.S.Store c.args.sql.now (bound c.args.params.now) c.args.conn.now c.requires.plain c.rows.rows c.next.follows.lender-at-none c.next.result moved _ c.rows.invariant.0 None (c.in_ok-row.was ∙ ap Ok c.in-None.is) clean));
+      live = subst (λ (now : Held g.row.S.Denot). HasCleanDisk (state g.S.Store now) → IsTrue (state g.S.Store now).is_open) (sym ended) (λ clean. (moved_unchanged g.S.Store c.args.sql.now (bound c.args.params.now) c.args.conn.now c.requires.plain c.rows.rows c.next.follows.lender-at-none c.next.result moved _ c.rows.invariant.0 None (c.in_ok-row.was ∙ ap Ok c.in-None.is) clean).0.is_open);
+      mode = subst (λ (now : Held g.row.S.Denot). now.in_transaction ≡ false) (sym ended) (moved.mode c.rows.invariant.0.mode);
+      survives = subst (λ (now : Held g.row.S.Denot). Survives (state g.S.Store c.args.conn.now) (state g.S.Store now) (λ _. IsTrue (state g.S.Store c.args.conn.now).is_open → ⊥)) (sym ended) (moved_survives g.S.Store c.args.sql.now (bound c.args.params.now) c.args.conn.now c.requires.plain c.rows.rows c.next.follows.lender-at-none c.next.result moved _ c.rows.invariant.0);
+    }
 
-pub returns-in-None-clause-live : goal.returns-in-None-clause-live
-returns-in-None-clause-live g c =
-    let moved = c.next.follows.holds-at-none in
-    let ended = c.conn-in-None-1.given.1 (sym (moved.same_reference ∙ c.rows.invariant.1 ∙ c.in_ok-rows.ensures.same_reference)) ∙ c.drop-rows-in-None.ensures in
-    subst (λ (now : Held g.row.S.Denot). HasCleanDisk (state g.S.Store now) → IsTrue (state g.S.Store now).is_open) (sym ended) (λ clean. (moved_unchanged g.S.Store c.args.sql.now (bound c.args.params.now) c.args.conn.now c.requires.plain c.rows.rows c.next.follows.lender-at-none c.next.result moved _ c.rows.invariant.0 None (c.in_ok-row.was ∙ ap Ok c.in-None.is) clean).0.is_open)
-
-pub returns-in-None-clause-mode : goal.returns-in-None-clause-mode
-returns-in-None-clause-mode g c =
-    let moved = c.next.follows.holds-at-none in
-    let ended = c.conn-in-None-1.given.1 (sym (moved.same_reference ∙ c.rows.invariant.1 ∙ c.in_ok-rows.ensures.same_reference)) ∙ c.drop-rows-in-None.ensures in
-    subst (λ (now : Held g.row.S.Denot). now.in_transaction ≡ false) (sym ended) (moved.mode c.rows.invariant.0.mode)
-
-pub returns-in-None-clause-survives : goal.returns-in-None-clause-survives
-returns-in-None-clause-survives g c =
-    let moved = c.next.follows.holds-at-none in
-    let ended = c.conn-in-None-1.given.1 (sym (moved.same_reference ∙ c.rows.invariant.1 ∙ c.in_ok-rows.ensures.same_reference)) ∙ c.drop-rows-in-None.ensures in
-    subst (λ (now : Held g.row.S.Denot). Survives (state g.S.Store c.args.conn.now) (state g.S.Store now) (λ _. IsTrue (state g.S.Store c.args.conn.now).is_open → ⊥)) (sym ended) (moved_survives g.S.Store c.args.sql.now (bound c.args.params.now) c.args.conn.now c.requires.plain c.rows.rows c.next.follows.lender-at-none c.next.result moved _ c.rows.invariant.0)
-
-pub returns-clause-kept : goal.returns-clause-kept
-returns-clause-kept g c =
+pub returns-clause-read : goal.returns-clause-read
+returns-clause-read g c =
     let ended = c.conn-2-1.given.1 (sym (c.rows.invariant.1 ∙ c.in_ok-rows.ensures.same_reference)) ∙ c.drop-rows-2.ensures in
-    subst (λ (now : Held g.row.S.Denot). HasCleanDisk (state g.S.Store now) → Keeps (state g.S.Store c.args.conn.now) (state g.S.Store now)) (sym ended) (λ clean. keeps_unchanged _ _ (c.rows.invariant.0.given clean).2)
-
-pub returns-clause-mode : goal.returns-clause-mode
-returns-clause-mode g c =
-    let ended = c.conn-2-1.given.1 (sym (c.rows.invariant.1 ∙ c.in_ok-rows.ensures.same_reference)) ∙ c.drop-rows-2.ensures in
-    subst (λ (now : Held g.row.S.Denot). now.in_transaction ≡ false) (sym ended) (c.rows.invariant.0.mode)
-
-pub returns-clause-survives : goal.returns-clause-survives
-returns-clause-survives g c =
-    let ended = c.conn-2-1.given.1 (sym (c.rows.invariant.1 ∙ c.in_ok-rows.ensures.same_reference)) ∙ c.drop-rows-2.ensures in
-    subst (λ (now : Held g.row.S.Denot). Survives (state g.S.Store c.args.conn.now) (state g.S.Store now) (λ _. IsTrue (state g.S.Store c.args.conn.now).is_open → ⊥)) (sym ended) (c.rows.invariant.0.survives)
+    record {
+      kept = subst (λ (now : Held g.row.S.Denot). HasCleanDisk (state g.S.Store now) → Keeps (state g.S.Store c.args.conn.now) (state g.S.Store now)) (sym ended) (λ clean. keeps_unchanged _ _ (c.rows.invariant.0.given clean).2);
+      live = search rules;
+      mode = subst (λ (now : Held g.row.S.Denot). now.in_transaction ≡ false) (sym ended) (c.rows.invariant.0.mode);
+      survives = subst (λ (now : Held g.row.S.Denot). Survives (state g.S.Store c.args.conn.now) (state g.S.Store now) (λ _. IsTrue (state g.S.Store c.args.conn.now).is_open → ⊥)) (sym ended) (c.rows.invariant.0.survives);
+    }

@@ -1,4 +1,4 @@
-use Rattle.std.proofs.Common.{refl, ap, ◌∙◌, arith, to_z-of_z}
+use Rattle.std.proofs.Common.{refl, ap, ◌∙◌, arith, to_z-of_z, rules}
 use Rattle.std.specs.Ordering.{int_eq}
 use Rattle.std.specs.FinMap.Entries.{where_key}
 use Rattle.sqlite.specs.Effect.{Database}
@@ -11,26 +11,30 @@ use Rattle.ft_store.proofs.TableLemmas.{listed}
 use Rattle.ft_store.proofs.tables.table.Goals as goal
 
 pub skips-requires-clause-store : goal.skips-requires-clause-store
-skips-requires-clause-store g c = kept_store (state g.S.Store c.args.conn.now) (state g.S.Store c.columns.new.conn) _ c.columns.ensures.kept c.columns.ensures.survives c.requires.store
+skips-requires-clause-store g c = kept_store (state g.S.Store c.args.conn.now) (state g.S.Store c.columns.new.conn) _ c.columns.ensures.read.kept c.columns.ensures.read.survives c.requires.store
 
 pub returns-clause-rows : goal.returns-clause-rows
 returns-clause-rows g c clean =
     let old = state g.S.Store c.args.conn.now in
     let mid = state g.S.Store c.columns.new.conn in
-    let before : HasCleanDisk mid = omega (arith, c.skips.ensures.survives.clean, clean) in
-    let same = (c.columns.ensures.kept before (c.in_ok-columns.ensures.live before)).0 in
+    let before : HasCleanDisk mid = omega (arith, c.skips.ensures.read.survives.clean, clean) in
+    let same = (c.columns.ensures.read.kept before (c.in_ok-columns.ensures.read.live before)).0 in
     rw (to_z-of_z c.ranges.id)
     (listed (value_of old.now.trees) c.args.id (record { id = c.args.id; name = c.args.name; columns = c.in_ok-columns.columns; skipped = c.in_ok-skipped.skipped }) refl (simp (to_z-of_z, c.ranges.id) at (c.in_ok-columns.ensures.rows before))
     (simp (to_z-of_z, c.ranges.id) at (c.in_ok-skipped.ensures.rows clean) ∙ ap (λ (d : Database). where_key column_key_cmp (λ k. int_eq c.args.id k.0) (value_of d.trees).skipped) same))
 
-pub returns-clause-kept : goal.returns-clause-kept
-returns-clause-kept g c clean = kept_then (state g.S.Store c.args.conn.now) (state g.S.Store c.columns.new.conn) (state g.S.Store c.skips.new.conn) (c.columns.ensures.kept (omega (arith, c.skips.ensures.survives.clean, clean))) (c.skips.ensures.kept clean)
+pub returns-clause-read : goal.returns-clause-read
+returns-clause-read g c = record {
+  kept = λ clean. kept_then (state g.S.Store c.args.conn.now) (state g.S.Store c.columns.new.conn) (state g.S.Store c.skips.new.conn) (c.columns.ensures.read.kept (omega (arith, c.skips.ensures.read.survives.clean, clean))) (c.skips.ensures.read.kept clean);
+  live = c.in_ok-skipped.ensures.read.live;
+  mode = c.skips.ensures.read.mode;
+  survives = reads_then (state g.S.Store c.args.conn.now) (state g.S.Store c.columns.new.conn) (state g.S.Store c.skips.new.conn) c.in_ok-columns.ensures.read.live c.columns.ensures.read.survives c.skips.ensures.read.survives;
+}
 
-pub returns-in_err-skipped-clause-kept : goal.returns-in_err-skipped-clause-kept
-returns-in_err-skipped-clause-kept g c clean = kept_then (state g.S.Store c.args.conn.now) (state g.S.Store c.columns.new.conn) (state g.S.Store c.skips.new.conn) (c.columns.ensures.kept (omega (arith, c.skips.ensures.survives.clean, clean))) (c.skips.ensures.kept clean)
-
-pub returns-clause-survives : goal.returns-clause-survives
-returns-clause-survives g c = reads_then (state g.S.Store c.args.conn.now) (state g.S.Store c.columns.new.conn) (state g.S.Store c.skips.new.conn) c.in_ok-columns.ensures.live c.columns.ensures.survives c.skips.ensures.survives
-
-pub returns-in_err-skipped-clause-survives : goal.returns-in_err-skipped-clause-survives
-returns-in_err-skipped-clause-survives g c = reads_then (state g.S.Store c.args.conn.now) (state g.S.Store c.columns.new.conn) (state g.S.Store c.skips.new.conn) c.in_ok-columns.ensures.live c.columns.ensures.survives c.skips.ensures.survives
+pub returns-in_err-skipped-clause-read : goal.returns-in_err-skipped-clause-read
+returns-in_err-skipped-clause-read g c = record {
+  kept = λ clean. kept_then (state g.S.Store c.args.conn.now) (state g.S.Store c.columns.new.conn) (state g.S.Store c.skips.new.conn) (c.columns.ensures.read.kept (omega (arith, c.skips.ensures.read.survives.clean, clean))) (c.skips.ensures.read.kept clean);
+  live = search rules;
+  mode = c.skips.ensures.read.mode;
+  survives = reads_then (state g.S.Store c.args.conn.now) (state g.S.Store c.columns.new.conn) (state g.S.Store c.skips.new.conn) c.in_ok-columns.ensures.read.live c.columns.ensures.read.survives c.skips.ensures.read.survives;
+}

@@ -17,11 +17,11 @@ loop-named-preserved g c =
     let was = state g.S.Store c.loop-named.conn in
     let now = state g.S.Store c.table.new.conn in
     let before = c.loop-named.invariant in
-    let read : Reading was now = record { mode = c.table.ensures.mode; kept = c.table.ensures.kept; live = c.in_ok-table.ensures.live; survives = c.table.ensures.survives } in (
+    let read : Reading was now = record { mode = c.table.ensures.read.mode; kept = c.table.ensures.read.kept; live = c.in_ok-table.ensures.read.live; survives = c.table.ensures.read.survives } in (
       reading_then old was now before.0 read,
-      λ clean. before.1 (omega (arith, c.table.ensures.survives.clean, clean)),
+      λ clean. before.1 (omega (arith, c.table.ensures.read.survives.clean, clean)),
       λ clean.
-          let clean_was : HasCleanDisk was = omega (arith, c.table.ensures.survives.clean, clean) in
+          let clean_was : HasCleanDisk was = omega (arith, c.table.ensures.read.survives.clean, clean) in
           let same = (before.0.kept clean_was (before.0.live clean_was)).0 in
           let fits : FitsSigned w64 c.named-item.result.0 = search rules in
           let copied : string_bytes c.in_ok-name.name ≡ string_bytes c.named-item.result.1 = search rules in
@@ -38,3 +38,12 @@ returns-clause-rows g c clean =
     c.loop-named.invariant.2 clean
     ∙ ap (map (λ n. table_listed (value_of old.now.trees) (shown_name n))) (take_all c.loop-named.named-index c.deref-named-items.result.now c.loop-named-test.false ∙ c.deref-named-items.ensures.value)
     ∙ sym (map-map (table_listed (value_of old.now.trees)) shown_name c.in_ok-names.names.items) ∙ ap (map (table_listed (value_of old.now.trees))) (c.in_ok-names.ensures.rows begun)
+
+-- the last table was read, and there is no room for it
+pub returns-in_err-push-clause-read : goal.returns-in_err-push-clause-read
+returns-in_err-push-clause-read g c =
+    let was = state g.S.Store c.loop-named.conn in
+    let now = state g.S.Store c.table.new.conn in
+    let read : Reading was now = record { mode = c.table.ensures.read.mode; kept = c.table.ensures.read.kept; live = c.in_ok-table.ensures.read.live; survives = c.table.ensures.read.survives } in
+    let all = reading_then (state g.S.Store c.args.conn.now) was now c.loop-named.invariant.0 read in
+    record { kept = all.kept; live = search rules; mode = all.mode; survives = all.survives }
