@@ -28,7 +28,7 @@ use Rattle.ft_content.proofs.RowLemmas.{rows_are_read}
 use Rattle.ft_index.specs.declared.standing.Standing.TheVariants as standings
 use Rattle.ft_index.specs.declared.standing.Standing.{Standing}
 use Rattle.ft_index.specs.Kept.{Stands, held_columns, is_sound}
-use Rattle.ft_index.specs.Opened.{standing_of, mark_of, StandsSo, IsListed, IsMarked}
+use Rattle.ft_index.specs.Opened.{standing_of, StandsSo, IsListed, IsMarked}
 use Rattle.ft_index.specs.RewriteRows.{sized}
 use Rattle.ft_index.specs.Standing.{shown_size, shown_entry, shown_row, listed_rows, columns_in, list_rows, AreOfRows, AreContent, HaveContent}
 use Rattle.ft_index.specs.Tables.{table_rows, table_index}
@@ -164,11 +164,6 @@ are_named store named table cells l are = (subst (λ n. IsContent n are.content)
 
 -- ---- what is told of a table
 
-pub marked_so : (held : TableState) (standing : Standing) → standing ≡ standing_of held → mark_of standing ≡ is_sound held
-marked_so (Sound content) standing is = ap mark_of is
-marked_so (Stale content) standing is = ap mark_of is
-marked_so (Loose rows) standing is = ap mark_of is
-
 -- the columns of a table are those that its rows say
 pub told_columns : (name : List ℕ) (rows : TableRows) (index : IndexRows) (held : TableState) → Stands name rows index held → columns_in rows ≡ held_columns held
 told_columns name rows index (Sound content) stands = said_columns name rows content stands.0 stands.1
@@ -176,10 +171,11 @@ told_columns name rows index (Stale content) stands = said_columns name rows con
 told_columns name rows index (Loose loose) stands = ap (λ (r : TableRows). (content_in r).columns) (sym stands.0)
 
 pub marked : (store : StoreValue) (named : ℤ × List ℕ) (table : TabRow) (known : TableInfo) (standing : Standing) → IsListed store named table → StandsSo named.1 (table_rows named.0 store) (table_index named.0 store) standing →
-    known.id ≡ table.id → known.name ≡ string_bytes table.name → known.columns ≡ columns_in (listed_rows table []) → known.sound ≡ mark_of standing → IsMarked store named known
+    known.id ≡ table.id → known.name ≡ string_bytes table.name → known.columns ≡ columns_in (listed_rows table []) →
+    ((held : TableState) → standing ≡ standing_of held → known.sound ≡ is_sound held) → IsMarked store named known
 marked store named table known standing is so id name columns sound =
     let same_id = id ∙ ap (λ (l : shown.Listed). l.id) is in
     let same_name = name ∙ ap (λ (l : shown.Listed). l.name) is in
     let same_columns : known.columns ≡ held_columns so.held = columns ∙ (λ i. columns_in (record { columns = (is i).columns; skipped = (is i).skipped; cells = [] })) ∙ told_columns named.1 (table_rows named.0 store) (table_index named.0 store) so.held so.stands in
-    let same_mark : known.sound ≡ is_sound so.held = sound ∙ marked_so so.held standing so.is in
+    let same_mark : known.sound ≡ is_sound so.held = sound so.held so.is in
     record { held = so.held; stands = so.stands; told = λ i. record { id = same_id i; name = same_name i; columns = same_columns i; sound = same_mark i } }

@@ -1,5 +1,5 @@
 -- Meaning. How the tables of a store stand, as they are read. All of it is our own choice.
-use Rattle.std.specs.Prelude.{◌≡◌, ℕ, ℤ, Bool, true, false, List, Option, Some, None, IsTrue}
+use Rattle.std.specs.Prelude.{◌≡◌, ℕ, ℤ, List, Option, Some, None, IsTrue}
 use Rattle.std.specs.List.{AllZip, find}
 use Rattle.std.specs.Ordering.{int_eq}
 use Rattle.sqlite.specs.State.{HasCleanDisk}
@@ -22,12 +22,6 @@ abbrev pub standing_of : TableState → Standing
 standing_of (Sound content) = standings.Sound
 standing_of (Stale content) = standings.Stale
 standing_of (Loose rows) = standings.Loose
-
--- the mark of rows that stand so
-abbrev pub mark_of : Standing → Bool
-mark_of standings.Sound = true
-mark_of standings.Stale = false
-mark_of standings.Loose = false
 
 -- rows of a table stand so
 pub record StandsSo (name : List ℕ) (rows : TableRows) (index : IndexRows) (standing : Standing) : Type 0 where

@@ -9,8 +9,10 @@ ghost use Rattle.ft_store.specs.Kept.{shows, value_in};
 ghost use Rattle.ft_content.specs.Content.{Content};
 ghost use Rattle.ft_content.specs.Index.{index_rows};
 ghost use Rattle.ft_content.specs.Views.{column_of};
+ghost use Rattle.ft_content.specs.Deserved.{TableState};
 ghost use Rattle.ft_index.specs.DocumentsRead.{Looks};
-ghost use Rattle.ft_index.specs.Opened.{mark_of, StandsSo, IsListed, IsNamed, IsFound};
+ghost use Rattle.ft_index.specs.Kept.{is_sound};
+ghost use Rattle.ft_index.specs.Opened.{standing_of, StandsSo, IsListed, IsNamed, IsFound};
 ghost use Rattle.ft_index.specs.Standing as standing;
 ghost use Rattle.ft_index.specs.Tables.{table_rows, table_index};
 
@@ -31,9 +33,10 @@ pub(crate) enum Standing {
 }
 
 impl Standing {
-    /// The mark of a table whose rows stand so.
+    /// The mark of a table that stands so: it is sound where its index rows are those made from
+    /// scratch out of its content.
     pub(crate) fn is_sound(self) -> bool
-        ensures { result ≡ mark_of self }
+        ensures { (held : TableState) → self ≡ standing_of held → result ≡ is_sound held }
     {
         matches!(self, Standing::Sound)
     }

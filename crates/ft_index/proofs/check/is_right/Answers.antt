@@ -4,7 +4,7 @@ use Rattle.sqlite.specs.State.{HasCleanDisk}
 use Rattle.ft_store.specs.Kept.{shows, value_in}
 use Rattle.ft_index.specs.Opened.{IsFound, IsListed}
 use Rattle.ft_index.proofs.HeldLemmas.{held_once}
-use Rattle.ft_index.proofs.StandingReads.{looked, marked_so}
+use Rattle.ft_index.proofs.StandingReads.{looked}
 use Rattle.ft_index.specs.Kept.{is_sound, Stands}
 use Rattle.ft_index.specs.Tables.{table_rows, table_index}
 use Rattle.ft_index.proofs.check.is_right.Goals as goal
@@ -18,4 +18,4 @@ returns-in_ok-standing-in-Some-clause-right g c = λ named held clean is stands.
     let listed : IsListed v named c.in-Some.table = subst (IsFound v named) here ((simp (to_z-of_z, c.ranges.id) at c.in_ok-table.ensures.found) named middle is) in
     let so = c.in_ok-standing-in-Some.ensures.stands named clean (subst (λ w. IsListed w named c.in-Some.table) (sym same) listed) in
     let once = held_once named.1 (table_rows named.0 v) (table_index named.0 v) so.held held (subst (λ w. Stands named.1 (table_rows named.0 w) (table_index named.0 w) so.held) same so.stands) stands in
-    c.is_sound.ensures ∙ marked_so so.held c.in_ok-standing-in-Some.standing so.is ∙ ap is_sound once
+    c.is_sound.ensures so.held so.is ∙ ap is_sound once
