@@ -27,7 +27,7 @@ def statements(count):
     """Pairs of a name and the statements that it is the median of, in the order in which they are run. A name None is not told."""
     rows = list(documents(count + LOAD + REPEATS))
     yield None, [CREATE] + [insert(rows[at : min(at + LOAD, count)]) for at in range(0, count, LOAD)]
-    for name, query in QUERIES:
+    for name, query, _ in QUERIES:
         yield name, [query] * REPEATS
     yield "INSERT of one document", [insert([row]) for row in rows[count : count + REPEATS]]
     yield "UPDATE of one document", [f"UPDATE mail SET subject = 'other words {at}' WHERE docid = {20 + at};" for at in range(REPEATS)]

@@ -5,31 +5,41 @@ shells answer it by a line on standard error. Times are those of a clock on the 
 """
 import glob
 import os
+import shutil
 import subprocess
 import sys
 import time
 
 from corpus import documents, word
 
+def of(term):
+    return f"term = '{term}'"
+
+
+def beginning(text):
+    return f"term >= '{text}' AND term < '{text[:-1]}{chr(ord(text[-1]) + 1)}'"
+
+
+# A line's name, its query, and which posting rows it needs from the engine.
 QUERIES = [
-    ("rare word", f"SELECT docid FROM mail WHERE mail MATCH '{word(20_000)}';"),
-    ("middle word", f"SELECT docid FROM mail WHERE mail MATCH '{word(1_000)}';"),
-    ("frequent word", f"SELECT docid FROM mail WHERE mail MATCH '{word(0)}';"),
-    ("frequent word, counted", f"SELECT count(*) FROM mail WHERE mail MATCH '{word(0)}';"),
-    ("frequent word, ten rows", f"SELECT docid FROM mail WHERE mail MATCH '{word(0)}' LIMIT 10;"),
-    ("frequent word, offsets", f"SELECT docid, offsets(mail) FROM mail WHERE mail MATCH '{word(20)}';"),
-    ("middle word, texts", f"SELECT * FROM mail WHERE mail MATCH '{word(1_000)}';"),
-    ("phrase of frequent words", f"SELECT docid FROM mail WHERE mail MATCH '\"{word(0)} {word(1)}\"';"),
-    ("phrase of middle words", f"SELECT docid FROM mail WHERE mail MATCH '\"{word(100)} {word(200)}\"';"),
-    ("NEAR", f"SELECT docid FROM mail WHERE mail MATCH '{word(10)} NEAR/5 {word(20)}';"),
-    ("prefix of two letters", "SELECT docid FROM mail WHERE mail MATCH 'za*';"),
-    ("prefix, a rare word", f"SELECT docid FROM mail WHERE mail MATCH '{word(20_000)}*';"),
-    ("AND", f"SELECT docid FROM mail WHERE mail MATCH '{word(5)} {word(50)}';"),
-    ("OR", f"SELECT docid FROM mail WHERE mail MATCH '{word(50)} OR {word(2_000)}';"),
-    ("NOT", f"SELECT docid FROM mail WHERE mail MATCH '{word(50)} NOT {word(0)}';"),
-    ("column filter", f"SELECT docid FROM mail WHERE mail MATCH 'subject:{word(3)}';"),
-    ("one document by its docid", "SELECT subject FROM mail WHERE docid = 77;"),
-    ("all documents, counted", "SELECT count(*) FROM mail;"),
+    ("rare word", f"SELECT docid FROM mail WHERE mail MATCH '{word(20_000)}';", [of(word(20_000))]),
+    ("middle word", f"SELECT docid FROM mail WHERE mail MATCH '{word(1_000)}';", [of(word(1_000))]),
+    ("frequent word", f"SELECT docid FROM mail WHERE mail MATCH '{word(0)}';", [of(word(0))]),
+    ("frequent word, counted", f"SELECT count(*) FROM mail WHERE mail MATCH '{word(0)}';", [of(word(0))]),
+    ("frequent word, ten rows", f"SELECT docid FROM mail WHERE mail MATCH '{word(0)}' LIMIT 10;", [of(word(0))]),
+    ("frequent word, offsets", f"SELECT docid, offsets(mail) FROM mail WHERE mail MATCH '{word(20)}';", [of(word(20))]),
+    ("middle word, texts", f"SELECT * FROM mail WHERE mail MATCH '{word(1_000)}';", [of(word(1_000))]),
+    ("phrase of frequent words", f"SELECT docid FROM mail WHERE mail MATCH '\"{word(0)} {word(1)}\"';", [of(word(0)), of(word(1))]),
+    ("phrase of middle words", f"SELECT docid FROM mail WHERE mail MATCH '\"{word(100)} {word(200)}\"';", [of(word(100)), of(word(200))]),
+    ("NEAR", f"SELECT docid FROM mail WHERE mail MATCH '{word(10)} NEAR/5 {word(20)}';", [of(word(10)), of(word(20))]),
+    ("prefix of two letters", "SELECT docid FROM mail WHERE mail MATCH 'za*';", [beginning("za")]),
+    ("prefix, a rare word", f"SELECT docid FROM mail WHERE mail MATCH '{word(20_000)}*';", [beginning(word(20_000))]),
+    ("AND", f"SELECT docid FROM mail WHERE mail MATCH '{word(5)} {word(50)}';", [of(word(5)), of(word(50))]),
+    ("OR", f"SELECT docid FROM mail WHERE mail MATCH '{word(50)} OR {word(2_000)}';", [of(word(50)), of(word(2_000))]),
+    ("NOT", f"SELECT docid FROM mail WHERE mail MATCH '{word(50)} NOT {word(0)}';", [of(word(50)), of(word(0))]),
+    ("column filter", f"SELECT docid FROM mail WHERE mail MATCH 'subject:{word(3)}';", [of(word(3))]),
+    ("one document by its docid", "SELECT subject FROM mail WHERE docid = 77;", []),
+    ("all documents, counted", "SELECT count(*) FROM mail;", []),
 ]
 REPEATS = 5
 WRITES = 100
@@ -98,10 +108,24 @@ def queries(program, path, output):
     shell = Shell(program, path, output)
     shell.seconds("SELECT docid FROM mail WHERE docid = 1;")
     told = []
-    for name, query in QUERIES:
+    for name, query, _ in QUERIES:
         shell.seconds(f".print == {name}")
         told.append((name, median([shell.seconds(query) for _ in range(REPEATS)])))
     return told, shell.end()
+
+
+def engine_parts(program, path, copy):
+    """Seconds that the engine needs for the posting rows of each query, over a copy of the full-text store opened as a plain file."""
+    shutil.copy(f"{path}-fts4", copy)
+    shell = Shell(program, copy, os.devnull)
+    shell.seconds("SELECT 1;")
+    told = {}
+    for name, _, rows in QUERIES:
+        counts = "\n".join(f"SELECT count(list) FROM posting WHERE tab = 1 AND {test};" for test in rows)
+        if counts:
+            told[f"{name}, ms"] = 1000 * median([shell.seconds(counts) for _ in range(REPEATS)])
+    shell.end()
+    return told
 
 
 def writes(program, path):
@@ -124,7 +148,7 @@ def writes(program, path):
 
 
 def measured(program, folder, name):
-    """All lines of one shell: pairs of a name and a number."""
+    """All lines of one shell: pairs of a name and a number. Of ft4sh also the engine's part of each query."""
     path = f"{folder}/{name}.db"
     lines = []
     for way, told in (("singles", "load by single INSERTs"), ("import", "load by .import"), ("rows", "load by INSERTs of 500 rows")):
@@ -134,9 +158,10 @@ def measured(program, folder, name):
     lines.append(("start, s", median([start(program, path) for _ in range(3)])))
     times, memory = queries(program, path, f"{folder}/{name}.out")
     lines += [(f"{told}, ms", 1000 * seconds) for told, seconds in times]
+    engine = engine_parts(program, path, f"{folder}/rows.db") if name == "ft4sh" else {}
     lines.append(("start and all queries, most memory, MiB", memory))
     lines += [(f"{told}, s", seconds) for told, seconds in writes(program, path)]
-    return lines
+    return lines, engine
 
 
 def answers(path):
@@ -147,13 +172,14 @@ def answers(path):
 
 
 def main(folder, program, sqlite3):
-    ours = measured(program, folder, "ft4sh")
-    theirs = measured(sqlite3, folder, "sqlite3")
-    print("| | ft4sh | sqlite3 | ratio |\n|---|---|---|---|")
+    ours, engine = measured(program, folder, "ft4sh")
+    theirs, _ = measured(sqlite3, folder, "sqlite3")
+    print("| | ft4sh | sqlite3 | ratio | engine's part | ratio |\n|---|---|---|---|---|---|")
     for (name, number), (_, other) in zip(ours, theirs):
-        print(f"| {name} | {number:.3g} | {other:.3g} | {number / other:.2g} |")
+        part = f"{engine[name]:.3g} | {number / engine[name]:.2g}" if name in engine else " | "
+        print(f"| {name} | {number:.3g} | {other:.3g} | {number / other:.2g} | {part} |")
     told, wanted = answers(f"{folder}/ft4sh.out"), answers(f"{folder}/sqlite3.out")
-    differing = [name for name, _ in QUERIES if told.get(name) != wanted.get(name)]
+    differing = [name for name, _, _ in QUERIES if told.get(name) != wanted.get(name)]
     rows = sum(text.count("\n") for text in told.values()) // REPEATS
     print(f"\nThe answers have {rows} rows, and " + (f"differ: {', '.join(differing)}" if differing else "both shells gave the same."))
     return 1 if differing else 0
