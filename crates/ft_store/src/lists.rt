@@ -35,8 +35,10 @@ fn list_row(alloc: Global, row: &Row) -> Result<ListRow, StoreFault>
     ensures fault { IfErr result IsReadFault }
 {
     let docid: i64 = row.get(0)?;
-    let list: Vec<u8> = row.get(1)?;
-    let spots = unpack(alloc, list.as_slice())?;
+    let ValueRef::Blob(list) = row.get_ref(1)? else {
+        return Err(StoreFault::Refused);
+    };
+    let spots = unpack(alloc, list)?;
     Ok(ListRow { docid, spots })
 }
 

@@ -2,6 +2,8 @@ use Rattle.std.proofs.Common.{◌≡◌, [], rules, sym, ap, ◌∙◌, to_z-of_
 use Rattle.std.specs.Prelude.{unwrap_or}
 use Rattle.sqlite.specs.Order.{column}
 use Rattle.sqlite_value.specs.Order.{bytes}
+use Rattle.sqlite_value.specs.Value.{owned}
+use Rattle.sqlite.specs.declared.types.ValueRef.{ValueRef}
 use Rattle.sqlite_rules.specs.Edit.{id_in}
 use Rattle.ft_store.specs.Packed.{spots_in}
 use Rattle.ft_store.proofs.ReadLemmas.{some_places}
@@ -11,8 +13,8 @@ pub returns-clause-found : goal.returns-clause-found
 returns-clause-found c =
     let fits : FitsSigned w64 c.in_ok-docid.docid = search rules in
     let docid : c.in_ok-docid.docid ≡ id_in (column c.args.row.now 0) = search rules in
-    let list : c.in_ok-list.list.items ≡ bytes (column c.args.row.now 1) = search rules in
-    let places = ap spots_in (sym list ∙ sym c.as_slice.ensures.value) ∙ c.in_ok-spots.ensures.spots in
+    let list : c.in-Blob.list.now ≡ bytes (column c.args.row.now 1) = ap (λ (v : ValueRef). bytes (owned v)) (sym c.in-Blob.is) ∙ ap bytes c.in_ok-list.ensures.ok.1 in
+    let places = ap spots_in (sym list) ∙ c.in_ok-spots.ensures.spots in
     let spots : c.in_ok-spots.spots.items ≡ unwrap_or (spots_in (bytes (column c.args.row.now 1))) [] = sym (ap (λ o. unwrap_or o []) places) in
     let number = to_z-of_z fits ∙ docid in (
       λ i. (number i, spots i),
