@@ -18,6 +18,9 @@ const PEARS: &str = "INSERT INTO tab VALUES (1, 'd'), (2, 'e');
 // One list whose bytes end too early.
 const DAMAGE: &str = "INSERT INTO posting VALUES (1, 'reed', 1, x'000106')";
 
+// Another, in front of a whole one of its term and of all others.
+const FRONT: &str = "INSERT INTO posting VALUES (1, 'green', 0, x'000106')";
+
 fn lists_text(alloc: Global, rows: &[ListRow]) -> Result<String, AllocError> {
     let mut all = String::new(alloc);
     for row in rows {
@@ -162,39 +165,40 @@ fn lists_of_prefixes_are_read(rt: HostRuntime) -> Result<(), Fail> {
     Ok(())
 }
 
-// How many lists are read, or none where damage is told.
-fn lists_or_damage<S: Alter>(
-    store: &mut Store<S>,
-    asked: Asked,
-) -> Result<Option<usize>, StoreFault> {
-    match lists_once(store, asked) {
+// How many rows are read, or none where damage is told.
+fn count_or_damage<T: Drop>(read: Result<Vec<T>, StoreFault>) -> Result<Option<usize>, StoreFault> {
+    match read {
         Ok(rows) => Ok(Some(rows.len())),
         Err(StoreFault::Damaged) => Ok(None),
         Err(fault) => Err(fault),
     }
 }
 
-// What is read one after the other, and how many rows were counted by then.
+// What is read one after the other, as lists and as entries, and how many rows were counted by
+// then. All entries of the table 1 come last.
 fn read_all<S: Alter>(store: &mut Store<S>, alloc: Global, all: &[Asked]) -> Result<String, Fail> {
     let mut told = String::new(alloc);
     for asked in all {
-        let read = lists_or_damage(store, *asked)?;
-        write!(told, "{read:?} {};", store.rows_read())?;
+        let lists = count_or_damage(lists_once(store, *asked))?;
+        let entries = count_or_damage(entries_once(store, *asked))?;
+        write!(told, "{lists:?} {entries:?} {};", store.rows_read())?;
     }
+    let entries = count_or_damage(store.entries(1))?;
+    write!(told, "{entries:?}")?;
     Ok(told)
 }
 
-// What is read of a store with a damaged list.
+// What is read of a store that has these rows too, a damaged list among them.
 #[derive(Clone, Copy)]
-struct Damaged<'a>(&'a [Asked]);
+struct Damaged<'a>(&'a str, &'a [Asked]);
 
 impl<'a> Trial for Damaged<'a> {
     type Found = String;
 
     fn over<S: Begins>(self, alloc: Global) -> Result<String, Fail> {
         let store = begun::<S>(alloc, PEARS)?;
-        let mut store = with_rows(alloc, store, DAMAGE)?;
-        read_all(&mut store, alloc, self.0)
+        let mut store = with_rows(alloc, store, self.0)?;
+        read_all(&mut store, alloc, self.1)
     }
 }
 
@@ -207,7 +211,22 @@ fn damaged_lists_are_told(rt: HostRuntime) -> Result<(), Fail> {
         Asked::Term(1, "red"),
         Asked::Prefix(1, "g"),
     ];
-    let told = tried(rt.alloc(), Damaged(&asked))?;
-    assert_eq!(rt; told.as_str(), "None 0;None 0;None 0;Some(2) 3;Some(1) 4;");
+    let told = tried(rt.alloc(), Damaged(DAMAGE, &asked))?;
+    let wanted = "None None 0;None None 0;None None 0;Some(2) Some(3) 6;Some(1) Some(1) 8;None";
+    assert_eq!(rt; told.as_str(), wanted);
+    Ok(())
+}
+
+#[test]
+fn damaged_list_in_front_is_told(rt: HostRuntime) -> Result<(), Fail> {
+    let asked = [
+        Asked::Term(1, "green"),
+        Asked::Prefix(1, "g"),
+        Asked::Prefix(1, ""),
+        Asked::Term(1, "red"),
+    ];
+    let told = tried(rt.alloc(), Damaged(FRONT, &asked))?;
+    let wanted = "None None 0;None None 0;None None 0;Some(2) Some(3) 6;None";
+    assert_eq!(rt; told.as_str(), wanted);
     Ok(())
 }
