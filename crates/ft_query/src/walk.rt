@@ -61,7 +61,8 @@ fn push_offset(text: &mut String, offset: &Offset) -> Result<(), AllocError>
 pub fn offsets_text(alloc: Global, offsets: &[Offset]) -> Result<String, AllocError>
     ensures { IfOk result (λ text. string_bytes text ≡ offsets_text offsets.now) }
 {
-    let mut text = String::new(alloc);
+    // four numbers and their spaces have some ten bytes
+    let mut text = String::with_capacity(alloc, offsets.len().saturating_mul(10))?;
     let Some((first, rest)) = offsets.split_first() else {
         return Ok(text);
     };
