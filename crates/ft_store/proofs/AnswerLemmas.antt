@@ -7,7 +7,7 @@ use Rattle.std.specs.Cmp.{IsTotalOrder}
 use Rattle.std.specs.FinMap.Entries.{where_key}
 use Rattle.std.proofs.lemmas.Cmp.{on_total, then_total, int_cmp_total}
 use Rattle.sqlite.specs.declared.types.Value.{Value}
-use Rattle.sqlite.specs.declared.types.Value.TheVariants.{Null, Int, Text, Blob}
+use Rattle.sqlite.specs.declared.types.Value.TheVariants.{Null, Int, Text}
 use Rattle.sqlite.specs.Order.{Row, column}
 use Rattle.sqlite_value.specs.Order.{value_cmp, bytes}
 use Rattle.sqlite_value.specs.Keys.{without_case, by_key, ascending}
@@ -31,7 +31,7 @@ use Rattle.ft_values.specs.declared.rows.Spot.{Spot}
 use Rattle.ft_store.specs.Packed.{spots_in}
 use Rattle.ft_store.specs.Tables.{store_schema}
 use Rattle.ft_values.specs.Cells.{Cell}
-use Rattle.ft_store.specs.Store.{CellKey, ListKey, ColumnKey, cell_key_cmp, list_key_cmp, column_key_cmp, name_cmp}
+use Rattle.ft_store.specs.Store.{ListKey, cell_key_cmp, list_key_cmp, column_key_cmp, name_cmp}
 use Rattle.ft_values.specs.Cells as cells
 use Rattle.ft_store.specs.Rows.{keyed, table_entry, column_entry, skip_entry, cell_entry, list_entry, size_entry, note_entry, value_of}
 use Rattle.sqlite_rules.specs.Edit.{id_in}

@@ -191,12 +191,12 @@ module _ {K X : Type 0} (R : K → K → Ordering) (total : IsTotalOrder R) (tie
   swap_apart : (a b : K × X) (es : List (K × X)) → StayApart (a ∷ b ∷ es) (b ∷ a ∷ es)
   swap_apart a b es = (
     (λ k none.
-      let first = some_first (eq_by_cmp R k a.0) a.1 (find R k (b ∷ es)) none in
-      let second = some_first (eq_by_cmp R k b.0) b.1 (find R k es) first.1 in
-      none_from (eq_by_cmp R k b.0) b.1 (find R k (a ∷ es)) second.0 (none_from (eq_by_cmp R k a.0) a.1 (find R k es) first.0 second.1)),
+        let first = some_first (eq_by_cmp R k a.0) a.1 (find R k (b ∷ es)) none in
+        let second = some_first (eq_by_cmp R k b.0) b.1 (find R k es) first.1 in
+        none_from (eq_by_cmp R k b.0) b.1 (find R k (a ∷ es)) second.0 (none_from (eq_by_cmp R k a.0) a.1 (find R k es) first.0 second.1)),
     (λ apart.
-      let first = some_first (eq_by_cmp R a.0 b.0) b.1 (find R a.0 es) apart.0 in
-      (none_from (eq_by_cmp R b.0 a.0) a.1 (find R b.0 es) (apart_back R total tie a.0 b.0 first.0) apart.1.0, (first.1, apart.1.1))),
+        let first = some_first (eq_by_cmp R a.0 b.0) b.1 (find R a.0 es) apart.0 in
+        (none_from (eq_by_cmp R b.0 a.0) a.1 (find R b.0 es) (apart_back R total tie a.0 b.0 first.0) apart.1.0, (first.1, apart.1.1))),
   )
 
   pub stays_apart : (es fs : List (K × X)) → IsPermutation es fs → StayApart es fs

@@ -8,7 +8,7 @@ use Rattle.sqlite.specs.Clock.{timed}
 use Rattle.sqlite.specs.Listing.{understood, reads_listing, IsSourceOf}
 use Rattle.sqlite.specs.declared.error.Error.{Error}
 use Rattle.sqlite.specs.declared.rows.stream.Rows.{Rows}
-use Rattle.sqlite.specs.State.{State, HasCleanDisk, IsUnchanged, Shown, ShowsRows, Survives, CommitsShowing, FailsToQuery}
+use Rattle.sqlite.specs.State.{State, HasCleanDisk, IsUnchanged, Shown, ShowsRows, Survives, CommitsShowing}
 use Rattle.sqlite.specs.Given.{IsPlain, Returns, HasGiven, HasBegun, Advances, FailsToAdvance}
 use Rattle.sqlite.specs.Next.{HasMoved}
 use Rattle.sqlite.specs.Held.{Held, state}
@@ -68,10 +68,10 @@ module _ {S : Type 0} (g : Ghosts S) (sql : List ℕ) (params : Row) (old : Held
       mode = moved.mode so.mode;
       survives = moved_survives;
       given = λ clean.
-        let before = so.given (clean_before clean) in
-        let goes : Advances g rows.conn.now left.conn.now (Some row.now) = subst (λ (r : Result (Option (Bor Row)) Error). IfOk r (λ o. Advances g rows.conn.now left.conn.now (option_copied o))) is (moved.ok clean) in
-        let same : IsUnchanged (state g rows.conn.now) (state g left.conn.now) = subst (λ (r : Result (Option (Bor Row)) Error). OnOk r (IsUnchanged (state g rows.conn.now) (state g left.conn.now))) is (moved.same clean) in
-        (before.0 ++ row.now ∷ [], goes sql params before.0 before.1, unchanged_then _ _ _ before.2 same, more before.0 before.3);
+          let before = so.given (clean_before clean) in
+          let goes : Advances g rows.conn.now left.conn.now (Some row.now) = subst (λ (r : Result (Option (Bor Row)) Error). IfOk r (λ o. Advances g rows.conn.now left.conn.now (option_copied o))) is (moved.ok clean) in
+          let same : IsUnchanged (state g rows.conn.now) (state g left.conn.now) = subst (λ (r : Result (Option (Bor Row)) Error). OnOk r (IsUnchanged (state g rows.conn.now) (state g left.conn.now))) is (moved.same clean) in
+          (before.0 ++ row.now ∷ [], goes sql params before.0 before.1, unchanged_then _ _ _ before.2 same, more before.0 before.3);
     }
 
     pub rows_shown : result ≡ Ok None → HasCleanDisk (state g left.conn.now) → (given : List Row) × Shown sql params (state g old) (state g left.conn.now) given × AreMade given

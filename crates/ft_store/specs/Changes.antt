@@ -5,7 +5,7 @@ use Rattle.sqlite.specs.declared.types.Value.TheVariants as sql
 use Rattle.ft_values.specs.declared.rows.RowChange.{RowChange}
 use Rattle.ft_values.specs.declared.rows.RowChange.TheVariants as row
 use Rattle.ft_store.specs.Packed.{CanPack}
-use Rattle.ft_values.specs.Cells.{Cell, Null, Int, Text, shown_value}
+use Rattle.ft_values.specs.Cells.{Cell, Int, Text, shown_value}
 use Rattle.ft_store.specs.Store.{Change, AddTable, DropTable, PutCell, DropCells, PutEntries, DropEntries, PutSize, DropSize, ClearIndex, Note}
 
 abbrev pub shown_change : RowChange → Change

@@ -1,5 +1,5 @@
 //! Whether a database with the tables of a store is one.
-ghost use Rattle.std.specs.Prelude.{◌≡◌, ◌≢◌, false, ℕ, ℤ, ◌<◌, [], ◌∷◌, map, length, MatchOption, IfSome, ◌<ℤ◌, Err, Some, None, IsTrue, IfOk, IfErr, OnOk};
+ghost use Rattle.std.specs.Prelude.{◌≡◌, ◌≢◌, false, ℤ, ◌<◌, [], ◌∷◌, map, length, MatchOption, IfSome, ◌<ℤ◌, Err, Some, None, IsTrue, IfOk, IfErr, OnOk};
 ghost use Rattle.sqlite.specs.State.{HasCleanDisk, Survives};
 ghost use Rattle.sqlite.specs.Held.{state};
 ghost use Rattle.sqlite.specs.Order.{column};

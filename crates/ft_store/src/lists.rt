@@ -1,9 +1,9 @@
 //! Queries on the lists of terms.
-ghost use Rattle.std.specs.Prelude.{◌≡◌, ◌≢◌, false, ◌&&◌, ℕ, ℤ, List, ◌<◌, ◌-◌, ◌^◌, [], ◌++◌, map, min, nat_eq, Err, IsTrue, IfOk, IfErr, OnOk};
+ghost use Rattle.std.specs.Prelude.{◌≡◌, ◌≢◌, false, ◌&&◌, ℤ, List, ◌<◌, ◌-◌, ◌^◌, [], ◌++◌, map, min, nat_eq, Err, IsTrue, IfOk, IfErr, OnOk, MatchOption};
 ghost use Rattle.std.specs.Ordering.{int_eq, is_eq};
 ghost use Rattle.std.specs.List.{AllByRecursion, starts_with, flat_map};
 ghost use Rattle.std.specs.FinMap.Entries.{where_key};
-ghost use Rattle.sqlite.specs.State.{HasCleanDisk, Survives, Shown};
+ghost use Rattle.sqlite.specs.State.{HasCleanDisk, Shown};
 ghost use Rattle.sqlite.specs.Given.{IsPlain};
 ghost use Rattle.sqlite.specs.Listing.{understood};
 ghost use Rattle.sqlite.specs.Order as order;
@@ -15,8 +15,8 @@ ghost use Rattle.ft_store.specs.Store.{list_key_cmp, name_cmp};
 ghost use Rattle.ft_store.specs.Rows.{value_of};
 ghost use Rattle.ft_store.specs.Range.{after_last};
 ghost use Rattle.ft_store.specs.Found.{found_spots, found_places};
-ghost use Rattle.ft_store.specs.Shown.{shown_list, bare_list, shown_entry, entries_with, entries_of, lists_of_term, lists_of_prefix, spot_count, AreWhole, AreRead, SomeDamaged};
-ghost use Rattle.ft_store.specs.Calls.{IsStoreIfOpen, IsPlainFault, IsReadFault, Keeps, Reads};
+ghost use Rattle.ft_store.specs.Shown.{shown_list, shown_entry, entries_with, entries_of, lists_of_term, lists_of_prefix, spot_count, AreWhole, AreRead, SomeDamaged};
+ghost use Rattle.ft_store.specs.Calls.{IsStoreIfOpen, IsPlainFault, IsReadFault, Reads};
 
 use crate::fault::StoreFault;
 use crate::packed::unpack;
@@ -28,18 +28,21 @@ use std::alloc::{AllocError, Global};
 
 // ---- rows
 
-/// A list, of its row, in which docid and packed list come first. Damaged bytes are Damaged.
-fn list_row(alloc: Global, row: &Row) -> Result<ListRow, StoreFault>
-    ensures found { IfOk result (λ l. (shown_list l ≡ found_spots row.now) × ((found_spots row.now).1 ≢ [])) }
-    ensures damaged { result ≡ Err StoreFault.Damaged → (found_spots row.now).1 ≡ [] }
-    ensures fault { IfErr result IsReadFault }
+/// A list, of its row, in which docid and packed list come first; none where its bytes are damaged.
+fn list_row(alloc: Global, row: &Row) -> Result<Option<ListRow>, StoreFault>
+    ensures found { IfOk result (λ list. MatchOption list ((found_spots row.now).1 ≡ [])
+        (λ l. (shown_list l ≡ found_spots row.now) × ((found_spots row.now).1 ≢ []))) }
+    ensures fault { IfErr result IsPlainFault }
 {
     let docid: i64 = row.get(0)?;
-    let ValueRef::Blob(list) = row.get_ref(1)? else {
+    let ValueRef::Blob(bytes) = row.get_ref(1)? else {
         return Err(StoreFault::Refused);
     };
-    let spots = unpack(alloc, list)?;
-    Ok(ListRow { docid, spots })
+    match unpack(alloc, bytes) {
+        Ok(spots) => Ok(Some(ListRow { docid, spots })),
+        Err(StoreFault::Damaged) => Ok(None),
+        Err(fault) => Err(fault),
+    }
 }
 
 /// Lists, as their rows come.
@@ -61,14 +64,11 @@ impl Gathered for ListsOf {
         if !whole {
             return Ok(false);
         }
-        match list_row(self.alloc, row) {
-            Ok(list) => {
-                self.lists.push(list)?;
-                Ok(true)
-            }
-            Err(StoreFault::Damaged) => Ok(false),
-            Err(fault) => Err(fault),
-        }
+        let Some(list) = list_row(self.alloc, row)? else {
+            return Ok(false);
+        };
+        self.lists.push(list)?;
+        Ok(true)
     }
 }
 
@@ -152,15 +152,12 @@ impl Gathered for EntriesOf {
         if !whole {
             return Ok(false);
         }
+        let Some(list) = list_row(self.alloc, row)? else {
+            return Ok(false);
+        };
         let term: String = row.get(2)?;
-        match list_row(self.alloc, row) {
-            Ok(list) => {
-                push_entries(self.alloc, &mut self.entries, term.as_str(), &list)?;
-                Ok(true)
-            }
-            Err(StoreFault::Damaged) => Ok(false),
-            Err(fault) => Err(fault),
-        }
+        push_entries(self.alloc, &mut self.entries, term.as_str(), &list)?;
+        Ok(true)
     }
 }
 

@@ -1,10 +1,10 @@
 //! The tables of a store, each with its columns.
-ghost use Rattle.std.specs.Prelude.{◌≡◌, false, map, string_bytes, IsTrue, IfOk, IfErr, OnOk};
-ghost use Rattle.sqlite.specs.State.{HasCleanDisk, Survives};
+ghost use Rattle.std.specs.Prelude.{◌≡◌, false, map, string_bytes, IfOk, IfErr};
+ghost use Rattle.sqlite.specs.State.{HasCleanDisk};
 ghost use Rattle.sqlite.specs.Held.{state};
 ghost use Rattle.ft_store.specs.Rows.{value_of};
 ghost use Rattle.ft_store.specs.Shown.{shown_table, table_listed, tables_listed};
-ghost use Rattle.ft_store.specs.Calls.{IsStoreIfOpen, IsPlainFault, Keeps, Reads};
+ghost use Rattle.ft_store.specs.Calls.{IsStoreIfOpen, IsPlainFault, Reads};
 
 use crate::fault::StoreFault;
 use crate::read::{columns, names, skips};

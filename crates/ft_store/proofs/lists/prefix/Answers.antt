@@ -1,11 +1,9 @@
-use Rattle.std.proofs.Common.{◌≡◌, Bool, [], map, ap, subst, ◌∙◌, to_z-of_z, rules}
+use Rattle.std.proofs.Common.{◌≡◌, Bool, [], map, subst, to_z-of_z, rules}
 use Rattle.std.specs.Prelude.{IfOk}
 use Rattle.std.specs.FinMap.Entries.{where_key}
 use Rattle.sqlite.specs.Held.{state}
-use Rattle.std.proofs.lemmas.Result.{IfOk-weaker}
 use Rattle.ft_store.specs.Store.{ListKey, list_key_cmp}
 use Rattle.ft_store.specs.Rows.{value_of}
-use Rattle.ft_store.specs.Found.{found_places}
 use Rattle.ft_store.specs.Shown.{shown_entry, entries_of, AreWhole, SomeDamaged}
 use Rattle.ft_store.proofs.RangeLemmas.{below_255, all_begin, none_of}
 use Rattle.ft_store.proofs.lists.prefix.Goals as goal

@@ -1,14 +1,11 @@
-use Rattle.std.proofs.Common.{◌≡◌, Bool, [], map, sym, ap, subst, ◌∙◌, to_z-of_z, rules}
+use Rattle.std.proofs.Common.{◌≡◌, Bool, [], subst, to_z-of_z, rules}
 use Rattle.std.specs.Prelude.{IfOk}
 use Rattle.std.specs.FinMap.Entries.{where_key}
 use Rattle.sqlite.specs.Held.{state}
-use Rattle.std.proofs.lemmas.Result.{IfOk-weaker}
 use Rattle.ft_store.specs.Store.{ListKey, list_key_cmp}
 use Rattle.ft_store.specs.Rows.{value_of}
-use Rattle.ft_store.specs.Found.{found_spots}
-use Rattle.ft_store.specs.Shown.{AreRead, AreWhole, SomeDamaged}
+use Rattle.ft_store.specs.Shown.{AreRead, SomeDamaged}
 use Rattle.ft_store.proofs.RangeLemmas.{below_255, all_begin, none_of}
-use Rattle.ft_store.proofs.EntryLemmas.{whole_bare, bare_whole}
 use Rattle.ft_store.proofs.lists.prefix_lists.Goals as goal
 
 pub returns-then-is_empty-clause-rows : goal.returns-then-is_empty-clause-rows

@@ -1,4 +1,4 @@
-use Rattle.std.proofs.Common.{rules}
+use Rattle.std.proofs.Common.{◌≡◌, [], rules}
 use Rattle.ft_store.specs.Found.{found_spots}
 use Rattle.ft_store.proofs.EntryLemmas.{damaged_more, damaged_last}
 use Rattle.ft_store.proofs.lists.ListsOfGathered.add.Goals as goal
@@ -6,5 +6,7 @@ use Rattle.ft_store.proofs.lists.ListsOfGathered.add.Goals as goal
 pub returns-then-not-whole-clause-added : goal.returns-then-not-whole-clause-added
 returns-then-not-whole-clause-added c = λ rows h. damaged_more found_spots c.args.row.now rows (rw c.if-not-whole.true at h)
 
-pub returns-in-Err-Damaged-clause-added : goal.returns-in-Err-Damaged-clause-added
-returns-in-Err-Damaged-clause-added c = λ rows h. damaged_last found_spots c.args.row.now rows (c.in-Err-Damaged.ensures.damaged (search rules))
+pub returns-in_default-clause-added : goal.returns-in_default-clause-added
+returns-in_default-clause-added c = λ rows h.
+    let none : (found_spots c.args.row.now).1 ≡ [] = search rules in
+    damaged_last found_spots c.args.row.now rows none
