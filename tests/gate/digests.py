@@ -3,6 +3,8 @@
 own     the crate's sources and edits, its line in crates.txt and the kit
 below   the sources and lines of the crates below it
 faces   what it can know of those: their texts without bodies, their definitions and lemmas, and what the kit made of them but for bodies
+
+The file has a part for each kit whose prover refused them, headed by the kit's own line: machines with other kits may take turns.
 """
 import functools
 import hashlib
@@ -35,7 +37,7 @@ def files_in(folder, *parts):
 
 @functools.lru_cache(maxsize=None)
 def version():
-    return subprocess.check_output([kit.RT, "version"]).decode()
+    return subprocess.check_output([kit.RT, "version"]).decode().strip()
 
 
 def sources(crate, root, *parts):
@@ -45,10 +47,10 @@ def sources(crate, root, *parts):
     return crate.name, rows, [it for it in files_in(crate.folder, "src", "specs", "proofs", *parts) if it[0] != TRIED]
 
 
-def of(crate, root):
-    """Returns the digests that need nothing built."""
+def of(crate, root, by=None):
+    """Returns the digests that need nothing built, by the kit of this line or by the present one."""
     below = sorted(sources(it, root) for it in crate.below())
-    return {"own": digest([version(), sources(crate, root, "must-fail")]), "below": digest(below)}
+    return {"own": digest([f"{by or version()}\n", sources(crate, root, "must-fail")]), "below": digest(below)}
 
 
 def faces(crate):
@@ -77,13 +79,19 @@ def const_functions(library):
     return found
 
 
-def written(crate):
-    """Returns the digests under which all edits of the crate were last refused."""
+def parts(crate):
+    """Returns the digests under which all edits of the crate were last refused, by the line of the kit that refused them."""
     file = f"{crate.folder}/{TRIED}"
     if not os.path.isfile(file):
         return {}
     with open(file, encoding="utf-8", errors="replace") as it:
-        return dict(re.findall(r"(?m)^- (\w+): (\w+)$", it.read()))
+        said = re.split(r"(?m)^## (.*)\n", it.read())[1:]
+    return {by: dict(re.findall(r"(?m)^- (\w+): (\w+)$", text)) for by, text in zip(said[::2], said[1::2])}
+
+
+def written(crate):
+    """Returns what is written of the present kit."""
+    return parts(crate).get(version(), {})
 
 
 def is_current(crate, now, *names):
@@ -91,14 +99,25 @@ def is_current(crate, now, *names):
     return all(said.get(it) == now[it] for it in names)
 
 
-def write(crate, now):
-    """Writes that all edits were refused on this state."""
-    said = "".join(f"- {name}: {now[name]}\n" for name in ("own", "below", "faces"))
-    with open(f"{crate.folder}/{TRIED}", "w", encoding="utf-8") as it:
-        it.write(f"# Wrong bodies\n\ntests/wrong-bodies saw all edits of this folder refused on the state that has these digests:\n\n{said}")
+def write(crate, now, root):
+    """Writes that all edits were refused on this state, and leaves what other kits refused of the same sources."""
+    keep(crate, {version(): now, **{by: it for by, it in parts(crate).items() if by != version() and of(crate, root, by).items() <= it.items()}})
+
+
+def keep(crate, said):
+    """Writes these digests by their kits, or takes the file away where there are none."""
+    file = f"{crate.folder}/{TRIED}"
+    if not said:
+        os.remove(file)
+        return
+    text = "# Wrong bodies\n\ntests/wrong-bodies saw all edits of this folder refused on the state that has these digests, by the prover of each kit:\n"
+    for by in sorted(said):
+        text += f"\n## {by}\n\n" + "".join(f"- {name}: {said[by][name]}\n" for name in ("own", "below", "faces"))
+    with open(file, "w", encoding="utf-8") as it:
+        it.write(text)
 
 
 def withdraw(crate, now):
     """Takes back what is written, where it would be taken to say that all edits are refused on this state."""
     if is_current(crate, now, "own", "below") or is_current(crate, now, "own", "faces"):
-        os.remove(f"{crate.folder}/{TRIED}")
+        keep(crate, {by: it for by, it in parts(crate).items() if by != version()})

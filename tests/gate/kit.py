@@ -35,6 +35,11 @@ def jobs(rt):
     return int(given) if given.isdigit() and int(given) else max(fitting, 1)
 
 
+def is_refused(rt, came):
+    """Returns whether this came of a try that `rt` calls refused: a kit answers true, and a later one a kind of its own."""
+    return came in (rt.REFUSED, rt.AT_LIMIT) if hasattr(rt, "AT_LIMIT") else came is True
+
+
 def prove(crate, flags):
     """Proves a crate whose libraries are proved, where it has changed or nothing is kept of its check, and returns what was said if that fails.
 
