@@ -48,10 +48,12 @@ test:
 test-all:
 	tests/gate/run --all
 
-# Tries the edits that must fail of the crates where something changed since they were refused, and writes where all were refused.
+# Tries the edits that must fail of the crates where something changed since they were refused, and writes where all were refused; and runs
+# the tests of the script that does so, where it has changed.
 wrong-bodies:
 	@crates="$(or $(CRATE),$$(tests/wrong-bodies --stale))"; [ -z "$$crates" ] || $(side_by_side) $$(printf 'prove-%s ' $$crates)
 	RT_JOBS=$(RT_JOBS) tests/wrong-bodies $(CRATE)
+	! tests/gate/tests --stale || tests/gate/tests
 
 install: build
 	mkdir -p "$(DESTDIR)$(PREFIX)/bin" "$(DESTDIR)$(PREFIX)/share/man/man1"

@@ -22,7 +22,8 @@ pub(crate) fn column_place(columns: &[Column], name: &str) -> Option<usize>
 
 // Whether one of the columns has this name.
 pub(crate) fn is_column(columns: &[Column], name: &str) -> bool
-    ensures { result ≡ list_any (content.same_name name.now) (content.names_of (bare_content columns.now).columns) }
+    ensures { result ≡ list_any (content.same_name name.now)
+        (content.names_of (bare_content columns.now).columns) }
 {
     columns
         .iter()
@@ -38,7 +39,8 @@ pub fn has_column(columns: &[Column], name: &str) -> bool
 
 /// Whether a MATCH of the filter has a name that is neither the table's nor a column's.
 pub(crate) fn names_unknown(table: &str, columns: &[Column], filter: &Filter) -> bool
-    ensures { result ≡ deserved.names_unknown table.now (bare_content columns.now) (filter_of filter.now) }
+    ensures { result ≡ deserved.names_unknown table.now (bare_content columns.now)
+        (filter_of filter.now) }
 {
     match filter {
         Filter::All | Filter::Docid(_) => false,
@@ -48,7 +50,8 @@ pub(crate) fn names_unknown(table: &str, columns: &[Column], filter: &Filter) ->
 
 // Whether a MATCH may have this name: that of the table, or of a column.
 fn is_searched(table: &str, columns: &[Column], name: &str) -> bool
-    ensures { result ≡ (content.same_name table.now name.now || list_any (content.same_name name.now) (content.names_of (bare_content columns.now).columns)) }
+    ensures { result ≡ (content.same_name table.now name.now || list_any
+        (content.same_name name.now) (content.names_of (bare_content columns.now).columns)) }
 {
     same_name(table, name) || is_column(columns, name)
 }
@@ -59,7 +62,8 @@ pub(crate) fn push_names(
     names: &mut Vec<String>,
     columns: &[Column],
 ) -> Result<(), AllocError>
-    ensures { OnOk result (names_in names.new ≡ names_in names.old ++ content.names_of (bare_content columns.now).columns) }
+    ensures { OnOk result (names_in names.new
+        ≡ names_in names.old ++ content.names_of (bare_content columns.now).columns) }
 {
     for column in columns {
         names.push(String::from_str(alloc, column.name.as_str())?)?;

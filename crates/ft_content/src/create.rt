@@ -15,7 +15,8 @@ use std::alloc::{AllocError, Global};
 
 /// The names of the columns that a Create makes: those given, or `content` where there are none.
 pub fn made_names(alloc: Global, columns: &[String]) -> Result<Vec<String>, AllocError>
-    ensures { IfOk result (λ names. map string_bytes names.items ≡ deserved.made_columns (map string_bytes columns.now)) }
+    ensures { IfOk result (λ names. map string_bytes names.items
+        ≡ deserved.made_columns (map string_bytes columns.now)) }
 {
     let mut names = copied_texts(alloc, columns)?;
     if names.is_empty() {
@@ -40,7 +41,8 @@ pub fn made_columns(
     options: &[(String, String)],
     names: Vec<String>,
 ) -> Result<Vec<Column>, AllocError>
-    ensures { IfOk result (λ columns. map column_of columns.items ≡ map (step.made_column (map option_of options.now)) (map string_bytes names.items)) }
+    ensures { IfOk result (λ columns. map column_of columns.items
+        ≡ map (step.made_column (map option_of options.now)) (map string_bytes names.items)) }
 {
     let mut columns = Vec::new(alloc);
     for name in names {
@@ -64,21 +66,24 @@ fn is_notindexed(option: &(String, String)) -> bool
 
 // Whether no option says that the column of this name isn't indexed.
 fn is_indexed(options: &[(String, String)], name: &str) -> bool
-    ensures { result ≡ not (list_any (λ o. deserved.is_notindexed o && content.same_name o.1 name.now) (map option_of options.now)) }
+    ensures { result ≡ not (list_any (λ o. deserved.is_notindexed o && content.same_name o.1
+        name.now) (map option_of options.now)) }
 {
     !options.iter().any(|option| is_notindexed(option) && same_name(option.1.as_str(), name))
 }
 
 // Whether an option names a tokenizer that isn't `simple`.
 fn has_other_tokenizer(options: &[(String, String)]) -> bool
-    ensures { result ≡ list_any (λ o. deserved.is_tokenize o && not (content.same_name o.1 (codes "simple"))) (map option_of options.now) }
+    ensures { result ≡ list_any (λ o. deserved.is_tokenize o && not
+        (content.same_name o.1 (codes "simple"))) (map option_of options.now) }
 {
     options.iter().any(|option| is_tokenize(option) && !same_name(option.1.as_str(), "simple"))
 }
 
 // Whether an option is none of the two that there are.
 fn has_other_option(options: &[(String, String)]) -> bool
-    ensures { result ≡ list_any (λ o. not (deserved.is_tokenize o || deserved.is_notindexed o)) (map option_of options.now) }
+    ensures { result ≡ list_any (λ o. not (deserved.is_tokenize o || deserved.is_notindexed o))
+        (map option_of options.now) }
 {
     options
         .iter()
@@ -87,7 +92,9 @@ fn has_other_option(options: &[(String, String)]) -> bool
 
 // Whether an option says of a column that isn't among these that it isn't indexed.
 fn leaves_out_unknown(options: &[(String, String)], names: &[String]) -> bool
-    ensures { result ≡ list_any (λ o. deserved.is_notindexed o && not (list_any (content.same_name o.1) (map string_bytes names.now))) (map option_of options.now) }
+    ensures { result ≡ list_any (λ o. deserved.is_notindexed o && not
+        (list_any (content.same_name o.1) (map string_bytes names.now)))
+        (map option_of options.now) }
 {
     options.iter().any(|option| is_notindexed(option) && !has_name(names, option.1.as_str()))
 }
@@ -102,7 +109,8 @@ fn create_tests(
     names: &[String],
     if_new: bool,
 ) -> Option<Fault>
-    ensures { result ≡ deserved.create_tests is_there count table.now module_name.now (map option_of options.now) (map string_bytes names.now) if_new }
+    ensures { result ≡ deserved.create_tests is_there count table.now module_name.now
+        (map option_of options.now) (map string_bytes names.now) if_new }
 {
     if !same_name(module_name, "fts4") {
         return Some(Fault::Module);
@@ -144,8 +152,9 @@ pub fn create_fault(
     names: &[String],
     if_new: bool,
 ) -> Option<Fault>
-    ensures { (contents : Contents) → table_names contents ≡ info_names tables.now →
-        result ≡ deserved.create_fault contents table.now module_name.now (map option_of options.now) (map string_bytes names.now) if_new }
+    ensures { (contents : Contents) → table_names contents ≡ info_names tables.now
+        → result ≡ deserved.create_fault contents table.now module_name.now
+        (map option_of options.now) (map string_bytes names.now) if_new }
 {
     let is_there = has_table(tables, table);
     create_tests(
@@ -162,8 +171,11 @@ pub fn create_fault(
 /// The least positive id that none of these tables has, which stand by rising id.
 pub fn free_id(tables: &[TableInfo]) -> i64
     requires { length tables.now < 2 ^ 63 - 1 }
-    ensures id { (contents : Contents) → table_ids contents ≡ info_ids tables.now → result ≡ pos (step.free_id_from 1 contents) }
-    ensures free { (contents : Contents) → table_ids contents ≡ info_ids tables.now → IsTrue (is_sorted int_cmp contents) → list_any (int_eq result) (info_ids tables.now) ≡ false }
+    ensures id { (contents : Contents) → table_ids contents ≡ info_ids tables.now
+        → result ≡ pos (step.free_id_from 1 contents) }
+    ensures free { (contents : Contents) → table_ids contents ≡ info_ids tables.now
+        → IsTrue (is_sorted int_cmp contents)
+        → list_any (int_eq result) (info_ids tables.now) ≡ false }
 {
     let mut id = 1;
     for table in tables {

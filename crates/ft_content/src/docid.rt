@@ -13,7 +13,8 @@ use ft_values::Fault;
 // The docid of a document that is given none, where this is the last one's: one more, or 1 where there is no document.
 // There is none behind the largest of all.
 fn next_docid(last: Option<i64>) -> Option<i64>
-    ensures { (documents : Documents) → last_docid documents ≡ last → result ≡ deserved.next_docid documents }
+    ensures { (documents : Documents) → last_docid documents ≡ last
+        → result ≡ deserved.next_docid documents }
 {
     match last {
         None => Some(1),
@@ -28,8 +29,10 @@ fn next_docid(last: Option<i64>) -> Option<i64>
 ///
 /// `DocidTaken` where the docid that is given is taken, and `DocidFull` where none is given and none is left.
 pub fn docid_for_row(last: Option<i64>, given: Option<i64>, is_taken: bool) -> Result<i64, Fault>
-    ensures { (documents : Documents) (docids : List ℤ) (cells : List Cell) → last_docid documents ≡ last → slice_get docids 0 ≡ given →
-        IfSome given (λ docid. deserved.has_docid documents docid ≡ is_taken) → deserved.insert_row documents docids cells ≡ placed documents cells result }
+    ensures { (documents : Documents) (docids : List ℤ) (cells : List Cell)
+        → last_docid documents ≡ last → slice_get docids 0 ≡ given
+        → IfSome given (λ docid. deserved.has_docid documents docid ≡ is_taken)
+        → deserved.insert_row documents docids cells ≡ placed documents cells result }
 {
     match given {
         Some(docid) => {
@@ -48,8 +51,10 @@ pub fn docid_for_row(last: Option<i64>, given: Option<i64>, is_taken: bool) -> R
 /// The fault of an Update that chooses the documents of these docids and may set one, if it deserves a fault. The docid
 /// that is set may be taken by a document of the table.
 pub fn moves_fault(chosen: &[i64], given: Option<i64>, is_taken: bool) -> Option<Fault>
-    ensures { (documents picked : Documents) (docids : List ℤ) → step.docids_of picked ≡ chosen.now → slice_get docids 0 ≡ given →
-        IfSome given (λ docid. deserved.has_docid documents docid ≡ is_taken) → result ≡ deserved.moves_fault documents picked docids }
+    ensures { (documents picked : Documents) (docids : List ℤ) → step.docids_of picked ≡ chosen.now
+        → slice_get docids 0 ≡ given
+        → IfSome given (λ docid. deserved.has_docid documents docid ≡ is_taken)
+        → result ≡ deserved.moves_fault documents picked docids }
 {
     match given {
         None => None,
@@ -59,8 +64,9 @@ pub fn moves_fault(chosen: &[i64], given: Option<i64>, is_taken: bool) -> Option
 
 // The same where this docid is set.
 fn move_fault(chosen: &[i64], docid: i64, is_taken: bool) -> Option<Fault>
-    ensures { (documents picked : Documents) → step.docids_of picked ≡ chosen.now → deserved.has_docid documents docid ≡ is_taken →
-        result ≡ deserved.move_fault documents picked docid }
+    ensures { (documents picked : Documents) → step.docids_of picked ≡ chosen.now
+        → deserved.has_docid documents docid ≡ is_taken
+        → result ≡ deserved.move_fault documents picked docid }
 {
     match chosen {
         [] => None,
@@ -77,8 +83,9 @@ fn move_fault(chosen: &[i64], docid: i64, is_taken: bool) -> Option<Fault>
 
 /// The last docid of documents after one is put under this docid, where the other was the last.
 pub fn last_docid_after(last: Option<i64>, docid: i64) -> i64
-    ensures { (documents : Documents) (cells : List Cell) → IsTrue (is_sorted int_cmp documents) → last_docid documents ≡ last →
-        last_docid (put int_cmp docid cells documents) ≡ Some result }
+    ensures { (documents : Documents) (cells : List Cell) → IsTrue (is_sorted int_cmp documents)
+        → last_docid documents ≡ last
+        → last_docid (put int_cmp docid cells documents) ≡ Some result }
 {
     match last {
         None => docid,

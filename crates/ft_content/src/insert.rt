@@ -19,7 +19,9 @@ pub fn listed_names<'a>(
     columns: &'a [Column],
     names: Option<&'a [String]>,
 ) -> Result<Vec<&'a str>, AllocError>
-    ensures { IfOk result (λ listed. map (λ n. n.now) listed.items ≡ deserved.listed_columns (bare_content columns.now) (option_map (λ n. map string_bytes n.now) names.entry)) }
+    ensures { IfOk result (λ listed. map (λ n. n.now) listed.items
+        ≡ deserved.listed_columns (bare_content columns.now)
+        (option_map (λ n. map string_bytes n.now) names.entry)) }
 {
     match names {
         Some(names) => borrowed_texts(alloc, names),
@@ -28,7 +30,8 @@ pub fn listed_names<'a>(
 }
 
 fn borrowed_texts<'a>(alloc: Global, texts: &'a [String]) -> Result<Vec<&'a str>, AllocError>
-    ensures { IfOk result (λ borrowed. map (λ n. n.now) borrowed.items ≡ map string_bytes texts.now) }
+    ensures { IfOk result (λ borrowed. map (λ n. n.now) borrowed.items
+        ≡ map string_bytes texts.now) }
 {
     let mut borrowed = Vec::new(alloc);
     for text in texts {
@@ -38,7 +41,8 @@ fn borrowed_texts<'a>(alloc: Global, texts: &'a [String]) -> Result<Vec<&'a str>
 }
 
 fn column_names<'a>(alloc: Global, columns: &'a [Column]) -> Result<Vec<&'a str>, AllocError>
-    ensures { IfOk result (λ names. map (λ n. n.now) names.items ≡ content.names_of (bare_content columns.now).columns) }
+    ensures { IfOk result (λ names. map (λ n. n.now) names.items
+        ≡ content.names_of (bare_content columns.now).columns) }
 {
     let mut names = Vec::new(alloc);
     for column in columns {
@@ -49,14 +53,16 @@ fn column_names<'a>(alloc: Global, columns: &'a [Column]) -> Result<Vec<&'a str>
 
 // Whether each of these names is one that a value may stand under.
 fn are_known(columns: &[Column], names: &[&str]) -> bool
-    ensures { result ≡ list_all (deserved.has_column (bare_content columns.now)) (map (λ n. n.now) names.now) }
+    ensures { result ≡ list_all (deserved.has_column (bare_content columns.now))
+        (map (λ n. n.now) names.now) }
 {
     names.iter().all(|name| has_column(columns, name))
 }
 
 // Whether a row has another number of values than there are names.
 fn has_other_width(names: &[&str], rows: &[Vec<Value>]) -> bool
-    ensures { result ≡ list_any (λ row. not (length row == length (map (λ n. n.now) names.now))) (map cells_of rows.now) }
+    ensures { result ≡ list_any (λ row. not (length row == length (map (λ n. n.now) names.now)))
+        (map cells_of rows.now) }
 {
     let width = names.len();
     rows.iter().any(|row| row.len() != width)
@@ -64,7 +70,8 @@ fn has_other_width(names: &[&str], rows: &[Vec<Value>]) -> bool
 
 // Whether a text is given as the docid.
 fn gives_text(names: &[&str], row: &[Value]) -> bool
-    ensures { result ≡ list_any (λ v. content.is_docid v.0 && deserved.is_text v.1) (zip (map (λ n. n.now) names.now) (map shown_value row.now)) }
+    ensures { result ≡ list_any (λ v. content.is_docid v.0 && deserved.is_text v.1)
+        (zip (map (λ n. n.now) names.now) (map shown_value row.now)) }
 {
     names
         .iter()
@@ -74,7 +81,8 @@ fn gives_text(names: &[&str], row: &[Value]) -> bool
 
 // How many docids a row gives.
 fn docid_count(names: &[&str], row: &[Value]) -> usize
-    ensures { result ≡ length (deserved.docids_in (zip (map (λ n. n.now) names.now) (map shown_value row.now))) }
+    ensures { result ≡ length (deserved.docids_in
+        (zip (map (λ n. n.now) names.now) (map shown_value row.now))) }
 {
     names
         .iter()
@@ -85,14 +93,17 @@ fn docid_count(names: &[&str], row: &[Value]) -> usize
 
 // Whether a row gives a text as the docid.
 fn have_texts(names: &[&str], rows: &[Vec<Value>]) -> bool
-    ensures { result ≡ list_any (λ row. list_any (λ v. content.is_docid v.0 && deserved.is_text v.1) (zip (map (λ n. n.now) names.now) row)) (map cells_of rows.now) }
+    ensures { result ≡ list_any (λ row. list_any (λ v. content.is_docid v.0 && deserved.is_text v.1)
+        (zip (map (λ n. n.now) names.now) row)) (map cells_of rows.now) }
 {
     rows.iter().any(|row| gives_text(names, row.as_slice()))
 }
 
 // Whether a row gives two docids.
 fn have_two_docids(names: &[&str], rows: &[Vec<Value>]) -> bool
-    ensures { result ≡ list_any (λ row. nat_lt 1 (length (deserved.docids_in (zip (map (λ n. n.now) names.now) row)))) (map cells_of rows.now) }
+    ensures { result ≡ list_any (λ row. nat_lt 1
+        (length (deserved.docids_in (zip (map (λ n. n.now) names.now) row))))
+        (map cells_of rows.now) }
 {
     rows.iter()
         .any(|row| docid_count(names, row.as_slice()) > 1)
@@ -124,7 +135,8 @@ fn have_nul(rows: &[Vec<Value>]) -> bool
 
 /// The first test of an Insert that refuses it, before those of the docids that its rows give.
 pub fn insert_tests(columns: &[Column], names: &[&str], rows: &[Vec<Value>]) -> Option<Fault>
-    ensures { result ≡ deserved.insert_tests (bare_content columns.now) (map (λ n. n.now) names.now) (map cells_of rows.now) }
+    ensures { result ≡ deserved.insert_tests (bare_content columns.now) (map (λ n. n.now) names.now)
+        (map cells_of rows.now) }
 {
     if !are_known(columns, names) {
         return Some(Fault::NoSuchColumn);
@@ -149,7 +161,8 @@ pub fn insert_tests(columns: &[Column], names: &[&str], rows: &[Vec<Value>]) -> 
 
 /// The first docid that a row gives.
 pub fn row_docid(names: &[&str], row: &[Value]) -> Option<i64>
-    ensures { result ≡ slice_get (deserved.docids_in (zip (map (λ n. n.now) names.now) (map shown_value row.now))) 0 }
+    ensures { result ≡ slice_get (deserved.docids_in
+        (zip (map (λ n. n.now) names.now) (map shown_value row.now))) 0 }
 {
     let found = names
         .iter()
@@ -163,7 +176,9 @@ pub fn row_docid(names: &[&str], row: &[Value]) -> Option<i64>
 
 // The first value of a row under a column's name.
 fn value_under<'a>(names: &[&str], row: &'a [Value], column: &str) -> Option<&'a Value>
-    ensures { option_map (λ v. shown_value v.now) result ≡ option_map (λ v. v.1) (find (λ v. content.same_name v.0 column.now) (zip (map (λ n. n.now) names.now) (map shown_value row.now))) }
+    ensures { option_map (λ v. shown_value v.now) result
+        ≡ option_map (λ v. v.1) (find (λ v. content.same_name v.0 column.now)
+        (zip (map (λ n. n.now) names.now) (map shown_value row.now))) }
 {
     let found = names
         .iter()
@@ -182,7 +197,9 @@ fn cell_under(
     row: &[Value],
     column: &Column,
 ) -> Result<Value, AllocError>
-    ensures { IfOk result (λ cell. shown_value cell ≡ deserved.value_under (zip (map (λ n. n.now) names.now) (map shown_value row.now)) (column_of column.now) stored.Null) }
+    ensures { IfOk result (λ cell. shown_value cell
+        ≡ deserved.value_under (zip (map (λ n. n.now) names.now) (map shown_value row.now))
+        (column_of column.now) stored.Null) }
 {
     match value_under(names, row, column.name.as_str()) {
         Some(value) => copied_value(alloc, value),
@@ -197,7 +214,9 @@ pub fn new_cells(
     names: &[&str],
     row: &[Value],
 ) -> Result<Vec<Value>, AllocError>
-    ensures { IfOk result (λ cells. cells_of cells ≡ deserved.new_cells (zip (map (λ n. n.now) names.now) (map shown_value row.now)) (map column_of columns.now)) }
+    ensures { IfOk result (λ cells. cells_of cells
+        ≡ deserved.new_cells (zip (map (λ n. n.now) names.now) (map shown_value row.now))
+        (map column_of columns.now)) }
 {
     let mut cells = Vec::new(alloc);
     for column in columns {

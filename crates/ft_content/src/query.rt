@@ -24,7 +24,8 @@ fn fault_of(fault: QueryFault) -> Fault
 }
 
 fn named_columns(alloc: Global, columns: &[Column]) -> Result<Vec<String>, AllocError>
-    ensures { IfOk result (λ names. map string_bytes names.items ≡ names_of (bare_content columns.now).columns) }
+    ensures { IfOk result (λ names. map string_bytes names.items
+        ≡ names_of (bare_content columns.now).columns) }
 {
     let mut names = Vec::new(alloc);
     push_names(alloc, &mut names, columns)?;
@@ -43,9 +44,12 @@ pub fn read_query(
     name: &str,
     text: &str,
 ) -> Result<Option<Query>, Fault>
-    ensures query { IfOk result (λ query. reading (bare_content columns.now) name.now text.now ≡ Ok (option_map tree_of query)) }
-    ensures fine { OnOk result (query_fault (bare_content columns.now) (Match name.now text.now) ≡ None) }
-    ensures fault { IfErr result (λ fault. fault ≢ Fault.Memory → query_fault (bare_content columns.now) (Match name.now text.now) ≡ Some fault) }
+    ensures query { IfOk result (λ query. reading (bare_content columns.now) name.now text.now
+        ≡ Ok (option_map tree_of query)) }
+    ensures fine { OnOk result (query_fault (bare_content columns.now) (Match name.now text.now)
+        ≡ None) }
+    ensures fault { IfErr result (λ fault. fault ≢ Fault.Memory
+        → query_fault (bare_content columns.now) (Match name.now text.now) ≡ Some fault) }
 {
     let names = named_columns(alloc, columns)?;
     let default = column_place(columns, name);

@@ -29,7 +29,8 @@ fn is_offsets(item: &Item) -> bool
 }
 
 fn item_unknown(table: &str, columns: &[Column], item: &Item) -> bool
-    ensures { result ≡ deserved.item_unknown table.now (bare_content columns.now) (item_of item.now) }
+    ensures { result ≡ deserved.item_unknown table.now (bare_content columns.now)
+        (item_of item.now) }
 {
     match item {
         Item::All => false,
@@ -39,7 +40,8 @@ fn item_unknown(table: &str, columns: &[Column], item: &Item) -> bool
 }
 
 fn any_unknown(table: &str, columns: &[Column], items: &[Item]) -> bool
-    ensures { result ≡ list_any (deserved.item_unknown table.now (bare_content columns.now)) (map item_of items.now) }
+    ensures { result ≡ list_any (deserved.item_unknown table.now (bare_content columns.now))
+        (map item_of items.now) }
 {
     items.iter().any(|item| item_unknown(table, columns, item))
 }
@@ -52,7 +54,8 @@ pub fn any_offsets(items: &[Item]) -> bool
 }
 
 fn items_unknown(table: &str, columns: &[Column], items: &Items) -> bool
-    ensures { result ≡ list_any (deserved.item_unknown table.now (bare_content columns.now)) (deserved.items_in (items_of items.now)) }
+    ensures { result ≡ list_any (deserved.item_unknown table.now (bare_content columns.now))
+        (deserved.items_in (items_of items.now)) }
 {
     match items {
         Items::Count => false,
@@ -77,7 +80,8 @@ pub fn select_tests(
     items: &Items,
     filter: &Filter,
 ) -> Option<Fault>
-    ensures { result ≡ deserved.select_tests table.now (bare_content columns.now) (items_of items.now) (filter_of filter.now) }
+    ensures { result ≡ deserved.select_tests table.now (bare_content columns.now)
+        (items_of items.now) (filter_of filter.now) }
 {
     if items_unknown(table, columns, items) || names_unknown(table, columns, filter) {
         return Some(Fault::NoSuchColumn);
@@ -90,7 +94,8 @@ pub fn select_tests(
 
 /// The test of a Delete that refuses it, before its query.
 pub fn delete_tests(table: &str, columns: &[Column], filter: &Filter) -> Option<Fault>
-    ensures { result ≡ deserved.delete_tests table.now (bare_content columns.now) (filter_of filter.now) }
+    ensures { result ≡ deserved.delete_tests table.now (bare_content columns.now)
+        (filter_of filter.now) }
 {
     if names_unknown(table, columns, filter) {
         return Some(Fault::NoSuchColumn);
@@ -115,7 +120,8 @@ fn header<'a>(columns: &'a [Column], name: &str) -> &'a str
 }
 
 fn name_at(columns: &[Column], place: usize) -> &str
-    ensures { result.now ≡ unwrap_or (slice_get (names_of (bare_content columns.now).columns) place) [] }
+    ensures { result.now ≡ unwrap_or (slice_get (names_of (bare_content columns.now).columns) place)
+        [] }
 {
     match columns.get(place) {
         Some(column) => column.name.as_str(),
@@ -124,7 +130,8 @@ fn name_at(columns: &[Column], place: usize) -> &str
 }
 
 fn offsets_header(alloc: Global, table: &str) -> Result<String, AllocError>
-    ensures { IfOk result (λ header. string_bytes header ≡ codes "offsets(" ++ table.now ++ codes ")") }
+    ensures { IfOk result (λ header. string_bytes header
+        ≡ codes "offsets(" ++ table.now ++ codes ")") }
 {
     format!(in alloc; "offsets({table})")
 }
@@ -136,7 +143,9 @@ fn push_headers(
     columns: &[Column],
     item: &Item,
 ) -> Result<(), AllocError>
-    ensures { OnOk result (names_in names.new ≡ names_in names.old ++ answer.item_headers table.now (bare_content columns.now) (item_of item.now)) }
+    ensures { OnOk result (names_in names.new
+        ≡ names_in names.old ++ answer.item_headers table.now (bare_content columns.now)
+        (item_of item.now)) }
 {
     match item {
         Item::All => push_names(alloc, names, columns)?,
@@ -154,7 +163,9 @@ fn item_names(
     columns: &[Column],
     items: &[Item],
 ) -> Result<Vec<String>, AllocError>
-    ensures { IfOk result (λ names. names_in names ≡ flat_map (answer.item_headers table.now (bare_content columns.now)) (map item_of items.now)) }
+    ensures { IfOk result (λ names. names_in names
+        ≡ flat_map (answer.item_headers table.now (bare_content columns.now))
+        (map item_of items.now)) }
 {
     let mut names = Vec::new(alloc);
     for item in items {
@@ -178,7 +189,8 @@ pub fn answer_names(
     columns: &[Column],
     items: &Items,
 ) -> Result<Vec<String>, AllocError>
-    ensures { IfOk result (λ names. names_in names ≡ answer.answer_names table.now (bare_content columns.now) (items_of items.now)) }
+    ensures { IfOk result (λ names. names_in names
+        ≡ answer.answer_names table.now (bare_content columns.now) (items_of items.now)) }
 {
     match items {
         Items::Count => count_name(alloc),
@@ -194,7 +206,9 @@ fn named_cell(
     cells: &[Value],
     name: &str,
 ) -> Result<Value, AllocError>
-    ensures { IfOk result (λ cell. shown_value cell ≡ answer.named_cell (bare_content columns.now) (docid, map shown_value cells.now) name.now) }
+    ensures { IfOk result (λ cell. shown_value cell
+        ≡ answer.named_cell (bare_content columns.now) (docid, map shown_value cells.now)
+        name.now) }
 {
     if is_docid(name) {
         return Ok(Value::Int(docid));
@@ -206,7 +220,8 @@ fn named_cell(
 }
 
 fn cell_at(alloc: Global, cells: &[Value], place: usize) -> Result<Value, AllocError>
-    ensures { IfOk result (λ cell. shown_value cell ≡ unwrap_or (slice_get (map shown_value cells.now) place) stored.Null) }
+    ensures { IfOk result (λ cell. shown_value cell
+        ≡ unwrap_or (slice_get (map shown_value cells.now) place) stored.Null) }
 {
     match cells.get(place) {
         Some(cell) => copied_value(alloc, cell),
@@ -232,7 +247,9 @@ fn push_item(
     cells: &[Value],
     offsets: &str,
 ) -> Result<(), AllocError>
-    ensures { OnOk result (cells_of row.new ≡ cells_of row.old ++ answer.cells_with (stored.Text offsets.now) (bare_content columns.now) (docid, map shown_value cells.now) (item_of item.now)) }
+    ensures { OnOk result (cells_of row.new ≡ cells_of row.old ++ answer.cells_with
+        (stored.Text offsets.now) (bare_content columns.now) (docid, map shown_value cells.now)
+        (item_of item.now)) }
 {
     match item {
         Item::All => push_cells(alloc, row, cells)?,
@@ -253,11 +270,20 @@ pub fn item_row(
     cells: &[Value],
     offsets: &str,
 ) -> Result<Vec<Value>, AllocError>
-    ensures asked { (query : Option Tree) → answer.offsets_cell query (bare_content columns.now) (docid, map shown_value cells.now) ≡ stored.Text offsets.now →
-        IfOk result (λ row. cells_of row ≡ flat_map (answer.item_cells query (bare_content columns.now) (docid, map shown_value cells.now)) (map item_of items.now)) }
-    ensures unasked { (query : Option Tree) → list_any deserved.is_offsets (map item_of items.now) ≡ false →
-        IfOk result (λ row. cells_of row ≡ flat_map (answer.item_cells query (bare_content columns.now) (docid, map shown_value cells.now)) (map item_of items.now)) }
-    ensures given { IfOk result (λ row. cells_of row ≡ flat_map (answer.cells_with (stored.Text offsets.now) (bare_content columns.now) (docid, map shown_value cells.now)) (map item_of items.now)) }
+    ensures asked { (query : Option Tree)
+        → answer.offsets_cell query (bare_content columns.now) (docid, map shown_value cells.now)
+        ≡ stored.Text offsets.now
+        → IfOk result (λ row. cells_of row ≡ flat_map
+        (answer.item_cells query (bare_content columns.now) (docid, map shown_value cells.now))
+        (map item_of items.now)) }
+    ensures unasked { (query : Option Tree)
+        → list_any deserved.is_offsets (map item_of items.now) ≡ false
+        → IfOk result (λ row. cells_of row ≡ flat_map
+        (answer.item_cells query (bare_content columns.now) (docid, map shown_value cells.now))
+        (map item_of items.now)) }
+    ensures given { IfOk result (λ row. cells_of row
+        ≡ flat_map (answer.cells_with (stored.Text offsets.now) (bare_content columns.now)
+        (docid, map shown_value cells.now)) (map item_of items.now)) }
 {
     let mut row = Vec::new(alloc);
     for item in items {
@@ -273,7 +299,8 @@ pub fn count_rows(
     limit: Option<u64>,
     offset: u64,
 ) -> Result<Vec<Vec<Value>>, AllocError>
-    ensures { IfOk result (λ rows. rows_of rows ≡ answer.cut limit offset ((stored.Int count ∷ []) ∷ [])) }
+    ensures { IfOk result (λ rows. rows_of rows
+        ≡ answer.cut limit offset ((stored.Int count ∷ []) ∷ [])) }
 {
     let mut rows = Vec::new(alloc);
     if offset == 0 && limit != Some(0) {

@@ -35,14 +35,16 @@ pub fn repeats_set(sets: &[(String, Value)]) -> bool
 
 // Whether each of these names is one that a value may stand under.
 fn are_known(columns: &[Column], sets: &[(String, Value)]) -> bool
-    ensures { result ≡ list_all (λ s. deserved.has_column (bare_content columns.now) s.0) (map set_of sets.now) }
+    ensures { result ≡ list_all (λ s. deserved.has_column (bare_content columns.now) s.0)
+        (map set_of sets.now) }
 {
     sets.iter().all(|set| has_column(columns, set.0.as_str()))
 }
 
 // Whether a docid is set to what is no number.
 fn sets_other_docid(sets: &[(String, Value)]) -> bool
-    ensures { result ≡ list_any (λ s. content.is_docid s.0 && (deserved.is_text s.1 || deserved.is_null s.1)) (map set_of sets.now) }
+    ensures { result ≡ list_any (λ s. content.is_docid s.0 &&
+        (deserved.is_text s.1 || deserved.is_null s.1)) (map set_of sets.now) }
 {
     sets.iter().any(|set| is_docid(set.0.as_str()) && (is_text(&set.1) || is_null(&set.1)))
 }
@@ -75,7 +77,8 @@ pub fn update_tests(
     sets: &[(String, Value)],
     filter: &Filter,
 ) -> Option<Fault>
-    ensures { result ≡ deserved.update_tests table.now (bare_content columns.now) (map set_of sets.now) (filter_of filter.now) }
+    ensures { result ≡ deserved.update_tests table.now (bare_content columns.now)
+        (map set_of sets.now) (filter_of filter.now) }
 {
     if !are_known(columns, sets) || names_unknown(table, columns, filter) {
         return Some(Fault::NoSuchColumn);
@@ -110,7 +113,9 @@ pub fn set_docid(sets: &[(String, Value)]) -> Option<i64>
 
 // The first value that is set under a column's name.
 fn value_set<'a>(sets: &'a [(String, Value)], column: &str) -> Option<&'a Value>
-    ensures { option_map (λ v. shown_value v.now) result ≡ option_map (λ s. s.1) (find (λ s. content.same_name s.0 column.now) (map set_of sets.now)) }
+    ensures { option_map (λ v. shown_value v.now) result
+        ≡ option_map (λ s. s.1) (find (λ s. content.same_name s.0 column.now)
+        (map set_of sets.now)) }
 {
     let found = sets.iter().find(|set| same_name(set.0.as_str(), column));
     match found {
@@ -126,7 +131,9 @@ fn cell_after(
     column: &Column,
     cell: &Value,
 ) -> Result<Value, AllocError>
-    ensures { IfOk result (λ after. shown_value after ≡ deserved.value_under (map set_of sets.now) (column_of column.now) (shown_value cell.now)) }
+    ensures { IfOk result (λ after. shown_value after
+        ≡ deserved.value_under (map set_of sets.now) (column_of column.now)
+        (shown_value cell.now)) }
 {
     match value_set(sets, column.name.as_str()) {
         Some(value) => copied_value(alloc, value),
@@ -141,7 +148,9 @@ pub fn with_values(
     sets: &[(String, Value)],
     cells: &[Value],
 ) -> Result<Vec<Value>, AllocError>
-    ensures { IfOk result (λ after. cells_of after ≡ deserved.with_values (map set_of sets.now) (map column_of columns.now) (map shown_value cells.now)) }
+    ensures { IfOk result (λ after. cells_of after
+        ≡ deserved.with_values (map set_of sets.now) (map column_of columns.now)
+        (map shown_value cells.now)) }
 {
     let mut after = Vec::new(alloc);
     for (column, cell) in columns.iter().zip(cells.iter()) {

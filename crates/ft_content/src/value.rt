@@ -53,7 +53,8 @@ pub fn has_nul(value: &Value) -> bool
 
 // The docid that a value gives under this name, if it gives one.
 pub(crate) fn docid_under(name: &str, value: &Value) -> Option<i64>
-    ensures { result ≡ slice_get (if content.is_docid name.now then deserved.number_of (shown_value value.now) else []) 0 }
+    ensures { result ≡ slice_get (if content.is_docid name.now then deserved.number_of
+        (shown_value value.now) else []) 0 }
 {
     match value {
         Value::Int(number) if is_docid(name) => Some(*number),

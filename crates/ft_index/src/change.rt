@@ -17,14 +17,18 @@ pub(crate) fn change_rows<S: Alter>(
     store: &mut Store<S>,
     changes: &[RowChange],
 ) -> Result<(), Fault>
-    ensures changed { Changed S.Store store.old store.new (map shown_change changes.now) (is_ok result) }
+    ensures changed { Changed S.Store store.old store.new (map shown_change changes.now)
+        (is_ok result) }
     ensures fault { IfErr result (λ fault. (fault ≡ faults.Store) ⊎ (fault ≡ faults.Memory)) }
     ensures unread { store.new.rows_read ≡ store.old.rows_read }
 
     // A crash leaves what it could leave before, or a store with all changes made.
     ensures crash { Survives (shows S.Store store.old) (shows S.Store store.new)
-        (λ db. (shows S.Store store.old).is_open ≡ true → IsStored db (all_applied (map shown_change changes.now) (value_in S.Store store.old))) }
-    ensures live { HasCleanDisk (shows S.Store store.new) → OnOk result (IsTrue (shows S.Store store.old).is_open → IsTrue (shows S.Store store.new).is_open) }
+        (λ db. (shows S.Store store.old).is_open ≡ true
+        → IsStored db (all_applied (map shown_change changes.now) (value_in S.Store store.old))) }
+    ensures live { HasCleanDisk (shows S.Store store.new)
+        → OnOk result (IsTrue (shows S.Store store.old).is_open
+        → IsTrue (shows S.Store store.new).is_open) }
 {
     store.change(changes)?;
     Ok(())

@@ -24,10 +24,15 @@ use std::alloc::Global;
 // Whether the rows of the table of an id are documents with exactly the index rows made from scratch. The store is only read, whatever
 // is answered.
 fn is_right<S: Alter>(alloc: Global, store: &mut Store<S>, id: i64) -> Result<bool, StoreFault>
-    ensures right { (named : ℤ × List ℕ) (held : TableState) → HasCleanDisk (shows S.Store store.new) → IsNamed (value_in S.Store store.old) id named
-        → Stands named.1 (table_rows named.0 (value_in S.Store store.old)) (table_index named.0 (value_in S.Store store.old)) held → IfOk result (λ b. b ≡ is_sound held) }
+    ensures right { (named : ℤ × List ℕ) (held : TableState)
+        → HasCleanDisk (shows S.Store store.new) → IsNamed (value_in S.Store store.old) id named
+        → Stands named.1 (table_rows named.0 (value_in S.Store store.old))
+        (table_index named.0 (value_in S.Store store.old)) held
+        → IfOk result (λ b. b ≡ is_sound held) }
     ensures looks { Looks S.Store store.old store.new }
-    ensures live { HasCleanDisk (shows S.Store store.new) → OnOk result (IsTrue (shows S.Store store.old).is_open → IsTrue (shows S.Store store.new).is_open) }
+    ensures live { HasCleanDisk (shows S.Store store.new)
+        → OnOk result (IsTrue (shows S.Store store.old).is_open
+        → IsTrue (shows S.Store store.new).is_open) }
 {
     match listed_table(store, id)? {
         Some(table) => {
@@ -45,9 +50,13 @@ pub(crate) fn check_table<S: Alter>(
     tables: &[TableInfo],
     table: &str,
 ) -> Result<Reply, Fault>
-    ensures checks { Executes S.Store (with_tables store.old (map shown_info tables.now)) (plain.Check table.now) (answer_of result) (with_tables store.new (map shown_info tables.now)) }
+    ensures checks { Executes S.Store (with_tables store.old (map shown_info tables.now))
+        (plain.Check table.now) (answer_of result)
+        (with_tables store.new (map shown_info tables.now)) }
     ensures looks { Looks S.Store store.old store.new }
-    ensures live { HasCleanDisk (shows S.Store store.new) → OnOk result (IsTrue (shows S.Store store.old).is_open → IsTrue (shows S.Store store.new).is_open) }
+    ensures live { HasCleanDisk (shows S.Store store.new)
+        → OnOk result (IsTrue (shows S.Store store.old).is_open
+        → IsTrue (shows S.Store store.new).is_open) }
 {
     store.is_in_order();
     let Some(place) = table_place(tables, table) else {
@@ -70,7 +79,9 @@ fn are_sound(tables: &[TableInfo]) -> bool
 
 /// Whether every table is sound, by the rows as they are read. The store is only read, whatever is answered.
 pub(crate) fn check_all<S: Alter>(alloc: Global, store: &mut Store<S>) -> Result<bool, Fault>
-    ensures all { HasCleanDisk (shows S.Store store.new) → IfOk result (λ all. (contents : Contents) → StoreHolds (value_in S.Store store.old) contents → IsTrue all ↔ AreSound contents) }
+    ensures all { HasCleanDisk (shows S.Store store.new)
+        → IfOk result (λ all. (contents : Contents)
+        → StoreHolds (value_in S.Store store.old) contents → IsTrue all ↔ AreSound contents) }
     ensures fault { IfErr result (λ fault. (fault ≡ faults.Store) ⊎ (fault ≡ faults.Memory)) }
     ensures looks { Looks S.Store store.old store.new }
 {

@@ -32,11 +32,16 @@ pub(crate) fn chosen_documents<S: Alter>(
     filter: &Filter,
     query: Option<&Query>,
 ) -> Result<Vec<Document>, Fault>
-    ensures chosen { IfOk result (λ found. (content : Content) → HasRows S.Store tab store.old store.new content → IsIndexed S.Store tab store.old store.new content
-        → ReadsAs content (filter_of filter.now) (option_map (λ q. tree_of q.now) query.entry) → map shown_document found.items ≡ chosen content (filter_of filter.now)) }
+    ensures chosen { IfOk result (λ found. (content : Content)
+        → HasRows S.Store tab store.old store.new content
+        → IsIndexed S.Store tab store.old store.new content
+        → ReadsAs content (filter_of filter.now) (option_map (λ q. tree_of q.now) query.entry)
+        → map shown_document found.items ≡ chosen content (filter_of filter.now)) }
     ensures faults { IfErr result (λ fault. (fault ≡ faults.Store) ⊎ (fault ≡ faults.Memory)) }
     ensures looks { Looks S.Store store.old store.new }
-    ensures live { HasCleanDisk (shows S.Store store.new) → OnOk result (IsTrue (shows S.Store store.old).is_open → IsTrue (shows S.Store store.new).is_open) }
+    ensures live { HasCleanDisk (shows S.Store store.new)
+        → OnOk result (IsTrue (shows S.Store store.old).is_open
+        → IsTrue (shows S.Store store.new).is_open) }
 {
     match filter {
         Filter::All => all_documents(alloc, store, tab),
@@ -55,10 +60,13 @@ fn one_document<S: Alter>(
     tab: i64,
     docid: i64,
 ) -> Result<Vec<Document>, Fault>
-    ensures found { IfOk result (λ found. (content : Content) → HasRows S.Store tab store.old store.new content → map shown_document found.items ≡ chosen content (Docid docid)) }
+    ensures found { IfOk result (λ found. (content : Content)
+        → HasRows S.Store tab store.old store.new content
+        → map shown_document found.items ≡ chosen content (Docid docid)) }
     ensures faults { IfErr result (λ fault. (fault ≡ faults.Store) ⊎ (fault ≡ faults.Memory)) }
     ensures looks { Looks S.Store store.old store.new }
-    ensures live { HasCleanDisk (shows S.Store store.new) → OnOk result (IsTrue (shows S.Store store.new).is_open) }
+    ensures live { HasCleanDisk (shows S.Store store.new)
+        → OnOk result (IsTrue (shows S.Store store.new).is_open) }
 {
     let found = document(alloc, store, tab, docid)?;
     let mut documents = Vec::new(alloc);
@@ -75,10 +83,14 @@ fn documents_of_hits<S: Alter>(
     tab: i64,
     hits: &[Hit],
 ) -> Result<Vec<Document>, Fault>
-    ensures found { IfOk result (λ found. (content : Content) → HasRows S.Store tab store.old store.new content → map shown_document found.items ≡ map (λ h. document_at content h.docid) hits.now) }
+    ensures found { IfOk result (λ found. (content : Content)
+        → HasRows S.Store tab store.old store.new content
+        → map shown_document found.items ≡ map (λ h. document_at content h.docid) hits.now) }
     ensures faults { IfErr result (λ fault. (fault ≡ faults.Store) ⊎ (fault ≡ faults.Memory)) }
     ensures looks { Looks S.Store store.old store.new }
-    ensures live { HasCleanDisk (shows S.Store store.new) → OnOk result (IsTrue (shows S.Store store.old).is_open → IsTrue (shows S.Store store.new).is_open) }
+    ensures live { HasCleanDisk (shows S.Store store.new)
+        → OnOk result (IsTrue (shows S.Store store.old).is_open
+        → IsTrue (shows S.Store store.new).is_open) }
 {
     let mut documents = Vec::new(alloc);
     for hit in hits {
@@ -98,11 +110,15 @@ pub(crate) fn found_cells<S: Alter>(
     tab: i64,
     docid: i64,
 ) -> Result<Vec<Value>, Fault>
-    ensures found { IfOk result (λ cells. (content : Content) → HasRows S.Store tab store.old store.new content → find int_cmp docid content.documents ≡ Some (cells_of cells)) }
-    ensures counted { IfOk result (λ cells. store.new.rows_read ≡ more_rows (vec_len cells) store.old) }
+    ensures found { IfOk result (λ cells. (content : Content)
+        → HasRows S.Store tab store.old store.new content
+        → find int_cmp docid content.documents ≡ Some (cells_of cells)) }
+    ensures counted { IfOk result (λ cells. store.new.rows_read
+        ≡ more_rows (vec_len cells) store.old) }
     ensures faults { IfErr result (λ fault. (fault ≡ faults.Store) ⊎ (fault ≡ faults.Memory)) }
     ensures looks { Looks S.Store store.old store.new }
-    ensures live { HasCleanDisk (shows S.Store store.new) → OnOk result (IsTrue (shows S.Store store.new).is_open) }
+    ensures live { HasCleanDisk (shows S.Store store.new)
+        → OnOk result (IsTrue (shows S.Store store.new).is_open) }
 {
     let Some(cells) = document(alloc, store, tab, docid)? else {
         return Err(Fault::Store);

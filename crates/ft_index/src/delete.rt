@@ -34,11 +34,15 @@ pub(crate) fn delete_from<S: Alter>(
     table: &str,
     filter: &Filter,
 ) -> Result<Reply, Fault>
-    ensures executes { Executes S.Store (with_tables store.old (map shown_info tables.now)) (plain.Delete table.now (filter_of filter.now))
-        (answer_of result) (with_tables store.new (map shown_info tables.now)) }
-    ensures crash { CommandSurvives S.Store (with_tables store.old (map shown_info tables.now)) (plain.Delete table.now (filter_of filter.now))
+    ensures executes { Executes S.Store (with_tables store.old (map shown_info tables.now))
+        (plain.Delete table.now (filter_of filter.now)) (answer_of result)
         (with_tables store.new (map shown_info tables.now)) }
-    ensures live { HasCleanDisk (shows S.Store store.new) → OnOk result (IsTrue (shows S.Store store.old).is_open → IsTrue (shows S.Store store.new).is_open) }
+    ensures crash { CommandSurvives S.Store (with_tables store.old (map shown_info tables.now))
+        (plain.Delete table.now (filter_of filter.now))
+        (with_tables store.new (map shown_info tables.now)) }
+    ensures live { HasCleanDisk (shows S.Store store.new)
+        → OnOk result (IsTrue (shows S.Store store.old).is_open
+        → IsTrue (shows S.Store store.new).is_open) }
 {
     let changes = delete_changes(alloc, store, tables, table, filter)?;
     change_rows(store, changes.as_slice())?;
@@ -53,9 +57,12 @@ pub(crate) fn delete_changes<S: Alter>(
     table: &str,
     filter: &Filter,
 ) -> Result<Vec<RowChange>, Fault>
-    ensures plans { PlansIn S.Store (map shown_info tables.now) store.old store.new (plain.Delete table.now (filter_of filter.now)) result }
+    ensures plans { PlansIn S.Store (map shown_info tables.now) store.old store.new
+        (plain.Delete table.now (filter_of filter.now)) result }
     ensures looks { Looks S.Store store.old store.new }
-    ensures live { HasCleanDisk (shows S.Store store.new) → OnOk result (IsTrue (shows S.Store store.old).is_open → IsTrue (shows S.Store store.new).is_open) }
+    ensures live { HasCleanDisk (shows S.Store store.new)
+        → OnOk result (IsTrue (shows S.Store store.old).is_open
+        → IsTrue (shows S.Store store.new).is_open) }
 {
     store.is_in_order();
     let known = sound_table(tables, table)?;
@@ -76,10 +83,16 @@ fn written_by_delete<S: Alter>(
     known: &TableInfo,
     filter: &Filter,
 ) -> Result<Vec<Rewrite>, Fault>
-    ensures written { (content : Content) → HasAll S.Store known.now.id (string_bytes known.now.name) (map column_of known.now.columns.items) store.old store.new content
-        → Writes content (delete_fault (string_bytes known.now.name) content (filter_of filter.now)) (deleted content (filter_of filter.now)) (docids_of (chosen content (filter_of filter.now))) result }
+    ensures written { (content : Content)
+        → HasAll S.Store known.now.id (string_bytes known.now.name)
+        (map column_of known.now.columns.items) store.old store.new content
+        → Writes content (delete_fault (string_bytes known.now.name) content (filter_of filter.now))
+        (deleted content (filter_of filter.now)) (docids_of (chosen content (filter_of filter.now)))
+        result }
     ensures looks { Looks S.Store store.old store.new }
-    ensures live { HasCleanDisk (shows S.Store store.new) → OnOk result (IsTrue (shows S.Store store.old).is_open → IsTrue (shows S.Store store.new).is_open) }
+    ensures live { HasCleanDisk (shows S.Store store.new)
+        → OnOk result (IsTrue (shows S.Store store.old).is_open
+        → IsTrue (shows S.Store store.new).is_open) }
 {
     if let Some(fault) = delete_tests(known.name.as_str(), known.columns.as_slice(), filter) {
         return Err(fault);
@@ -92,7 +105,8 @@ fn written_by_delete<S: Alter>(
 
 // The rewrites that remove documents.
 fn removals(alloc: Global, documents: Vec<Document>) -> Result<Vec<Rewrite>, AllocError>
-    ensures { IfOk result (λ rewrites. map shown_rewrite rewrites.items ≡ map removal (map shown_document documents.items)) }
+    ensures { IfOk result (λ rewrites. map shown_rewrite rewrites.items
+        ≡ map removal (map shown_document documents.items)) }
 {
     let mut rewrites = Vec::new(alloc);
     for document in documents {

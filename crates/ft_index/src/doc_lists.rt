@@ -119,8 +119,8 @@ fn row_places(alloc: Global, spots: &[Spot]) -> Result<Vec<Place>, AllocError>
 }
 
 /// The list of a row.
-fn row_list(alloc: Global, row: &ListRow) -> Result<DocList, AllocError>
-    ensures { IfOk result (λ list. plain_list list ≡ list_of row.now) }
+fn row_list(alloc: Global, row: ListRow) -> Result<DocList, AllocError>
+    ensures { IfOk result (λ list. plain_list list ≡ list_of row) }
 {
     let places = row_places(alloc, row.spots.as_slice())?;
     Ok(DocList {
@@ -129,11 +129,11 @@ fn row_list(alloc: Global, row: &ListRow) -> Result<DocList, AllocError>
     })
 }
 
-/// The lists of rows.
-fn row_lists(alloc: Global, rows: &[ListRow]) -> Result<Vec<DocList>, AllocError>
-    ensures { IfOk result (λ lists. map plain_list lists.items ≡ map list_of rows.now) }
+/// The lists of rows. Each row goes as its list is made, so that the next list finds its room free.
+fn row_lists(alloc: Global, rows: Vec<ListRow>) -> Result<Vec<DocList>, AllocError>
+    ensures { IfOk result (λ lists. map plain_list lists.items ≡ map list_of rows.items) }
 {
-    let mut lists = Vec::new(alloc);
+    let mut lists = Vec::with_capacity(alloc, rows.len())?;
     for row in rows {
         lists.push(row_list(alloc, row)?)?;
     }
@@ -144,7 +144,8 @@ fn row_lists(alloc: Global, rows: &[ListRow]) -> Result<Vec<DocList>, AllocError
 
 /// Adds the places of a row.
 fn push_places(places: &mut Vec<Placed>, row: &ListRow) -> Result<(), AllocError>
-    ensures { OnOk result (places.new.items ≡ places.old.items ++ map (placed_in row.now.docid) (list_of row.now).places) }
+    ensures { OnOk result (places.new.items ≡ places.old.items ++ map (placed_in row.now.docid)
+        (list_of row.now).places) }
 {
     for spot in &row.spots {
         places.push(Placed::new(row.docid, place_of(spot)))?;
@@ -216,13 +217,13 @@ fn grouped(alloc: Global, places: &[Placed]) -> Result<Vec<DocList>, AllocError>
 }
 
 /// A list for each document of some rows, by rising docid, with its places by column and position.
-pub(crate) fn doc_lists(alloc: Global, rows: &[ListRow]) -> Result<Vec<DocList>, AllocError>
-    ensures { IfOk result (λ lists. AreListsOf rows.now (map plain_list lists.items)) }
+pub(crate) fn doc_lists(alloc: Global, rows: Vec<ListRow>) -> Result<Vec<DocList>, AllocError>
+    ensures { IfOk result (λ lists. AreListsOf rows.items (map plain_list lists.items)) }
 {
-    if are_in_order(rows) {
+    if are_in_order(rows.as_slice()) {
         return row_lists(alloc, rows);
     }
-    let mut places = places_of(alloc, rows)?;
+    let mut places = places_of(alloc, rows.as_slice())?;
     put_in_order(&mut places)?;
     grouped(alloc, places.as_slice())
 }

@@ -55,9 +55,14 @@ impl DocumentIndex {
         docid: i64,
         cells: &[Value],
     ) -> Result<(), AllocError>
-        ensures lists { OnOk result (rows.lists_in self.new ≡ rows.lists_with (map column_of columns.now) ((docid, map shown_value cells.now) ∷ []) (rows.lists_in self.old)) }
-        ensures sizes { OnOk result (rows.sizes_in self.new ≡ rows.sizes_with (map column_of columns.now) ((docid, map shown_value cells.now) ∷ []) (rows.sizes_in self.old)) }
-        ensures numbers { OnOk result (rows.AreShortNumbers (map column_of columns.now) (map shown_value cells.now)) }
+        ensures lists { OnOk result (rows.lists_in self.new
+            ≡ rows.lists_with (map column_of columns.now) ((docid, map shown_value cells.now) ∷ [])
+            (rows.lists_in self.old)) }
+        ensures sizes { OnOk result (rows.sizes_in self.new
+            ≡ rows.sizes_with (map column_of columns.now) ((docid, map shown_value cells.now) ∷ [])
+            (rows.sizes_in self.old)) }
+        ensures numbers { OnOk result (rows.AreShortNumbers (map column_of columns.now)
+            (map shown_value cells.now)) }
     {
         for place in 0..columns.len().min(cells.len()) {
             let value = &cells[place];
@@ -75,8 +80,12 @@ impl DocumentIndex {
         docid: i64,
         cells: &[CellRow],
     ) -> Result<(), AllocError>
-        ensures lists { OnOk result (rows.lists_in self.new ≡ rows.lists_with (map column_of columns.now) ((docid, map standing.cell_in cells.now) ∷ []) (rows.lists_in self.old)) }
-        ensures sizes { OnOk result (rows.sizes_in self.new ≡ rows.sizes_with (map column_of columns.now) ((docid, map standing.cell_in cells.now) ∷ []) (rows.sizes_in self.old)) }
+        ensures lists { OnOk result (rows.lists_in self.new
+            ≡ rows.lists_with (map column_of columns.now)
+            ((docid, map standing.cell_in cells.now) ∷ []) (rows.lists_in self.old)) }
+        ensures sizes { OnOk result (rows.sizes_in self.new
+            ≡ rows.sizes_with (map column_of columns.now)
+            ((docid, map standing.cell_in cells.now) ∷ []) (rows.sizes_in self.old)) }
     {
         for place in 0..columns.len().min(cells.len()) {
             let value = &cells[place].value;
@@ -94,9 +103,14 @@ impl DocumentIndex {
         docid: i64,
         cells: &Option<Vec<Value>>,
     ) -> Result<(), AllocError>
-        ensures lists { OnOk result (rows.lists_in self.new ≡ rows.lists_with (map column_of columns.now) (document_if docid (option_map cells_of cells.now)) (rows.lists_in self.old)) }
-        ensures sizes { OnOk result (rows.sizes_in self.new ≡ rows.sizes_with (map column_of columns.now) (document_if docid (option_map cells_of cells.now)) (rows.sizes_in self.old)) }
-        ensures numbers { OnOk result (IfSome (option_map cells_of cells.now) (rows.AreShortNumbers (map column_of columns.now))) }
+        ensures lists { OnOk result (rows.lists_in self.new
+            ≡ rows.lists_with (map column_of columns.now)
+            (document_if docid (option_map cells_of cells.now)) (rows.lists_in self.old)) }
+        ensures sizes { OnOk result (rows.sizes_in self.new
+            ≡ rows.sizes_with (map column_of columns.now)
+            (document_if docid (option_map cells_of cells.now)) (rows.sizes_in self.old)) }
+        ensures numbers { OnOk result (IfSome (option_map cells_of cells.now)
+            (rows.AreShortNumbers (map column_of columns.now))) }
     {
         match cells {
             Some(cells) => self.add(columns, docid, cells.as_slice()),
@@ -107,8 +121,13 @@ impl DocumentIndex {
     // Adds the tokens of a cell that is indexed.
     fn add_cell(&mut self, docid: i64, place: usize, value: &Value) -> Result<(), AllocError>
         requires { place < 2 ^ 63 }
-        ensures lists { OnOk result (rows.lists_in self.new ≡ rows.with_entries (rows.cell_entries docid place (tokens_of (content.cell_text (shown_value value.now)))) (rows.lists_in self.old)) }
-        ensures sizes { OnOk result (rows.sizes_in self.new ≡ rows.all_put column_key_cmp (rows.sized (rows.cell_sizes docid place (length (tokens_of (content.cell_text (shown_value value.now)))))) (rows.sizes_in self.old)) }
+        ensures lists { OnOk result (rows.lists_in self.new
+            ≡ rows.with_entries (rows.cell_entries docid place
+            (tokens_of (content.cell_text (shown_value value.now)))) (rows.lists_in self.old)) }
+        ensures sizes { OnOk result (rows.sizes_in self.new
+            ≡ rows.all_put column_key_cmp (rows.sized
+            (rows.cell_sizes docid place (length
+            (tokens_of (content.cell_text (shown_value value.now)))))) (rows.sizes_in self.old)) }
         ensures number { OnOk result (IsShortNumber (shown_value value.now)) }
     {
         let mut buffer = Buffer::new();
@@ -126,7 +145,9 @@ impl DocumentIndex {
         requires place { place < 2 ^ 63 }
         requires n { n < 2 ^ 63 }
         ensures lists { OnOk result (rows.lists_in self.new ≡ rows.lists_in self.old) }
-        ensures sizes { OnOk result (rows.sizes_in self.new ≡ rows.all_put column_key_cmp (rows.sized (rows.cell_sizes docid place n)) (rows.sizes_in self.old)) }
+        ensures sizes { OnOk result (rows.sizes_in self.new
+            ≡ rows.all_put column_key_cmp (rows.sized (rows.cell_sizes docid place n))
+            (rows.sizes_in self.old)) }
     {
         if n > 0 {
             self.sizes.insert((docid, place as i64), n as i64)?;
@@ -140,7 +161,9 @@ impl DocumentIndex {
         requires pos { token.pos < 2 ^ 63 }
         requires start { token.start < 2 ^ 63 }
         requires size { token.size < 2 ^ 63 }
-        ensures lists { OnOk result (rows.lists_in self.new ≡ rows.with_entries (rows.cell_entries docid place (plain_token token ∷ [])) (rows.lists_in self.old)) }
+        ensures lists { OnOk result (rows.lists_in self.new
+            ≡ rows.with_entries (rows.cell_entries docid place (plain_token token ∷ []))
+            (rows.lists_in self.old)) }
         ensures sizes { OnOk result (rows.sizes_in self.new ≡ rows.sizes_in self.old) }
     {
         let spot = Spot {
@@ -154,7 +177,10 @@ impl DocumentIndex {
 
     // Adds a spot to a list.
     fn add_spot(&mut self, key: (String, i64), spot: Spot) -> Result<(), AllocError>
-        ensures lists { OnOk result (rows.lists_in self.new ≡ put index.key_cmp (string_bytes key.0, key.1) (unwrap_or (find index.key_cmp (string_bytes key.0, key.1) (rows.lists_in self.old)) [] ++ spot ∷ []) (rows.lists_in self.old)) }
+        ensures lists { OnOk result (rows.lists_in self.new
+            ≡ put index.key_cmp (string_bytes key.0, key.1)
+            (unwrap_or (find index.key_cmp (string_bytes key.0, key.1) (rows.lists_in self.old)) []
+            ++ spot ∷ []) (rows.lists_in self.old)) }
         ensures sizes { OnOk result (rows.sizes_in self.new ≡ rows.sizes_in self.old) }
     {
         if let Some(spots) = self.lists.get_mut(&key) {
@@ -206,7 +232,9 @@ impl DocumentIndex {
         tab: i64,
         new: &DocumentIndex,
     ) -> Result<(), AllocError>
-        ensures { OnOk result (map shown_change changes.new.items ≡ map shown_change changes.old.items ++ rows.dropped_lists tab (rows.gone key_cmp (rows.lists_in self.now) (rows.lists_in new.now))) }
+        ensures { OnOk result (map shown_change changes.new.items
+            ≡ map shown_change changes.old.items ++ rows.dropped_lists tab
+            (rows.gone key_cmp (rows.lists_in self.now) (rows.lists_in new.now))) }
     {
         for (key, _spots) in self.lists.iter() {
             let docid = key.1;
@@ -224,7 +252,10 @@ impl DocumentIndex {
         tab: i64,
         new: PostingLists,
     ) -> Result<(), AllocError>
-        ensures { OnOk result (map shown_change changes.new.items ≡ map shown_change changes.old.items ++ rows.put_lists tab (rows.changed key_cmp rows.same_spots (rows.lists_in self.now) (map rows.shown_list new.entries))) }
+        ensures { OnOk result (map shown_change changes.new.items
+            ≡ map shown_change changes.old.items ++ rows.put_lists tab
+            (rows.changed key_cmp rows.same_spots (rows.lists_in self.now)
+            (map rows.shown_list new.entries))) }
     {
         for (key, spots) in new {
             if !self.has_list(&key, spots.as_slice()) {
@@ -237,7 +268,8 @@ impl DocumentIndex {
 
     // Whether it has exactly this list under its key.
     fn has_list(&self, key: &(String, i64), spots: &[Spot]) -> bool
-        ensures { result ≡ rows.was_there rows.same_spots (find key_cmp (string_bytes key.now.0, key.now.1) (rows.lists_in self.now)) spots.now }
+        ensures { result ≡ rows.was_there rows.same_spots
+            (find key_cmp (string_bytes key.now.0, key.now.1) (rows.lists_in self.now)) spots.now }
     {
         match self.lists.get(key) {
             Some(other) => other.as_slice() == spots,
@@ -252,7 +284,9 @@ impl DocumentIndex {
         tab: i64,
         new: &Sizes,
     ) -> Result<(), AllocError>
-        ensures { OnOk result (map shown_change changes.new.items ≡ map shown_change changes.old.items ++ rows.dropped_sizes tab (rows.gone column_key_cmp (rows.sizes_in self.now) new.now.entries)) }
+        ensures { OnOk result (map shown_change changes.new.items
+            ≡ map shown_change changes.old.items ++ rows.dropped_sizes tab
+            (rows.gone column_key_cmp (rows.sizes_in self.now) new.now.entries)) }
     {
         for (key, _n) in self.sizes.iter() {
             let (docid, column) = *key;
@@ -270,7 +304,9 @@ impl DocumentIndex {
         tab: i64,
         new: &Sizes,
     ) -> Result<(), AllocError>
-        ensures { OnOk result (map shown_change changes.new.items ≡ map shown_change changes.old.items ++ rows.put_sizes tab (rows.changed column_key_cmp int_eq (rows.sizes_in self.now) new.now.entries)) }
+        ensures { OnOk result (map shown_change changes.new.items
+            ≡ map shown_change changes.old.items ++ rows.put_sizes tab
+            (rows.changed column_key_cmp int_eq (rows.sizes_in self.now) new.now.entries)) }
     {
         for (key, n) in new.iter() {
             let (docid, column) = *key;
@@ -283,7 +319,8 @@ impl DocumentIndex {
     }
     // Whether it has exactly this size under its key.
     fn has_size(&self, key: &(i64, i64), n: i64) -> bool
-        ensures { result ≡ rows.was_there int_eq (find column_key_cmp key.now (rows.sizes_in self.now)) n }
+        ensures { result ≡ rows.was_there int_eq
+            (find column_key_cmp key.now (rows.sizes_in self.now)) n }
     {
         match self.sizes.get(key) {
             Some(other) => *other == n,
@@ -298,7 +335,9 @@ impl DocumentIndex {
 
     /// How many sizes it has, where they are the first of these.
     pub(crate) fn count_sizes(&self, sizes: &[SizeRow]) -> Option<usize>
-        ensures rest { option_map (λ n. map standing.shown_size (drop n sizes.now)) result ≡ standing.after_first standing.same_size (rows.sizes_in self.now) (map standing.shown_size sizes.now) }
+        ensures rest { option_map (λ n. map standing.shown_size (drop n sizes.now)) result
+            ≡ standing.after_first standing.same_size (rows.sizes_in self.now)
+            (map standing.shown_size sizes.now) }
         ensures within { IfSome result (λ n. n ≤ length sizes.now) }
     {
         let mut place = 0;
@@ -314,7 +353,9 @@ impl DocumentIndex {
 
     /// How many entries it has, where they are the first of these.
     pub(crate) fn count_entries(&self, entries: &[EntryRow]) -> Option<usize>
-        ensures rest { option_map (λ n. map standing.shown_entry (drop n entries.now)) result ≡ standing.after_first standing.same_entry (index.entry_rows (rows.lists_in self.now)) (map standing.shown_entry entries.now) }
+        ensures rest { option_map (λ n. map standing.shown_entry (drop n entries.now)) result
+            ≡ standing.after_first standing.same_entry (index.entry_rows (rows.lists_in self.now))
+            (map standing.shown_entry entries.now) }
         ensures within { IfSome result (λ n. n ≤ length entries.now) }
     {
         let mut place = 0;
@@ -330,7 +371,8 @@ impl DocumentIndex {
 
 // Whether this size stands at a place.
 fn is_size(sizes: &[SizeRow], place: usize, key: &(i64, i64), n: i64) -> bool
-    ensures { result ≡ standing.is_first standing.same_size (key.now, n) (map standing.shown_size (drop place sizes.now)) }
+    ensures { result ≡ standing.is_first standing.same_size (key.now, n)
+        (map standing.shown_size (drop place sizes.now)) }
 {
     match sizes.get(place) {
         Some(size) => key.0 == size.docid && key.1 == size.column && n == size.n,
@@ -340,7 +382,9 @@ fn is_size(sizes: &[SizeRow], place: usize, key: &(i64, i64), n: i64) -> bool
 
 // Whether this spot of a key stands at a place.
 fn is_entry(entries: &[EntryRow], place: usize, key: &(String, i64), spot: &Spot) -> bool
-    ensures { result ≡ standing.is_first standing.same_entry (record { term = string_bytes key.now.0; docid = key.now.1; spot = spot.now }) (map standing.shown_entry (drop place entries.now)) }
+    ensures { result ≡ standing.is_first standing.same_entry
+        (record { term = string_bytes key.now.0; docid = key.now.1; spot = spot.now })
+        (map standing.shown_entry (drop place entries.now)) }
 {
     match entries.get(place) {
         Some(entry) => {
@@ -358,7 +402,10 @@ fn end_of_list(
     spots: &[Spot],
 ) -> Option<usize>
     requires { start ≤ length entries.now }
-    ensures rest { option_map (λ n. map standing.shown_entry (drop n entries.now)) result ≡ standing.after_first standing.same_entry (standing.list_rows ((string_bytes key.now.0, key.now.1), spots.now)) (map standing.shown_entry (drop start entries.now)) }
+    ensures rest { option_map (λ n. map standing.shown_entry (drop n entries.now)) result
+        ≡ standing.after_first standing.same_entry
+        (standing.list_rows ((string_bytes key.now.0, key.now.1), spots.now))
+        (map standing.shown_entry (drop start entries.now)) }
     ensures within { IfSome result (λ n. n ≤ length entries.now) }
 {
     let mut place = start;

@@ -21,11 +21,16 @@ use std::alloc::{AllocError, Global};
 
 /// The docid of a table's last document. The store is only read, whatever is answered.
 pub(crate) fn last_docid<S: Alter>(store: &mut Store<S>, tab: i64) -> Result<Option<i64>, Fault>
-    ensures last { IfOk result (λ last. (content : Content) → HasRows S.Store tab store.old store.new content → views.last_docid content.documents ≡ last) }
+    ensures last { IfOk result (λ last. (content : Content)
+        → HasRows S.Store tab store.old store.new content
+        → views.last_docid content.documents ≡ last) }
     ensures faults { IfErr result (λ fault. (fault ≡ faults.Store) ⊎ (fault ≡ faults.Memory)) }
-    ensures kept { HasCleanDisk (shows S.Store store.new) → Keeps (shows S.Store store.old) (shows S.Store store.new) }
-    ensures live { HasCleanDisk (shows S.Store store.new) → OnOk result (IsTrue (shows S.Store store.new).is_open) }
-    ensures survives { Survives (shows S.Store store.old) (shows S.Store store.new) (λ _. IsTrue (shows S.Store store.old).is_open → ⊥) }
+    ensures kept { HasCleanDisk (shows S.Store store.new)
+        → Keeps (shows S.Store store.old) (shows S.Store store.new) }
+    ensures live { HasCleanDisk (shows S.Store store.new)
+        → OnOk result (IsTrue (shows S.Store store.new).is_open) }
+    ensures survives { Survives (shows S.Store store.old) (shows S.Store store.new)
+        (λ _. IsTrue (shows S.Store store.old).is_open → ⊥) }
 {
     let last = store.last_docid(tab)?;
     Ok(last)
@@ -38,12 +43,18 @@ pub(crate) fn document<S: Alter>(
     tab: i64,
     docid: i64,
 ) -> Result<Option<Vec<Value>>, Fault>
-    ensures found { IfOk result (λ found. (content : Content) → HasRows S.Store tab store.old store.new content → option_map views.cells_of found ≡ find int_cmp docid content.documents) }
-    ensures counted { IfOk result (λ found. store.new.rows_read ≡ more_rows (option_map_or vec_len found 0) store.old) }
+    ensures found { IfOk result (λ found. (content : Content)
+        → HasRows S.Store tab store.old store.new content
+        → option_map views.cells_of found ≡ find int_cmp docid content.documents) }
+    ensures counted { IfOk result (λ found. store.new.rows_read
+        ≡ more_rows (option_map_or vec_len found 0) store.old) }
     ensures faults { IfErr result (λ fault. (fault ≡ faults.Store) ⊎ (fault ≡ faults.Memory)) }
-    ensures kept { HasCleanDisk (shows S.Store store.new) → Keeps (shows S.Store store.old) (shows S.Store store.new) }
-    ensures live { HasCleanDisk (shows S.Store store.new) → OnOk result (IsTrue (shows S.Store store.new).is_open) }
-    ensures survives { Survives (shows S.Store store.old) (shows S.Store store.new) (λ _. IsTrue (shows S.Store store.old).is_open → ⊥) }
+    ensures kept { HasCleanDisk (shows S.Store store.new)
+        → Keeps (shows S.Store store.old) (shows S.Store store.new) }
+    ensures live { HasCleanDisk (shows S.Store store.new)
+        → OnOk result (IsTrue (shows S.Store store.new).is_open) }
+    ensures survives { Survives (shows S.Store store.old) (shows S.Store store.new)
+        (λ _. IsTrue (shows S.Store store.old).is_open → ⊥) }
 {
     let rows = store.document(tab, docid)?;
     if rows.is_empty() {
@@ -59,11 +70,16 @@ pub(crate) fn all_documents<S: Alter>(
     store: &mut Store<S>,
     tab: i64,
 ) -> Result<Vec<Document>, Fault>
-    ensures found { IfOk result (λ found. (content : Content) → HasRows S.Store tab store.old store.new content → map shown_document found.items ≡ content.documents) }
+    ensures found { IfOk result (λ found. (content : Content)
+        → HasRows S.Store tab store.old store.new content
+        → map shown_document found.items ≡ content.documents) }
     ensures faults { IfErr result (λ fault. (fault ≡ faults.Store) ⊎ (fault ≡ faults.Memory)) }
-    ensures kept { HasCleanDisk (shows S.Store store.new) → Keeps (shows S.Store store.old) (shows S.Store store.new) }
-    ensures live { HasCleanDisk (shows S.Store store.new) → OnOk result (IsTrue (shows S.Store store.new).is_open) }
-    ensures survives { Survives (shows S.Store store.old) (shows S.Store store.new) (λ _. IsTrue (shows S.Store store.old).is_open → ⊥) }
+    ensures kept { HasCleanDisk (shows S.Store store.new)
+        → Keeps (shows S.Store store.old) (shows S.Store store.new) }
+    ensures live { HasCleanDisk (shows S.Store store.new)
+        → OnOk result (IsTrue (shows S.Store store.new).is_open) }
+    ensures survives { Survives (shows S.Store store.old) (shows S.Store store.new)
+        (λ _. IsTrue (shows S.Store store.old).is_open → ⊥) }
 {
     let rows = store.cells(tab)?;
     let documents = gathered(alloc, rows)?;
@@ -77,11 +93,17 @@ pub(crate) fn has_document<S: Alter>(
     tab: i64,
     given: Option<i64>,
 ) -> Result<bool, Fault>
-    ensures found { IfOk result (λ found. (content : Content) → HasRows S.Store tab store.old store.new content → found ≡ has_given content.documents given) }
+    ensures found { IfOk result (λ found. (content : Content)
+        → HasRows S.Store tab store.old store.new content
+        → found ≡ has_given content.documents given) }
     ensures faults { IfErr result (λ fault. (fault ≡ faults.Store) ⊎ (fault ≡ faults.Memory)) }
-    ensures kept { HasCleanDisk (shows S.Store store.new) → Keeps (shows S.Store store.old) (shows S.Store store.new) }
-    ensures live { (HasCleanDisk (shows S.Store store.old) → IsTrue (shows S.Store store.old).is_open) → HasCleanDisk (shows S.Store store.new) → OnOk result (IsTrue (shows S.Store store.new).is_open) }
-    ensures survives { Survives (shows S.Store store.old) (shows S.Store store.new) (λ _. IsTrue (shows S.Store store.old).is_open → ⊥) }
+    ensures kept { HasCleanDisk (shows S.Store store.new)
+        → Keeps (shows S.Store store.old) (shows S.Store store.new) }
+    ensures live { (HasCleanDisk (shows S.Store store.old)
+        → IsTrue (shows S.Store store.old).is_open) → HasCleanDisk (shows S.Store store.new)
+        → OnOk result (IsTrue (shows S.Store store.new).is_open) }
+    ensures survives { Survives (shows S.Store store.old) (shows S.Store store.new)
+        (λ _. IsTrue (shows S.Store store.old).is_open → ⊥) }
 {
     match given {
         Some(docid) => {
@@ -94,7 +116,8 @@ pub(crate) fn has_document<S: Alter>(
 
 /// The documents that rows of cells are of.
 pub(crate) fn gathered(alloc: Global, rows: Vec<CellRow>) -> Result<Vec<Document>, AllocError>
-    ensures { IfOk result (λ documents. map shown_document documents.items ≡ content.gathered (map shown_row rows.items)) }
+    ensures { IfOk result (λ documents. map shown_document documents.items
+        ≡ content.gathered (map shown_row rows.items)) }
 {
     let mut documents = Vec::new(alloc);
     for row in rows {
@@ -105,7 +128,8 @@ pub(crate) fn gathered(alloc: Global, rows: Vec<CellRow>) -> Result<Vec<Document
 
 // Adds a cell to the last document, or a document with this cell.
 fn push_cell(alloc: Global, documents: &mut Vec<Document>, row: CellRow) -> Result<(), AllocError>
-    ensures { OnOk result (map shown_document documents.new.items ≡ with_last (shown_row row) (map shown_document documents.old.items)) }
+    ensures { OnOk result (map shown_document documents.new.items
+        ≡ with_last (shown_row row) (map shown_document documents.old.items)) }
 {
     let CellRow { docid, value, .. } = row;
     let mut cells = Vec::new(alloc);
@@ -123,7 +147,8 @@ fn push_cell(alloc: Global, documents: &mut Vec<Document>, row: CellRow) -> Resu
 
 // The values of cells.
 fn values_of(alloc: Global, rows: Vec<CellRow>) -> Result<Vec<Value>, AllocError>
-    ensures { IfOk result (λ values. views.cells_of values ≡ map (λ row. shown_value row.value) rows.items) }
+    ensures { IfOk result (λ values. views.cells_of values
+        ≡ map (λ row. shown_value row.value) rows.items) }
 {
     let mut values = Vec::new(alloc);
     for row in rows {

@@ -28,10 +28,18 @@ pub(crate) fn execute_command<S: Alter>(
     tables: &mut Vec<TableInfo>,
     command: &Command,
 ) -> Result<Reply, Fault>
-    ensures executes { Executes S.Store (with_tables store.old (map shown_info tables.old.items)) (command_of command.now) (answer_of result) (with_tables store.new (map shown_info tables.new.items)) }
-    ensures counts { CountsRows S.Store (with_tables store.old (map shown_info tables.old.items)) (command_of command.now) (answer_of result) (with_tables store.new (map shown_info tables.new.items)) }
-    ensures crash { CommandSurvives S.Store (with_tables store.old (map shown_info tables.old.items)) (command_of command.now) (with_tables store.new (map shown_info tables.new.items)) }
-    ensures live { HasCleanDisk (shows S.Store store.new) → OnOk result (IsTrue (shows S.Store store.old).is_open → IsTrue (shows S.Store store.new).is_open) }
+    ensures executes { Executes S.Store (with_tables store.old (map shown_info tables.old.items))
+        (command_of command.now) (answer_of result)
+        (with_tables store.new (map shown_info tables.new.items)) }
+    ensures counts { CountsRows S.Store (with_tables store.old (map shown_info tables.old.items))
+        (command_of command.now) (answer_of result)
+        (with_tables store.new (map shown_info tables.new.items)) }
+    ensures crash { CommandSurvives S.Store (with_tables store.old
+        (map shown_info tables.old.items)) (command_of command.now)
+        (with_tables store.new (map shown_info tables.new.items)) }
+    ensures live { HasCleanDisk (shows S.Store store.new)
+        → OnOk result (IsTrue (shows S.Store store.old).is_open
+        → IsTrue (shows S.Store store.new).is_open) }
 {
     match command {
         Command::Create {

@@ -68,7 +68,8 @@ impl<S: Alter> FullText<S> {
         ensures opened { IfOk result (λ made. Opens S.Store store made) }
 
         // Of an empty store there are no tables.
-        ensures empty { value_in S.Store store ≡ nothing_held → IfOk result (λ made. IsUp S.Store made → Holds S.Store made []) }
+        ensures empty { value_in S.Store store ≡ nothing_held
+            → IfOk result (λ made. IsUp S.Store made → Holds S.Store made []) }
         ensures refused { IfErr result (λ fault. Looks S.Store store fault.store) }
         ensures cause { IfErr result (λ fault. IsPlainFault fault.cause) }
     {
@@ -98,17 +99,23 @@ impl<S: Alter> FullText<S> {
     /// The first fault that the command deserves, in the order of the causes of `Fault`; or `Store` or `Memory`, where the
     /// store or memory refused it.
     pub fn execute(&mut self, command: &Command) -> Result<Reply, Fault>
-        ensures executes { Executes S.Store self.old (command_of command.now) (answer_of result) self.new }
+        ensures executes { Executes S.Store self.old (command_of command.now) (answer_of result)
+            self.new }
 
         // Where it is answered Ok, an open store stays open.
-        ensures live { HasCleanDisk (shows S.Store self.new.store) → OnOk result (IsTrue (shows S.Store self.old.store).is_open → IsTrue (shows S.Store self.new.store).is_open) }
+        ensures live { HasCleanDisk (shows S.Store self.new.store)
+            → OnOk result (IsTrue (shows S.Store self.old.store).is_open
+            → IsTrue (shows S.Store self.new.store).is_open) }
 
         // A Select with MATCH reads the entries of its terms, and where an item is a column the documents that it answers.
-        ensures counts { CountsRows S.Store self.old (command_of command.now) (answer_of result) self.new }
+        ensures counts { CountsRows S.Store self.old (command_of command.now) (answer_of result)
+            self.new }
 
         // A crash leaves what it could leave before, or the contents that the command leaves.
         ensures crash { CommandSurvives S.Store self.old (command_of command.now) self.new }
-        ensures alone { OnOk result (IsUp S.Store self.new → (first : Contents) → Holds S.Store self.old first → (db : Trees) → (shows S.Store self.new.store).may_leave db
+        ensures alone { OnOk result (IsUp S.Store self.new → (first : Contents)
+            → Holds S.Store self.old first → (db : Trees)
+            → (shows S.Store self.new.store).may_leave db
             → HoldsAfter (value_of S.Store self.old) first (command_of command.now) db) }
     {
         let result = execute_command(self.alloc, &mut self.store, &mut self.tables, command);
@@ -122,7 +129,8 @@ impl<S: Alter> FullText<S> {
     ///
     /// As `execute` has them.
     pub fn plan(&mut self, command: &Command) -> Result<Vec<RowChange>, Fault>
-        ensures plan { IsUp S.Store self.new → Plans S.Store self.old (command_of command.now) (changes_of result) }
+        ensures plan { IsUp S.Store self.new
+            → Plans S.Store self.old (command_of command.now) (changes_of result) }
         ensures looks { OnlyLooks S.Store self.old self.new }
     {
         let tables = self.tables.as_slice();
@@ -131,7 +139,9 @@ impl<S: Alter> FullText<S> {
 
     /// Whether each table's rows are documents with exactly the index rows made from scratch. They are read and compared.
     pub fn check_all(&mut self) -> Result<bool, Fault>
-        ensures all { IsUp S.Store self.new → IfOk result (λ all. (contents : Contents) → Holds S.Store self.old contents → IsTrue all ↔ AreSound contents) }
+        ensures all { IsUp S.Store self.new
+            → IfOk result (λ all. (contents : Contents) → Holds S.Store self.old contents
+            → IsTrue all ↔ AreSound contents) }
         ensures fault { IfErr result (λ fault. (fault ≡ faults.Store) ⊎ (fault ≡ faults.Memory)) }
         ensures looks { OnlyLooks S.Store self.old self.new }
     {
@@ -145,7 +155,8 @@ impl<S: Alter> FullText<S> {
 
         // A crash leaves what it could leave before, or the name alone; and once it is noted nothing else.
         ensures crash { NoteSurvives S.Store self.old name.now self.new }
-        ensures alone { OnOk result (IsUp S.Store self.new → (db : Trees) → (shows S.Store self.new.store).may_leave db
+        ensures alone { OnOk result (IsUp S.Store self.new → (db : Trees)
+            → (shows S.Store self.new.store).may_leave db
             → IsStored db (applied (Note name.now) (value_of S.Store self.old))) }
     {
         let mut changes = Vec::new(self.alloc);
@@ -157,14 +168,17 @@ impl<S: Alter> FullText<S> {
 
     /// The law that a crash leaves what a store that is up holds, and nothing else.
     pub fn is_settled(&self)
-        ensures { IsUp S.Store self.now → (db : Trees) → (shows S.Store self.now.store).may_leave db → IsStored db (value_of S.Store self.now) }
+        ensures { IsUp S.Store self.now → (db : Trees) → (shows S.Store self.now.store).may_leave db
+            → IsStored db (value_of S.Store self.now) }
     {
         self.store.is_settled();
     }
 
     /// The noted names, in the order of their small letters.
     pub fn noted(&mut self) -> Result<Vec<String>, Fault>
-        ensures names { IsUp S.Store self.new → IfOk result (λ names. map string_bytes names.items ≡ map (λ n. n.1) (value_of S.Store self.old).noted) }
+        ensures names { IsUp S.Store self.new
+            → IfOk result (λ names. map string_bytes names.items
+            ≡ map (λ n. n.1) (value_of S.Store self.old).noted) }
         ensures fault { IfErr result (λ fault. (fault ≡ faults.Store) ⊎ (fault ≡ faults.Memory)) }
         ensures looks { OnlyLooks S.Store self.old self.new }
     {

@@ -41,12 +41,15 @@ pub(crate) fn insert_into<S: Alter>(
     rows: &[Vec<Value>],
 ) -> Result<Reply, Fault>
     ensures executes { Executes S.Store (with_tables store.old (map shown_info tables.now))
-        (plain.Insert table.now (option_map (λ n. map string_bytes n.now) columns.entry) (map cells_of rows.now))
-        (views.answer_of result) (with_tables store.new (map shown_info tables.now)) }
-    ensures crash { CommandSurvives S.Store (with_tables store.old (map shown_info tables.now))
-        (plain.Insert table.now (option_map (λ n. map string_bytes n.now) columns.entry) (map cells_of rows.now))
+        (plain.Insert table.now (option_map (λ n. map string_bytes n.now) columns.entry)
+        (map cells_of rows.now)) (views.answer_of result)
         (with_tables store.new (map shown_info tables.now)) }
-    ensures live { HasCleanDisk (shows S.Store store.new) → OnOk result (IsTrue (shows S.Store store.old).is_open → IsTrue (shows S.Store store.new).is_open) }
+    ensures crash { CommandSurvives S.Store (with_tables store.old (map shown_info tables.now))
+        (plain.Insert table.now (option_map (λ n. map string_bytes n.now) columns.entry)
+        (map cells_of rows.now)) (with_tables store.new (map shown_info tables.now)) }
+    ensures live { HasCleanDisk (shows S.Store store.new)
+        → OnOk result (IsTrue (shows S.Store store.old).is_open
+        → IsTrue (shows S.Store store.new).is_open) }
 {
     let changes = insert_changes(alloc, store, tables, table, columns, rows)?;
     change_rows(store, changes.as_slice())?;
@@ -62,9 +65,13 @@ pub(crate) fn insert_changes<S: Alter>(
     columns: Option<&[String]>,
     rows: &[Vec<Value>],
 ) -> Result<Vec<RowChange>, Fault>
-    ensures plans { PlansIn S.Store (map shown_info tables.now) store.old store.new (plain.Insert table.now (option_map (λ n. map string_bytes n.now) columns.entry) (map cells_of rows.now)) result }
+    ensures plans { PlansIn S.Store (map shown_info tables.now) store.old store.new
+        (plain.Insert table.now (option_map (λ n. map string_bytes n.now) columns.entry)
+        (map cells_of rows.now)) result }
     ensures looks { Looks S.Store store.old store.new }
-    ensures live { HasCleanDisk (shows S.Store store.new) → OnOk result (IsTrue (shows S.Store store.old).is_open → IsTrue (shows S.Store store.new).is_open) }
+    ensures live { HasCleanDisk (shows S.Store store.new)
+        → OnOk result (IsTrue (shows S.Store store.old).is_open
+        → IsTrue (shows S.Store store.new).is_open) }
 {
     store.is_in_order();
     if lists_twice(columns) {
@@ -83,7 +90,8 @@ pub(crate) fn insert_changes<S: Alter>(
 
 // Whether a column is listed twice.
 fn lists_twice(columns: Option<&[String]>) -> bool
-    ensures { result ≡ content.repeats_name (unwrap_or (option_map (λ n. map string_bytes n.now) columns.entry) []) }
+    ensures { result ≡ content.repeats_name (unwrap_or
+        (option_map (λ n. map string_bytes n.now) columns.entry) []) }
 {
     match columns {
         Some(names) => repeats_name(names),
@@ -99,11 +107,19 @@ fn written_by_insert<S: Alter>(
     columns: Option<&[String]>,
     rows: &[Vec<Value>],
 ) -> Result<Vec<Rewrite>, Fault>
-    ensures written { (name : List ℕ) (content : Content) → HasAll S.Store known.now.id name (map column_of known.now.columns.items) store.old store.new content
-        → Writes content (insert_fault content (listed_columns content (option_map (λ n. map string_bytes n.now) columns.entry)) (map cells_of rows.now)) (inserted content (option_map (λ n. map string_bytes n.now) columns.entry) (map cells_of rows.now))
-        (new_docids content.documents (inserted content (option_map (λ n. map string_bytes n.now) columns.entry) (map cells_of rows.now))) result }
+    ensures written { (name : List ℕ) (content : Content)
+        → HasAll S.Store known.now.id name (map column_of known.now.columns.items) store.old
+        store.new content
+        → Writes content (insert_fault content
+        (listed_columns content (option_map (λ n. map string_bytes n.now) columns.entry))
+        (map cells_of rows.now)) (inserted content
+        (option_map (λ n. map string_bytes n.now) columns.entry) (map cells_of rows.now))
+        (new_docids content.documents (inserted content
+        (option_map (λ n. map string_bytes n.now) columns.entry) (map cells_of rows.now))) result }
     ensures looks { Looks S.Store store.old store.new }
-    ensures live { HasCleanDisk (shows S.Store store.new) → OnOk result (IsTrue (shows S.Store store.old).is_open → IsTrue (shows S.Store store.new).is_open) }
+    ensures live { HasCleanDisk (shows S.Store store.new)
+        → OnOk result (IsTrue (shows S.Store store.old).is_open
+        → IsTrue (shows S.Store store.new).is_open) }
 {
     let names = listed_names(alloc, known.columns.as_slice(), columns)?;
     if let Some(fault) = insert_tests(known.columns.as_slice(), names.as_slice(), rows) {
@@ -131,9 +147,12 @@ pub(crate) fn insert_rewrites<S: Alter>(
     rows: &[Vec<Value>],
 ) -> Result<Vec<Rewrite>, Fault>
     ensures rewrites { (content : Content) → HasRows S.Store tab store.old store.new content
-        → Inserts content.documents (insert_rows (map column_of columns.now) (map (zip (map (λ n. n.now) names.now)) (map cells_of rows.now)) content.documents) result }
+        → Inserts content.documents (insert_rows (map column_of columns.now)
+        (map (zip (map (λ n. n.now) names.now)) (map cells_of rows.now)) content.documents) result }
     ensures looks { Looks S.Store store.old store.new }
-    ensures live { HasCleanDisk (shows S.Store store.new) → OnOk result (IsTrue (shows S.Store store.old).is_open → IsTrue (shows S.Store store.new).is_open) }
+    ensures live { HasCleanDisk (shows S.Store store.new)
+        → OnOk result (IsTrue (shows S.Store store.old).is_open
+        → IsTrue (shows S.Store store.new).is_open) }
 {
     let last = last_docid(store, tab)?;
     let stored = stored_docids(alloc, store, tab, names, rows)?;
@@ -152,9 +171,12 @@ pub(crate) fn made_documents(
     rows: &[Vec<Value>],
     stored: &[bool],
 ) -> Result<NewDocuments, Fault>
-    ensures { (documents : Documents) → IsTrue (is_sorted int_cmp documents) → views.last_docid documents ≡ last
-        → AreKnown documents (map (zip (map (λ n. n.now) names.now)) (map cells_of rows.now)) stored.now
-        → Makes documents (insert_rows (map column_of columns.now) (map (zip (map (λ n. n.now) names.now)) (map cells_of rows.now)) documents) result }
+    ensures { (documents : Documents) → IsTrue (is_sorted int_cmp documents)
+        → views.last_docid documents ≡ last
+        → AreKnown documents (map (zip (map (λ n. n.now) names.now)) (map cells_of rows.now))
+        stored.now
+        → Makes documents (insert_rows (map column_of columns.now)
+        (map (zip (map (λ n. n.now) names.now)) (map cells_of rows.now)) documents) result }
 {
     let mut new = NewDocuments::new(alloc, last);
     for (place, row) in rows.iter().enumerate() {
@@ -172,11 +194,17 @@ fn stored_docids<S: Alter>(
     names: &[&str],
     rows: &[Vec<Value>],
 ) -> Result<Vec<bool>, Fault>
-    ensures found { IfOk result (λ stored. (HasCleanDisk (shows S.Store store.old) → IsTrue (shows S.Store store.old).is_open) → (content : Content) → HasRows S.Store tab store.old store.new content
-        → stored.items ≡ map (λ row. has_given content.documents (slice_get (docids_in (zip (map (λ n. n.now) names.now) (cells_of row))) 0)) rows.now) }
+    ensures found { IfOk result (λ stored. (HasCleanDisk (shows S.Store store.old)
+        → IsTrue (shows S.Store store.old).is_open) → (content : Content)
+        → HasRows S.Store tab store.old store.new content
+        → stored.items ≡ map (λ row. has_given content.documents
+        (slice_get (docids_in (zip (map (λ n. n.now) names.now) (cells_of row))) 0)) rows.now) }
     ensures faults { IfErr result (λ fault. (fault ≡ faults.Store) ⊎ (fault ≡ faults.Memory)) }
-    ensures looks { (HasCleanDisk (shows S.Store store.old) → IsTrue (shows S.Store store.old).is_open) → Looks S.Store store.old store.new }
-    ensures live { HasCleanDisk (shows S.Store store.new) → OnOk result (IsTrue (shows S.Store store.old).is_open → IsTrue (shows S.Store store.new).is_open) }
+    ensures looks { (HasCleanDisk (shows S.Store store.old)
+        → IsTrue (shows S.Store store.old).is_open) → Looks S.Store store.old store.new }
+    ensures live { HasCleanDisk (shows S.Store store.new)
+        → OnOk result (IsTrue (shows S.Store store.old).is_open
+        → IsTrue (shows S.Store store.new).is_open) }
 {
     let mut stored = Vec::new(alloc);
     for row in rows {

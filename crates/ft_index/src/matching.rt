@@ -49,8 +49,10 @@ fn next_hit(
     walk: &mut Matches<'_>,
     wants_offsets: bool,
 ) -> Result<Option<Hit>, AllocError>
-    ensures told { IfOk result (λ hit. (documents : List Document) → StandsBefore walk.old documents → Tells wants_offsets walk.old walk.new hit documents) }
-    ensures passes { IfOk result (λ hit. IfSome hit (λ _. lists_to_come walk.new < lists_to_come walk.old)) }
+    ensures told { IfOk result (λ hit. (documents : List Document) → StandsBefore walk.old documents
+        → Tells wants_offsets walk.old walk.new hit documents) }
+    ensures passes { IfOk result (λ hit. IfSome hit
+        (λ _. lists_to_come walk.new < lists_to_come walk.old)) }
     ensures query { walk.new.query ≡ walk.old.query }
 {
     if wants_offsets {
@@ -69,7 +71,8 @@ fn taken(
     most: Option<u64>,
 ) -> Result<Vec<Hit>, AllocError>
     ensures { IfOk result (λ hits. (documents : List Document) → StandsBefore walk.old documents
-        → map plain_hit hits.items ≡ cut most 0 (map (told wants_offsets) (hits_of (tree_of walk.old.query) documents))) }
+        → map plain_hit hits.items ≡ cut most 0
+        (map (told wants_offsets) (hits_of (tree_of walk.old.query) documents))) }
 {
     let mut hits = Vec::new(alloc);
     while is_below(hits.len(), most) {
@@ -88,15 +91,23 @@ fn opened<'q, S: Alter>(
     lists: &mut TableLists<'_, S>,
 ) -> Result<Matches<'q>, ListFault>
     ensures same_reference { lists.new.store.ghost_name ≡ lists.old.store.ghost_name }
-    ensures stands { IfOk result (λ walk. (content : Content) → IsIndexed S.Store lists.old.tab lists.old.store.now lists.new.store.now content
+    ensures stands { IfOk result (λ walk. (content : Content)
+        → IsIndexed S.Store lists.old.tab lists.old.store.now lists.new.store.now content
         → StandsBefore walk (content_documents content)) }
     ensures query { IfOk result (λ walk. walk.query ≡ query.now) }
-    ensures counted { OnOk result ((content : Content) → IsIndexed S.Store lists.old.tab lists.old.store.now lists.new.store.now content
+    ensures counted { OnOk result ((content : Content)
+        → IsIndexed S.Store lists.old.tab lists.old.store.now lists.new.store.now content
         → lists.old.given ≡ 0 → lists.old.store.now.rows_read < 2 ^ 64
-        → lists.new.store.now.rows_read ≡ more_rows (entry_count (tree_of query.now) (content_documents content)) lists.old.store.now) }
-    ensures live { HasCleanDisk (shows S.Store lists.new.store.now) → OnOk result (IsTrue (shows S.Store lists.old.store.now).is_open → IsTrue (shows S.Store lists.new.store.now).is_open) }
-    ensures kept { HasCleanDisk (shows S.Store lists.new.store.now) → Keeps (shows S.Store lists.old.store.now) (shows S.Store lists.new.store.now) }
-    ensures survives { Survives (shows S.Store lists.old.store.now) (shows S.Store lists.new.store.now) (λ _. IsTrue (shows S.Store lists.old.store.now).is_open → ⊥) }
+        → lists.new.store.now.rows_read ≡ more_rows
+        (entry_count (tree_of query.now) (content_documents content)) lists.old.store.now) }
+    ensures live { HasCleanDisk (shows S.Store lists.new.store.now)
+        → OnOk result (IsTrue (shows S.Store lists.old.store.now).is_open
+        → IsTrue (shows S.Store lists.new.store.now).is_open) }
+    ensures kept { HasCleanDisk (shows S.Store lists.new.store.now)
+        → Keeps (shows S.Store lists.old.store.now) (shows S.Store lists.new.store.now) }
+    ensures survives { Survives (shows S.Store lists.old.store.now)
+        (shows S.Store lists.new.store.now) (λ _. IsTrue (shows S.Store lists.old.store.now).is_open
+        → ⊥) }
 {
     Matches::open(alloc, query, lists)
 }
@@ -122,14 +133,22 @@ pub(crate) fn hits<S: Alter>(
     wants_offsets: bool,
     most: Option<u64>,
 ) -> Result<Vec<Hit>, Fault>
-    ensures found { IfOk result (λ hits. (content : Content) → IsIndexed S.Store tab store.old store.new content
-        → map plain_hit hits.items ≡ cut most 0 (map (told wants_offsets) (hits_of (tree_of query.now) (content_documents content)))) }
-    ensures counted { OnOk result ((content : Content) → IsIndexed S.Store tab store.old store.new content
-        → store.new.rows_read ≡ more_rows (entry_count (tree_of query.now) (content_documents content)) store.old) }
+    ensures found { IfOk result (λ hits. (content : Content)
+        → IsIndexed S.Store tab store.old store.new content
+        → map plain_hit hits.items ≡ cut most 0
+        (map (told wants_offsets) (hits_of (tree_of query.now) (content_documents content)))) }
+    ensures counted { OnOk result ((content : Content)
+        → IsIndexed S.Store tab store.old store.new content
+        → store.new.rows_read ≡ more_rows (entry_count (tree_of query.now)
+        (content_documents content)) store.old) }
     ensures faults { IfErr result (λ fault. (fault ≡ faults.Store) ⊎ (fault ≡ faults.Memory)) }
-    ensures live { HasCleanDisk (shows S.Store store.new) → OnOk result (IsTrue (shows S.Store store.old).is_open → IsTrue (shows S.Store store.new).is_open) }
-    ensures kept { HasCleanDisk (shows S.Store store.new) → Keeps (shows S.Store store.old) (shows S.Store store.new) }
-    ensures survives { Survives (shows S.Store store.old) (shows S.Store store.new) (λ _. IsTrue (shows S.Store store.old).is_open → ⊥) }
+    ensures live { HasCleanDisk (shows S.Store store.new)
+        → OnOk result (IsTrue (shows S.Store store.old).is_open
+        → IsTrue (shows S.Store store.new).is_open) }
+    ensures kept { HasCleanDisk (shows S.Store store.new)
+        → Keeps (shows S.Store store.old) (shows S.Store store.new) }
+    ensures survives { Survives (shows S.Store store.old) (shows S.Store store.new)
+        (λ _. IsTrue (shows S.Store store.old).is_open → ⊥) }
 {
     // So the count of rows is known to be of 64 bits.
     let _read = store.rows_read();
@@ -149,14 +168,24 @@ pub(crate) fn matched<S: Alter>(
     wants_offsets: bool,
     most: Option<u64>,
 ) -> Result<Vec<Hit>, Fault>
-    ensures found { IfOk result (λ hits. (content : Content) (name text : List ℕ) → reading content name text ≡ Ok (option_map (λ q. tree_of q.now) query.entry)
-        → IsIndexed S.Store tab store.old store.new content → map plain_hit hits.items ≡ cut most 0 (map (told wants_offsets) (chosen_hits content (Match name text)))) }
-    ensures counted { OnOk result ((content : Content) (name text : List ℕ) → reading content name text ≡ Ok (option_map (λ q. tree_of q.now) query.entry)
-        → IsIndexed S.Store tab store.old store.new content → store.new.rows_read ≡ more_rows (entries_asked content (query_in content (Match name text))) store.old) }
+    ensures found { IfOk result (λ hits. (content : Content) (name text : List ℕ)
+        → reading content name text ≡ Ok (option_map (λ q. tree_of q.now) query.entry)
+        → IsIndexed S.Store tab store.old store.new content
+        → map plain_hit hits.items ≡ cut most 0
+        (map (told wants_offsets) (chosen_hits content (Match name text)))) }
+    ensures counted { OnOk result ((content : Content) (name text : List ℕ)
+        → reading content name text ≡ Ok (option_map (λ q. tree_of q.now) query.entry)
+        → IsIndexed S.Store tab store.old store.new content
+        → store.new.rows_read ≡ more_rows (entries_asked content
+        (query_in content (Match name text))) store.old) }
     ensures faults { IfErr result (λ fault. (fault ≡ faults.Store) ⊎ (fault ≡ faults.Memory)) }
-    ensures live { HasCleanDisk (shows S.Store store.new) → OnOk result (IsTrue (shows S.Store store.old).is_open → IsTrue (shows S.Store store.new).is_open) }
-    ensures kept { HasCleanDisk (shows S.Store store.new) → Keeps (shows S.Store store.old) (shows S.Store store.new) }
-    ensures survives { Survives (shows S.Store store.old) (shows S.Store store.new) (λ _. IsTrue (shows S.Store store.old).is_open → ⊥) }
+    ensures live { HasCleanDisk (shows S.Store store.new)
+        → OnOk result (IsTrue (shows S.Store store.old).is_open
+        → IsTrue (shows S.Store store.new).is_open) }
+    ensures kept { HasCleanDisk (shows S.Store store.new)
+        → Keeps (shows S.Store store.old) (shows S.Store store.new) }
+    ensures survives { Survives (shows S.Store store.old) (shows S.Store store.new)
+        (λ _. IsTrue (shows S.Store store.old).is_open → ⊥) }
 {
     // So the count of rows is known to be of 64 bits.
     let _read = store.rows_read();

@@ -8,7 +8,8 @@ use ft_values::table_place;
 
 /// The place of the table of this name, which has to be sound.
 pub(crate) fn sound_place(tables: &[TableInfo], name: &str) -> Result<usize, Fault>
-    ensures { MatchResult result (λ place. IsSoundAt (map shown_info tables.now) name.now place) (λ fault. IsUnfit (map shown_info tables.now) name.now fault) }
+    ensures { MatchResult result (λ place. IsSoundAt (map shown_info tables.now) name.now place)
+        (λ fault. IsUnfit (map shown_info tables.now) name.now fault) }
 {
     let Some(place) = table_place(tables, name) else {
         return Err(Fault::NoSuchTable);
@@ -22,7 +23,8 @@ pub(crate) fn sound_place(tables: &[TableInfo], name: &str) -> Result<usize, Fau
 
 /// The table of this name, which has to be sound.
 pub(crate) fn sound_table<'a>(tables: &'a [TableInfo], name: &str) -> Result<&'a TableInfo, Fault>
-    ensures { MatchResult result (λ table. IsSoundNamed (map shown_info tables.now) name.now (shown_info table.now)) (λ fault. IsUnfit (map shown_info tables.now) name.now fault) }
+    ensures { MatchResult result (λ table. IsSoundNamed (map shown_info tables.now) name.now
+        (shown_info table.now)) (λ fault. IsUnfit (map shown_info tables.now) name.now fault) }
 {
     let place = sound_place(tables, name)?;
     Ok(&tables[place])

@@ -28,7 +28,8 @@ impl NewDocuments {
     /// None yet, for a table with this last docid.
     pub(crate) fn new(alloc: Global, last: Option<i64>) -> NewDocuments
         ensures none { documents_in result ≡ [] }
-        ensures beside { (documents : Documents) → IsTrue (is_sorted int_cmp documents) → last_docid documents ≡ last → AreBeside documents result }
+        ensures beside { (documents : Documents) → IsTrue (is_sorted int_cmp documents)
+            → last_docid documents ≡ last → AreBeside documents result }
     {
         NewDocuments {
             alloc,
@@ -46,9 +47,13 @@ impl NewDocuments {
         is_stored: bool,
     ) -> Result<(), Fault>
         ensures { (documents : Documents) → AreBeside documents self.old
-            → IfSome (slice_get (deserved.docids_in (zip (map (λ n. n.now) names.now) (map shown_value row.now))) 0) (λ docid. deserved.has_docid documents docid ≡ is_stored)
-            → Places documents (deserved.insert_row (with_new self.old documents) (deserved.docids_in (zip (map (λ n. n.now) names.now) (map shown_value row.now)))
-            (deserved.new_cells (zip (map (λ n. n.now) names.now) (map shown_value row.now)) (map column_of columns.now))) self.new result }
+            → IfSome (slice_get (deserved.docids_in
+            (zip (map (λ n. n.now) names.now) (map shown_value row.now))) 0)
+            (λ docid. deserved.has_docid documents docid ≡ is_stored)
+            → Places documents (deserved.insert_row (with_new self.old documents)
+            (deserved.docids_in (zip (map (λ n. n.now) names.now) (map shown_value row.now)))
+            (deserved.new_cells (zip (map (λ n. n.now) names.now) (map shown_value row.now))
+            (map column_of columns.now))) self.new result }
     {
         let given = row_docid(names, row);
         let is_taken = is_stored || self.has(given);
@@ -59,7 +64,8 @@ impl NewDocuments {
 
     // Whether a new document has the docid that is given.
     fn has(&self, given: Option<i64>) -> bool
-        ensures { IfSome given (λ docid. result ≡ is_some (find int_cmp docid (documents_in self.now))) }
+        ensures { IfSome given (λ docid. result
+            ≡ is_some (find int_cmp docid (documents_in self.now))) }
     {
         match given {
             Some(docid) => self.documents.contains_key(&docid),
@@ -69,8 +75,10 @@ impl NewDocuments {
 
     // Puts a document under a docid that none has.
     fn put(&mut self, docid: i64, cells: Vec<Value>) -> Result<(), Fault>
-        ensures { (documents : Documents) → AreBeside documents self.old → find int_cmp docid (with_new self.old documents) ≡ None
-            → Places documents (deserved.place_document (with_new self.old documents) docid (cells_of cells)) self.new result }
+        ensures { (documents : Documents) → AreBeside documents self.old
+            → find int_cmp docid (with_new self.old documents) ≡ None
+            → Places documents (deserved.place_document (with_new self.old documents) docid
+            (cells_of cells)) self.new result }
     {
         self.documents.insert(docid, cells)?;
         self.last = Some(last_docid_after(self.last, docid));
@@ -79,7 +87,8 @@ impl NewDocuments {
 
     /// The rewrites that make these documents.
     pub(crate) fn into_rewrites(self) -> Result<Vec<Rewrite>, AllocError>
-        ensures { IfOk result (λ rewrites. map shown_rewrite rewrites.items ≡ map new_rewrite (documents_in self)) }
+        ensures { IfOk result (λ rewrites. map shown_rewrite rewrites.items
+            ≡ map new_rewrite (documents_in self)) }
     {
         let mut rewrites = Vec::new(self.alloc);
         for (docid, cells) in self.documents {

@@ -20,9 +20,11 @@ fn opened_table<S: Alter>(
     store: &mut Store<S>,
     table: TabRow,
 ) -> Result<TableInfo, StoreFault>
-    ensures marked { (named : ℤ × List ℕ) → HasCleanDisk (shows S.Store store.new) → IsListed (value_in S.Store store.old) named table
+    ensures marked { (named : ℤ × List ℕ) → HasCleanDisk (shows S.Store store.new)
+        → IsListed (value_in S.Store store.old) named table
         → IfOk result (λ info. IsMarked (value_in S.Store store.old) named (shown_info info)) }
-    ensures live { HasCleanDisk (shows S.Store store.new) → OnOk result (IsTrue (shows S.Store store.new).is_open) }
+    ensures live { HasCleanDisk (shows S.Store store.new)
+        → OnOk result (IsTrue (shows S.Store store.new).is_open) }
     ensures cause { IfErr result IsPlainFault }
     ensures looks { Looks S.Store store.old store.new }
 {
@@ -42,8 +44,11 @@ pub(crate) fn opened_tables<S: Alter>(
     alloc: Global,
     store: &mut Store<S>,
 ) -> Result<Vec<TableInfo>, StoreFault>
-    ensures marked { HasCleanDisk (shows S.Store store.new) → IfOk result (λ tables. AreMarked (value_in S.Store store.old) (value_in S.Store store.old).tables (map shown_info tables.items)) }
-    ensures live { HasCleanDisk (shows S.Store store.new) → OnOk result (IsTrue (shows S.Store store.new).is_open) }
+    ensures marked { HasCleanDisk (shows S.Store store.new)
+        → IfOk result (λ tables. AreMarked (value_in S.Store store.old)
+        (value_in S.Store store.old).tables (map shown_info tables.items)) }
+    ensures live { HasCleanDisk (shows S.Store store.new)
+        → OnOk result (IsTrue (shows S.Store store.new).is_open) }
     ensures cause { IfErr result IsPlainFault }
     ensures looks { Looks S.Store store.old store.new }
 {

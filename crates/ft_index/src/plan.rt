@@ -27,7 +27,8 @@ pub(crate) fn planned_changes<S: Alter>(
     tables: &[TableInfo],
     command: &Command,
 ) -> Result<Vec<RowChange>, Fault>
-    ensures plans { PlansIn S.Store (map shown_info tables.now) store.old store.new (command_of command.now) result }
+    ensures plans { PlansIn S.Store (map shown_info tables.now) store.old store.new
+        (command_of command.now) result }
     ensures looks { Looks S.Store store.old store.new }
 {
     store.is_in_order();
@@ -96,7 +97,8 @@ fn check_changes<S: Alter>(
     tables: &[TableInfo],
     table: &str,
 ) -> Result<Vec<RowChange>, Fault>
-    ensures plans { PlansIn S.Store (map shown_info tables.now) store.old store.new (plain.Check table.now) result }
+    ensures plans { PlansIn S.Store (map shown_info tables.now) store.old store.new
+        (plain.Check table.now) result }
     ensures looks { Looks S.Store store.old store.new }
 {
     check_table(alloc, store, tables, table)?;

@@ -21,9 +21,12 @@ pub(crate) fn filter_query(
     columns: &[Column],
     filter: &Filter,
 ) -> Result<Option<Query>, Fault>
-    ensures query { IfOk result (λ query. ReadsAs (bare_content columns.now) (filter_of filter.now) (option_map tree_of query)) }
-    ensures fine { OnOk result (query_fault (bare_content columns.now) (filter_of filter.now) ≡ None) }
-    ensures fault { IfErr result (λ fault. fault ≢ faults.Memory → query_fault (bare_content columns.now) (filter_of filter.now) ≡ Some fault) }
+    ensures query { IfOk result (λ query. ReadsAs (bare_content columns.now) (filter_of filter.now)
+        (option_map tree_of query)) }
+    ensures fine { OnOk result (query_fault (bare_content columns.now) (filter_of filter.now)
+        ≡ None) }
+    ensures fault { IfErr result (λ fault. fault ≢ faults.Memory
+        → query_fault (bare_content columns.now) (filter_of filter.now) ≡ Some fault) }
 {
     match filter {
         Filter::All | Filter::Docid(_) => Ok(None),

@@ -46,10 +46,14 @@ pub(crate) fn index_changes(
     columns: &[Column],
     documents: &[Document],
 ) -> Result<Vec<RowChange>, AllocError>
-    ensures right { IfOk result (λ changes. MakesIndex tab (map column_of columns.now) (map shown_document documents.now) (map shown_change changes.items)) }
+    ensures right { IfOk result (λ changes. MakesIndex tab (map column_of columns.now)
+        (map shown_document documents.now) (map shown_change changes.items)) }
     ensures others { IfOk result (λ changes. LeavesOthers tab (map shown_change changes.items)) }
     ensures names { IfOk result (λ changes. LeavesNames (map shown_change changes.items)) }
-    ensures packable { IfOk result (λ changes. length columns.now ≤ 100 → IsTrue (is_sorted int_cmp (map shown_document documents.now)) → All (λ d. IsTrue (is_document (length columns.now) d)) (map shown_document documents.now) → All CanApply changes.items) }
+    ensures packable { IfOk result (λ changes. length columns.now ≤ 100
+        → IsTrue (is_sorted int_cmp (map shown_document documents.now))
+        → All (λ d. IsTrue (is_document (length columns.now) d)) (map shown_document documents.now)
+        → All CanApply changes.items) }
 {
     let index = index_of(alloc, columns, documents)?;
     let changes = rebuilt(alloc, tab, index)?;
@@ -62,9 +66,12 @@ fn index_of(
     columns: &[Column],
     documents: &[Document],
 ) -> Result<DocumentIndex, AllocError>
-    ensures lists { IfOk result (λ index. rows.lists_in index ≡ rows.lists_of (map column_of columns.now) (map shown_document documents.now)) }
-    ensures sizes { IfOk result (λ index. rows.sizes_in index ≡ rows.sizes_of (map column_of columns.now) (map shown_document documents.now)) }
-    ensures numbers { OnOk result (All (λ d. rows.AreShortNumbers (map column_of columns.now) d.1) (map shown_document documents.now)) }
+    ensures lists { IfOk result (λ index. rows.lists_in index
+        ≡ rows.lists_of (map column_of columns.now) (map shown_document documents.now)) }
+    ensures sizes { IfOk result (λ index. rows.sizes_in index
+        ≡ rows.sizes_of (map column_of columns.now) (map shown_document documents.now)) }
+    ensures numbers { OnOk result (All (λ d. rows.AreShortNumbers (map column_of columns.now) d.1)
+        (map shown_document documents.now)) }
 {
     let mut index = DocumentIndex::new(alloc);
     for document in documents {
@@ -76,7 +83,8 @@ fn index_of(
 
 // No index row of before, and all of this index.
 fn rebuilt(alloc: Global, tab: i64, index: DocumentIndex) -> Result<Vec<RowChange>, AllocError>
-    ensures { IfOk result (λ changes. map shown_change changes.items ≡ rows.rebuild_changes tab (rows.lists_in index) (rows.sizes_in index)) }
+    ensures { IfOk result (λ changes. map shown_change changes.items
+        ≡ rows.rebuild_changes tab (rows.lists_in index) (rows.sizes_in index)) }
 {
     let none = DocumentIndex::new(alloc);
     let mut changes = Vec::new(alloc);
@@ -94,10 +102,14 @@ fn read_content<S: Alter>(
     store: &mut Store<S>,
     table: &TabRow,
 ) -> Result<Option<TableContent>, StoreFault>
-    ensures held { (named : ℤ × List ℕ) → HasCleanDisk (shows S.Store store.new) → IsListed (value_in S.Store store.old) named table.now
-        → IfOk result (λ found. HoldsIfAny named.1 (table_rows named.0 (value_in S.Store store.old)) found) }
+    ensures held { (named : ℤ × List ℕ) → HasCleanDisk (shows S.Store store.new)
+        → IsListed (value_in S.Store store.old) named table.now
+        → IfOk result (λ found. HoldsIfAny named.1 (table_rows named.0 (value_in S.Store store.old))
+        found) }
     ensures looks { Looks S.Store store.old store.new }
-    ensures live { HasCleanDisk (shows S.Store store.new) → OnOk result (IsTrue (shows S.Store store.old).is_open → IsTrue (shows S.Store store.new).is_open) }
+    ensures live { HasCleanDisk (shows S.Store store.new)
+        → OnOk result (IsTrue (shows S.Store store.old).is_open
+        → IsTrue (shows S.Store store.new).is_open) }
 {
     let columns = listed_columns(alloc, table)?;
     let cells = store.cells(table.id)?;
@@ -114,10 +126,14 @@ fn content_under<S: Alter>(
     store: &mut Store<S>,
     id: i64,
 ) -> Result<Option<TableContent>, StoreFault>
-    ensures held { (named : ℤ × List ℕ) → HasCleanDisk (shows S.Store store.new) → IsNamed (value_in S.Store store.old) id named
-        → IfOk result (λ found. HoldsIfAny named.1 (table_rows named.0 (value_in S.Store store.old)) found) }
+    ensures held { (named : ℤ × List ℕ) → HasCleanDisk (shows S.Store store.new)
+        → IsNamed (value_in S.Store store.old) id named
+        → IfOk result (λ found. HoldsIfAny named.1 (table_rows named.0 (value_in S.Store store.old))
+        found) }
     ensures looks { Looks S.Store store.old store.new }
-    ensures live { HasCleanDisk (shows S.Store store.new) → OnOk result (IsTrue (shows S.Store store.old).is_open → IsTrue (shows S.Store store.new).is_open) }
+    ensures live { HasCleanDisk (shows S.Store store.new)
+        → OnOk result (IsTrue (shows S.Store store.old).is_open
+        → IsTrue (shows S.Store store.new).is_open) }
 {
     match listed_table(store, id)? {
         Some(table) => read_content(alloc, store, &table),
@@ -132,10 +148,14 @@ pub(crate) fn rebuild_changes<S: Alter>(
     tables: &[TableInfo],
     table: &str,
 ) -> Result<Vec<RowChange>, Fault>
-    ensures plan { HasCleanDisk (shows S.Store store.new) → (contents : Contents) → AreHeld (value_in S.Store store.old) (map shown_info tables.now) contents
-        → PlansFrom contents (plain.Rebuild table.now) (value_in S.Store store.old) (changes_of result) }
+    ensures plan { HasCleanDisk (shows S.Store store.new) → (contents : Contents)
+        → AreHeld (value_in S.Store store.old) (map shown_info tables.now) contents
+        → PlansFrom contents (plain.Rebuild table.now) (value_in S.Store store.old)
+        (changes_of result) }
     ensures looks { Looks S.Store store.old store.new }
-    ensures live { HasCleanDisk (shows S.Store store.new) → OnOk result (IsTrue (shows S.Store store.old).is_open → IsTrue (shows S.Store store.new).is_open) }
+    ensures live { HasCleanDisk (shows S.Store store.new)
+        → OnOk result (IsTrue (shows S.Store store.old).is_open
+        → IsTrue (shows S.Store store.new).is_open) }
 {
     store.is_in_order();
     let Some(place) = table_place(tables, table) else {
@@ -161,9 +181,15 @@ pub(crate) fn rebuild_table<S: Alter>(
     tables: &mut Vec<TableInfo>,
     table: &str,
 ) -> Result<Reply, Fault>
-    ensures executes { Executes S.Store (with_tables store.old (map shown_info tables.old.items)) (plain.Rebuild table.now) (answer_of result) (with_tables store.new (map shown_info tables.new.items)) }
-    ensures crash { CommandSurvives S.Store (with_tables store.old (map shown_info tables.old.items)) (plain.Rebuild table.now) (with_tables store.new (map shown_info tables.new.items)) }
-    ensures live { HasCleanDisk (shows S.Store store.new) → OnOk result (IsTrue (shows S.Store store.old).is_open → IsTrue (shows S.Store store.new).is_open) }
+    ensures executes { Executes S.Store (with_tables store.old (map shown_info tables.old.items))
+        (plain.Rebuild table.now) (answer_of result)
+        (with_tables store.new (map shown_info tables.new.items)) }
+    ensures crash { CommandSurvives S.Store (with_tables store.old
+        (map shown_info tables.old.items)) (plain.Rebuild table.now)
+        (with_tables store.new (map shown_info tables.new.items)) }
+    ensures live { HasCleanDisk (shows S.Store store.new)
+        → OnOk result (IsTrue (shows S.Store store.old).is_open
+        → IsTrue (shows S.Store store.new).is_open) }
 {
     store.is_in_order();
     let changes = rebuild_changes(alloc, store, tables.as_slice(), table)?;

@@ -42,10 +42,17 @@ pub(crate) fn row_changes(
     columns: &[Column],
     rewrites: &[Rewrite],
 ) -> Result<Vec<RowChange>, AllocError>
-    ensures right { IfOk result (λ changes. AreRight tab (map column_of columns.now) (map shown_rewrite rewrites.now) (map shown_change changes.items)) }
-    ensures packable { IfOk result (λ changes. length columns.now ≤ 100 → IsTrue (is_sorted int_cmp (by_docid (map shown_rewrite rewrites.now))) → All (FitIfAny (length columns.now)) (map shown_rewrite rewrites.now) → All CanApply changes.items) }
-    ensures new { IfOk result (λ changes. AreNew tab (map column_of columns.now) (map shown_rewrite rewrites.now) (map shown_change changes.items)) }
-    ensures near { IfOk result (λ changes. All (IsOfDocids tab (docids_of (map shown_rewrite rewrites.now))) (map shown_change changes.items)) }
+    ensures right { IfOk result (λ changes. AreRight tab (map column_of columns.now)
+        (map shown_rewrite rewrites.now) (map shown_change changes.items)) }
+    ensures packable { IfOk result (λ changes. length columns.now ≤ 100
+        → IsTrue (is_sorted int_cmp (by_docid (map shown_rewrite rewrites.now)))
+        → All (FitIfAny (length columns.now)) (map shown_rewrite rewrites.now)
+        → All CanApply changes.items) }
+    ensures new { IfOk result (λ changes. AreNew tab (map column_of columns.now)
+        (map shown_rewrite rewrites.now) (map shown_change changes.items)) }
+    ensures near { IfOk result (λ changes. All
+        (IsOfDocids tab (docids_of (map shown_rewrite rewrites.now)))
+        (map shown_change changes.items)) }
 {
     let changes = planned_changes(alloc, tab, columns, rewrites)?;
     Ok(changes)
@@ -58,8 +65,10 @@ fn planned_changes(
     columns: &[Column],
     rewrites: &[Rewrite],
 ) -> Result<Vec<RowChange>, AllocError>
-    ensures plan { IfOk result (λ changes. map shown_change changes.items ≡ rows.rewrite_changes tab (map column_of columns.now) (map shown_rewrite rewrites.now)) }
-    ensures numbers { OnOk result (All (rows.HasShortNumbers (map column_of columns.now)) (map shown_rewrite rewrites.now)) }
+    ensures plan { IfOk result (λ changes. map shown_change changes.items
+        ≡ rows.rewrite_changes tab (map column_of columns.now) (map shown_rewrite rewrites.now)) }
+    ensures numbers { OnOk result (All (rows.HasShortNumbers (map column_of columns.now))
+        (map shown_rewrite rewrites.now)) }
 {
     let mut changes = Vec::new(alloc);
     drop_documents(&mut changes, tab, rewrites)?;
@@ -79,7 +88,9 @@ fn drop_documents(
     tab: i64,
     rewrites: &[Rewrite],
 ) -> Result<(), AllocError>
-    ensures { OnOk result (map shown_change changes.new.items ≡ map shown_change changes.old.items ++ rows.dropped_documents tab (map shown_rewrite rewrites.now)) }
+    ensures { OnOk result (map shown_change changes.new.items
+        ≡ map shown_change changes.old.items ++ rows.dropped_documents tab
+        (map shown_rewrite rewrites.now)) }
 {
     for rewrite in rewrites {
         let docid = rewrite.docid;
@@ -97,7 +108,9 @@ fn put_documents(
     tab: i64,
     rewrites: &[Rewrite],
 ) -> Result<(), AllocError>
-    ensures { OnOk result (map shown_change changes.new.items ≡ map shown_change changes.old.items ++ rows.put_documents tab (map shown_rewrite rewrites.now)) }
+    ensures { OnOk result (map shown_change changes.new.items
+        ≡ map shown_change changes.old.items ++ rows.put_documents tab
+        (map shown_rewrite rewrites.now)) }
 {
     for rewrite in rewrites {
         let docid = rewrite.docid;
@@ -127,7 +140,9 @@ fn put_cells(
     before: &[Value],
     after: &[Value],
 ) -> Result<(), AllocError>
-    ensures { OnOk result (map shown_change changes.new.items ≡ map shown_change changes.old.items ++ rows.put_cells tab docid (map shown_value before.now) (map shown_value after.now)) }
+    ensures { OnOk result (map shown_change changes.new.items
+        ≡ map shown_change changes.old.items ++ rows.put_cells tab docid
+        (map shown_value before.now) (map shown_value after.now)) }
 {
     for (place, value) in after.iter().enumerate() {
         if !is_at(before, place, value) {
@@ -140,7 +155,9 @@ fn put_cells(
 
 // Whether this value is at this place.
 fn is_at(values: &[Value], place: usize, value: &Value) -> bool
-    ensures { result ≡ rows.was_there rows.same_cell (find int_cmp (pos place) (rows.numbered (map shown_value values.now))) (shown_value value.now) }
+    ensures { result ≡ rows.was_there rows.same_cell
+        (find int_cmp (pos place) (rows.numbered (map shown_value values.now)))
+        (shown_value value.now) }
 {
     match values.get(place) {
         Some(other) => is_same(other, value),
@@ -178,11 +195,16 @@ fn indexes(
     columns: &[Column],
     rewrites: &[Rewrite],
 ) -> Result<(DocumentIndex, DocumentIndex), AllocError>
-    ensures old_lists { IfOk result (λ made. rows.lists_in made.0 ≡ rows.lists_of (map column_of columns.now) (befores (map shown_rewrite rewrites.now))) }
-    ensures old_sizes { IfOk result (λ made. rows.sizes_in made.0 ≡ rows.sizes_of (map column_of columns.now) (befores (map shown_rewrite rewrites.now))) }
-    ensures new_lists { IfOk result (λ made. rows.lists_in made.1 ≡ rows.lists_of (map column_of columns.now) (afters (map shown_rewrite rewrites.now))) }
-    ensures new_sizes { IfOk result (λ made. rows.sizes_in made.1 ≡ rows.sizes_of (map column_of columns.now) (afters (map shown_rewrite rewrites.now))) }
-    ensures numbers { OnOk result (All (rows.HasShortNumbers (map column_of columns.now)) (map shown_rewrite rewrites.now)) }
+    ensures old_lists { IfOk result (λ made. rows.lists_in made.0
+        ≡ rows.lists_of (map column_of columns.now) (befores (map shown_rewrite rewrites.now))) }
+    ensures old_sizes { IfOk result (λ made. rows.sizes_in made.0
+        ≡ rows.sizes_of (map column_of columns.now) (befores (map shown_rewrite rewrites.now))) }
+    ensures new_lists { IfOk result (λ made. rows.lists_in made.1
+        ≡ rows.lists_of (map column_of columns.now) (afters (map shown_rewrite rewrites.now))) }
+    ensures new_sizes { IfOk result (λ made. rows.sizes_in made.1
+        ≡ rows.sizes_of (map column_of columns.now) (afters (map shown_rewrite rewrites.now))) }
+    ensures numbers { OnOk result (All (rows.HasShortNumbers (map column_of columns.now))
+        (map shown_rewrite rewrites.now)) }
 {
     let mut old = DocumentIndex::new(alloc);
     let mut new = DocumentIndex::new(alloc);

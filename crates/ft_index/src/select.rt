@@ -48,12 +48,17 @@ pub(crate) fn select_from<S: Alter>(
     limit: Option<u64>,
     offset: u64,
 ) -> Result<Reply, Fault>
-    ensures executes { Executes S.Store (with_tables store.old (map shown_info tables.now)) (plain.Select table.now (items_of items.now) (filter_of filter.now) limit offset)
+    ensures executes { Executes S.Store (with_tables store.old (map shown_info tables.now))
+        (plain.Select table.now (items_of items.now) (filter_of filter.now) limit offset)
         (answer_of result) (with_tables store.new (map shown_info tables.now)) }
-    ensures counts { CountsRows S.Store (with_tables store.old (map shown_info tables.now)) (plain.Select table.now (items_of items.now) (filter_of filter.now) limit offset)
+    ensures counts { CountsRows S.Store (with_tables store.old (map shown_info tables.now))
+        (plain.Select table.now (items_of items.now) (filter_of filter.now) limit offset)
         (answer_of result) (with_tables store.new (map shown_info tables.now)) }
-    ensures looks { OnlyLooks S.Store (with_tables store.old (map shown_info tables.now)) (with_tables store.new (map shown_info tables.now)) }
-    ensures live { HasCleanDisk (shows S.Store store.new) → OnOk result (IsTrue (shows S.Store store.old).is_open → IsTrue (shows S.Store store.new).is_open) }
+    ensures looks { OnlyLooks S.Store (with_tables store.old (map shown_info tables.now))
+        (with_tables store.new (map shown_info tables.now)) }
+    ensures live { HasCleanDisk (shows S.Store store.new)
+        → OnOk result (IsTrue (shows S.Store store.old).is_open
+        → IsTrue (shows S.Store store.new).is_open) }
 {
     store.is_in_order();
     let place = sound_place(tables, table)?;
@@ -80,7 +85,9 @@ pub(crate) fn select_changes(
     items: &Items,
     filter: &Filter,
 ) -> Result<Vec<RowChange>, Fault>
-    ensures { (limit : Option ℕ) (offset : ℕ) → PlansOver tables.now (plain.Select table.now (items_of items.now) (filter_of filter.now) limit offset) result }
+    ensures { (limit : Option ℕ) (offset : ℕ)
+        → PlansOver tables.now (plain.Select table.now (items_of items.now) (filter_of filter.now)
+        limit offset) result }
 {
     let info = sound_table(tables, table)?;
     select_query(alloc, info, items, filter)?;
@@ -94,9 +101,13 @@ fn select_query(
     items: &Items,
     filter: &Filter,
 ) -> Result<Option<Query>, Fault>
-    ensures query { IfOk result (λ query. ReadsAs (bare_content info.now.columns.items) (filter_of filter.now) (option_map tree_of query)) }
-    ensures fine { OnOk result (deserved.select_fault (string_bytes info.now.name) (bare_content info.now.columns.items) (items_of items.now) (filter_of filter.now) ≡ None) }
-    ensures fault { IfErr result (λ fault. (fault ≡ faults.Memory) ⊎ (deserved.select_fault (string_bytes info.now.name) (bare_content info.now.columns.items) (items_of items.now) (filter_of filter.now) ≡ Some fault)) }
+    ensures query { IfOk result (λ query. ReadsAs (bare_content info.now.columns.items)
+        (filter_of filter.now) (option_map tree_of query)) }
+    ensures fine { OnOk result (deserved.select_fault (string_bytes info.now.name)
+        (bare_content info.now.columns.items) (items_of items.now) (filter_of filter.now) ≡ None) }
+    ensures fault { IfErr result (λ fault. (fault ≡ faults.Memory)
+        ⊎ (deserved.select_fault (string_bytes info.now.name) (bare_content info.now.columns.items)
+        (items_of items.now) (filter_of filter.now) ≡ Some fault)) }
 {
     let columns = info.columns.as_slice();
     if let Some(fault) = select_tests(info.name.as_str(), columns, items, filter) {
@@ -119,13 +130,23 @@ fn select_grid<S: Alter>(
     limit: Option<u64>,
     offset: u64,
 ) -> Result<Grid, Fault>
-    ensures answer { IfOk result (λ grid. (content : Content) → IsAsked S.Store info.now.id (map column_of info.now.columns.items) (items_of items.now) (filter_of filter.now) (option_map (λ q. tree_of q.now) query.entry) store.old store.new content
-        → grid_of grid ≡ answer.answer (string_bytes info.now.name) content (items_of items.now) (filter_of filter.now) limit offset) }
-    ensures counted { OnOk result ((content : Content) → IsAsked S.Store info.now.id (map column_of info.now.columns.items) (items_of items.now) (filter_of filter.now) (option_map (λ q. tree_of q.now) query.entry) store.old store.new content
-        → IsTrue (deserved.is_match (filter_of filter.now)) → store.new.rows_read ≡ more_rows (rows_asked content (items_of items.now) (filter_of filter.now) limit offset) store.old) }
+    ensures answer { IfOk result (λ grid. (content : Content)
+        → IsAsked S.Store info.now.id (map column_of info.now.columns.items) (items_of items.now)
+        (filter_of filter.now) (option_map (λ q. tree_of q.now) query.entry) store.old store.new
+        content
+        → grid_of grid ≡ answer.answer (string_bytes info.now.name) content (items_of items.now)
+        (filter_of filter.now) limit offset) }
+    ensures counted { OnOk result ((content : Content)
+        → IsAsked S.Store info.now.id (map column_of info.now.columns.items) (items_of items.now)
+        (filter_of filter.now) (option_map (λ q. tree_of q.now) query.entry) store.old store.new
+        content → IsTrue (deserved.is_match (filter_of filter.now))
+        → store.new.rows_read ≡ more_rows (rows_asked content (items_of items.now)
+        (filter_of filter.now) limit offset) store.old) }
     ensures faults { IfErr result (λ fault. (fault ≡ faults.Store) ⊎ (fault ≡ faults.Memory)) }
     ensures looks { Looks S.Store store.old store.new }
-    ensures live { HasCleanDisk (shows S.Store store.new) → OnOk result (IsTrue (shows S.Store store.old).is_open → IsTrue (shows S.Store store.new).is_open) }
+    ensures live { HasCleanDisk (shows S.Store store.new)
+        → OnOk result (IsTrue (shows S.Store store.old).is_open
+        → IsTrue (shows S.Store store.new).is_open) }
 {
     let columns = info.columns.as_slice();
     let rows = selected_rows(
@@ -147,13 +168,23 @@ fn selected_rows<S: Alter>(
     limit: Option<u64>,
     offset: u64,
 ) -> Result<Vec<Vec<Value>>, Fault>
-    ensures found { IfOk result (λ found. (content : Content) → IsAsked S.Store tab (map column_of columns.now) (items_of items.now) (filter_of filter.now) (option_map (λ q. tree_of q.now) query.entry) store.old store.new content
-        → rows_of found ≡ answer.cut limit offset (answer.answer_rows content (items_of items.now) (filter_of filter.now))) }
-    ensures counted { OnOk result ((content : Content) → IsAsked S.Store tab (map column_of columns.now) (items_of items.now) (filter_of filter.now) (option_map (λ q. tree_of q.now) query.entry) store.old store.new content
-        → IsTrue (deserved.is_match (filter_of filter.now)) → store.new.rows_read ≡ more_rows (rows_asked content (items_of items.now) (filter_of filter.now) limit offset) store.old) }
+    ensures found { IfOk result (λ found. (content : Content)
+        → IsAsked S.Store tab (map column_of columns.now) (items_of items.now)
+        (filter_of filter.now) (option_map (λ q. tree_of q.now) query.entry) store.old store.new
+        content
+        → rows_of found ≡ answer.cut limit offset
+        (answer.answer_rows content (items_of items.now) (filter_of filter.now))) }
+    ensures counted { OnOk result ((content : Content)
+        → IsAsked S.Store tab (map column_of columns.now) (items_of items.now)
+        (filter_of filter.now) (option_map (λ q. tree_of q.now) query.entry) store.old store.new
+        content → IsTrue (deserved.is_match (filter_of filter.now))
+        → store.new.rows_read ≡ more_rows (rows_asked content (items_of items.now)
+        (filter_of filter.now) limit offset) store.old) }
     ensures faults { IfErr result (λ fault. (fault ≡ faults.Store) ⊎ (fault ≡ faults.Memory)) }
     ensures looks { Looks S.Store store.old store.new }
-    ensures live { HasCleanDisk (shows S.Store store.new) → OnOk result (IsTrue (shows S.Store store.old).is_open → IsTrue (shows S.Store store.new).is_open) }
+    ensures live { HasCleanDisk (shows S.Store store.new)
+        → OnOk result (IsTrue (shows S.Store store.old).is_open
+        → IsTrue (shows S.Store store.new).is_open) }
 {
     match items {
         Items::Count => {
@@ -182,13 +213,21 @@ fn chosen_count<S: Alter>(
     filter: &Filter,
     query: Option<&Query>,
 ) -> Result<i64, Fault>
-    ensures count { IfOk result (λ count. (content : Content) → IsOf S.Store tab store.old store.new content → ReadsAs content (filter_of filter.now) (option_map (λ q. tree_of q.now) query.entry)
+    ensures count { IfOk result (λ count. (content : Content)
+        → IsOf S.Store tab store.old store.new content
+        → ReadsAs content (filter_of filter.now) (option_map (λ q. tree_of q.now) query.entry)
         → count ≡ pos (length (chosen content (filter_of filter.now)))) }
-    ensures counted { OnOk result ((content : Content) → IsOf S.Store tab store.old store.new content → ReadsAs content (filter_of filter.now) (option_map (λ q. tree_of q.now) query.entry)
-        → IsTrue (deserved.is_match (filter_of filter.now)) → store.new.rows_read ≡ more_rows (rows.entries_asked content (query_in content (filter_of filter.now))) store.old) }
+    ensures counted { OnOk result ((content : Content)
+        → IsOf S.Store tab store.old store.new content
+        → ReadsAs content (filter_of filter.now) (option_map (λ q. tree_of q.now) query.entry)
+        → IsTrue (deserved.is_match (filter_of filter.now))
+        → store.new.rows_read ≡ more_rows (rows.entries_asked content
+        (query_in content (filter_of filter.now))) store.old) }
     ensures faults { IfErr result (λ fault. (fault ≡ faults.Store) ⊎ (fault ≡ faults.Memory)) }
     ensures looks { Looks S.Store store.old store.new }
-    ensures live { HasCleanDisk (shows S.Store store.new) → OnOk result (IsTrue (shows S.Store store.old).is_open → IsTrue (shows S.Store store.new).is_open) }
+    ensures live { HasCleanDisk (shows S.Store store.new)
+        → OnOk result (IsTrue (shows S.Store store.old).is_open
+        → IsTrue (shows S.Store store.new).is_open) }
 {
     match filter {
         Filter::Match { .. } => {
@@ -213,11 +252,18 @@ fn read_rows<S: Alter>(
     limit: Option<u64>,
     offset: u64,
 ) -> Result<Vec<Vec<Value>>, Fault>
-    ensures found { IfOk result (λ found. (content : Content) → IsAsked S.Store tab (map column_of columns.now) (plain.Listed (map item_of items.now)) (filter_of filter.now) None store.old store.new content
-        → deserved.is_match (filter_of filter.now) ≡ false → rows_of found ≡ answer.cut limit offset (answer.answer_rows content (plain.Listed (map item_of items.now)) (filter_of filter.now))) }
+    ensures found { IfOk result (λ found. (content : Content)
+        → IsAsked S.Store tab (map column_of columns.now) (plain.Listed (map item_of items.now))
+        (filter_of filter.now) None store.old store.new content
+        → deserved.is_match (filter_of filter.now) ≡ false
+        → rows_of found ≡ answer.cut limit offset
+        (answer.answer_rows content (plain.Listed (map item_of items.now))
+        (filter_of filter.now))) }
     ensures faults { IfErr result (λ fault. (fault ≡ faults.Store) ⊎ (fault ≡ faults.Memory)) }
     ensures looks { Looks S.Store store.old store.new }
-    ensures live { HasCleanDisk (shows S.Store store.new) → OnOk result (IsTrue (shows S.Store store.old).is_open → IsTrue (shows S.Store store.new).is_open) }
+    ensures live { HasCleanDisk (shows S.Store store.new)
+        → OnOk result (IsTrue (shows S.Store store.old).is_open
+        → IsTrue (shows S.Store store.new).is_open) }
 {
     let documents = chosen_documents(alloc, store, tab, filter, None)?;
     let answered = cut(documents.as_slice(), limit, offset);
@@ -232,7 +278,8 @@ fn document_rows(
     documents: &[Document],
 ) -> Result<Vec<Vec<Value>>, AllocError>
     ensures { IfOk result (λ found. list_any deserved.is_offsets (map item_of items.now) ≡ false
-        → rows_of found ≡ answer.item_rows None (bare_content columns.now) (map item_of items.now) (map shown_document documents.now)) }
+        → rows_of found ≡ answer.item_rows None (bare_content columns.now) (map item_of items.now)
+        (map shown_document documents.now)) }
 {
     let mut rows = Vec::new(alloc);
     for document in documents {
@@ -254,13 +301,21 @@ fn matched_rows<S: Alter>(
     limit: Option<u64>,
     offset: u64,
 ) -> Result<Vec<Vec<Value>>, Fault>
-    ensures found { IfOk result (λ found. (content : Content) (name text : List ℕ) → IsAsked S.Store tab (map column_of columns.now) (plain.Listed (map item_of items.now)) (Match name text) (option_map (λ q. tree_of q.now) query.entry) store.old store.new content
-        → rows_of found ≡ answer.cut limit offset (answer.answer_rows content (plain.Listed (map item_of items.now)) (Match name text))) }
-    ensures counted { OnOk result ((content : Content) (name text : List ℕ) → IsAsked S.Store tab (map column_of columns.now) (plain.Listed (map item_of items.now)) (Match name text) (option_map (λ q. tree_of q.now) query.entry) store.old store.new content
-        → store.new.rows_read ≡ more_rows (rows_asked content (plain.Listed (map item_of items.now)) (Match name text) limit offset) store.old) }
+    ensures found { IfOk result (λ found. (content : Content) (name text : List ℕ)
+        → IsAsked S.Store tab (map column_of columns.now) (plain.Listed (map item_of items.now))
+        (Match name text) (option_map (λ q. tree_of q.now) query.entry) store.old store.new content
+        → rows_of found ≡ answer.cut limit offset
+        (answer.answer_rows content (plain.Listed (map item_of items.now)) (Match name text))) }
+    ensures counted { OnOk result ((content : Content) (name text : List ℕ)
+        → IsAsked S.Store tab (map column_of columns.now) (plain.Listed (map item_of items.now))
+        (Match name text) (option_map (λ q. tree_of q.now) query.entry) store.old store.new content
+        → store.new.rows_read ≡ more_rows (rows_asked content (plain.Listed (map item_of items.now))
+        (Match name text) limit offset) store.old) }
     ensures faults { IfErr result (λ fault. (fault ≡ faults.Store) ⊎ (fault ≡ faults.Memory)) }
     ensures looks { Looks S.Store store.old store.new }
-    ensures live { HasCleanDisk (shows S.Store store.new) → OnOk result (IsTrue (shows S.Store store.old).is_open → IsTrue (shows S.Store store.new).is_open) }
+    ensures live { HasCleanDisk (shows S.Store store.new)
+        → OnOk result (IsTrue (shows S.Store store.old).is_open
+        → IsTrue (shows S.Store store.new).is_open) }
 {
     let most = most_hits(limit, offset);
     let hits = matched(store, alloc, tab, query, any_offsets(items), most)?;
@@ -276,7 +331,8 @@ fn matched_rows<S: Alter>(
 fn most_hits(limit: Option<u64>, offset: u64) -> Option<u64>
     ensures none { limit ≡ None → result ≡ None }
     ensures sum { (n : ℕ) → limit ≡ Some n → offset + n < 2 ^ 64 → result ≡ Some (offset + n) }
-    ensures enough { (hits : List PlainHit) → answer.cut limit offset (answer.cut result 0 hits) ≡ answer.cut limit offset hits }
+    ensures enough { (hits : List PlainHit)
+        → answer.cut limit offset (answer.cut result 0 hits) ≡ answer.cut limit offset hits }
 {
     match limit {
         Some(limit) => offset.checked_add(limit),
@@ -308,7 +364,9 @@ fn bare_rows(
     items: &[Item],
     hits: &[Hit],
 ) -> Result<Vec<Vec<Value>>, AllocError>
-    ensures { IfOk result (λ found. rows_of found ≡ map (hit_cells (map column_of columns.now) (map item_of items.now) (λ docid. [])) hits.now) }
+    ensures { IfOk result (λ found. rows_of found
+        ≡ map (hit_cells (map column_of columns.now) (map item_of items.now) (λ docid. []))
+        hits.now) }
 {
     let mut rows = Vec::new(alloc);
     for hit in hits {
@@ -326,11 +384,18 @@ fn cell_rows<S: Alter>(
     items: &[Item],
     hits: &[Hit],
 ) -> Result<Vec<Vec<Value>>, Fault>
-    ensures found { IfOk result (λ found. (content : Content) → HasRows S.Store tab store.old store.new content → rows_of found ≡ map (hit_cells (map column_of columns.now) (map item_of items.now) (cells_at content)) hits.now) }
-    ensures counted { OnOk result ((content : Content) → HasRows S.Store tab store.old store.new content → store.new.rows_read ≡ more_rows (length content.columns * length hits.now) store.old) }
+    ensures found { IfOk result (λ found. (content : Content)
+        → HasRows S.Store tab store.old store.new content
+        → rows_of found ≡ map (hit_cells (map column_of columns.now) (map item_of items.now)
+        (cells_at content)) hits.now) }
+    ensures counted { OnOk result ((content : Content)
+        → HasRows S.Store tab store.old store.new content
+        → store.new.rows_read ≡ more_rows (length content.columns * length hits.now) store.old) }
     ensures faults { IfErr result (λ fault. (fault ≡ faults.Store) ⊎ (fault ≡ faults.Memory)) }
     ensures looks { Looks S.Store store.old store.new }
-    ensures live { HasCleanDisk (shows S.Store store.new) → OnOk result (IsTrue (shows S.Store store.old).is_open → IsTrue (shows S.Store store.new).is_open) }
+    ensures live { HasCleanDisk (shows S.Store store.new)
+        → OnOk result (IsTrue (shows S.Store store.old).is_open
+        → IsTrue (shows S.Store store.new).is_open) }
 {
     // So the count of rows is known to be of 64 bits.
     let _read = store.rows_read();
@@ -362,7 +427,9 @@ fn hit_row(
     hit: &Hit,
     cells: &[Value],
 ) -> Result<Vec<Value>, AllocError>
-    ensures { IfOk result (λ row. cells_of row ≡ hit_cells (map column_of columns.now) (map item_of items.now) (λ docid. map shown_value cells.now) hit.now) }
+    ensures { IfOk result (λ row. cells_of row
+        ≡ hit_cells (map column_of columns.now) (map item_of items.now)
+        (λ docid. map shown_value cells.now) hit.now) }
 {
     let offsets = asked_offsets(alloc, items, hit)?;
     let offsets = offsets.as_str();

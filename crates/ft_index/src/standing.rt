@@ -54,9 +54,11 @@ pub(crate) fn listed_table<S: Alter>(
     store: &mut Store<S>,
     id: i64,
 ) -> Result<Option<TabRow>, StoreFault>
-    ensures found { (named : ℤ × List ℕ) → HasCleanDisk (shows S.Store store.new) → IsNamed (value_in S.Store store.old) id named
+    ensures found { (named : ℤ × List ℕ) → HasCleanDisk (shows S.Store store.new)
+        → IsNamed (value_in S.Store store.old) id named
         → IfOk result (λ found. IsFound (value_in S.Store store.old) named found) }
-    ensures live { HasCleanDisk (shows S.Store store.new) → OnOk result (IsTrue (shows S.Store store.new).is_open) }
+    ensures live { HasCleanDisk (shows S.Store store.new)
+        → OnOk result (IsTrue (shows S.Store store.new).is_open) }
     ensures cause { IfErr result IsPlainFault }
     ensures looks { Looks S.Store store.old store.new }
 {
@@ -70,9 +72,12 @@ pub(crate) fn read_standing<S: Alter>(
     store: &mut Store<S>,
     table: &TabRow,
 ) -> Result<Standing, StoreFault>
-    ensures stands { (named : ℤ × List ℕ) → HasCleanDisk (shows S.Store store.new) → IsListed (value_in S.Store store.old) named table.now
-        → IfOk result (λ s. StandsSo named.1 (table_rows named.0 (value_in S.Store store.old)) (table_index named.0 (value_in S.Store store.old)) s) }
-    ensures live { HasCleanDisk (shows S.Store store.new) → OnOk result (IsTrue (shows S.Store store.new).is_open) }
+    ensures stands { (named : ℤ × List ℕ) → HasCleanDisk (shows S.Store store.new)
+        → IsListed (value_in S.Store store.old) named table.now
+        → IfOk result (λ s. StandsSo named.1 (table_rows named.0 (value_in S.Store store.old))
+        (table_index named.0 (value_in S.Store store.old)) s) }
+    ensures live { HasCleanDisk (shows S.Store store.new)
+        → OnOk result (IsTrue (shows S.Store store.new).is_open) }
     ensures cause { IfErr result IsPlainFault }
     ensures looks { Looks S.Store store.old store.new }
 {
@@ -98,9 +103,13 @@ fn has_right_index<S: Alter>(
     cells: &[CellRow],
 ) -> Result<bool, StoreFault>
     requires { 0 < length columns.now }
-    ensures right { (content : Content) → HasCleanDisk (shows S.Store store.new) → standing.HaveContent (map column_of columns.now) (map standing.shown_row cells.now) content
-        → IfOk result (λ b. IsTrue b ↔ (table_index tab (value_in S.Store store.old) ≡ index_rows content)) }
-    ensures live { HasCleanDisk (shows S.Store store.new) → OnOk result (IsTrue (shows S.Store store.new).is_open) }
+    ensures right { (content : Content) → HasCleanDisk (shows S.Store store.new)
+        → standing.HaveContent (map column_of columns.now) (map standing.shown_row cells.now)
+        content
+        → IfOk result (λ b. IsTrue b ↔ (table_index tab (value_in S.Store store.old)
+        ≡ index_rows content)) }
+    ensures live { HasCleanDisk (shows S.Store store.new)
+        → OnOk result (IsTrue (shows S.Store store.new).is_open) }
     ensures cause { IfErr result IsPlainFault }
     ensures looks { Looks S.Store store.old store.new }
 {

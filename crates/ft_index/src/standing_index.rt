@@ -20,8 +20,12 @@ fn index_of(
     docid: i64,
     cells: &[CellRow],
 ) -> Result<DocumentIndex, AllocError>
-    ensures lists { IfOk result (λ index. rows.lists_in index ≡ rows.lists_of (map column_of columns.now) ((docid, map standing.cell_in cells.now) ∷ [])) }
-    ensures sizes { IfOk result (λ index. rows.sizes_in index ≡ rows.sizes_of (map column_of columns.now) ((docid, map standing.cell_in cells.now) ∷ [])) }
+    ensures lists { IfOk result (λ index. rows.lists_in index
+        ≡ rows.lists_of (map column_of columns.now)
+        ((docid, map standing.cell_in cells.now) ∷ [])) }
+    ensures sizes { IfOk result (λ index. rows.sizes_in index
+        ≡ rows.sizes_of (map column_of columns.now)
+        ((docid, map standing.cell_in cells.now) ∷ [])) }
 {
     let mut index = DocumentIndex::new(alloc);
     index.add_rows(columns, docid, cells)?;
@@ -37,8 +41,10 @@ pub(crate) fn are_of_documents(
     entries: &[EntryRow],
 ) -> Result<bool, AllocError>
     requires { 0 < length columns.now }
-    ensures { (documents : Documents) → standing.HaveCells (length columns.now) (map standing.shown_row cells.now) documents →
-        IfOk result (λ b. b ≡ standing.are_of_documents (map column_of columns.now) documents (map standing.shown_size sizes.now) (map standing.shown_entry entries.now)) }
+    ensures { (documents : Documents)
+        → standing.HaveCells (length columns.now) (map standing.shown_row cells.now) documents
+        → IfOk result (λ b. b ≡ standing.are_of_documents (map column_of columns.now) documents
+        (map standing.shown_size sizes.now) (map standing.shown_entry entries.now)) }
 {
     let mut cells = cells;
     let mut sizes = sizes;
@@ -83,14 +89,21 @@ pub(crate) fn are_theirs(
     entries: &mut Vec<EntryRow>,
 ) -> Result<bool, AllocError>
     requires { 0 < length columns.now }
-    ensures theirs { (content : Content) → standing.HaveContent (map column_of columns.now) (map standing.shown_row cells.now) content →
-        IfOk result (λ b. IsTrue b ↔ standing.AreTheirs content (map standing.shown_size sizes.now) (map standing.shown_entry entries.new.items)) }
+    ensures theirs { (content : Content)
+        → standing.HaveContent (map column_of columns.now) (map standing.shown_row cells.now)
+        content
+        → IfOk result (λ b. IsTrue b ↔ standing.AreTheirs content
+        (map standing.shown_size sizes.now) (map standing.shown_entry entries.new.items)) }
     ensures sorted { OnOk result (IsSortedByKey (λ e. e.docid) int_cmp entries.new.items) }
     ensures stable { IsStableByKey (λ e. e.docid) int_cmp entries.old.items entries.new.items }
 
     // So they are exactly where the index rows are those made from scratch.
-    ensures right { (content : Content) (rows : IndexRows) → standing.HaveContent (map column_of columns.now) (map standing.shown_row cells.now) content →
-        standing.AreOfRows rows (map standing.shown_size sizes.now) (map standing.shown_entry entries.old.items) → IfOk result (λ b. IsTrue b ↔ (rows ≡ index_rows content)) }
+    ensures right { (content : Content) (rows : IndexRows)
+        → standing.HaveContent (map column_of columns.now) (map standing.shown_row cells.now)
+        content
+        → standing.AreOfRows rows (map standing.shown_size sizes.now)
+        (map standing.shown_entry entries.old.items)
+        → IfOk result (λ b. IsTrue b ↔ (rows ≡ index_rows content)) }
 {
     sort_by_docid(entries)?;
     are_of_documents(alloc, columns, cells, sizes, entries.as_slice())

@@ -57,7 +57,8 @@ pub(crate) fn are_documents(width: usize, cells: &[CellRow]) -> bool
 
 /// The columns of a table that is listed.
 pub(crate) fn listed_columns(alloc: Global, table: &TabRow) -> Result<Vec<Column>, AllocError>
-    ensures { IfOk result (λ columns. map column_of columns.items ≡ standing.columns_in (standing.listed_rows table.now [])) }
+    ensures { IfOk result (λ columns. map column_of columns.items
+        ≡ standing.columns_in (standing.listed_rows table.now [])) }
 {
     let mut columns = Vec::new(alloc);
     for column in table.columns.as_slice() {
@@ -100,7 +101,8 @@ fn are_columns(alloc: Global, table: &str, columns: &[Column]) -> Result<bool, A
 
 // Whether these are the numbers of the columns that aren't indexed.
 fn are_skipped(alloc: Global, columns: &[Column], numbers: &[i64]) -> Result<bool, AllocError>
-    ensures { IfOk result (λ b. IsTrue b ↔ (numbers.now ≡ content.skipped_from 0 (map column_of columns.now))) }
+    ensures { IfOk result (λ b. IsTrue b ↔ (numbers.now
+        ≡ content.skipped_from 0 (map column_of columns.now))) }
 {
     let skipped = skipped(alloc, columns)?;
     Ok(numbers == skipped.as_slice())
@@ -114,7 +116,8 @@ pub(crate) fn is_content(
     cells: &[CellRow],
 ) -> Result<bool, AllocError>
     ensures { map column_of columns.now ≡ standing.columns_in (standing.listed_rows table.now [])
-        → IfOk result (λ b. IsTrue b ↔ standing.AreContent (string_bytes table.now.name) (standing.listed_rows table.now cells.now)) }
+        → IfOk result (λ b. IsTrue b ↔ standing.AreContent (string_bytes table.now.name)
+        (standing.listed_rows table.now cells.now)) }
 {
     if !are_numbered(table.columns.as_slice()) {
         return Ok(false);

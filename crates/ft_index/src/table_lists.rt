@@ -47,9 +47,13 @@ impl<'s, S: Alter> TableLists<'s, S> {
     }
 
     /// The lists of rows that were read.
-    fn answered(&mut self, alloc: Global, rows: &[ListRow]) -> Result<Vec<DocList>, AllocError>
-        ensures lists { IfOk result (λ lists. AreListsOf rows.now (map plain_list lists.items)) }
-        ensures counted { OnOk result (self.new ≡ record self.old { given = min (self.old.given + spot_count (map shown_list rows.now)) (2 ^ 64 - 1) }) }
+    fn answered(&mut self, alloc: Global, rows: Vec<ListRow>) -> Result<Vec<DocList>, AllocError>
+        ensures lists { IfOk result (λ lists. AreListsOf rows.items (map plain_list lists.items)) }
+        ensures counted { OnOk result (self.new
+            ≡ record self.old {
+              given = min (self.old.given + spot_count
+                  (map shown_list rows.items)) (2 ^ 64 - 1);
+            }) }
         ensures err { OnErr result (self.new ≡ self.old) }
     {
         let lists = doc_lists(alloc, rows)?;
@@ -59,7 +63,10 @@ impl<'s, S: Alter> TableLists<'s, S> {
 
     /// Notes that a read was refused.
     fn refused(&mut self, fault: StoreFault) -> ListFault
-        ensures { self.new ≡ record self.old { has_failed = self.old.has_failed || is_failed {X = Unit {0}} (Err result) } }
+        ensures { self.new ≡ record self.old {
+          has_failed = self.old.has_failed || is_failed
+              {X = Unit {0}} (Err result);
+        } }
     {
         match fault {
             StoreFault::Memory => ListFault::Memory,
@@ -89,14 +96,14 @@ impl<'s, S: Alter> Lists for TableLists<'s, S> {
 
     fn word(&mut self, alloc: Global, term: &str) -> Result<Vec<DocList>, ListFault> {
         match self.store.term_lists(self.tab, term) {
-            Ok(rows) => Ok(self.answered(alloc, rows.as_slice())?),
+            Ok(rows) => Ok(self.answered(alloc, rows)?),
             Err(fault) => Err(self.refused(fault)),
         }
     }
 
     fn prefix(&mut self, alloc: Global, begin: &str) -> Result<Vec<DocList>, ListFault> {
         match self.store.prefix_lists(self.tab, begin) {
-            Ok(rows) => Ok(self.answered(alloc, rows.as_slice())?),
+            Ok(rows) => Ok(self.answered(alloc, rows)?),
             Err(fault) => Err(self.refused(fault)),
         }
     }

@@ -36,8 +36,9 @@ pub(crate) fn made_table(
     columns: &[String],
     if_new: bool,
 ) -> Result<Option<TableInfo>, Fault>
-    ensures { (contents : Contents) → map shown_info tables.now ≡ map told_table contents →
-        Makes contents table.now module_name.now (map option_of options.now) (map string_bytes columns.now) if_new result }
+    ensures { (contents : Contents) → map shown_info tables.now ≡ map told_table contents
+        → Makes contents table.now module_name.now (map option_of options.now)
+        (map string_bytes columns.now) if_new result }
 {
     let names = made_names(alloc, columns)?;
     if let Some(fault) = create_fault(
@@ -75,7 +76,8 @@ pub(crate) fn adding(alloc: Global, table: &TableInfo) -> Result<RowChange, Allo
 
 /// The names of columns.
 pub(crate) fn column_names(alloc: Global, columns: &[Column]) -> Result<Vec<String>, AllocError>
-    ensures { IfOk result (λ names. map string_bytes names.items ≡ names_of (map column_of columns.now)) }
+    ensures { IfOk result (λ names. map string_bytes names.items
+        ≡ names_of (map column_of columns.now)) }
 {
     let mut names = Vec::new(alloc);
     for column in columns {
@@ -107,7 +109,8 @@ pub(crate) fn create_changes(
     columns: &[String],
     if_new: bool,
 ) -> Result<Vec<RowChange>, Fault>
-    ensures { PlansOver tables.now (plain.Create table.now module_name.now (map option_of options.now) (map string_bytes columns.now) if_new) result }
+    ensures { PlansOver tables.now (plain.Create table.now module_name.now
+        (map option_of options.now) (map string_bytes columns.now) if_new) result }
 {
     let made = made_table(alloc, tables, table, module_name, options, columns, if_new)?;
     let mut changes = Vec::new(alloc);
@@ -129,12 +132,16 @@ pub(crate) fn create_table<S: Alter>(
     if_new: bool,
 ) -> Result<Reply, Fault>
     ensures executes { Executes S.Store (with_tables store.old (map shown_info tables.old.items))
-        (plain.Create table.now module_name.now (map option_of options.now) (map string_bytes columns.now) if_new)
-        (answer_of result) (with_tables store.new (map shown_info tables.new.items)) }
-    ensures crash { CommandSurvives S.Store (with_tables store.old (map shown_info tables.old.items))
-        (plain.Create table.now module_name.now (map option_of options.now) (map string_bytes columns.now) if_new)
+        (plain.Create table.now module_name.now (map option_of options.now)
+        (map string_bytes columns.now) if_new) (answer_of result)
         (with_tables store.new (map shown_info tables.new.items)) }
-    ensures live { HasCleanDisk (shows S.Store store.new) → OnOk result (IsTrue (shows S.Store store.old).is_open → IsTrue (shows S.Store store.new).is_open) }
+    ensures crash { CommandSurvives S.Store (with_tables store.old
+        (map shown_info tables.old.items)) (plain.Create table.now module_name.now
+        (map option_of options.now) (map string_bytes columns.now) if_new)
+        (with_tables store.new (map shown_info tables.new.items)) }
+    ensures live { HasCleanDisk (shows S.Store store.new)
+        → OnOk result (IsTrue (shows S.Store store.old).is_open
+        → IsTrue (shows S.Store store.new).is_open) }
 {
     store.is_in_order();
     let made = made_table(
@@ -160,11 +167,16 @@ pub(crate) fn add_table<S: Alter>(
     made: TableInfo,
 ) -> Result<(), Fault>
     ensures changed { Changed S.Store store.old store.new (table_change made ∷ []) (is_ok result) }
-    ensures told { map shown_info tables.new.items ≡ (if is_ok result then with_told (shown_info made) (map shown_info tables.old.items) else map shown_info tables.old.items) }
+    ensures told { map shown_info tables.new.items
+        ≡ (if is_ok result then with_told (shown_info made) (map shown_info tables.old.items) else
+        map shown_info tables.old.items) }
     ensures fault { IfErr result (λ fault. (fault ≡ faults.Store) ⊎ (fault ≡ faults.Memory)) }
     ensures crash { Survives (shows S.Store store.old) (shows S.Store store.new)
-        (λ db. IsTrue (shows S.Store store.old).is_open → IsStored db (all_applied (table_change made ∷ []) (value_in S.Store store.old))) }
-    ensures live { HasCleanDisk (shows S.Store store.new) → OnOk result (IsTrue (shows S.Store store.old).is_open → IsTrue (shows S.Store store.new).is_open) }
+        (λ db. IsTrue (shows S.Store store.old).is_open
+        → IsStored db (all_applied (table_change made ∷ []) (value_in S.Store store.old))) }
+    ensures live { HasCleanDisk (shows S.Store store.new)
+        → OnOk result (IsTrue (shows S.Store store.old).is_open
+        → IsTrue (shows S.Store store.new).is_open) }
 {
     let mut changes = Vec::new(alloc);
     changes.push(adding(alloc, &made)?)?;
@@ -202,11 +214,15 @@ pub(crate) fn drop_table<S: Alter>(
     table: &str,
     if_there: bool,
 ) -> Result<Reply, Fault>
-    ensures executes { Executes S.Store (with_tables store.old (map shown_info tables.old.items)) (plain.Drop table.now if_there)
-        (answer_of result) (with_tables store.new (map shown_info tables.new.items)) }
-    ensures crash { CommandSurvives S.Store (with_tables store.old (map shown_info tables.old.items)) (plain.Drop table.now if_there)
+    ensures executes { Executes S.Store (with_tables store.old (map shown_info tables.old.items))
+        (plain.Drop table.now if_there) (answer_of result)
         (with_tables store.new (map shown_info tables.new.items)) }
-    ensures live { HasCleanDisk (shows S.Store store.new) → OnOk result (IsTrue (shows S.Store store.old).is_open → IsTrue (shows S.Store store.new).is_open) }
+    ensures crash { CommandSurvives S.Store (with_tables store.old
+        (map shown_info tables.old.items)) (plain.Drop table.now if_there)
+        (with_tables store.new (map shown_info tables.new.items)) }
+    ensures live { HasCleanDisk (shows S.Store store.new)
+        → OnOk result (IsTrue (shows S.Store store.old).is_open
+        → IsTrue (shows S.Store store.new).is_open) }
 {
     store.is_in_order();
     let changes = drop_changes(alloc, tables.as_slice(), table, if_there)?;

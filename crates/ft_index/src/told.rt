@@ -12,7 +12,9 @@ use std::alloc::AllocError;
 // Where a table of this id stands among the others.
 fn place_for(tables: &[TableInfo], id: i64) -> usize
     ensures within { result ≤ length tables.now }
-    ensures place { (table : views.TableInfo) → table.id ≡ id → with_told table (map shown_info tables.now) ≡ insert (map shown_info tables.now) result table }
+    ensures place { (table : views.TableInfo) → table.id ≡ id
+        → with_told table (map shown_info tables.now)
+        ≡ insert (map shown_info tables.now) result table }
 {
     for (place, table) in tables.iter().enumerate() {
         if id < table.id {
@@ -27,8 +29,10 @@ pub(crate) fn insert_table(
     tables: &mut Vec<TableInfo>,
     table: TableInfo,
 ) -> Result<usize, AllocError>
-    ensures added { IfOk result (λ _. map shown_info tables.new.items ≡ with_told (shown_info table) (map shown_info tables.old.items)) }
-    ensures back { IfOk result (λ place. (place < vec_len tables.new) × (remove tables.new.items place ≡ tables.old.items)) }
+    ensures added { IfOk result (λ _. map shown_info tables.new.items
+        ≡ with_told (shown_info table) (map shown_info tables.old.items)) }
+    ensures back { IfOk result (λ place. (place < vec_len tables.new)
+        × (remove tables.new.items place ≡ tables.old.items)) }
     ensures err { OnErr result (tables.new.items ≡ tables.old.items) }
 {
     let place = place_for(tables.as_slice(), table.id);

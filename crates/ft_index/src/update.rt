@@ -41,11 +41,15 @@ pub(crate) fn update_documents<S: Alter>(
     sets: &[(String, Value)],
     filter: &Filter,
 ) -> Result<Reply, Fault>
-    ensures executes { Executes S.Store (with_tables store.old (map shown_info tables.now)) (plain.Update table.now (map set_of sets.now) (filter_of filter.now))
-        (answer_of result) (with_tables store.new (map shown_info tables.now)) }
-    ensures crash { CommandSurvives S.Store (with_tables store.old (map shown_info tables.now)) (plain.Update table.now (map set_of sets.now) (filter_of filter.now))
+    ensures executes { Executes S.Store (with_tables store.old (map shown_info tables.now))
+        (plain.Update table.now (map set_of sets.now) (filter_of filter.now)) (answer_of result)
         (with_tables store.new (map shown_info tables.now)) }
-    ensures live { HasCleanDisk (shows S.Store store.new) → OnOk result (IsTrue (shows S.Store store.old).is_open → IsTrue (shows S.Store store.new).is_open) }
+    ensures crash { CommandSurvives S.Store (with_tables store.old (map shown_info tables.now))
+        (plain.Update table.now (map set_of sets.now) (filter_of filter.now))
+        (with_tables store.new (map shown_info tables.now)) }
+    ensures live { HasCleanDisk (shows S.Store store.new)
+        → OnOk result (IsTrue (shows S.Store store.old).is_open
+        → IsTrue (shows S.Store store.new).is_open) }
 {
     let changes = update_changes(alloc, store, tables, table, sets, filter)?;
     change_rows(store, changes.as_slice())?;
@@ -61,9 +65,12 @@ pub(crate) fn update_changes<S: Alter>(
     sets: &[(String, Value)],
     filter: &Filter,
 ) -> Result<Vec<RowChange>, Fault>
-    ensures plans { PlansIn S.Store (map shown_info tables.now) store.old store.new (plain.Update table.now (map set_of sets.now) (filter_of filter.now)) result }
+    ensures plans { PlansIn S.Store (map shown_info tables.now) store.old store.new
+        (plain.Update table.now (map set_of sets.now) (filter_of filter.now)) result }
     ensures looks { Looks S.Store store.old store.new }
-    ensures live { HasCleanDisk (shows S.Store store.new) → OnOk result (IsTrue (shows S.Store store.old).is_open → IsTrue (shows S.Store store.new).is_open) }
+    ensures live { HasCleanDisk (shows S.Store store.new)
+        → OnOk result (IsTrue (shows S.Store store.old).is_open
+        → IsTrue (shows S.Store store.new).is_open) }
 {
     store.is_in_order();
     if repeats_set(sets) {
@@ -88,11 +95,17 @@ fn written_by_update<S: Alter>(
     sets: &[(String, Value)],
     filter: &Filter,
 ) -> Result<Vec<Rewrite>, Fault>
-    ensures written { (content : Content) → HasAll S.Store known.now.id (string_bytes known.now.name) (map column_of known.now.columns.items) store.old store.new content
-        → Writes content (deserved.update_fault (string_bytes known.now.name) content (map set_of sets.now) (filter_of filter.now)) (updated content (map set_of sets.now) (filter_of filter.now))
+    ensures written { (content : Content)
+        → HasAll S.Store known.now.id (string_bytes known.now.name)
+        (map column_of known.now.columns.items) store.old store.new content
+        → Writes content (deserved.update_fault (string_bytes known.now.name) content
+        (map set_of sets.now) (filter_of filter.now))
+        (updated content (map set_of sets.now) (filter_of filter.now))
         (update_touches content (map set_of sets.now) (filter_of filter.now)) result }
     ensures looks { Looks S.Store store.old store.new }
-    ensures live { HasCleanDisk (shows S.Store store.new) → OnOk result (IsTrue (shows S.Store store.old).is_open → IsTrue (shows S.Store store.new).is_open) }
+    ensures live { HasCleanDisk (shows S.Store store.new)
+        → OnOk result (IsTrue (shows S.Store store.old).is_open
+        → IsTrue (shows S.Store store.new).is_open) }
 {
     let columns = known.columns.as_slice();
     if let Some(fault) = update_tests(known.name.as_str(), columns, sets, filter) {
@@ -114,11 +127,17 @@ fn test_move<S: Alter>(
     documents: &[Document],
     given: Option<i64>,
 ) -> Result<(), Fault>
-    ensures moves { (content : Content) (docids : List ℤ) → HasRows S.Store tab store.old store.new content → slice_get docids 0 ≡ given
-        → MatchResult result (λ _. deserved.moves_fault content.documents (map shown_document documents.now) docids ≡ None)
-        (λ fault. ((fault ≡ faults.Store) ⊎ (fault ≡ faults.Memory)) ⊎ (deserved.moves_fault content.documents (map shown_document documents.now) docids ≡ Some fault)) }
+    ensures moves { (content : Content) (docids : List ℤ)
+        → HasRows S.Store tab store.old store.new content → slice_get docids 0 ≡ given
+        → MatchResult result (λ _. deserved.moves_fault content.documents
+        (map shown_document documents.now) docids ≡ None)
+        (λ fault. ((fault ≡ faults.Store) ⊎ (fault ≡ faults.Memory))
+        ⊎ (deserved.moves_fault content.documents (map shown_document documents.now) docids
+        ≡ Some fault)) }
     ensures looks { Looks S.Store store.old store.new }
-    ensures live { HasCleanDisk (shows S.Store store.new) → OnOk result (IsTrue (shows S.Store store.old).is_open → IsTrue (shows S.Store store.new).is_open) }
+    ensures live { HasCleanDisk (shows S.Store store.new)
+        → OnOk result (IsTrue (shows S.Store store.old).is_open
+        → IsTrue (shows S.Store store.new).is_open) }
 {
     let docids = numbers(alloc, documents)?;
     let is_taken = has_document(alloc, store, tab, given)?;
@@ -146,7 +165,9 @@ fn update_rewrites(
     documents: Vec<Document>,
     given: Option<i64>,
 ) -> Result<Vec<Rewrite>, AllocError>
-    ensures { IfOk result (λ rewrites. MayMove given (map (changing (map set_of sets.now) (map column_of columns.now)) (map shown_document documents.items)) (map shown_rewrite rewrites.items)) }
+    ensures { IfOk result (λ rewrites. MayMove given
+        (map (changing (map set_of sets.now) (map column_of columns.now))
+        (map shown_document documents.items)) (map shown_rewrite rewrites.items)) }
 {
     let mut rewrites = change_rewrites(alloc, columns, sets, documents)?;
     if let Some(docid) = given {
@@ -162,7 +183,9 @@ fn change_rewrites(
     sets: &[(String, Value)],
     documents: Vec<Document>,
 ) -> Result<Vec<Rewrite>, AllocError>
-    ensures { IfOk result (λ rewrites. map shown_rewrite rewrites.items ≡ map (changing (map set_of sets.now) (map column_of columns.now)) (map shown_document documents.items)) }
+    ensures { IfOk result (λ rewrites. map shown_rewrite rewrites.items
+        ≡ map (changing (map set_of sets.now) (map column_of columns.now))
+        (map shown_document documents.items)) }
 {
     let mut rewrites = Vec::new(alloc);
     for document in documents {
@@ -179,8 +202,10 @@ fn change_rewrites(
 
 // Where this is the only rewrite, its document gets this docid.
 fn move_only(rewrites: &mut Vec<Rewrite>, docid: i64) -> Result<(), AllocError>
-    ensures none { map shown_rewrite rewrites.old.items ≡ [] → OnOk result (map shown_rewrite rewrites.new.items ≡ []) }
-    ensures only { (r : Shown) → map shown_rewrite rewrites.old.items ≡ r ∷ [] → OnOk result (map shown_rewrite rewrites.new.items ≡ moved_from r docid) }
+    ensures none { map shown_rewrite rewrites.old.items ≡ []
+        → OnOk result (map shown_rewrite rewrites.new.items ≡ []) }
+    ensures only { (r : Shown) → map shown_rewrite rewrites.old.items ≡ r ∷ []
+        → OnOk result (map shown_rewrite rewrites.new.items ≡ moved_from r docid) }
 {
     let Some(only) = rewrites.pop() else {
         return Ok(());

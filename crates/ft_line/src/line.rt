@@ -67,7 +67,8 @@ fn is_single_dashed(word: &str) -> bool
 
 // The word, with two dashes for one where words are rewritten.
 fn dashed(alloc: Global, rewrites: bool, word: &str) -> Result<String, AllocError>
-    ensures { IfOk result (λ text. string_bytes text ≡ (if rewrites then forms.dashed word.now else word.now)) }
+    ensures { IfOk result (λ text. string_bytes text
+        ≡ (if rewrites then forms.dashed word.now else word.now)) }
 {
     if rewrites && is_single_dashed(word) {
         format!(in alloc; "-{word}")
@@ -85,7 +86,8 @@ fn is_before_end(rewrites: bool, word: &str) -> bool
 
 // The words with two dashes for one, up to a word of two dashes.
 fn dashed_words(alloc: Global, words: &[&str]) -> Result<Vec<String>, AllocError>
-    ensures { IfOk result (λ texts. map string_bytes texts.items ≡ forms.dashed_words (map (λ word. word.now) words.now)) }
+    ensures { IfOk result (λ texts. map string_bytes texts.items
+        ≡ forms.dashed_words (map (λ word. word.now) words.now)) }
 {
     let mut texts = Vec::new(alloc);
     let mut rewrites = true;
@@ -104,7 +106,8 @@ fn with_flag<'a>(
     name: &'a str,
     help: &'a str,
 ) -> Result<Command<'a>, AllocError>
-    ensures { IfOk result (λ more. app_of more ≡ with_rule (app_of command.entry) (forms.flag name.entry.now)) }
+    ensures { IfOk result (λ more. app_of more
+        ≡ with_rule (app_of command.entry) (forms.flag name.entry.now)) }
 {
     let flag = Arg::new(alloc, name)
         .long(name)
@@ -119,7 +122,8 @@ fn with_option<'a>(
     name: &'a str,
     help: &'a str,
 ) -> Result<Command<'a>, AllocError>
-    ensures { IfOk result (λ more. app_of more ≡ with_rule (app_of command.entry) (forms.value_option name.entry.now)) }
+    ensures { IfOk result (λ more. app_of more
+        ≡ with_rule (app_of command.entry) (forms.value_option name.entry.now)) }
 {
     let option = Arg::new(alloc, name)
         .long(name)
@@ -129,7 +133,8 @@ fn with_option<'a>(
 }
 
 fn with_places<'a>(alloc: Global, command: Command<'a>) -> Result<Command<'a>, AllocError>
-    ensures { IfOk result (λ more. app_of more ≡ with_rule (with_rule (app_of command.entry) forms.file) forms.sql) }
+    ensures { IfOk result (λ more. app_of more
+        ≡ with_rule (with_rule (app_of command.entry) forms.file) forms.sql) }
 {
     let file = Arg::new(alloc, "FILE").action(ArgAction::Set).help(
         "Plain tables; full-text tables are in FILE-fts4 [default: both in memory]",
@@ -196,7 +201,8 @@ fn matches_in<'a>(alloc: Global, words: &'a [String]) -> Result<ArgMatches<'a>, 
 
 // The first value of an option or a positional.
 fn text_of<'a>(matches: &ArgMatches<'a>, name: &str) -> Option<&'a str>
-    ensures { option_map (λ text. text.now) result ≡ first_of name.now (rows_of (found_of matches.now)) }
+    ensures { option_map (λ text. text.now) result
+        ≡ first_of name.now (rows_of (found_of matches.now)) }
 {
     matches.get_str(name)
 }
@@ -235,7 +241,8 @@ fn set_mode_if(settings: &mut Settings, given: bool, mode: Mode)
 }
 
 fn set_modes(settings: &mut Settings, matches: &ArgMatches<'_>)
-    ensures { settings.new ≡ forms.with_modes (forms.modes_in (rows_of (found_of matches.now))) settings.old }
+    ensures { settings.new ≡ forms.with_modes (forms.modes_in (rows_of (found_of matches.now)))
+        settings.old }
 {
     set_mode_if(settings, is_given(matches, "list"), Mode::List);
     set_mode_if(settings, is_given(matches, "csv"), Mode::Csv);
@@ -275,7 +282,8 @@ fn set_headers(settings: &mut Settings, headers: Option<bool>)
 
 // The settings but for the separator.
 fn flag_settings(alloc: Global, matches: &ArgMatches<'_>) -> Result<Settings, AllocError>
-    ensures { IfOk result (λ settings. settings ≡ forms.settings_in (rows_of (found_of matches.now))) }
+    ensures { IfOk result (λ settings. settings
+        ≡ forms.settings_in (rows_of (found_of matches.now))) }
 {
     let mut settings = Settings::new(alloc);
     set_modes(&mut settings, matches);
@@ -302,7 +310,8 @@ fn settings_in(alloc: Global, matches: &ArgMatches<'_>) -> Result<Settings, Line
 }
 
 fn file_in(alloc: Global, matches: &ArgMatches<'_>) -> Result<Option<String>, AllocError>
-    ensures { IfOk result (λ file. option_map string_bytes file ≡ forms.file_in (rows_of (found_of matches.now))) }
+    ensures { IfOk result (λ file. option_map string_bytes file
+        ≡ forms.file_in (rows_of (found_of matches.now))) }
 {
     let Some(text) = text_of(matches, "FILE") else {
         return Ok(None);
@@ -314,7 +323,8 @@ fn file_in(alloc: Global, matches: &ArgMatches<'_>) -> Result<Option<String>, Al
 }
 
 fn copied(alloc: Global, texts: &[&str]) -> Result<Vec<String>, AllocError>
-    ensures { IfOk result (λ copies. map string_bytes copies.items ≡ map (λ text. text.now) texts.now) }
+    ensures { IfOk result (λ copies. map string_bytes copies.items
+        ≡ map (λ text. text.now) texts.now) }
 {
     let mut copies = Vec::new(alloc);
     for text in texts {
@@ -324,7 +334,8 @@ fn copied(alloc: Global, texts: &[&str]) -> Result<Vec<String>, AllocError>
 }
 
 fn inputs_in(alloc: Global, matches: &ArgMatches<'_>) -> Result<Vec<String>, AllocError>
-    ensures { IfOk result (λ inputs. map string_bytes inputs.items ≡ forms.inputs_in (rows_of (found_of matches.now))) }
+    ensures { IfOk result (λ inputs. map string_bytes inputs.items
+        ≡ forms.inputs_in (rows_of (found_of matches.now))) }
 {
     match matches.get_raw("SQL") {
         Some(texts) => copied(alloc, texts),

@@ -30,10 +30,18 @@ pub record Outputs : Type 0 where
   pub out : Option (List ℕ)
   pub err : Option (List ℕ)
 
+-- such outputs, of both parts
+abbrev pub outputs_of : Option (List ℕ) → Option (List ℕ) → Outputs
+outputs_of out err = record { out = out; err = err }
+
 -- a session between two inputs
 pub record Stage (P S : Type 0) : Type 0 where
   pub parts : Parts P S
   pub on : Outputs
+
+-- such a stage, of its parts and both outputs
+abbrev pub stage_of : {P S : Type 0} → Parts P S → Option (List ℕ) → Option (List ℕ) → Stage P S
+stage_of parts out err = record { parts = parts; on = outputs_of out err }
 
 -- as a run has it, with what is left of its input
 abbrev pub console : {P S : Type 0} → Stage P S → Option (List ℕ) → Console P S

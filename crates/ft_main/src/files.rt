@@ -121,7 +121,8 @@ pub(crate) fn open_in_memory(
 ) -> Result<(Connection<FileStore<Ram>>, Store<FileStore<Ram>>), OpenFault>
     ensures plain { IfOk result (λ both. IsEmpty (file_state both.0)) }
     ensures store { IfOk result (λ both. value_in over_files both.1 ≡ nothing_held) }
-    ensures clean { IfOk result (λ both. HasCleanDisk (file_state both.0) × HasCleanDisk (shows over_files both.1)) }
+    ensures clean { IfOk result (λ both. HasCleanDisk (file_state both.0)
+        × HasCleanDisk (shows over_files both.1)) }
 {
     let plain = plain_in_memory(rt)?;
     let store = store_in_memory(rt.alloc())?;

@@ -3,7 +3,7 @@
 ghost use Rattle.std.specs.Prelude.{◌≡◌, map, Some, IfSome, string_bytes};
 ghost use Rattle.sqlite.specs.Files.{over_files};
 ghost use Rattle.ft_shell.specs.Writing.{AppendsUpTo};
-ghost use Rattle.ft_main.specs.Inputs.{due, RunsInTurn, RunsAndKeeps, Closes, OpensAndRuns, RunsOn, opening_line};
+ghost use Rattle.ft_main.specs.Inputs.{outputs_of, stage_of, due, RunsInTurn, RunsAndKeeps, Closes, OpensAndRuns, RunsOn, opening_line};
 ghost use Rattle.ft_main.specs.Inputs as forms;
 ghost use Rattle.ft_main.specs.Memory.{RefusesLine, RunsInMemory, RunsLine, Starts};
 
@@ -36,7 +36,8 @@ pub fn start<R: Read, O: Write, E: Write>(
     err: &mut E,
 ) -> u8
     ensures { Starts (map (λ word. word.now) words.now) (R.remaining input.old)
-        (record { out = O.contents out.old; err = E.contents err.old }) (record { out = O.contents out.new; err = E.contents err.new }) result }
+        (outputs_of (O.contents out.old) (E.contents err.old))
+        (outputs_of (O.contents out.new) (E.contents err.new)) result }
 {
     match read_line(rt.alloc(), words) {
         Ok(line) => run_line(rt, line, input, out, err),
@@ -46,8 +47,9 @@ pub fn start<R: Read, O: Write, E: Write>(
 
 // Tells why the words say nothing; the help goes to the output.
 fn refuse_line<O: Write, E: Write>(fault: &LineFault, out: &mut O, err: &mut E) -> u8
-    ensures { RefusesLine fault.now (record { out = O.contents out.old; err = E.contents err.old })
-        (record { out = O.contents out.new; err = E.contents err.new }) result }
+    ensures { RefusesLine fault.now
+        (outputs_of (O.contents out.old) (E.contents err.old))
+        (outputs_of (O.contents out.new) (E.contents err.new)) result }
 {
     match fault {
         LineFault::Words(help) if !help.use_stderr() => {
@@ -75,7 +77,8 @@ fn run_line<R: Read, O: Write, E: Write>(
     err: &mut E,
 ) -> u8
     ensures { RunsLine line (R.remaining input.old)
-        (record { out = O.contents out.old; err = E.contents err.old }) (record { out = O.contents out.new; err = E.contents err.new }) result }
+        (outputs_of (O.contents out.old) (E.contents err.old))
+        (outputs_of (O.contents out.new) (E.contents err.new)) result }
 {
     let Line {
         settings,
@@ -106,7 +109,8 @@ fn in_memory<R: Read, O: Write, E: Write>(
     err: &mut E,
 ) -> u8
     ensures { RunsInMemory settings (due (map string_bytes inputs.now) (R.remaining input.old))
-        (record { out = O.contents out.old; err = E.contents err.old }) (record { out = O.contents out.new; err = E.contents err.new }) result }
+        (outputs_of (O.contents out.old) (E.contents err.old))
+        (outputs_of (O.contents out.new) (E.contents err.new)) result }
 {
     on_databases(rt, open_in_memory(rt), settings, inputs, input, out, err)
 }
@@ -121,8 +125,10 @@ fn on_databases<D: Disk + Drop, R: Read, O: Write, E: Write>(
     out: &mut O,
     err: &mut E,
 ) -> u8
-    ensures { RunsOn over_files over_files settings opened (due (map string_bytes inputs.now) (R.remaining input.old))
-        (record { out = O.contents out.old; err = E.contents err.old }) (record { out = O.contents out.new; err = E.contents err.new }) result }
+    ensures { RunsOn over_files over_files settings opened
+        (due (map string_bytes inputs.now) (R.remaining input.old))
+        (outputs_of (O.contents out.old) (E.contents err.old))
+        (outputs_of (O.contents out.new) (E.contents err.new)) result }
 {
     match opened {
         Ok((plain, store)) => over(rt, plain, store, settings, inputs, input, out, err),
@@ -141,8 +147,10 @@ fn over<D: Disk + Drop, R: Read, O: Write, E: Write>(
     out: &mut O,
     err: &mut E,
 ) -> u8
-    ensures { OpensAndRuns over_files over_files settings plain store (due (map string_bytes inputs.now) (R.remaining input.old))
-        (record { out = O.contents out.old; err = E.contents err.old }) (record { out = O.contents out.new; err = E.contents err.new }) result }
+    ensures { OpensAndRuns over_files over_files settings plain store
+        (due (map string_bytes inputs.now) (R.remaining input.old))
+        (outputs_of (O.contents out.old) (E.contents err.old))
+        (outputs_of (O.contents out.new) (E.contents err.new)) result }
 {
     let Ok(full_text) = FullText::new(rt.alloc(), store) else {
         return tell(err, OpenFault::Store);
@@ -215,9 +223,10 @@ fn run_all_on<S: Alter, D: Disk + Drop, R: Read, O: Write, E: Write>(
     err: &mut E,
     files: &mut SystemFiles<'_>,
 ) -> Result<Status, RunFault>
-    ensures { RunsAndKeeps over_files S.Store (due (map string_bytes inputs.now) (R.remaining input.old)) result
-        (record { parts = session.old; on = record { out = O.contents out.old; err = E.contents err.old } })
-        (record { parts = session.new; on = record { out = O.contents out.new; err = E.contents err.new } }) }
+    ensures { RunsAndKeeps over_files S.Store
+        (due (map string_bytes inputs.now) (R.remaining input.old)) result
+        (stage_of session.old (O.contents out.old) (E.contents err.old))
+        (stage_of session.new (O.contents out.new) (E.contents err.new)) }
 {
     run_all(session, inputs, input, out, err, files)
 }
@@ -231,9 +240,10 @@ fn run_all<P: Alter, S: Alter, R: Read, O: Write, E: Write>(
     err: &mut E,
     files: &mut SystemFiles<'_>,
 ) -> Result<Status, RunFault>
-    ensures { RunsAndKeeps P.Store S.Store (due (map string_bytes inputs.now) (R.remaining input.old)) result
-        (record { parts = session.old; on = record { out = O.contents out.old; err = E.contents err.old } })
-        (record { parts = session.new; on = record { out = O.contents out.new; err = E.contents err.new } }) }
+    ensures { RunsAndKeeps P.Store S.Store (due (map string_bytes inputs.now)
+        (R.remaining input.old)) result
+        (stage_of session.old (O.contents out.old) (E.contents err.old))
+        (stage_of session.new (O.contents out.new) (E.contents err.new)) }
 {
     Session::<P, S>::kept_by_runs();
     if inputs.is_empty() {
@@ -252,8 +262,8 @@ fn run_texts<P: Alter, S: Alter, O: Write, E: Write>(
     files: &mut SystemFiles<'_>,
 ) -> Result<Status, RunFault>
     ensures { RunsInTurn P.Store S.Store (map Some (map string_bytes inputs.now)) result
-        (record { parts = session.old; on = record { out = O.contents out.old; err = E.contents err.old } })
-        (record { parts = session.new; on = record { out = O.contents out.new; err = E.contents err.new } }) }
+        (stage_of session.old (O.contents out.old) (E.contents err.old))
+        (stage_of session.new (O.contents out.new) (E.contents err.new)) }
 {
     let mut faults: u64 = 0;
     for text in inputs {
@@ -272,7 +282,8 @@ fn run_texts<P: Alter, S: Alter, O: Write, E: Write>(
 
 // Writes why a database is not opened.
 fn tell<E: Write>(err: &mut E, fault: OpenFault) -> u8
-    ensures line { IfSome (opening_line fault) (AppendsUpTo (E.contents err.old) (E.contents err.new)) }
+    ensures line { IfSome (opening_line fault)
+        (AppendsUpTo (E.contents err.old) (E.contents err.new)) }
     ensures status { result ≡ 1 }
 {
     match fault {

@@ -82,8 +82,8 @@ fn is_number(digits: &[u8]) -> bool
 
 // The number of a chunk that is `NEAR/` and digits.
 fn near_number(chunk: &str) -> Option<usize>
-    ensures { result ≡ (if starts_with nat_eq chunk.now (codes "NEAR/") && is_number (drop 5 chunk.now)
-        then Some (min (number_of (drop 5 chunk.now)) 1000001) else None) }
+    ensures { result ≡ (if starts_with nat_eq chunk.now (codes "NEAR/") && is_number
+        (drop 5 chunk.now) then Some (min (number_of (drop 5 chunk.now)) 1000001) else None) }
 {
     let digits = chunk.strip_prefix("NEAR/")?.as_bytes();
     if is_number(digits) {
@@ -95,9 +95,10 @@ fn near_number(chunk: &str) -> Option<usize>
 
 // The operator that a chunk is.
 fn operator_of(chunk: &str) -> Option<Lexeme>
-    ensures { MatchOption result
-        ((columns : List (List ℕ)) → lexemes_of_chunk columns chunk.now ≡ words_after (filter_of columns chunk.now) chunk.now)
-        (λ l. (columns : List (List ℕ)) → map capped (lexemes_of_chunk columns chunk.now) ≡ plain_lexeme l ∷ []) }
+    ensures { MatchOption result ((columns : List (List ℕ))
+        → lexemes_of_chunk columns chunk.now ≡ words_after (filter_of columns chunk.now) chunk.now)
+        (λ l. (columns : List (List ℕ))
+        → map capped (lexemes_of_chunk columns chunk.now) ≡ plain_lexeme l ∷ []) }
 {
     if chunk == "AND" {
         Some(Lexeme::And)
@@ -117,17 +118,18 @@ fn operator_of(chunk: &str) -> Option<Lexeme>
 
 // What stands before and after a chunk's first colon.
 fn split_colon(chunk: &str) -> Option<(&str, &str)>
-    ensures { MatchOption result
-        (list_any is_colon chunk.now ≡ false)
+    ensures { MatchOption result (list_any is_colon chunk.now ≡ false)
         (λ parts. (list_any is_colon chunk.now ≡ true)
-        × (parts.0.now ≡ before_first is_colon chunk.now) × (parts.1.now ≡ after_first is_colon chunk.now)) }
+        × (parts.0.now ≡ before_first is_colon chunk.now)
+        × (parts.1.now ≡ after_first is_colon chunk.now)) }
 {
     chunk.split_once(':')
 }
 
 // The first column of this name.
 fn column_named(columns: &[String], name: &str) -> Option<usize>
-    ensures { result ≡ position (λ c. str_eq_ignore_ascii_case (string_bytes c) name.now) columns.now }
+    ensures { result ≡ position (λ c. str_eq_ignore_ascii_case (string_bytes c) name.now)
+        columns.now }
 {
     columns
         .iter()
@@ -136,9 +138,9 @@ fn column_named(columns: &[String], name: &str) -> Option<usize>
 
 // The column of a chunk's filter, and what follows the filter.
 fn filter_of<'a>(columns: &[String], chunk: &'a str) -> Option<(usize, &'a str)>
-    ensures { MatchOption result
-        (filter_of (map string_bytes columns.now) chunk.now ≡ None)
-        (λ f. (filter_of (map string_bytes columns.now) chunk.now ≡ Some f.0) × (f.1.now ≡ after_first is_colon chunk.now)) }
+    ensures { MatchOption result (filter_of (map string_bytes columns.now) chunk.now ≡ None)
+        (λ f. (filter_of (map string_bytes columns.now) chunk.now ≡ Some f.0)
+        × (f.1.now ≡ after_first is_colon chunk.now)) }
 {
     let (name, rest) = split_colon(chunk)?;
     let column = column_named(columns, name)?;
@@ -147,7 +149,8 @@ fn filter_of<'a>(columns: &[String], chunk: &'a str) -> Option<(usize, &'a str)>
 
 // Adds a word for each token.
 fn push_words(alloc: Global, found: &mut Vec<Lexeme>, part: &str) -> Result<(), AllocError>
-    ensures { OnOk result (map plain_lexeme found.new.items ≡ map plain_lexeme found.old.items ++ map word (terms_of part.now)) }
+    ensures { OnOk result (map plain_lexeme found.new.items
+        ≡ map plain_lexeme found.old.items ++ map word (terms_of part.now)) }
 {
     for term in terms_of(alloc, part)? {
         found.push(Lexeme::Word(term))?;
@@ -178,7 +181,8 @@ pub fn push_chunk(
     chunk: &str,
 ) -> Result<(), AllocError>
     ensures { OnOk result (map plain_lexeme found.new.items
-        ≡ map plain_lexeme found.old.items ++ map capped (lexemes_of_chunk (map string_bytes columns.now) chunk.now)) }
+        ≡ map plain_lexeme found.old.items ++ map capped
+        (lexemes_of_chunk (map string_bytes columns.now) chunk.now)) }
 {
     if let Some(operator) = operator_of(chunk) {
         found.push(operator)?;

@@ -36,8 +36,10 @@ fn push_part(
     byte: u8,
 ) -> Result<(), AllocError>
     requires { ends_part in_quote (mark_of byte) ≡ true }
-    ensures { OnOk result (map plain_lexeme found.new.items ≡ map plain_lexeme found.old.items
-        ++ map capped (flat_map (lexemes_of_part (map string_bytes columns.now)) (parts_ended (begun in_quote part.now) (mark_of byte)))) }
+    ensures { OnOk result (map plain_lexeme found.new.items
+        ≡ map plain_lexeme found.old.items ++ map capped
+        (flat_map (lexemes_of_part (map string_bytes columns.now))
+        (parts_ended (begun in_quote part.now) (mark_of byte)))) }
 {
     if in_quote {
         found.push(Lexeme::Quoted(terms_of(alloc, part)?))?;
@@ -61,7 +63,8 @@ pub fn lexemes_of(
     ensures { IfOk result (λ found. MatchOption found
         (list_any is_unclosed (parts_of text.now) ≡ true)
         (λ ls. (list_any is_unclosed (parts_of text.now) ≡ false)
-        × (map plain_lexeme ls.items ≡ map capped (lexemes_of (map string_bytes columns.now) text.now)))) }
+        × (map plain_lexeme ls.items ≡ map capped
+        (lexemes_of (map string_bytes columns.now) text.now)))) }
 {
     let mut found: Vec<Lexeme> = Vec::new(alloc);
     let mut start = 0;

@@ -73,9 +73,11 @@ pub trait Lists {
 
     /// The places of one term.
     fn word(&mut self, alloc: Global, term: &str) -> Result<Vec<DocList>, ListFault>
-        ensures answer { IfOk result (λ lists. is_clean self.new →
-            map plain_list lists.items ≡ lists_with (λ t. bytes_eq t term.now) (documents self.new)) }
-        ensures clean { is_clean self.new → is_clean self.old × (documents self.new ≡ documents self.old) }
+        ensures answer { IfOk result (λ lists. is_clean self.new
+            → map plain_list lists.items ≡ lists_with (λ t. bytes_eq t term.now)
+            (documents self.new)) }
+        ensures clean { is_clean self.new → is_clean self.old
+            × (documents self.new ≡ documents self.old) }
         ensures failed { has_failed self.new ≡ (has_failed self.old || is_failed result) }
         ensures given { IfOk result (λ lists. given_so_far self.new
             ≡ min (given_so_far self.old + place_count (map plain_list lists.items)) (2 ^ 64 - 1)) }
@@ -84,9 +86,11 @@ pub trait Lists {
 
     /// The places of the terms that begin so.
     fn prefix(&mut self, alloc: Global, begin: &str) -> Result<Vec<DocList>, ListFault>
-        ensures answer { IfOk result (λ lists. is_clean self.new →
-            map plain_list lists.items ≡ lists_with (λ t. starts_with nat_eq t begin.now) (documents self.new)) }
-        ensures clean { is_clean self.new → is_clean self.old × (documents self.new ≡ documents self.old) }
+        ensures answer { IfOk result (λ lists. is_clean self.new
+            → map plain_list lists.items ≡ lists_with (λ t. starts_with nat_eq t begin.now)
+            (documents self.new)) }
+        ensures clean { is_clean self.new → is_clean self.old
+            × (documents self.new ≡ documents self.old) }
         ensures failed { has_failed self.new ≡ (has_failed self.old || is_failed result) }
         ensures given { IfOk result (λ lists. given_so_far self.new
             ≡ min (given_so_far self.old + place_count (map plain_list lists.items)) (2 ^ 64 - 1)) }

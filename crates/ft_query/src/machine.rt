@@ -49,7 +49,8 @@ pub fn query_from(
     default: Option<usize>,
     lexemes: Vec<Lexeme>,
 ) -> Result<Option<Query>, AllocError>
-    ensures { IfOk result (λ q. option_map tree_of q ≡ tree_from default (map plain_lexeme lexemes.items)) }
+    ensures { IfOk result (λ q. option_map tree_of q
+        ≡ tree_from default (map plain_lexeme lexemes.items)) }
 {
     let mut state = begun(Vec::new(alloc));
     for lexeme in lexemes {
@@ -84,7 +85,8 @@ fn step(
     lexeme: Lexeme,
 ) -> Result<Option<State>, AllocError>
     ensures { IfOk result (λ next. option_map plain_state next
-        ≡ step default (plain_waiting state.waiting) (plain_outer state.outer.items) (plain_last state.last) (plain_lexeme lexeme)) }
+        ≡ step default (plain_waiting state.waiting) (plain_outer state.outer.items)
+        (plain_last state.last) (plain_lexeme lexeme)) }
 {
     let State {
         waiting,
@@ -169,7 +171,8 @@ fn phrase_of(
     column: Option<usize>,
     lexeme: Lexeme,
 ) -> Result<Option<Phrase>, AllocError>
-    ensures { IfOk result (λ p. option_map plain_phrase p ≡ phrase_of column (plain_lexeme lexeme)) }
+    ensures { IfOk result (λ p. option_map plain_phrase p
+        ≡ phrase_of column (plain_lexeme lexeme)) }
 {
     match lexeme {
         Lexeme::Word(term) => Ok(Some(Phrase {
@@ -194,7 +197,8 @@ fn after_operand(
     lexeme: Lexeme,
 ) -> Result<Option<State>, AllocError>
     ensures { IfOk result (λ next. option_map plain_state next
-        ≡ after_operand default (plain_waiting waiting) (plain_outer outer.items) (tree_of operand) (plain_lexeme lexeme)) }
+        ≡ after_operand default (plain_waiting waiting) (plain_outer outer.items) (tree_of operand)
+        (plain_lexeme lexeme)) }
 {
     let waiting = match lexeme {
         Lexeme::Close => return Ok(close(outer, whole(alloc, waiting, operand)?)),
@@ -240,7 +244,8 @@ fn whole(alloc: Global, waiting: Waiting, operand: Query) -> Result<Query, Alloc
 }
 
 fn joined_by_not(alloc: Global, left: Option<Query>, right: Query) -> Result<Query, AllocError>
-    ensures { IfOk result (λ q. tree_of q ≡ join without (option_map tree_of left) (tree_of right)) }
+    ensures { IfOk result (λ q. tree_of q ≡ join without (option_map tree_of left)
+        (tree_of right)) }
 {
     match left {
         None => Ok(right),
@@ -268,7 +273,8 @@ fn joined_by_or(alloc: Global, left: Option<Query>, right: Query) -> Result<Quer
 
 // What waits after the operand and AND.
 fn after_and(alloc: Global, waiting: Waiting, operand: Query) -> Result<Waiting, AllocError>
-    ensures { IfOk result (λ w. plain_waiting w ≡ (and_state (plain_waiting waiting) [] (tree_of operand)).waiting) }
+    ensures { IfOk result (λ w. plain_waiting w
+        ≡ (and_state (plain_waiting waiting) [] (tree_of operand)).waiting) }
 {
     let Waiting {
         or_left,
@@ -286,7 +292,8 @@ fn after_and(alloc: Global, waiting: Waiting, operand: Query) -> Result<Waiting,
 
 // What waits after the operand and OR.
 fn after_or(alloc: Global, waiting: Waiting, operand: Query) -> Result<Waiting, AllocError>
-    ensures { IfOk result (λ w. plain_waiting w ≡ (or_state (plain_waiting waiting) [] (tree_of operand)).waiting) }
+    ensures { IfOk result (λ w. plain_waiting w
+        ≡ (or_state (plain_waiting waiting) [] (tree_of operand)).waiting) }
 {
     let left = whole(alloc, waiting, operand)?;
     Ok(Waiting {
@@ -298,7 +305,8 @@ fn after_or(alloc: Global, waiting: Waiting, operand: Query) -> Result<Waiting, 
 
 // What waits after the operand and NOT.
 fn after_not(alloc: Global, waiting: Waiting, operand: Query) -> Result<Waiting, AllocError>
-    ensures { IfOk result (λ w. plain_waiting w ≡ (not_state (plain_waiting waiting) [] (tree_of operand)).waiting) }
+    ensures { IfOk result (λ w. plain_waiting w
+        ≡ (not_state (plain_waiting waiting) [] (tree_of operand)).waiting) }
 {
     let Waiting {
         or_left,
@@ -315,7 +323,8 @@ fn after_not(alloc: Global, waiting: Waiting, operand: Query) -> Result<Waiting,
 
 // The query that a chain is: a phrase where it has no links.
 fn query_of_chain(chain: Linked) -> Query
-    ensures { tree_of result ≡ tree_of_chain (plain_phrase chain.first) (map plain_link chain.links.items) }
+    ensures { tree_of result ≡ tree_of_chain (plain_phrase chain.first)
+        (map plain_link chain.links.items) }
 {
     let Linked { first, links } = chain;
     if links.is_empty() {
@@ -334,7 +343,9 @@ fn next_phrase(
     lexeme: Lexeme,
 ) -> Result<Option<Last>, AllocError>
     ensures { IfOk result (λ last. option_map plain_last last
-        ≡ option_map (λ q. chained (plain_phrase chain.first) (map plain_link chain.links.items ++ record { most = most; to = q } ∷ [])) (phrase_of column (plain_lexeme lexeme))) }
+        ≡ option_map (λ q. chained (plain_phrase chain.first)
+        (map plain_link chain.links.items ++ record { most = most; to = q } ∷ []))
+        (phrase_of column (plain_lexeme lexeme))) }
 {
     let Linked { first, mut links } = chain;
     match phrase_of(alloc, column, lexeme)? {
@@ -349,7 +360,8 @@ fn next_phrase(
 // The query of a state after which nothing comes, if it has one.
 fn finish(alloc: Global, state: State) -> Result<Option<Query>, AllocError>
     ensures { IfOk result (λ q. option_map tree_of q
-        ≡ finish (plain_waiting state.waiting) (plain_outer state.outer.items) (plain_last state.last)) }
+        ≡ finish (plain_waiting state.waiting) (plain_outer state.outer.items)
+        (plain_last state.last)) }
 {
     let State {
         waiting,

@@ -18,9 +18,10 @@ fn read(
     default: Option<usize>,
     lexemes: Vec<Lexeme>,
 ) -> Result<Option<Query>, QueryFault>
-    ensures ok { IfOk result (λ query. query_within default (map plain_lexeme lexemes.items) ≡ Ok (option_map tree_of query)) }
-    ensures fault { IfErr result (λ fault.
-        fault ≢ QueryFault.Memory → query_within default (map plain_lexeme lexemes.items) ≡ Err fault) }
+    ensures ok { IfOk result (λ query. query_within default (map plain_lexeme lexemes.items)
+        ≡ Ok (option_map tree_of query)) }
+    ensures fault { IfErr result (λ fault. fault ≢ QueryFault.Memory
+        → query_within default (map plain_lexeme lexemes.items) ≡ Err fault) }
 {
     if is_too_large(&lexemes) {
         return Err(QueryFault::TooLarge);
@@ -60,8 +61,8 @@ pub fn parse(
 ) -> Result<Option<Query>, QueryFault>
     ensures ok { IfOk result (λ query.
         query_of (map string_bytes columns.now) default text.now ≡ Ok (option_map tree_of query)) }
-    ensures fault { IfErr result (λ fault.
-        fault ≢ QueryFault.Memory → query_of (map string_bytes columns.now) default text.now ≡ Err fault) }
+    ensures fault { IfErr result (λ fault. fault ≢ QueryFault.Memory
+        → query_of (map string_bytes columns.now) default text.now ≡ Err fault) }
 {
     if text.len() > MOST_BYTES {
         return Err(QueryFault::TooLarge);

@@ -19,6 +19,10 @@ pub record Moment (P S : Type 0) : Type 0 where
   pub out : Option (List ℕ)
   pub err : Option (List ℕ)
 
+-- such a moment, of its four parts
+abbrev pub moment_of : {P S : Type 0} → Shell P S → Status → Option (List ℕ) → Option (List ℕ) → Moment P S
+moment_of shell status out err = record { shell = shell; status = status; out = out; err = err }
+
 module _ {P S : Type 0} (g : Ghosts P) (h : Ghosts S) where
   -- The members' turns were done one after the other, and what they tell was written and counted. The count of fault lines stays at
   -- 2 ^ 64 - 1 once there.

@@ -18,6 +18,10 @@ pub record Console (P S : Type 0) : Type 0 where
   pub out : Option (List ℕ)
   pub err : Option (List ℕ)
 
+-- such a console, of its four parts
+abbrev pub console_of : {P S : Type 0} → Shell P S → Option (List ℕ) → Option (List ℕ) → Option (List ℕ) → Console P S
+console_of shell input out err = record { shell = shell; input = input; out = out; err = err }
+
 module _ {P S : Type 0} (g : Ghosts P) (h : Ghosts S) where
   -- The input of which these bytes were read was run whole: there is no more of it, and it isn't too much; or a turn ended the session that
   -- isn't past 2 ^ 30 bytes, whatever more there is.

@@ -15,6 +15,10 @@ pub record Shell (P S : Type 0) : Type 0 where
   pub full_text : FullText S
   pub holds : Files
 
+-- such a shell, of its four parts
+abbrev pub shell_of : {P S : Type 0} → Settings → Held P → FullText S → Files → Shell P S
+shell_of settings plain full_text holds = record { settings = settings; plain = plain; full_text = full_text; holds = holds }
+
 -- the same without the files, which a session is lent for a run
 pub record Parts (P S : Type 0) : Type 0 where
   pub settings : Settings

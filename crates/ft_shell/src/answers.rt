@@ -73,7 +73,8 @@ fn has_float(row: &Row) -> bool
 }
 
 fn row_cells(alloc: Global, row: &Row) -> Result<Vec<Cell>, AllocError>
-    ensures { IfOk result (λ cells. map print.value_of cells.items ≡ map forms.shown_value row.now) }
+    ensures { IfOk result (λ cells. map print.value_of cells.items
+        ≡ map forms.shown_value row.now) }
 {
     let mut cells = Vec::new(alloc);
     for at in 0..row.column_count() {
@@ -94,7 +95,8 @@ fn have_float(rows: &[Row]) -> bool
 }
 
 fn all_cells(alloc: Global, rows: &[Row]) -> Result<Vec<Vec<Cell>>, AllocError>
-    ensures { IfOk result (λ cells. map (λ row. map print.value_of row.items) cells.items ≡ map (map forms.shown_value) rows.now) }
+    ensures { IfOk result (λ cells. map (λ row. map print.value_of row.items) cells.items
+        ≡ map (map forms.shown_value) rows.now) }
 {
     let mut cells = Vec::new(alloc);
     for row in rows {
@@ -131,7 +133,8 @@ fn printed(
     names: &[Bytes],
     rows: &[Row],
 ) -> Result<Vec<u8>, PrintFault>
-    ensures { IfOk result (λ bytes. bytes.items ≡ print.printed settings.now (forms.table_of names.now rows.now)) }
+    ensures { IfOk result (λ bytes. bytes.items
+        ≡ print.printed settings.now (forms.table_of names.now rows.now)) }
 {
     let grid = Grid {
         names: column_names(alloc, names)?,
@@ -150,7 +153,8 @@ pub(crate) fn rows_told(
     names: &[Bytes],
     rows: &[Row],
 ) -> Told
-    ensures { Tells settings.now line (forms.rows_told settings.now line names.now rows.now) (told_as result) }
+    ensures { Tells settings.now line (forms.rows_told settings.now line names.now rows.now)
+        (told_as result) }
 {
     if have_float(rows) {
         return Told::blames(alloc, settings, line, "floating-point value in result");

@@ -9,6 +9,7 @@ ghost use Rattle.ft_statements.specs.DotViews.{command_as};
 ghost use Rattle.ft_statements.specs.Dots.{dot_command_of};
 ghost use Rattle.ft_shell.specs.DotTurns.{Sets, behind_stop};
 ghost use Rattle.ft_shell.specs.Turns.{DotOrLacks};
+ghost use Rattle.ft_shell.specs.Shell.{shell_of};
 
 use crate::import::import_turn;
 use crate::listing::tables_turn;
@@ -21,7 +22,8 @@ use sqlite::{Alter, Connection};
 use std::alloc::Global;
 
 fn print_turn(alloc: Global, settings: &Settings, line: u64, words: &[String]) -> Told
-    ensures { Tells settings.now line (says (settings_forms.print_text (map string_bytes words.now))) (told_as result) }
+    ensures { Tells settings.now line (says (settings_forms.print_text
+        (map string_bytes words.now))) (told_as result) }
 {
     match print_text(alloc, words) {
         Ok(text) => Told::says(alloc, text.into_bytes()),
@@ -30,7 +32,8 @@ fn print_turn(alloc: Global, settings: &Settings, line: u64, words: &[String]) -
 }
 
 fn usage_turn(alloc: Global, settings: &Settings, line: u64, usage: &str) -> Told
-    ensures { Tells settings.now line (blames settings.now line (texts.usage_text usage.now)) (told_as result) }
+    ensures { Tells settings.now line (blames settings.now line (texts.usage_text usage.now))
+        (told_as result) }
 {
     match usage_text(alloc, usage) {
         Ok(text) => Told::blames_text(alloc, settings, line, text),
@@ -39,7 +42,8 @@ fn usage_turn(alloc: Global, settings: &Settings, line: u64, usage: &str) -> Tol
 }
 
 fn set_turn(alloc: Global, settings: &mut Settings, line: u64, command: &DotCommand) -> Told
-    ensures { Sets line (command_as command.now) settings.old settings.new (told_as result) ⊎ ((settings.new ≡ settings.old) × (told_as result ≡ lacks_memory settings.old line)) }
+    ensures { Sets line (command_as command.now) settings.old settings.new (told_as result)
+        ⊎ ((settings.new ≡ settings.old) × (told_as result ≡ lacks_memory settings.old line)) }
 {
     match apply(settings, command) {
         Ok(()) => Told::silent(alloc),
@@ -64,7 +68,10 @@ pub(crate) fn dot_turn<P: Alter, S: Alter, F: Source>(
     line: u64,
     command: &DotCommand,
 ) -> Told
-    ensures turn { DotOrLacks P.Store S.Store line (record { settings = settings.old; plain = plain.old; full_text = full_text.old; holds = F.holds source.old }) (record { settings = settings.new; plain = plain.new; full_text = full_text.new; holds = F.holds source.new }) (told_as result) (command_as command.now) }
+    ensures turn { DotOrLacks P.Store S.Store line
+        (shell_of settings.old plain.old full_text.old (F.holds source.old))
+        (shell_of settings.new plain.new full_text.new (F.holds source.new)) (told_as result)
+        (command_as command.now) }
     ensures source { (name : List ℕ) → F.holds source.new name ≡ F.holds source.old name }
 {
     match command {
@@ -100,7 +107,10 @@ pub(crate) fn dot_line_turn<P: Alter, S: Alter, F: Source>(
     line: u64,
     text: &str,
 ) -> Told
-    ensures turn { DotOrLacks P.Store S.Store line (record { settings = settings.old; plain = plain.old; full_text = full_text.old; holds = F.holds source.old }) (record { settings = settings.new; plain = plain.new; full_text = full_text.new; holds = F.holds source.new }) (told_as result) (dot_command_of (dot_words_of (behind_stop text.now))) }
+    ensures turn { DotOrLacks P.Store S.Store line
+        (shell_of settings.old plain.old full_text.old (F.holds source.old))
+        (shell_of settings.new plain.new full_text.new (F.holds source.new)) (told_as result)
+        (dot_command_of (dot_words_of (behind_stop text.now))) }
     ensures source { (name : List ℕ) → F.holds source.new name ≡ F.holds source.old name }
 {
     let Ok(words) = dot_words(alloc, behind_stop(text)) else {

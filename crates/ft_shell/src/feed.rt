@@ -49,7 +49,8 @@ impl Model for Feed {
 
 impl Feed {
     pub(crate) fn new(alloc: Global) -> Result<Feed, AllocError>
-        ensures { IfOk result (λ feed. feed ≡ record { splitting = record { reading = start; waiting = [] }; line = [] }) }
+        ensures { IfOk result (λ feed. feed ≡
+            record { splitting = record { reading = start; waiting = [] }; line = [] }) }
     {
         Ok(Feed {
             splitter: Splitter::new(alloc)?,
@@ -61,7 +62,8 @@ impl Feed {
     /// Another byte of the line.
     pub(crate) fn keep(&mut self, byte: u8) -> Result<(), AllocError>
         requires { byte ≢ 10 }
-        ensures left { OnOk result ((rest : List ℕ) → members_left self.old (byte ∷ rest) ≡ members_left self.new rest) }
+        ensures left { OnOk result ((rest : List ℕ)
+            → members_left self.old (byte ∷ rest) ≡ members_left self.new rest) }
         ensures waiting { OnOk result (self.new.splitting.waiting ≡ self.old.splitting.waiting) }
     {
         if self.line.len() <= MOST_BYTES {
@@ -73,7 +75,9 @@ impl Feed {
     /// The line ends. No unit waits.
     pub(crate) fn end_line(&mut self) -> Result<Option<Refusal>, AllocError>
         requires { self.old.splitting.waiting ≡ [] }
-        ensures left { IfOk result (λ refused. (rest : List ℕ) → members_left self.old (10 ∷ rest) ≡ refused_as refused ++ members_left self.new rest) }
+        ensures left { IfOk result (λ refused. (rest : List ℕ)
+            → members_left self.old (10 ∷ rest)
+            ≡ refused_as refused ++ members_left self.new rest) }
         ensures line { OnOk result (self.new.line ≡ []) }
     {
         let refused = match self.splitter.line(self.line.as_slice()) {
@@ -95,7 +99,11 @@ impl Feed {
 
     /// The next unit of the lines that ended.
     pub(crate) fn next(&mut self) -> Option<Unit>
-        ensures some { IfSome result (λ unit. ((rest : List ℕ) → members_left self.old rest ≡ member_of_unit unit ∷ members_left self.new rest) × (length self.new.splitting.waiting < length self.old.splitting.waiting) × (self.new.line ≡ self.old.line)) }
+        ensures some { IfSome result (λ unit.
+            ((rest : List ℕ)
+            → members_left self.old rest ≡ member_of_unit unit ∷ members_left self.new rest)
+            × (length self.new.splitting.waiting < length self.old.splitting.waiting)
+            × (self.new.line ≡ self.old.line)) }
         ensures none { IfNone result ((self.old.splitting.waiting ≡ []) × (self.new ≡ self.old)) }
     {
         self.splitter.next()
@@ -104,7 +112,8 @@ impl Feed {
     /// Whether nothing was read of a last line.
     pub(crate) fn is_between_lines(&self) -> bool
         ensures between { result ≡ true → self.now.line ≡ [] }
-        ensures within { result ≡ false → members_left self.now [] ≡ members_left self.now (10 ∷ []) }
+        ensures within { result ≡ false
+            → members_left self.now [] ≡ members_left self.now (10 ∷ []) }
     {
         self.line.is_empty()
     }

@@ -16,7 +16,8 @@ use sqlite::Alter;
 use std::alloc::Global;
 
 fn reply_told(alloc: Global, settings: &Settings, line: u64, reply: Reply) -> Told
-    ensures { Tells settings.now line (says (reply_text settings.now (views.reply_of reply))) (told_as result) }
+    ensures { Tells settings.now line (says (reply_text settings.now (views.reply_of reply)))
+        (told_as result) }
 {
     let mut bytes: Vec<u8> = Vec::new(alloc);
     match write_reply(alloc, settings, reply, &mut bytes) {
@@ -27,7 +28,8 @@ fn reply_told(alloc: Global, settings: &Settings, line: u64, reply: Reply) -> To
 
 /// The fault line of a fault.
 pub(crate) fn fault_told(alloc: Global, settings: &Settings, line: u64, fault: Fault) -> Told
-    ensures { Tells settings.now line (blames settings.now line (texts.fault_text fault)) (told_as result) }
+    ensures { Tells settings.now line (blames settings.now line (texts.fault_text fault))
+        (told_as result) }
 {
     match fault_text(alloc, fault) {
         Ok(text) => Told::blames_text(alloc, settings, line, text),
@@ -43,7 +45,8 @@ pub(crate) fn full_text_turn<S: Alter>(
     line: u64,
     command: &Command,
 ) -> Told
-    ensures { FullTextTurn S.Store settings.now line (views.command_of command.now) full_text.old full_text.new (told_as result) }
+    ensures { FullTextTurn S.Store settings.now line (views.command_of command.now) full_text.old
+        full_text.new (told_as result) }
 {
     match full_text.execute(command) {
         Ok(reply) => reply_told(alloc, settings, line, reply),
@@ -59,7 +62,8 @@ pub(crate) fn note_turn<S: Alter>(
     line: u64,
     name: &str,
 ) -> Told
-    ensures { NoteTurn S.Store settings.now line name.now full_text.old full_text.new (told_as result) }
+    ensures { NoteTurn S.Store settings.now line name.now full_text.old full_text.new
+        (told_as result) }
 {
     match full_text.note(name) {
         Ok(()) => Told::silent(alloc),
@@ -76,7 +80,8 @@ pub(crate) fn maybe_note<S: Alter>(
     line: u64,
     name: Option<&str>,
 ) -> Told
-    ensures { MaybeNotes S.Store settings.now line (option_map (λ n. n.now) name.entry) full_text.old full_text.new (told_as result) }
+    ensures { MaybeNotes S.Store settings.now line (option_map (λ n. n.now) name.entry)
+        full_text.old full_text.new (told_as result) }
 {
     match name {
         Some(name) => note_turn(alloc, settings, full_text, line, name),

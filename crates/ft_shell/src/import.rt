@@ -37,7 +37,8 @@ pub(crate) fn import_turn<P: Alter, S: Alter, F: Source>(
     what: &Import,
     line: u64,
 ) -> Told
-    ensures turn { ImportTurn P.Store S.Store settings.now line (import_as what.now) plain.old plain.new full_text.old full_text.new (told_as result) (F.holds source.old) }
+    ensures turn { ImportTurn P.Store S.Store settings.now line (import_as what.now) plain.old
+        plain.new full_text.old full_text.new (told_as result) (F.holds source.old) }
     ensures source { (name : List ℕ) → F.holds source.new name ≡ F.holds source.old name }
 {
     match delimiter_of(what.csv, settings) {
@@ -60,7 +61,8 @@ fn file_turn<P: Alter, S: Alter, F: Source>(
     delimiter: u8,
 ) -> Told
     requires { is_csv_separator (delimiter ∷ []) ≡ true }
-    ensures turn { FileTurn P.Store S.Store settings.now line (import_as what.now) plain.old plain.new full_text.old full_text.new (told_as result) (F.holds source.old) delimiter }
+    ensures turn { FileTurn P.Store S.Store settings.now line (import_as what.now) plain.old
+        plain.new full_text.old full_text.new (told_as result) (F.holds source.old) delimiter }
     ensures source { (name : List ℕ) → F.holds source.new name ≡ F.holds source.old name }
 {
     match source.fetch(alloc, what.file.as_str()) {
@@ -90,7 +92,8 @@ fn bytes_turn<P: Alter, S: Alter>(
     bytes: &[u8],
 ) -> Told
     requires { is_csv_separator (delimiter ∷ []) ≡ true }
-    ensures { BytesTurn P.Store S.Store settings.now line (import_as what.now) plain.old plain.new full_text.old full_text.new (told_as result) delimiter bytes.now }
+    ensures { BytesTurn P.Store S.Store settings.now line (import_as what.now) plain.old plain.new
+        full_text.old full_text.new (told_as result) delimiter bytes.now }
 {
     match read_records(alloc, bytes, delimiter) {
         Ok(records) => records_turn(alloc, settings, plain, full_text, what, line, records),
@@ -109,7 +112,8 @@ fn records_turn<P: Alter, S: Alter>(
     line: u64,
     records: Vec<Vec<String>>,
 ) -> Told
-    ensures { RecordsTurn P.Store S.Store settings.now line (import_as what.now) plain.old plain.new full_text.old full_text.new (told_as result) (map texts_of records.items) }
+    ensures { RecordsTurn P.Store S.Store settings.now line (import_as what.now) plain.old plain.new
+        full_text.old full_text.new (told_as result) (map texts_of records.items) }
 {
     let skip = skipped(what.skip, records.len());
     let Ok(left) = left_records(alloc, records, skip) else {
@@ -182,7 +186,9 @@ fn full_text_import<S: Alter>(
     records: Vec<Vec<String>>,
 ) -> Told
     requires { first + length records.items < 2 ^ 64 }
-    ensures { TextImport S.Store settings.now line (import_as what.now) columns (enumerate_from first (map texts_of records.items)) full_text.old full_text.new (told_as result) }
+    ensures { TextImport S.Store settings.now line (import_as what.now) columns
+        (enumerate_from first (map texts_of records.items)) full_text.old full_text.new
+        (told_as result) }
 {
     let Ok(lines) = warnings(
         alloc,
@@ -206,7 +212,8 @@ fn insert_of(
     columns: usize,
     records: Vec<Vec<String>>,
 ) -> Result<Command, AllocError>
-    ensures { IfOk result (λ command. views.command_of command ≡ Insert table.now None (map (row_cells columns) (map texts_of records.items))) }
+    ensures { IfOk result (λ command. views.command_of command
+        ≡ Insert table.now None (map (row_cells columns) (map texts_of records.items))) }
 {
     let mut rows: Vec<Vec<Value>> = Vec::new(alloc);
     for fields in records {
@@ -228,7 +235,8 @@ fn insert_told<S: Alter>(
     command: &Command,
     lines: String,
 ) -> Told
-    ensures { InsertTurn S.Store settings.now line (views.command_of command.now) (string_bytes lines) full_text.old full_text.new (told_as result) }
+    ensures { InsertTurn S.Store settings.now line (views.command_of command.now)
+        (string_bytes lines) full_text.old full_text.new (told_as result) }
 {
     match full_text.execute(command) {
         Ok(_) => warned(alloc, lines),
@@ -260,7 +268,9 @@ fn plain_import<P: Alter, S: Alter>(
     records: &[Vec<String>],
 ) -> Told
     requires { first + length records.now < 2 ^ 64 }
-    ensures { PlainImport P.Store settings.now line (import_as what.now) (enumerate_from first (map texts_of records.now)) S.Store plain.old plain.new full_text.old full_text.new (told_as result) }
+    ensures { PlainImport P.Store settings.now line (import_as what.now)
+        (enumerate_from first (map texts_of records.now)) S.Store plain.old plain.new full_text.old
+        full_text.new (told_as result) }
 {
     match reads_table(alloc, plain, what.table.as_str()) {
         Some(true) => into_table(alloc, settings, plain, what, line, first, records),
@@ -282,7 +292,8 @@ fn into_table<P: Alter>(
     records: &[Vec<String>],
 ) -> Told
     requires { first + length records.now < 2 ^ 64 }
-    ensures { IntoTable P.Store settings.now line (import_as what.now) (enumerate_from first (map texts_of records.now)) plain.old plain.new (told_as result) }
+    ensures { IntoTable P.Store settings.now line (import_as what.now)
+        (enumerate_from first (map texts_of records.now)) plain.old plain.new (told_as result) }
 {
     let table = what.table.as_str();
     let columns = match column_count(alloc, plain, table) {
@@ -320,7 +331,9 @@ fn into_new_table<P: Alter, S: Alter>(
     records: &[Vec<String>],
 ) -> Told
     requires { first + length records.now < 2 ^ 64 }
-    ensures { IntoNew P.Store settings.now line (import_as what.now) (enumerate_from first (map texts_of records.now)) S.Store plain.old plain.new full_text.old full_text.new (told_as result) }
+    ensures { IntoNew P.Store settings.now line (import_as what.now)
+        (enumerate_from first (map texts_of records.now)) S.Store plain.old plain.new full_text.old
+        full_text.new (told_as result) }
 {
     match records {
         [names, rest @ ..] => into_made_table(
@@ -351,7 +364,9 @@ fn into_made_table<P: Alter, S: Alter>(
     rest: &[Vec<String>],
 ) -> Told
     requires { first + 1 + length rest.now < 2 ^ 64 }
-    ensures { IntoNew P.Store settings.now line (import_as what.now) ((first, map string_bytes names.now) ∷ enumerate_from (first + 1) (map texts_of rest.now)) S.Store plain.old plain.new full_text.old full_text.new (told_as result) }
+    ensures { IntoNew P.Store settings.now line (import_as what.now)
+        ((first, map string_bytes names.now) ∷ enumerate_from (first + 1) (map texts_of rest.now))
+        S.Store plain.old plain.new full_text.old full_text.new (told_as result) }
 {
     let table = what.table.as_str();
     let columns = names.len();
@@ -376,7 +391,8 @@ fn noted_told<S: Alter>(
     table: &str,
     lines: String,
 ) -> Told
-    ensures { NotesAfter S.Store settings.now line table.now (string_bytes lines) full_text.old full_text.new (told_as result) }
+    ensures { NotesAfter S.Store settings.now line table.now (string_bytes lines) full_text.old
+        full_text.new (told_as result) }
 {
     match full_text.note(table) {
         Ok(()) => warned(alloc, lines),

@@ -12,7 +12,8 @@ use std::alloc::{AllocError, Global};
 
 // Puts a name between quotation marks behind a text.
 fn push_identifier(text: &mut String, name: &str) -> Result<(), AllocError>
-    ensures { OnOk result (string_bytes text.new ≡ string_bytes text.old ++ forms.identifier name.now) }
+    ensures { OnOk result (string_bytes text.new
+        ≡ string_bytes text.old ++ forms.identifier name.now) }
 {
     text.push('"')?;
     push_all_doubled(text, name)?;
@@ -34,7 +35,8 @@ fn push_doubled(text: &mut String, c: char) -> Result<(), AllocError>
 
 // Puts the characters of a name behind a text, with two quotation marks for one.
 fn push_all_doubled(text: &mut String, name: &str) -> Result<(), AllocError>
-    ensures { OnOk result (string_bytes text.new ≡ string_bytes text.old ++ flat_map forms.doubled (chars name.now)) }
+    ensures { OnOk result (string_bytes text.new
+        ≡ string_bytes text.old ++ flat_map forms.doubled (chars name.now)) }
 {
     for c in name.chars() {
         push_doubled(text, c)?;
@@ -54,7 +56,8 @@ pub(crate) fn reading_text(alloc: Global, name: &str) -> Result<String, AllocErr
 
 // Puts so many marks behind a text, with a comma between each two.
 fn push_marks(text: &mut String, count: usize) -> Result<(), AllocError>
-    ensures { OnOk result (string_bytes text.new ≡ string_bytes text.old ++ forms.with_commas (λ mark. mark) (replicate count (codes "?"))) }
+    ensures { OnOk result (string_bytes text.new
+        ≡ string_bytes text.old ++ forms.with_commas (λ mark. mark) (replicate count (codes "?"))) }
 {
     if count == 0 {
         return Ok(());
@@ -79,7 +82,8 @@ pub(crate) fn insertion_text(alloc: Global, name: &str, count: usize) -> Result<
 }
 
 fn push_column(text: &mut String, column: &str) -> Result<(), AllocError>
-    ensures { OnOk result (string_bytes text.new ≡ string_bytes text.old ++ forms.text_column column.now) }
+    ensures { OnOk result (string_bytes text.new
+        ≡ string_bytes text.old ++ forms.text_column column.now) }
 {
     push_identifier(text, column)?;
     text.push_str(" TEXT")?;
@@ -88,7 +92,9 @@ fn push_column(text: &mut String, column: &str) -> Result<(), AllocError>
 
 // Puts columns behind a text, with a comma between each two.
 fn push_columns(text: &mut String, columns: &[String]) -> Result<(), AllocError>
-    ensures { OnOk result (string_bytes text.new ≡ string_bytes text.old ++ forms.with_commas forms.text_column (map string_bytes columns.now)) }
+    ensures { OnOk result (string_bytes text.new
+        ≡ string_bytes text.old ++ forms.with_commas forms.text_column
+        (map string_bytes columns.now)) }
 {
     let [first, rest @ ..] = columns else {
         return Ok(());
@@ -107,7 +113,8 @@ pub(crate) fn creation_text(
     name: &str,
     columns: &[String],
 ) -> Result<String, AllocError>
-    ensures { IfOk result (λ text. string_bytes text ≡ forms.creation_of name.now (map string_bytes columns.now)) }
+    ensures { IfOk result (λ text. string_bytes text
+        ≡ forms.creation_of name.now (map string_bytes columns.now)) }
 {
     let mut text = "CREATE TABLE ".to_string(alloc)?;
     push_identifier(&mut text, name)?;
@@ -119,7 +126,8 @@ pub(crate) fn creation_text(
 
 // A field as a value: its text, or NULL.
 fn field_cell(alloc: Global, field: Option<&str>) -> Result<Value, AllocError>
-    ensures { IfOk result (λ value. shown_value value ≡ forms.field_cell (option_map (λ text. text.now) field.entry)) }
+    ensures { IfOk result (λ value. shown_value value
+        ≡ forms.field_cell (option_map (λ text. text.now) field.entry)) }
 {
     match field {
         Some(text) => Ok(Value::Text(String::from_str(alloc, text)?)),
@@ -133,7 +141,8 @@ pub(crate) fn row_cells(
     fields: &[String],
     columns: usize,
 ) -> Result<Vec<Value>, AllocError>
-    ensures { IfOk result (λ row. views.cells_of row ≡ forms.row_cells columns (map string_bytes fields.now)) }
+    ensures { IfOk result (λ row. views.cells_of row
+        ≡ forms.row_cells columns (map string_bytes fields.now)) }
 {
     let mut row = Vec::new(alloc);
     for field in fitted(alloc, fields, columns)? {

@@ -22,8 +22,10 @@ fn found_tables<P: Alter>(
     plain: &mut Connection<P>,
     names: &[String],
 ) -> Result<Vec<String>, AllocError>
-    ensures found { IfOk result (λ found. Finds P.Store (map string_bytes names.now) plain.old plain.new (texts_of found)) }
-    ensures stops { OnErr result (StopsTrying P.Store (map string_bytes names.now) plain.old plain.new) }
+    ensures found { IfOk result (λ found. Finds P.Store (map string_bytes names.now) plain.old
+        plain.new (texts_of found)) }
+    ensures stops { OnErr result (StopsTrying P.Store (map string_bytes names.now) plain.old
+        plain.new) }
 {
     let mut found = Vec::new(alloc);
     for name in names {
@@ -39,7 +41,8 @@ fn found_tables<P: Alter>(
 
 // Names as they are listed.
 fn names_told(alloc: Global, settings: &Settings, line: u64, names: &[String]) -> Told
-    ensures { Tells settings.now line (says (print.listed (map string_bytes names.now))) (told_as result) }
+    ensures { Tells settings.now line (says (print.listed (map string_bytes names.now)))
+        (told_as result) }
 {
     let mut bytes: Vec<u8> = Vec::new(alloc);
     match write_names(alloc, names, &mut bytes) {
@@ -57,7 +60,8 @@ fn list_turn<P: Alter>(
     line: u64,
     noted: &[String],
 ) -> Told
-    ensures { Lists P.Store settings.now line (info_names tables.now) (map string_bytes noted.now) plain.old plain.new (told_as result) }
+    ensures { Lists P.Store settings.now line (info_names tables.now) (map string_bytes noted.now)
+        plain.old plain.new (told_as result) }
 {
     let Ok(found) = found_tables(alloc, plain, noted) else {
         return Told::lacks_memory(alloc, settings, line);
@@ -76,7 +80,8 @@ pub(crate) fn tables_turn<P: Alter, S: Alter>(
     full_text: &mut FullText<S>,
     line: u64,
 ) -> Told
-    ensures { TablesTurn P.Store S.Store settings.now line plain.old plain.new full_text.old full_text.new (told_as result) }
+    ensures { TablesTurn P.Store S.Store settings.now line plain.old plain.new full_text.old
+        full_text.new (told_as result) }
 {
     match full_text.noted() {
         Ok(noted) => list_turn(

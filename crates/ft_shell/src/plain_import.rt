@@ -65,9 +65,14 @@ pub(crate) fn import_records<P: Alter>(
     columns: usize,
     records: &[Vec<String>],
 ) -> Result<(), ImportFault>
-    ensures done { OnOk result (CommitsAll P.Store (import_steps (option_map (λ n. map string_bytes n.now) names.entry) table.now columns (map texts_of records.now)) plain.old plain.new) }
-    ensures declined { IsErrOf result ImportFault.Refused → Declines P.Store (import_steps (option_map (λ n. map string_bytes n.now) names.entry) table.now columns (map texts_of records.now)) plain.old plain.new }
-    ensures kept { OnErr result (IfClean P.Store plain.old plain.new (CommitsNothing (state P.Store plain.old) (state P.Store plain.new))) }
+    ensures done { OnOk result (CommitsAll P.Store
+        (import_steps (option_map (λ n. map string_bytes n.now) names.entry) table.now columns
+        (map texts_of records.now)) plain.old plain.new) }
+    ensures declined { IsErrOf result ImportFault.Refused
+        → Declines P.Store (import_steps (option_map (λ n. map string_bytes n.now) names.entry)
+        table.now columns (map texts_of records.now)) plain.old plain.new }
+    ensures kept { OnErr result (IfClean P.Store plain.old plain.new
+        (CommitsNothing (state P.Store plain.old) (state P.Store plain.new))) }
 {
     if !plain.is_autocommit() {
         return Err(ImportFault::Refused);
@@ -89,8 +94,12 @@ fn fill<P: Alter>(
 ) -> Result<(), ImportFault>
     requires inside { IsInside P.Store tx.old.conn.now }
     ensures same_reference { tx.new.conn.ghost_name ≡ tx.old.conn.ghost_name }
-    ensures done { OnOk result (DoesAll P.Store (import_steps (option_map (λ n. map string_bytes n.now) names.entry) table.now columns (map texts_of records.now)) tx.old.conn.now tx.new.conn.now) }
-    ensures refused { IsErrOf result ImportFault.Refused → StopsAtStep P.Store (import_steps (option_map (λ n. map string_bytes n.now) names.entry) table.now columns (map texts_of records.now)) tx.old.conn.now tx.new.conn.now }
+    ensures done { OnOk result (DoesAll P.Store
+        (import_steps (option_map (λ n. map string_bytes n.now) names.entry) table.now columns
+        (map texts_of records.now)) tx.old.conn.now tx.new.conn.now) }
+    ensures refused { IsErrOf result ImportFault.Refused
+        → StopsAtStep P.Store (import_steps (option_map (λ n. map string_bytes n.now) names.entry)
+        table.now columns (map texts_of records.now)) tx.old.conn.now tx.new.conn.now }
     ensures kept { KeepsLast P.Store tx.old.conn.now tx.new.conn.now }
     ensures inside { OnOk result (IsInside P.Store tx.new.conn.now) }
 {
@@ -111,8 +120,12 @@ fn make_and_insert<P: Alter>(
 ) -> Result<(), ImportFault>
     requires inside { IsInside P.Store tx.old.conn.now }
     ensures same_reference { tx.new.conn.ghost_name ≡ tx.old.conn.ghost_name }
-    ensures done { OnOk result (DoesAll P.Store (Run (creation_of table.now (map string_bytes names.now)) [] ∷ insertions table.now columns (map texts_of records.now)) tx.old.conn.now tx.new.conn.now) }
-    ensures refused { IsErrOf result ImportFault.Refused → StopsAtStep P.Store (Run (creation_of table.now (map string_bytes names.now)) [] ∷ insertions table.now columns (map texts_of records.now)) tx.old.conn.now tx.new.conn.now }
+    ensures done { OnOk result (DoesAll P.Store
+        (Run (creation_of table.now (map string_bytes names.now)) [] ∷ insertions table.now columns
+        (map texts_of records.now)) tx.old.conn.now tx.new.conn.now) }
+    ensures refused { IsErrOf result ImportFault.Refused
+        → StopsAtStep P.Store (Run (creation_of table.now (map string_bytes names.now)) []
+        ∷ insertions table.now columns (map texts_of records.now)) tx.old.conn.now tx.new.conn.now }
     ensures kept { KeepsLast P.Store tx.old.conn.now tx.new.conn.now }
     ensures inside { OnOk result (IsInside P.Store tx.new.conn.now) }
 {
@@ -129,8 +142,11 @@ fn create_table<P: Alter>(
 ) -> Result<(), ImportFault>
     requires inside { IsInside P.Store tx.old.conn.now }
     ensures same_reference { tx.new.conn.ghost_name ≡ tx.old.conn.ghost_name }
-    ensures done { OnOk result (Does P.Store (Run (creation_of table.now (map string_bytes names.now)) []) tx.old.conn.now tx.new.conn.now) }
-    ensures refused { IsErrOf result ImportFault.Refused → IsRefused P.Store (Run (creation_of table.now (map string_bytes names.now)) []) tx.old.conn.now tx.new.conn.now }
+    ensures done { OnOk result (Does P.Store (Run
+        (creation_of table.now (map string_bytes names.now)) []) tx.old.conn.now tx.new.conn.now) }
+    ensures refused { IsErrOf result ImportFault.Refused
+        → IsRefused P.Store (Run (creation_of table.now (map string_bytes names.now)) [])
+        tx.old.conn.now tx.new.conn.now }
     ensures kept { KeepsLast P.Store tx.old.conn.now tx.new.conn.now }
     ensures inside { OnOk result (IsInside P.Store tx.new.conn.now) }
 {
@@ -149,8 +165,11 @@ fn insert_records<P: Alter>(
 ) -> Result<(), ImportFault>
     requires inside { IsInside P.Store tx.old.conn.now }
     ensures same_reference { tx.new.conn.ghost_name ≡ tx.old.conn.ghost_name }
-    ensures done { OnOk result (DoesAll P.Store (insertions table.now columns (map texts_of records.now)) tx.old.conn.now tx.new.conn.now) }
-    ensures refused { IsErrOf result ImportFault.Refused → StopsAtStep P.Store (insertions table.now columns (map texts_of records.now)) tx.old.conn.now tx.new.conn.now }
+    ensures done { OnOk result (DoesAll P.Store
+        (insertions table.now columns (map texts_of records.now)) tx.old.conn.now tx.new.conn.now) }
+    ensures refused { IsErrOf result ImportFault.Refused
+        → StopsAtStep P.Store (insertions table.now columns (map texts_of records.now))
+        tx.old.conn.now tx.new.conn.now }
     ensures kept { KeepsLast P.Store tx.old.conn.now tx.new.conn.now }
     ensures inside { OnOk result (IsInside P.Store tx.new.conn.now) }
 {
@@ -167,9 +186,13 @@ fn prepared_insertion<P: Alter>(
 ) -> Result<Statement, ImportFault>
     requires inside { IsInside P.Store tx.old.conn.now }
     ensures same_reference { tx.new.conn.ghost_name ≡ tx.old.conn.ghost_name }
-    ensures done { OnOk result (Does P.Store (Prepare (insertion_of table.now columns)) tx.old.conn.now tx.new.conn.now) }
-    ensures text { IfOk result (λ statement. HasCleanDisk (state P.Store tx.new.conn.now) → statement.text ≡ insertion_of table.now columns) }
-    ensures refused { IsErrOf result ImportFault.Refused → IsRefused P.Store (Prepare (insertion_of table.now columns)) tx.old.conn.now tx.new.conn.now }
+    ensures done { OnOk result (Does P.Store (Prepare (insertion_of table.now columns))
+        tx.old.conn.now tx.new.conn.now) }
+    ensures text { IfOk result (λ statement. HasCleanDisk (state P.Store tx.new.conn.now)
+        → statement.text ≡ insertion_of table.now columns) }
+    ensures refused { IsErrOf result ImportFault.Refused
+        → IsRefused P.Store (Prepare (insertion_of table.now columns)) tx.old.conn.now
+        tx.new.conn.now }
     ensures kept { KeepsLast P.Store tx.old.conn.now tx.new.conn.now }
     ensures inside { OnOk result (IsInside P.Store tx.new.conn.now) }
 {
@@ -188,8 +211,14 @@ fn insert_all<P: Alter>(
 ) -> Result<(), ImportFault>
     requires inside { IsInside P.Store tx.old.conn.now }
     ensures same_reference { tx.new.conn.ghost_name ≡ tx.old.conn.ghost_name }
-    ensures done { OnOk result ((text : List ℕ) → (HasCleanDisk (state P.Store tx.old.conn.now) → statement.now.text ≡ text) → DoesAll P.Store (runs_of text columns (map texts_of records.now)) tx.old.conn.now tx.new.conn.now) }
-    ensures refused { IsErrOf result ImportFault.Refused → (text : List ℕ) → (HasCleanDisk (state P.Store tx.old.conn.now) → statement.now.text ≡ text) → StopsAtStep P.Store (runs_of text columns (map texts_of records.now)) tx.old.conn.now tx.new.conn.now }
+    ensures done { OnOk result ((text : List ℕ)
+        → (HasCleanDisk (state P.Store tx.old.conn.now) → statement.now.text ≡ text)
+        → DoesAll P.Store (runs_of text columns (map texts_of records.now)) tx.old.conn.now
+        tx.new.conn.now) }
+    ensures refused { IsErrOf result ImportFault.Refused → (text : List ℕ)
+        → (HasCleanDisk (state P.Store tx.old.conn.now) → statement.now.text ≡ text)
+        → StopsAtStep P.Store (runs_of text columns (map texts_of records.now)) tx.old.conn.now
+        tx.new.conn.now }
     ensures kept { KeepsLast P.Store tx.old.conn.now tx.new.conn.now }
     ensures inside { OnOk result (IsInside P.Store tx.new.conn.now) }
 {
@@ -209,8 +238,14 @@ fn insert_record<P: Alter>(
 ) -> Result<(), ImportFault>
     requires inside { IsInside P.Store tx.old.conn.now }
     ensures same_reference { tx.new.conn.ghost_name ≡ tx.old.conn.ghost_name }
-    ensures done { OnOk result ((text : List ℕ) → (HasCleanDisk (state P.Store tx.old.conn.now) → statement.now.text ≡ text) → Does P.Store (Run text (forms.row_values columns (map string_bytes fields.now))) tx.old.conn.now tx.new.conn.now) }
-    ensures refused { IsErrOf result ImportFault.Refused → (text : List ℕ) → (HasCleanDisk (state P.Store tx.old.conn.now) → statement.now.text ≡ text) → IsRefused P.Store (Run text (forms.row_values columns (map string_bytes fields.now))) tx.old.conn.now tx.new.conn.now }
+    ensures done { OnOk result ((text : List ℕ)
+        → (HasCleanDisk (state P.Store tx.old.conn.now) → statement.now.text ≡ text)
+        → Does P.Store (Run text (forms.row_values columns (map string_bytes fields.now)))
+        tx.old.conn.now tx.new.conn.now) }
+    ensures refused { IsErrOf result ImportFault.Refused → (text : List ℕ)
+        → (HasCleanDisk (state P.Store tx.old.conn.now) → statement.now.text ≡ text)
+        → IsRefused P.Store (Run text (forms.row_values columns (map string_bytes fields.now)))
+        tx.old.conn.now tx.new.conn.now }
     ensures kept { KeepsLast P.Store tx.old.conn.now tx.new.conn.now }
     ensures inside { OnOk result (IsInside P.Store tx.new.conn.now) }
 {
@@ -225,7 +260,8 @@ fn row_values(
     fields: &[String],
     columns: usize,
 ) -> Result<Vec<ValueRef<'_>>, AllocError>
-    ensures { IfOk result (λ row. bound row.items ≡ forms.row_values columns (map string_bytes fields.now)) }
+    ensures { IfOk result (λ row. bound row.items
+        ≡ forms.row_values columns (map string_bytes fields.now)) }
 {
     let mut row = Vec::new(alloc);
     for field in fitted(alloc, fields, columns)? {
@@ -250,9 +286,13 @@ pub(crate) fn column_count<P: Alter>(
     plain: &mut Connection<P>,
     table: &str,
 ) -> Result<usize, ImportFault>
-    ensures counted { IfOk result (λ n. IfClean P.Store plain.old plain.new (Stays (state P.Store plain.old) (state P.Store plain.new) × HasColumns (state P.Store plain.old).now.schema table.now n)) }
-    ensures uncounted { IsErrOf result ImportFault.Refused → Uncounted P.Store table.now plain.old plain.new }
-    ensures kept { OnErr result (IfClean P.Store plain.old plain.new (CommitsNothing (state P.Store plain.old) (state P.Store plain.new))) }
+    ensures counted { IfOk result (λ n. IfClean P.Store plain.old plain.new
+        (Stays (state P.Store plain.old) (state P.Store plain.new)
+        × HasColumns (state P.Store plain.old).now.schema table.now n)) }
+    ensures uncounted { IsErrOf result ImportFault.Refused
+        → Uncounted P.Store table.now plain.old plain.new }
+    ensures kept { OnErr result (IfClean P.Store plain.old plain.new
+        (CommitsNothing (state P.Store plain.old) (state P.Store plain.new))) }
 {
     let mut found = None;
     for count in 1..101 {
@@ -272,9 +312,13 @@ fn takes_values<P: Alter>(
     table: &str,
     count: usize,
 ) -> Result<bool, ImportFault>
-    ensures told { IfOk result (λ takes. IfClean P.Store plain.old plain.new (Stays (state P.Store plain.old) (state P.Store plain.new) × (takes ≡ forms.takes_values (state P.Store plain.old).now.schema table.now count))) }
-    ensures refused { IsErrOf result ImportFault.Refused → IsRefused P.Store (Prepare (insertion_of table.now count)) plain.old plain.new }
-    ensures kept { IfClean P.Store plain.old plain.new (CommitsNothing (state P.Store plain.old) (state P.Store plain.new)) }
+    ensures told { IfOk result (λ takes. IfClean P.Store plain.old plain.new
+        (Stays (state P.Store plain.old) (state P.Store plain.new)
+        × (takes ≡ forms.takes_values (state P.Store plain.old).now.schema table.now count))) }
+    ensures refused { IsErrOf result ImportFault.Refused
+        → IsRefused P.Store (Prepare (insertion_of table.now count)) plain.old plain.new }
+    ensures kept { IfClean P.Store plain.old plain.new
+        (CommitsNothing (state P.Store plain.old) (state P.Store plain.new)) }
 {
     let text = insertion_text(alloc, table, count)?;
     match plain.prepare(text.as_str()) {
@@ -287,8 +331,12 @@ fn takes_values<P: Alter>(
 // The one number so far of values that a table takes, with a number more that was tried.
 fn with_count(found: Option<usize>, takes: bool, count: usize) -> Result<Option<usize>, ImportFault>
     requires { 1 ≤ count }
-    ensures only { IfOk result (λ next. (schema : Schema) (name : List ℕ) → takes ≡ forms.takes_values schema name count → IsOnlyBelow schema name count found → IsOnlyBelow schema name (count + 1) next) }
-    ensures two { OnErr result ((schema : Schema) (name : List ℕ) → takes ≡ forms.takes_values schema name count → IsOnlyBelow schema name count found → count ≤ 100 → (n : ℕ) → HasColumns schema name n → ⊥) }
+    ensures only { IfOk result (λ next. (schema : Schema) (name : List ℕ)
+        → takes ≡ forms.takes_values schema name count → IsOnlyBelow schema name count found
+        → IsOnlyBelow schema name (count + 1) next) }
+    ensures two { OnErr result ((schema : Schema) (name : List ℕ)
+        → takes ≡ forms.takes_values schema name count → IsOnlyBelow schema name count found
+        → count ≤ 100 → (n : ℕ) → HasColumns schema name n → ⊥) }
 {
     if !takes {
         return Ok(found);

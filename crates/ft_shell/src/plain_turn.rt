@@ -39,7 +39,8 @@ pub(crate) fn refusal(alloc: Global, settings: &Settings, line: u64, error: Erro
 
 // A query is prepared for its names, and then executed.
 fn asked<P: Alter>(plain: &mut Connection<P>, text: &str) -> Result<(Statement, Vec<Row>), Error>
-    ensures answered { IfOk result (λ r. Answers P.Store text.now plain.old plain.new r.0.columns r.1.items) }
+    ensures answered { IfOk result (λ r. Answers P.Store text.now plain.old plain.new r.0.columns
+        r.1.items) }
     ensures refused { IfErr result (FailsToAnswer P.Store text.now plain.old plain.new) }
 {
     let statement = plain.prepare(text)?;
@@ -77,7 +78,9 @@ fn command_turn<P: Alter, S: Alter>(
     text: &str,
     made: Option<&str>,
 ) -> Told
-    ensures { CommandTurn P.Store S.Store settings.now line text.now (option_map (λ n. n.now) made.entry) plain.old plain.new full_text.old full_text.new (told_as result) }
+    ensures { CommandTurn P.Store S.Store settings.now line text.now
+        (option_map (λ n. n.now) made.entry) plain.old plain.new full_text.old full_text.new
+        (told_as result) }
 {
     match plain.execute(text, &[]) {
         Ok(_) => maybe_note(alloc, settings, full_text, line, made),
@@ -106,8 +109,9 @@ pub(crate) fn plain_turn<P: Alter, S: Alter>(
     words: &[SqlWord],
 ) -> Told
     requires { words.now ≡ words_of text.now }
-    ensures { OrNothing (PlainTurn P.Store S.Store settings.now line text.now plain.old plain.new full_text.old full_text.new (told_as result))
-        settings.now line plain.old plain.new full_text.old full_text.new (told_as result) }
+    ensures { OrNothing (PlainTurn P.Store S.Store settings.now line text.now plain.old plain.new
+        full_text.old full_text.new (told_as result)) settings.now line plain.old plain.new
+        full_text.old full_text.new (told_as result) }
 {
     let Ok(statement) = read_plain(alloc, text, words) else {
         return Told::lacks_memory(alloc, settings, line);

@@ -23,7 +23,8 @@ pub(crate) fn fitted(
     fields: &[String],
     columns: usize,
 ) -> Result<Vec<Option<&str>>, AllocError>
-    ensures { IfOk result (λ row. map (option_map (λ text. text.now)) row.items ≡ forms.fitted columns (map string_bytes fields.now)) }
+    ensures { IfOk result (λ row. map (option_map (λ text. text.now)) row.items
+        ≡ forms.fitted columns (map string_bytes fields.now)) }
 {
     let mut row = Vec::new(alloc);
     for at in 0..columns {
@@ -40,7 +41,9 @@ fn push_warning(
     number: usize,
     fields: &[String],
 ) -> Result<(), AllocError>
-    ensures { OnOk result (string_bytes text.new ≡ string_bytes text.old ++ forms.warning file.now columns (number, map string_bytes fields.now)) }
+    ensures { OnOk result (string_bytes text.new
+        ≡ string_bytes text.old ++ forms.warning file.now columns
+        (number, map string_bytes fields.now)) }
 {
     let count = fields.len();
     if count != columns {
@@ -61,7 +64,8 @@ pub(crate) fn warnings(
     records: &[Vec<String>],
 ) -> Result<String, AllocError>
     requires { first + length records.now < 2 ^ 64 }
-    ensures { IfOk result (λ text. string_bytes text ≡ forms.warnings file.now columns (enumerate_from first (map texts_of records.now))) }
+    ensures { IfOk result (λ text. string_bytes text
+        ≡ forms.warnings file.now columns (enumerate_from first (map texts_of records.now))) }
 {
     let mut text = String::new(alloc);
     for (i, record) in records.iter().enumerate() {

@@ -8,8 +8,8 @@ ghost use Rattle.ft_shell.specs.Told as forms;
 ghost use Rattle.ft_shell.specs.ToldViews.{told_as};
 ghost use Rattle.ft_shell.specs.Feeds.{end_line, members_left, refused_as};
 ghost use Rattle.ft_shell.specs.Writing.{Sends};
-ghost use Rattle.ft_shell.specs.Ran.{HasRead, Interrupted, Runs};
-ghost use Rattle.ft_shell.specs.Runs.{Completes, Stops};
+ghost use Rattle.ft_shell.specs.Ran.{moment_of, HasRead, Interrupted, Runs};
+ghost use Rattle.ft_shell.specs.Runs.{console_of, Completes, Stops};
 ghost use Rattle.ft_shell.specs.Promise.{IsOpen, KeptByRuns, RanAndKept};
 ghost use Rattle.ft_index.specs.Kept.{IsUp};
 ghost use Rattle.ft_shell.specs.Shell.{lent};
@@ -139,8 +139,10 @@ impl<P: Alter, S: Alter> Session<P, S> {
         source: &mut F,
     ) -> Result<Status, RunFault>
         ensures ran { RanAndKept P.Store S.Store result
-            (record { shell = lent self.old (F.holds source.old); input = R.remaining reader.old; out = O.contents out.old; err = E.contents err.old })
-            (record { shell = lent self.new (F.holds source.new); input = R.remaining reader.new; out = O.contents out.new; err = E.contents err.new }) }
+            (console_of (lent self.old (F.holds source.old)) (R.remaining reader.old)
+            (O.contents out.old) (E.contents err.old))
+            (console_of (lent self.new (F.holds source.new)) (R.remaining reader.new)
+            (O.contents out.new) (E.contents err.new)) }
         ensures source { (name : List ℕ) → F.holds source.new name ≡ F.holds source.old name }
     {
         Session::<P, S>::kept_by_runs();
@@ -164,11 +166,15 @@ impl<P: Alter, S: Alter> Session<P, S> {
         source: &mut F,
     ) -> Result<Status, RunFault>
         ensures ok { IfOk result (λ status. Completes P.Store S.Store status
-            (record { shell = lent self.old (F.holds source.old); input = R.remaining reader.old; out = O.contents out.old; err = E.contents err.old })
-            (record { shell = lent self.new (F.holds source.new); input = R.remaining reader.new; out = O.contents out.new; err = E.contents err.new })) }
+            (console_of (lent self.old (F.holds source.old)) (R.remaining reader.old)
+            (O.contents out.old) (E.contents err.old))
+            (console_of (lent self.new (F.holds source.new)) (R.remaining reader.new)
+            (O.contents out.new) (E.contents err.new))) }
         ensures err { IfErr result (λ fault. Stops P.Store S.Store fault
-            (record { shell = lent self.old (F.holds source.old); input = R.remaining reader.old; out = O.contents out.old; err = E.contents err.old })
-            (record { shell = lent self.new (F.holds source.new); input = R.remaining reader.new; out = O.contents out.new; err = E.contents err.new })) }
+            (console_of (lent self.old (F.holds source.old)) (R.remaining reader.old)
+            (O.contents out.old) (E.contents err.old))
+            (console_of (lent self.new (F.holds source.new)) (R.remaining reader.new)
+            (O.contents out.new) (E.contents err.new))) }
         ensures source { (name : List ℕ) → F.holds source.new name ≡ F.holds source.old name }
     {
         blocks_read_whole();
@@ -217,13 +223,20 @@ impl<P: Alter, S: Alter> Session<P, S> {
         requires quit { status.old.quit ≡ false }
         requires chunk { 0 < length chunk.old }
         ensures bound { IfOk result (λ n. n ≤ length chunk.new) }
-        ensures ok { IfOk result (λ n. HasRead P.Store S.Store room n (R.remaining reader.old) (R.remaining reader.new) feed.old feed.new
-            (record { shell = lent self.old (F.holds source.old); status = status.old; out = O.contents out.old; err = E.contents err.old })
-            (record { shell = lent self.new (F.holds source.new); status = status.new; out = O.contents out.new; err = E.contents err.new })) }
-        ensures err { IfErr result (λ fault. Interrupted P.Store S.Store fault room (R.remaining reader.old) (R.remaining reader.new) feed.old
-            (record { shell = lent self.old (F.holds source.old); status = status.old; out = O.contents out.old; err = E.contents err.old })
-            (record { shell = lent self.new (F.holds source.new); status = status.new; out = O.contents out.new; err = E.contents err.new })) }
-        ensures waiting { IfOk result (λ n. 0 < n → status.new.quit ≡ false → feed.new.splitting.waiting ≡ []) }
+        ensures ok { IfOk result (λ n. HasRead P.Store S.Store room n (R.remaining reader.old)
+            (R.remaining reader.new) feed.old feed.new
+            (moment_of (lent self.old (F.holds source.old)) status.old
+            (O.contents out.old) (E.contents err.old))
+            (moment_of (lent self.new (F.holds source.new)) status.new
+            (O.contents out.new) (E.contents err.new))) }
+        ensures err { IfErr result (λ fault. Interrupted P.Store S.Store fault room
+            (R.remaining reader.old) (R.remaining reader.new) feed.old
+            (moment_of (lent self.old (F.holds source.old)) status.old
+            (O.contents out.old) (E.contents err.old))
+            (moment_of (lent self.new (F.holds source.new)) status.new
+            (O.contents out.new) (E.contents err.new))) }
+        ensures waiting { IfOk result (λ n. 0 < n → status.new.quit ≡ false
+            → feed.new.splitting.waiting ≡ []) }
         ensures source { (name : List ℕ) → F.holds source.new name ≡ F.holds source.old name }
     {
         let read = read_chunk(reader, chunk)?;
@@ -247,9 +260,13 @@ impl<P: Alter, S: Alter> Session<P, S> {
         err: &mut E,
     ) -> Result<(), RunFault>
         requires { status.old.quit ≡ false → feed.old.splitting.waiting ≡ [] }
-        ensures runs { Runs P.Store S.Store result (λ (rest : List ℕ). members_left feed.old (bytes.now ++ rest)) (λ (rest : List ℕ). members_left feed.new rest)
-            (record { shell = lent self.old (F.holds source.old); status = status.old; out = O.contents out.old; err = E.contents err.old })
-            (record { shell = lent self.new (F.holds source.new); status = status.new; out = O.contents out.new; err = E.contents err.new }) }
+        ensures runs { Runs P.Store S.Store result
+            (λ (rest : List ℕ). members_left feed.old (bytes.now ++ rest))
+            (λ (rest : List ℕ). members_left feed.new rest)
+            (moment_of (lent self.old (F.holds source.old)) status.old
+            (O.contents out.old) (E.contents err.old))
+            (moment_of (lent self.new (F.holds source.new)) status.new
+            (O.contents out.new) (E.contents err.new)) }
         ensures waiting { OnOk result (status.new.quit ≡ false → feed.new.splitting.waiting ≡ []) }
         ensures source { (name : List ℕ) → F.holds source.new name ≡ F.holds source.old name }
     {
@@ -273,9 +290,13 @@ impl<P: Alter, S: Alter> Session<P, S> {
     ) -> Result<(), RunFault>
         requires waiting { feed.old.splitting.waiting ≡ [] }
         requires quit { status.old.quit ≡ false }
-        ensures runs { Runs P.Store S.Store result (λ (rest : List ℕ). members_left feed.old (byte ∷ rest)) (λ (rest : List ℕ). members_left feed.new rest)
-            (record { shell = lent self.old (F.holds source.old); status = status.old; out = O.contents out.old; err = E.contents err.old })
-            (record { shell = lent self.new (F.holds source.new); status = status.new; out = O.contents out.new; err = E.contents err.new }) }
+        ensures runs { Runs P.Store S.Store result
+            (λ (rest : List ℕ). members_left feed.old (byte ∷ rest))
+            (λ (rest : List ℕ). members_left feed.new rest)
+            (moment_of (lent self.old (F.holds source.old)) status.old
+            (O.contents out.old) (E.contents err.old))
+            (moment_of (lent self.new (F.holds source.new)) status.new
+            (O.contents out.new) (E.contents err.new)) }
         ensures waiting { OnOk result (status.new.quit ≡ false → feed.new.splitting.waiting ≡ []) }
         ensures source { (name : List ℕ) → F.holds source.new name ≡ F.holds source.old name }
     {
@@ -297,9 +318,13 @@ impl<P: Alter, S: Alter> Session<P, S> {
     ) -> Result<(), RunFault>
         requires waiting { feed.old.splitting.waiting ≡ [] }
         requires quit { status.old.quit ≡ false }
-        ensures runs { Runs P.Store S.Store result (λ (rest : List ℕ). members_left feed.old (10 ∷ rest)) (λ (rest : List ℕ). members_left feed.new rest)
-            (record { shell = lent self.old (F.holds source.old); status = status.old; out = O.contents out.old; err = E.contents err.old })
-            (record { shell = lent self.new (F.holds source.new); status = status.new; out = O.contents out.new; err = E.contents err.new }) }
+        ensures runs { Runs P.Store S.Store result
+            (λ (rest : List ℕ). members_left feed.old (10 ∷ rest))
+            (λ (rest : List ℕ). members_left feed.new rest)
+            (moment_of (lent self.old (F.holds source.old)) status.old
+            (O.contents out.old) (E.contents err.old))
+            (moment_of (lent self.new (F.holds source.new)) status.new
+            (O.contents out.new) (E.contents err.new)) }
         ensures waiting { OnOk result (status.new.quit ≡ false → feed.new.splitting.waiting ≡ []) }
         ensures line { OnOk result (feed.new.line ≡ []) }
         ensures source { (name : List ℕ) → F.holds source.new name ≡ F.holds source.old name }
@@ -321,9 +346,12 @@ impl<P: Alter, S: Alter> Session<P, S> {
         out: &mut O,
         err: &mut E,
     ) -> Result<(), RunFault>
-        ensures runs { Runs P.Store S.Store result (λ (rest : List ℕ). members_left feed.old rest) (λ (rest : List ℕ). members_left feed.new rest)
-            (record { shell = lent self.old (F.holds source.old); status = status.old; out = O.contents out.old; err = E.contents err.old })
-            (record { shell = lent self.new (F.holds source.new); status = status.new; out = O.contents out.new; err = E.contents err.new }) }
+        ensures runs { Runs P.Store S.Store result (λ (rest : List ℕ). members_left feed.old rest)
+            (λ (rest : List ℕ). members_left feed.new rest)
+            (moment_of (lent self.old (F.holds source.old)) status.old
+            (O.contents out.old) (E.contents err.old))
+            (moment_of (lent self.new (F.holds source.new)) status.new
+            (O.contents out.new) (E.contents err.new)) }
         ensures waiting { OnOk result (status.new.quit ≡ false → feed.new.splitting.waiting ≡ []) }
         ensures line { feed.new.line ≡ feed.old.line }
         ensures source { (name : List ℕ) → F.holds source.new name ≡ F.holds source.old name }
@@ -345,9 +373,12 @@ impl<P: Alter, S: Alter> Session<P, S> {
         out: &mut O,
         err: &mut E,
     ) -> Result<(), RunFault>
-        ensures runs { Runs P.Store S.Store result (λ (rest : List Member). member_of_unit unit.now ∷ rest) (λ (rest : List Member). rest)
-            (record { shell = lent self.old (F.holds source.old); status = status.old; out = O.contents out.old; err = E.contents err.old })
-            (record { shell = lent self.new (F.holds source.new); status = status.new; out = O.contents out.new; err = E.contents err.new }) }
+        ensures runs { Runs P.Store S.Store result
+            (λ (rest : List Member). member_of_unit unit.now ∷ rest) (λ (rest : List Member). rest)
+            (moment_of (lent self.old (F.holds source.old)) status.old
+            (O.contents out.old) (E.contents err.old))
+            (moment_of (lent self.new (F.holds source.new)) status.new
+            (O.contents out.new) (E.contents err.new)) }
         ensures source { (name : List ℕ) → F.holds source.new name ≡ F.holds source.old name }
     {
         echo_text(self.settings.echo(), unit.text.as_str(), out)?;
@@ -370,9 +401,11 @@ impl<P: Alter, S: Alter> Session<P, S> {
         out: &mut O,
         err: &mut E,
     ) -> Result<(), RunFault>
-        ensures { (holds : Files) → Runs P.Store S.Store result (λ (rest : List Member). Fault refusal.now.line refusal.now.fault ∷ rest) (λ (rest : List Member). rest)
-            (record { shell = lent self.old holds; status = status.old; out = O.contents out.old; err = E.contents err.old })
-            (record { shell = lent self.new holds; status = status.new; out = O.contents out.new; err = E.contents err.new }) }
+        ensures { (holds : Files)
+            → Runs P.Store S.Store result (λ (rest : List Member).
+            Fault refusal.now.line refusal.now.fault ∷ rest) (λ (rest : List Member). rest)
+            (moment_of (lent self.old holds) status.old (O.contents out.old) (E.contents err.old))
+            (moment_of (lent self.new holds) status.new (O.contents out.new) (E.contents err.new)) }
     {
         let text = split_text(&refusal.fault);
         let told = Told::blames(self.alloc, &self.settings, refusal.line, text);
@@ -386,9 +419,11 @@ impl<P: Alter, S: Alter> Session<P, S> {
         out: &mut O,
         err: &mut E,
     ) -> Result<(), RunFault>
-        ensures { (holds : Files) → Runs P.Store S.Store result (λ (rest : List Member). refused_as refused.now ++ rest) (λ (rest : List Member). rest)
-            (record { shell = lent self.old holds; status = status.old; out = O.contents out.old; err = E.contents err.old })
-            (record { shell = lent self.new holds; status = status.new; out = O.contents out.new; err = E.contents err.new }) }
+        ensures { (holds : Files)
+            → Runs P.Store S.Store result (λ (rest : List Member). refused_as refused.now ++ rest)
+            (λ (rest : List Member). rest)
+            (moment_of (lent self.old holds) status.old (O.contents out.old) (E.contents err.old))
+            (moment_of (lent self.new holds) status.new (O.contents out.new) (E.contents err.new)) }
     {
         match refused {
             Some(refusal) => self.refuse(refusal, status, out, err),
@@ -407,9 +442,12 @@ impl<P: Alter, S: Alter> Session<P, S> {
     ) -> Result<(), RunFault>
         requires waiting { feed.old.splitting.waiting ≡ [] }
         requires quit { status.old.quit ≡ false }
-        ensures runs { Runs P.Store S.Store result (λ (_ : ⊤). members_left feed.old []) (λ (_ : ⊤). members_left feed.new [])
-            (record { shell = lent self.old (F.holds source.old); status = status.old; out = O.contents out.old; err = E.contents err.old })
-            (record { shell = lent self.new (F.holds source.new); status = status.new; out = O.contents out.new; err = E.contents err.new }) }
+        ensures runs { Runs P.Store S.Store result (λ (_ : ⊤). members_left feed.old [])
+            (λ (_ : ⊤). members_left feed.new [])
+            (moment_of (lent self.old (F.holds source.old)) status.old
+            (O.contents out.old) (E.contents err.old))
+            (moment_of (lent self.new (F.holds source.new)) status.new
+            (O.contents out.new) (E.contents err.new)) }
         ensures waiting { OnOk result (status.new.quit ≡ false → feed.new.splitting.waiting ≡ []) }
         ensures line { OnOk result (feed.new.line ≡ []) }
         ensures source { (name : List ℕ) → F.holds source.new name ≡ F.holds source.old name }
@@ -431,9 +469,12 @@ impl<P: Alter, S: Alter> Session<P, S> {
     ) -> Result<(), RunFault>
         requires waiting { feed.old.splitting.waiting ≡ [] }
         requires quit { status.old.quit ≡ false }
-        ensures runs { Runs P.Store S.Store result (λ (_ : ⊤). members_left feed.old []) (λ (_ : ⊤). [])
-            (record { shell = lent self.old (F.holds source.old); status = status.old; out = O.contents out.old; err = E.contents err.old })
-            (record { shell = lent self.new (F.holds source.new); status = status.new; out = O.contents out.new; err = E.contents err.new }) }
+        ensures runs { Runs P.Store S.Store result (λ (_ : ⊤). members_left feed.old [])
+            (λ (_ : ⊤). [])
+            (moment_of (lent self.old (F.holds source.old)) status.old
+            (O.contents out.old) (E.contents err.old))
+            (moment_of (lent self.new (F.holds source.new)) status.new
+            (O.contents out.new) (E.contents err.new)) }
         ensures source { (name : List ℕ) → F.holds source.new name ≡ F.holds source.old name }
     {
         self.finish_line(feed, status, source, out, err)?;
@@ -454,9 +495,12 @@ impl<P: Alter, S: Alter> Session<P, S> {
     ) -> Result<(), RunFault>
         requires waiting { feed.old.splitting.waiting ≡ [] }
         requires between { feed.old.line ≡ [] }
-        ensures runs { Runs P.Store S.Store result (λ (_ : ⊤). members_left feed.old []) (λ (_ : ⊤). [])
-            (record { shell = lent self.old (F.holds source.old); status = status.old; out = O.contents out.old; err = E.contents err.old })
-            (record { shell = lent self.new (F.holds source.new); status = status.new; out = O.contents out.new; err = E.contents err.new }) }
+        ensures runs { Runs P.Store S.Store result (λ (_ : ⊤). members_left feed.old [])
+            (λ (_ : ⊤). [])
+            (moment_of (lent self.old (F.holds source.old)) status.old
+            (O.contents out.old) (E.contents err.old))
+            (moment_of (lent self.new (F.holds source.new)) status.new
+            (O.contents out.new) (E.contents err.new)) }
         ensures source { (name : List ℕ) → F.holds source.new name ≡ F.holds source.old name }
     {
         match feed.finish() {
@@ -531,7 +575,8 @@ fn tell<O: Write, E: Write>(
     ensures out { Sends result (O.contents out.old) (O.contents out.new) (told_as told.now).out }
     ensures err { Sends result (E.contents err.old) (E.contents err.new) (told_as told.now).err }
     ensures fault { IfErr result (λ fault. fault ≡ RunFault.Write) }
-    ensures faults { OnOk result (status.new.faults ≡ min (status.old.faults + (told_as told.now).faults) (2 ^ 64 - 1)) }
+    ensures faults { OnOk result (status.new.faults
+        ≡ min (status.old.faults + (told_as told.now).faults) (2 ^ 64 - 1)) }
     ensures quit { OnOk result (status.new.quit ≡ (status.old.quit || (told_as told.now).ends)) }
 {
     write_told(told, out, err)?;
@@ -544,7 +589,8 @@ fn tell<O: Write, E: Write>(
 
 // Writes the text of a unit where echo is on.
 fn echo_text<O: Write>(echo: bool, text: &str, out: &mut O) -> Result<(), RunFault>
-    ensures out { Sends result (O.contents out.old) (O.contents out.new) (forms.echo_text echo text.now) }
+    ensures out { Sends result (O.contents out.old) (O.contents out.new)
+        (forms.echo_text echo text.now) }
     ensures fault { IfErr result (λ fault. fault ≡ RunFault.Write) }
 {
     if echo {
@@ -555,8 +601,10 @@ fn echo_text<O: Write>(echo: bool, text: &str, out: &mut O) -> Result<(), RunFau
 
 fn read_chunk<R: Read>(reader: &mut R, chunk: &mut [u8]) -> Result<usize, RunFault>
     ensures bound { IfOk result (λ n. n ≤ length chunk.new) }
-    ensures bytes { IfOk result (λ n. Consumes (R.remaining reader.old) (R.remaining reader.new) (take n chunk.new)) }
-    ensures end { IfOk result (λ n. n ≡ 0 → 0 < length chunk.new → IsAtEnd (R.remaining reader.new)) }
+    ensures bytes { IfOk result (λ n. Consumes (R.remaining reader.old) (R.remaining reader.new)
+        (take n chunk.new)) }
+    ensures end { IfOk result (λ n. n ≡ 0 → 0 < length chunk.new
+        → IsAtEnd (R.remaining reader.new)) }
     ensures kept { OnErr result (Keeps (R.remaining reader.old) (R.remaining reader.new)) }
     ensures fault { IfErr result (λ fault. fault ≡ RunFault.Read) }
 {

@@ -27,8 +27,10 @@ fn class_turn<P: Alter, S: Alter>(
     words: &[SqlWord],
 ) -> Told
     requires { words.now ≡ words_of text.now }
-    ensures { OrNothing (ClassTurn P.Store S.Store settings.now line text.now plain.old plain.new full_text.old full_text.new (told_as result) (class_of (table_names full_text.old) (tokens.tokens_of text.now)))
-        settings.now line plain.old plain.new full_text.old full_text.new (told_as result) }
+    ensures { OrNothing (ClassTurn P.Store S.Store settings.now line text.now plain.old plain.new
+        full_text.old full_text.new (told_as result)
+        (class_of (table_names full_text.old) (tokens.tokens_of text.now))) settings.now line
+        plain.old plain.new full_text.old full_text.new (told_as result) }
 {
     match read_statement(alloc, text, words, full_text.tables()) {
         Ok(Class::Plain) => plain_turn(alloc, settings, plain, full_text, line, text, words),
@@ -50,7 +52,8 @@ pub(crate) fn statement_turn<P: Alter, S: Alter>(
     line: u64,
     text: &str,
 ) -> Told
-    ensures { StatementTurn P.Store S.Store settings.now line text.now plain.old plain.new full_text.old full_text.new (told_as result) }
+    ensures { StatementTurn P.Store S.Store settings.now line text.now plain.old plain.new
+        full_text.old full_text.new (told_as result) }
 {
     match sql_words(alloc, text) {
         Ok(words) => class_turn(

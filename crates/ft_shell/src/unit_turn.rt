@@ -3,6 +3,7 @@ ghost use Rattle.std.specs.Prelude.{◌≡◌, ℕ, List};
 ghost use Rattle.shell_text.specs.Splitting.{member_of_unit};
 ghost use Rattle.ft_shell.specs.ToldViews.{told_as};
 ghost use Rattle.ft_shell.specs.Turns.{Body};
+ghost use Rattle.ft_shell.specs.Shell.{shell_of};
 
 use crate::dot_turn::dot_line_turn;
 use crate::source::Source;
@@ -22,7 +23,9 @@ pub(crate) fn unit_turn<P: Alter, S: Alter, F: Source>(
     source: &mut F,
     unit: &Unit,
 ) -> Told
-    ensures body { Body P.Store S.Store (member_of_unit unit.now) (record { settings = settings.old; plain = plain.old; full_text = full_text.old; holds = F.holds source.old }) (record { settings = settings.new; plain = plain.new; full_text = full_text.new; holds = F.holds source.new }) (told_as result) }
+    ensures body { Body P.Store S.Store (member_of_unit unit.now)
+        (shell_of settings.old plain.old full_text.old (F.holds source.old))
+        (shell_of settings.new plain.new full_text.new (F.holds source.new)) (told_as result) }
     ensures source { (name : List ℕ) → F.holds source.new name ≡ F.holds source.old name }
 {
     let text = unit.text.as_str();

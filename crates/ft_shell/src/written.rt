@@ -38,7 +38,8 @@ fn fault_text_of(fault: &FaultLine) -> &str
 }
 
 fn write_fault<W: Write>(to: &mut W, fault: &FaultLine) -> Result<(), Refused>
-    ensures { Sends result (W.contents to.old) (W.contents to.new) (fault_line fault.now.line (text_as fault.now.text)) }
+    ensures { Sends result (W.contents to.old) (W.contents to.new)
+        (fault_line fault.now.line (text_as fault.now.text)) }
 {
     let mut buffer = Buffer::new();
     write_text(to, "Error: near line ")?;

@@ -34,7 +34,8 @@ fn match_at<'a>(
     alloc: Global,
     words: &'a [Piece<'a>],
 ) -> Result<Option<(Filter, &'a [Piece<'a>])>, AllocError>
-    ensures { IfOk result (λ read. read_as views.filter_of read ≡ forms.match_at (plain words.now)) }
+    ensures { IfOk result (λ read. read_as views.filter_of read
+        ≡ forms.match_at (plain words.now)) }
 {
     let Some((name, rest)) = name_at(alloc, words)? else {
         return Ok(None);
@@ -54,7 +55,8 @@ pub(crate) fn where_at<'a>(
     alloc: Global,
     words: &'a [Piece<'a>],
 ) -> Result<Option<(Filter, &'a [Piece<'a>])>, AllocError>
-    ensures { IfOk result (λ read. read_as views.filter_of read ≡ forms.where_at (plain words.now)) }
+    ensures { IfOk result (λ read. read_as views.filter_of read
+        ≡ forms.where_at (plain words.now)) }
 {
     let Some(rest) = keyword_at(words, "WHERE") else {
         return Ok(Some((Filter::All, words)));
@@ -67,7 +69,8 @@ pub(crate) fn where_at<'a>(
 
 // The filter that all of the words are.
 fn whole_where(alloc: Global, words: &[Piece<'_>]) -> Result<Option<Filter>, AllocError>
-    ensures { IfOk result (λ found. option_map views.filter_of found ≡ reading.whole (forms.where_at (plain words.now))) }
+    ensures { IfOk result (λ found. option_map views.filter_of found
+        ≡ reading.whole (forms.where_at (plain words.now))) }
 {
     let Some((filter, rest)) = where_at(alloc, words)? else {
         return Ok(None);
@@ -98,7 +101,8 @@ fn set_at<'a>(
 
 // The new value that all of the words are.
 fn whole_set(alloc: Global, words: &[Piece<'_>]) -> Result<Option<(String, Value)>, AllocError>
-    ensures { IfOk result (λ found. option_map views.set_of found ≡ forms.whole_set (plain words.now)) }
+    ensures { IfOk result (λ found. option_map views.set_of found
+        ≡ forms.whole_set (plain words.now)) }
 {
     let Some((set, rest)) = set_at(alloc, words)? else {
         return Ok(None);
@@ -114,7 +118,8 @@ fn each_set(
     alloc: Global,
     parts: &[&[Piece<'_>]],
 ) -> Result<Option<Vec<(String, Value)>>, AllocError>
-    ensures { IfOk result (λ found. option_map (λ v. map views.set_of v.items) found ≡ reading.each forms.whole_set (runs parts.now)) }
+    ensures { IfOk result (λ found. option_map (λ v. map views.set_of v.items) found
+        ≡ reading.each forms.whole_set (runs parts.now)) }
 {
     let mut found = Vec::new(alloc);
     for part in parts {
@@ -131,7 +136,8 @@ fn last_set(
     alloc: Global,
     words: &[Piece<'_>],
 ) -> Result<Option<((String, Value), Filter)>, AllocError>
-    ensures { IfOk result (λ found. option_map set_and_filter found ≡ forms.last_set (plain words.now)) }
+    ensures { IfOk result (λ found. option_map set_and_filter found
+        ≡ forms.last_set (plain words.now)) }
 {
     let Some((set, rest)) = set_at(alloc, words)? else {
         return Ok(None);
@@ -164,7 +170,8 @@ fn sets_of(
 
 /// UPDATE.
 pub(crate) fn update(alloc: Global, words: &[Piece<'_>]) -> Result<Option<Command>, AllocError>
-    ensures { IfOk result (λ command. option_map views.command_of command ≡ forms.update (plain words.now)) }
+    ensures { IfOk result (λ command. option_map views.command_of command
+        ≡ forms.update (plain words.now)) }
 {
     let Some(rest) = keyword_at(words, "UPDATE") else {
         return Ok(None);
@@ -188,7 +195,8 @@ pub(crate) fn update(alloc: Global, words: &[Piece<'_>]) -> Result<Option<Comman
 
 /// DELETE.
 pub(crate) fn delete(alloc: Global, words: &[Piece<'_>]) -> Result<Option<Command>, AllocError>
-    ensures { IfOk result (λ command. option_map views.command_of command ≡ forms.delete (plain words.now)) }
+    ensures { IfOk result (λ command. option_map views.command_of command
+        ≡ forms.delete (plain words.now)) }
 {
     let Some(rest) = keyword_at(words, "DELETE") else {
         return Ok(None);

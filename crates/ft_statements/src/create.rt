@@ -35,13 +35,15 @@ fn joined(alloc: Global, words: &[Piece<'_>]) -> Result<String, AllocError>
 
 // The words behind an equals sign, or all words where there is none.
 fn behind_equals<'a>(words: &'a [Piece<'a>]) -> &'a [Piece<'a>]
-    ensures { plain result.now ≡ (reading.optional (reading.symbol_at (codes "=") (plain words.now)) (plain words.now)).1 }
+    ensures { plain result.now ≡ (reading.optional (reading.symbol_at (codes "=") (plain words.now))
+        (plain words.now)).1 }
 {
     symbol_at(words, "=").unwrap_or(words)
 }
 
 fn tokenizer_of(alloc: Global, words: &[Piece<'_>]) -> Result<Option<Argument>, AllocError>
-    ensures { IfOk result (λ argument. option_map argument_as argument ≡ forms.tokenizer_of (plain words.now)) }
+    ensures { IfOk result (λ argument. option_map argument_as argument
+        ≡ forms.tokenizer_of (plain words.now)) }
 {
     if words.is_empty() {
         return Ok(None);
@@ -53,7 +55,8 @@ fn tokenizer_of(alloc: Global, words: &[Piece<'_>]) -> Result<Option<Argument>, 
 
 // The option `tokenize`, if it stands there with a tokenizer.
 fn tokenizer(alloc: Global, words: &[Piece<'_>]) -> Result<Option<Argument>, AllocError>
-    ensures { IfOk result (λ argument. option_map argument_as argument ≡ forms.tokenizer (plain words.now)) }
+    ensures { IfOk result (λ argument. option_map argument_as argument
+        ≡ forms.tokenizer (plain words.now)) }
 {
     match keyword_at(words, "tokenize") {
         Some(rest) => tokenizer_of(alloc, behind_equals(rest)),
@@ -63,7 +66,8 @@ fn tokenizer(alloc: Global, words: &[Piece<'_>]) -> Result<Option<Argument>, All
 
 // Any other option.
 fn setting(alloc: Global, words: &[Piece<'_>]) -> Result<Option<Argument>, AllocError>
-    ensures { IfOk result (λ argument. option_map argument_as argument ≡ forms.setting (plain words.now)) }
+    ensures { IfOk result (λ argument. option_map argument_as argument
+        ≡ forms.setting (plain words.now)) }
 {
     let Some((name, rest)) = name_at(alloc, words)? else {
         return Ok(None);
@@ -77,7 +81,8 @@ fn setting(alloc: Global, words: &[Piece<'_>]) -> Result<Option<Argument>, Alloc
 
 // A column by its name; what stands behind it is ignored.
 fn column(alloc: Global, words: &[Piece<'_>]) -> Result<Option<Argument>, AllocError>
-    ensures { IfOk result (λ argument. option_map argument_as argument ≡ forms.column (plain words.now)) }
+    ensures { IfOk result (λ argument. option_map argument_as argument
+        ≡ forms.column (plain words.now)) }
 {
     let [first, ..] = words else {
         return Ok(None);
@@ -92,7 +97,8 @@ fn column(alloc: Global, words: &[Piece<'_>]) -> Result<Option<Argument>, AllocE
 }
 
 fn argument_of(alloc: Global, words: &[Piece<'_>]) -> Result<Option<Argument>, AllocError>
-    ensures { IfOk result (λ argument. option_map argument_as argument ≡ forms.argument_of (plain words.now)) }
+    ensures { IfOk result (λ argument. option_map argument_as argument
+        ≡ forms.argument_of (plain words.now)) }
 {
     if let Some(argument) = tokenizer(alloc, words)? {
         return Ok(Some(argument));
@@ -105,7 +111,8 @@ fn argument_of(alloc: Global, words: &[Piece<'_>]) -> Result<Option<Argument>, A
 
 // The arguments that parts are.
 fn each_argument(alloc: Global, parts: &[&[Piece<'_>]]) -> Result<Option<Vec<Argument>>, AllocError>
-    ensures { IfOk result (λ found. option_map (λ v. map argument_as v.items) found ≡ reading.each forms.argument_of (runs parts.now)) }
+    ensures { IfOk result (λ found. option_map (λ v. map argument_as v.items) found
+        ≡ reading.each forms.argument_of (runs parts.now)) }
 {
     let mut found = Vec::new(alloc);
     for part in parts {
@@ -119,7 +126,8 @@ fn each_argument(alloc: Global, parts: &[&[Piece<'_>]]) -> Result<Option<Vec<Arg
 
 #[tactic(auto, using(crate::proofs::CreateLemmas::some_arguments))]
 fn arguments_of(alloc: Global, words: &[Piece<'_>]) -> Result<Option<Vec<Argument>>, AllocError>
-    ensures { IfOk result (λ found. option_map (λ v. map argument_as v.items) found ≡ forms.arguments_of (plain words.now)) }
+    ensures { IfOk result (λ found. option_map (λ v. map argument_as v.items) found
+        ≡ forms.arguments_of (plain words.now)) }
 {
     if words.is_empty() {
         return Ok(Some(Vec::new(alloc)));
@@ -130,7 +138,8 @@ fn arguments_of(alloc: Global, words: &[Piece<'_>]) -> Result<Option<Vec<Argumen
 
 // Nothing, or arguments in parentheses.
 fn arguments(alloc: Global, words: &[Piece<'_>]) -> Result<Option<Vec<Argument>>, AllocError>
-    ensures { IfOk result (λ found. option_map (λ v. map argument_as v.items) found ≡ forms.arguments (plain words.now)) }
+    ensures { IfOk result (λ found. option_map (λ v. map argument_as v.items) found
+        ≡ forms.arguments (plain words.now)) }
 {
     if words.is_empty() {
         return Ok(Some(Vec::new(alloc)));
@@ -148,8 +157,10 @@ fn push_argument(
     columns: &mut Vec<String>,
     argument: Argument,
 ) -> Result<(), AllocError>
-    ensures settings { OnOk result (settings_as options.new ≡ settings_as options.old ++ forms.settings_in (argument_as argument ∷ [])) }
-    ensures columns { OnOk result (texts_of columns.new ≡ texts_of columns.old ++ forms.columns_in (argument_as argument ∷ [])) }
+    ensures settings { OnOk result (settings_as options.new
+        ≡ settings_as options.old ++ forms.settings_in (argument_as argument ∷ [])) }
+    ensures columns { OnOk result (texts_of columns.new
+        ≡ texts_of columns.old ++ forms.columns_in (argument_as argument ∷ [])) }
 {
     match argument {
         Argument::Setting { name, value } => options.push((name, value))?,
@@ -163,8 +174,10 @@ fn sorted(
     alloc: Global,
     arguments: Vec<Argument>,
 ) -> Result<(Vec<(String, String)>, Vec<String>), AllocError>
-    ensures settings { IfOk result (λ sorted. settings_as sorted.0 ≡ forms.settings_in (map argument_as arguments.items)) }
-    ensures columns { IfOk result (λ sorted. texts_of sorted.1 ≡ forms.columns_in (map argument_as arguments.items)) }
+    ensures settings { IfOk result (λ sorted. settings_as sorted.0
+        ≡ forms.settings_in (map argument_as arguments.items)) }
+    ensures columns { IfOk result (λ sorted. texts_of sorted.1
+        ≡ forms.columns_in (map argument_as arguments.items)) }
 {
     let mut options = Vec::new(alloc);
     let mut columns = Vec::new(alloc);
@@ -175,7 +188,8 @@ fn sorted(
 }
 
 fn create_virtual_table<'a>(words: &'a [Piece<'a>]) -> Option<&'a [Piece<'a>]>
-    ensures { left result ≡ reading.keywords_at (codes "CREATE" ∷ codes "VIRTUAL" ∷ codes "TABLE" ∷ []) (plain words.now) }
+    ensures { left result ≡ reading.keywords_at
+        (codes "CREATE" ∷ codes "VIRTUAL" ∷ codes "TABLE" ∷ []) (plain words.now) }
 {
     let words = keyword_at(words, "CREATE")?;
     let words = keyword_at(words, "VIRTUAL")?;
@@ -183,7 +197,8 @@ fn create_virtual_table<'a>(words: &'a [Piece<'a>]) -> Option<&'a [Piece<'a>]>
 }
 
 pub(crate) fn if_not_exists<'a>(words: &'a [Piece<'a>]) -> Option<&'a [Piece<'a>]>
-    ensures { left result ≡ reading.keywords_at (codes "IF" ∷ codes "NOT" ∷ codes "EXISTS" ∷ []) (plain words.now) }
+    ensures { left result ≡ reading.keywords_at (codes "IF" ∷ codes "NOT" ∷ codes "EXISTS" ∷ [])
+        (plain words.now) }
 {
     let words = keyword_at(words, "IF")?;
     let words = keyword_at(words, "NOT")?;
@@ -191,7 +206,8 @@ pub(crate) fn if_not_exists<'a>(words: &'a [Piece<'a>]) -> Option<&'a [Piece<'a>
 }
 
 fn if_exists<'a>(words: &'a [Piece<'a>]) -> Option<&'a [Piece<'a>]>
-    ensures { left result ≡ reading.keywords_at (codes "IF" ∷ codes "EXISTS" ∷ []) (plain words.now) }
+    ensures { left result ≡ reading.keywords_at (codes "IF" ∷ codes "EXISTS" ∷ [])
+        (plain words.now) }
 {
     let words = keyword_at(words, "IF")?;
     keyword_at(words, "EXISTS")
@@ -212,7 +228,8 @@ pub(crate) fn optional<'a>(
 
 /// CREATE VIRTUAL TABLE.
 pub(crate) fn create(alloc: Global, words: &[Piece<'_>]) -> Result<Option<Command>, AllocError>
-    ensures { IfOk result (λ command. option_map views.command_of command ≡ forms.create (plain words.now)) }
+    ensures { IfOk result (λ command. option_map views.command_of command
+        ≡ forms.create (plain words.now)) }
 {
     let Some(rest) = create_virtual_table(words) else {
         return Ok(None);
@@ -242,7 +259,8 @@ pub(crate) fn create(alloc: Global, words: &[Piece<'_>]) -> Result<Option<Comman
 
 /// DROP TABLE.
 pub(crate) fn drop_table(alloc: Global, words: &[Piece<'_>]) -> Result<Option<Command>, AllocError>
-    ensures { IfOk result (λ command. option_map views.command_of command ≡ forms.drop_table (plain words.now)) }
+    ensures { IfOk result (λ command. option_map views.command_of command
+        ≡ forms.drop_table (plain words.now)) }
 {
     let Some(rest) = keyword_at(words, "DROP") else {
         return Ok(None);

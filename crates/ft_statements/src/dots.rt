@@ -43,7 +43,8 @@ pub enum DotCommand {
 /// The command that a dot line's words make, as their grammar says. A line without words is none; a known name with a wrong
 /// number or form of words is told how it is used; any other name is unknown.
 pub fn dot_command(alloc: Global, words: &[String]) -> Result<DotCommand, AllocError>
-    ensures command { IfOk result (λ command. command_as command ≡ forms.dot_command_of (map string_bytes words.now)) }
+    ensures command { IfOk result (λ command. command_as command
+        ≡ forms.dot_command_of (map string_bytes words.now)) }
     ensures says { IfOk result (λ command. Says (map string_bytes words.now) (command_as command)) }
 {
     line_command(alloc, words)
@@ -52,7 +53,8 @@ pub fn dot_command(alloc: Global, words: &[String]) -> Result<DotCommand, AllocE
 // The command that a dot line's words make, by its name.
 #[tactic(auto, unfolding(crate::specs::Dots::dot_command_of))]
 fn line_command(alloc: Global, words: &[String]) -> Result<DotCommand, AllocError>
-    ensures { IfOk result (λ command. command_as command ≡ forms.dot_command_of (map string_bytes words.now)) }
+    ensures { IfOk result (λ command. command_as command
+        ≡ forms.dot_command_of (map string_bytes words.now)) }
 {
     let [name, words @ ..] = words else {
         return Ok(DotCommand::Nothing);
@@ -77,7 +79,8 @@ fn print_command(
     name: &str,
     words: &[String],
 ) -> Result<Option<DotCommand>, AllocError>
-    ensures { IfOk result (λ command. option_map command_as command ≡ forms.print_command name.now (map string_bytes words.now)) }
+    ensures { IfOk result (λ command. option_map command_as command
+        ≡ forms.print_command name.now (map string_bytes words.now)) }
 {
     if name == "mode" {
         Ok(Some(mode_command(words)))
@@ -93,7 +96,8 @@ fn print_command(
 }
 
 fn mode_command(words: &[String]) -> DotCommand
-    ensures { command_as result ≡ forms.or_usage (codes ".mode list|csv|column|quote") (option_map forms.SetMode (forms.mode_in (map string_bytes words.now))) }
+    ensures { command_as result ≡ forms.or_usage (codes ".mode list|csv|column|quote")
+        (option_map forms.SetMode (forms.mode_in (map string_bytes words.now))) }
 {
     match mode_in(words) {
         Some(mode) => DotCommand::Mode(mode),
@@ -135,7 +139,8 @@ fn lone(words: &[String]) -> Option<&str>
 
 // A switch's command, or how it is used.
 fn headers_command(words: &[String]) -> DotCommand
-    ensures { command_as result ≡ forms.or_usage (codes ".headers BOOL") (option_map forms.SetHeaders (forms.switch_in (map string_bytes words.now))) }
+    ensures { command_as result ≡ forms.or_usage (codes ".headers BOOL")
+        (option_map forms.SetHeaders (forms.switch_in (map string_bytes words.now))) }
 {
     match switch_in(words) {
         Some(shown) => DotCommand::Headers(shown),
@@ -174,7 +179,9 @@ fn is_off(word: &str) -> bool
 }
 
 fn separator_command(alloc: Global, words: &[String]) -> Result<DotCommand, AllocError>
-    ensures { IfOk result (λ command. command_as command ≡ forms.or_usage (codes ".separator TEXT") (option_map forms.SetSeparator (forms.lone (map string_bytes words.now)))) }
+    ensures { IfOk result (λ command. command_as command
+        ≡ forms.or_usage (codes ".separator TEXT")
+        (option_map forms.SetSeparator (forms.lone (map string_bytes words.now)))) }
 {
     match lone(words) {
         Some(text) => Ok(DotCommand::Separator(String::from_str(alloc, text)?)),
@@ -183,7 +190,9 @@ fn separator_command(alloc: Global, words: &[String]) -> Result<DotCommand, Allo
 }
 
 fn null_command(alloc: Global, words: &[String]) -> Result<DotCommand, AllocError>
-    ensures { IfOk result (λ command. command_as command ≡ forms.or_usage (codes ".nullvalue TEXT") (option_map forms.SetNull (forms.lone (map string_bytes words.now)))) }
+    ensures { IfOk result (λ command. command_as command
+        ≡ forms.or_usage (codes ".nullvalue TEXT")
+        (option_map forms.SetNull (forms.lone (map string_bytes words.now)))) }
 {
     match lone(words) {
         Some(text) => Ok(DotCommand::Null(String::from_str(alloc, text)?)),
@@ -198,7 +207,8 @@ fn run_command(
     name: &str,
     words: &[String],
 ) -> Result<Option<DotCommand>, AllocError>
-    ensures { IfOk result (λ command. option_map command_as command ≡ forms.run_command name.now (map string_bytes words.now)) }
+    ensures { IfOk result (λ command. option_map command_as command
+        ≡ forms.run_command name.now (map string_bytes words.now)) }
 {
     if name == "print" {
         Ok(Some(DotCommand::Print(copied(alloc, words)?)))
@@ -227,7 +237,8 @@ fn copied(alloc: Global, words: &[String]) -> Result<Vec<String>, AllocError>
 }
 
 fn echo_command(words: &[String]) -> DotCommand
-    ensures { command_as result ≡ forms.or_usage (codes ".echo BOOL") (option_map forms.SetEcho (forms.switch_in (map string_bytes words.now))) }
+    ensures { command_as result ≡ forms.or_usage (codes ".echo BOOL")
+        (option_map forms.SetEcho (forms.switch_in (map string_bytes words.now))) }
 {
     match switch_in(words) {
         Some(on) => DotCommand::Echo(on),
@@ -236,7 +247,8 @@ fn echo_command(words: &[String]) -> DotCommand
 }
 
 fn bail_command(words: &[String]) -> DotCommand
-    ensures { command_as result ≡ forms.or_usage (codes ".bail BOOL") (option_map forms.SetBail (forms.switch_in (map string_bytes words.now))) }
+    ensures { command_as result ≡ forms.or_usage (codes ".bail BOOL")
+        (option_map forms.SetBail (forms.switch_in (map string_bytes words.now))) }
 {
     match switch_in(words) {
         Some(on) => DotCommand::Bail(on),
@@ -246,7 +258,8 @@ fn bail_command(words: &[String]) -> DotCommand
 
 // A command that has no words behind it.
 fn alone(command: DotCommand, usage: &'static str, words: &[String]) -> DotCommand
-    ensures { command_as result ≡ forms.alone (command_as command) usage.now (map string_bytes words.now) }
+    ensures { command_as result ≡ forms.alone (command_as command) usage.now
+        (map string_bytes words.now) }
 {
     if words.is_empty() {
         command
@@ -262,7 +275,8 @@ fn table_command(
     name: &str,
     words: &[String],
 ) -> Result<Option<DotCommand>, AllocError>
-    ensures { IfOk result (λ command. option_map command_as command ≡ forms.table_command name.now (map string_bytes words.now)) }
+    ensures { IfOk result (λ command. option_map command_as command
+        ≡ forms.table_command name.now (map string_bytes words.now)) }
 {
     if name == "import" {
         Ok(Some(import_command(alloc, words)?))
@@ -274,7 +288,9 @@ fn table_command(
 }
 
 fn import_command(alloc: Global, words: &[String]) -> Result<DotCommand, AllocError>
-    ensures { IfOk result (λ command. command_as command ≡ forms.or_usage (codes ".import [--csv] [--skip N] FILE TABLE") (option_map forms.Importing (forms.import_of (map string_bytes words.now)))) }
+    ensures { IfOk result (λ command. command_as command
+        ≡ forms.or_usage (codes ".import [--csv] [--skip N] FILE TABLE")
+        (option_map forms.Importing (forms.import_of (map string_bytes words.now)))) }
 {
     match import_of(alloc, words)? {
         Some(what) => Ok(DotCommand::Import(what)),
@@ -284,7 +300,8 @@ fn import_command(alloc: Global, words: &[String]) -> Result<DotCommand, AllocEr
 
 // The two options in any order, and then FILE and TABLE.
 fn import_of(alloc: Global, words: &[String]) -> Result<Option<Import>, AllocError>
-    ensures { IfOk result (λ what. option_map import_as what ≡ forms.import_of (map string_bytes words.now)) }
+    ensures { IfOk result (λ what. option_map import_as what
+        ≡ forms.import_of (map string_bytes words.now)) }
 {
     let (csv, rest) = csv_at(words);
     let Some((skip, rest)) = skip_at(rest) else {
@@ -369,7 +386,8 @@ fn files_of(
     skip: Option<u64>,
     words: &[String],
 ) -> Result<Option<Import>, AllocError>
-    ensures { IfOk result (λ what. option_map import_as what ≡ forms.files_of csv skip (map string_bytes words.now)) }
+    ensures { IfOk result (λ what. option_map import_as what
+        ≡ forms.files_of csv skip (map string_bytes words.now)) }
 {
     let [file, table] = words else {
         return Ok(None);

@@ -15,7 +15,8 @@ use ft_content::{Command, Value};
 use std::alloc::{AllocError, Global};
 
 fn insert_into<'a>(words: &'a [Piece<'a>]) -> Option<&'a [Piece<'a>]>
-    ensures { left result ≡ reading.keywords_at (codes "INSERT" ∷ codes "INTO" ∷ []) (plain words.now) }
+    ensures { left result ≡ reading.keywords_at (codes "INSERT" ∷ codes "INTO" ∷ [])
+        (plain words.now) }
 {
     let words = keyword_at(words, "INSERT")?;
     keyword_at(words, "INTO")
@@ -38,7 +39,8 @@ fn special_of(table: String, word: &str) -> Option<Command>
 
 // The special command of this word, where the column is named as the table.
 fn special_where(table: String, column: &str, word: &str) -> Option<Command>
-    ensures { option_map views.command_of result ≡ forms.special_where (string_bytes table) column.now word.now }
+    ensures { option_map views.command_of result
+        ≡ forms.special_where (string_bytes table) column.now word.now }
 {
     if column.eq_ignore_ascii_case(table.as_str()) {
         special_of(table, word)
@@ -49,7 +51,8 @@ fn special_where(table: String, column: &str, word: &str) -> Option<Command>
 
 /// A special command.
 pub(crate) fn special(alloc: Global, words: &[Piece<'_>]) -> Result<Option<Command>, AllocError>
-    ensures { IfOk result (λ command. option_map views.command_of command ≡ forms.special (plain words.now)) }
+    ensures { IfOk result (λ command. option_map views.command_of command
+        ≡ forms.special (plain words.now)) }
 {
     let Some(rest) = insert_into(words) else {
         return Ok(None);
@@ -77,7 +80,8 @@ pub(crate) fn special(alloc: Global, words: &[Piece<'_>]) -> Result<Option<Comma
 
 // The names that parts are.
 fn each_name(alloc: Global, parts: &[&[Piece<'_>]]) -> Result<Option<Vec<String>>, AllocError>
-    ensures { IfOk result (λ found. option_map (λ v. map string_bytes v.items) found ≡ reading.each forms.only_name (runs parts.now)) }
+    ensures { IfOk result (λ found. option_map (λ v. map string_bytes v.items) found
+        ≡ reading.each forms.only_name (runs parts.now)) }
 {
     let mut found = Vec::new(alloc);
     for part in parts {
@@ -121,7 +125,8 @@ fn columns_at<'a>(
 
 // The values that parts are.
 fn each_value(alloc: Global, parts: &[&[Piece<'_>]]) -> Result<Option<Vec<Value>>, AllocError>
-    ensures { IfOk result (λ found. option_map (λ v. map shown_value v.items) found ≡ reading.each forms.only_value (runs parts.now)) }
+    ensures { IfOk result (λ found. option_map (λ v. map shown_value v.items) found
+        ≡ reading.each forms.only_value (runs parts.now)) }
 {
     let mut found = Vec::new(alloc);
     for part in parts {
@@ -145,7 +150,8 @@ fn row_of(alloc: Global, words: &[Piece<'_>]) -> Result<Option<Vec<Value>>, Allo
 
 // The rows that parts are.
 fn each_row(alloc: Global, parts: &[&[Piece<'_>]]) -> Result<Option<Vec<Vec<Value>>>, AllocError>
-    ensures { IfOk result (λ found. option_map views.rows_of found ≡ reading.each forms.row_of (runs parts.now)) }
+    ensures { IfOk result (λ found. option_map views.rows_of found
+        ≡ reading.each forms.row_of (runs parts.now)) }
 {
     let mut found = Vec::new(alloc);
     for part in parts {
@@ -159,7 +165,8 @@ fn each_row(alloc: Global, parts: &[&[Piece<'_>]]) -> Result<Option<Vec<Vec<Valu
 
 /// INSERT.
 pub(crate) fn insert(alloc: Global, words: &[Piece<'_>]) -> Result<Option<Command>, AllocError>
-    ensures { IfOk result (λ command. option_map views.command_of command ≡ forms.insert (plain words.now)) }
+    ensures { IfOk result (λ command. option_map views.command_of command
+        ≡ forms.insert (plain words.now)) }
 {
     let Some(rest) = insert_into(words) else {
         return Ok(None);

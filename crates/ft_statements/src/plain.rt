@@ -71,7 +71,8 @@ fn table_at<'a>(words: &'a [Piece<'a>]) -> Option<&'a [Piece<'a>]>
 }
 
 fn made_name(alloc: Global, words: &[Piece<'_>]) -> Result<Option<String>, AllocError>
-    ensures { IfOk result (λ name. option_map string_bytes name ≡ forms.made_name (plain words.now)) }
+    ensures { IfOk result (λ name. option_map string_bytes name
+        ≡ forms.made_name (plain words.now)) }
 {
     let Some(rest) = keyword_at(words, "CREATE") else {
         return Ok(None);
@@ -94,8 +95,10 @@ pub fn read_plain(
     words: &[SqlWord],
 ) -> Result<PlainStatement, AllocError>
     requires { words.now ≡ words_of text.now }
-    ensures asks { IfOk result (λ statement. statement.asks ≡ forms.asks (tokens.tokens_of text.now)) }
-    ensures made { IfOk result (λ statement. option_map string_bytes statement.made ≡ forms.made_name (tokens.tokens_of text.now)) }
+    ensures asks { IfOk result (λ statement. statement.asks
+        ≡ forms.asks (tokens.tokens_of text.now)) }
+    ensures made { IfOk result (λ statement. option_map string_bytes statement.made
+        ≡ forms.made_name (tokens.tokens_of text.now)) }
 {
     let pieces = pieces_of(alloc, text, words)?;
     let asks = asks(pieces.as_slice());

@@ -149,7 +149,8 @@ pub(crate) fn front_and_last<'a, 'b>(
 
 // The name that the words are, if they are one.
 pub(crate) fn only_name(alloc: Global, words: &[Piece<'_>]) -> Result<Option<String>, AllocError>
-    ensures { IfOk result (λ name. option_map string_bytes name ≡ inserts.only_name (plain words.now)) }
+    ensures { IfOk result (λ name. option_map string_bytes name
+        ≡ inserts.only_name (plain words.now)) }
 {
     match words {
         [word] => name_of(alloc, word),
@@ -159,7 +160,8 @@ pub(crate) fn only_name(alloc: Global, words: &[Piece<'_>]) -> Result<Option<Str
 
 // The text that the words are, if they are one.
 pub(crate) fn only_literal(alloc: Global, words: &[Piece<'_>]) -> Result<Option<String>, AllocError>
-    ensures { IfOk result (λ text. option_map string_bytes text ≡ inserts.only_literal (plain words.now)) }
+    ensures { IfOk result (λ text. option_map string_bytes text
+        ≡ inserts.only_literal (plain words.now)) }
 {
     match words {
         [word] => literal_of(alloc, word),

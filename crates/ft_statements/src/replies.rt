@@ -24,7 +24,8 @@ fn cell_of(value: Value) -> Cell
 }
 
 fn row_of(alloc: Global, values: Vec<Value>) -> Result<Vec<Cell>, AllocError>
-    ensures { IfOk result (λ row. map print.value_of row.items ≡ map forms.cell_value (views.cells_of values)) }
+    ensures { IfOk result (λ row. map print.value_of row.items
+        ≡ map forms.cell_value (views.cells_of values)) }
 {
     let mut row = Vec::new(alloc);
     for value in values {
@@ -34,7 +35,8 @@ fn row_of(alloc: Global, values: Vec<Value>) -> Result<Vec<Cell>, AllocError>
 }
 
 fn rows_of(alloc: Global, rows: Vec<Vec<Value>>) -> Result<Vec<Vec<Cell>>, AllocError>
-    ensures { IfOk result (λ cells. map (λ row. map print.value_of row.items) cells.items ≡ map (map forms.cell_value) (views.rows_of rows)) }
+    ensures { IfOk result (λ cells. map (λ row. map print.value_of row.items) cells.items
+        ≡ map (map forms.cell_value) (views.rows_of rows)) }
 {
     let mut cells = Vec::new(alloc);
     for row in rows {
@@ -62,8 +64,11 @@ pub fn write_reply<W: Write>(
     reply: Reply,
     out: &mut W,
 ) -> Result<(), PrintFault>
-    ensures ok { OnOk result (Appends (W.contents out.old) (W.contents out.new) (forms.reply_text settings.now (views.reply_of reply))) }
-    ensures write { IsErrOf result PrintFault.Write → AppendsFront (W.contents out.old) (W.contents out.new) (forms.reply_text settings.now (views.reply_of reply)) }
+    ensures ok { OnOk result (Appends (W.contents out.old) (W.contents out.new)
+        (forms.reply_text settings.now (views.reply_of reply))) }
+    ensures write { IsErrOf result PrintFault.Write
+        → AppendsFront (W.contents out.old) (W.contents out.new)
+        (forms.reply_text settings.now (views.reply_of reply)) }
     ensures memory { IsErrOf result PrintFault.Memory → W.contents out.new ≡ W.contents out.old }
 {
     match reply {

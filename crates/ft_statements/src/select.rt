@@ -18,7 +18,8 @@ fn offsets_at<'a>(
     alloc: Global,
     words: &'a [Piece<'a>],
 ) -> Result<Option<(Item, &'a [Piece<'a>])>, AllocError>
-    ensures { IfOk result (λ read. read_as views.item_of read ≡ forms.offsets_at (plain words.now)) }
+    ensures { IfOk result (λ read. read_as views.item_of read
+        ≡ forms.offsets_at (plain words.now)) }
 {
     let Some(rest) = keyword_at(words, "offsets") else {
         return Ok(None);
@@ -53,7 +54,8 @@ fn item_at<'a>(
 
 // The item that all of the words are.
 fn whole_item(alloc: Global, words: &[Piece<'_>]) -> Result<Option<Item>, AllocError>
-    ensures { IfOk result (λ item. option_map views.item_of item ≡ forms.whole_item (plain words.now)) }
+    ensures { IfOk result (λ item. option_map views.item_of item
+        ≡ forms.whole_item (plain words.now)) }
 {
     let Some((item, rest)) = item_at(alloc, words)? else {
         return Ok(None);
@@ -66,7 +68,8 @@ fn whole_item(alloc: Global, words: &[Piece<'_>]) -> Result<Option<Item>, AllocE
 
 // The items that parts are.
 fn each_item(alloc: Global, parts: &[&[Piece<'_>]]) -> Result<Option<Vec<Item>>, AllocError>
-    ensures { IfOk result (λ found. option_map (λ v. map views.item_of v.items) found ≡ reading.each forms.whole_item (runs parts.now)) }
+    ensures { IfOk result (λ found. option_map (λ v. map views.item_of v.items) found
+        ≡ reading.each forms.whole_item (runs parts.now)) }
 {
     let mut found = Vec::new(alloc);
     for part in parts {
@@ -127,7 +130,8 @@ fn selection_at<'a>(
     alloc: Global,
     words: &'a [Piece<'a>],
 ) -> Result<Option<(Items, &'a [Piece<'a>])>, AllocError>
-    ensures { IfOk result (λ read. read_as views.items_of read ≡ forms.selection_at (plain words.now)) }
+    ensures { IfOk result (λ read. read_as views.items_of read
+        ≡ forms.selection_at (plain words.now)) }
 {
     if let Some(read) = count_at(words) {
         return Ok(Some(read));
@@ -140,7 +144,8 @@ fn selection_at<'a>(
 }
 
 fn order_by<'a>(words: &'a [Piece<'a>]) -> Option<&'a [Piece<'a>]>
-    ensures { left result ≡ reading.keywords_at (codes "ORDER" ∷ codes "BY" ∷ []) (plain words.now) }
+    ensures { left result ≡ reading.keywords_at (codes "ORDER" ∷ codes "BY" ∷ [])
+        (plain words.now) }
 {
     let words = keyword_at(words, "ORDER")?;
     keyword_at(words, "BY")
@@ -191,7 +196,8 @@ fn limits_of(words: &[Piece<'_>]) -> Option<(Option<u64>, u64)>
 
 /// SELECT.
 pub(crate) fn select(alloc: Global, words: &[Piece<'_>]) -> Result<Option<Command>, AllocError>
-    ensures { IfOk result (λ command. option_map views.command_of command ≡ forms.select (plain words.now)) }
+    ensures { IfOk result (λ command. option_map views.command_of command
+        ≡ forms.select (plain words.now)) }
 {
     let Some(rest) = keyword_at(words, "SELECT") else {
         return Ok(None);

@@ -10,9 +10,11 @@ use std::alloc::{AllocError, Global};
 
 /// Sets what the command sets, if it sets anything. After a fault all is as it was.
 pub fn apply(settings: &mut Settings, command: &DotCommand) -> Result<(), SetFault>
-    ensures ok { OnOk result (settings.new ≡ forms.settings_after (command_as command.now) settings.old) }
+    ensures ok { OnOk result (settings.new ≡ forms.settings_after (command_as command.now)
+        settings.old) }
     ensures good { OnOk result (forms.may_set (command_as command.now) settings.old ≡ true) }
-    ensures bad { IsErrOf result SetFault.BadSeparator → forms.may_set (command_as command.now) settings.old ≡ false }
+    ensures bad { IsErrOf result SetFault.BadSeparator
+        → forms.may_set (command_as command.now) settings.old ≡ false }
     ensures err { OnErr result (settings.new ≡ settings.old) }
 {
     match command {
@@ -33,7 +35,8 @@ pub fn apply(settings: &mut Settings, command: &DotCommand) -> Result<(), SetFau
 
 /// What `.print` writes.
 pub fn print_text(alloc: Global, words: &[String]) -> Result<String, AllocError>
-    ensures { IfOk result (λ text. string_bytes text ≡ forms.print_text (map string_bytes words.now)) }
+    ensures { IfOk result (λ text. string_bytes text
+        ≡ forms.print_text (map string_bytes words.now)) }
 {
     let mut text = words_text(alloc, words)?;
     text.push('\n')?;
@@ -42,7 +45,8 @@ pub fn print_text(alloc: Global, words: &[String]) -> Result<String, AllocError>
 
 // Words with a space between each two.
 fn words_text(alloc: Global, words: &[String]) -> Result<String, AllocError>
-    ensures { IfOk result (λ text. string_bytes text ≡ join_with_byte 32 (map string_bytes words.now)) }
+    ensures { IfOk result (λ text. string_bytes text
+        ≡ join_with_byte 32 (map string_bytes words.now)) }
 {
     let [first, rest @ ..] = words else {
         return Ok(String::new(alloc));

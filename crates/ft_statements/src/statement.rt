@@ -67,7 +67,8 @@ fn without_end<'a>(words: &'a [Piece<'a>]) -> &'a [Piece<'a>]
 // The command that words spell, if they spell one.
 #[tactic(auto, unfolding(crate::specs::Statements::command_of))]
 fn command_of(alloc: Global, words: &[Piece<'_>]) -> Result<Option<Command>, AllocError>
-    ensures { IfOk result (λ command. option_map views.command_of command ≡ forms.command_of (plain words.now)) }
+    ensures { IfOk result (λ command. option_map views.command_of command
+        ≡ forms.command_of (plain words.now)) }
 {
     if let Some(command) = create(alloc, words)? {
         return Ok(Some(command));
@@ -111,7 +112,8 @@ pub(crate) fn has_table(tables: &[TableInfo], name: &str) -> bool
 
 // Whether this word is the name of one of these tables.
 fn is_table(alloc: Global, tables: &[TableInfo], word: &Piece<'_>) -> Result<bool, AllocError>
-    ensures { IfOk result (λ is. is ≡ forms.is_table (views.info_names tables.now) (seen word.now)) }
+    ensures { IfOk result (λ is. is ≡ forms.is_table (views.info_names tables.now)
+        (seen word.now)) }
 {
     match name_of(alloc, word)? {
         Some(name) => Ok(has_table(tables, name.as_str())),
@@ -121,7 +123,8 @@ fn is_table(alloc: Global, tables: &[TableInfo], word: &Piece<'_>) -> Result<boo
 
 // Whether one of these tables is named behind a word that leads to it.
 fn names_table(alloc: Global, tables: &[TableInfo], words: &[Piece<'_>]) -> Result<bool, AllocError>
-    ensures { IfOk result (λ names. names ≡ forms.names_table (views.info_names tables.now) (plain words.now)) }
+    ensures { IfOk result (λ names. names ≡ forms.names_table (views.info_names tables.now)
+        (plain words.now)) }
 {
     for place in 1..words.len() {
         if leads(&words[place - 1]) && is_table(alloc, tables, &words[place])? {
@@ -132,7 +135,8 @@ fn names_table(alloc: Global, tables: &[TableInfo], words: &[Piece<'_>]) -> Resu
 }
 
 fn creates_virtual(words: &[Piece<'_>]) -> bool
-    ensures { result ≡ is_some (reading.keywords_at (codes "CREATE" ∷ codes "VIRTUAL" ∷ []) (plain words.now)) }
+    ensures { result ≡ is_some (reading.keywords_at (codes "CREATE" ∷ codes "VIRTUAL" ∷ [])
+        (plain words.now)) }
 {
     match keyword_at(words, "CREATE") {
         Some(rest) => keyword_at(rest, "VIRTUAL").is_some(),
@@ -145,7 +149,8 @@ fn is_full_text(
     tables: &[TableInfo],
     words: &[Piece<'_>],
 ) -> Result<bool, AllocError>
-    ensures { IfOk result (λ is. is ≡ forms.is_full_text (views.info_names tables.now) (plain words.now)) }
+    ensures { IfOk result (λ is. is ≡ forms.is_full_text (views.info_names tables.now)
+        (plain words.now)) }
 {
     if creates_virtual(words) {
         return Ok(true);
@@ -165,8 +170,10 @@ pub fn read_statement(
     tables: &[TableInfo],
 ) -> Result<Class, StatementFault>
     requires { words.now ≡ words_of text.now }
-    ensures class { IfOk result (λ class. forms.class_of (views.info_names tables.now) (tokens.tokens_of text.now) ≡ Some (class_as class)) }
-    ensures syntax { IsErrOf result StatementFault.Syntax → forms.class_of (views.info_names tables.now) (tokens.tokens_of text.now) ≡ None }
+    ensures class { IfOk result (λ class. forms.class_of (views.info_names tables.now)
+        (tokens.tokens_of text.now) ≡ Some (class_as class)) }
+    ensures syntax { IsErrOf result StatementFault.Syntax
+        → forms.class_of (views.info_names tables.now) (tokens.tokens_of text.now) ≡ None }
     ensures spelled { IfOk result (λ class.
         HasClass (views.info_names tables.now) (tokens.tokens_of text.now) (class_as class)) }
     ensures unspelled { IsErrOf result StatementFault.Syntax → (class : forms.Class) →

@@ -25,7 +25,8 @@ fn all_names(
     tables: &[TableInfo],
     found: Vec<String>,
 ) -> Result<Vec<String>, AllocError>
-    ensures { IfOk result (λ names. texts_of names ≡ forms.listed (views.info_names tables.now) (texts_of found)) }
+    ensures { IfOk result (λ names. texts_of names
+        ≡ forms.listed (views.info_names tables.now) (texts_of found)) }
 {
     let mut names = own_names(alloc, tables)?;
     for name in found {
@@ -43,7 +44,8 @@ pub fn listed_tables(
     tables: &[TableInfo],
     found: Vec<String>,
 ) -> Result<Vec<String>, AllocError>
-    ensures { IfOk result (λ names. forms.AreSorted (forms.listed (views.info_names tables.now) (texts_of found)) (texts_of names)) }
+    ensures { IfOk result (λ names. forms.AreSorted
+        (forms.listed (views.info_names tables.now) (texts_of found)) (texts_of names)) }
 {
     let mut names = all_names(alloc, tables, found)?;
     names.sort()?;

@@ -110,7 +110,8 @@ pub(crate) fn value_at<'a>(
 
 // The value that the words are.
 pub(crate) fn only_value(alloc: Global, words: &[Piece<'_>]) -> Result<Option<Value>, AllocError>
-    ensures { IfOk result (λ value. option_map shown_value value ≡ inserts.only_value (plain words.now)) }
+    ensures { IfOk result (λ value. option_map shown_value value
+        ≡ inserts.only_value (plain words.now)) }
 {
     match value_at(alloc, words)? {
         Some((value, [])) => Ok(Some(value)),

@@ -62,7 +62,8 @@ fn all_but_last(characters: &[char]) -> &[char]
 
 // The characters, with one mark for two.
 fn halved(alloc: Global, mark: char, characters: &[char]) -> Result<String, AllocError>
-    ensures { IfOk result (λ found. string_bytes found ≡ encode_utf8_all (forms.halved mark false characters.now)) }
+    ensures { IfOk result (λ found. string_bytes found
+        ≡ encode_utf8_all (forms.halved mark false characters.now)) }
 {
     let mut found = String::new(alloc);
     let mut after = false;
@@ -78,7 +79,8 @@ fn halved(alloc: Global, mark: char, characters: &[char]) -> Result<String, Allo
 }
 
 fn between_marks(alloc: Global, characters: &[char]) -> Result<String, AllocError>
-    ensures { IfOk result (λ found. string_bytes found ≡ encode_utf8_all (forms.between_marks characters.now)) }
+    ensures { IfOk result (λ found. string_bytes found
+        ≡ encode_utf8_all (forms.between_marks characters.now)) }
 {
     match characters {
         [mark, rest @ ..] => halved(alloc, closing(*mark), all_but_last(rest)),
@@ -115,7 +117,8 @@ pub(crate) fn name_of(alloc: Global, piece: &Piece<'_>) -> Result<Option<String>
 
 // The text of a literal, if a word is one.
 pub(crate) fn literal_of(alloc: Global, piece: &Piece<'_>) -> Result<Option<String>, AllocError>
-    ensures { IfOk result (λ text. option_map string_bytes text ≡ forms.literal_of (seen piece.now)) }
+    ensures { IfOk result (λ text. option_map string_bytes text
+        ≡ forms.literal_of (seen piece.now)) }
 {
     match piece.kind {
         SqlKind::Text => Ok(Some(bare(alloc, piece)?)),

@@ -21,7 +21,8 @@ use sqlite_schema::schema::Schema;
 fn version_answer<S: Alter>(conn: &mut Connection<S>) -> Result<Vec<Row>, SqlError>
     requires settled { (state S.Store conn.old).in_transaction ≡ false }
     ensures told { HasCleanDisk (state S.Store conn.new) → TellsAs S.Store conn.old result }
-    ensures kept { HasCleanDisk (state S.Store conn.new) → Keeps (state S.Store conn.old) (state S.Store conn.new) }
+    ensures kept { HasCleanDisk (state S.Store conn.new)
+        → Keeps (state S.Store conn.old) (state S.Store conn.new) }
     ensures mode { (state S.Store conn.new).in_transaction ≡ false }
     ensures survives { Survives (state S.Store conn.old) (state S.Store conn.new) (λ _. ⊥) }
 {
@@ -100,10 +101,14 @@ fn names_ours(schema: &Schema) -> bool
 /// Why a database with other tables is not taken. It changes nothing.
 fn foreign<S: Alter>(conn: &mut Connection<S>) -> StoreFault
     requires settled { (state S.Store conn.old).in_transaction ≡ false }
-    ensures none { has_our_name (state S.Store conn.old).now.schema ≡ false → result ≡ StoreFault.Refused }
-    ensures told { HasCleanDisk (state S.Store conn.new) → IsTrue (has_our_name (state S.Store conn.old).now.schema) → (found : _) × TellsAs S.Store conn.old found × (result ≡ told_cause found) }
+    ensures none { has_our_name (state S.Store conn.old).now.schema ≡ false
+        → result ≡ StoreFault.Refused }
+    ensures told { HasCleanDisk (state S.Store conn.new)
+        → IsTrue (has_our_name (state S.Store conn.old).now.schema) → (found : _)
+        × TellsAs S.Store conn.old found × (result ≡ told_cause found) }
     ensures cause { IsAdoptFault result }
-    ensures kept { HasCleanDisk (state S.Store conn.new) → Keeps (state S.Store conn.old) (state S.Store conn.new) }
+    ensures kept { HasCleanDisk (state S.Store conn.new)
+        → Keeps (state S.Store conn.old) (state S.Store conn.new) }
     ensures mode { (state S.Store conn.new).in_transaction ≡ false }
     ensures survives { Survives (state S.Store conn.old) (state S.Store conn.new) (λ _. ⊥) }
 {

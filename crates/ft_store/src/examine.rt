@@ -80,9 +80,13 @@ fn is_numbered<S: Alter>(
     at: usize,
 ) -> Result<bool, StoreFault>
     requires within { at < tables_of layout }
-    requires schema { HasCleanDisk (state S.Store conn.old) → IsTrue (state S.Store conn.old).is_open → (state S.Store conn.old).now.schema ≡ schema_of layout }
+    requires schema { HasCleanDisk (state S.Store conn.old)
+        → IsTrue (state S.Store conn.old).is_open
+        → (state S.Store conn.old).now.schema ≡ schema_of layout }
     requires settled { (state S.Store conn.old).in_transaction ≡ false }
-    ensures own { HasCleanDisk (state S.Store conn.new) → IfOk result (λ b. IsTrue b → HasOwnRowids ((state S.Store conn.old).now.trees (tree_at at))) }
+    ensures own { HasCleanDisk (state S.Store conn.new)
+        → IfOk result (λ b. IsTrue b
+        → HasOwnRowids ((state S.Store conn.old).now.trees (tree_at at))) }
     ensures read { Reads S.Store conn.old conn.new result }
     ensures fault { IfErr result IsPlainFault }
 {
@@ -92,7 +96,8 @@ fn is_numbered<S: Alter>(
 
 /// The version, where `meta` has one row.
 fn only_number(rows: &[Row]) -> Result<Option<i64>, StoreFault>
-    ensures one { IfOk result (λ o. MatchOption o (length rows.now ≢ 1) (λ n. map (λ r. column r 0) rows.now ≡ Int n ∷ [])) }
+    ensures one { IfOk result (λ o. MatchOption o (length rows.now ≢ 1)
+        (λ n. map (λ r. column r 0) rows.now ≡ Int n ∷ [])) }
     ensures fault { IfErr result IsPlainFault }
 {
     match rows {
@@ -103,9 +108,13 @@ fn only_number(rows: &[Row]) -> Result<Option<i64>, StoreFault>
 
 /// The version, where `meta` has one row.
 fn version<S: Alter>(conn: &mut Connection<S>, layout: Layout) -> Result<Option<i64>, StoreFault>
-    requires schema { HasCleanDisk (state S.Store conn.old) → IsTrue (state S.Store conn.old).is_open → (state S.Store conn.old).now.schema ≡ schema_of layout }
+    requires schema { HasCleanDisk (state S.Store conn.old)
+        → IsTrue (state S.Store conn.old).is_open
+        → (state S.Store conn.old).now.schema ≡ schema_of layout }
     requires settled { (state S.Store conn.old).in_transaction ≡ false }
-    ensures one { HasCleanDisk (state S.Store conn.new) → IfOk result (λ o. MatchOption o (length ((state S.Store conn.old).now.trees 0) ≢ 1) (λ n. map (λ r. column r 2) ((state S.Store conn.old).now.trees 0) ≡ Int n ∷ [])) }
+    ensures one { HasCleanDisk (state S.Store conn.new)
+        → IfOk result (λ o. MatchOption o (length ((state S.Store conn.old).now.trees 0) ≢ 1)
+        (λ n. map (λ r. column r 2) ((state S.Store conn.old).now.trees 0) ≡ Int n ∷ [])) }
     ensures read { Reads S.Store conn.old conn.new result }
     ensures fault { IfErr result IsPlainFault }
 {
@@ -115,15 +124,21 @@ fn version<S: Alter>(conn: &mut Connection<S>, layout: Layout) -> Result<Option<
 
 /// Whether no two rows of any table have one rowid.
 fn are_numbered<S: Alter>(conn: &mut Connection<S>, layout: Layout) -> Result<bool, StoreFault>
-    requires schema { HasCleanDisk (state S.Store conn.old) → IsTrue (state S.Store conn.old).is_open → (state S.Store conn.old).now.schema ≡ schema_of layout }
+    requires schema { HasCleanDisk (state S.Store conn.old)
+        → IsTrue (state S.Store conn.old).is_open
+        → (state S.Store conn.old).now.schema ≡ schema_of layout }
     requires settled { (state S.Store conn.old).in_transaction ≡ false }
-    ensures own { HasCleanDisk (state S.Store conn.new) → IfOk result (λ b. IsTrue b → AreNumbered (schema_of layout).tables (state S.Store conn.old).now.trees) }
-    ensures kept { HasCleanDisk (state S.Store conn.new) → Keeps (state S.Store conn.old) (state S.Store conn.new) }
+    ensures own { HasCleanDisk (state S.Store conn.new)
+        → IfOk result (λ b. IsTrue b
+        → AreNumbered (schema_of layout).tables (state S.Store conn.old).now.trees) }
+    ensures kept { HasCleanDisk (state S.Store conn.new)
+        → Keeps (state S.Store conn.old) (state S.Store conn.new) }
     ensures live { HasCleanDisk (state S.Store conn.new) → IsTrue (state S.Store conn.old).is_open
         → OnOk result (IsTrue (state S.Store conn.new).is_open) }
     ensures fault { IfErr result IsPlainFault }
     ensures mode { (state S.Store conn.new).in_transaction ≡ false }
-    ensures survives { Survives (state S.Store conn.old) (state S.Store conn.new) (λ _. IsTrue (state S.Store conn.old).is_open → ⊥) }
+    ensures survives { Survives (state S.Store conn.old) (state S.Store conn.new)
+        (λ _. IsTrue (state S.Store conn.old).is_open → ⊥) }
 {
     for at in 0..tables_in(layout) {
         if !is_numbered(conn, layout, at)? {
@@ -151,7 +166,8 @@ fn judge(found: Option<i64>, layout: Layout) -> Result<(), StoreFault>
 
 /// Whether a database with the tables of a store is a store. Nothing changes.
 pub(crate) fn examine<S: Alter>(conn: &mut Connection<S>, layout: Layout) -> Result<(), StoreFault>
-    requires schema { HasCleanDisk (state S.Store conn.old) → IsTrue (state S.Store conn.old).is_open
+    requires schema { HasCleanDisk (state S.Store conn.old)
+        → IsTrue (state S.Store conn.old).is_open
         → (state S.Store conn.old).now.schema ≡ schema_of layout }
     requires settled { (state S.Store conn.old).in_transaction ≡ false }
     ensures store { HasCleanDisk (state S.Store conn.new)

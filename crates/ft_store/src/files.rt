@@ -36,9 +36,11 @@ const CHECKPOINT_FRAMES: usize = 4000;
 
 // The files of a database, as they are opened.
 fn open_pair<S: Start>(rt: &HostRuntime, path: &str, start: S) -> Result<Files<FileFrom<S>>, Error>
-    ensures memory { path.now ≡ codes ":memory:" → result ≡ Err (Error.SqliteFailure ErrorCode.CannotOpen) }
+    ensures memory { path.now ≡ codes ":memory:"
+        → result ≡ Err (Error.SqliteFailure ErrorCode.CannotOpen) }
     ensures named { IfErr result (λ e. IsTrue (is_open_error e)) }
-    ensures usable { IfOk result (λ files. IsTrue (file_is_usable S.Start files.log) × IsTrue (file_is_usable S.Start files.db)) }
+    ensures usable { IfOk result (λ files. IsTrue (file_is_usable S.Start files.log)
+        × IsTrue (file_is_usable S.Start files.db)) }
     ensures fresh { IfOk result (λ files. IsFresh true files.log × IsFresh false files.db) }
 {
     if path == ":memory:" || path.starts_with("file:") {
@@ -83,10 +85,12 @@ pub fn open_database<S: Start>(
     path: &str,
     start: S,
 ) -> Result<Connection<FileStore<FileFrom<S>>>, Error>
-    ensures memory { path.now ≡ codes ":memory:" → result ≡ Err (Error.SqliteFailure ErrorCode.CannotOpen) }
+    ensures memory { path.now ≡ codes ":memory:"
+        → result ≡ Err (Error.SqliteFailure ErrorCode.CannotOpen) }
     ensures named { IfErr result (λ e. IsTrue (is_open_error e)) }
     ensures opened { IfOk result (λ c. HasCleanDisk (file_state c) → IsOpened c) }
-    ensures found { IfOk result (λ c. HasCleanDisk (file_state c) → FindsIn (image_at S.Start) (file_state c)) }
+    ensures found { IfOk result (λ c. HasCleanDisk (file_state c)
+        → FindsIn (image_at S.Start) (file_state c)) }
     ensures fresh { IfOk result IsNew }
 {
     let files = open_pair(rt, path, start)?;
@@ -108,7 +112,8 @@ pub(crate) fn open_for_store<S: Start>(
 ) -> Result<Connection<FileStore<FileFrom<S>>>, StoreFault>
     ensures memory { path.now ≡ codes ":memory:" → result ≡ Err fault.Refused }
     ensures opened { IfOk result (λ c. HasCleanDisk (file_state c) → IsOpened c) }
-    ensures found { IfOk result (λ c. HasCleanDisk (file_state c) → FindsIn (image_at S.Start) (file_state c)) }
+    ensures found { IfOk result (λ c. HasCleanDisk (file_state c)
+        → FindsIn (image_at S.Start) (file_state c)) }
     ensures fresh { IfOk result IsNew }
     ensures fault { IfErr result IsPlainFault }
 {

@@ -58,7 +58,8 @@ impl Gathered for ListsOf {
     ghost use Rattle.ft_store.specs.Shown.{shown_list, AreWhole, SomeDamaged};
 
     ghost is_made_of = { λ made whole rows. MatchBool whole
-        ((map shown_list made.lists.items ≡ map found_spots rows) × AreWhole (map found_spots rows)) (SomeDamaged (map found_spots rows)) };
+        ((map shown_list made.lists.items ≡ map found_spots rows) × AreWhole (map found_spots rows))
+        (SomeDamaged (map found_spots rows)) };
 
     fn add(&mut self, whole: bool, row: &Row) -> Result<bool, StoreFault> {
         if !whole {
@@ -82,11 +83,14 @@ fn select_lists<S: Alter>(
     requires plain { HasCleanDisk (state S.Store conn.old) → IsTrue (state S.Store conn.old).is_open
         → IsPlain (understood (state S.Store conn.old).now.schema sql.now) }
     requires settled { (state S.Store conn.old).in_transaction ≡ false }
-    ensures found { HasCleanDisk (state S.Store conn.new) → IfOk result (λ lists. (rows : List order.Row)
+    ensures found { HasCleanDisk (state S.Store conn.new)
+        → IfOk result (λ lists. (rows : List order.Row)
         × Shown sql.now (bound params.now) (state S.Store conn.old) (state S.Store conn.new) rows
         × (map shown_list lists.items ≡ map found_spots rows) × AreWhole (map found_spots rows)) }
-    ensures damaged { HasCleanDisk (state S.Store conn.new) → result ≡ Err StoreFault.Damaged → (rows : List order.Row)
-        × Shown sql.now (bound params.now) (state S.Store conn.old) (state S.Store conn.new) rows × SomeDamaged (map found_spots rows) }
+    ensures damaged { HasCleanDisk (state S.Store conn.new) → result ≡ Err StoreFault.Damaged
+        → (rows : List order.Row)
+        × Shown sql.now (bound params.now) (state S.Store conn.old) (state S.Store conn.new) rows
+        × SomeDamaged (map found_spots rows) }
     ensures fault { IfErr result IsReadFault }
     ensures read { Reads S.Store conn.old conn.new result }
 {
@@ -119,7 +123,8 @@ fn push_entries(
     term: &str,
     list: &ListRow,
 ) -> Result<(), AllocError>
-    ensures { OnOk result (map shown_entry entries.new.items ≡ map shown_entry entries.old.items ++ entries_with term.now (shown_list list.now)) }
+    ensures { OnOk result (map shown_entry entries.new.items
+        ≡ map shown_entry entries.old.items ++ entries_with term.now (shown_list list.now)) }
 {
     for spot in &list.spots {
         let term = String::from_str(alloc, term)?;
@@ -145,7 +150,8 @@ impl Gathered for EntriesOf {
     ghost use Rattle.ft_store.specs.Shown.{shown_entry, entries_of, AreWhole, SomeDamaged};
 
     ghost is_made_of = { λ made whole rows. (tab : ℤ) → MatchBool whole
-        ((map shown_entry made.entries.items ≡ entries_of (map (found_places tab) rows)) × AreWhole (map (found_places tab) rows))
+        ((map shown_entry made.entries.items ≡ entries_of (map (found_places tab) rows))
+        × AreWhole (map (found_places tab) rows))
         (SomeDamaged (map (found_places tab) rows)) };
 
     fn add(&mut self, whole: bool, row: &Row) -> Result<bool, StoreFault> {
@@ -171,15 +177,19 @@ fn select_entries<S: Alter>(
     requires plain { HasCleanDisk (state S.Store conn.old) → IsTrue (state S.Store conn.old).is_open
         → IsPlain (understood (state S.Store conn.old).now.schema sql.now) }
     requires settled { (state S.Store conn.old).in_transaction ≡ false }
-    ensures found { HasCleanDisk (state S.Store conn.new) → IfOk result (λ entries. (rows : List order.Row)
+    ensures found { HasCleanDisk (state S.Store conn.new)
+        → IfOk result (λ entries. (rows : List order.Row)
         × Shown sql.now (bound params.now) (state S.Store conn.old) (state S.Store conn.new) rows
-        × ((tab : ℤ) → (map shown_entry entries.items ≡ entries_of (map (found_places tab) rows)) × AreWhole (map (found_places tab) rows))) }
-    ensures damaged { HasCleanDisk (state S.Store conn.new) → result ≡ Err StoreFault.Damaged → (rows : List order.Row)
+        × ((tab : ℤ) → (map shown_entry entries.items ≡ entries_of (map (found_places tab) rows))
+        × AreWhole (map (found_places tab) rows))) }
+    ensures damaged { HasCleanDisk (state S.Store conn.new) → result ≡ Err StoreFault.Damaged
+        → (rows : List order.Row)
         × Shown sql.now (bound params.now) (state S.Store conn.old) (state S.Store conn.new) rows
         × ((tab : ℤ) → SomeDamaged (map (found_places tab) rows)) }
     ensures fault { IfErr result IsReadFault }
     ensures read { Reads S.Store conn.old conn.new result }
-    ensures stays { HasCleanDisk (state S.Store conn.new) → result ≡ Err StoreFault.Damaged → IsTrue (state S.Store conn.new).is_open }
+    ensures stays { HasCleanDisk (state S.Store conn.new) → result ≡ Err StoreFault.Damaged
+        → IsTrue (state S.Store conn.new).is_open }
 {
     let mut found = EntriesOf {
         alloc,
@@ -194,7 +204,8 @@ fn select_entries<S: Alter>(
 
 /// The entries of lists of one term, in their order.
 fn term_entries(alloc: Global, term: &str, lists: &[ListRow]) -> Result<Vec<EntryRow>, AllocError>
-    ensures { IfOk result (λ entries. map shown_entry entries.items ≡ flat_map (entries_with term.now) (map shown_list lists.now)) }
+    ensures { IfOk result (λ entries. map shown_entry entries.items
+        ≡ flat_map (entries_with term.now) (map shown_list lists.now)) }
 {
     let mut entries = Vec::new(alloc);
     for list in lists {
@@ -215,7 +226,8 @@ pub(crate) fn term_lists<S: Alter>(
     requires store { IsStoreIfOpen (state S.Store conn.old) }
     requires settled { (state S.Store conn.old).in_transaction ≡ false }
     ensures rows { HasCleanDisk (state S.Store conn.new)
-        → IfOk result (λ found. AreRead (lists_of_term tab term.now (value_of (state S.Store conn.old).now.trees)) found.items) }
+        → IfOk result (λ found. AreRead (lists_of_term tab term.now
+        (value_of (state S.Store conn.old).now.trees)) found.items) }
     ensures damaged { HasCleanDisk (state S.Store conn.new) → result ≡ Err StoreFault.Damaged
         → SomeDamaged (lists_of_term tab term.now (value_of (state S.Store conn.old).now.trees)) }
     ensures fault { IfErr result IsReadFault }
@@ -238,8 +250,14 @@ pub(crate) fn term<S: Alter>(
 ) -> Result<Vec<EntryRow>, StoreFault>
     requires store { IsStoreIfOpen (state S.Store conn.old) }
     requires settled { (state S.Store conn.old).in_transaction ≡ false }
-    ensures rows { HasCleanDisk (state S.Store conn.new) → IfOk result (λ found. let asked = where_key list_key_cmp (λ k. int_eq tab k.0 && is_eq (name_cmp term.now k.1)) (value_of (state S.Store conn.old).now.trees).lists in (map shown_entry found.items ≡ entries_of asked) × AreWhole asked) }
-    ensures damaged { HasCleanDisk (state S.Store conn.new) → result ≡ Err StoreFault.Damaged → SomeDamaged (where_key list_key_cmp (λ k. int_eq tab k.0 && is_eq (name_cmp term.now k.1)) (value_of (state S.Store conn.old).now.trees).lists) }
+    ensures rows { HasCleanDisk (state S.Store conn.new)
+        → IfOk result (λ found. let asked = where_key list_key_cmp
+        (λ k. int_eq tab k.0 && is_eq (name_cmp term.now k.1))
+        (value_of (state S.Store conn.old).now.trees).lists in
+        (map shown_entry found.items ≡ entries_of asked) × AreWhole asked) }
+    ensures damaged { HasCleanDisk (state S.Store conn.new) → result ≡ Err StoreFault.Damaged
+        → SomeDamaged (where_key list_key_cmp (λ k. int_eq tab k.0 && is_eq (name_cmp term.now k.1))
+        (value_of (state S.Store conn.old).now.trees).lists) }
     ensures fault { IfErr result IsReadFault }
     ensures read { Reads S.Store conn.old conn.new result }
 {
@@ -257,11 +275,17 @@ pub(crate) fn entries<S: Alter>(
 ) -> Result<Vec<EntryRow>, StoreFault>
     requires store { IsStoreIfOpen (state S.Store conn.old) }
     requires settled { (state S.Store conn.old).in_transaction ≡ false }
-    ensures rows { HasCleanDisk (state S.Store conn.new) → IfOk result (λ found. let asked = where_key list_key_cmp (λ k. int_eq tab k.0) (value_of (state S.Store conn.old).now.trees).lists in (map shown_entry found.items ≡ entries_of asked) × AreWhole asked) }
-    ensures damaged { HasCleanDisk (state S.Store conn.new) → result ≡ Err StoreFault.Damaged → SomeDamaged (where_key list_key_cmp (λ k. int_eq tab k.0) (value_of (state S.Store conn.old).now.trees).lists) }
+    ensures rows { HasCleanDisk (state S.Store conn.new)
+        → IfOk result (λ found. let asked = where_key list_key_cmp (λ k. int_eq tab k.0)
+        (value_of (state S.Store conn.old).now.trees).lists in
+        (map shown_entry found.items ≡ entries_of asked) × AreWhole asked) }
+    ensures damaged { HasCleanDisk (state S.Store conn.new) → result ≡ Err StoreFault.Damaged
+        → SomeDamaged (where_key list_key_cmp (λ k. int_eq tab k.0)
+        (value_of (state S.Store conn.old).now.trees).lists) }
     ensures fault { IfErr result IsReadFault }
     ensures read { Reads S.Store conn.old conn.new result }
-    ensures stays { HasCleanDisk (state S.Store conn.new) → result ≡ Err StoreFault.Damaged → IsTrue (state S.Store conn.new).is_open }
+    ensures stays { HasCleanDisk (state S.Store conn.new) → result ≡ Err StoreFault.Damaged
+        → IsTrue (state S.Store conn.new).is_open }
 {
     select_entries(
         conn,
@@ -279,10 +303,12 @@ fn table_lists<S: Alter>(
 ) -> Result<Vec<ListRow>, StoreFault>
     requires store { IsStoreIfOpen (state S.Store conn.old) }
     requires settled { (state S.Store conn.old).in_transaction ≡ false }
-    ensures rows { HasCleanDisk (state S.Store conn.new) → IfOk result (λ found.
-        AreRead (where_key list_key_cmp (λ k. int_eq tab k.0) (value_of (state S.Store conn.old).now.trees).lists) found.items) }
+    ensures rows { HasCleanDisk (state S.Store conn.new)
+        → IfOk result (λ found. AreRead (where_key list_key_cmp (λ k. int_eq tab k.0)
+        (value_of (state S.Store conn.old).now.trees).lists) found.items) }
     ensures damaged { HasCleanDisk (state S.Store conn.new) → result ≡ Err StoreFault.Damaged
-        → SomeDamaged (where_key list_key_cmp (λ k. int_eq tab k.0) (value_of (state S.Store conn.old).now.trees).lists) }
+        → SomeDamaged (where_key list_key_cmp (λ k. int_eq tab k.0)
+        (value_of (state S.Store conn.old).now.trees).lists) }
     ensures fault { IfErr result IsReadFault }
     ensures read { Reads S.Store conn.old conn.new result }
 {
@@ -354,7 +380,8 @@ fn bare_range<'a, S: Alter>(
     requires some { from.now ≢ [] }
     requires past { end.now ≡ after_last from.now }
     ensures rows { HasCleanDisk (state S.Store conn.new)
-        → IfOk result (λ found. AreRead (lists_of_prefix tab from.now (value_of (state S.Store conn.old).now.trees)) found.items) }
+        → IfOk result (λ found. AreRead (lists_of_prefix tab from.now
+        (value_of (state S.Store conn.old).now.trees)) found.items) }
     ensures damaged { HasCleanDisk (state S.Store conn.new) → result ≡ Err StoreFault.Damaged
         → SomeDamaged (lists_of_prefix tab from.now (value_of (state S.Store conn.old).now.trees)) }
     ensures fault { IfErr result IsReadFault }
@@ -377,8 +404,15 @@ pub(crate) fn prefix<S: Alter>(
 ) -> Result<Vec<EntryRow>, StoreFault>
     requires store { IsStoreIfOpen (state S.Store conn.old) }
     requires settled { (state S.Store conn.old).in_transaction ≡ false }
-    ensures rows { HasCleanDisk (state S.Store conn.new) → IfOk result (λ found. let asked = where_key list_key_cmp (λ k. int_eq tab k.0 && starts_with nat_eq k.1 begin.now) (value_of (state S.Store conn.old).now.trees).lists in (map shown_entry found.items ≡ entries_of asked) × AreWhole asked) }
-    ensures damaged { HasCleanDisk (state S.Store conn.new) → result ≡ Err StoreFault.Damaged → SomeDamaged (where_key list_key_cmp (λ k. int_eq tab k.0 && starts_with nat_eq k.1 begin.now) (value_of (state S.Store conn.old).now.trees).lists) }
+    ensures rows { HasCleanDisk (state S.Store conn.new)
+        → IfOk result (λ found. let asked = where_key list_key_cmp
+        (λ k. int_eq tab k.0 && starts_with nat_eq k.1 begin.now)
+        (value_of (state S.Store conn.old).now.trees).lists in
+        (map shown_entry found.items ≡ entries_of asked) × AreWhole asked) }
+    ensures damaged { HasCleanDisk (state S.Store conn.new) → result ≡ Err StoreFault.Damaged
+        → SomeDamaged (where_key list_key_cmp
+        (λ k. int_eq tab k.0 && starts_with nat_eq k.1 begin.now)
+        (value_of (state S.Store conn.old).now.trees).lists) }
     ensures fault { IfErr result IsReadFault }
     ensures read { Reads S.Store conn.old conn.new result }
 {
@@ -399,9 +433,11 @@ pub(crate) fn prefix_lists<S: Alter>(
     requires store { IsStoreIfOpen (state S.Store conn.old) }
     requires settled { (state S.Store conn.old).in_transaction ≡ false }
     ensures rows { HasCleanDisk (state S.Store conn.new)
-        → IfOk result (λ found. AreRead (lists_of_prefix tab begin.now (value_of (state S.Store conn.old).now.trees)) found.items) }
+        → IfOk result (λ found. AreRead (lists_of_prefix tab begin.now
+        (value_of (state S.Store conn.old).now.trees)) found.items) }
     ensures damaged { HasCleanDisk (state S.Store conn.new) → result ≡ Err StoreFault.Damaged
-        → SomeDamaged (lists_of_prefix tab begin.now (value_of (state S.Store conn.old).now.trees)) }
+        → SomeDamaged (lists_of_prefix tab begin.now
+        (value_of (state S.Store conn.old).now.trees)) }
     ensures fault { IfErr result IsReadFault }
     ensures read { Reads S.Store conn.old conn.new result }
 {

@@ -1,5 +1,5 @@
 //! The tables of an empty store, made in one transaction.
-ghost use Rattle.std.specs.Prelude.{◌≡◌, false, true, ℕ, [], IsTrue, IfErr, OnOk, OnErr, Ok};
+ghost use Rattle.std.specs.Prelude.{◌≡◌, false, true, ℕ, [], IsTrue, IfErr, IfOk, OnOk, OnErr, Ok};
 ghost use Rattle.sqlite.specs.State.{HasCleanDisk, Survives, Shows};
 ghost use Rattle.sqlite.specs.Held.{state};
 ghost use Rattle.sqlite.specs.Schema.{Schema};
@@ -17,9 +17,14 @@ use sqlite::{Alter, Connection, Transaction};
 
 fn create<S: Alter>(tx: &mut Transaction<'_, S>, sql: &str) -> Result<(), StoreFault>
     ensures same_reference { tx.new.conn.ghost_name ≡ tx.old.conn.ghost_name }
-    ensures steps { HasCleanDisk (state S.Store tx.new.conn.now) → IsTrue (state S.Store tx.old.conn.now).in_transaction
-        → OnOk result ((s : Schema) (table : Table) → Makes s sql.now table → (IsTrue (state S.Store tx.old.conn.now).is_open → IsEmptyOf s (state S.Store tx.old.conn.now).now)
-        → IsEmptyOf (created s table) (state S.Store tx.new.conn.now).now × Shows (state S.Store tx.old.conn.now) (state S.Store tx.new.conn.now) (state S.Store tx.new.conn.now).now (state S.Store tx.old.conn.now).committed true) }
+    ensures steps { HasCleanDisk (state S.Store tx.new.conn.now)
+        → IsTrue (state S.Store tx.old.conn.now).in_transaction
+        → OnOk result ((s : Schema) (table : Table) → Makes s sql.now table
+        → (IsTrue (state S.Store tx.old.conn.now).is_open
+        → IsEmptyOf s (state S.Store tx.old.conn.now).now)
+        → IsEmptyOf (created s table) (state S.Store tx.new.conn.now).now
+        × Shows (state S.Store tx.old.conn.now) (state S.Store tx.new.conn.now)
+        (state S.Store tx.new.conn.now).now (state S.Store tx.old.conn.now).committed true) }
     ensures fault { IfErr result IsPlainFault }
     ensures kept { KeepsLast S.Store tx.old.conn.now tx.new.conn.now }
     ensures survives { LeavesNothing S.Store tx.old.conn.now tx.new.conn.now }
@@ -85,13 +90,19 @@ pub(crate) fn mark<S: Alter>(tx: &mut Transaction<'_, S>) -> Result<(), StoreFau
 /// Makes an empty store, all at once, in a database that has no table.
 pub(crate) fn make<S: Alter>(conn: &mut Connection<S>) -> Result<(), StoreFault>
     requires settled { (state S.Store conn.old).in_transaction ≡ false }
-    requires empty { HasCleanDisk (state S.Store conn.old) → IsTrue (state S.Store conn.old).is_open → (state S.Store conn.old).now.schema ≡ no_schema }
-    ensures all { HasCleanDisk (state S.Store conn.new) → OnOk result (IsStore (state S.Store conn.new).now × (value_of (state S.Store conn.new).now.trees ≡ nothing_held)) }
-    ensures none { HasCleanDisk (state S.Store conn.new) → OnErr result (Keeps (state S.Store conn.old) (state S.Store conn.new)) }
-    ensures live { HasCleanDisk (state S.Store conn.new) → OnOk result (IsTrue (state S.Store conn.new).is_open) }
+    requires empty { HasCleanDisk (state S.Store conn.old) → IsTrue (state S.Store conn.old).is_open
+        → (state S.Store conn.old).now.schema ≡ no_schema }
+    ensures all { HasCleanDisk (state S.Store conn.new)
+        → OnOk result (IsStore (state S.Store conn.new).now
+        × (value_of (state S.Store conn.new).now.trees ≡ nothing_held)) }
+    ensures none { HasCleanDisk (state S.Store conn.new)
+        → OnErr result (Keeps (state S.Store conn.old) (state S.Store conn.new)) }
+    ensures live { HasCleanDisk (state S.Store conn.new)
+        → OnOk result (IsTrue (state S.Store conn.new).is_open) }
     ensures fault { IfErr result IsPlainFault }
     ensures mode { (state S.Store conn.new).in_transaction ≡ false }
-    ensures crash { Survives (state S.Store conn.old) (state S.Store conn.new) (λ db. IsTrue (state S.Store conn.old).is_open → IsStored db nothing_held) }
+    ensures crash { Survives (state S.Store conn.old) (state S.Store conn.new)
+        (λ db. IsTrue (state S.Store conn.old).is_open → IsStored db nothing_held) }
 {
     let _settled = conn.is_autocommit();
     let _schema = conn.schema();
@@ -100,4 +111,22 @@ pub(crate) fn make<S: Alter>(conn: &mut Connection<S>) -> Result<(), StoreFault>
     mark(&mut tx)?;
     tx.commit()?;
     Ok(())
+}
+
+/// The same, of a database that is taken and handed on: where it can't be, what it stands on is let go here alone.
+pub(crate) fn made<S: Alter + Drop>(conn: Connection<S>) -> Result<Connection<S>, StoreFault>
+    requires settled { (state S.Store conn).in_transaction ≡ false }
+    requires empty { HasCleanDisk (state S.Store conn) → IsTrue (state S.Store conn).is_open
+        → (state S.Store conn).now.schema ≡ no_schema }
+    ensures all { IfOk result (λ new. HasCleanDisk (state S.Store new)
+        → IsStore (state S.Store new).now
+        × (value_of (state S.Store new).now.trees ≡ nothing_held)) }
+    ensures live { IfOk result (λ new. HasCleanDisk (state S.Store new)
+        → IsTrue (state S.Store new).is_open) }
+    ensures mode { IfOk result (λ new. (state S.Store new).in_transaction ≡ false) }
+    ensures fault { IfErr result IsPlainFault }
+{
+    let mut conn = conn;
+    make(&mut conn)?;
+    Ok(conn)
 }

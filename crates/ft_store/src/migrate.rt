@@ -70,7 +70,8 @@ fn migrate<S: Alter>(conn: &mut Connection<S>) -> Result<(), StoreFault>
 
 /// Takes a database with the tables of version 2 as a store. All of it is looked at before anything changes.
 pub(crate) fn take_older<S: Alter>(conn: &mut Connection<S>) -> Result<(), StoreFault>
-    requires schema { HasCleanDisk (state S.Store conn.old) → IsTrue (state S.Store conn.old).is_open
+    requires schema { HasCleanDisk (state S.Store conn.old)
+        → IsTrue (state S.Store conn.old).is_open
         → (state S.Store conn.old).now.schema ≡ older_schema }
     requires settled { (state S.Store conn.old).in_transaction ≡ false }
     ensures store { OnOk result (IsStoreIfOpen (state S.Store conn.new)) }

@@ -52,7 +52,8 @@ fn push_number(bytes: &mut Vec<u8>, number: u64) -> Result<(), AllocError>
 
 /// The four numbers of a place behind the last one.
 fn push_spot(bytes: &mut Vec<u8>, last: &Spot, spot: &Spot) -> Result<(), AllocError>
-    ensures { OnOk result (bytes.new.items ≡ bytes.old.items ++ flat_map leb128 (numbers_after (plain_spot last.now) (plain_spot spot.now ∷ []))) }
+    ensures { OnOk result (bytes.new.items ≡ bytes.old.items ++ flat_map leb128
+        (numbers_after (plain_spot last.now) (plain_spot spot.now ∷ []))) }
 {
     let column = natural(spot.column);
     let same = column == natural(last.column);
@@ -91,7 +92,8 @@ fn is_natural(spot: &Spot) -> bool
 
 /// Whether a posting may have a place, the first or one behind the last.
 fn may_follow(is_first: bool, last: &Spot, spot: &Spot) -> bool
-    ensures { result ≡ (is_natural spot.now && passes is_first (plain_spot last.now) (plain_spot spot.now)) }
+    ensures { result ≡ (is_natural spot.now && passes is_first (plain_spot last.now)
+        (plain_spot spot.now)) }
 {
     is_natural(spot)
         && passes(
@@ -123,8 +125,10 @@ pub(crate) fn can_pack(spots: &[Spot]) -> bool
 
 /// Takes a byte before the numbers so far, the first of which is at the end. False where no list has them.
 fn add_byte(numbers: &mut Vec<u32>, byte: u8) -> Result<bool, AllocError>
-    ensures goes { IfOk result (λ more. more ≡ true → next_numbers byte (reverse numbers.old.items) ≡ Some (reverse numbers.new.items)) }
-    ensures ends { IfOk result (λ more. more ≡ false → (ns : _) → next_numbers byte (reverse numbers.old.items) ≡ Some ns → 1000000 < slice_index ns 0) }
+    ensures goes { IfOk result (λ more. more ≡ true
+        → next_numbers byte (reverse numbers.old.items) ≡ Some (reverse numbers.new.items)) }
+    ensures ends { IfOk result (λ more. more ≡ false → (ns : _)
+        → next_numbers byte (reverse numbers.old.items) ≡ Some ns → 1000000 < slice_index ns 0) }
 {
     if byte < 128 {
         numbers.push(u32::from(byte))?;
@@ -143,7 +147,8 @@ fn add_byte(numbers: &mut Vec<u32>, byte: u8) -> Result<bool, AllocError>
 
 /// The numbers of a list. None where no list has them.
 fn numbers_in(alloc: Global, bytes: &[u8]) -> Result<Option<Vec<u32>>, AllocError>
-    ensures { IfOk result (λ o. MatchOption o (unpacked bytes.now ≡ None) (λ ns. numbers_in bytes.now ≡ Some ns.items)) }
+    ensures { IfOk result (λ o. MatchOption o (unpacked bytes.now ≡ None)
+        (λ ns. numbers_in bytes.now ≡ Some ns.items)) }
 {
     let mut numbers = Vec::with_capacity(alloc, bytes.len())?;
     let mut at = bytes.len();
@@ -164,7 +169,9 @@ fn is_spot(column: u64, pos: u64, place: u64, size: u64) -> bool
 }
 
 fn is_after(last: &Spot, column: u64, pos: u64, place: u64) -> bool
-    ensures { (size : ℕ) → result ≡ is_after (plain_spot last.now) (record { column = column; pos = pos; place = place; size = size }) }
+    ensures { (size : ℕ)
+        → result ≡ is_after (plain_spot last.now)
+        (record { column = column; pos = pos; place = place; size = size }) }
 {
     natural(last.column) < column
         || (natural(last.column) == column
@@ -173,14 +180,16 @@ fn is_after(last: &Spot, column: u64, pos: u64, place: u64) -> bool
 }
 
 fn passes(is_first: bool, last: &Spot, column: u64, pos: u64, place: u64, size: u64) -> bool
-    ensures { result ≡ passes is_first (plain_spot last.now) (record { column = column; pos = pos; place = place; size = size }) }
+    ensures { result ≡ passes is_first (plain_spot last.now)
+        (record { column = column; pos = pos; place = place; size = size }) }
 {
     is_spot(column, pos, place, size) && (is_first || is_after(last, column, pos, place))
 }
 
 fn stored(column: u64, pos: u64, place: u64, size: u64) -> Spot
     requires { is_spot (record { column = column; pos = pos; place = place; size = size }) ≡ true }
-    ensures { result ≡ stored_spot (record { column = column; pos = pos; place = place; size = size }) }
+    ensures { result ≡ stored_spot
+        (record { column = column; pos = pos; place = place; size = size }) }
 {
     Spot {
         column: column as i64,
@@ -192,8 +201,11 @@ fn stored(column: u64, pos: u64, place: u64, size: u64) -> Spot
 
 /// The place that four numbers say behind the last one, if a posting may have it.
 fn spot_at(last: &Spot, is_first: bool, c: u32, p: u32, l: u32, z: u32) -> Option<Spot>
-    ensures found { IfSome result (λ spot. (passes is_first (plain_spot last.now) (spot_from (plain_spot last.now) c p l z) ≡ true) × (spot ≡ stored_spot (spot_from (plain_spot last.now) c p l z))) }
-    ensures none { IfNone result (passes is_first (plain_spot last.now) (spot_from (plain_spot last.now) c p l z) ≡ false) }
+    ensures found { IfSome result (λ spot. (passes is_first (plain_spot last.now)
+        (spot_from (plain_spot last.now) c p l z) ≡ true)
+        × (spot ≡ stored_spot (spot_from (plain_spot last.now) c p l z))) }
+    ensures none { IfNone result (passes is_first (plain_spot last.now)
+        (spot_from (plain_spot last.now) c p l z) ≡ false) }
 {
     let same = c == 0;
     let column = natural(last.column) + u64::from(c);
@@ -208,7 +220,9 @@ fn spot_at(last: &Spot, is_first: bool, c: u32, p: u32, l: u32, z: u32) -> Optio
 
 /// The places that numbers say, if a posting may have them.
 fn spots_from(alloc: Global, numbers: &[u32]) -> Result<Option<Vec<Spot>>, AllocError>
-    ensures { IfOk result (λ o. MatchOption o (checked true origin numbers.now ≡ None) (λ spots. (checked true origin numbers.now ≡ Some (map plain_spot spots.items)) × (spots.items ≡ map stored_spot (map plain_spot spots.items)))) }
+    ensures { IfOk result (λ o. MatchOption o (checked true origin numbers.now ≡ None)
+        (λ spots. (checked true origin numbers.now ≡ Some (map plain_spot spots.items))
+        × (spots.items ≡ map stored_spot (map plain_spot spots.items)))) }
 {
     let mut spots = Vec::with_capacity(alloc, numbers.len() / 4)?;
     let mut last = ORIGIN;

@@ -29,9 +29,12 @@ pub(crate) fn select<S: Alter>(
     sql: &str,
     params: &[ValueRef<'_>],
 ) -> Result<Vec<Row>, StoreFault>
-    requires plain { HasCleanDisk (state S.Store conn.old) → IsTrue (state S.Store conn.old).is_open → IsPlain (understood (state S.Store conn.old).now.schema sql.now) }
+    requires plain { HasCleanDisk (state S.Store conn.old) → IsTrue (state S.Store conn.old).is_open
+        → IsPlain (understood (state S.Store conn.old).now.schema sql.now) }
     requires settled { (state S.Store conn.old).in_transaction ≡ false }
-    ensures shown { HasCleanDisk (state S.Store conn.new) → IfOk result (λ rows. Shown sql.now (bound params.now) (state S.Store conn.old) (state S.Store conn.new) rows.items) }
+    ensures shown { HasCleanDisk (state S.Store conn.new)
+        → IfOk result (λ rows. Shown sql.now (bound params.now) (state S.Store conn.old)
+        (state S.Store conn.new) rows.items) }
     ensures read { Reads S.Store conn.old conn.new result }
     ensures whole { ¬ (result ≡ Err StoreFault.Damaged) }
     ensures fault { IfErr result IsPlainFault }
@@ -94,7 +97,8 @@ fn select_cells<S: Alter>(
     requires plain { HasCleanDisk (state S.Store conn.old) → IsTrue (state S.Store conn.old).is_open
         → IsPlain (understood (state S.Store conn.old).now.schema sql.now) }
     requires settled { (state S.Store conn.old).in_transaction ≡ false }
-    ensures found { HasCleanDisk (state S.Store conn.new) → IfOk result (λ cells. (rows : List order.Row)
+    ensures found { HasCleanDisk (state S.Store conn.new)
+        → IfOk result (λ cells. (rows : List order.Row)
         × Shown sql.now (bound params.now) (state S.Store conn.old) (state S.Store conn.new) rows
         × ((tab : ℤ) → map (shown_cell tab) cells.items ≡ map (found_cell tab) rows)) }
     ensures read { Reads S.Store conn.old conn.new result }
@@ -119,7 +123,8 @@ fn size_row(row: &Row) -> Result<SizeRow, StoreFault>
 }
 
 fn size_rows(alloc: Global, rows: &[Row]) -> Result<Vec<SizeRow>, StoreFault>
-    ensures found { IfOk result (λ xs. (tab : _) → map (shown_size tab) xs.items ≡ map (found_size tab) rows.now) }
+    ensures found { IfOk result (λ xs. (tab : _)
+        → map (shown_size tab) xs.items ≡ map (found_size tab) rows.now) }
     ensures fault { IfErr result IsPlainFault }
 {
     let mut found = Vec::new(alloc);
@@ -161,7 +166,8 @@ fn column_row(row: &Row) -> Result<(i64, String), StoreFault>
 }
 
 fn column_rows(alloc: Global, rows: &[Row]) -> Result<Vec<(i64, String)>, StoreFault>
-    ensures found { IfOk result (λ xs. (tab : _) → map (shown_column tab) xs.items ≡ map (found_column tab) rows.now) }
+    ensures found { IfOk result (λ xs. (tab : _)
+        → map (shown_column tab) xs.items ≡ map (found_column tab) rows.now) }
     ensures fault { IfErr result IsPlainFault }
 {
     let mut found = Vec::new(alloc);
@@ -180,7 +186,8 @@ fn skip_row(row: &Row) -> Result<i64, StoreFault>
 }
 
 fn skip_rows(alloc: Global, rows: &[Row]) -> Result<Vec<i64>, StoreFault>
-    ensures found { IfOk result (λ xs. (tab : _) → map (shown_skip tab) xs.items ≡ map (found_skip tab) rows.now) }
+    ensures found { IfOk result (λ xs. (tab : _)
+        → map (shown_skip tab) xs.items ≡ map (found_skip tab) rows.now) }
     ensures fault { IfErr result IsPlainFault }
 {
     let mut found = Vec::new(alloc);
@@ -216,7 +223,9 @@ pub(crate) fn names<S: Alter>(
 ) -> Result<Vec<(i64, String)>, StoreFault>
     requires store { IsStoreIfOpen (state S.Store conn.old) }
     requires settled { (state S.Store conn.old).in_transaction ≡ false }
-    ensures rows { HasCleanDisk (state S.Store conn.new) → IfOk result (λ found. map shown_name found.items ≡ (value_of (state S.Store conn.old).now.trees).tables) }
+    ensures rows { HasCleanDisk (state S.Store conn.new)
+        → IfOk result (λ found. map shown_name found.items
+        ≡ (value_of (state S.Store conn.old).now.trees).tables) }
     ensures read { Reads S.Store conn.old conn.new result }
     ensures fault { IfErr result IsPlainFault }
 {
@@ -236,7 +245,10 @@ pub(crate) fn columns<S: Alter>(
 ) -> Result<Vec<(i64, String)>, StoreFault>
     requires store { IsStoreIfOpen (state S.Store conn.old) }
     requires settled { (state S.Store conn.old).in_transaction ≡ false }
-    ensures rows { HasCleanDisk (state S.Store conn.new) → IfOk result (λ found. map (shown_column tab) found.items ≡ where_key column_key_cmp (λ k. int_eq tab k.0) (value_of (state S.Store conn.old).now.trees).columns) }
+    ensures rows { HasCleanDisk (state S.Store conn.new)
+        → IfOk result (λ found. map (shown_column tab) found.items
+        ≡ where_key column_key_cmp (λ k. int_eq tab k.0)
+        (value_of (state S.Store conn.old).now.trees).columns) }
     ensures read { Reads S.Store conn.old conn.new result }
     ensures fault { IfErr result IsPlainFault }
 {
@@ -256,7 +268,10 @@ pub(crate) fn skips<S: Alter>(
 ) -> Result<Vec<i64>, StoreFault>
     requires store { IsStoreIfOpen (state S.Store conn.old) }
     requires settled { (state S.Store conn.old).in_transaction ≡ false }
-    ensures rows { HasCleanDisk (state S.Store conn.new) → IfOk result (λ found. map (shown_skip tab) found.items ≡ where_key column_key_cmp (λ k. int_eq tab k.0) (value_of (state S.Store conn.old).now.trees).skipped) }
+    ensures rows { HasCleanDisk (state S.Store conn.new)
+        → IfOk result (λ found. map (shown_skip tab) found.items
+        ≡ where_key column_key_cmp (λ k. int_eq tab k.0)
+        (value_of (state S.Store conn.old).now.trees).skipped) }
     ensures read { Reads S.Store conn.old conn.new result }
     ensures fault { IfErr result IsPlainFault }
 {
@@ -276,7 +291,10 @@ pub(crate) fn cells<S: Alter>(
 ) -> Result<Vec<CellRow>, StoreFault>
     requires store { IsStoreIfOpen (state S.Store conn.old) }
     requires settled { (state S.Store conn.old).in_transaction ≡ false }
-    ensures rows { HasCleanDisk (state S.Store conn.new) → IfOk result (λ found. map (shown_cell tab) found.items ≡ where_key cell_key_cmp (λ k. int_eq tab k.0) (value_of (state S.Store conn.old).now.trees).cells) }
+    ensures rows { HasCleanDisk (state S.Store conn.new)
+        → IfOk result (λ found. map (shown_cell tab) found.items
+        ≡ where_key cell_key_cmp (λ k. int_eq tab k.0)
+        (value_of (state S.Store conn.old).now.trees).cells) }
     ensures read { Reads S.Store conn.old conn.new result }
     ensures fault { IfErr result IsPlainFault }
 {
@@ -297,7 +315,10 @@ pub(crate) fn document<S: Alter>(
 ) -> Result<Vec<CellRow>, StoreFault>
     requires store { IsStoreIfOpen (state S.Store conn.old) }
     requires settled { (state S.Store conn.old).in_transaction ≡ false }
-    ensures rows { HasCleanDisk (state S.Store conn.new) → IfOk result (λ found. map (shown_cell tab) found.items ≡ where_key cell_key_cmp (λ k. int_eq tab k.0 && int_eq docid k.1) (value_of (state S.Store conn.old).now.trees).cells) }
+    ensures rows { HasCleanDisk (state S.Store conn.new)
+        → IfOk result (λ found. map (shown_cell tab) found.items
+        ≡ where_key cell_key_cmp (λ k. int_eq tab k.0 && int_eq docid k.1)
+        (value_of (state S.Store conn.old).now.trees).cells) }
     ensures read { Reads S.Store conn.old conn.new result }
     ensures fault { IfErr result IsPlainFault }
 {
@@ -311,7 +332,8 @@ pub(crate) fn document<S: Alter>(
 
 /// The docid of the first row, where there is one.
 fn first_docid(rows: &[Row]) -> Result<Option<i64>, StoreFault>
-    ensures found { IfOk result (λ docid. docid ≡ option_map (λ row. id_in (column row 0)) (slice_get rows.now 0)) }
+    ensures found { IfOk result (λ docid. docid
+        ≡ option_map (λ row. id_in (column row 0)) (slice_get rows.now 0)) }
     ensures fault { IfErr result IsPlainFault }
 {
     match rows.first() {
@@ -327,7 +349,9 @@ pub(crate) fn last_docid<S: Alter>(
 ) -> Result<Option<i64>, StoreFault>
     requires store { IsStoreIfOpen (state S.Store conn.old) }
     requires settled { (state S.Store conn.old).in_transaction ≡ false }
-    ensures last { HasCleanDisk (state S.Store conn.new) → IfOk result (λ last. last ≡ last_docid_of tab (value_of (state S.Store conn.old).now.trees).cells) }
+    ensures last { HasCleanDisk (state S.Store conn.new)
+        → IfOk result (λ last. last ≡ last_docid_of tab
+        (value_of (state S.Store conn.old).now.trees).cells) }
     ensures read { Reads S.Store conn.old conn.new result }
     ensures fault { IfErr result IsPlainFault }
 {
@@ -347,7 +371,10 @@ pub(crate) fn sizes<S: Alter>(
 ) -> Result<Vec<SizeRow>, StoreFault>
     requires store { IsStoreIfOpen (state S.Store conn.old) }
     requires settled { (state S.Store conn.old).in_transaction ≡ false }
-    ensures rows { HasCleanDisk (state S.Store conn.new) → IfOk result (λ found. map (shown_size tab) found.items ≡ where_key cell_key_cmp (λ k. int_eq tab k.0) (value_of (state S.Store conn.old).now.trees).sizes) }
+    ensures rows { HasCleanDisk (state S.Store conn.new)
+        → IfOk result (λ found. map (shown_size tab) found.items
+        ≡ where_key cell_key_cmp (λ k. int_eq tab k.0)
+        (value_of (state S.Store conn.old).now.trees).sizes) }
     ensures read { Reads S.Store conn.old conn.new result }
     ensures fault { IfErr result IsPlainFault }
 {
@@ -366,7 +393,9 @@ pub(crate) fn noted<S: Alter>(
 ) -> Result<Vec<String>, StoreFault>
     requires store { IsStoreIfOpen (state S.Store conn.old) }
     requires settled { (state S.Store conn.old).in_transaction ≡ false }
-    ensures rows { HasCleanDisk (state S.Store conn.new) → IfOk result (λ found. map shown_note found.items ≡ (value_of (state S.Store conn.old).now.trees).noted) }
+    ensures rows { HasCleanDisk (state S.Store conn.new)
+        → IfOk result (λ found. map shown_note found.items
+        ≡ (value_of (state S.Store conn.old).now.trees).noted) }
     ensures read { Reads S.Store conn.old conn.new result }
     ensures fault { IfErr result IsPlainFault }
 {

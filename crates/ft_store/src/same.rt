@@ -59,7 +59,8 @@ fn is_index(
     columns: &[usize],
     digits: u64,
 ) -> bool
-    ensures { IsTrue result ↔ (index.now ≡ key_index name.now tree table columns.now (record { digits = digits })) }
+    ensures { IsTrue result ↔ (index.now ≡ key_index name.now tree table columns.now
+        (record { digits = digits })) }
 {
     index.name.as_slice() == name.as_bytes()
         && index.tree == tree
@@ -80,7 +81,8 @@ fn is_named(table: &Table, name: &str, tree: u32, key: Option<usize>, primary: &
 }
 
 fn has_no_stamps(table: &Table) -> bool
-    ensures { IsTrue result ↔ (table.now.stamps ≡ record { places = []; terms = []; formats = [] }) }
+    ensures { IsTrue result ↔ (table.now.stamps
+        ≡ record { places = []; terms = []; formats = [] }) }
 {
     table.stamps.places.len() == 0
         && table.stamps.terms.roots.len() == 0
@@ -276,7 +278,8 @@ fn is_skip(table: &Table) -> bool
 
 /// The first numbers of a cell's columns.
 fn are_cell_keys(tab: &Column, docid: &Column, col: &Column) -> bool
-    ensures { IsTrue result ↔ ((tab.now ≡ number (codes "tab")) × (docid.now ≡ number (codes "docid")) × (col.now ≡ number (codes "col"))) }
+    ensures { IsTrue result ↔ ((tab.now ≡ number (codes "tab"))
+        × (docid.now ≡ number (codes "docid")) × (col.now ≡ number (codes "col"))) }
 {
     is_number(tab, "tab") && is_number(docid, "docid") && is_number(col, "col")
 }
@@ -323,7 +326,8 @@ fn is_row_column(nodes: &[Op], depth: usize, at: usize, column: usize) -> bool
 
 /// Whether the term at a place tests that a column of a row is NULL.
 fn is_null_test(nodes: &[Op], depth: usize, at: usize, column: usize) -> bool
-    ensures { IsTrue result ↔ (term_to nodes.now depth at ≡ op2 (Is Binary) (col 1 column) (lit Null)) }
+    ensures { IsTrue result ↔ (term_to nodes.now depth at
+        ≡ op2 (Is Binary) (col 1 column) (lit Null)) }
 {
     if depth == 0 {
         return false;
@@ -338,7 +342,8 @@ fn is_null_test(nodes: &[Op], depth: usize, at: usize, column: usize) -> bool
 
 /// Whether the term at a place tests that one of a cell's two values is NULL.
 fn is_cell_test(nodes: &[Op], depth: usize, at: usize) -> bool
-    ensures { IsTrue result ↔ (term_to nodes.now depth at ≡ op2 Or (op2 (Is Binary) (col 1 4) (lit Null)) (op2 (Is Binary) (col 1 5) (lit Null))) }
+    ensures { IsTrue result ↔ (term_to nodes.now depth at
+        ≡ op2 Or (op2 (Is Binary) (col 1 4) (lit Null)) (op2 (Is Binary) (col 1 5) (lit Null))) }
 {
     if depth == 0 {
         return false;
@@ -352,7 +357,8 @@ fn is_cell_test(nodes: &[Op], depth: usize, at: usize) -> bool
 }
 
 fn is_cell_check(checks: &Terms) -> bool
-    ensures { IsTrue result ↔ (checks.now ≡ op2 Or (op2 (Is Binary) (col 1 4) (lit Null)) (op2 (Is Binary) (col 1 5) (lit Null)) ∷ []) }
+    ensures { IsTrue result ↔ (checks.now ≡ op2 Or (op2 (Is Binary) (col 1 4) (lit Null))
+        (op2 (Is Binary) (col 1 5) (lit Null)) ∷ []) }
 {
     let nodes = checks.nodes.as_slice();
     match checks.roots.as_slice() {
@@ -371,13 +377,15 @@ fn is_cell(table: &Table) -> bool
 }
 
 fn are_listings(meta: &Table, tab: &Table, col: &Table) -> bool
-    ensures { IsTrue result ↔ ((meta.now ≡ meta_table 0) × (tab.now ≡ tab_table 1) × (col.now ≡ col_table 3)) }
+    ensures { IsTrue result ↔ ((meta.now ≡ meta_table 0) × (tab.now ≡ tab_table 1)
+        × (col.now ≡ col_table 3)) }
 {
     is_meta(meta) && is_tab(tab) && is_col(col)
 }
 
 fn are_contents(cell: &Table, posting: &Table, sizes: &Table) -> bool
-    ensures { IsTrue result ↔ ((cell.now ≡ cell_table 5) × (posting.now ≡ posting_table 7) × (sizes.now ≡ sizes_table 9)) }
+    ensures { IsTrue result ↔ ((cell.now ≡ cell_table 5) × (posting.now ≡ posting_table 7)
+        × (sizes.now ≡ sizes_table 9)) }
 {
     is_cell(cell) && is_posting(posting) && is_sizes(sizes)
 }
@@ -413,8 +421,11 @@ fn has_older_tables(tables: &[Table]) -> bool
 }
 
 fn are_content_keys(tab: &Index, col: &Index, cell: &Index) -> bool
-    ensures { IsTrue result ↔ ((tab.now ≡ key_index (codes "sqlite_autoindex_tab_1") 2 1 (2 ∷ []) case_order) × (col.now ≡ key_index (codes "sqlite_autoindex_col_1") 4 3 (1 ∷ 2 ∷ []) plain_order)
-        × (cell.now ≡ key_index (codes "sqlite_autoindex_cell_1") 6 5 (1 ∷ 2 ∷ 3 ∷ []) plain_order)) }
+    ensures { IsTrue result ↔ ((tab.now ≡ key_index (codes "sqlite_autoindex_tab_1") 2 1 (2 ∷ [])
+        case_order)
+        × (col.now ≡ key_index (codes "sqlite_autoindex_col_1") 4 3 (1 ∷ 2 ∷ []) plain_order)
+        × (cell.now ≡ key_index (codes "sqlite_autoindex_cell_1") 6 5 (1 ∷ 2 ∷ 3 ∷ [])
+        plain_order)) }
 {
     is_index(tab, "sqlite_autoindex_tab_1", 2, 1, &[2], 2)
         && is_index(col, "sqlite_autoindex_col_1", 4, 3, &[1, 2], 0)
@@ -422,7 +433,10 @@ fn are_content_keys(tab: &Index, col: &Index, cell: &Index) -> bool
 }
 
 fn are_list_keys(posting: &Index, sizes: &Index) -> bool
-    ensures { IsTrue result ↔ ((posting.now ≡ key_index (codes "sqlite_autoindex_posting_1") 8 7 (1 ∷ 2 ∷ 3 ∷ []) plain_order) × (sizes.now ≡ key_index (codes "sqlite_autoindex_sizes_1") 10 9 (1 ∷ 2 ∷ 3 ∷ []) plain_order)) }
+    ensures { IsTrue result ↔ ((posting.now ≡ key_index (codes "sqlite_autoindex_posting_1") 8 7
+        (1 ∷ 2 ∷ 3 ∷ []) plain_order)
+        × (sizes.now ≡ key_index (codes "sqlite_autoindex_sizes_1") 10 9 (1 ∷ 2 ∷ 3 ∷ [])
+        plain_order)) }
 {
     is_index(posting, "sqlite_autoindex_posting_1", 8, 7, &[1, 2, 3], 0)
         && is_index(sizes, "sqlite_autoindex_sizes_1", 10, 9, &[1, 2, 3], 0)
@@ -436,7 +450,9 @@ fn is_note_key(noted: &Index) -> bool
 }
 
 fn are_note_keys(noted: &Index, skip: &Index) -> bool
-    ensures { IsTrue result ↔ ((noted.now ≡ key_index (codes "sqlite_autoindex_noted_1") 12 11 (1 ∷ []) case_order) × (skip.now ≡ key_index (codes "sqlite_autoindex_skip_1") 14 13 (1 ∷ 2 ∷ []) plain_order)) }
+    ensures { IsTrue result ↔ ((noted.now ≡ key_index (codes "sqlite_autoindex_noted_1") 12 11
+        (1 ∷ []) case_order)
+        × (skip.now ≡ key_index (codes "sqlite_autoindex_skip_1") 14 13 (1 ∷ 2 ∷ []) plain_order)) }
 {
     is_note_key(noted) && is_index(skip, "sqlite_autoindex_skip_1", 14, 13, &[1, 2], 0)
 }

@@ -28,8 +28,11 @@ pub(crate) fn run<S: Alter>(
     params: &[ValueRef<'_>],
 ) -> Result<(), StoreFault>
     ensures same_reference { tx.new.conn.ghost_name ≡ tx.old.conn.ghost_name }
-    ensures ran { HasCleanDisk (state S.Store tx.new.conn.now) → IsTrue (state S.Store tx.old.conn.now).in_transaction
-        → OnOk result ((count : ℕ) × ExecutesInside 0 sql.now (bound params.now) (state S.Store tx.old.conn.now) (state S.Store tx.new.conn.now) (Ok count)) }
+    ensures ran { HasCleanDisk (state S.Store tx.new.conn.now)
+        → IsTrue (state S.Store tx.old.conn.now).in_transaction
+        → OnOk result ((count : ℕ)
+        × ExecutesInside 0 sql.now (bound params.now) (state S.Store tx.old.conn.now)
+        (state S.Store tx.new.conn.now) (Ok count)) }
     ensures fault { IfErr result IsPlainFault }
     ensures kept { KeepsLast S.Store tx.old.conn.now tx.new.conn.now }
     ensures survives { LeavesNothing S.Store tx.old.conn.now tx.new.conn.now }
@@ -98,7 +101,8 @@ fn text_of(value: &Value) -> ValueRef<'_>
 /// Takes a table's name out.
 pub(crate) fn drop_name<S: Alter>(tx: &mut Transaction<'_, S>, tab: i64) -> Result<(), StoreFault>
     ensures same_reference { tx.new.conn.ghost_name ≡ tx.old.conn.ghost_name }
-    ensures steps { StepsOnOk S.Store tx.old.conn.now tx.new.conn.now result (λ v. record v { tables = where_key int_cmp (λ k. not (int_eq tab k)) v.tables }) }
+    ensures steps { StepsOnOk S.Store tx.old.conn.now tx.new.conn.now result
+        (λ v. record v { tables = where_key int_cmp (λ k. not (int_eq tab k)) v.tables }) }
     ensures fault { IfErr result IsPlainFault }
     ensures kept { KeepsLast S.Store tx.old.conn.now tx.new.conn.now }
     ensures survives { LeavesNothing S.Store tx.old.conn.now tx.new.conn.now }
@@ -112,7 +116,10 @@ pub(crate) fn drop_columns<S: Alter>(
     tab: i64,
 ) -> Result<(), StoreFault>
     ensures same_reference { tx.new.conn.ghost_name ≡ tx.old.conn.ghost_name }
-    ensures steps { StepsOnOk S.Store tx.old.conn.now tx.new.conn.now result (λ v. record v { columns = where_key column_key_cmp (λ k. not (int_eq tab k.0)) v.columns }) }
+    ensures steps { StepsOnOk S.Store tx.old.conn.now tx.new.conn.now result
+        (λ v. record v {
+          columns = where_key column_key_cmp (λ k. not (int_eq tab k.0)) v.columns;
+        }) }
     ensures fault { IfErr result IsPlainFault }
     ensures kept { KeepsLast S.Store tx.old.conn.now tx.new.conn.now }
     ensures survives { LeavesNothing S.Store tx.old.conn.now tx.new.conn.now }
@@ -127,7 +134,11 @@ pub(crate) fn drop_column<S: Alter>(
     column: i64,
 ) -> Result<(), StoreFault>
     ensures same_reference { tx.new.conn.ghost_name ≡ tx.old.conn.ghost_name }
-    ensures steps { StepsOnOk S.Store tx.old.conn.now tx.new.conn.now result (λ v. record v { columns = where_key column_key_cmp (λ k. not (eq_by_cmp column_key_cmp (tab, column) k)) v.columns }) }
+    ensures steps { StepsOnOk S.Store tx.old.conn.now tx.new.conn.now result
+        (λ v. record v {
+          columns = where_key column_key_cmp
+              (λ k. not (eq_by_cmp column_key_cmp (tab, column) k)) v.columns;
+        }) }
     ensures fault { IfErr result IsPlainFault }
     ensures kept { KeepsLast S.Store tx.old.conn.now tx.new.conn.now }
     ensures survives { LeavesNothing S.Store tx.old.conn.now tx.new.conn.now }
@@ -142,7 +153,10 @@ pub(crate) fn drop_column<S: Alter>(
 /// Takes out which columns of a table aren't indexed.
 pub(crate) fn drop_skips<S: Alter>(tx: &mut Transaction<'_, S>, tab: i64) -> Result<(), StoreFault>
     ensures same_reference { tx.new.conn.ghost_name ≡ tx.old.conn.ghost_name }
-    ensures steps { StepsOnOk S.Store tx.old.conn.now tx.new.conn.now result (λ v. record v { skipped = where_key column_key_cmp (λ k. not (int_eq tab k.0)) v.skipped }) }
+    ensures steps { StepsOnOk S.Store tx.old.conn.now tx.new.conn.now result
+        (λ v. record v {
+          skipped = where_key column_key_cmp (λ k. not (int_eq tab k.0)) v.skipped;
+        }) }
     ensures fault { IfErr result IsPlainFault }
     ensures kept { KeepsLast S.Store tx.old.conn.now tx.new.conn.now }
     ensures survives { LeavesNothing S.Store tx.old.conn.now tx.new.conn.now }
@@ -157,7 +171,11 @@ pub(crate) fn drop_skip<S: Alter>(
     column: i64,
 ) -> Result<(), StoreFault>
     ensures same_reference { tx.new.conn.ghost_name ≡ tx.old.conn.ghost_name }
-    ensures steps { StepsOnOk S.Store tx.old.conn.now tx.new.conn.now result (λ v. record v { skipped = where_key column_key_cmp (λ k. not (eq_by_cmp column_key_cmp (tab, column) k)) v.skipped }) }
+    ensures steps { StepsOnOk S.Store tx.old.conn.now tx.new.conn.now result
+        (λ v. record v {
+          skipped = where_key column_key_cmp
+              (λ k. not (eq_by_cmp column_key_cmp (tab, column) k)) v.skipped;
+        }) }
     ensures fault { IfErr result IsPlainFault }
     ensures kept { KeepsLast S.Store tx.old.conn.now tx.new.conn.now }
     ensures survives { LeavesNothing S.Store tx.old.conn.now tx.new.conn.now }
@@ -175,7 +193,8 @@ pub(crate) fn drop_contents<S: Alter>(
     tab: i64,
 ) -> Result<(), StoreFault>
     ensures same_reference { tx.new.conn.ghost_name ≡ tx.old.conn.ghost_name }
-    ensures steps { StepsOnOk S.Store tx.old.conn.now tx.new.conn.now result (λ v. record v { cells = where_key cell_key_cmp (λ k. not (int_eq tab k.0)) v.cells }) }
+    ensures steps { StepsOnOk S.Store tx.old.conn.now tx.new.conn.now result
+        (λ v. record v { cells = where_key cell_key_cmp (λ k. not (int_eq tab k.0)) v.cells }) }
     ensures fault { IfErr result IsPlainFault }
     ensures kept { KeepsLast S.Store tx.old.conn.now tx.new.conn.now }
     ensures survives { LeavesNothing S.Store tx.old.conn.now tx.new.conn.now }
@@ -190,7 +209,11 @@ pub(crate) fn drop_cells<S: Alter>(
     docid: i64,
 ) -> Result<(), StoreFault>
     ensures same_reference { tx.new.conn.ghost_name ≡ tx.old.conn.ghost_name }
-    ensures steps { StepsOnOk S.Store tx.old.conn.now tx.new.conn.now result (λ v. record v { cells = where_key cell_key_cmp (λ k. not (int_eq tab k.0 && int_eq docid k.1)) v.cells }) }
+    ensures steps { StepsOnOk S.Store tx.old.conn.now tx.new.conn.now result
+        (λ v. record v {
+          cells = where_key cell_key_cmp
+              (λ k. not (int_eq tab k.0 && int_eq docid k.1)) v.cells;
+        }) }
     ensures fault { IfErr result IsPlainFault }
     ensures kept { KeepsLast S.Store tx.old.conn.now tx.new.conn.now }
     ensures survives { LeavesNothing S.Store tx.old.conn.now tx.new.conn.now }
@@ -210,7 +233,11 @@ pub(crate) fn drop_cell<S: Alter>(
     column: i64,
 ) -> Result<(), StoreFault>
     ensures same_reference { tx.new.conn.ghost_name ≡ tx.old.conn.ghost_name }
-    ensures steps { StepsOnOk S.Store tx.old.conn.now tx.new.conn.now result (λ v. record v { cells = where_key cell_key_cmp (λ k. not (eq_by_cmp cell_key_cmp (tab, docid, column) k)) v.cells }) }
+    ensures steps { StepsOnOk S.Store tx.old.conn.now tx.new.conn.now result
+        (λ v. record v {
+          cells = where_key cell_key_cmp
+              (λ k. not (eq_by_cmp cell_key_cmp (tab, docid, column) k)) v.cells;
+        }) }
     ensures fault { IfErr result IsPlainFault }
     ensures kept { KeepsLast S.Store tx.old.conn.now tx.new.conn.now }
     ensures survives { LeavesNothing S.Store tx.old.conn.now tx.new.conn.now }
@@ -225,7 +252,8 @@ pub(crate) fn drop_cell<S: Alter>(
 /// Takes all lists of a table out.
 pub(crate) fn drop_lists<S: Alter>(tx: &mut Transaction<'_, S>, tab: i64) -> Result<(), StoreFault>
     ensures same_reference { tx.new.conn.ghost_name ≡ tx.old.conn.ghost_name }
-    ensures steps { StepsOnOk S.Store tx.old.conn.now tx.new.conn.now result (λ v. record v { lists = where_key list_key_cmp (λ k. not (int_eq tab k.0)) v.lists }) }
+    ensures steps { StepsOnOk S.Store tx.old.conn.now tx.new.conn.now result
+        (λ v. record v { lists = where_key list_key_cmp (λ k. not (int_eq tab k.0)) v.lists }) }
     ensures fault { IfErr result IsPlainFault }
     ensures kept { KeepsLast S.Store tx.old.conn.now tx.new.conn.now }
     ensures survives { LeavesNothing S.Store tx.old.conn.now tx.new.conn.now }
@@ -241,7 +269,11 @@ pub(crate) fn drop_list<S: Alter>(
     docid: i64,
 ) -> Result<(), StoreFault>
     ensures same_reference { tx.new.conn.ghost_name ≡ tx.old.conn.ghost_name }
-    ensures steps { StepsOnOk S.Store tx.old.conn.now tx.new.conn.now result (λ v. record v { lists = where_key list_key_cmp (λ k. not (eq_by_cmp list_key_cmp (tab, term.now, docid) k)) v.lists }) }
+    ensures steps { StepsOnOk S.Store tx.old.conn.now tx.new.conn.now result
+        (λ v. record v {
+          lists = where_key list_key_cmp
+              (λ k. not (eq_by_cmp list_key_cmp (tab, term.now, docid) k)) v.lists;
+        }) }
     ensures fault { IfErr result IsPlainFault }
     ensures kept { KeepsLast S.Store tx.old.conn.now tx.new.conn.now }
     ensures survives { LeavesNothing S.Store tx.old.conn.now tx.new.conn.now }
@@ -256,7 +288,8 @@ pub(crate) fn drop_list<S: Alter>(
 /// Takes all sizes of a table out.
 pub(crate) fn drop_sizes<S: Alter>(tx: &mut Transaction<'_, S>, tab: i64) -> Result<(), StoreFault>
     ensures same_reference { tx.new.conn.ghost_name ≡ tx.old.conn.ghost_name }
-    ensures steps { StepsOnOk S.Store tx.old.conn.now tx.new.conn.now result (λ v. record v { sizes = where_key cell_key_cmp (λ k. not (int_eq tab k.0)) v.sizes }) }
+    ensures steps { StepsOnOk S.Store tx.old.conn.now tx.new.conn.now result
+        (λ v. record v { sizes = where_key cell_key_cmp (λ k. not (int_eq tab k.0)) v.sizes }) }
     ensures fault { IfErr result IsPlainFault }
     ensures kept { KeepsLast S.Store tx.old.conn.now tx.new.conn.now }
     ensures survives { LeavesNothing S.Store tx.old.conn.now tx.new.conn.now }
@@ -272,7 +305,11 @@ pub(crate) fn drop_size<S: Alter>(
     column: i64,
 ) -> Result<(), StoreFault>
     ensures same_reference { tx.new.conn.ghost_name ≡ tx.old.conn.ghost_name }
-    ensures steps { StepsOnOk S.Store tx.old.conn.now tx.new.conn.now result (λ v. record v { sizes = where_key cell_key_cmp (λ k. not (eq_by_cmp cell_key_cmp (tab, docid, column) k)) v.sizes }) }
+    ensures steps { StepsOnOk S.Store tx.old.conn.now tx.new.conn.now result
+        (λ v. record v {
+          sizes = where_key cell_key_cmp
+              (λ k. not (eq_by_cmp cell_key_cmp (tab, docid, column) k)) v.sizes;
+        }) }
     ensures fault { IfErr result IsPlainFault }
     ensures kept { KeepsLast S.Store tx.old.conn.now tx.new.conn.now }
     ensures survives { LeavesNothing S.Store tx.old.conn.now tx.new.conn.now }
@@ -287,7 +324,11 @@ pub(crate) fn drop_size<S: Alter>(
 /// Takes a noted name out.
 pub(crate) fn drop_note<S: Alter>(tx: &mut Transaction<'_, S>, name: &str) -> Result<(), StoreFault>
     ensures same_reference { tx.new.conn.ghost_name ≡ tx.old.conn.ghost_name }
-    ensures steps { StepsOnOk S.Store tx.old.conn.now tx.new.conn.now result (λ v. record v { noted = where_key name_cmp (λ k. not (eq_by_cmp name_cmp (without_case name.now) k)) v.noted }) }
+    ensures steps { StepsOnOk S.Store tx.old.conn.now tx.new.conn.now result
+        (λ v. record v {
+          noted = where_key name_cmp
+              (λ k. not (eq_by_cmp name_cmp (without_case name.now) k)) v.noted;
+        }) }
     ensures fault { IfErr result IsPlainFault }
     ensures kept { KeepsLast S.Store tx.old.conn.now tx.new.conn.now }
     ensures survives { LeavesNothing S.Store tx.old.conn.now tx.new.conn.now }
@@ -302,7 +343,9 @@ pub(crate) fn add_name<S: Alter>(
     name: &str,
 ) -> Result<(), StoreFault>
     ensures same_reference { tx.new.conn.ghost_name ≡ tx.old.conn.ghost_name }
-    ensures steps { AddsOnOk S.Store tx.old.conn.now tx.new.conn.now result (λ v. find int_cmp tab v.tables ≡ None) (λ v. record v { tables = put int_cmp tab name.now v.tables }) }
+    ensures steps { AddsOnOk S.Store tx.old.conn.now tx.new.conn.now result
+        (λ v. find int_cmp tab v.tables ≡ None)
+        (λ v. record v { tables = put int_cmp tab name.now v.tables }) }
     ensures fault { IfErr result IsPlainFault }
     ensures kept { KeepsLast S.Store tx.old.conn.now tx.new.conn.now }
     ensures survives { LeavesNothing S.Store tx.old.conn.now tx.new.conn.now }
@@ -322,7 +365,9 @@ pub(crate) fn add_column<S: Alter>(
     name: &str,
 ) -> Result<(), StoreFault>
     ensures same_reference { tx.new.conn.ghost_name ≡ tx.old.conn.ghost_name }
-    ensures steps { AddsOnOk S.Store tx.old.conn.now tx.new.conn.now result (λ v. find column_key_cmp (tab, column) v.columns ≡ None) (λ v. record v { columns = put column_key_cmp (tab, column) name.now v.columns }) }
+    ensures steps { AddsOnOk S.Store tx.old.conn.now tx.new.conn.now result
+        (λ v. find column_key_cmp (tab, column) v.columns ≡ None)
+        (λ v. record v { columns = put column_key_cmp (tab, column) name.now v.columns }) }
     ensures fault { IfErr result IsPlainFault }
     ensures kept { KeepsLast S.Store tx.old.conn.now tx.new.conn.now }
     ensures survives { LeavesNothing S.Store tx.old.conn.now tx.new.conn.now }
@@ -341,7 +386,9 @@ pub(crate) fn add_skip<S: Alter>(
     column: i64,
 ) -> Result<(), StoreFault>
     ensures same_reference { tx.new.conn.ghost_name ≡ tx.old.conn.ghost_name }
-    ensures steps { AddsOnOk S.Store tx.old.conn.now tx.new.conn.now result (λ v. find column_key_cmp (tab, column) v.skipped ≡ None) (λ v. record v { skipped = put column_key_cmp (tab, column) tt v.skipped }) }
+    ensures steps { AddsOnOk S.Store tx.old.conn.now tx.new.conn.now result
+        (λ v. find column_key_cmp (tab, column) v.skipped ≡ None)
+        (λ v. record v { skipped = put column_key_cmp (tab, column) tt v.skipped }) }
     ensures fault { IfErr result IsPlainFault }
     ensures kept { KeepsLast S.Store tx.old.conn.now tx.new.conn.now }
     ensures survives { LeavesNothing S.Store tx.old.conn.now tx.new.conn.now }
@@ -362,7 +409,12 @@ pub(crate) fn add_cell<S: Alter>(
     value: &Value,
 ) -> Result<(), StoreFault>
     ensures same_reference { tx.new.conn.ghost_name ≡ tx.old.conn.ghost_name }
-    ensures steps { AddsOnOk S.Store tx.old.conn.now tx.new.conn.now result (λ v. find cell_key_cmp (tab, docid, column) v.cells ≡ None) (λ v. record v { cells = put cell_key_cmp (tab, docid, column) (shown_value value.now) v.cells }) }
+    ensures steps { AddsOnOk S.Store tx.old.conn.now tx.new.conn.now result
+        (λ v. find cell_key_cmp (tab, docid, column) v.cells ≡ None)
+        (λ v. record v {
+          cells = put cell_key_cmp (tab, docid, column) (shown_value value.now)
+              v.cells;
+        }) }
     ensures fault { IfErr result IsPlainFault }
     ensures kept { KeepsLast S.Store tx.old.conn.now tx.new.conn.now }
     ensures survives { LeavesNothing S.Store tx.old.conn.now tx.new.conn.now }
@@ -389,7 +441,12 @@ pub(crate) fn add_list<'a, S: Alter>(
     list: &'a [u8],
 ) -> Result<(), StoreFault>
     ensures same_reference { tx.new.conn.ghost_name ≡ tx.old.conn.ghost_name }
-    ensures steps { AddsOnOk S.Store tx.old.conn.now tx.new.conn.now result (λ v. find list_key_cmp (tab, term.now, docid) v.lists ≡ None) (λ v. record v { lists = put list_key_cmp (tab, term.now, docid) (unwrap_or (spots_in list.now) []) v.lists }) }
+    ensures steps { AddsOnOk S.Store tx.old.conn.now tx.new.conn.now result
+        (λ v. find list_key_cmp (tab, term.now, docid) v.lists ≡ None)
+        (λ v. record v {
+          lists = put list_key_cmp (tab, term.now, docid)
+              (unwrap_or (spots_in list.now) []) v.lists;
+        }) }
     ensures fault { IfErr result IsPlainFault }
     ensures kept { KeepsLast S.Store tx.old.conn.now tx.new.conn.now }
     ensures survives { LeavesNothing S.Store tx.old.conn.now tx.new.conn.now }
@@ -437,7 +494,9 @@ pub(crate) fn add_size<S: Alter>(
     n: i64,
 ) -> Result<(), StoreFault>
     ensures same_reference { tx.new.conn.ghost_name ≡ tx.old.conn.ghost_name }
-    ensures steps { AddsOnOk S.Store tx.old.conn.now tx.new.conn.now result (λ v. find cell_key_cmp (tab, docid, column) v.sizes ≡ None) (λ v. record v { sizes = put cell_key_cmp (tab, docid, column) n v.sizes }) }
+    ensures steps { AddsOnOk S.Store tx.old.conn.now tx.new.conn.now result
+        (λ v. find cell_key_cmp (tab, docid, column) v.sizes ≡ None)
+        (λ v. record v { sizes = put cell_key_cmp (tab, docid, column) n v.sizes }) }
     ensures fault { IfErr result IsPlainFault }
     ensures kept { KeepsLast S.Store tx.old.conn.now tx.new.conn.now }
     ensures survives { LeavesNothing S.Store tx.old.conn.now tx.new.conn.now }
@@ -452,7 +511,9 @@ pub(crate) fn add_size<S: Alter>(
 /// Adds a noted name.
 pub(crate) fn add_note<S: Alter>(tx: &mut Transaction<'_, S>, name: &str) -> Result<(), StoreFault>
     ensures same_reference { tx.new.conn.ghost_name ≡ tx.old.conn.ghost_name }
-    ensures steps { AddsOnOk S.Store tx.old.conn.now tx.new.conn.now result (λ v. find name_cmp (without_case name.now) v.noted ≡ None) (λ v. record v { noted = put name_cmp (without_case name.now) name.now v.noted }) }
+    ensures steps { AddsOnOk S.Store tx.old.conn.now tx.new.conn.now result
+        (λ v. find name_cmp (without_case name.now) v.noted ≡ None)
+        (λ v. record v { noted = put name_cmp (without_case name.now) name.now v.noted }) }
     ensures fault { IfErr result IsPlainFault }
     ensures kept { KeepsLast S.Store tx.old.conn.now tx.new.conn.now }
     ensures survives { LeavesNothing S.Store tx.old.conn.now tx.new.conn.now }

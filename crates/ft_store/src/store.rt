@@ -11,14 +11,14 @@ ghost use Rattle.ft_store.specs.Store.{cell_key_cmp, list_key_cmp, name_cmp, not
 ghost use Rattle.ft_store.specs.Changes.{shown_change, CanApply};
 ghost use Rattle.ft_store.specs.Shown.{shown_cell, shown_size, shown_note, shown_list, shown_entry, lists_of_term, lists_of_prefix, spot_count, tables_listed, shown_table, last_docid_of, entries_of, AreWhole, AreRead, SomeDamaged, AreNamedApart};
 ghost use Rattle.ft_store.specs.Calls.{IsPlainFault, IsReadFault, IsChangeFault, IsStored, Keeps};
-ghost use Rattle.ft_store.specs.Adopted.{IsTaken, IsNotTaken, LeavesMade};
+ghost use Rattle.ft_store.specs.Adopted.{IsTaken, IsNotTaken, IsNotTakenFor, LeavesMade};
 ghost use Rattle.ft_store.specs.Older.{IsOlder};
 
 use crate::adopt::take;
 use crate::fault::StoreFault;
 use crate::files::open_for_store;
 use crate::lists::count_spots;
-use crate::make::make;
+use crate::make::made;
 use crate::{lists, read, tables, write};
 use ft_values::{CellRow, EntryRow, ListRow, RowChange, SizeRow, TabRow};
 use ram_disk::{Ram, open_ram};
@@ -71,8 +71,7 @@ impl Store<FileStore<Ram>> {
         ensures unread { IfOk result (λ store. store.rows_read ≡ 0) }
         ensures causes { IfErr result IsPlainFault }
     {
-        let mut conn = open_ram(alloc)?;
-        make(&mut conn)?;
+        let conn = made(open_ram(alloc)?)?;
         Ok(Store {
             conn,
             alloc,
@@ -108,7 +107,19 @@ impl<B: Start> Store<FileStore<FileFrom<B>>> {
         ensures unread { IfOk result (λ store. store.rows_read ≡ 0) }
     {
         let conn = open_for_store(rt, path, start)?;
-        match Store::adopt(rt.alloc(), conn) {
+        Store::taken(rt.alloc(), conn)
+    }
+}
+
+impl<S: Alter + Drop> Store<S> {
+    // The database as a store, or why it is not taken: then what it stands on is let go here alone.
+    fn taken(alloc: Global, conn: Connection<S>) -> Result<Store<S>, StoreFault>
+        ensures taken { conn.in_transaction ≡ false
+            → IfOk result (λ store. IsTaken S.Store conn store.held × (store.rows_read ≡ 0)) }
+        ensures refused { conn.in_transaction ≡ false
+            → IfErr result (IsNotTakenFor S.Store conn) }
+    {
+        match Store::adopt(alloc, conn) {
             Ok(store) => Ok(store),
             Err(fault) => Err(fault.cause),
         }
@@ -122,16 +133,26 @@ impl<S: Alter> Store<S> {
     /// transaction. A store of version 2 becomes one of version 3 that holds the same, also in one transaction. Any other
     /// is handed back as it was, outside a transaction. One in a transaction is refused, and handed back in it.
     pub fn adopt(alloc: Global, conn: Connection<S>) -> Result<Store<S>, AdoptFault<S>>
-        ensures taken { conn.in_transaction ≡ false → IfOk result (λ store. IsTaken S.Store conn store.held × (store.rows_read ≡ 0)) }
-        ensures refused { conn.in_transaction ≡ false → IfErr result (λ fault. IsNotTaken S.Store conn fault.connection fault.cause) }
-        ensures again { conn.in_transaction ≡ false → IfErr result (λ fault. HasCleanDisk (state S.Store fault.connection) → IsTrue (state S.Store conn).is_open → (v : StoreValue) → IsStored (state S.Store conn).now.trees v
-            → (fault.cause ≢ StoreFault.NotAStore) × ((n : ℤ) → fault.cause ≢ StoreFault.Version n)) }
-        ensures again_older { conn.in_transaction ≡ false → IfErr result (λ fault.
-            HasCleanDisk (state S.Store fault.connection) → IsTrue (state S.Store conn).is_open
-            → IsOlder (state S.Store conn).now.trees
-            → (fault.cause ≢ StoreFault.NotAStore) × ((n : ℤ) → fault.cause ≢ StoreFault.Version n)) }
-        ensures busy { IsTrue conn.in_transaction → MatchResult result (λ _. ⊥) (λ fault. (fault.connection ≡ conn) × (fault.cause ≡ StoreFault.Refused)) }
-        ensures crash { conn.in_transaction ≡ false → MatchResult result (λ store. LeavesMade S.Store conn store.held) (λ fault. LeavesMade S.Store conn fault.connection) }
+        ensures taken { conn.in_transaction ≡ false
+            → IfOk result (λ store. IsTaken S.Store conn store.held × (store.rows_read ≡ 0)) }
+        ensures refused { conn.in_transaction ≡ false
+            → IfErr result (λ fault. IsNotTaken S.Store conn fault.connection fault.cause) }
+        ensures again { conn.in_transaction ≡ false
+            → IfErr result (λ fault. HasCleanDisk (state S.Store fault.connection)
+            → IsTrue (state S.Store conn).is_open → (v : StoreValue)
+            → IsStored (state S.Store conn).now.trees v → (fault.cause ≢ StoreFault.NotAStore)
+            × ((n : ℤ) → fault.cause ≢ StoreFault.Version n)) }
+        ensures again_older { conn.in_transaction ≡ false
+            → IfErr result (λ fault. HasCleanDisk (state S.Store fault.connection)
+            → IsTrue (state S.Store conn).is_open → IsOlder (state S.Store conn).now.trees
+            → (fault.cause ≢ StoreFault.NotAStore)
+            × ((n : ℤ) → fault.cause ≢ StoreFault.Version n)) }
+        ensures busy { IsTrue conn.in_transaction
+            → MatchResult result (λ _. ⊥) (λ fault. (fault.connection ≡ conn)
+            × (fault.cause ≡ StoreFault.Refused)) }
+        ensures crash { conn.in_transaction ≡ false
+            → MatchResult result (λ store. LeavesMade S.Store conn store.held)
+            (λ fault. LeavesMade S.Store conn fault.connection) }
     {
         let mut conn = conn;
         let _schema = conn.schema();
@@ -156,11 +177,17 @@ impl<S: Alter> Store<S> {
 
     /// All tables, by rising number, each with its columns and the numbers of those that aren't indexed.
     pub fn tables(&mut self) -> Result<Vec<TabRow>, StoreFault>
-        ensures rows { HasCleanDisk (shows S.Store self.new) → IfOk result (λ found. map shown_table found.items ≡ tables_listed (value_in S.Store self.old)) }
-        ensures kept { HasCleanDisk (shows S.Store self.new) → Keeps (shows S.Store self.old) (shows S.Store self.new) }
-        ensures live { HasCleanDisk (shows S.Store self.new) → OnOk result (IsTrue (shows S.Store self.new).is_open) }
-        ensures survives { Survives (shows S.Store self.old) (shows S.Store self.new) (λ _. IsTrue (shows S.Store self.old).is_open → ⊥) }
-        ensures counted { IfOk result (λ found. self.new.rows_read ≡ more_rows (vec_len found) self.old) }
+        ensures rows { HasCleanDisk (shows S.Store self.new)
+            → IfOk result (λ found. map shown_table found.items
+            ≡ tables_listed (value_in S.Store self.old)) }
+        ensures kept { HasCleanDisk (shows S.Store self.new)
+            → Keeps (shows S.Store self.old) (shows S.Store self.new) }
+        ensures live { HasCleanDisk (shows S.Store self.new)
+            → OnOk result (IsTrue (shows S.Store self.new).is_open) }
+        ensures survives { Survives (shows S.Store self.old) (shows S.Store self.new)
+            (λ _. IsTrue (shows S.Store self.old).is_open → ⊥) }
+        ensures counted { IfOk result (λ found. self.new.rows_read
+            ≡ more_rows (vec_len found) self.old) }
         ensures uncounted { OnErr result (self.new.rows_read ≡ self.old.rows_read) }
         ensures causes { IfErr result IsPlainFault }
     {
@@ -171,11 +198,17 @@ impl<S: Alter> Store<S> {
 
     /// All cells of a table, by rising docid and then column.
     pub fn cells(&mut self, tab: i64) -> Result<Vec<CellRow>, StoreFault>
-        ensures rows { HasCleanDisk (shows S.Store self.new) → IfOk result (λ found. map (shown_cell tab) found.items ≡ where_key cell_key_cmp (λ k. int_eq tab k.0) (value_in S.Store self.old).cells) }
-        ensures kept { HasCleanDisk (shows S.Store self.new) → Keeps (shows S.Store self.old) (shows S.Store self.new) }
-        ensures live { HasCleanDisk (shows S.Store self.new) → OnOk result (IsTrue (shows S.Store self.new).is_open) }
-        ensures survives { Survives (shows S.Store self.old) (shows S.Store self.new) (λ _. IsTrue (shows S.Store self.old).is_open → ⊥) }
-        ensures counted { IfOk result (λ found. self.new.rows_read ≡ more_rows (vec_len found) self.old) }
+        ensures rows { HasCleanDisk (shows S.Store self.new)
+            → IfOk result (λ found. map (shown_cell tab) found.items
+            ≡ where_key cell_key_cmp (λ k. int_eq tab k.0) (value_in S.Store self.old).cells) }
+        ensures kept { HasCleanDisk (shows S.Store self.new)
+            → Keeps (shows S.Store self.old) (shows S.Store self.new) }
+        ensures live { HasCleanDisk (shows S.Store self.new)
+            → OnOk result (IsTrue (shows S.Store self.new).is_open) }
+        ensures survives { Survives (shows S.Store self.old) (shows S.Store self.new)
+            (λ _. IsTrue (shows S.Store self.old).is_open → ⊥) }
+        ensures counted { IfOk result (λ found. self.new.rows_read
+            ≡ more_rows (vec_len found) self.old) }
         ensures uncounted { OnErr result (self.new.rows_read ≡ self.old.rows_read) }
         ensures causes { IfErr result IsPlainFault }
     {
@@ -186,11 +219,18 @@ impl<S: Alter> Store<S> {
 
     /// The cells of one document, by rising column.
     pub fn document(&mut self, tab: i64, docid: i64) -> Result<Vec<CellRow>, StoreFault>
-        ensures rows { HasCleanDisk (shows S.Store self.new) → IfOk result (λ found. map (shown_cell tab) found.items ≡ where_key cell_key_cmp (λ k. int_eq tab k.0 && int_eq docid k.1) (value_in S.Store self.old).cells) }
-        ensures kept { HasCleanDisk (shows S.Store self.new) → Keeps (shows S.Store self.old) (shows S.Store self.new) }
-        ensures live { HasCleanDisk (shows S.Store self.new) → OnOk result (IsTrue (shows S.Store self.new).is_open) }
-        ensures survives { Survives (shows S.Store self.old) (shows S.Store self.new) (λ _. IsTrue (shows S.Store self.old).is_open → ⊥) }
-        ensures counted { IfOk result (λ found. self.new.rows_read ≡ more_rows (vec_len found) self.old) }
+        ensures rows { HasCleanDisk (shows S.Store self.new)
+            → IfOk result (λ found. map (shown_cell tab) found.items
+            ≡ where_key cell_key_cmp (λ k. int_eq tab k.0 && int_eq docid k.1)
+            (value_in S.Store self.old).cells) }
+        ensures kept { HasCleanDisk (shows S.Store self.new)
+            → Keeps (shows S.Store self.old) (shows S.Store self.new) }
+        ensures live { HasCleanDisk (shows S.Store self.new)
+            → OnOk result (IsTrue (shows S.Store self.new).is_open) }
+        ensures survives { Survives (shows S.Store self.old) (shows S.Store self.new)
+            (λ _. IsTrue (shows S.Store self.old).is_open → ⊥) }
+        ensures counted { IfOk result (λ found. self.new.rows_read
+            ≡ more_rows (vec_len found) self.old) }
         ensures uncounted { OnErr result (self.new.rows_read ≡ self.old.rows_read) }
         ensures causes { IfErr result IsPlainFault }
     {
@@ -201,11 +241,16 @@ impl<S: Alter> Store<S> {
 
     /// The greatest docid of a table's cells, None where it has none.
     pub fn last_docid(&mut self, tab: i64) -> Result<Option<i64>, StoreFault>
-        ensures last { HasCleanDisk (shows S.Store self.new) → IfOk result (λ last. last ≡ last_docid_of tab (value_in S.Store self.old).cells) }
-        ensures kept { HasCleanDisk (shows S.Store self.new) → Keeps (shows S.Store self.old) (shows S.Store self.new) }
-        ensures live { HasCleanDisk (shows S.Store self.new) → OnOk result (IsTrue (shows S.Store self.new).is_open) }
-        ensures survives { Survives (shows S.Store self.old) (shows S.Store self.new) (λ _. IsTrue (shows S.Store self.old).is_open → ⊥) }
-        ensures counted { IfOk result (λ last. self.new.rows_read ≡ more_rows (length (option_to_list last)) self.old) }
+        ensures last { HasCleanDisk (shows S.Store self.new)
+            → IfOk result (λ last. last ≡ last_docid_of tab (value_in S.Store self.old).cells) }
+        ensures kept { HasCleanDisk (shows S.Store self.new)
+            → Keeps (shows S.Store self.old) (shows S.Store self.new) }
+        ensures live { HasCleanDisk (shows S.Store self.new)
+            → OnOk result (IsTrue (shows S.Store self.new).is_open) }
+        ensures survives { Survives (shows S.Store self.old) (shows S.Store self.new)
+            (λ _. IsTrue (shows S.Store self.old).is_open → ⊥) }
+        ensures counted { IfOk result (λ last. self.new.rows_read
+            ≡ more_rows (length (option_to_list last)) self.old) }
         ensures uncounted { OnErr result (self.new.rows_read ≡ self.old.rows_read) }
         ensures causes { IfErr result IsPlainFault }
     {
@@ -216,14 +261,24 @@ impl<S: Alter> Store<S> {
 
     /// The entries of one term, by rising docid, then column and position. Damaged where one of its lists is.
     pub fn term(&mut self, tab: i64, term: &str) -> Result<Vec<EntryRow>, StoreFault>
-        ensures rows { HasCleanDisk (shows S.Store self.new) → IfOk result (λ found. let asked = where_key list_key_cmp (λ k. int_eq tab k.0 && is_eq (name_cmp term.now k.1)) (value_in S.Store self.old).lists in (map shown_entry found.items ≡ entries_of asked) × AreWhole asked) }
-        ensures damaged { HasCleanDisk (shows S.Store self.new) → result ≡ Err StoreFault.Damaged → SomeDamaged (where_key list_key_cmp (λ k. int_eq tab k.0 && is_eq (name_cmp term.now k.1)) (value_in S.Store self.old).lists) }
+        ensures rows { HasCleanDisk (shows S.Store self.new)
+            → IfOk result (λ found. let asked = where_key list_key_cmp
+            (λ k. int_eq tab k.0 && is_eq (name_cmp term.now k.1)) (value_in S.Store self.old).lists
+            in (map shown_entry found.items ≡ entries_of asked) × AreWhole asked) }
+        ensures damaged { HasCleanDisk (shows S.Store self.new) → result ≡ Err StoreFault.Damaged
+            → SomeDamaged (where_key list_key_cmp
+            (λ k. int_eq tab k.0 && is_eq (name_cmp term.now k.1))
+            (value_in S.Store self.old).lists) }
         ensures causes { IfErr result IsReadFault }
-        ensures kept { HasCleanDisk (shows S.Store self.new) → Keeps (shows S.Store self.old) (shows S.Store self.new) }
-        ensures survives { Survives (shows S.Store self.old) (shows S.Store self.new) (λ _. IsTrue (shows S.Store self.old).is_open → ⊥) }
-        ensures counted { IfOk result (λ found. self.new.rows_read ≡ more_rows (vec_len found) self.old) }
+        ensures kept { HasCleanDisk (shows S.Store self.new)
+            → Keeps (shows S.Store self.old) (shows S.Store self.new) }
+        ensures survives { Survives (shows S.Store self.old) (shows S.Store self.new)
+            (λ _. IsTrue (shows S.Store self.old).is_open → ⊥) }
+        ensures counted { IfOk result (λ found. self.new.rows_read
+            ≡ more_rows (vec_len found) self.old) }
         ensures uncounted { OnErr result (self.new.rows_read ≡ self.old.rows_read) }
-        ensures live { HasCleanDisk (shows S.Store self.new) → OnOk result (IsTrue (shows S.Store self.new).is_open) }
+        ensures live { HasCleanDisk (shows S.Store self.new)
+            → OnOk result (IsTrue (shows S.Store self.new).is_open) }
     {
         let found = lists::term(&mut self.conn, self.alloc, tab, term)?;
         self.rows_read = self.rows_read.saturating_add(found.len() as u64);
@@ -233,15 +288,20 @@ impl<S: Alter> Store<S> {
     /// The lists of one term, by rising docid. Damaged where one of them is. Each place counts as a row.
     pub fn term_lists(&mut self, tab: i64, term: &str) -> Result<Vec<ListRow>, StoreFault>
         ensures rows { HasCleanDisk (shows S.Store self.new)
-            → IfOk result (λ found. AreRead (lists_of_term tab term.now (value_in S.Store self.old)) found.items) }
+            → IfOk result (λ found. AreRead (lists_of_term tab term.now (value_in S.Store self.old))
+            found.items) }
         ensures damaged { HasCleanDisk (shows S.Store self.new) → result ≡ Err StoreFault.Damaged
             → SomeDamaged (lists_of_term tab term.now (value_in S.Store self.old)) }
         ensures causes { IfErr result IsReadFault }
-        ensures kept { HasCleanDisk (shows S.Store self.new) → Keeps (shows S.Store self.old) (shows S.Store self.new) }
-        ensures survives { Survives (shows S.Store self.old) (shows S.Store self.new) (λ _. IsTrue (shows S.Store self.old).is_open → ⊥) }
-        ensures counted { IfOk result (λ found. self.new.rows_read ≡ more_rows (spot_count (map shown_list found.items)) self.old) }
+        ensures kept { HasCleanDisk (shows S.Store self.new)
+            → Keeps (shows S.Store self.old) (shows S.Store self.new) }
+        ensures survives { Survives (shows S.Store self.old) (shows S.Store self.new)
+            (λ _. IsTrue (shows S.Store self.old).is_open → ⊥) }
+        ensures counted { IfOk result (λ found. self.new.rows_read
+            ≡ more_rows (spot_count (map shown_list found.items)) self.old) }
         ensures uncounted { OnErr result (self.new.rows_read ≡ self.old.rows_read) }
-        ensures live { HasCleanDisk (shows S.Store self.new) → OnOk result (IsTrue (shows S.Store self.new).is_open) }
+        ensures live { HasCleanDisk (shows S.Store self.new)
+            → OnOk result (IsTrue (shows S.Store self.new).is_open) }
     {
         let found = lists::term_lists(&mut self.conn, self.alloc, tab, term)?;
         self.rows_read = self.rows_read.saturating_add(count_spots(found.as_slice()));
@@ -251,14 +311,25 @@ impl<S: Alter> Store<S> {
     /// The entries of the terms that begin so, by term, then docid, column and position. Damaged where one of their
     /// lists is.
     pub fn prefix(&mut self, tab: i64, begin: &str) -> Result<Vec<EntryRow>, StoreFault>
-        ensures rows { HasCleanDisk (shows S.Store self.new) → IfOk result (λ found. let asked = where_key list_key_cmp (λ k. int_eq tab k.0 && starts_with nat_eq k.1 begin.now) (value_in S.Store self.old).lists in (map shown_entry found.items ≡ entries_of asked) × AreWhole asked) }
-        ensures damaged { HasCleanDisk (shows S.Store self.new) → result ≡ Err StoreFault.Damaged → SomeDamaged (where_key list_key_cmp (λ k. int_eq tab k.0 && starts_with nat_eq k.1 begin.now) (value_in S.Store self.old).lists) }
+        ensures rows { HasCleanDisk (shows S.Store self.new)
+            → IfOk result (λ found. let asked = where_key list_key_cmp
+            (λ k. int_eq tab k.0 && starts_with nat_eq k.1 begin.now)
+            (value_in S.Store self.old).lists in (map shown_entry found.items ≡ entries_of asked)
+            × AreWhole asked) }
+        ensures damaged { HasCleanDisk (shows S.Store self.new) → result ≡ Err StoreFault.Damaged
+            → SomeDamaged (where_key list_key_cmp
+            (λ k. int_eq tab k.0 && starts_with nat_eq k.1 begin.now)
+            (value_in S.Store self.old).lists) }
         ensures causes { IfErr result IsReadFault }
-        ensures kept { HasCleanDisk (shows S.Store self.new) → Keeps (shows S.Store self.old) (shows S.Store self.new) }
-        ensures survives { Survives (shows S.Store self.old) (shows S.Store self.new) (λ _. IsTrue (shows S.Store self.old).is_open → ⊥) }
-        ensures counted { IfOk result (λ found. self.new.rows_read ≡ more_rows (vec_len found) self.old) }
+        ensures kept { HasCleanDisk (shows S.Store self.new)
+            → Keeps (shows S.Store self.old) (shows S.Store self.new) }
+        ensures survives { Survives (shows S.Store self.old) (shows S.Store self.new)
+            (λ _. IsTrue (shows S.Store self.old).is_open → ⊥) }
+        ensures counted { IfOk result (λ found. self.new.rows_read
+            ≡ more_rows (vec_len found) self.old) }
         ensures uncounted { OnErr result (self.new.rows_read ≡ self.old.rows_read) }
-        ensures live { HasCleanDisk (shows S.Store self.new) → OnOk result (IsTrue (shows S.Store self.new).is_open) }
+        ensures live { HasCleanDisk (shows S.Store self.new)
+            → OnOk result (IsTrue (shows S.Store self.new).is_open) }
     {
         let found = lists::prefix(&mut self.conn, self.alloc, tab, begin)?;
         self.rows_read = self.rows_read.saturating_add(found.len() as u64);
@@ -269,15 +340,20 @@ impl<S: Alter> Store<S> {
     /// a row.
     pub fn prefix_lists(&mut self, tab: i64, begin: &str) -> Result<Vec<ListRow>, StoreFault>
         ensures rows { HasCleanDisk (shows S.Store self.new)
-            → IfOk result (λ found. AreRead (lists_of_prefix tab begin.now (value_in S.Store self.old)) found.items) }
+            → IfOk result (λ found. AreRead (lists_of_prefix tab begin.now
+            (value_in S.Store self.old)) found.items) }
         ensures damaged { HasCleanDisk (shows S.Store self.new) → result ≡ Err StoreFault.Damaged
             → SomeDamaged (lists_of_prefix tab begin.now (value_in S.Store self.old)) }
         ensures causes { IfErr result IsReadFault }
-        ensures kept { HasCleanDisk (shows S.Store self.new) → Keeps (shows S.Store self.old) (shows S.Store self.new) }
-        ensures survives { Survives (shows S.Store self.old) (shows S.Store self.new) (λ _. IsTrue (shows S.Store self.old).is_open → ⊥) }
-        ensures counted { IfOk result (λ found. self.new.rows_read ≡ more_rows (spot_count (map shown_list found.items)) self.old) }
+        ensures kept { HasCleanDisk (shows S.Store self.new)
+            → Keeps (shows S.Store self.old) (shows S.Store self.new) }
+        ensures survives { Survives (shows S.Store self.old) (shows S.Store self.new)
+            (λ _. IsTrue (shows S.Store self.old).is_open → ⊥) }
+        ensures counted { IfOk result (λ found. self.new.rows_read
+            ≡ more_rows (spot_count (map shown_list found.items)) self.old) }
         ensures uncounted { OnErr result (self.new.rows_read ≡ self.old.rows_read) }
-        ensures live { HasCleanDisk (shows S.Store self.new) → OnOk result (IsTrue (shows S.Store self.new).is_open) }
+        ensures live { HasCleanDisk (shows S.Store self.new)
+            → OnOk result (IsTrue (shows S.Store self.new).is_open) }
     {
         let found = lists::prefix_lists(&mut self.conn, self.alloc, tab, begin)?;
         self.rows_read = self.rows_read.saturating_add(count_spots(found.as_slice()));
@@ -286,15 +362,25 @@ impl<S: Alter> Store<S> {
 
     /// All entries of a table, by term, then docid, column and position. Damaged where one of its lists is.
     pub fn entries(&mut self, tab: i64) -> Result<Vec<EntryRow>, StoreFault>
-        ensures rows { HasCleanDisk (shows S.Store self.new) → IfOk result (λ found. let asked = where_key list_key_cmp (λ k. int_eq tab k.0) (value_in S.Store self.old).lists in (map shown_entry found.items ≡ entries_of asked) × AreWhole asked) }
-        ensures damaged { HasCleanDisk (shows S.Store self.new) → result ≡ Err StoreFault.Damaged → SomeDamaged (where_key list_key_cmp (λ k. int_eq tab k.0) (value_in S.Store self.old).lists) }
+        ensures rows { HasCleanDisk (shows S.Store self.new)
+            → IfOk result (λ found. let asked = where_key list_key_cmp (λ k. int_eq tab k.0)
+            (value_in S.Store self.old).lists in (map shown_entry found.items ≡ entries_of asked)
+            × AreWhole asked) }
+        ensures damaged { HasCleanDisk (shows S.Store self.new) → result ≡ Err StoreFault.Damaged
+            → SomeDamaged (where_key list_key_cmp (λ k. int_eq tab k.0)
+            (value_in S.Store self.old).lists) }
         ensures causes { IfErr result IsReadFault }
-        ensures kept { HasCleanDisk (shows S.Store self.new) → Keeps (shows S.Store self.old) (shows S.Store self.new) }
-        ensures survives { Survives (shows S.Store self.old) (shows S.Store self.new) (λ _. IsTrue (shows S.Store self.old).is_open → ⊥) }
-        ensures counted { IfOk result (λ found. self.new.rows_read ≡ more_rows (vec_len found) self.old) }
+        ensures kept { HasCleanDisk (shows S.Store self.new)
+            → Keeps (shows S.Store self.old) (shows S.Store self.new) }
+        ensures survives { Survives (shows S.Store self.old) (shows S.Store self.new)
+            (λ _. IsTrue (shows S.Store self.old).is_open → ⊥) }
+        ensures counted { IfOk result (λ found. self.new.rows_read
+            ≡ more_rows (vec_len found) self.old) }
         ensures uncounted { OnErr result (self.new.rows_read ≡ self.old.rows_read) }
-        ensures live { HasCleanDisk (shows S.Store self.new) → OnOk result (IsTrue (shows S.Store self.new).is_open) }
-        ensures stays { HasCleanDisk (shows S.Store self.new) → result ≡ Err StoreFault.Damaged → IsTrue (shows S.Store self.new).is_open }
+        ensures live { HasCleanDisk (shows S.Store self.new)
+            → OnOk result (IsTrue (shows S.Store self.new).is_open) }
+        ensures stays { HasCleanDisk (shows S.Store self.new) → result ≡ Err StoreFault.Damaged
+            → IsTrue (shows S.Store self.new).is_open }
     {
         let found = lists::entries(&mut self.conn, self.alloc, tab)?;
         self.rows_read = self.rows_read.saturating_add(found.len() as u64);
@@ -303,11 +389,17 @@ impl<S: Alter> Store<S> {
 
     /// The sizes of a table's cells, by rising docid and then column.
     pub fn sizes(&mut self, tab: i64) -> Result<Vec<SizeRow>, StoreFault>
-        ensures rows { HasCleanDisk (shows S.Store self.new) → IfOk result (λ found. map (shown_size tab) found.items ≡ where_key cell_key_cmp (λ k. int_eq tab k.0) (value_in S.Store self.old).sizes) }
-        ensures kept { HasCleanDisk (shows S.Store self.new) → Keeps (shows S.Store self.old) (shows S.Store self.new) }
-        ensures live { HasCleanDisk (shows S.Store self.new) → OnOk result (IsTrue (shows S.Store self.new).is_open) }
-        ensures survives { Survives (shows S.Store self.old) (shows S.Store self.new) (λ _. IsTrue (shows S.Store self.old).is_open → ⊥) }
-        ensures counted { IfOk result (λ found. self.new.rows_read ≡ more_rows (vec_len found) self.old) }
+        ensures rows { HasCleanDisk (shows S.Store self.new)
+            → IfOk result (λ found. map (shown_size tab) found.items
+            ≡ where_key cell_key_cmp (λ k. int_eq tab k.0) (value_in S.Store self.old).sizes) }
+        ensures kept { HasCleanDisk (shows S.Store self.new)
+            → Keeps (shows S.Store self.old) (shows S.Store self.new) }
+        ensures live { HasCleanDisk (shows S.Store self.new)
+            → OnOk result (IsTrue (shows S.Store self.new).is_open) }
+        ensures survives { Survives (shows S.Store self.old) (shows S.Store self.new)
+            (λ _. IsTrue (shows S.Store self.old).is_open → ⊥) }
+        ensures counted { IfOk result (λ found. self.new.rows_read
+            ≡ more_rows (vec_len found) self.old) }
         ensures uncounted { OnErr result (self.new.rows_read ≡ self.old.rows_read) }
         ensures causes { IfErr result IsPlainFault }
     {
@@ -318,11 +410,17 @@ impl<S: Alter> Store<S> {
 
     /// The noted names, in the order of their small letters.
     pub fn noted(&mut self) -> Result<Vec<String>, StoreFault>
-        ensures rows { HasCleanDisk (shows S.Store self.new) → IfOk result (λ found. map shown_note found.items ≡ (value_in S.Store self.old).noted) }
-        ensures kept { HasCleanDisk (shows S.Store self.new) → Keeps (shows S.Store self.old) (shows S.Store self.new) }
-        ensures live { HasCleanDisk (shows S.Store self.new) → OnOk result (IsTrue (shows S.Store self.new).is_open) }
-        ensures survives { Survives (shows S.Store self.old) (shows S.Store self.new) (λ _. IsTrue (shows S.Store self.old).is_open → ⊥) }
-        ensures counted { IfOk result (λ found. self.new.rows_read ≡ more_rows (vec_len found) self.old) }
+        ensures rows { HasCleanDisk (shows S.Store self.new)
+            → IfOk result (λ found. map shown_note found.items
+            ≡ (value_in S.Store self.old).noted) }
+        ensures kept { HasCleanDisk (shows S.Store self.new)
+            → Keeps (shows S.Store self.old) (shows S.Store self.new) }
+        ensures live { HasCleanDisk (shows S.Store self.new)
+            → OnOk result (IsTrue (shows S.Store self.new).is_open) }
+        ensures survives { Survives (shows S.Store self.old) (shows S.Store self.new)
+            (λ _. IsTrue (shows S.Store self.old).is_open → ⊥) }
+        ensures counted { IfOk result (λ found. self.new.rows_read
+            ≡ more_rows (vec_len found) self.old) }
         ensures uncounted { OnErr result (self.new.rows_read ≡ self.old.rows_read) }
         ensures causes { IfErr result IsPlainFault }
     {
@@ -335,18 +433,28 @@ impl<S: Alter> Store<S> {
     pub fn change(&mut self, changes: &[RowChange]) -> Result<(), StoreFault>
         ensures packable { OnOk result (All CanApply changes.now) }
         ensures causes { IfErr result (IsChangeFault (All CanApply changes.now)) }
-        ensures all { HasCleanDisk (shows S.Store self.new) → OnOk result (value_in S.Store self.new ≡ all_applied (map shown_change changes.now) (value_in S.Store self.old)) }
-        ensures none { HasCleanDisk (shows S.Store self.new) → OnErr result (Keeps (shows S.Store self.old) (shows S.Store self.new)) }
-        ensures live { HasCleanDisk (shows S.Store self.new) → OnOk result (IsTrue (shows S.Store self.old).is_open × IsTrue (shows S.Store self.new).is_open) }
+        ensures all { HasCleanDisk (shows S.Store self.new)
+            → OnOk result (value_in S.Store self.new
+            ≡ all_applied (map shown_change changes.now) (value_in S.Store self.old)) }
+        ensures none { HasCleanDisk (shows S.Store self.new)
+            → OnErr result (Keeps (shows S.Store self.old) (shows S.Store self.new)) }
+        ensures live { HasCleanDisk (shows S.Store self.new)
+            → OnOk result (IsTrue (shows S.Store self.old).is_open
+            × IsTrue (shows S.Store self.new).is_open) }
         ensures unread { self.new.rows_read ≡ self.old.rows_read }
 
         // A crash leaves what it could leave before, or a store with all changes made.
         ensures crash { Survives (shows S.Store self.old) (shows S.Store self.new)
-            (λ db. IsTrue (shows S.Store self.old).is_open → IsStored db (all_applied (map shown_change changes.now) (value_in S.Store self.old))) }
+            (λ db. IsTrue (shows S.Store self.old).is_open
+            → IsStored db (all_applied (map shown_change changes.now)
+            (value_in S.Store self.old))) }
 
         // After Ok, and while the store is open, it leaves that store alone.
-        ensures alone { HasCleanDisk (shows S.Store self.new) → OnOk result (IsTrue (shows S.Store self.new).is_open → (db : Trees) → (shows S.Store self.new).may_leave db
-            → IsStored db (all_applied (map shown_change changes.now) (value_in S.Store self.old))) }
+        ensures alone { HasCleanDisk (shows S.Store self.new)
+            → OnOk result (IsTrue (shows S.Store self.new).is_open → (db : Trees)
+            → (shows S.Store self.new).may_leave db
+            → IsStored db (all_applied (map shown_change changes.now)
+            (value_in S.Store self.old))) }
     {
         write::change(&mut self.conn, self.alloc, changes)?;
         let _settled = self.conn.is_autocommit();
@@ -356,14 +464,17 @@ impl<S: Alter> Store<S> {
     /// The law that rows stand in the order of their keys, each key once, and that no two tables have one name.
     pub fn is_in_order(&self)
         ensures order { AreInOrder (value_in S.Store self.now) }
-        ensures names { HasCleanDisk (shows S.Store self.now) → IsTrue (shows S.Store self.now).is_open → AreNamedApart (value_in S.Store self.now) }
+        ensures names { HasCleanDisk (shows S.Store self.now)
+            → IsTrue (shows S.Store self.now).is_open → AreNamedApart (value_in S.Store self.now) }
     {
         let _ = &self.conn;
     }
 
     /// The law that a crash leaves what an open store holds, and nothing else.
     pub fn is_settled(&self)
-        ensures { HasCleanDisk (shows S.Store self.now) → IsTrue (shows S.Store self.now).is_open → (db : Trees) → (shows S.Store self.now).may_leave db → IsStored db (value_in S.Store self.now) }
+        ensures { HasCleanDisk (shows S.Store self.now) → IsTrue (shows S.Store self.now).is_open
+            → (db : Trees) → (shows S.Store self.now).may_leave db
+            → IsStored db (value_in S.Store self.now) }
     {
         let _ = self.conn.is_autocommit();
     }

@@ -19,8 +19,8 @@ pub(crate) trait Gathered: Sized {
 
     /// Adds what a row gives, where those before it are whole, and says whether all still are.
     fn add(&mut self, whole: bool, row: &Row) -> Result<bool, StoreFault>
-        ensures added { IfOk result (λ still. (rows : List order.Row) → is_made_of self.old whole rows
-            → is_made_of self.new still (rows ++ row.now ∷ [])) }
+        ensures added { IfOk result (λ still. (rows : List order.Row)
+            → is_made_of self.old whole rows → is_made_of self.new still (rows ++ row.now ∷ [])) }
         ensures fault { IfErr result IsPlainFault };
 }
 
@@ -35,8 +35,10 @@ pub(crate) fn gather<S: Alter, G: Gathered>(
         → IsPlain (understood (state S.Store conn.old).now.schema sql.now) }
     requires settled { (state S.Store conn.old).in_transaction ≡ false }
     requires none { G.Gathered.is_made_of into.old true [] }
-    ensures made { HasCleanDisk (state S.Store conn.new) → IfOk result (λ whole. (rows : List order.Row)
-        × Shown sql.now (bound params.now) (state S.Store conn.old) (state S.Store conn.new) rows × G.Gathered.is_made_of into.new whole rows) }
+    ensures made { HasCleanDisk (state S.Store conn.new)
+        → IfOk result (λ whole. (rows : List order.Row)
+        × Shown sql.now (bound params.now) (state S.Store conn.old) (state S.Store conn.new) rows
+        × G.Gathered.is_made_of into.new whole rows) }
     ensures read { Reads S.Store conn.old conn.new result }
     ensures whole { ¬ (result ≡ Err StoreFault.Damaged) }
     ensures fault { IfErr result IsPlainFault }

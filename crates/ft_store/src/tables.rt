@@ -21,7 +21,9 @@ fn table<S: Alter>(
 ) -> Result<TabRow, StoreFault>
     requires store { IsStoreIfOpen (state S.Store conn.old) }
     requires settled { (state S.Store conn.old).in_transaction ≡ false }
-    ensures rows { HasCleanDisk (state S.Store conn.new) → IfOk result (λ found. shown_table found ≡ table_listed (value_of (state S.Store conn.old).now.trees) (id, string_bytes name)) }
+    ensures rows { HasCleanDisk (state S.Store conn.new)
+        → IfOk result (λ found. shown_table found
+        ≡ table_listed (value_of (state S.Store conn.old).now.trees) (id, string_bytes name)) }
     ensures read { Reads S.Store conn.old conn.new result }
     ensures fault { IfErr result IsPlainFault }
 {
@@ -42,7 +44,9 @@ pub(crate) fn tables<S: Alter>(
 ) -> Result<Vec<TabRow>, StoreFault>
     requires store { IsStoreIfOpen (state S.Store conn.old) }
     requires settled { (state S.Store conn.old).in_transaction ≡ false }
-    ensures rows { HasCleanDisk (state S.Store conn.new) → IfOk result (λ found. map shown_table found.items ≡ tables_listed (value_of (state S.Store conn.old).now.trees)) }
+    ensures rows { HasCleanDisk (state S.Store conn.new)
+        → IfOk result (λ found. map shown_table found.items
+        ≡ tables_listed (value_of (state S.Store conn.old).now.trees)) }
     ensures read { Reads S.Store conn.old conn.new result }
     ensures fault { IfErr result IsPlainFault }
 {

@@ -36,7 +36,8 @@ fn put_column<S: Alter>(
     name: &str,
 ) -> Result<(), StoreFault>
     ensures same_reference { tx.new.conn.ghost_name ≡ tx.old.conn.ghost_name }
-    ensures steps { StepsOnOk S.Store tx.old.conn.now tx.new.conn.now result (λ v. record v { columns = put column_key_cmp (tab, column) name.now v.columns }) }
+    ensures steps { StepsOnOk S.Store tx.old.conn.now tx.new.conn.now result
+        (λ v. record v { columns = put column_key_cmp (tab, column) name.now v.columns }) }
     ensures fault { IfErr result IsPlainFault }
     ensures kept { KeepsLast S.Store tx.old.conn.now tx.new.conn.now }
     ensures survives { LeavesNothing S.Store tx.old.conn.now tx.new.conn.now }
@@ -48,7 +49,8 @@ fn put_column<S: Alter>(
 /// Puts that a column isn't indexed.
 fn put_skip<S: Alter>(tx: &mut Transaction<'_, S>, tab: i64, column: i64) -> Result<(), StoreFault>
     ensures same_reference { tx.new.conn.ghost_name ≡ tx.old.conn.ghost_name }
-    ensures steps { StepsOnOk S.Store tx.old.conn.now tx.new.conn.now result (λ v. record v { skipped = put column_key_cmp (tab, column) tt v.skipped }) }
+    ensures steps { StepsOnOk S.Store tx.old.conn.now tx.new.conn.now result
+        (λ v. record v { skipped = put column_key_cmp (tab, column) tt v.skipped }) }
     ensures fault { IfErr result IsPlainFault }
     ensures kept { KeepsLast S.Store tx.old.conn.now tx.new.conn.now }
     ensures survives { LeavesNothing S.Store tx.old.conn.now tx.new.conn.now }
@@ -66,7 +68,11 @@ fn put_cell<S: Alter>(
     value: &Value,
 ) -> Result<(), StoreFault>
     ensures same_reference { tx.new.conn.ghost_name ≡ tx.old.conn.ghost_name }
-    ensures steps { StepsOnOk S.Store tx.old.conn.now tx.new.conn.now result (λ v. record v { cells = put cell_key_cmp (tab, docid, column) (shown_value value.now) v.cells }) }
+    ensures steps { StepsOnOk S.Store tx.old.conn.now tx.new.conn.now result
+        (λ v. record v {
+          cells = put cell_key_cmp (tab, docid, column) (shown_value value.now)
+              v.cells;
+        }) }
     ensures fault { IfErr result IsPlainFault }
     ensures kept { KeepsLast S.Store tx.old.conn.now tx.new.conn.now }
     ensures survives { LeavesNothing S.Store tx.old.conn.now tx.new.conn.now }
@@ -84,7 +90,11 @@ fn put_list<'a, S: Alter>(
     list: &'a [u8],
 ) -> Result<(), StoreFault>
     ensures same_reference { tx.new.conn.ghost_name ≡ tx.old.conn.ghost_name }
-    ensures steps { StepsOnOk S.Store tx.old.conn.now tx.new.conn.now result (λ v. record v { lists = put list_key_cmp (tab, term.now, docid) (unwrap_or (spots_in list.now) []) v.lists }) }
+    ensures steps { StepsOnOk S.Store tx.old.conn.now tx.new.conn.now result
+        (λ v. record v {
+          lists = put list_key_cmp (tab, term.now, docid)
+              (unwrap_or (spots_in list.now) []) v.lists;
+        }) }
     ensures fault { IfErr result IsPlainFault }
     ensures kept { KeepsLast S.Store tx.old.conn.now tx.new.conn.now }
     ensures survives { LeavesNothing S.Store tx.old.conn.now tx.new.conn.now }
@@ -102,7 +112,8 @@ fn put_size<S: Alter>(
     n: i64,
 ) -> Result<(), StoreFault>
     ensures same_reference { tx.new.conn.ghost_name ≡ tx.old.conn.ghost_name }
-    ensures steps { StepsOnOk S.Store tx.old.conn.now tx.new.conn.now result (λ v. record v { sizes = put cell_key_cmp (tab, docid, column) n v.sizes }) }
+    ensures steps { StepsOnOk S.Store tx.old.conn.now tx.new.conn.now result
+        (λ v. record v { sizes = put cell_key_cmp (tab, docid, column) n v.sizes }) }
     ensures fault { IfErr result IsPlainFault }
     ensures kept { KeepsLast S.Store tx.old.conn.now tx.new.conn.now }
     ensures survives { LeavesNothing S.Store tx.old.conn.now tx.new.conn.now }
@@ -114,7 +125,8 @@ fn put_size<S: Alter>(
 /// Puts a noted name.
 fn put_note<S: Alter>(tx: &mut Transaction<'_, S>, name: &str) -> Result<(), StoreFault>
     ensures same_reference { tx.new.conn.ghost_name ≡ tx.old.conn.ghost_name }
-    ensures steps { StepsOnOk S.Store tx.old.conn.now tx.new.conn.now result (λ v. record v { noted = put name_cmp (without_case name.now) name.now v.noted }) }
+    ensures steps { StepsOnOk S.Store tx.old.conn.now tx.new.conn.now result
+        (λ v. record v { noted = put name_cmp (without_case name.now) name.now v.noted }) }
     ensures fault { IfErr result IsPlainFault }
     ensures kept { KeepsLast S.Store tx.old.conn.now tx.new.conn.now }
     ensures survives { LeavesNothing S.Store tx.old.conn.now tx.new.conn.now }
@@ -135,7 +147,8 @@ fn put_entries<S: Alter>(
     ensures packable { OnOk result (CanPack spots.now) }
     ensures fault { IfErr result (IsChangeFault (CanPack spots.now)) }
     ensures same_reference { tx.new.conn.ghost_name ≡ tx.old.conn.ghost_name }
-    ensures steps { StepsOnOk S.Store tx.old.conn.now tx.new.conn.now result (λ v. record v { lists = put list_key_cmp (tab, term.now, docid) spots.now v.lists }) }
+    ensures steps { StepsOnOk S.Store tx.old.conn.now tx.new.conn.now result
+        (λ v. record v { lists = put list_key_cmp (tab, term.now, docid) spots.now v.lists }) }
     ensures kept { KeepsLast S.Store tx.old.conn.now tx.new.conn.now }
     ensures survives { LeavesNothing S.Store tx.old.conn.now tx.new.conn.now }
 {
@@ -149,7 +162,8 @@ fn put_entries<S: Alter>(
 /// Takes all index rows of a table out.
 fn clear_index<S: Alter>(tx: &mut Transaction<'_, S>, tab: i64) -> Result<(), StoreFault>
     ensures same_reference { tx.new.conn.ghost_name ≡ tx.old.conn.ghost_name }
-    ensures steps { StepsOnOk S.Store tx.old.conn.now tx.new.conn.now result (λ v. without_index tab v) }
+    ensures steps { StepsOnOk S.Store tx.old.conn.now tx.new.conn.now result
+        (λ v. without_index tab v) }
     ensures fault { IfErr result IsPlainFault }
     ensures kept { KeepsLast S.Store tx.old.conn.now tx.new.conn.now }
     ensures survives { LeavesNothing S.Store tx.old.conn.now tx.new.conn.now }
@@ -161,7 +175,8 @@ fn clear_index<S: Alter>(tx: &mut Transaction<'_, S>, tab: i64) -> Result<(), St
 /// Takes all rows of a table out.
 fn clear_rows<S: Alter>(tx: &mut Transaction<'_, S>, tab: i64) -> Result<(), StoreFault>
     ensures same_reference { tx.new.conn.ghost_name ≡ tx.old.conn.ghost_name }
-    ensures steps { StepsOnOk S.Store tx.old.conn.now tx.new.conn.now result (λ v. without_rows tab v) }
+    ensures steps { StepsOnOk S.Store tx.old.conn.now tx.new.conn.now result
+        (λ v. without_rows tab v) }
     ensures fault { IfErr result IsPlainFault }
     ensures kept { KeepsLast S.Store tx.old.conn.now tx.new.conn.now }
     ensures survives { LeavesNothing S.Store tx.old.conn.now tx.new.conn.now }
@@ -180,7 +195,11 @@ fn put_columns<S: Alter>(
     columns: &[String],
 ) -> Result<(), StoreFault>
     ensures same_reference { tx.new.conn.ghost_name ≡ tx.old.conn.ghost_name }
-    ensures steps { StepsIfOpen S.Store tx.old.conn.now tx.new.conn.now result (λ v. record v { columns = with_columns tab (enumerate_from 0 (map string_bytes columns.now)) v.columns }) }
+    ensures steps { StepsIfOpen S.Store tx.old.conn.now tx.new.conn.now result
+        (λ v. record v {
+          columns = with_columns tab
+              (enumerate_from 0 (map string_bytes columns.now)) v.columns;
+        }) }
     ensures fault { IfErr result IsPlainFault }
     ensures kept { KeepsLast S.Store tx.old.conn.now tx.new.conn.now }
     ensures survives { LeavesNothing S.Store tx.old.conn.now tx.new.conn.now }
@@ -198,7 +217,8 @@ fn put_skips<S: Alter>(
     skipped: &[i64],
 ) -> Result<(), StoreFault>
     ensures same_reference { tx.new.conn.ghost_name ≡ tx.old.conn.ghost_name }
-    ensures steps { StepsIfOpen S.Store tx.old.conn.now tx.new.conn.now result (λ v. record v { skipped = with_skipped tab skipped.now v.skipped }) }
+    ensures steps { StepsIfOpen S.Store tx.old.conn.now tx.new.conn.now result
+        (λ v. record v { skipped = with_skipped tab skipped.now v.skipped }) }
     ensures fault { IfErr result IsPlainFault }
     ensures kept { KeepsLast S.Store tx.old.conn.now tx.new.conn.now }
     ensures survives { LeavesNothing S.Store tx.old.conn.now tx.new.conn.now }
@@ -218,7 +238,8 @@ fn add_table<S: Alter>(
     skipped: &[i64],
 ) -> Result<(), StoreFault>
     ensures same_reference { tx.new.conn.ghost_name ≡ tx.old.conn.ghost_name }
-    ensures steps { StepsOnOk S.Store tx.old.conn.now tx.new.conn.now result (λ v. applied (AddTable tab name.now (map string_bytes columns.now) skipped.now) v) }
+    ensures steps { StepsOnOk S.Store tx.old.conn.now tx.new.conn.now result
+        (λ v. applied (AddTable tab name.now (map string_bytes columns.now) skipped.now) v) }
     ensures fault { IfErr result IsPlainFault }
     ensures kept { KeepsLast S.Store tx.old.conn.now tx.new.conn.now }
     ensures survives { LeavesNothing S.Store tx.old.conn.now tx.new.conn.now }
@@ -238,7 +259,8 @@ fn apply<S: Alter>(
     ensures packable { OnOk result (CanApply change.now) }
     ensures fault { IfErr result (IsChangeFault (CanApply change.now)) }
     ensures same_reference { tx.new.conn.ghost_name ≡ tx.old.conn.ghost_name }
-    ensures steps { StepsOnOk S.Store tx.old.conn.now tx.new.conn.now result (λ v. applied (shown_change change.now) v) }
+    ensures steps { StepsOnOk S.Store tx.old.conn.now tx.new.conn.now result
+        (λ v. applied (shown_change change.now) v) }
     ensures kept { KeepsLast S.Store tx.old.conn.now tx.new.conn.now }
     ensures survives { LeavesNothing S.Store tx.old.conn.now tx.new.conn.now }
 {
@@ -424,13 +446,21 @@ pub(crate) fn change<S: Alter>(
     requires store { IsStoreIfOpen (state S.Store conn.old) }
     ensures packable { OnOk result (All CanApply changes.now) }
     ensures fault { IfErr result (IsChangeFault (All CanApply changes.now)) }
-    ensures all { HasCleanDisk (state S.Store conn.new) → OnOk result (IsStore (state S.Store conn.new).now
-        × (value_of (state S.Store conn.new).now.trees ≡ all_applied (map shown_change changes.now) (value_of (state S.Store conn.old).now.trees))) }
-    ensures none { HasCleanDisk (state S.Store conn.new) → OnErr result (Keeps (state S.Store conn.old) (state S.Store conn.new)) }
-    ensures live { HasCleanDisk (state S.Store conn.new) → OnOk result (IsTrue (state S.Store conn.old).is_open × IsTrue (state S.Store conn.new).is_open) }
+    ensures all { HasCleanDisk (state S.Store conn.new)
+        → OnOk result (IsStore (state S.Store conn.new).now
+        × (value_of (state S.Store conn.new).now.trees
+        ≡ all_applied (map shown_change changes.now)
+        (value_of (state S.Store conn.old).now.trees))) }
+    ensures none { HasCleanDisk (state S.Store conn.new)
+        → OnErr result (Keeps (state S.Store conn.old) (state S.Store conn.new)) }
+    ensures live { HasCleanDisk (state S.Store conn.new)
+        → OnOk result (IsTrue (state S.Store conn.old).is_open
+        × IsTrue (state S.Store conn.new).is_open) }
     ensures mode { (state S.Store conn.new).in_transaction ≡ false }
     ensures crash { Survives (state S.Store conn.old) (state S.Store conn.new)
-        (λ db. IsTrue (state S.Store conn.old).is_open → IsStored db (all_applied (map shown_change changes.now) (value_of (state S.Store conn.old).now.trees))) }
+        (λ db. IsTrue (state S.Store conn.old).is_open
+        → IsStored db (all_applied (map shown_change changes.now)
+        (value_of (state S.Store conn.old).now.trees))) }
 {
     let _settled = conn.is_autocommit();
     let mut tx = conn.transaction();

@@ -1,12 +1,9 @@
 //! Full-text tables over a store.
 
-mod alike;
 mod changes;
 mod commands;
 mod damage;
-mod queries;
 mod stops;
-mod worked;
 
 use ft_index::{Command, Fault, FullText, Reply};
 use ft_store::Store;

@@ -30,7 +30,8 @@ pub fn execute_honest<S: Honest>(
     sql: &str,
     params: &[ValueRef<'_>],
 ) -> Result<usize, Error>
-    ensures { Executes sql.now (bound params.now) (state S.Store conn.old) (state S.Store conn.new) result }
+    ensures { Executes sql.now (bound params.now) (state S.Store conn.old) (state S.Store conn.new)
+        result }
 {
     conn.execute(sql, params)
 }

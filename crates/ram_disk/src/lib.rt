@@ -74,7 +74,8 @@ pub fn execute_in_ram(
     sql: &str,
     params: &[ValueRef<'_>],
 ) -> Result<usize, Error>
-    ensures runs { Executes sql.now (bound params.now) (file_state conn.old) (file_state conn.new) result }
+    ensures runs { Executes sql.now (bound params.now) (file_state conn.old) (file_state conn.new)
+        result }
 {
     conn.execute(sql, params)
 }

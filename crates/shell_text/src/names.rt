@@ -42,7 +42,8 @@ fn names_on(
     down: usize,
     first: usize,
 ) -> Result<Vec<String>, AllocError>
-    ensures { IfOk result (λ line. bytes_of line ≡ names_on across down first (map string_bytes names.now)) }
+    ensures { IfOk result (λ line. bytes_of line
+        ≡ names_on across down first (map string_bytes names.now)) }
 {
     let mut line = Vec::new(alloc);
     let mut at = first;
@@ -78,8 +79,11 @@ fn listed(alloc: Global, names: &[String]) -> Result<Vec<u8>, AllocError>
 /// as 80 have room for, with two spaces between. The text is made whole before the first byte goes
 /// out: after `Memory` nothing was written, after `Write` a front of it and not the whole.
 pub fn write_names<W: Write>(alloc: Global, names: &[String], out: &mut W) -> Result<(), PrintFault>
-    ensures ok { OnOk result (Appends (W.contents out.old) (W.contents out.new) (listed (map string_bytes names.now))) }
-    ensures write { IsErrOf result PrintFault.Write → AppendsFront (W.contents out.old) (W.contents out.new) (listed (map string_bytes names.now)) }
+    ensures ok { OnOk result (Appends (W.contents out.old) (W.contents out.new)
+        (listed (map string_bytes names.now))) }
+    ensures write { IsErrOf result PrintFault.Write
+        → AppendsFront (W.contents out.old) (W.contents out.new)
+        (listed (map string_bytes names.now)) }
     ensures memory { IsErrOf result PrintFault.Memory → W.contents out.new ≡ W.contents out.old }
 {
     let text = listed(alloc, names)?;

@@ -41,7 +41,8 @@ impl<T: Drop> From<AllocFailed<T>> for RecordFault {
 
 // The records of bytes, as the `csv` crate reads them with a delimiter and no header row.
 fn byte_records(alloc: Global, bytes: &[u8], delimiter: u8) -> Result<Vec<ByteRecord>, AllocError>
-    ensures { IfOk result (λ rows. AreRecords (csv_reader delimiter) st.StartRecord (strip_bom bytes.now) (map fields_of rows.items)) }
+    ensures { IfOk result (λ rows. AreRecords (csv_reader delimiter) st.StartRecord
+        (strip_bom bytes.now) (map fields_of rows.items)) }
 {
     let rdr = ReaderBuilder::new()
         .has_headers(false)
@@ -61,7 +62,8 @@ fn byte_records(alloc: Global, bytes: &[u8], delimiter: u8) -> Result<Vec<ByteRe
 // The texts of a record's fields.
 fn field_texts(alloc: Global, row: &ByteRecord) -> Result<Vec<String>, RecordFault>
     ensures ok { IfOk result (λ texts. bytes_of texts ≡ fields_of row.now) }
-    ensures bad { IfErr result (λ e. e ≡ RecordFault.NotUtf8 → list_all is_utf8 (fields_of row.now) ≡ false) }
+    ensures bad { IfErr result (λ e. e ≡ RecordFault.NotUtf8
+        → list_all is_utf8 (fields_of row.now) ≡ false) }
 {
     let mut texts = Vec::new(alloc);
     for i in 0..row.len() {
@@ -86,7 +88,8 @@ pub fn read_records(
 ) -> Result<Vec<Vec<String>>, RecordFault>
     requires { is_csv_separator (delimiter ∷ []) ≡ true }
     ensures text { OnOk result (is_utf8 bytes.now ≡ true) }
-    ensures records { IfOk result (λ rows. AreRecords (csv_reader delimiter) st.StartRecord (strip_bom bytes.now) (map bytes_of rows.items)) }
+    ensures records { IfOk result (λ rows. AreRecords (csv_reader delimiter) st.StartRecord
+        (strip_bom bytes.now) (map bytes_of rows.items)) }
     ensures bad { IsErrOf result RecordFault.NotUtf8 → IsNoText (csv_reader delimiter) bytes.now }
 {
     let Ok(_) = str::from_utf8(bytes) else {

@@ -138,7 +138,8 @@ impl Settings {
     pub fn set_separator(&mut self, separator: &str) -> Result<(), SetFault>
         ensures ok { OnOk result (self.new ≡ record self.old { separator = separator.now }) }
         ensures good { OnOk result (may_separate self.old separator.now ≡ true) }
-        ensures bad { IsErrOf result SetFault.BadSeparator → may_separate self.old separator.now ≡ false }
+        ensures bad { IsErrOf result SetFault.BadSeparator
+            → may_separate self.old separator.now ≡ false }
         ensures err { OnErr result (self.new ≡ self.old) }
     {
         if let Mode::Csv = self.mode {

@@ -256,5 +256,7 @@ pub fn words_rise()
 
 /// Words of a text begin and end where it may be cut.
 pub fn words_on_characters()
-    ensures { (text : List ℕ) → IsUtf8 text → All (λ w. IsCharBoundary text w.start × IsCharBoundary text (w.start + w.size)) (words_of text) }
+    ensures { (text : List ℕ) → IsUtf8 text
+        → All (λ w. IsCharBoundary text w.start × IsCharBoundary text (w.start + w.size))
+        (words_of text) }
 {}

@@ -7,3 +7,5 @@ mod names;
 mod query;
 #[cfg(test)]
 mod shell;
+#[cfg(test)]
+mod statements;

@@ -47,8 +47,8 @@ impl Cursor {
     /// The next docid here, if there is one, which is looked at.
     pub(crate) fn docid(&self, steps: &mut Steps) -> Option<i64>
         ensures docid { result ≡ next_docid (lists_left self.now) }
-        ensures looks { steps.new.taken
-            ≡ (if is_filled (lists_left self.now) then min (steps.old.taken + 1) (2 ^ 64 - 1) else steps.old.taken) }
+        ensures looks { steps.new.taken ≡ (if is_filled (lists_left self.now) then min
+            (steps.old.taken + 1) (2 ^ 64 - 1) else steps.old.taken) }
         ensures at_least { steps.old.taken ≤ steps.new.taken }
         ensures at_most { steps.new.taken ≤ steps.old.taken + 1 }
         ensures none { result ≡ None → steps.new.taken ≡ steps.old.taken }

@@ -14,11 +14,14 @@ use std::alloc::Global;
 #[tactic(auto, using(crate::proofs::Reaching::one_call))]
 /// The list of one term.
 fn load_term<L: Lists>(alloc: Global, term: &QueryTerm, lists: &mut L) -> Result<Cursor, ListFault>
-    ensures list { IfOk result (λ c. L.is_clean lists.new → lists_kept c ≡ listed_for (L.documents lists.new) (plain_term term.now)) }
-    ensures clean { L.is_clean lists.new → L.is_clean lists.old × (L.documents lists.new ≡ L.documents lists.old) }
+    ensures list { IfOk result (λ c. L.is_clean lists.new
+        → lists_kept c ≡ listed_for (L.documents lists.new) (plain_term term.now)) }
+    ensures clean { L.is_clean lists.new → L.is_clean lists.old
+        × (L.documents lists.new ≡ L.documents lists.old) }
     ensures failed { L.has_failed lists.new ≡ (L.has_failed lists.old || is_failed result) }
     ensures becomes { Reaches L.becomes lists.old (is_ok result) lists.new }
-    ensures given { IfOk result (λ c. L.given_so_far lists.new ≡ min (L.given_so_far lists.old + place_count (lists_kept c)) (2 ^ 64 - 1)) }
+    ensures given { IfOk result (λ c. L.given_so_far lists.new
+        ≡ min (L.given_so_far lists.old + place_count (lists_kept c)) (2 ^ 64 - 1)) }
 {
     let list = if term.prefix {
         lists.prefix(alloc, term.text.as_str())?
@@ -36,12 +39,17 @@ fn load_terms<L: Lists>(
     lists: &mut L,
     cursors: &mut Vec<Cursor>,
 ) -> Result<(), ListFault>
-    ensures lists { OnOk result (L.is_clean lists.new → map lists_kept cursors.new.items ≡ map lists_kept cursors.old.items ++ map (listed_for (L.documents lists.new)) (map plain_term terms.now)) }
+    ensures lists { OnOk result (L.is_clean lists.new
+        → map lists_kept cursors.new.items ≡ map lists_kept cursors.old.items ++ map
+        (listed_for (L.documents lists.new)) (map plain_term terms.now)) }
     ensures number { OnOk result (vec_len cursors.new ≡ vec_len cursors.old + length terms.now) }
-    ensures clean { L.is_clean lists.new → L.is_clean lists.old × (L.documents lists.new ≡ L.documents lists.old) }
+    ensures clean { L.is_clean lists.new → L.is_clean lists.old
+        × (L.documents lists.new ≡ L.documents lists.old) }
     ensures failed { L.has_failed lists.new ≡ (L.has_failed lists.old || is_failed result) }
     ensures becomes { Reaches L.becomes lists.old (is_ok result) lists.new }
-    ensures given { OnOk result ((start : ℕ) → L.given_so_far lists.old ≡ min (start + places_left cursors.old.items) (2 ^ 64 - 1) → L.given_so_far lists.new ≡ min (start + places_left cursors.new.items) (2 ^ 64 - 1)) }
+    ensures given { OnOk result ((start : ℕ)
+        → L.given_so_far lists.old ≡ min (start + places_left cursors.old.items) (2 ^ 64 - 1)
+        → L.given_so_far lists.new ≡ min (start + places_left cursors.new.items) (2 ^ 64 - 1)) }
 {
     for term in terms {
         let cursor = load_term(alloc, term, lists)?;
@@ -58,12 +66,20 @@ fn load_links<L: Lists>(
     lists: &mut L,
     cursors: &mut Vec<Cursor>,
 ) -> Result<(), ListFault>
-    ensures lists { OnOk result (L.is_clean lists.new → map lists_kept cursors.new.items ≡ map lists_kept cursors.old.items ++ map (listed_for (L.documents lists.new)) (flat_map (λ link. link.to.terms) (map plain_link links.now))) }
-    ensures number { OnOk result (vec_len cursors.new ≡ vec_len cursors.old + length (flat_map (λ link. link.to.terms) (map plain_link links.now))) }
-    ensures clean { L.is_clean lists.new → L.is_clean lists.old × (L.documents lists.new ≡ L.documents lists.old) }
+    ensures lists { OnOk result (L.is_clean lists.new
+        → map lists_kept cursors.new.items ≡ map lists_kept cursors.old.items ++ map
+        (listed_for (L.documents lists.new))
+        (flat_map (λ link. link.to.terms) (map plain_link links.now))) }
+    ensures number { OnOk result (vec_len cursors.new
+        ≡ vec_len cursors.old + length (flat_map (λ link. link.to.terms)
+        (map plain_link links.now))) }
+    ensures clean { L.is_clean lists.new → L.is_clean lists.old
+        × (L.documents lists.new ≡ L.documents lists.old) }
     ensures failed { L.has_failed lists.new ≡ (L.has_failed lists.old || is_failed result) }
     ensures becomes { Reaches L.becomes lists.old (is_ok result) lists.new }
-    ensures given { OnOk result ((start : ℕ) → L.given_so_far lists.old ≡ min (start + places_left cursors.old.items) (2 ^ 64 - 1) → L.given_so_far lists.new ≡ min (start + places_left cursors.new.items) (2 ^ 64 - 1)) }
+    ensures given { OnOk result ((start : ℕ)
+        → L.given_so_far lists.old ≡ min (start + places_left cursors.old.items) (2 ^ 64 - 1)
+        → L.given_so_far lists.new ≡ min (start + places_left cursors.new.items) (2 ^ 64 - 1)) }
 {
     for link in links {
         load_terms(alloc, link.to.terms.as_slice(), lists, cursors)?;
@@ -79,12 +95,18 @@ pub(crate) fn load<L: Lists>(
     lists: &mut L,
     cursors: &mut Vec<Cursor>,
 ) -> Result<(), ListFault>
-    ensures lists { OnOk result (L.is_clean lists.new → map lists_kept cursors.new.items ≡ map lists_kept cursors.old.items ++ map (listed_for (L.documents lists.new)) (terms_in (tree_of query.now))) }
-    ensures number { OnOk result (vec_len cursors.new ≡ vec_len cursors.old + length (terms_in (tree_of query.now))) }
-    ensures clean { L.is_clean lists.new → L.is_clean lists.old × (L.documents lists.new ≡ L.documents lists.old) }
+    ensures lists { OnOk result (L.is_clean lists.new
+        → map lists_kept cursors.new.items ≡ map lists_kept cursors.old.items ++ map
+        (listed_for (L.documents lists.new)) (terms_in (tree_of query.now))) }
+    ensures number { OnOk result (vec_len cursors.new
+        ≡ vec_len cursors.old + length (terms_in (tree_of query.now))) }
+    ensures clean { L.is_clean lists.new → L.is_clean lists.old
+        × (L.documents lists.new ≡ L.documents lists.old) }
     ensures failed { L.has_failed lists.new ≡ (L.has_failed lists.old || is_failed result) }
     ensures becomes { Reaches L.becomes lists.old (is_ok result) lists.new }
-    ensures given { OnOk result ((start : ℕ) → L.given_so_far lists.old ≡ min (start + places_left cursors.old.items) (2 ^ 64 - 1) → L.given_so_far lists.new ≡ min (start + places_left cursors.new.items) (2 ^ 64 - 1)) }
+    ensures given { OnOk result ((start : ℕ)
+        → L.given_so_far lists.old ≡ min (start + places_left cursors.old.items) (2 ^ 64 - 1)
+        → L.given_so_far lists.new ≡ min (start + places_left cursors.new.items) (2 ^ 64 - 1)) }
 {
     match query {
         Query::Phrase(phrase) => load_terms(alloc, phrase.terms.as_slice(), lists, cursors),

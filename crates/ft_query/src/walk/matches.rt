@@ -49,10 +49,15 @@ fn advance(
     steps: &mut Steps,
 ) -> Result<Option<Hit>, AllocError>
     requires { length cursors.old ≡ length (terms_in (tree_of query.now)) }
-    ensures finds { IfOk result (λ hit. (documents : List Document) → StandsBefore (stands_at query.now cursors.old steps.old.taken) documents →
-        Finds wanted (stands_at query.now cursors.old steps.old.taken) (stands_at query.now cursors.new steps.new.taken) hit documents) }
-    ensures passes { IfOk result (λ hit. IfSome hit (λ _. sum_by length (map lists_kept cursors.new) < sum_by length (map lists_kept cursors.old))) }
-    ensures err { OnErr result ((map lists_kept cursors.new ≡ map lists_kept cursors.old) × (steps.new.taken ≡ steps.old.taken)) }
+    ensures finds { IfOk result (λ hit. (documents : List Document)
+        → StandsBefore (stands_at query.now cursors.old steps.old.taken) documents
+        → Finds wanted (stands_at query.now cursors.old steps.old.taken)
+        (stands_at query.now cursors.new steps.new.taken) hit documents) }
+    ensures passes { IfOk result (λ hit. IfSome hit
+        (λ _. sum_by length (map lists_kept cursors.new)
+        < sum_by length (map lists_kept cursors.old))) }
+    ensures err { OnErr result ((map lists_kept cursors.new ≡ map lists_kept cursors.old)
+        × (steps.new.taken ≡ steps.old.taken)) }
 {
     let mut taken = steps.going_on();
     begin(cursors);
@@ -97,11 +102,15 @@ impl<'q> Matches<'q> {
         query: &'q Query,
         lists: &mut L,
     ) -> Result<Matches<'q>, ListFault>
-        ensures stands { IfOk result (λ m. L.is_clean lists.new → StandsBefore m (L.documents lists.new)) }
+        ensures stands { IfOk result (λ m. L.is_clean lists.new
+            → StandsBefore m (L.documents lists.new)) }
         ensures query { IfOk result (λ m. (m.query ≡ query.now) × (m.steps ≡ 0)) }
-        ensures given { OnOk result (L.is_clean lists.new → L.given_so_far lists.old < 2 ^ 64 → L.given_so_far lists.new
-            ≡ min (L.given_so_far lists.old + entry_count (tree_of query.now) (L.documents lists.new)) (2 ^ 64 - 1)) }
-        ensures clean { L.is_clean lists.new → L.is_clean lists.old × (L.documents lists.new ≡ L.documents lists.old) }
+        ensures given { OnOk result (L.is_clean lists.new → L.given_so_far lists.old < 2 ^ 64
+            → L.given_so_far lists.new ≡ min
+            (L.given_so_far lists.old + entry_count (tree_of query.now) (L.documents lists.new))
+            (2 ^ 64 - 1)) }
+        ensures clean { L.is_clean lists.new → L.is_clean lists.old
+            × (L.documents lists.new ≡ L.documents lists.old) }
         ensures failed { L.has_failed lists.new ≡ (L.has_failed lists.old || is_failed result) }
         ensures becomes { Reaches L.becomes lists.old (is_ok result) lists.new }
     {
@@ -117,9 +126,10 @@ impl<'q> Matches<'q> {
 
     // The next hit, without offsets where they aren't wanted.
     fn find(&mut self, wanted: Wanted) -> Result<Option<Hit>, AllocError>
-        ensures finds { IfOk result (λ hit. (documents : List Document) → StandsBefore self.old documents
-            → Finds wanted self.old self.new hit documents) }
-        ensures passes { IfOk result (λ hit. IfSome hit (λ _. lists_to_come self.new < lists_to_come self.old)) }
+        ensures finds { IfOk result (λ hit. (documents : List Document)
+            → StandsBefore self.old documents → Finds wanted self.old self.new hit documents) }
+        ensures passes { IfOk result (λ hit. IfSome hit
+            (λ _. lists_to_come self.new < lists_to_come self.old)) }
         ensures query { self.new.query ≡ self.old.query }
         ensures err { OnErr result (self.new ≡ self.old) }
     {
@@ -129,8 +139,10 @@ impl<'q> Matches<'q> {
 
     /// The next hit, or `None` where there is none left. After an error the walk stands where it stood.
     pub fn next(&mut self) -> Result<Option<Hit>, AllocError>
-        ensures walked { IfOk result (λ hit. (documents : List Document) → StandsBefore self.old documents → Walked self.old self.new hit documents) }
-        ensures passes { IfOk result (λ hit. IfSome hit (λ _. lists_to_come self.new < lists_to_come self.old)) }
+        ensures walked { IfOk result (λ hit. (documents : List Document)
+            → StandsBefore self.old documents → Walked self.old self.new hit documents) }
+        ensures passes { IfOk result (λ hit. IfSome hit
+            (λ _. lists_to_come self.new < lists_to_come self.old)) }
         ensures query { self.new.query ≡ self.old.query }
         ensures err { OnErr result (self.new ≡ self.old) }
     {
@@ -140,9 +152,10 @@ impl<'q> Matches<'q> {
     /// The docid of the next hit, or `None` where there is none left. No offsets are made. After an error the walk stands where it
     /// stood.
     pub fn next_docid(&mut self) -> Result<Option<i64>, AllocError>
-        ensures walked { IfOk result (λ docid. (documents : List Document) → StandsBefore self.old documents
-            → WalkedTo self.old self.new docid documents) }
-        ensures passes { IfOk result (λ docid. IfSome docid (λ _. lists_to_come self.new < lists_to_come self.old)) }
+        ensures walked { IfOk result (λ docid. (documents : List Document)
+            → StandsBefore self.old documents → WalkedTo self.old self.new docid documents) }
+        ensures passes { IfOk result (λ docid.
+            IfSome docid (λ _. lists_to_come self.new < lists_to_come self.old)) }
         ensures query { self.new.query ≡ self.old.query }
         ensures err { OnErr result (self.new ≡ self.old) }
     {

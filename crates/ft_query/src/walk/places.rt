@@ -190,7 +190,8 @@ impl Starts {
 
     /// One more.
     pub(crate) fn push(&mut self, spot: Spot<'_>) -> Result<(), AllocError>
-        ensures { OnOk result (self.new.places.items ≡ self.old.places.items ++ spot.entry.place.now ∷ []) }
+        ensures { OnOk result (self.new.places.items
+            ≡ self.old.places.items ++ spot.entry.place.now ∷ []) }
     {
         self.places.push(*spot.place)?;
         Ok(())

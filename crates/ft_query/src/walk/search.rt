@@ -26,8 +26,8 @@ impl Cursor {
     /// The lesser of this docid and the next one here, which is looked at if there is one.
     fn lesser(&self, docid: Option<i64>, steps: &mut Steps) -> Option<i64>
         ensures docid { result ≡ least_of docid (lists_left self.now) }
-        ensures looks { steps.new.taken
-            ≡ (if is_filled (lists_left self.now) then min (steps.old.taken + 1) (2 ^ 64 - 1) else steps.old.taken) }
+        ensures looks { steps.new.taken ≡ (if is_filled (lists_left self.now) then min
+            (steps.old.taken + 1) (2 ^ 64 - 1) else steps.old.taken) }
         ensures at_least { steps.old.taken ≤ steps.new.taken }
         ensures at_most { steps.new.taken ≤ steps.old.taken + 1 }
         ensures none { result ≡ None → steps.new.taken ≡ steps.old.taken }
@@ -88,9 +88,12 @@ fn consider(
 ) -> Result<Considered, AllocError>
     requires { length cursors.old ≡ length (terms_in (tree_of query.now)) }
     ensures kept { map lists_kept cursors.new ≡ map lists_kept cursors.old }
-    ensures considers { IfOk result (λ c. (documents : List Document) → StandsBefore (walk_at query.now cursors.old steps.old.taken) documents →
-        Considers wanted (walk_at query.now cursors.old steps.old.taken) (walk_at query.now cursors.new steps.new.taken) c documents) }
-    ensures passes { IfOk result (λ c. IsDocument c → sum_by length (map lists_left cursors.new) < sum_by length (map lists_left cursors.old)) }
+    ensures considers { IfOk result (λ c. (documents : List Document)
+        → StandsBefore (walk_at query.now cursors.old steps.old.taken) documents
+        → Considers wanted (walk_at query.now cursors.old steps.old.taken)
+        (walk_at query.now cursors.new steps.new.taken) c documents) }
+    ensures passes { IfOk result (λ c. IsDocument c
+        → sum_by length (map lists_left cursors.new) < sum_by length (map lists_left cursors.old)) }
 {
     let Some(docid) = least(cursors, steps) else {
         return Ok(Considered::NoDocument);
@@ -113,9 +116,13 @@ pub(crate) fn search(
 ) -> Result<Option<Hit>, AllocError>
     requires { length cursors.old ≡ length (terms_in (tree_of query.now)) }
     ensures kept { map lists_kept cursors.new ≡ map lists_kept cursors.old }
-    ensures finds { IfOk result (λ hit. (documents : List Document) → StandsBefore (walk_at query.now cursors.old steps.old.taken) documents →
-        Finds wanted (walk_at query.now cursors.old steps.old.taken) (walk_at query.now cursors.new steps.new.taken) hit documents) }
-    ensures passes { IfOk result (λ hit. IfSome hit (λ _. sum_by length (map lists_left cursors.new) < sum_by length (map lists_left cursors.old))) }
+    ensures finds { IfOk result (λ hit. (documents : List Document)
+        → StandsBefore (walk_at query.now cursors.old steps.old.taken) documents
+        → Finds wanted (walk_at query.now cursors.old steps.old.taken)
+        (walk_at query.now cursors.new steps.new.taken) hit documents) }
+    ensures passes { IfOk result (λ hit. IfSome hit
+        (λ _. sum_by length (map lists_left cursors.new)
+        < sum_by length (map lists_left cursors.old))) }
 {
     loop {
         match consider(alloc, query, cursors, wanted, steps)? {

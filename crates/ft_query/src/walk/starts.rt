@@ -17,7 +17,8 @@ fn seek<'a>(
     steps: &mut Steps,
 ) -> (bool, Places<'a>)
     ensures found { result.0 ≡ (seek i place.entry.place.now j places.entry.places.now).0 }
-    ensures rest { result.1.places.now ≡ (seek i place.entry.place.now j places.entry.places.now).1 }
+    ensures rest { result.1.places.now ≡ (seek i place.entry.place.now j
+        places.entry.places.now).1 }
     ensures at_least { steps.old.taken ≤ steps.new.taken }
     ensures at_most { steps.new.taken + length result.1.places.now
         ≤ steps.old.taken + length places.entry.places.now + 1 }
@@ -44,7 +45,8 @@ fn skip_behind<'a>(
     most: usize,
     steps: &mut Steps,
 ) -> Places<'a>
-    ensures rest { result.places.now ≡ skip_behind most k places.entry.places.now place.entry.place.now }
+    ensures rest { result.places.now ≡ skip_behind most k places.entry.places.now
+        place.entry.place.now }
     ensures at_least { steps.old.taken ≤ steps.new.taken }
     ensures at_most { steps.new.taken + length result.places.now
         ≤ steps.old.taken + length places.entry.places.now + 1 }
@@ -96,7 +98,8 @@ impl Starts {
         first: bool,
         steps: &mut Steps,
     ) -> Result<Starts, AllocError>
-        ensures starts { IfOk result (λ s. s.places.items ≡ filter (may_begin only first) places.entry.places.now) }
+        ensures starts { IfOk result (λ s. s.places.items
+            ≡ filter (may_begin only first) places.entry.places.now) }
         ensures at_least { steps.old.taken ≤ steps.new.taken }
         ensures at_most { steps.new.taken ≤ steps.old.taken + length places.entry.places.now }
     {
@@ -122,7 +125,8 @@ impl Starts {
         places: Places<'_>,
         steps: &mut Steps,
     ) -> Result<Starts, AllocError>
-        ensures starts { IfOk result (λ s. s.places.items ≡ among i 0 self.now.places.items places.entry.places.now) }
+        ensures starts { IfOk result (λ s. s.places.items
+            ≡ among i 0 self.now.places.items places.entry.places.now) }
         ensures at_least { steps.old.taken ≤ steps.new.taken }
         ensures at_most { steps.new.taken
             ≤ steps.old.taken + length self.now.places.items + length places.entry.places.now }
@@ -151,9 +155,11 @@ impl Starts {
         most: usize,
         steps: &mut Steps,
     ) -> Result<Starts, AllocError>
-        ensures starts { IfOk result (λ s. s.places.items ≡ near_those most k self.now.places.items m others.now.places.items) }
+        ensures starts { IfOk result (λ s. s.places.items
+            ≡ near_those most k self.now.places.items m others.now.places.items) }
         ensures at_least { steps.old.taken ≤ steps.new.taken }
-        ensures at_most { steps.new.taken ≤ steps.old.taken + length self.now.places.items + 3 * length others.now.places.items }
+        ensures at_most { steps.new.taken ≤ steps.old.taken + length self.now.places.items + 3
+            * length others.now.places.items }
     {
         let mut kept = Starts::with_room(alloc, others.all())?;
         let mut left = self.all();
@@ -178,7 +184,8 @@ impl Starts {
         steps: &mut Steps,
     ) -> Result<(), AllocError>
         ensures marked { OnOk result (found.new.items
-            ≡ found.old.items ++ map (offset_at number) (among 0 i places.entry.places.now self.now.places.items)) }
+            ≡ found.old.items ++ map (offset_at number)
+            (among 0 i places.entry.places.now self.now.places.items)) }
         ensures at_least { steps.old.taken ≤ steps.new.taken }
         ensures at_most { steps.new.taken
             ≤ steps.old.taken + length places.entry.places.now + length self.now.places.items }

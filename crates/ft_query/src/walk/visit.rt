@@ -25,9 +25,11 @@ fn follow_one(
     steps: &mut Steps,
 ) -> Result<Starts, AllocError>
     ensures starts { IfOk result (λ s. s.places.items
-        ≡ (if term.now.first then [] else among i 0 starts.now.places.items list.entry.places.now)) }
+        ≡ (if term.now.first then [] else among i 0 starts.now.places.items
+        list.entry.places.now)) }
     ensures at_least { steps.old.taken ≤ steps.new.taken }
-    ensures at_most { steps.new.taken ≤ steps.old.taken + length starts.now.places.items + length list.entry.places.now }
+    ensures at_most { steps.new.taken ≤ steps.old.taken + length starts.now.places.items + length
+        list.entry.places.now }
 {
     if term.first {
         Ok(Starts::none(alloc))
@@ -48,7 +50,8 @@ fn follow(
     ensures starts { IfOk result (λ s. s.places.items
         ≡ followed 1 (map plain_term terms.now) (plain_lists lists.now) first.places.items) }
     ensures at_least { steps.old.taken ≤ steps.new.taken }
-    ensures at_most { steps.new.taken ≤ steps.old.taken + length first.places.items + 2 * total (plain_lists lists.now) }
+    ensures at_most { steps.new.taken ≤ steps.old.taken + length first.places.items + 2 * total
+        (plain_lists lists.now) }
 {
     let mut starts = first;
     for (i, term) in terms.iter().enumerate() {
@@ -66,7 +69,8 @@ fn starts_of(
     steps: &mut Steps,
 ) -> Result<Starts, AllocError>
     requires { length lists.now ≡ vec_len phrase.now.terms }
-    ensures starts { IfOk result (λ s. s.places.items ≡ starts_of (plain_phrase phrase.now) (plain_lists lists.now)) }
+    ensures starts { IfOk result (λ s. s.places.items
+        ≡ starts_of (plain_phrase phrase.now) (plain_lists lists.now)) }
     ensures at_least { steps.old.taken ≤ steps.new.taken }
     ensures at_most { steps.new.taken ≤ steps.old.taken + 2 * total (plain_lists lists.now) }
 {
@@ -148,8 +152,8 @@ fn mark_phrase(
     ensures wanted { found.new.wanted ≡ found.old.wanted }
     ensures next { OnOk result (found.new.next ≡ found.old.next + length lists.now) }
     ensures at_least { steps.old.taken ≤ steps.new.taken }
-    ensures at_most { steps.new.taken
-        ≤ steps.old.taken + total (plain_lists lists.now) + length lists.now * length starts.now.places.items }
+    ensures at_most { steps.new.taken ≤ steps.old.taken + total (plain_lists lists.now) + length
+        lists.now * length starts.now.places.items }
 {
     for (i, list) in lists.iter().enumerate() {
         starts.mark(&mut found.offsets, found.next, i, *list, steps)?;
@@ -167,14 +171,17 @@ fn linked(
     lists: &[Places<'_>],
     steps: &mut Steps,
 ) -> Result<(Starts, Vec<Starts>), AllocError>
-    requires { length lists.now ≡ length (terms_in (chain (plain_phrase first.now) (map plain_link links.now))) }
+    requires { length lists.now ≡ length (terms_in
+        (chain (plain_phrase first.now) (map plain_link links.now))) }
     ensures first { IfOk result (λ r. r.0.places.items
-        ≡ head_of (linked (plain_phrase first.now) (map plain_link links.now) (plain_lists lists.now))) }
+        ≡ head_of (linked (plain_phrase first.now) (map plain_link links.now)
+        (plain_lists lists.now))) }
     ensures rest { IfOk result (λ r. plain_starts r.1.items
-        ≡ reverse (drop 1 (linked (plain_phrase first.now) (map plain_link links.now) (plain_lists lists.now)))) }
+        ≡ reverse (drop 1 (linked (plain_phrase first.now) (map plain_link links.now)
+        (plain_lists lists.now)))) }
     ensures at_least { steps.old.taken ≤ steps.new.taken }
-    ensures at_most { steps.new.taken
-        ≤ steps.old.taken + linked_cost (plain_phrase first.now) (map plain_link links.now) (plain_lists lists.now) }
+    ensures at_most { steps.new.taken ≤ steps.old.taken + linked_cost (plain_phrase first.now)
+        (map plain_link links.now) (plain_lists lists.now) }
 {
     let Some((link, links)) = links.split_first() else {
         let starts = starts_of(alloc, first, lists, steps)?;
@@ -200,16 +207,19 @@ fn mark_links(
     all: &[Starts],
     steps: &mut Steps,
 ) -> Result<(), AllocError>
-    requires lists { length lists.now ≡ length (flat_map (λ l. l.to.terms) (map plain_link links.now)) }
+    requires lists { length lists.now ≡ length
+        (flat_map (λ l. l.to.terms) (map plain_link links.now)) }
     requires all { length all.now ≡ length links.now }
     requires fits { found.old.next + length lists.now < 2 ^ 64 }
-    ensures offsets { OnOk result (found.new.offsets.items ≡ found.old.offsets.items
-        ++ numbered found.old.next (link_marks k starts.now.places.items (map plain_link links.now) (plain_lists lists.now) (plain_starts all.now))) }
+    ensures offsets { OnOk result (found.new.offsets.items
+        ≡ found.old.offsets.items ++ numbered found.old.next
+        (link_marks k starts.now.places.items (map plain_link links.now) (plain_lists lists.now)
+        (plain_starts all.now))) }
     ensures wanted { found.new.wanted ≡ found.old.wanted }
     ensures next { OnOk result (found.new.next ≡ found.old.next + length lists.now) }
     ensures at_least { steps.old.taken ≤ steps.new.taken }
-    ensures at_most { steps.new.taken
-        ≤ steps.old.taken + link_cost k starts.now.places.items (map plain_link links.now) (plain_lists lists.now) (plain_starts all.now) }
+    ensures at_most { steps.new.taken ≤ steps.old.taken + link_cost k starts.now.places.items
+        (map plain_link links.now) (plain_lists lists.now) (plain_starts all.now) }
 {
     let Some((link, links)) = links.split_first() else {
         return Ok(());
@@ -234,16 +244,21 @@ fn visit_phrase(
 ) -> Result<bool, AllocError>
     requires lists { length lists.now ≡ vec_len words.now.terms }
     requires fits { found.old.next + length lists.now < 2 ^ 64 }
-    ensures accepted { IfOk result (λ b. b ≡ is_filled (starts_of (plain_phrase words.now) (plain_lists lists.now))) }
+    ensures accepted { IfOk result (λ b. b ≡ is_filled
+        (starts_of (plain_phrase words.now) (plain_lists lists.now))) }
     ensures wanted { found.new.wanted ≡ found.old.wanted }
-    ensures offsets { OnOk result (found.new.offsets.items ≡ found.old.offsets.items
-        ++ numbered found.old.next (if_wanted found.old.wanted
-        (marks_from 0 (plain_lists lists.now) (starts_of (plain_phrase words.now) (plain_lists lists.now))))) }
-    ensures next { OnOk result (found.new.next ≡ found.old.next + length (if_wanted found.old.wanted
-        (marks_from 0 (plain_lists lists.now) (starts_of (plain_phrase words.now) (plain_lists lists.now))))) }
+    ensures offsets { OnOk result (found.new.offsets.items
+        ≡ found.old.offsets.items ++ numbered found.old.next
+        (if_wanted found.old.wanted (marks_from 0 (plain_lists lists.now)
+        (starts_of (plain_phrase words.now) (plain_lists lists.now))))) }
+    ensures next { OnOk result (found.new.next
+        ≡ found.old.next + length (if_wanted found.old.wanted
+        (marks_from 0 (plain_lists lists.now)
+        (starts_of (plain_phrase words.now) (plain_lists lists.now))))) }
     ensures room { OnOk result (found.new.next ≤ found.old.next + length lists.now) }
     ensures at_least { steps.old.taken ≤ steps.new.taken }
-    ensures at_most { steps.new.taken + 1 ≤ steps.old.taken + visit_cost (phrase (plain_phrase words.now)) (plain_lists lists.now) }
+    ensures at_most { steps.new.taken + 1 ≤ steps.old.taken + visit_cost
+        (phrase (plain_phrase words.now)) (plain_lists lists.now) }
 {
     match found.wanted {
         Wanted::Docids => occurs(found.alloc, words, lists, steps),
@@ -263,19 +278,27 @@ fn visit_chain(
     found: &mut Found,
     steps: &mut Steps,
 ) -> Result<bool, AllocError>
-    requires lists { length lists.now ≡ length (terms_in (chain (plain_phrase near.now.first) (map plain_link near.now.links.items))) }
+    requires lists { length lists.now ≡ length
+        (terms_in (chain (plain_phrase near.now.first) (map plain_link near.now.links.items))) }
     requires fits { found.old.next + length lists.now < 2 ^ 64 }
-    ensures accepted { IfOk result (λ b. b ≡ is_accepted (chain (plain_phrase near.now.first) (map plain_link near.now.links.items)) (plain_lists lists.now)) }
+    ensures accepted { IfOk result (λ b. b ≡ is_accepted
+        (chain (plain_phrase near.now.first) (map plain_link near.now.links.items))
+        (plain_lists lists.now)) }
     ensures wanted { found.new.wanted ≡ found.old.wanted }
-    ensures offsets { OnOk result (found.new.offsets.items ≡ found.old.offsets.items
-        ++ numbered found.old.next (if_wanted found.old.wanted
-        (marks_of (chain (plain_phrase near.now.first) (map plain_link near.now.links.items)) (plain_lists lists.now)))) }
-    ensures next { OnOk result (found.new.next ≡ found.old.next + length (if_wanted found.old.wanted
-        (marks_of (chain (plain_phrase near.now.first) (map plain_link near.now.links.items)) (plain_lists lists.now)))) }
+    ensures offsets { OnOk result (found.new.offsets.items
+        ≡ found.old.offsets.items ++ numbered found.old.next
+        (if_wanted found.old.wanted (marks_of
+        (chain (plain_phrase near.now.first) (map plain_link near.now.links.items))
+        (plain_lists lists.now)))) }
+    ensures next { OnOk result (found.new.next
+        ≡ found.old.next + length (if_wanted found.old.wanted
+        (marks_of (chain (plain_phrase near.now.first) (map plain_link near.now.links.items))
+        (plain_lists lists.now)))) }
     ensures room { OnOk result (found.new.next ≤ found.old.next + length lists.now) }
     ensures at_least { steps.old.taken ≤ steps.new.taken }
-    ensures at_most { steps.new.taken + 1 ≤ steps.old.taken
-        + visit_cost (chain (plain_phrase near.now.first) (map plain_link near.now.links.items)) (plain_lists lists.now) }
+    ensures at_most { steps.new.taken + 1 ≤ steps.old.taken + visit_cost
+        (chain (plain_phrase near.now.first) (map plain_link near.now.links.items))
+        (plain_lists lists.now) }
 {
     let links = near.links.as_slice();
     let (starts, mut all) = linked(found.alloc, &near.first, links, lists, steps)?;
@@ -295,8 +318,10 @@ fn visit_chain(
 #[tactic(auto, using(crate::proofs::Marks::count_more))]
 // How many terms a chain has.
 fn chain_count(near: &Chain) -> usize
-    requires { length (terms_in (chain (plain_phrase near.now.first) (map plain_link near.now.links.items))) < 2 ^ 64 }
-    ensures { result ≡ length (terms_in (chain (plain_phrase near.now.first) (map plain_link near.now.links.items))) }
+    requires { length (terms_in (chain (plain_phrase near.now.first)
+        (map plain_link near.now.links.items))) < 2 ^ 64 }
+    ensures { result ≡ length (terms_in (chain (plain_phrase near.now.first)
+        (map plain_link near.now.links.items))) }
 {
     let mut count = near.first.terms.len();
     for link in &near.links {
@@ -329,15 +354,19 @@ fn visit_part(
 ) -> Result<bool, AllocError>
     requires lists { length lists.now ≡ length (terms_in (tree_of query.now)) }
     requires fits { found.old.next + length lists.now < 2 ^ 64 }
-    ensures accepted { IfOk result (λ b. b ≡ is_accepted (tree_of query.now) (plain_lists lists.now)) }
+    ensures accepted { IfOk result (λ b. b ≡ is_accepted (tree_of query.now)
+        (plain_lists lists.now)) }
     ensures wanted { found.new.wanted ≡ found.old.wanted }
-    ensures offsets { OnOk result (found.new.offsets.items ≡ found.old.offsets.items
-        ++ numbered found.old.next (if_wanted found.old.wanted (marks_of (tree_of query.now) (plain_lists lists.now)))) }
+    ensures offsets { OnOk result (found.new.offsets.items
+        ≡ found.old.offsets.items ++ numbered found.old.next
+        (if_wanted found.old.wanted (marks_of (tree_of query.now) (plain_lists lists.now)))) }
     ensures next { OnOk result (found.new.next
-        ≡ found.old.next + length (if_wanted found.old.wanted (marks_of (tree_of query.now) (plain_lists lists.now)))) }
+        ≡ found.old.next + length (if_wanted found.old.wanted
+        (marks_of (tree_of query.now) (plain_lists lists.now)))) }
     ensures room { OnOk result (found.new.next ≤ found.old.next + length lists.now) }
     ensures at_least { min (steps.old.taken + 1) (2 ^ 64 - 1) ≤ steps.new.taken }
-    ensures at_most { steps.new.taken ≤ steps.old.taken + visit_cost (tree_of query.now) (plain_lists lists.now) }
+    ensures at_most { steps.new.taken ≤ steps.old.taken + visit_cost (tree_of query.now)
+        (plain_lists lists.now) }
 {
     steps.take();
     match query {
@@ -421,13 +450,15 @@ pub(crate) fn visit(
     steps: &mut Steps,
 ) -> Result<Option<Vec<Offset>>, AllocError>
     requires { length cursors.now ≡ length (terms_in (tree_of query.now)) }
-    ensures offsets { IfOk result (λ offsets. (postings : List Posting) → AllPairs IsBefore postings →
-        map (λ c. places_at docid (lists_left c)) cursors.now ≡ map (listed_places postings) (terms_in (tree_of query.now)) →
-        option_map (λ o. o.items) offsets
-        ≡ (if accepts postings (tree_of query.now) then Some (if_wanted wanted (offsets_of postings (tree_of query.now))) else None)) }
+    ensures offsets { IfOk result (λ offsets. (postings : List Posting) → AllPairs IsBefore postings
+        → map (λ c. places_at docid (lists_left c)) cursors.now
+        ≡ map (listed_places postings) (terms_in (tree_of query.now))
+        → option_map (λ o. o.items) offsets ≡ (if accepts postings (tree_of query.now) then Some
+        (if_wanted wanted (offsets_of postings (tree_of query.now))) else None)) }
     ensures at_least { min (steps.old.taken + 1) (2 ^ 64 - 1) ≤ steps.new.taken }
-    ensures at_most { steps.new.taken ≤ steps.old.taken
-        + 12 * (sum_by (λ c. length (places_at docid (lists_left c))) cursors.now) + 3 * width (tree_of query.now) }
+    ensures at_most { steps.new.taken ≤ steps.old.taken + 12
+        * (sum_by (λ c. length (places_at docid (lists_left c))) cursors.now) + 3 * width
+        (tree_of query.now) }
 {
     let lists = lists_of(alloc, cursors, docid, steps)?;
     let mut found = no_offsets(alloc, wanted);

@@ -1,6 +1,6 @@
-//! The rows that commands leave, and those that they read.
+//! What a plan names, commands that no statement spells, and how many rows are read.
 
-use super::worked::begun;
+use super::commands::begun;
 use super::{answer, taken};
 use crate::empty::{Begins, Trial, tried};
 use crate::store::all_read;
@@ -41,7 +41,7 @@ fn command_of(alloc: Global, order: Order) -> Result<Command, AllocError> {
     }
 }
 
-// What the order is answered.
+// What an order is answered.
 fn answered<S: Alter>(
     tables: &mut FullText<S>,
     alloc: Global,
@@ -51,7 +51,7 @@ fn answered<S: Alter>(
     Ok(answer(tables, &command))
 }
 
-// The changes that the plan of the order names.
+// The changes that the plan of an order names.
 fn planned<S: Alter>(
     tables: &mut FullText<S>,
     alloc: Global,
@@ -61,116 +61,33 @@ fn planned<S: Alter>(
     Ok(tables.plan(&command)?)
 }
 
-// How a store goes on.
-#[derive(Clone, Copy)]
-enum Deed {
-    Nothing,
-    Execute(Order),
-    // The changes are made that its plan names.
-    Plan(Order),
-}
-
-fn after_order<S: Alter + Drop>(
-    alloc: Global,
-    store: Store<S>,
-    order: Order,
-) -> Result<Store<S>, Fail> {
-    let mut tables = taken(alloc, store)?;
-    answered(&mut tables, alloc, order)??;
-    Ok(tables.into_store())
-}
-
-fn after_plan<S: Alter + Drop>(
-    alloc: Global,
-    store: Store<S>,
-    order: Order,
-) -> Result<Store<S>, Fail> {
-    let mut tables = taken(alloc, store)?;
-    let changes = planned(&mut tables, alloc, order)?;
-    changed(tables.into_store(), changes)
-}
-
-fn changed<S: Alter + Drop>(store: Store<S>, changes: Vec<RowChange>) -> Result<Store<S>, Fail> {
-    let mut store = store;
-    store.change(changes.as_slice())?;
-    Ok(store)
-}
-
-fn gone_on<S: Alter + Drop>(alloc: Global, store: Store<S>, deed: Deed) -> Result<Store<S>, Fail> {
-    match deed {
-        Deed::Nothing => Ok(store),
-        Deed::Execute(order) => after_order(alloc, store, order),
-        Deed::Plan(order) => after_plan(alloc, store, order),
-    }
-}
-
 fn rows_of<S: Alter + Drop>(alloc: Global, store: Store<S>) -> Result<String, Fail> {
     let mut store = store;
     Ok(all_read(&mut store, alloc)?)
 }
 
-// The rows that an input leaves, and then a deed.
-#[derive(Clone, Copy)]
-struct After<'a> {
-    input: &'a str,
-    deed: Deed,
+fn rows_with<S: Alter + Drop>(
+    alloc: Global,
+    store: Store<S>,
+    changes: &[RowChange],
+) -> Result<String, Fail> {
+    let mut store = store;
+    store.change(changes)?;
+    rows_of(alloc, store)
 }
 
-impl<'a> Trial for After<'a> {
+// The rows that an input leaves, and then the changes that the plan of an order names.
+#[derive(Clone, Copy)]
+struct Planned(&'static str, Order);
+
+impl Trial for Planned {
     type Found = String;
 
     fn over<S: Begins>(self, alloc: Global) -> Result<String, Fail> {
-        let store = begun::<S>(alloc, self.input)?;
-        rows_of(alloc, gone_on(alloc, store, self.deed)?)
+        let mut tables = taken(alloc, begun::<S>(alloc, self.0)?)?;
+        let changes = planned(&mut tables, alloc, self.1)?;
+        rows_with(alloc, tables.into_store(), changes.as_slice())
     }
-}
-
-fn rows_after(alloc: Global, input: &str, deed: Deed) -> Result<String, Fail> {
-    tried(alloc, After { input, deed })
-}
-
-// Inputs with the tables, cells, entries and sizes that they leave.
-const CHANGES: [(&str, &str); 4] = [
-    (
-        "CREATE VIRTUAL TABLE d USING fts4(x);\n\
-         INSERT INTO d VALUES('red apple'),('red pear');\n\
-         UPDATE d SET x='green' WHERE docid=1;\n",
-        "1 d 1 0;|1 0 'green';2 0 'red pear';|green 1 0 0 0 5;pear 2 0 1 4 4;red 2 0 0 0 3;|1 0 1;2 0 2;",
-    ),
-    (
-        "CREATE VIRTUAL TABLE d USING fts4(x);\n\
-         INSERT INTO d VALUES('red apple');\n\
-         UPDATE d SET docid=9 WHERE docid=1;\n",
-        "1 d 1 0;|9 0 'red apple';|apple 9 0 1 4 5;red 9 0 0 0 3;|9 0 2;",
-    ),
-    (
-        "CREATE VIRTUAL TABLE d USING fts4(x);\n\
-         INSERT INTO d VALUES('red apple');\n\
-         UPDATE d SET x=NULL WHERE docid=1;\n",
-        "1 d 1 0;|1 0 NULL;||",
-    ),
-    (
-        "CREATE VIRTUAL TABLE n USING fts4(a, b, notindexed=b);\n\
-         INSERT INTO n VALUES('red', 'red blue');\n",
-        "1 n 2 1;|1 0 'red';1 1 'red blue';|red 1 0 0 0 3;|1 0 1;",
-    ),
-];
-
-#[test]
-fn commands_leave_these_rows(rt: HostRuntime) -> Result<(), Fail> {
-    for (input, rows) in CHANGES {
-        let found = rows_after(rt.alloc(), input, Deed::Nothing)?;
-        assert_eq!(&rt; found.as_str(), rows);
-    }
-    Ok(())
-}
-
-#[test]
-fn an_insert_of_no_rows_does_nothing(rt: HostRuntime) -> Result<(), Fail> {
-    let input = "CREATE VIRTUAL TABLE d USING fts4(x);\n";
-    let found = rows_after(rt.alloc(), input, Deed::Execute(Order::InsertNone))?;
-    assert_eq!(&rt; found.as_str(), "1 d 1 0;|||");
-    Ok(())
 }
 
 // Inputs with the rows that are left by the plan that deletes the first document.
@@ -178,35 +95,51 @@ const DELETES: [(&str, &str); 2] = [
     (
         "CREATE VIRTUAL TABLE d USING fts4(x);\n\
          INSERT INTO d VALUES('red apple');\n",
-        "1 d 1 0;|||",
+        "[TabRow { id: 1, name: \"d\", columns: [(0, \"x\")], skipped: [] }] [] [] []",
     ),
     (
         "CREATE VIRTUAL TABLE d USING fts4(x);\n\
          INSERT INTO d VALUES('red apple'),('red pear');\n",
-        "1 d 1 0;|2 0 'red pear';|pear 2 0 1 4 4;red 2 0 0 0 3;|2 0 2;",
+        "[TabRow { id: 1, name: \"d\", columns: [(0, \"x\")], skipped: [] }] \
+         [CellRow { docid: 2, column: 0, value: Text(\"red pear\") }] \
+         [EntryRow { term: \"pear\", docid: 2, spot: Spot { column: 0, pos: 1, place: 4, size: 4 } }, \
+         EntryRow { term: \"red\", docid: 2, spot: Spot { column: 0, pos: 0, place: 0, size: 3 } }] \
+         [SizeRow { docid: 2, column: 0, n: 2 }]",
     ),
 ];
 
 #[test]
 fn a_plan_is_what_is_done(rt: HostRuntime) -> Result<(), Fail> {
     for (input, rows) in DELETES {
-        let found = rows_after(rt.alloc(), input, Deed::Plan(Order::DeleteFirst))?;
+        let found = tried(rt.alloc(), Planned(input, Order::DeleteFirst))?;
         assert_eq!(&rt; found.as_str(), rows);
     }
     Ok(())
 }
 
-// What an order is answered where no table is. A shell never gives such a command: it takes it for a plain statement.
+// What an order is answered after an input, and the rows then. A shell never gives such an order: a statement has rows, and one on a
+// table that isn't there is taken for a plain one.
 #[derive(Clone, Copy)]
-struct Missing(Order);
+struct Answered(&'static str, Order);
 
-impl Trial for Missing {
-    type Found = Result<Reply, Fault>;
+impl Trial for Answered {
+    type Found = (Result<Reply, Fault>, String);
 
-    fn over<S: Begins>(self, alloc: Global) -> Result<Result<Reply, Fault>, Fail> {
-        let mut tables = taken(alloc, S::store(alloc)?)?;
-        answered(&mut tables, alloc, self.0)
+    fn over<S: Begins>(self, alloc: Global) -> Result<(Result<Reply, Fault>, String), Fail> {
+        let mut tables = taken(alloc, begun::<S>(alloc, self.0)?)?;
+        let reply = answered(&mut tables, alloc, self.1)?;
+        Ok((reply, rows_of(alloc, tables.into_store())?))
     }
+}
+
+#[test]
+fn an_insert_of_no_rows_does_nothing(rt: HostRuntime) -> Result<(), Fail> {
+    let trial = Answered("CREATE VIRTUAL TABLE d USING fts4(x);\n", Order::InsertNone);
+    let (reply, found) = tried(rt.alloc(), trial)?;
+    assert!(&rt; matches!(&reply, Ok(Reply::Done)));
+    let wanted = "[TabRow { id: 1, name: \"d\", columns: [(0, \"x\")], skipped: [] }] [] [] []";
+    assert_eq!(&rt; found.as_str(), wanted);
+    Ok(())
 }
 
 #[test]
@@ -216,10 +149,10 @@ fn missing_tables_are_told(rt: HostRuntime) -> Result<(), Fail> {
         Order::DeleteAll,
         Order::Check,
     ] {
-        let answer = tried(rt.alloc(), Missing(order))?;
-        assert!(&rt; matches!(&answer, Err(Fault::NoSuchTable)));
+        let (reply, _) = tried(rt.alloc(), Answered("", order))?;
+        assert!(&rt; matches!(&reply, Err(Fault::NoSuchTable)));
     }
-    let spared = tried(rt.alloc(), Missing(Order::Drop { if_there: true }))?;
+    let (spared, _) = tried(rt.alloc(), Answered("", Order::Drop { if_there: true }))?;
     assert!(&rt; spared.is_ok());
     Ok(())
 }

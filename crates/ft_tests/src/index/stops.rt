@@ -1,7 +1,7 @@
 //! Stops at each call of a disk. The two files that are left are taken again: each table is sound, and all is as before the command or
 //! all as after it, and as after it where it was answered.
 
-use super::worked::are_done;
+use super::commands::are_done;
 use super::{are_sound, taken};
 use crate::empty::number;
 use crate::store::adopted;

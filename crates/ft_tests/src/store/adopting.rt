@@ -1,48 +1,10 @@
-//! Databases that are taken as stores, and those that aren't.
+//! Databases that are not taken as stores, for which cause, and what is left of them.
 
-use super::{Step, adopted, cells, go, with_rows};
 use crate::empty::{Begins, Trial, number, tried};
 use ft_store::{Store, StoreFault};
 use sqlite::{Alter, Connection};
 use std::alloc::Global;
 use std::test::Fail;
-
-// The store that an empty database becomes, with a document.
-fn with_document<S: Begins>(alloc: Global) -> Result<Store<S>, Fail> {
-    let mut store = adopted(alloc, S::database(alloc)?)?;
-    go(&mut store, alloc, &[Step::MakeTable, Step::PutText(7, "p")])?;
-    Ok(store)
-}
-
-// The cells of a store, and the version of its database.
-fn found_in<S: Alter + Drop>(alloc: Global, store: Store<S>) -> Result<(String, i64), Fail> {
-    let mut store = store;
-    let found = cells(&mut store, alloc)?;
-    let mut conn = store.into_connection();
-    Ok((found, number(&mut conn, "SELECT version FROM meta")?))
-}
-
-// What is found, and which version, where the database of such a store is taken again after these statements.
-#[derive(Clone, Copy)]
-struct Again<'a>(&'a str);
-
-impl<'a> Trial for Again<'a> {
-    type Found = (String, i64);
-
-    fn over<S: Begins>(self, alloc: Global) -> Result<(String, i64), Fail> {
-        let store = with_document::<S>(alloc)?;
-        found_in(alloc, with_rows(alloc, store, self.0)?)
-    }
-}
-
-#[test]
-fn stores_are_taken_with_what_they_hold(rt: HostRuntime) -> Result<(), Fail> {
-    for texts in ["", "DROP TABLE skip; UPDATE meta SET version = 2"] {
-        let (found, version) = tried(rt.alloc(), Again(texts))?;
-        assert_eq!(&rt; (found.as_str(), version), ("7 0 'p';", 3), "{texts}");
-    }
-    Ok(())
-}
 
 // Why a database isn't taken, and the database.
 fn refused<S: Alter + Drop>(

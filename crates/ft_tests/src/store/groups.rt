@@ -1,184 +1,122 @@
 //! Lists that are put by one call, of which eight are written together where their keys are new.
 
-use super::{Step, entries, go, put_term};
+use super::{Step, change_each};
 use crate::empty::{Begins, Trial, tried};
-use ft_store::{RowChange, Store, StoreFault};
+use ft_store::{Store, StoreFault};
 use sqlite::Alter;
 use std::alloc::{AllocError, Global};
 use std::process::Abort;
 use std::test::Fail;
 
-// The word of a number below 100: words rise with their numbers.
-fn word(alloc: Global, number: usize) -> Result<String, AllocError> {
-    let (tens, ones) = (number / 10, number % 10);
-    format!(in alloc; "w{tens}{ones}")
-}
+// Two groups and one more, in order.
+const WORDS: [&str; 17] = [
+    "a", "b", "c", "d", "e", "f", "g", "h", "i", "j", "k", "l", "m", "n", "o", "p", "q",
+];
 
 // A word at the front of the only document, with a size in bytes. A place without a byte can't be packed.
-fn put_word(alloc: Global, number: usize, size: i64) -> Result<RowChange, AllocError> {
-    put_term(alloc, word(alloc, number)?, 1, size)
+fn put_word(number: usize, size: i64) -> Step {
+    match WORDS.get(number) {
+        Some(word) => Step::PutTerm(word, 1, size),
+        None => Step::ClearIndex,
+    }
 }
 
-fn drop_word(alloc: Global, number: usize) -> Result<RowChange, AllocError> {
-    Ok(RowChange::DropEntries(1, word(alloc, number)?, 1))
+// All words are put, each of one size.
+fn words(size: i64) -> [Step; 17] {
+    let mut steps = [Step::ClearIndex; 17];
+    for (step, word) in steps.iter_mut().zip(WORDS.iter()) {
+        *step = Step::PutTerm(word, 1, size);
+    }
+    steps
 }
 
-// One change of a call.
+// The same, where the list of one word can't be packed.
+fn words_but(bad: usize) -> [Step; 17] {
+    let mut steps = words(2);
+    if let Some(step) = steps.get_mut(bad) {
+        *step = put_word(bad, 0);
+    }
+    steps
+}
+
+// One word eight times: the last list stays.
+const EIGHT: [Step; 8] = [
+    Step::PutTerm("f", 1, 1),
+    Step::PutTerm("f", 1, 2),
+    Step::PutTerm("f", 1, 3),
+    Step::PutTerm("f", 1, 4),
+    Step::PutTerm("f", 1, 5),
+    Step::PutTerm("f", 1, 6),
+    Step::PutTerm("f", 1, 7),
+    Step::PutTerm("f", 1, 8),
+];
+
+// Eight words, between changes of other kinds.
+const MIXED: [Step; 11] = [
+    Step::PutTerm("z", 1, 1),
+    Step::DropTerm("z", 1),
+    Step::PutTerm("a", 1, 2),
+    Step::PutTerm("b", 1, 2),
+    Step::PutTerm("c", 1, 2),
+    Step::PutTerm("d", 1, 2),
+    Step::PutTerm("e", 1, 2),
+    Step::PutTerm("f", 1, 2),
+    Step::PutTerm("g", 1, 2),
+    Step::PutTerm("h", 1, 2),
+    Step::DropTerm("h", 1),
+];
+
+// Each term that the store has, with the size of its first place.
+fn sizes_of<S: Alter>(store: &mut Store<S>, alloc: Global) -> Result<String, StoreFault> {
+    let entries = store.entries(1)?;
+    let mut told = String::new(alloc);
+    for entry in &entries {
+        write!(told, "{}{} ", entry.term, entry.spot.size)?;
+    }
+    Ok(told)
+}
+
+// What calls on a store with one table answer, and its terms with their sizes then.
 #[derive(Clone, Copy)]
-enum Part {
-    Put(usize, i64),
-    Drop(usize),
-}
-
-fn change_of(alloc: Global, part: Part) -> Result<RowChange, AllocError> {
-    match part {
-        Part::Put(number, size) => put_word(alloc, number, size),
-        Part::Drop(number) => drop_word(alloc, number),
-    }
-}
-
-fn changes_of(alloc: Global, parts: &[Part]) -> Result<Vec<RowChange>, AllocError> {
-    let mut changes = Vec::new(alloc);
-    for part in parts {
-        changes.push(change_of(alloc, *part)?)?;
-    }
-    Ok(changes)
-}
-
-// One call on the words of a store.
-#[derive(Clone, Copy)]
-enum Call {
-    // A word is put.
-    One(usize, i64),
-    // So many words from 0 on are put, all of one size.
-    Words(usize, i64),
-    // One word eight times.
-    Eight(usize),
-    // Eight words, between changes of other kinds.
-    Mixed,
-    // Seventeen words, one of which has a list that can't be packed.
-    Bad(usize),
-}
-
-fn parts_of(alloc: Global, call: Call) -> Result<Vec<Part>, AllocError> {
-    let mut parts = Vec::new(alloc);
-    match call {
-        Call::One(number, size) => parts.push(Part::Put(number, size))?,
-        Call::Words(count, size) => push_words(&mut parts, count, size)?,
-        Call::Eight(number) => push_sizes(&mut parts, number)?,
-        Call::Mixed => push_mixed(&mut parts)?,
-        Call::Bad(bad) => push_with_bad(&mut parts, bad)?,
-    }
-    Ok(parts)
-}
-
-fn push_words(parts: &mut Vec<Part>, count: usize, size: i64) -> Result<(), AllocError> {
-    for number in 0..count {
-        parts.push(Part::Put(number, size))?;
-    }
-    Ok(())
-}
-
-fn push_sizes(parts: &mut Vec<Part>, number: usize) -> Result<(), AllocError> {
-    for size in 1..9 {
-        parts.push(Part::Put(number, size))?;
-    }
-    Ok(())
-}
-
-fn push_mixed(parts: &mut Vec<Part>) -> Result<(), AllocError> {
-    parts.push(Part::Put(90, 1))?;
-    parts.push(Part::Drop(90))?;
-    push_words(parts, 8, 2)?;
-    parts.push(Part::Drop(7))?;
-    Ok(())
-}
-
-fn push_with_bad(parts: &mut Vec<Part>, bad: usize) -> Result<(), AllocError> {
-    for number in 0..17 {
-        let size = if number == bad { 0 } else { 2 };
-        parts.push(Part::Put(number, size))?;
-    }
-    Ok(())
-}
-
-fn call_once<S: Alter>(store: &mut Store<S>, changes: Vec<RowChange>) -> Result<(), StoreFault> {
-    store.change(changes.as_slice())
-}
-
-// Calls up to the first that is refused.
-fn call_all<S: Alter>(
-    store: &mut Store<S>,
-    alloc: Global,
-    calls: &[Call],
-) -> Result<(), StoreFault> {
-    for call in calls {
-        let parts = parts_of(alloc, *call)?;
-        let changes = changes_of(alloc, parts.as_slice())?;
-        call_once(store, changes)?;
-    }
-    Ok(())
-}
-
-// What calls answer, and the entries then.
-type Answered = (Result<(), StoreFault>, String);
-
-fn after_calls<S: Alter>(
-    store: &mut Store<S>,
-    alloc: Global,
-    calls: &[Call],
-) -> Result<Answered, Fail> {
-    go(store, alloc, &[Step::MakeTable])?;
-    let answer = call_all(store, alloc, calls);
-    Ok((answer, entries(store, alloc)?))
-}
-
-// What calls on a store with one table answer, and its entries then.
-#[derive(Clone, Copy)]
-struct Calls<'a>(&'a [Call]);
+struct Calls<'a>(&'a [&'a [Step]]);
 
 impl<'a> Trial for Calls<'a> {
-    type Found = Answered;
+    type Found = (Result<(), StoreFault>, String);
 
-    fn over<S: Begins>(self, alloc: Global) -> Result<Answered, Fail> {
+    fn over<S: Begins>(self, alloc: Global) -> Result<(Result<(), StoreFault>, String), Fail> {
         let mut store = S::store(alloc)?;
-        after_calls(&mut store, alloc, self.0)
+        change_each(&mut store, alloc, &[&[Step::MakeTable]])?;
+        let answer = change_each(&mut store, alloc, self.0);
+        Ok((answer, sizes_of(&mut store, alloc)?))
     }
-}
-
-// Calls are done, and leave these entries.
-fn leave(rt: &impl Abort, alloc: Global, calls: &[Call], wanted: &str) -> Result<(), Fail> {
-    let (answer, left) = tried(alloc, Calls(calls))?;
-    assert_eq!(rt; answer, Ok(()));
-    assert_eq!(rt; left.as_str(), wanted);
-    Ok(())
-}
-
-// The entries of so many words, from 0 on, all of one size.
-fn words_text(alloc: Global, count: usize, size: i64) -> Result<String, AllocError> {
-    let mut all = String::new(alloc);
-    for number in 0..count {
-        let (tens, ones) = (number / 10, number % 10);
-        write!(all, "w{tens}{ones} 1 0 0 0 {size};")?;
-    }
-    Ok(all)
 }
 
 // Calls are done, and leave so many words of one size.
-fn leave_words(
+fn leave(
     rt: &impl Abort,
     alloc: Global,
-    calls: &[Call],
+    calls: &[&[Step]],
     count: usize,
     size: i64,
 ) -> Result<(), Fail> {
-    let wanted = words_text(alloc, count, size)?;
-    leave(rt, alloc, calls, wanted.as_str())
+    let (answer, left) = tried(alloc, Calls(calls))?;
+    assert_eq!(rt; answer, Ok(()));
+    assert_eq!(rt; left.as_str(), told_words(alloc, count, size)?.as_str());
+    Ok(())
+}
+
+fn told_words(alloc: Global, count: usize, size: i64) -> Result<String, AllocError> {
+    let mut told = String::new(alloc);
+    for word in WORDS.iter().take(count) {
+        write!(told, "{word}{size} ")?;
+    }
+    Ok(told)
 }
 
 // So many words are put where one of them is there with another list.
 #[test]
 fn put_replaces_what_is_there(rt: HostRuntime) -> Result<(), Fail> {
+    let all = words(2);
     for (count, there) in [
         (1, 0),
         (8, 0),
@@ -189,8 +127,13 @@ fn put_replaces_what_is_there(rt: HostRuntime) -> Result<(), Fail> {
         (17, 12),
         (17, 16),
     ] {
-        let calls = [Call::One(there, 9), Call::Words(count, 2)];
-        leave_words(&rt, rt.alloc(), &calls, count, 2)?;
+        leave(
+            &rt,
+            rt.alloc(),
+            &[&[put_word(there, 9)], &all[..count]],
+            count,
+            2,
+        )?;
     }
     Ok(())
 }
@@ -200,20 +143,24 @@ fn put_replaces_what_is_there(rt: HostRuntime) -> Result<(), Fail> {
 #[test]
 fn words_are_put_again(rt: HostRuntime) -> Result<(), Fail> {
     let alloc = rt.alloc();
-    let again = [Call::Words(17, 2), Call::Words(17, 2), Call::Words(17, 3)];
-    leave_words(&rt, alloc, &again[..1], 17, 2)?;
-    leave_words(&rt, alloc, &again[..2], 17, 2)?;
-    leave_words(&rt, alloc, &again, 17, 3)?;
-    leave(&rt, alloc, &[Call::Eight(5)], "w05 1 0 0 0 8;")?;
-    leave_words(&rt, alloc, &[Call::One(4, 9), Call::Mixed], 7, 2)
+    let (two, three) = (words(2), words(3));
+    leave(&rt, alloc, &[&two], 17, 2)?;
+    leave(&rt, alloc, &[&two, &two], 17, 2)?;
+    leave(&rt, alloc, &[&two, &two, &three], 17, 3)?;
+    leave(&rt, alloc, &[&[put_word(4, 9)], &MIXED], 7, 2)?;
+    let (answer, left) = tried(alloc, Calls(&[&EIGHT]))?;
+    assert_eq!(&rt; answer, Ok(()));
+    assert_eq!(&rt; left.as_str(), "f8 ");
+    Ok(())
 }
 
 #[test]
 fn list_that_cannot_be_packed_changes_nothing(rt: HostRuntime) -> Result<(), Fail> {
     for bad in [0, 5, 12, 16] {
-        let (answer, left) = tried(rt.alloc(), Calls(&[Call::One(3, 9), Call::Bad(bad)]))?;
+        let steps = words_but(bad);
+        let (answer, left) = tried(rt.alloc(), Calls(&[&[put_word(3, 9)], &steps]))?;
         assert_eq!(&rt; answer, Err(StoreFault::Damaged));
-        assert_eq!(&rt; left.as_str(), "w03 1 0 0 0 9;");
+        assert_eq!(&rt; left.as_str(), "d9 ");
     }
     Ok(())
 }

@@ -1,10 +1,10 @@
 //! Changes of rows, and the reads after them.
 
-use super::{Step, all_read, begun, cells_text, change_of, entries_text, go};
+use super::{Step, all_read, begun, change_each, change_once};
 use crate::empty::{Begins, Trial, tried};
-use ft_store::{RowChange, Store, StoreFault};
+use ft_store::{Store, StoreFault};
 use sqlite::Alter;
-use std::alloc::{AllocError, Global};
+use std::alloc::Global;
 use std::test::Fail;
 
 // The table 1, `d`, of one column `x`, with the documents 1, `green`, and 2, `red pear`.
@@ -14,47 +14,21 @@ const PEARS: &str = "INSERT INTO tab VALUES (1, 'd');
     INSERT INTO posting VALUES (1, 'green', 1, x'00000005'), (1, 'pear', 2, x'00010404'), (1, 'red', 2, x'00000003');
     INSERT INTO sizes VALUES (1, 1, 0, 1), (1, 2, 0, 2)";
 
-// What is read of some, each by one call.
-
-fn document<S: Alter>(store: &mut Store<S>, alloc: Global) -> Result<String, StoreFault> {
-    let rows = store.document(1, 2)?;
-    Ok(cells_text(alloc, rows.as_slice())?)
-}
-
-fn term<S: Alter>(store: &mut Store<S>, alloc: Global) -> Result<String, StoreFault> {
-    let rows = store.term(1, "red")?;
-    Ok(entries_text(alloc, rows.as_slice())?)
-}
-
-fn prefix<S: Alter>(store: &mut Store<S>, alloc: Global) -> Result<String, StoreFault> {
-    let rows = store.prefix(1, "re")?;
-    Ok(entries_text(alloc, rows.as_slice())?)
-}
-
-fn last<S: Alter>(store: &mut Store<S>, alloc: Global, tab: i64) -> Result<String, StoreFault> {
-    let docid = store.last_docid(tab)?;
-    Ok(format!(in alloc; "{docid:?}")?)
-}
-
-fn both_last<S: Alter>(store: &mut Store<S>, alloc: Global) -> Result<String, StoreFault> {
-    let first = last(store, alloc, 1)?;
-    let second = last(store, alloc, 2)?;
-    let count = store.rows_read();
-    Ok(format!(in alloc; "{first}|{second}|{count}")?)
-}
-
-// What is read of some: a document, a term, a prefix, the last docids of two tables, and how many rows that were.
+// What is read of some, each by one call: a document, a term and a prefix.
 fn some_read<S: Alter>(store: &mut Store<S>, alloc: Global) -> Result<String, StoreFault> {
-    let document = document(store, alloc)?;
-    let term = term(store, alloc)?;
-    let prefix = prefix(store, alloc)?;
-    let last = both_last(store, alloc)?;
-    Ok(format!(in alloc; "{document}|{term}|{prefix}|{last}")?)
+    let document = store.document(1, 2)?;
+    let term = store.term(1, "red")?;
+    let prefix = store.prefix(1, "re")?;
+    Ok(format!(in alloc; "{document:?} {term:?} {prefix:?}")?)
 }
 
-fn noted<S: Alter>(store: &mut Store<S>, alloc: Global) -> Result<String, StoreFault> {
+// The last docids of two tables, the noted names, and how many rows that were.
+fn rest_read<S: Alter>(store: &mut Store<S>, alloc: Global) -> Result<String, StoreFault> {
+    let first = store.last_docid(1)?;
+    let second = store.last_docid(2)?;
     let names = store.noted()?;
-    Ok(format!(in alloc; "{names:?}")?)
+    let count = store.rows_read();
+    Ok(format!(in alloc; "{first:?} {second:?} {names:?} {count}")?)
 }
 
 // What is read then.
@@ -62,7 +36,7 @@ fn noted<S: Alter>(store: &mut Store<S>, alloc: Global) -> Result<String, StoreF
 enum Read {
     All,
     Some,
-    Noted,
+    Rest,
 }
 
 fn read_then<S: Alter>(
@@ -73,22 +47,15 @@ fn read_then<S: Alter>(
     match read {
         Read::All => all_read(store, alloc),
         Read::Some => some_read(store, alloc),
-        Read::Noted => noted(store, alloc),
+        Read::Rest => rest_read(store, alloc),
     }
 }
 
-// What is read after steps on a store of those rows.
+// What is read after calls on a store of those rows.
 #[derive(Clone, Copy)]
 struct After {
-    steps: &'static [Step],
+    calls: &'static [&'static [Step]],
     read: Read,
-}
-
-impl After {
-    fn read_in<S: Alter>(&self, store: &mut Store<S>, alloc: Global) -> Result<String, Fail> {
-        go(store, alloc, self.steps)?;
-        Ok(read_then(store, alloc, self.read)?)
-    }
 }
 
 impl Trial for After {
@@ -96,73 +63,79 @@ impl Trial for After {
 
     fn over<S: Begins>(self, alloc: Global) -> Result<String, Fail> {
         let mut store = begun::<S>(alloc, PEARS)?;
-        store.is_in_order();
-        self.read_in(&mut store, alloc)
+        change_each(&mut store, alloc, self.calls)?;
+        Ok(read_then(&mut store, alloc, self.read)?)
     }
 }
 
-const FIRST: &str =
-    "1 d 1 0;|1 0 'green';2 0 'red pear';|green 1 0 0 0 5;pear 2 0 1 4 4;red 2 0 0 0 3;|1 0 1;2 0 2;";
+const FIRST: &str = "[TabRow { id: 1, name: \"d\", columns: [(0, \"x\")], skipped: [] }] \
+    [CellRow { docid: 1, column: 0, value: Text(\"green\") }, CellRow { docid: 2, column: 0, value: Text(\"red pear\") }] \
+    [EntryRow { term: \"green\", docid: 1, spot: Spot { column: 0, pos: 0, place: 0, size: 5 } }, \
+    EntryRow { term: \"pear\", docid: 2, spot: Spot { column: 0, pos: 1, place: 4, size: 4 } }, \
+    EntryRow { term: \"red\", docid: 2, spot: Spot { column: 0, pos: 0, place: 0, size: 3 } }] \
+    [SizeRow { docid: 1, column: 0, n: 1 }, SizeRow { docid: 2, column: 0, n: 2 }]";
 
 // A document that changes, and one that goes.
-const BOTH: &[Step] = &[
-    Step::PutText(1, "red"),
-    Step::DropTerm("green", 1),
-    Step::PutTerm("red", 1, 3),
-    Step::PutSize(1, 7),
-    Step::DropCells(2),
-    Step::DropSize(2),
-    Step::PutNull(3),
+const BOTH: &[&[Step]] = &[
+    &[Step::PutText(1, "red"), Step::DropTerm("green", 1)],
+    &[Step::PutTerm("red", 1, 3), Step::PutSize(1, 7)],
+    &[Step::DropCells(2), Step::DropSize(2)],
+    &[Step::PutNull(3)],
 ];
 
 // The table goes, and comes again without rows.
-const RENEWED: &[Step] = &[Step::ClearIndex, Step::DropTable, Step::MakeTable];
+const RENEWED: &[&[Step]] = &[&[Step::ClearIndex, Step::DropTable], &[Step::MakeTable]];
 
-const TRIALS: [(&[Step], Read, &str); 6] = [
+const TRIALS: [(&[&[Step]], Read, &str); 6] = [
     (&[], Read::All, FIRST),
     (
         &[],
         Read::Some,
-        "2 0 'red pear';|red 2 0 0 0 3;|red 2 0 0 0 3;|Some(2)|None|4",
+        "[CellRow { docid: 2, column: 0, value: Text(\"red pear\") }] \
+         [EntryRow { term: \"red\", docid: 2, spot: Spot { column: 0, pos: 0, place: 0, size: 3 } }] \
+         [EntryRow { term: \"red\", docid: 2, spot: Spot { column: 0, pos: 0, place: 0, size: 3 } }]",
+    ),
+    // A name is noted, and again with other letters.
+    (
+        &[&[Step::Note("Plain")], &[Step::Note("PLAIN")]],
+        Read::Rest,
+        "Some(2) None [\"PLAIN\"] 2",
     ),
     (
         BOTH,
         Read::All,
-        "1 d 1 0;|1 0 'red';3 0 NULL;|pear 2 0 1 4 4;red 1 0 0 0 3;red 2 0 0 0 3;|1 0 7;",
+        "[TabRow { id: 1, name: \"d\", columns: [(0, \"x\")], skipped: [] }] \
+         [CellRow { docid: 1, column: 0, value: Text(\"red\") }, CellRow { docid: 3, column: 0, value: Null }] \
+         [EntryRow { term: \"pear\", docid: 2, spot: Spot { column: 0, pos: 1, place: 4, size: 4 } }, \
+         EntryRow { term: \"red\", docid: 1, spot: Spot { column: 0, pos: 0, place: 0, size: 3 } }, \
+         EntryRow { term: \"red\", docid: 2, spot: Spot { column: 0, pos: 0, place: 0, size: 3 } }] \
+         [SizeRow { docid: 1, column: 0, n: 7 }]",
     ),
     (
-        &[Step::ClearIndex],
+        &[&[Step::ClearIndex]],
         Read::All,
-        "1 d 1 0;|1 0 'green';2 0 'red pear';||",
+        "[TabRow { id: 1, name: \"d\", columns: [(0, \"x\")], skipped: [] }] \
+         [CellRow { docid: 1, column: 0, value: Text(\"green\") }, CellRow { docid: 2, column: 0, value: Text(\"red pear\") }] \
+         [] []",
     ),
-    (RENEWED, Read::All, "1 d 1 0;|||"),
-    // A name is noted, and again with other letters.
     (
-        &[Step::Note("Plain"), Step::Note("PLAIN")],
-        Read::Noted,
-        "[\"PLAIN\"]",
+        RENEWED,
+        Read::All,
+        "[TabRow { id: 1, name: \"d\", columns: [(0, \"x\")], skipped: [] }] [] [] []",
     ),
 ];
 
 #[test]
 fn reads_and_changes(rt: HostRuntime) -> Result<(), Fail> {
-    for (steps, read, want) in TRIALS {
-        let found = tried(rt.alloc(), After { steps, read })?;
+    for (calls, read, want) in TRIALS {
+        let found = tried(rt.alloc(), After { calls, read })?;
         assert_eq!(&rt; found.as_str(), want);
     }
     Ok(())
 }
 
 // A document goes, and a list is put that can't be packed.
-fn bad_changes(alloc: Global) -> Result<[RowChange; 2], AllocError> {
-    let dropped = change_of(alloc, Step::DropCells(1))?;
-    Ok([dropped, change_of(alloc, Step::PutTerm("p", 1, 0))?])
-}
-
-fn bad_call<S: Alter>(store: &mut Store<S>, alloc: Global) -> Result<(), StoreFault> {
-    let changes = bad_changes(alloc)?;
-    store.change(&changes)
-}
+const BAD: &[Step] = &[Step::DropCells(1), Step::PutTerm("p", 1, 0)];
 
 // What a call of both answers, and all that is read then.
 #[derive(Clone, Copy)]
@@ -173,7 +146,7 @@ impl Trial for Bad {
 
     fn over<S: Begins>(self, alloc: Global) -> Result<(Result<(), StoreFault>, String), Fail> {
         let mut store = begun::<S>(alloc, PEARS)?;
-        let answer = bad_call(&mut store, alloc);
+        let answer = change_once(&mut store, alloc, BAD);
         Ok((answer, all_read(&mut store, alloc)?))
     }
 }

@@ -82,7 +82,8 @@ fn lists_of(
 impl<'a> Words<'a> {
     fn ask(&mut self, alloc: Global, asked: &str, begins: bool) -> Result<Vec<DocList>, ListFault>
         ensures failed { self.new.failed ≡ (self.old.failed || is_failed result) }
-        ensures given { IfOk result (λ lists. self.new.given ≡ min (self.old.given + place_count (map plain_list lists.items)) (2 ^ 64 - 1)) }
+        ensures given { IfOk result (λ lists. self.new.given
+            ≡ min (self.old.given + place_count (map plain_list lists.items)) (2 ^ 64 - 1)) }
         ensures none_given { OnErr result (self.new.given ≡ self.old.given) }
     {
         if self.calls_left == 0 {

@@ -11,5 +11,5 @@ cut_once given count n is = omega arith
 pub returns-clause-counted : goal.returns-clause-counted
 returns-clause-counted g c =
     let places = c.count_places.ensures ∙ ap (λ lists. min (place_count (map plain_list lists)) (2 ^ 64 - 1)) c.as_slice.ensures.value in
-    let rows = places ∙ ap (λ n. min n (2 ^ 64 - 1)) (rows_count c.args.rows.now (map plain_list c.in_ok-lists.lists.items) c.in_ok-lists.ensures) in
-    ap (λ n. record c.args.self.now { given = n }) (c.saturating_add-self.ensures ∙ cut_once c.args.self.now.given c.count_places.result (spot_count (map shown_list c.args.rows.now)) rows)
+    let rows = places ∙ ap (λ n. min n (2 ^ 64 - 1)) (rows_count c.args.rows.items (map plain_list c.in_ok-lists.lists.items) c.in_ok-lists.ensures) in
+    ap (λ n. record c.args.self.now { given = n }) (c.saturating_add-self.ensures ∙ cut_once c.args.self.now.given c.count_places.result (spot_count (map shown_list c.args.rows.items)) rows)

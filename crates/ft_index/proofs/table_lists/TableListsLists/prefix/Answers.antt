@@ -17,7 +17,7 @@ returns-in_ok-answered-in-Ok-clause-answer g c reliable =
     let fits : SFits w64 c.args.self.now.tab = search rules in
     let answer = walk_answer g.S.Store tab c.args.self.now.store.now c.prefix_lists.new.self c.in-Ok.ensures.kept (λ k. int_eq tab k.0 && starts_with nat_eq k.1 c.args.begin.now) (λ t. starts_with nat_eq t c.args.begin.now)
     (λ k. refl) c.in-Ok.rows.items (λ clean. (simp (to_z-of_z, fits) at (c.in-Ok.ensures.rows clean).0))
-    (map plain_list c.in_ok-answered-in-Ok.field-0.items) (subst (λ (rows : List ListRow). AreListsOf rows (map plain_list c.in_ok-answered-in-Ok.field-0.items)) c.as_slice.ensures.value c.in_ok-answered-in-Ok.ensures.lists)
+    (map plain_list c.in_ok-answered-in-Ok.field-0.items) c.in_ok-answered-in-Ok.ensures.lists
     (rw same at reliable) in
     answer ∙ sym (ap (λ l. lists_with (λ t. starts_with nat_eq t c.args.begin.now) (table_documents g.S.Store l.tab l.store.now)) same)
 
@@ -30,7 +30,7 @@ returns-in_ok-answered-in-Ok-clause-clean g c reliable =
 pub returns-in_ok-answered-in-Ok-clause-given : goal.returns-in_ok-answered-in-Ok-clause-given
 returns-in_ok-answered-in-Ok-clause-given g c =
     ap (λ l. l.given) c.in_ok-answered-in-Ok.ensures.counted
-    ∙ ap (λ n. min (c.args.self.now.given + n) (2 ^ 64 - 1)) (sym (rows_count c.as_slice.result.now (map plain_list c.in_ok-answered-in-Ok.field-0.items) c.in_ok-answered-in-Ok.ensures.lists))
+    ∙ ap (λ n. min (c.args.self.now.given + n) (2 ^ 64 - 1)) (sym (rows_count c.in-Ok.rows.items (map plain_list c.in_ok-answered-in-Ok.field-0.items) c.in_ok-answered-in-Ok.ensures.lists))
 
 pub returns-in_err-answered-in-Ok-clause-clean : goal.returns-in_err-answered-in-Ok-clause-clean
 returns-in_err-answered-in-Ok-clause-clean g c reliable =

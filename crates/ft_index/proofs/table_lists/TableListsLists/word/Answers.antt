@@ -18,7 +18,7 @@ returns-in_ok-answered-in-Ok-clause-answer g c reliable =
     let fits : SFits w64 c.args.self.now.tab = search rules in
     let answer = walk_answer g.S.Store tab c.args.self.now.store.now c.term_lists.new.self c.in-Ok.ensures.kept (λ k. int_eq tab k.0 && is_eq (name_cmp c.args.term.now k.1)) (λ t. bytes_eq t c.args.term.now)
     (asks_term tab c.args.term.now) c.in-Ok.rows.items (λ clean. (simp (to_z-of_z, fits) at (c.in-Ok.ensures.rows clean).0))
-    (map plain_list c.in_ok-answered-in-Ok.field-0.items) (subst (λ (rows : List ListRow). AreListsOf rows (map plain_list c.in_ok-answered-in-Ok.field-0.items)) c.as_slice.ensures.value c.in_ok-answered-in-Ok.ensures.lists)
+    (map plain_list c.in_ok-answered-in-Ok.field-0.items) c.in_ok-answered-in-Ok.ensures.lists
     (rw same at reliable) in
     answer ∙ sym (ap (λ l. lists_with (λ t. bytes_eq t c.args.term.now) (table_documents g.S.Store l.tab l.store.now)) same)
 
@@ -31,7 +31,7 @@ returns-in_ok-answered-in-Ok-clause-clean g c reliable =
 pub returns-in_ok-answered-in-Ok-clause-given : goal.returns-in_ok-answered-in-Ok-clause-given
 returns-in_ok-answered-in-Ok-clause-given g c =
     ap (λ l. l.given) c.in_ok-answered-in-Ok.ensures.counted
-    ∙ ap (λ n. min (c.args.self.now.given + n) (2 ^ 64 - 1)) (sym (rows_count c.as_slice.result.now (map plain_list c.in_ok-answered-in-Ok.field-0.items) c.in_ok-answered-in-Ok.ensures.lists))
+    ∙ ap (λ n. min (c.args.self.now.given + n) (2 ^ 64 - 1)) (sym (rows_count c.in-Ok.rows.items (map plain_list c.in_ok-answered-in-Ok.field-0.items) c.in_ok-answered-in-Ok.ensures.lists))
 
 pub returns-in_err-answered-in-Ok-clause-clean : goal.returns-in_err-answered-in-Ok-clause-clean
 returns-in_err-answered-in-Ok-clause-clean g c reliable =

@@ -1,15 +1,16 @@
+-- what is found is taken or not
 use Rattle.std.proofs.Common.{inr}
+use Rattle.std.proofs.lemmas.Result.{IfOk-weaker, IfErr-weaker}
 use Rattle.ft_store.proofs.store.Store+FileStore+FileFrom+B.open_from.Goals as goal
 
-pub returns-in-Ok-clause-opened : goal.returns-in-Ok-clause-opened
-returns-in-Ok-clause-opened g c =
+pub returns-clause-opened : goal.returns-clause-opened
+returns-clause-opened g c =
     let new = c.in_ok-conn.ensures.fresh in
-    record { conn = c.in_ok-conn.conn; fresh = new; opened = c.in_ok-conn.ensures.opened; found = c.in_ok-conn.ensures.found; taken = (c.in-Ok.ensures.taken new.autocommit).0 }
+    IfOk-weaker c.taken.result _ _ (λ store taken. record { conn = c.in_ok-conn.conn; fresh = new; opened = c.in_ok-conn.ensures.opened; found = c.in_ok-conn.ensures.found; taken = taken.0 })
+    (c.taken.ensures.taken new.autocommit)
 
-pub returns-in-Ok-clause-unread : goal.returns-in-Ok-clause-unread
-returns-in-Ok-clause-unread g c = (c.in-Ok.ensures.taken c.in_ok-conn.ensures.fresh.autocommit).1
-
-pub returns-in-Err-clause-refused : goal.returns-in-Err-clause-refused
-returns-in-Err-clause-refused g c =
+pub returns-clause-refused : goal.returns-clause-refused
+returns-clause-refused g c =
     let new = c.in_ok-conn.ensures.fresh in
-    inr (record { conn = c.in_ok-conn.conn; fresh = new; opened = c.in_ok-conn.ensures.opened; found = c.in_ok-conn.ensures.found; after = c.in-Err.fault.connection; refused = c.in-Err.ensures.refused new.autocommit })
+    IfErr-weaker c.taken.result _ _ (λ cause left. inr (record { conn = c.in_ok-conn.conn; fresh = new; opened = c.in_ok-conn.ensures.opened; found = c.in_ok-conn.ensures.found; after = left.new; refused = left.refused }))
+    (c.taken.ensures.refused new.autocommit)
