@@ -6,8 +6,10 @@ Of what is listed here all is tried, or what TEXT is in the name of.
   noted yet: the two files are not in step.
 - The same of a run that opens a store of version 2, from which one of version 3 is made: it is one of the two, and holds the same.
 - The disk fails from each write on: all is as before the command or as after it, what was answered is there, and every table is sound.
-- The input fails from each read on: what was read whole ran, and nothing else. An output fails from each write on: what was written is a front of
-  what is due, and a front of the lines ran.
+- The input fails from each read on: the lines that were read whole ran and are answered, and nothing else. A line without its end is not
+  run.
+- An output fails from each write on: what was written is a front of what is due. The lines ran up to the one whose answer isn't whole: what
+  they did is there, and nothing behind it ran.
 - An input is cut after each of its bytes: the run ends well, with its own fault lines at most, and every table is sound.
 It needs a C compiler.
 """
@@ -162,19 +164,23 @@ def failing(rooms, command, before, after, at):
     return None
 
 
-def cut(rooms, lines, states, whole, stream, at):
-    """Says what is wrong where a stream fails from this call on, or None."""
+def cut(rooms, lines, fronts, states, stream, at):
+    """Says what is wrong where a stream fails from this call on, or None. The fronts are the runs of the first lines, from none to all."""
     ran, _, left, is_sound = rooms.after(lines, STREAM=stream, AT=at, HOW="fail", PIECE=7)
-    due = "Error: input fault\n" if stream == 0 else "Error: output fault\n"
-    faults = ran.err[: -len(due)] if ran.err.endswith(due) else ran.err
-    if not is_sound or ran.status != 1 or not whole.out.startswith(ran.out) or not whole.err.startswith(faults):
-        return f"{ran} {left}"
     if stream == 0:
-        text = ("\n".join(lines) + "\n")[: 7 * (at - 1)]
-        fine = left == states[text.count("\n")] and ran.err.endswith(due)
+        number = ("\n".join(lines) + "\n")[: 7 * (at - 1)].count("\n")
+        fine = left == states[number] and ran == Ran(fronts[number].out, fronts[number].err + "Error: input fault\n", 1)
+        return None if fine and is_sound else f"{ran} {left}"
+    # the line whose answer is not whole
+    number = next((it for it, front in enumerate(fronts) if len(front[stream - 1]) > len(ran[stream - 1])), 0)
+    if stream == 1:
+        # an echo may be refused before its line is run
+        allowed_here = states[number - 1 : number + 1] if ".echo on" in lines[: number - 1] else [states[number]]
+        told = [it.err + "Error: output fault\n" for it in fronts[number - 1 : number + 1]]
+        fine = left in allowed_here and fronts[-1].out.startswith(ran.out) and ran.err in told
     else:
-        fine = left in states and (stream == 2 or ran.err.endswith(due))
-    return None if fine else f"{ran} {left}"
+        fine = left == states[number] and fronts[-1].err.startswith(ran.err) and ran.out == fronts[number].out
+    return None if fine and is_sound and ran.status == 1 else f"{ran} {left}"
 
 
 def cut_short(rooms, at):
@@ -206,12 +212,12 @@ def tries_of_command(rooms, before, command):
 
 def tries_of_streams(rooms):
     """Yields what is tried of a run whose input or output fails."""
-    states = [rooms.after(SESSION[:number])[2] for number in range(len(SESSION) + 1)]
-    whole, _, _, _ = rooms.after(SESSION)
+    runs = [rooms.after(SESSION[:number]) for number in range(len(SESSION) + 1)]
+    fronts, states = [it[0] for it in runs], [it[2] for it in runs]
     for stream in (0, 1, 2):
         _, calls, _, _ = rooms.after(SESSION, STREAM=stream, PIECE=7)
         for at in range(1, calls + 1):
-            yield f"stream {stream} fails from call {at} of {calls} on", functools.partial(cut, rooms, SESSION, states, whole, stream, at)
+            yield f"stream {stream} fails from call {at} of {calls} on", functools.partial(cut, rooms, SESSION, fronts, states, stream, at)
 
 
 def tries_of_cuts(rooms):

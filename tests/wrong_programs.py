@@ -103,9 +103,53 @@ def opens_to_all(words):
     return ended
 
 
+def reaches_too_far(words):
+    """Lets NEAR/n join what has one word more between it."""
+    given = re.sub(rb"NEAR/(\d+)", lambda it: b"NEAR/%d" % (int(it[1]) + 1), sys.stdin.buffer.read())
+    return subprocess.run(words, input=given).returncode
+
+
+def runs_on_unheard(words):
+    """Runs all lines, though its output fails at the first."""
+    whole = {name: it for name, it in os.environ.items() if name != "LD_PRELOAD"}
+    ran = started(words, stdout=subprocess.PIPE, env=whole)
+    answers = ran.communicate()[0]
+    try:
+        os.write(1, answers)
+    except OSError:
+        os.write(2, b"Error: output fault\n")
+        return 1
+    return ran.returncode
+
+
+def takes_pieces_for_lines(words):
+    """Ends a line where a piece of the input ends."""
+    ran = started(words, stdin=subprocess.PIPE)
+    while True:
+        piece = os.read(0, 65536)
+        if not piece:
+            break
+        ran.stdin.write(piece if piece.endswith(b"\n") else piece + b"\n")
+        ran.stdin.flush()
+    ran.communicate()
+    return ran.returncode
+
+
 WRAPPERS = {
     it.__name__: it
-    for it in (hushes_faults, trusts_the_index, commits_row_by_row, answers_first, holds_back, wants_whole_characters, migrates_by_two, opens_to_all)
+    for it in (
+        hushes_faults,
+        trusts_the_index,
+        commits_row_by_row,
+        answers_first,
+        holds_back,
+        wants_whole_characters,
+        migrates_by_two,
+        opens_to_all,
+        reaches_too_far,
+        runs_on_unheard,
+        takes_pieces_for_lines,
+    )
 }
 
 # ---- the tests
@@ -118,11 +162,19 @@ CASES = [
     (hushes_faults, "calls", ["UPDATE d SET x='green' WHERE docid=1; with a disk that fails from write 2 on"], "no fault was told, and it is not there"),
     (hushes_faults, "calls", ["stream 0 fails from call 9 of"], "stream 0 fails from call 9"),
     (hushes_faults, "calls", ["stream 1 fails from call 1 of"], "stream 1 fails from call 1"),
+    (runs_on_unheard, "calls", ["stream 1 fails from call 1 of"], "stream 1 fails from call 1"),
     (wants_whole_characters, "calls", ["the input is cut after 64 bytes"], "the input is cut after 64 bytes"),
     (migrates_by_two, "calls", ["an opening of version 2 is stopped (kill)"], "an opening of version 2 is stopped"),
     (answers_first, "kills", ["1", "6"], "were answered"),
     (trusts_the_index, "damages", ["1", "60"], "is answered, and integrity-check says"),
+    (reaches_too_far, "drawn", ["1", "12"], "---- wanted"),
     (trusts_the_index, "run", ["files_with_damage"], "tests/files_with_damage"),
+    (trusts_the_index, "run", ["files_to_be_mended"], "tests/files_to_be_mended"),
+    (trusts_the_index, "run", ["files_with_packed_lists"], "tests/files_with_packed_lists"),
+    (trusts_the_index, "run", ["files_of_hand_written_rows"], "tests/files_of_hand_written_rows"),
+    (takes_pieces_for_lines, "run", ["inputs_in_pieces"], "tests/inputs_in_pieces"),
+    (hushes_faults, "run", ["files_that_are_not_fetched"], "tests/files_that_are_not_fetched"),
+    (hushes_faults, "run", ["files_of_another_kind"], "tests/files_of_another_kind"),
     (holds_back, "run", ["answers_at_once"], "no answer"),
     (holds_back, "run", ["closed_output"], "tests/closed_output"),
     (opens_to_all, "run", ["files_access"], "644 people.db-fts4"),

@@ -78,9 +78,9 @@ fn rows_with<S: Alter + Drop>(
 
 // The rows that an input leaves, and then the changes that the plan of an order names.
 #[derive(Clone, Copy)]
-struct Planned(&'static str, Order);
+struct AfterPlan(&'static str, Order);
 
-impl Trial for Planned {
+impl Trial for AfterPlan {
     type Found = String;
 
     fn over<S: Begins>(self, alloc: Global) -> Result<String, Fail> {
@@ -111,7 +111,7 @@ const DELETES: [(&str, &str); 2] = [
 #[test]
 fn a_plan_is_what_is_done(rt: HostRuntime) -> Result<(), Fail> {
     for (input, rows) in DELETES {
-        let found = tried(rt.alloc(), Planned(input, Order::DeleteFirst))?;
+        let found = tried(rt.alloc(), AfterPlan(input, Order::DeleteFirst))?;
         assert_eq!(&rt; found.as_str(), rows);
     }
     Ok(())
@@ -120,9 +120,9 @@ fn a_plan_is_what_is_done(rt: HostRuntime) -> Result<(), Fail> {
 // What an order is answered after an input, and the rows then. A shell never gives such an order: a statement has rows, and one on a
 // table that isn't there is taken for a plain one.
 #[derive(Clone, Copy)]
-struct Answered(&'static str, Order);
+struct AfterOrder(&'static str, Order);
 
-impl Trial for Answered {
+impl Trial for AfterOrder {
     type Found = (Result<Reply, Fault>, String);
 
     fn over<S: Begins>(self, alloc: Global) -> Result<(Result<Reply, Fault>, String), Fail> {
@@ -134,7 +134,7 @@ impl Trial for Answered {
 
 #[test]
 fn an_insert_of_no_rows_does_nothing(rt: HostRuntime) -> Result<(), Fail> {
-    let trial = Answered("CREATE VIRTUAL TABLE d USING fts4(x);\n", Order::InsertNone);
+    let trial = AfterOrder("CREATE VIRTUAL TABLE d USING fts4(x);\n", Order::InsertNone);
     let (reply, found) = tried(rt.alloc(), trial)?;
     assert!(&rt; matches!(&reply, Ok(Reply::Done)));
     let wanted = "[TabRow { id: 1, name: \"d\", columns: [(0, \"x\")], skipped: [] }] [] [] []";
@@ -149,10 +149,10 @@ fn missing_tables_are_told(rt: HostRuntime) -> Result<(), Fail> {
         Order::DeleteAll,
         Order::Check,
     ] {
-        let (reply, _) = tried(rt.alloc(), Answered("", order))?;
+        let (reply, _) = tried(rt.alloc(), AfterOrder("", order))?;
         assert!(&rt; matches!(&reply, Err(Fault::NoSuchTable)));
     }
-    let (spared, _) = tried(rt.alloc(), Answered("", Order::Drop { if_there: true }))?;
+    let (spared, _) = tried(rt.alloc(), AfterOrder("", Order::Drop { if_there: true }))?;
     assert!(&rt; spared.is_ok());
     Ok(())
 }
