@@ -73,11 +73,18 @@ LISTED = [
     [Select("d", ["x"], Where("d", "a NOT"))],
     [Select("d", ["x"], Where("docid", 2))],
     [Select("d", [Offsets("d")], Where("docid", 2))],
+    [Select("d", None, Where("d", "a"), "", 1)],
+    [Select("d", None, None, "", 1, 1)],
+    [Update("d", [("docid", 2), ("x", "b a")], Where("docid", 2))],
+    [Insert("d", None, [["a" + " c" * it + " b", None] for it in (8, 9, 10, 11)]), found("a NEAR b OR b NEAR a"), found("a NEAR/11 b")],
+    [Insert("d", ["x"], [["É é"], ["Éa ÉA a"]]), found("é"), found("Éa É*")],
+    [Delete("e"), Insert("e", ["docid", "x"], [[-7, "a"]]), Insert("e", ["x"], [["b"]])],
     [Select("e", ["docid", "*", "rowid"])],
     [Special("e", "integrity-check")],
     [Create("f", ["a"], module="fts5")],
     [Create("f", ["a", "docid"], ["b"], [("prefix", '"2"'), ("tokenize", "porter")])],
     [Create("f", ["a", "rowid"], [], [("tokenize", "simple")])],
+    [Create('""', ["a"], [], [("prefix", '"2"')])],
     [Create("f", ["a", "f"])],
     [Create('""', ["a", "A"])],
     [Create("f", ["a", "b"], ["c"])],
@@ -94,6 +101,7 @@ WORDS = ["a"] * 6 + ["b"] * 6 + ["c"] * 3 + ["ab", "ba", "A", "B", "é", "É", "
 BETWEEN = [" ", " ", " ", " ", "-", "  ", "\t", "\n", "\v", "'", '"', "^", "*", ":", "(", "\u007f"]
 PIECES = ["(", ")", '"', "AND", "OR", "NOT", "NEAR", "NEAR/0", "NEAR/2", "NEAR/", "NEARS", "near", "x:", "Y:", "z:", ":", "^", "*"]
 PIECES += ["!!", "'", "a", "b", "c*", "ab", "é", "\t", "\n", "\v"]
+OPERATORS = [" "] * 3 + [" AND "] * 3 + [" OR "] * 9 + [" NOT "] * 3 + [" and ", " or ", " not ", " near "]
 NAMES = ["x"] * 5 + ["y"] * 5 + ["X", "Y", "docid", "docid", "rowid", "z"]
 
 
@@ -151,20 +159,21 @@ class Drawn:
             return self.chain()
         if self.is_drawn(0.15):
             return "(" + self.query(depth - 1) + ")"
-        return self.query(depth - 1) + self.one([" ", " AND ", " OR ", " OR ", " OR ", " NOT "]) + self.query(depth - 1)
+        return self.query(depth - 1) + self.one(OPERATORS) + self.query(depth - 1)
+
+    def spaced(self, text):
+        """The text with other white space here and there."""
+        return "".join(self.one([" "] * 15 + ["\t", "\n", "\v", "\f", "  "]) if it == " " else it for it in text)
 
     def match(self):
-        """A text of the grammar, one that was changed at a place, some pieces side by side, or a large one."""
-        kind = self.draw.random()
+        """A text of the grammar, one that was changed at a place, or some pieces side by side."""
+        kind, text = self.draw.random(), self.spaced(self.query())
         if kind < 0.6:
-            return self.query()
+            return text
         if kind < 0.8:
-            text = self.query()
             at = self.draw.randint(0, len(text))
             return text[:at] + self.one(["", *PIECES]) + text[at + self.draw.randint(0, 3) :]
-        if kind < 0.98:
-            return self.joined(self.draw.choices(PIECES, k=self.draw.randint(0, 7)), [" ", " ", " ", ""])
-        return self.one(LARGE)
+        return self.joined(self.draw.choices(PIECES, k=self.draw.randint(0, 7)), [" ", " ", " ", ""])
 
     def where(self):
         if self.is_drawn(0.15):
@@ -207,8 +216,8 @@ class Drawn:
 
 def drawn_input(seed, number):
     """The commands of an input, and whether it is over a FILE."""
-    draw, commands, is_of_file = random.Random(f"{seed} {number}"), [*BEGIN], number % 3 == 0
-    length = draw.randint(30, 40)
+    draw, is_of_file = random.Random(f"{seed} {number}"), number % 3 == 0
+    commands, length = [*BEGIN, found(LARGE[number % len(LARGE)])], draw.randint(30, 40)
     while len(commands) < length:
         commands += draw.choice(LISTED) if draw.random() < 0.5 else Drawn(draw, draw.choice("ddde")).commands()
         if is_of_file and AGAIN not in commands and len(commands) > length // 2:

@@ -174,7 +174,6 @@ CASES = [
     (trusts_the_index, "run", ["files_of_hand_written_rows"], "tests/files_of_hand_written_rows"),
     (takes_pieces_for_lines, "run", ["inputs_in_pieces"], "tests/inputs_in_pieces"),
     (hushes_faults, "run", ["files_that_are_not_fetched"], "tests/files_that_are_not_fetched"),
-    (hushes_faults, "run", ["files_of_another_kind"], "tests/files_of_another_kind"),
     (holds_back, "run", ["answers_at_once"], "no answer"),
     (holds_back, "run", ["closed_output"], "tests/closed_output"),
     (opens_to_all, "run", ["files_access"], "644 people.db-fts4"),
