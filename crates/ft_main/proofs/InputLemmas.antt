@@ -4,10 +4,10 @@ use Rattle.std.specs.Prelude.{MatchBool, if◌then◌else◌, ◌==◌}
 use Rattle.std.proofs.lemmas.Bool.Decides.{nat_tests}
 use Rattle.std.proofs.lemmas.List.{drop_all, drop_more}
 use Rattle.sqlite.specs.Store.{Ghosts}
-use Rattle.ft_shell.specs.declared.session.Status.{Status}
-use Rattle.ft_shell.specs.declared.session.RunFault.{RunFault}
+use Rattle.plain_shell.specs.declared.run.Status.{Status}
+use Rattle.plain_shell.specs.declared.run.RunFault.{RunFault}
 use Rattle.ft_shell.specs.Shell.{Parts}
-use Rattle.ft_shell.specs.Told.{Deeds, idle, and_then}
+use Rattle.ft_shell.specs.Deeds.{Deeds, idle, and_then}
 use Rattle.ft_shell.specs.Promise.{Ran, AllRan, PromiseKept, KeptByRuns, none_ran, last_ran, first_ran}
 use Rattle.ft_shell.specs.Runs.{Console}
 use Rattle.ft_shell.proofs.TurnsLemmas.{assoc_then, idle_then, then_idle}
@@ -18,8 +18,8 @@ use Rattle.shell_text.specs.Print.{AppendsFront, Settings}
 use Rattle.ft_store.specs.Kept.{StoreState}
 use Rattle.ft_index.specs.Kept.{FullText, Holds, IsUp}
 use Rattle.ft_index.specs.Opened.{Opens}
-use Rattle.ft_shell.specs.Writing.{AppendsUpTo}
-use Rattle.ft_shell.proofs.WriteLemmas.{up_to_part, up_to_whole}
+use Rattle.plain_shell.specs.Writing.{AppendsUpTo}
+use Rattle.plain_shell.proofs.WriteLemmas.{up_to_part, up_to_whole}
 use Rattle.ft_main.specs.Inputs.{Closes, EndsAs, InTurn, OpensAndRuns, Outputs, RunsAndKeeps, RunsInTurn, RunsOne, Stage, WritesOwn, due, exit_status}
 
 module _ {P S : Type 0} (g : Ghosts P) (h : Ghosts S) where

@@ -6,14 +6,14 @@ use Rattle.shell_text.specs.Print.{Settings}
 use Rattle.ft_store.specs.Kept.{StoreState, value_in}
 use Rattle.ft_index.specs.Kept.{FullText, Holds, IsUp, StoreHolds}
 use Rattle.ft_index.specs.Opened.{Opens}
-use Rattle.ft_shell.specs.declared.session.Status.{Status}
-use Rattle.ft_shell.specs.declared.session.RunFault.{RunFault}
-use Rattle.ft_shell.specs.declared.session.RunFault.TheVariants as causes
+use Rattle.plain_shell.specs.declared.run.Status.{Status}
+use Rattle.plain_shell.specs.declared.run.RunFault.{RunFault}
+use Rattle.plain_shell.specs.declared.run.RunFault.TheVariants as causes
 use Rattle.ft_shell.specs.Shell.{Parts, lent}
-use Rattle.ft_shell.specs.Told.{Deeds, idle, and_then}
+use Rattle.ft_shell.specs.Deeds.{Deeds, idle, and_then}
 use Rattle.ft_shell.specs.Runs.{Console}
 use Rattle.ft_shell.specs.Promise.{Ran, AllRan, PromiseKept}
-use Rattle.ft_shell.specs.Writing.{AppendsUpTo}
+use Rattle.plain_shell.specs.Writing.{AppendsUpTo}
 use Rattle.ft_main.specs.declared.files.OpenFault.{OpenFault}
 use Rattle.ft_main.specs.declared.files.OpenFault.TheVariants as opening
 use Rattle.ft_main.specs.Reading.{unknown_files}

@@ -2,9 +2,9 @@
 use Rattle.std.specs.Prelude.{ℕ, ◌≡◌, ◌⊎◌, ◌<◌, ◌≤◌, ◌^◌, true, List, length, Option, None, IfSome}
 use Rattle.std.specs.declared.io.ErrorKind.{ErrorKind}
 use Rattle.std.specs.declared.io.ErrorKind.TheVariants as kind
-use Rattle.ft_shell.specs.declared.source.SourceFault.{SourceFault}
-use Rattle.ft_shell.specs.declared.source.SourceFault.TheVariants as fault
-use Rattle.ft_shell.specs.Sources.{Files}
+use Rattle.plain_shell.specs.declared.source.SourceFault.{SourceFault}
+use Rattle.plain_shell.specs.declared.source.SourceFault.TheVariants as fault
+use Rattle.plain_shell.specs.Sources.{Files}
 
 -- nothing is known of the files of the system
 abbrev pub unknown_files : Files

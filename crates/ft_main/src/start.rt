@@ -2,7 +2,7 @@
 
 ghost use Rattle.std.specs.Prelude.{◌≡◌, map, Some, IfSome, string_bytes};
 ghost use Rattle.sqlite.specs.Files.{over_files};
-ghost use Rattle.ft_shell.specs.Writing.{AppendsUpTo};
+ghost use Rattle.plain_shell.specs.Writing.{AppendsUpTo};
 ghost use Rattle.ft_main.specs.Inputs.{outputs_of, stage_of, due, RunsInTurn, RunsAndKeeps, Closes, OpensAndRuns, RunsOn, opening_line};
 ghost use Rattle.ft_main.specs.Inputs as forms;
 ghost use Rattle.ft_main.specs.Memory.{RefusesLine, RunsInMemory, RunsLine, Starts};

@@ -1,10 +1,5 @@
-pub mod ImportLemmas
-pub mod RecordLemmas
-pub mod AnswerLemmas
 pub mod PlainTurnLemmas
 pub mod ClassLemmas
-pub mod FeedLemmas
-pub mod WriteLemmas
 pub mod RanLemmas
 pub mod RunLemmas
 pub mod PieceLemmas
@@ -12,7 +7,4 @@ pub mod CallsLemmas
 pub mod Spelled
 pub mod PromiseLemmas
 pub mod TurnsLemmas
-pub mod TablesLemmas
-pub mod CountLemmas
-pub mod PlainImportLemmas
 pub mod ImportTurnLemmas

@@ -4,9 +4,9 @@ use Rattle.std.specs.Prelude.{IfErr}
 use Rattle.std.specs.Io.KnownBytes.{Consumes, IsAtEnd, Keeps}
 use Rattle.std.proofs.lemmas.List.{length-take, length-take-le, take-take, take_all}
 use Rattle.sqlite.specs.Store.{Ghosts}
-use Rattle.ft_shell.specs.declared.session.RunFault.{RunFault}
-use Rattle.ft_shell.specs.declared.session.RunFault.TheVariants as causes
-use Rattle.ft_shell.specs.Feeds.{Fed, members_left}
+use Rattle.plain_shell.specs.declared.run.RunFault.{RunFault}
+use Rattle.plain_shell.specs.declared.run.RunFault.TheVariants as causes
+use Rattle.plain_shell.specs.Feeds.{Fed, members_left}
 use Rattle.ft_shell.specs.Ran.{Moment, Passes, Breaks, HasRead, Interrupted, IsInside}
 use Rattle.ft_shell.proofs.RanLemmas.{breaks_as, breaks_none, passes_as}
 use Rattle.ft_shell.proofs.RunLemmas.{consumes_none, if_err_at, some_or_none}

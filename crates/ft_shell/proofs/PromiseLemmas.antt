@@ -16,15 +16,17 @@ use Rattle.ft_statements.specs.Words.{tokens_of}
 use Rattle.ft_statements.specs.Statements.{Class, Plain, FullText as FullTextClass, class_of}
 use Rattle.ft_statements.specs.Dots.{DotCommand, Import, Nothing, SetMode, SetHeaders, SetSeparator, SetNull, SetEcho, SetBail, Print, Importing, Tables, Quit, Usage, Unknown, dot_command_of}
 use Rattle.ft_statements.specs.Replies.{reply_text}
-use Rattle.ft_shell.specs.declared.session.Status.{Status}
-use Rattle.ft_shell.specs.declared.session.RunFault.{RunFault}
+use Rattle.plain_shell.specs.declared.run.Status.{Status}
+use Rattle.plain_shell.specs.declared.run.RunFault.{RunFault}
 use Rattle.ft_shell.specs.Shell.{Parts, Shell}
-use Rattle.ft_shell.specs.Imports.{row_cells}
-use Rattle.ft_shell.specs.ImportTurns.{columns_in, kept, records_in}
+use Rattle.plain_shell.specs.Imports.{row_cells}
+use Rattle.ft_shell.specs.ImportTurns.{columns_in}
+use Rattle.plain_shell.specs.Records.{kept, records_in}
 use Rattle.ft_shell.specs.FullTextTurns.{reply_told}
 use Rattle.ft_shell.specs.StatementTurns.{table_names}
-use Rattle.ft_shell.specs.Told.{Told, Deeds, Tells, idle, and_then, told_by, says, echoed, lacks_memory}
-use Rattle.ft_shell.specs.DotTurns.{behind_stop}
+use Rattle.plain_shell.specs.Told.{Told, Tells, says, echoed, lacks_memory}
+use Rattle.ft_shell.specs.Deeds.{Deeds, idle, and_then, told_by}
+use Rattle.plain_shell.specs.DotParts.{behind_stop}
 use Rattle.ft_shell.proofs.Spelled.{MayNote, MayRead, CallsOf, CallsOfClass, CallsOfDot, CallsOfImport}
 use Rattle.ft_shell.specs.Turns.{Turn, Turns}
 use Rattle.ft_shell.specs.Runs.{Completes, Console, IsFront, IsWhole, Stops}
@@ -32,7 +34,7 @@ use Rattle.ft_shell.specs.Promise.{Ran, AllRan, none_ran, last_ran, first_ran, R
 use Rattle.ft_shell.proofs.CallsLemmas.{runs_join, turn_spelled, turns_made}
 use Rattle.ft_shell.proofs.TurnsLemmas.{assoc_then, idle_then, turns_one, turns_then}
 use Rattle.ft_shell.specs.Broken.{Broken, not_begun, not_echoed, not_told}
-use Rattle.ft_shell.specs.Sources.{Files}
+use Rattle.plain_shell.specs.Sources.{Files}
 use Rattle.ft_statements.specs.Plain.{made_name}
 
 -- ---- calls

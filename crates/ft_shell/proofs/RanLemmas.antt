@@ -7,16 +7,17 @@ use Rattle.shell_text.specs.declared.units.UnitKind.{UnitKind}
 use Rattle.shell_text.specs.declared.units.UnitKind.TheVariants as kinds
 use Rattle.shell_text.specs.Units.{Member}
 use Rattle.shell_text.specs.Splitting.{member_as}
-use Rattle.ft_shell.specs.declared.session.RunFault.{RunFault}
-use Rattle.ft_shell.specs.declared.session.RunFault.TheVariants as causes
+use Rattle.plain_shell.specs.declared.run.RunFault.{RunFault}
+use Rattle.plain_shell.specs.declared.run.RunFault.TheVariants as causes
 use Rattle.ft_shell.specs.Shell.{Shell}
-use Rattle.ft_shell.specs.Told.{Told, Deeds, deeds_of, idle, and_then, echo_text, echoed}
+use Rattle.plain_shell.specs.Told.{Told, echo_text, echoed}
+use Rattle.ft_shell.specs.Deeds.{Deeds, deeds_of, idle, and_then}
 use Rattle.ft_shell.specs.Turns.{Body, Turn, calls_in, echo_of}
 use Rattle.ft_shell.specs.Broken.{Broken, not_begun, not_echoed, not_told}
 use Rattle.shell_text.specs.Print.{Settings}
-use Rattle.ft_shell.specs.Writing.{AppendsUpTo, Sends}
+use Rattle.plain_shell.specs.Writing.{AppendsUpTo, Sends}
 use Rattle.ft_shell.specs.Ran.{Moment, Did, Cut, Passes, Breaks, Runs}
-use Rattle.ft_shell.proofs.WriteLemmas.{appends_then, appends_same}
+use Rattle.plain_shell.proofs.WriteLemmas.{appends_then, appends_same}
 use Rattle.ft_shell.proofs.TurnsLemmas.{assoc_then, turns_then, turns_one}
 
 -- ---- turns of members

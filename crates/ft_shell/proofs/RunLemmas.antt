@@ -7,15 +7,15 @@ use Rattle.std.proofs.Math.Seq.{take-append-add, take-append_seam, drop-append_s
 use Rattle.sqlite.specs.Store.{Ghosts}
 use Rattle.shell_text.specs.Units.{Member, members_of, start, lines_of}
 use Rattle.shell_text.specs.Splitting.{given_by}
-use Rattle.ft_shell.specs.declared.session.RunFault.{RunFault}
-use Rattle.ft_shell.specs.declared.session.RunFault.TheVariants as causes
+use Rattle.plain_shell.specs.declared.run.RunFault.{RunFault}
+use Rattle.plain_shell.specs.declared.run.RunFault.TheVariants as causes
 use Rattle.ft_shell.specs.Shell.{Shell}
-use Rattle.ft_shell.specs.Told.{Deeds}
+use Rattle.ft_shell.specs.Deeds.{Deeds}
 use Rattle.ft_shell.specs.Turns.{Turns, Session, Begins}
-use Rattle.ft_shell.specs.Feeds.{Fed, members_left}
+use Rattle.plain_shell.specs.Feeds.{Fed, members_left}
 use Rattle.ft_shell.specs.Ran.{Moment, Did, Passes, Breaks, HasRead, Interrupted, IsInside}
 use Rattle.ft_shell.specs.Runs.{IsWhole, IsFront, Completes, Stops}
-use Rattle.ft_shell.proofs.WriteLemmas.{appends_kept}
+use Rattle.plain_shell.proofs.WriteLemmas.{appends_kept}
 use Rattle.ft_shell.proofs.TurnsLemmas.{turns_ended}
 use Rattle.ft_shell.proofs.RanLemmas.{breaks_after, breaks_none, breaks_then, passes_as, passes_none, passes_then}
 

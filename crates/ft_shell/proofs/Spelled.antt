@@ -16,14 +16,15 @@ use Rattle.ft_statements.specs.Statements.{Class, Plain, FullText, class_of}
 use Rattle.ft_statements.specs.Dots.{DotCommand, Import, Importing, Tables, dot_command_of}
 use Rattle.ft_statements.specs.Plain.{made_name}
 use Rattle.ft_shell.specs.Shell.{Shell}
-use Rattle.ft_shell.specs.Sources.{Files, Gives}
-use Rattle.ft_shell.specs.Imports.{delimiter_of, row_cells}
-use Rattle.ft_shell.specs.Records.{warnings}
+use Rattle.plain_shell.specs.Sources.{Files, Gives}
+use Rattle.plain_shell.specs.Imports.{delimiter_of, row_cells}
+use Rattle.plain_shell.specs.Records.{warnings}
 use Rattle.ft_shell.specs.FullTextTurns.{reply_told}
 use Rattle.ft_shell.specs.StatementTurns.{table_names}
-use Rattle.ft_shell.specs.ImportTurns.{columns_in, insert_told, kept, records_in}
-use Rattle.ft_shell.specs.DotTurns.{behind_stop}
-use Rattle.ft_shell.specs.Told.{Told, blames, Tells}
+use Rattle.ft_shell.specs.ImportTurns.{columns_in, insert_told}
+use Rattle.plain_shell.specs.Records.{kept, records_in}
+use Rattle.plain_shell.specs.DotParts.{behind_stop}
+use Rattle.plain_shell.specs.Told.{Told, blames, Tells}
 
 -- nothing is called, or the table that is made, if one may be, is noted once
 abbrev pub MayNote : Option (List ℕ) → List Call → Type 0

@@ -4,7 +4,7 @@ use Rattle.std.specs.Prelude.{MatchBool, Bool}
 use Rattle.sqlite.specs.Store.{Ghosts}
 use Rattle.shell_text.specs.Units.{Member}
 use Rattle.ft_shell.specs.Shell.{Shell}
-use Rattle.ft_shell.specs.Told.{Deeds, idle, and_then}
+use Rattle.ft_shell.specs.Deeds.{Deeds, idle, and_then}
 use Rattle.ft_shell.specs.Turns.{Turn, Turns}
 
 pub assoc_then : (a b c : Deeds) → and_then (and_then a b) c ≡ and_then a (and_then b c)

@@ -3,12 +3,12 @@ use Rattle.std.specs.Prelude.{ℕ, ◌≡◌, false, List, [], ◌∷◌, ◌++�
 use Rattle.std.specs.Io.KnownBytes.{Appends}
 use Rattle.sqlite.specs.Store.{Ghosts}
 use Rattle.shell_text.specs.Units.{Member}
-use Rattle.ft_shell.specs.declared.session.RunFault.{RunFault}
-use Rattle.ft_shell.specs.declared.session.RunFault.TheVariants as causes
+use Rattle.plain_shell.specs.declared.run.RunFault.{RunFault}
+use Rattle.plain_shell.specs.declared.run.RunFault.TheVariants as causes
 use Rattle.ft_shell.specs.Shell.{Shell}
-use Rattle.ft_shell.specs.Told.{Deeds, and_then}
+use Rattle.ft_shell.specs.Deeds.{Deeds, and_then}
 use Rattle.ft_shell.specs.Turns.{Turn, echo_of}
-use Rattle.ft_shell.specs.Writing.{AppendsUpTo}
+use Rattle.plain_shell.specs.Writing.{AppendsUpTo}
 
 -- Some turns were done, and all that they tell was written; then a run is cut short, with this member next. It gives what was done in all.
 -- Only a refused write stops within a turn: the echo of a unit comes first, and where it is refused the unit is not run.

@@ -1,27 +1,14 @@
 -- Meaning. What a dot-command does in a session ("Special commands to sqlite3 (dot-commands)" of "Command Line Shell For SQLite").
-use Rattle.std.specs.Prelude.{ℕ, ◌≡◌, ◌==◌, true, if◌then◌else◌, MatchBool, List, [], ◌∷◌, codes}
+use Rattle.std.specs.Prelude.{ℕ, ◌≡◌, codes}
 use Rattle.sqlite.specs.Store.{Ghosts}
-use Rattle.shell_text.specs.Print.{Settings}
 use Rattle.ft_shell.specs.Shell.{Shell}
 use Rattle.ft_statements.specs.Texts.{usage_text}
 use Rattle.ft_statements.specs.Dots.{DotCommand, Nothing, SetMode, SetHeaders, SetSeparator, SetNull, SetEcho, SetBail, Print, Importing, Tables, Quit, Usage, Unknown}
-use Rattle.ft_statements.specs.Settings.{settings_after, may_set, print_text}
+use Rattle.ft_statements.specs.Settings.{print_text}
 use Rattle.ft_shell.specs.TablesTurns.{TablesTurn}
 use Rattle.ft_shell.specs.ImportTurns.{ImportTurn}
-use Rattle.ft_shell.specs.Told.{Told, silent, says, blames}
-
--- what stands behind the full stop at its front
-abbrev pub behind_stop : List ℕ → List ℕ
-behind_stop [] = []
-behind_stop (b ∷ text) = if b == 0x2E then text else b ∷ text
-
--- the session ends there
-abbrev pub quits : Told
-quits = record silent { ends = true }
-
--- a setting is changed, but for a separator that may not be set
-abbrev pub Sets : ℕ → DotCommand → Settings → Settings → Told → Type 0
-Sets line command old new told = MatchBool (may_set command old) ((new ≡ settings_after command old) × (told ≡ silent)) ((new ≡ old) × (told ≡ blames old line (codes "bad separator")))
+use Rattle.plain_shell.specs.DotParts.{Sets, quits}
+use Rattle.plain_shell.specs.Told.{Told, says, blames}
 
 module _ {P S : Type 0} (g : Ghosts P) (h : Ghosts S) (line : ℕ) (old new : Shell P S) (told : Told) where
   -- nothing is done, and this is told

@@ -8,7 +8,7 @@ use Rattle.ft_index.specs.Kept.{FullText, Executes, Notes}
 use Rattle.ft_index.specs.Crashes.{CommandSurvives, NoteSurvives}
 use Rattle.ft_statements.specs.Texts.{fault_text}
 use Rattle.ft_statements.specs.Replies.{reply_text}
-use Rattle.ft_shell.specs.Told.{Told, silent, says, blames, Tells}
+use Rattle.plain_shell.specs.Told.{Told, silent, says, blames, Tells}
 
 -- what is told of an answer
 abbrev pub reply_told : Settings → ℕ → Result Reply Fault → Told

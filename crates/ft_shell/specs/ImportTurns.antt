@@ -1,11 +1,10 @@
 -- Meaning. What `.import` does in a session ("Importing files as CSV or other formats" of "Command Line Shell For SQLite"; that an import is one
 -- command, whole or not at all, and each refusal, are own choices).
-use Rattle.std.specs.Prelude.{ℕ, ◌≡◌, ◌⊎◌, ◌<◌, ◌≤◌, List, [], ◌∷◌, length, map, drop, true, false, codes, Option, Some, None, option_map, unwrap_or, Result, Ok, Err}
-use Rattle.std.specs.List.{enumerate_from}
+use Rattle.std.specs.Prelude.{ℕ, ◌≡◌, ◌⊎◌, ◌<◌, ◌≤◌, List, [], ◌∷◌, length, map, true, false, codes, Option, Some, None, option_map, Result, Ok, Err}
 use Rattle.csv.specs.Reading.{AreRecords, strip_bom}
 use Rattle.csv.specs.declared.parser.State.TheVariants as csv
 use Rattle.sqlite.specs.Store.{Ghosts}
-use Rattle.sqlite.specs.Held.{Held, state}
+use Rattle.sqlite.specs.Held.{Held}
 use Rattle.shell_text.specs.Print.{Settings}
 use Rattle.shell_text.specs.Records.{IsNoText, csv_reader}
 use Rattle.ft_values.specs.declared.fault.Fault.{Fault}
@@ -15,26 +14,16 @@ use Rattle.ft_index.specs.Found.{info_named}
 use Rattle.ft_index.specs.Kept.{FullText, Executes}
 use Rattle.ft_index.specs.Crashes.{CommandSurvives}
 use Rattle.ft_statements.specs.Dots.{Import}
-use Rattle.ft_shell.specs.declared.plain_import.ImportFault.{ImportFault}
-use Rattle.ft_shell.specs.declared.plain_import.ImportFault.TheVariants.{Refused, Memory}
 use Rattle.ft_shell.specs.FullTextTurns.{NoteTurn}
-use Rattle.ft_shell.specs.Imports.{delimiter_of, row_cells}
-use Rattle.ft_shell.specs.PlainImports.{HasColumns, Stays, CommitsNothing, import_steps, CommitsAll, Declines, Uncounted}
-use Rattle.ft_shell.specs.PlainStatements.{IfClean}
-use Rattle.ft_shell.specs.Records.{warnings}
-use Rattle.ft_shell.specs.Sources.{Files, Gives, Refuses}
-use Rattle.ft_shell.specs.declared.source.SourceFault.{SourceFault}
-use Rattle.ft_shell.specs.declared.source.SourceFault.TheVariants as sources
-use Rattle.ft_shell.specs.TablesTurns.{Tries}
+use Rattle.plain_shell.specs.Imports.{delimiter_of, row_cells}
+use Rattle.plain_shell.specs.IntoTables.{IsLeft, IntoTable}
+use Rattle.plain_shell.specs.PlainImports.{import_steps, CommitsAll, Declines}
+use Rattle.plain_shell.specs.Records.{kept, records_in, warnings}
+use Rattle.plain_shell.specs.Sources.{Files, Gives, Refuses, fetch_words}
+use Rattle.plain_shell.specs.declared.source.SourceFault.{SourceFault}
+use Rattle.plain_shell.specs.Listings.{Tries}
 use Rattle.ft_statements.specs.Texts.{fault_text}
-use Rattle.ft_shell.specs.Told.{Told, blames, followed, lacks_memory, warned, Tells}
-
--- the records that are not skipped, each with its number, from 1
-abbrev pub kept : Option ℕ → List (List (List ℕ)) → List (ℕ × List (List ℕ))
-kept skip found = drop (unwrap_or skip 0) (enumerate_from 1 found)
-
-abbrev pub records_in : List (ℕ × List (List ℕ)) → List (List (List ℕ))
-records_in rows = map (λ r. r.1) rows
+use Rattle.plain_shell.specs.Told.{Told, blames, followed, lacks_memory, warned, Tells}
 
 -- the number of columns of the first table that has this name, if one has
 abbrev pub columns_in : List TableInfo → List ℕ → Option ℕ
@@ -65,25 +54,7 @@ pub data TextImport {S : Type 0} (h : Ghosts S) (settings : Settings) (line : �
 abbrev pub NotesAfter : {S : Type 0} → Ghosts S → Settings → ℕ → List ℕ → List ℕ → FullText S → FullText S → Told → Type 0
 NotesAfter h settings line name lines before after told = (end : Told) × NoteTurn h settings line name before after end × (told ≡ followed (warned lines) end)
 
--- the words of what the plain database refused
-abbrev pub fault_words : ImportFault → List ℕ
-fault_words Refused = codes "import refused"
-fault_words Memory = codes "out of memory"
-
 module _ {P : Type 0} (g : Ghosts P) (settings : Settings) (line : ℕ) (what : Import) (rows : List (ℕ × List (List ℕ))) where
-  -- it is refused, or memory is wanting: what was committed stays, and nothing else is told
-  abbrev pub IsLeft : List ℕ → Held P → Held P → Told → Type 0
-  IsLeft why old new told = IfClean g old new (CommitsNothing (state g old) (state g new)) × (told ≡ blames settings line why)
-
-  -- Into a table that is there: all records in one transaction, and then the warnings.
-  pub data IntoTable (old new : Held P) (told : Told) : Type 0 where
-    into : (n : ℕ) (counted : Held P) → IfClean g old counted (Stays (state g old) (state g counted) × HasColumns (state g old).now.schema what.table n)
-        → CommitsAll g (import_steps None what.table n (records_in rows)) counted new → told ≡ warned (warnings what.file n rows) → IntoTable old new told
-    uncounted : Uncounted g what.table old new → IsLeft (codes "import refused") old new told → IntoTable old new told
-    declined : (n : ℕ) (counted : Held P) → IfClean g old counted (Stays (state g old) (state g counted) × HasColumns (state g old).now.schema what.table n)
-        → Declines g (import_steps None what.table n (records_in rows)) counted new → IsLeft (codes "import refused") old new told → IntoTable old new told
-    no_memory : IsLeft (codes "out of memory") old new told → IntoTable old new told
-
   -- Into a table that the first record left names the columns of: it is made in the same transaction, and noted after the warnings.
   module _ {S : Type 0} (h : Ghosts S) where
     pub data IntoNew (old new : Held P) (before after : FullText S) (told : Told) : Type 0 where
@@ -95,23 +66,16 @@ module _ {P : Type 0} (g : Ghosts P) (settings : Settings) (line : ℕ) (what : 
           → NotesAfter h settings line what.table (warnings what.file (length first.1) rest) before after told → IntoNew old new before after told
       declined : (first : ℕ × List (List ℕ)) (rest : List (ℕ × List (List ℕ))) → rows ≡ first ∷ rest → length first.1 ≤ 100
           → Declines g (import_steps (Some first.1) what.table (length first.1) (records_in rest)) old new
-          → after ≡ before → IsLeft (codes "import refused") old new told → IntoNew old new before after told
-      no_memory : after ≡ before → IsLeft (codes "out of memory") old new told → IntoNew old new before after told
+          → after ≡ before → IsLeft g settings line (codes "import refused") old new told → IntoNew old new before after told
+      no_memory : after ≡ before → IsLeft g settings line (codes "out of memory") old new told → IntoNew old new before after told
 
     -- the table is there where `sqlite` answers a reading of it
     pub data PlainImport (old new : Held P) (before after : FullText S) (told : Told) : Type 0 where
-      there : (found : Held P) → Tries g what.table (Some true) old found → after ≡ before → IntoTable found new told → PlainImport old new before after told
+      there : (found : Held P) → Tries g what.table (Some true) old found → after ≡ before → IntoTable g settings line what rows found new told → PlainImport old new before after told
       new_table : (found : Held P) → Tries g what.table (Some false) old found → IntoNew found new before after told → PlainImport old new before after told
       untried : Tries g what.table None old new → after ≡ before → told ≡ lacks_memory settings line → PlainImport old new before after told
 
 -- ---- the file
-
--- the words of a file that is not fetched
-abbrev pub fetch_words : SourceFault → List ℕ
-fetch_words sources.Missing = codes "cannot read file"
-fetch_words sources.Read = codes "cannot read file"
-fetch_words sources.TooBig = codes "file too big"
-fetch_words sources.Memory = codes "out of memory"
 
 module _ {P S : Type 0} (g : Ghosts P) (h : Ghosts S) (settings : Settings) (line : ℕ) (what : Import) (old new : Held P) (before after : FullText S) (told : Told) where
   -- nothing is done, and this is the fault line

@@ -9,11 +9,12 @@ use Rattle.ft_content.specs.Command.{Command, Filter, Items, Reply, Select}
 use Rattle.ft_content.specs.Deserved.{Contents}
 use Rattle.ft_content.specs.Step.{reply_to}
 use Rattle.ft_index.specs.Kept.{FullText, Call, Executed, Runs, IsUp, Holds, accepted, left_by, AreAnswered, is_unsound, value_of}
-use Rattle.ft_shell.specs.declared.session.Status.{Status}
-use Rattle.ft_shell.specs.declared.session.RunFault.{RunFault}
+use Rattle.plain_shell.specs.declared.run.Status.{Status}
+use Rattle.plain_shell.specs.declared.run.RunFault.{RunFault}
 use Rattle.ft_shell.specs.Shell.{Parts, Shell}
 use Rattle.ft_statements.specs.Replies.{reply_text}
-use Rattle.ft_shell.specs.Told.{Deeds, idle, and_then, told_by, says, echoed, lacks_memory}
+use Rattle.ft_shell.specs.Deeds.{Deeds, idle, and_then, told_by}
+use Rattle.plain_shell.specs.Told.{says, echoed, lacks_memory}
 use Rattle.ft_shell.specs.Turns.{Turn, Turns}
 use Rattle.ft_shell.specs.Runs.{Console, Completes, Stops}
 

@@ -3,14 +3,14 @@ use Rattle.std.specs.Prelude.{ℕ, ◌≡◌, ◌⊎◌, ◌<◌, false, ◌+◌
 use Rattle.std.specs.Io.KnownBytes.{Appends, Consumes, IsAtEnd}
 use Rattle.sqlite.specs.Store.{Ghosts}
 use Rattle.shell_text.specs.Units.{Member}
-use Rattle.ft_shell.specs.declared.session.Status.{Status}
-use Rattle.ft_shell.specs.declared.session.RunFault.{RunFault}
-use Rattle.ft_shell.specs.declared.session.RunFault.TheVariants as causes
+use Rattle.plain_shell.specs.declared.run.Status.{Status}
+use Rattle.plain_shell.specs.declared.run.RunFault.{RunFault}
+use Rattle.plain_shell.specs.declared.run.RunFault.TheVariants as causes
 use Rattle.ft_shell.specs.Shell.{Shell}
-use Rattle.ft_shell.specs.Told.{Deeds}
+use Rattle.ft_shell.specs.Deeds.{Deeds}
 use Rattle.ft_shell.specs.Turns.{Turns}
 use Rattle.ft_shell.specs.Broken.{Broken}
-use Rattle.ft_shell.specs.Feeds.{Fed, members_left}
+use Rattle.plain_shell.specs.Feeds.{Fed, members_left}
 
 -- a shell with the status of its run, and what the two writers hold where that is known
 pub record Moment (P S : Type 0) : Type 0 where

@@ -1,51 +1,16 @@
 -- Meaning. What `.tables` does in a session ("Querying the database schema" of "Command Line Shell For SQLite"; that plain tables are listed by
 -- their noted names, and only those that can be read, is an own choice).
-use Rattle.std.specs.Prelude.{ℕ, ◌≡◌, ◌⊎◌, Bool, true, false, List, [], ◌∷◌, map, codes, Option, Some, None}
+use Rattle.std.specs.Prelude.{ℕ, ◌≡◌, List, map, codes}
 use Rattle.sqlite.specs.Store.{Ghosts}
-use Rattle.sqlite_value.specs.Order.{Row}
-use Rattle.sqlite.specs.Held.{Held, state}
-use Rattle.sqlite.specs.State.{FailsToQuery, Shown}
-use Rattle.sqlite.specs.declared.error.Error.{Error}
-use Rattle.shell_text.specs.Print as print
+use Rattle.sqlite.specs.Held.{Held}
 use Rattle.shell_text.specs.Print.{Settings}
 use Rattle.ft_index.specs.Kept.{FullText, IsUp, OnlyLooks, value_of}
-use Rattle.ft_shell.specs.Imports.{reading_of}
-use Rattle.ft_shell.specs.PlainStatements.{IfClean, is_memory_error}
-use Rattle.ft_statements.specs.Replies.{AreSorted, listed}
+use Rattle.plain_shell.specs.Listings.{Lists}
+use Rattle.plain_shell.specs.Told.{Told, blames, Tells}
 use Rattle.ft_shell.specs.StatementTurns.{table_names}
-use Rattle.ft_shell.specs.Told.{Told, says, blames, lacks_memory, Tells}
 
-module _ {P : Type 0} (g : Ghosts P) where
-  -- Whether a table can be read: `sqlite` answers a reading of it, or refuses that for another cause than memory. Where it is not known
-  -- nothing was tried, or memory was wanting.
-  abbrev pub TellsTable : List ℕ → Held P → Held P → Option Bool → Type 0
-  TellsTable name old new (Some true) = (rows : List Row) × Shown (reading_of name) [] (state g old) (state g new) rows
-  TellsTable name old new (Some false) = (e : Error) × (is_memory_error e ≡ false) × FailsToQuery (reading_of name) [] (state g old) (state g new) e
-  TellsTable name old new None = (new ≡ old) ⊎ ((e : Error) × (is_memory_error e ≡ true) × FailsToQuery (reading_of name) [] (state g old) (state g new) e)
-
-  -- It was tried whether a table can be read: it can, it can't, or memory was wanting.
-  abbrev pub Tries : List ℕ → Option Bool → Held P → Held P → Type 0
-  Tries name can_read old new = IfClean g old new (TellsTable name old new can_read)
-
-  -- of these names those of tables that can be read, each tried in turn
-  abbrev pub Finds : List (List ℕ) → Held P → Held P → List (List ℕ) → Type 0
-  Finds [] old new found = (new ≡ old) × (found ≡ [])
-  Finds (name ∷ names) old new found = (mid : Held P) × (rest : List (List ℕ)) × Finds names mid new rest
-      × ((Tries name (Some true) old mid × (found ≡ name ∷ rest)) ⊎ (Tries name (Some false) old mid × (found ≡ rest)))
-
-  -- a front of these names was tried, each in turn; then memory was wanting
-  abbrev pub StopsTrying : List (List ℕ) → Held P → Held P → Type 0
-  StopsTrying [] old new = new ≡ old
-  StopsTrying (name ∷ names) old new = (new ≡ old) ⊎ (Tries name None old new ⊎ ((mid : Held P) × (can_read : Bool) × Tries name (Some can_read) old mid × StopsTrying names mid new))
-
-  -- The names of full-text tables and, of the noted names, those of tables that can be read, sorted and printed; or memory was wanting.
-  pub data Lists (settings : Settings) (line : ℕ) (own noted : List (List ℕ)) (old new : Held P) (told : Told) : Type 0 where
-    tables : (found names : List (List ℕ)) → Finds noted old new found → AreSorted (listed own found) names → Tells settings line (says (print.listed names)) told → Lists settings line own noted old new told
-    unsorted : (found : List (List ℕ)) → Finds noted old new found → told ≡ lacks_memory settings line → Lists settings line own noted old new told
-    untried : StopsTrying noted old new → told ≡ lacks_memory settings line → Lists settings line own noted old new told
-
-  module _ {S : Type 0} (h : Ghosts S) where
-    -- The noted names are read, and listed with those of the full-text tables; or the full-text store refuses to read them.
-    pub data TablesTurn (settings : Settings) (line : ℕ) (old new : Held P) (before after : FullText S) (told : Told) : Type 0 where
-      lists : (noted : List (List ℕ)) → OnlyLooks h before after → (IsUp h after → noted ≡ map (λ n. n.1) (value_of h before).noted) → Lists settings line (table_names before) noted old new told → TablesTurn settings line old new before after told
-      refused : OnlyLooks h before after → new ≡ old → Tells settings line (blames settings line (codes "full-text store refused")) told → TablesTurn settings line old new before after told
+module _ {P S : Type 0} (g : Ghosts P) (h : Ghosts S) where
+  -- The noted names are read, and listed with those of the full-text tables; or the full-text store refuses to read them.
+  pub data TablesTurn (settings : Settings) (line : ℕ) (old new : Held P) (before after : FullText S) (told : Told) : Type 0 where
+    lists : (noted : List (List ℕ)) → OnlyLooks h before after → (IsUp h after → noted ≡ map (λ n. n.1) (value_of h before).noted) → Lists g settings line (table_names before) noted old new told → TablesTurn settings line old new before after told
+    refused : OnlyLooks h before after → new ≡ old → Tells settings line (blames settings line (codes "full-text store refused")) told → TablesTurn settings line old new before after told

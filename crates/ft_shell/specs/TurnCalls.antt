@@ -13,15 +13,17 @@ use Rattle.ft_statements.specs.Plain.{asks, made_name}
 use Rattle.ft_statements.specs.Statements.{Class, Plain, FullText as FullTextClass, class_of}
 use Rattle.ft_statements.specs.Dots.{DotCommand, Import, Nothing, SetMode, SetHeaders, SetSeparator, SetNull, SetEcho, SetBail, Print, Importing, Tables, Quit, Usage, Unknown}
 use Rattle.ft_shell.specs.Shell.{Shell}
-use Rattle.ft_shell.specs.Sources.{Files}
-use Rattle.ft_shell.specs.Imports.{delimiter_of, row_cells}
+use Rattle.plain_shell.specs.Sources.{Files}
+use Rattle.plain_shell.specs.Imports.{delimiter_of, row_cells}
 use Rattle.ft_shell.specs.FullTextTurns.{MaybeNotes}
-use Rattle.ft_shell.specs.PlainStatements.{CommandTurn, QueryTurn, done, refused}
+use Rattle.ft_shell.specs.PlainTurns.{CommandTurn, done, refused}
+use Rattle.plain_shell.specs.PlainStatements.{QueryTurn}
 use Rattle.ft_shell.specs.StatementTurns.{ClassTurn, Declines, StatementTurn, table_names}
 use Rattle.ft_shell.specs.DotTurns.{DotTurn}
 use Rattle.ft_shell.specs.ImportTurns as imports
-use Rattle.ft_shell.specs.ImportTurns.{BytesTurn, DelimitedTurn, FileTurn, IntoNamed, IntoNew, PlainImport, TextImport, columns_in, kept, records_in}
-use Rattle.ft_shell.specs.Told.{Told}
+use Rattle.ft_shell.specs.ImportTurns.{BytesTurn, DelimitedTurn, FileTurn, IntoNamed, IntoNew, PlainImport, TextImport, columns_in}
+use Rattle.plain_shell.specs.Records.{kept, records_in}
+use Rattle.plain_shell.specs.Told.{Told}
 
 module _ {S : Type 0} (h : Ghosts S) (settings : Settings) (line : ℕ) where
   -- the name of a plain table that was made is noted

@@ -8,11 +8,13 @@ use Rattle.shell_text.specs.Dot.{dot_words_of}
 use Rattle.ft_shell.specs.Shell.{Shell}
 use Rattle.ft_statements.specs.Texts.{split_text}
 use Rattle.ft_statements.specs.Dots.{DotCommand, dot_command_of}
-use Rattle.ft_shell.specs.DotTurns.{DotTurn, behind_stop}
+use Rattle.ft_shell.specs.DotTurns.{DotTurn}
+use Rattle.plain_shell.specs.DotParts.{behind_stop}
 use Rattle.ft_shell.specs.StatementTurns.{StatementTurn}
 use Rattle.ft_index.specs.Kept.{Call}
 use Rattle.ft_shell.specs.TurnCalls.{dot_in, statement_in}
-use Rattle.ft_shell.specs.Told.{Told, Deeds, told_by, idle, and_then, blames, echo_text, echoed, lacks_memory}
+use Rattle.plain_shell.specs.Told.{Told, blames, echo_text, echoed, lacks_memory}
+use Rattle.ft_shell.specs.Deeds.{Deeds, told_by, idle, and_then}
 use Rattle.shell_text.specs.Print.{Settings}
 
 -- what is written of a member before it is run

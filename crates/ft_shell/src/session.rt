@@ -1,72 +1,28 @@
 // A session: the units of an input in turn, and what is written for them.
-ghost use Rattle.std.specs.Prelude.{◌≡◌, ◌≢◌, ◌⊎◌, ◌≤◌, ◌<◌, ◌+◌, ◌-◌, ◌^◌, ◌∷◌, ◌++◌, ◌||◌, ℕ, List, Option, [], ⊤, min, true, false, length, take, IfOk, IfErr, OnOk, OnErr};
-ghost use Rattle.std.specs.Io.KnownBytes.{Consumes, IsAtEnd, Keeps};
+ghost use Rattle.std.specs.Prelude.{◌≡◌, ◌≤◌, ◌<◌, ◌+◌, ◌∷◌, ◌++◌, ℕ, List, [], ⊤, false, length, IfOk, IfErr, OnOk};
 ghost use Rattle.shell_text.specs.Units.{Fault, Member};
 ghost use Rattle.shell_text.specs.Splitting.{member_of_unit};
-ghost use Rattle.ft_shell.specs.declared.session.RunFault.TheVariants.{Memory, Write};
-ghost use Rattle.ft_shell.specs.Told as forms;
-ghost use Rattle.ft_shell.specs.ToldViews.{told_as};
-ghost use Rattle.ft_shell.specs.Feeds.{end_line, members_left, refused_as};
-ghost use Rattle.ft_shell.specs.Writing.{Sends};
+ghost use Rattle.plain_shell.specs.Feeds.{members_left, refused_as};
 ghost use Rattle.ft_shell.specs.Ran.{moment_of, HasRead, Interrupted, Runs};
 ghost use Rattle.ft_shell.specs.Runs.{console_of, Completes, Stops};
 ghost use Rattle.ft_shell.specs.Promise.{IsOpen, KeptByRuns, RanAndKept};
 ghost use Rattle.ft_index.specs.Kept.{IsUp};
 ghost use Rattle.ft_shell.specs.Shell.{lent};
-ghost use Rattle.ft_shell.specs.Sources.{Files};
+ghost use Rattle.plain_shell.specs.Sources.{Files};
 
-use crate::feed::{Feed, Refusal, is_memory};
-use crate::source::Source;
-use crate::told::Told;
 use crate::unit_turn::unit_turn;
-use crate::written::{Refused, write_echo, write_told};
 use ft_index::FullText;
 use ft_statements::split_text;
+use plain_shell::{
+    Feed, Refusal, RunFault, Source, Status, Told, echo_text, end_refusal, flush, is_memory, is_over,
+    read_chunk, tell,
+};
 use ram_disk::Honest;
-use shell_text::{Settings, SplitFault, Unit, blocks_read_whole};
+use shell_text::{Settings, Unit, blocks_read_whole};
 use sqlite::{Alter, Connection};
-use std::alloc::{AllocError, Global};
+use std::alloc::Global;
 use std::io::{Read, Write};
 use std::marker::Model;
-use thiserror::Error;
-
-/// How a run ended.
-#[derive(Clone, Copy, Debug, PartialEq, Eq)]
-pub struct Status {
-    /// How many fault lines were written. It stays at 2^64 - 1 once there.
-    pub faults: u64,
-    /// Whether a command, or a fault line where bail is on, ended the session.
-    pub quit: bool,
-}
-
-/// Why a run ended before the end of its input.
-#[derive(Clone, Copy, Debug, PartialEq, Eq, Error)]
-pub enum RunFault {
-    #[error("input fault")]
-    Read,
-    #[error("output fault")]
-    Write,
-    #[error("input too large")]
-    TooMuch,
-    #[error("out of memory")]
-    Memory,
-}
-
-impl From<AllocError> for RunFault {
-    ghost from_gives = { λ _ fault. fault ≡ Memory };
-
-    fn from(_error: AllocError) -> RunFault {
-        RunFault::Memory
-    }
-}
-
-impl From<Refused> for RunFault {
-    ghost from_gives = { λ _ fault. fault ≡ Write };
-
-    fn from(_refused: Refused) -> RunFault {
-        RunFault::Write
-    }
-}
 
 // The most bytes of an input.
 const MOST_INPUT: usize = 1 << 30;
@@ -525,91 +481,3 @@ impl<P: Alter, S: Honest> Session<P, S> {
     }
 }
 
-// The refusal of an input that ends where something is open.
-fn end_refusal(fault: SplitFault) -> Refusal
-    ensures { result ≡ record { line = end_line fault; fault = fault } }
-{
-    let line = match &fault {
-        SplitFault::Incomplete(line) => *line,
-        _ => 1,
-    };
-    Refusal { line, fault }
-}
-
-// Whether a run is over behind a piece of so many bytes.
-fn is_over(read: usize, status: Status) -> bool
-    ensures over { result ≡ true → (read ≡ 0) ⊎ ((0 < read) × (status.quit ≡ true)) }
-    ensures goes { result ≡ false → (0 < read) × (status.quit ≡ false) }
-    ensures fits { status.faults < 2 ^ 64 }
-{
-    read == 0 || status.quit
-}
-
-fn flush<O: Write>(out: &mut O) -> Result<(), RunFault>
-    ensures bytes { Keeps (O.contents out.old) (O.contents out.new) }
-    ensures fault { IfErr result (λ fault. fault ≡ RunFault.Write) }
-{
-    match out.flush() {
-        Ok(()) => Ok(()),
-        Err(_) => Err(RunFault::Write),
-    }
-}
-
-// How many fault lines there are with those of a turn.
-fn faults_with(faults: u64, told: &Told) -> u64
-    ensures { result ≡ min (faults + (told_as told.now).faults) (2 ^ 64 - 1) }
-{
-    match &told.fault {
-        Some(_) => faults.saturating_add(1),
-        None => faults,
-    }
-}
-
-// Writes what a turn tells, and counts its fault line.
-fn tell<O: Write, E: Write>(
-    told: &Told,
-    status: &mut Status,
-    out: &mut O,
-    err: &mut E,
-) -> Result<(), RunFault>
-    ensures out { Sends result (O.contents out.old) (O.contents out.new) (told_as told.now).out }
-    ensures err { Sends result (E.contents err.old) (E.contents err.new) (told_as told.now).err }
-    ensures fault { IfErr result (λ fault. fault ≡ RunFault.Write) }
-    ensures faults { OnOk result (status.new.faults
-        ≡ min (status.old.faults + (told_as told.now).faults) (2 ^ 64 - 1)) }
-    ensures quit { OnOk result (status.new.quit ≡ (status.old.quit || (told_as told.now).ends)) }
-{
-    write_told(told, out, err)?;
-    *status = Status {
-        faults: faults_with(status.faults, told),
-        quit: status.quit || told.ends,
-    };
-    Ok(())
-}
-
-// Writes the text of a unit where echo is on.
-fn echo_text<O: Write>(echo: bool, text: &str, out: &mut O) -> Result<(), RunFault>
-    ensures out { Sends result (O.contents out.old) (O.contents out.new)
-        (forms.echo_text echo text.now) }
-    ensures fault { IfErr result (λ fault. fault ≡ RunFault.Write) }
-{
-    if echo {
-        write_echo(out, text)?;
-    }
-    Ok(())
-}
-
-fn read_chunk<R: Read>(reader: &mut R, chunk: &mut [u8]) -> Result<usize, RunFault>
-    ensures bound { IfOk result (λ n. n ≤ length chunk.new) }
-    ensures bytes { IfOk result (λ n. Consumes (R.remaining reader.old) (R.remaining reader.new)
-        (take n chunk.new)) }
-    ensures end { IfOk result (λ n. n ≡ 0 → 0 < length chunk.new
-        → IsAtEnd (R.remaining reader.new)) }
-    ensures kept { OnErr result (Keeps (R.remaining reader.old) (R.remaining reader.new)) }
-    ensures fault { IfErr result (λ fault. fault ≡ RunFault.Read) }
-{
-    match reader.read(chunk) {
-        Ok(n) => Ok(n),
-        Err(_) => Err(RunFault::Read),
-    }
-}

@@ -1,17 +1,17 @@
 // What a statement does in a session.
 ghost use Rattle.std.specs.Prelude.{◌≡◌};
 ghost use Rattle.shell_text.specs.Words.{words_of};
-ghost use Rattle.ft_shell.specs.ToldViews.{told_as};
-ghost use Rattle.ft_shell.specs.PlainStatements.{OrNothing};
+ghost use Rattle.plain_shell.specs.ToldViews.{told_as};
+ghost use Rattle.ft_shell.specs.PlainTurns.{OrNothing};
 ghost use Rattle.ft_statements.specs.Statements.{class_of};
 ghost use Rattle.ft_statements.specs.Words as tokens;
 ghost use Rattle.ft_shell.specs.StatementTurns.{ClassTurn, StatementTurn, table_names};
 
 use crate::full_text_turn::full_text_turn;
 use crate::plain_turn::plain_turn;
-use crate::told::Told;
 use ft_index::FullText;
 use ft_statements::{Class, StatementFault, read_statement, statement_text};
+use plain_shell::Told;
 use shell_text::{LexFault, Settings, SqlWord, sql_words};
 use sqlite::{Alter, Connection};
 use std::alloc::Global;

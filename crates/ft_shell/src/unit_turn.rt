@@ -1,15 +1,14 @@
 // What a unit of the input does in a session.
 ghost use Rattle.std.specs.Prelude.{◌≡◌, ℕ, List};
 ghost use Rattle.shell_text.specs.Splitting.{member_of_unit};
-ghost use Rattle.ft_shell.specs.ToldViews.{told_as};
+ghost use Rattle.plain_shell.specs.ToldViews.{told_as};
 ghost use Rattle.ft_shell.specs.Turns.{Body};
 ghost use Rattle.ft_shell.specs.Shell.{shell_of};
 
 use crate::dot_turn::dot_line_turn;
-use crate::source::Source;
 use crate::statement_turn::statement_turn;
-use crate::told::Told;
 use ft_index::FullText;
+use plain_shell::{Source, Told};
 use shell_text::{Settings, Unit, UnitKind};
 use sqlite::{Alter, Connection};
 use std::alloc::Global;

@@ -1,6 +1,6 @@
 -- whole, or a front of it
 use Rattle.std.proofs.Common.{subst}
-use Rattle.ft_shell.specs.Writing.{AppendsUpTo}
+use Rattle.plain_shell.specs.Writing.{AppendsUpTo}
 use Rattle.ft_main.proofs.InputLemmas.{line_sent}
 use Rattle.ft_main.proofs.start.write_line.Goals as goal
 

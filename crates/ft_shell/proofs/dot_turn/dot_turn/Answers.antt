@@ -3,7 +3,7 @@ use Rattle.std.proofs.Common.{rules, ◌≡◌, refl, sym, subst, inl}
 use Rattle.ft_statements.specs.Dots.{Tables}
 use Rattle.ft_statements.specs.DotViews.{command_as}
 use Rattle.ft_shell.specs.DotTurns.{DotTurn}
-use Rattle.ft_shell.specs.ToldViews.{told_as}
+use Rattle.plain_shell.specs.ToldViews.{told_as}
 use Rattle.ft_shell.proofs.dot_turn.dot_turn.Goals as goal
 
 pub returns-in-Tables-clause-turn : goal.returns-in-Tables-clause-turn

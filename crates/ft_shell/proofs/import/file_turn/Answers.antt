@@ -2,8 +2,8 @@
 use Rattle.std.proofs.Common.{refl, subst}
 use Rattle.ft_statements.specs.DotViews.{import_as}
 use Rattle.ft_shell.specs.ImportTurns.{BytesTurn, fetched, unfetched}
-use Rattle.ft_shell.specs.Sources.{Gives, Refuses}
-use Rattle.ft_shell.specs.ToldViews.{told_as}
+use Rattle.plain_shell.specs.Sources.{Gives, Refuses}
+use Rattle.plain_shell.specs.ToldViews.{told_as}
 use Rattle.ft_shell.proofs.import.file_turn.Goals as goal
 
 pub returns-in-Ok-clause-turn : goal.returns-in-Ok-clause-turn

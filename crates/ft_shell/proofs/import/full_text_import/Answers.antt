@@ -3,12 +3,13 @@ use Rattle.std.proofs.Common.{◌≡◌, None, map, string_bytes, sym, ◌∙◌
 use Rattle.std.specs.List.{enumerate_from}
 use Rattle.ft_content.specs.Command.{Insert}
 use Rattle.ft_content.specs.Views.{command_of}
-use Rattle.ft_shell.specs.Imports.{row_cells}
-use Rattle.ft_shell.specs.Records.{warnings}
-use Rattle.ft_shell.specs.ImportTurns.{records_in, InsertTurn, executed}
-use Rattle.ft_shell.specs.ToldViews.{told_as}
+use Rattle.plain_shell.specs.Imports.{row_cells}
+use Rattle.plain_shell.specs.Records.{warnings}
+use Rattle.plain_shell.specs.Records.{records_in}
+use Rattle.ft_shell.specs.ImportTurns.{InsertTurn, executed}
+use Rattle.plain_shell.specs.ToldViews.{told_as}
 use Rattle.ft_statements.specs.Views.{texts_of}
-use Rattle.ft_shell.proofs.ImportTurnLemmas.{records_numbered}
+use Rattle.plain_shell.proofs.ImportTurnLemmas.{records_numbered}
 use Rattle.ft_shell.proofs.import.full_text_import.Goals as goal
 
 pub returns : goal.returns

@@ -2,7 +2,7 @@
 use Rattle.std.proofs.Common.{subst}
 use Rattle.ft_statements.specs.DotViews.{import_as}
 use Rattle.ft_shell.specs.ImportTurns.{DelimitedTurn}
-use Rattle.ft_shell.specs.ToldViews.{told_as}
+use Rattle.plain_shell.specs.ToldViews.{told_as}
 use Rattle.ft_shell.proofs.import.import_turn.Goals as goal
 
 pub returns-in-Some-clause-turn : goal.returns-in-Some-clause-turn

@@ -2,9 +2,9 @@
 use Rattle.std.proofs.Common.{◌≡◌, get_or, map, string_bytes, refl, sym, ap, ◌∙◌, subst}
 use Rattle.ft_statements.specs.DotViews.{import_as}
 use Rattle.ft_shell.specs.ImportTurns.{IntoNew, no_header}
-use Rattle.ft_shell.specs.ToldViews.{told_as}
+use Rattle.plain_shell.specs.ToldViews.{told_as}
 use Rattle.ft_statements.specs.Views.{texts_of}
-use Rattle.ft_shell.proofs.ImportTurnLemmas.{no_rows, split_rows}
+use Rattle.plain_shell.proofs.ImportTurnLemmas.{no_rows, split_rows}
 use Rattle.ft_shell.proofs.import.into_new_table.Goals as goal
 
 pub returns-in-empty : goal.returns-in-empty

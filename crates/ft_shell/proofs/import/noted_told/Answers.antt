@@ -1,7 +1,7 @@
 -- the note, after the warnings
 use Rattle.std.proofs.Common.{true, false, refl, ◌∙◌, inl, inr, codes, string_bytes}
-use Rattle.ft_shell.specs.Told.{silent, blames, lacks_memory}
-use Rattle.ft_shell.proofs.ImportTurnLemmas.{then_silent}
+use Rattle.plain_shell.specs.Told.{silent, blames, lacks_memory}
+use Rattle.plain_shell.proofs.ImportTurnLemmas.{then_silent}
 use Rattle.ft_shell.proofs.import.noted_told.Goals as goal
 
 pub returns-in-Ok : goal.returns-in-Ok

@@ -1,7 +1,7 @@
 -- by whether the table can be read
 use Rattle.std.proofs.Common.{rules, ◌≡◌, true, false, Some, string_bytes, refl, subst}
 use Rattle.ft_shell.specs.ImportTurns.{there, new_table}
-use Rattle.ft_shell.specs.TablesTurns.{Tries}
+use Rattle.plain_shell.specs.Listings.{Tries}
 use Rattle.ft_shell.proofs.import.plain_import.Goals as goal
 
 pub returns-in-Some-true : goal.returns-in-Some-true

@@ -3,10 +3,11 @@ use Rattle.std.proofs.Common.{rules, ◌≡◌, ◌+◌, Option, ℕ, Some, None
 use Rattle.std.specs.Prelude.{unwrap_or}
 use Rattle.std.specs.List.{enumerate_from}
 use Rattle.ft_statements.specs.DotViews.{import_as}
-use Rattle.ft_shell.specs.ImportTurns.{kept, columns_in, TextImport, PlainImport, IntoNamed}
-use Rattle.ft_shell.specs.ToldViews.{told_as}
+use Rattle.plain_shell.specs.Records.{kept}
+use Rattle.ft_shell.specs.ImportTurns.{columns_in, TextImport, PlainImport, IntoNamed}
+use Rattle.plain_shell.specs.ToldViews.{told_as}
 use Rattle.ft_statements.specs.Views.{texts_of}
-use Rattle.ft_shell.proofs.ImportTurnLemmas.{left_rows}
+use Rattle.plain_shell.proofs.ImportTurnLemmas.{left_rows}
 use Rattle.ft_shell.proofs.import.records_turn.Goals as goal
 
 pub returns-in-Some : goal.returns-in-Some

@@ -2,8 +2,9 @@
 use Rattle.std.proofs.Common.{◌≡◌, List, map, string_bytes, ap, ◌∙◌, subst, String, Global}
 use Rattle.ft_content.specs.Views.{TableInfo, info_names}
 use Rattle.ft_shell.specs.StatementTurns.{table_names}
-use Rattle.ft_shell.specs.ToldViews.{told_as}
-use Rattle.ft_shell.specs.TablesTurns.{Lists, lists}
+use Rattle.plain_shell.specs.ToldViews.{told_as}
+use Rattle.plain_shell.specs.Listings.{Lists}
+use Rattle.ft_shell.specs.TablesTurns.{lists}
 use Rattle.ft_shell.proofs.ClassLemmas.{named_as}
 use Rattle.ft_shell.proofs.listing.tables_turn.Goals as goal
 

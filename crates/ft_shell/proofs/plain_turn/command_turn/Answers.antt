@@ -1,7 +1,7 @@
 -- by what `sqlite` says of the call
-use Rattle.ft_shell.specs.PlainStatements.{done, refused}
+use Rattle.ft_shell.specs.PlainTurns.{done, refused}
 use Rattle.std.proofs.Common.{refl}
-use Rattle.ft_shell.proofs.PlainTurnLemmas.{if_clean}
+use Rattle.plain_shell.proofs.QueryLemmas.{if_clean}
 use Rattle.ft_shell.proofs.plain_turn.command_turn.Goals as goal
 
 pub returns-in-Ok : goal.returns-in-Ok

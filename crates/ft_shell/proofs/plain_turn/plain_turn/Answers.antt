@@ -3,7 +3,7 @@ use Rattle.std.proofs.Common.{rules, ◌≡◌, true, false, inl, ◌∙◌}
 use Rattle.std.specs.Prelude.{option_map}
 use Rattle.ft_statements.specs.Plain.{asks}
 use Rattle.ft_statements.specs.Words.{tokens_of}
-use Rattle.ft_shell.specs.ToldViews.{told_as}
+use Rattle.plain_shell.specs.ToldViews.{told_as}
 use Rattle.ft_shell.proofs.PlainTurnLemmas.{asks_turn, runs_turn}
 use Rattle.ft_shell.proofs.plain_turn.plain_turn.Goals as goal
 

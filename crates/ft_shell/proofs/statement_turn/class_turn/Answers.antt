@@ -1,11 +1,11 @@
 -- by the class of the statement
 use Rattle.std.proofs.Common.{rules, ◌≡◌, Some, None, Option, sym, subst, refl, inl, ap, ◌∙◌}
-use Rattle.ft_shell.specs.Told.{blames}
+use Rattle.plain_shell.specs.Told.{blames}
 use Rattle.ft_content.specs.Views.{command_of, info_names}
 use Rattle.ft_statements.specs.Statements.{Class, Plain, FullText, class_of}
 use Rattle.ft_statements.specs.Words.{tokens_of}
-use Rattle.ft_shell.specs.ToldViews.{told_as}
-use Rattle.ft_shell.specs.PlainStatements.{OrNothing}
+use Rattle.plain_shell.specs.ToldViews.{told_as}
+use Rattle.ft_shell.specs.PlainTurns.{OrNothing}
 use Rattle.ft_shell.specs.StatementTurns.{ClassTurn}
 use Rattle.ft_shell.proofs.ClassLemmas.{class_as_told}
 use Rattle.ft_shell.proofs.statement_turn.class_turn.Goals as goal

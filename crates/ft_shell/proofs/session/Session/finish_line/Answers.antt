@@ -1,6 +1,6 @@
 -- nothing is left of a line, or a line ends
 use Rattle.std.proofs.Common.{rules, ◌≡◌, ◌∷◌, [], ℕ, List, refl}
-use Rattle.ft_shell.specs.Feeds.{members_left}
+use Rattle.plain_shell.specs.Feeds.{members_left}
 use Rattle.ft_shell.proofs.RanLemmas.{passes_none, runs_as}
 use Rattle.ft_shell.proofs.session.Session.finish_line.Goals as goal
 

@@ -2,11 +2,12 @@
 use Rattle.std.proofs.Common.{◌≡◌, ◌∷◌, [], List, refl, ap, ◌∙◌, subst}
 use Rattle.shell_text.specs.Units.{Member, Fault}
 use Rattle.ft_shell.specs.Shell.{Parts, Shell, lent}
-use Rattle.ft_shell.specs.Told.{blames, deeds_of}
+use Rattle.plain_shell.specs.Told.{blames}
+use Rattle.ft_shell.specs.Deeds.{deeds_of}
 use Rattle.ft_statements.specs.Texts.{split_text}
-use Rattle.ft_shell.specs.ToldViews.{told_as}
+use Rattle.plain_shell.specs.ToldViews.{told_as}
 use Rattle.ft_shell.specs.Ran.{Runs}
-use Rattle.ft_shell.proofs.WriteLemmas.{appends_same}
+use Rattle.plain_shell.proofs.WriteLemmas.{appends_same}
 use Rattle.ft_shell.proofs.RanLemmas.{runs_turn}
 use Rattle.ft_shell.proofs.session.Session.refuse.Goals as goal
 

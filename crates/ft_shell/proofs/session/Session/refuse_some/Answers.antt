@@ -1,8 +1,8 @@
 -- if there is one
 use Rattle.std.proofs.Common.{◌++◌, List, Option, sym, ap, subst}
 use Rattle.shell_text.specs.Units.{Member}
-use Rattle.ft_shell.specs.declared.feed.Refusal.{Refusal}
-use Rattle.ft_shell.specs.Feeds.{refused_as}
+use Rattle.plain_shell.specs.declared.feed.Refusal.{Refusal}
+use Rattle.plain_shell.specs.Feeds.{refused_as}
 use Rattle.ft_shell.specs.Shell.{lent}
 use Rattle.ft_shell.specs.Ran.{Runs}
 use Rattle.ft_shell.proofs.RanLemmas.{passes_none}

@@ -1,8 +1,8 @@
 -- piece by piece, up to the end of the input
 use Rattle.std.proofs.Common.{rules, ◌≡◌, ◌^◌, ◌++◌, ◌∙◌, Err, length, drop, ap, refl, arith, length-append}
 use Rattle.std.proofs.lemmas.List.{length-take-le}
-use Rattle.ft_shell.specs.declared.session.RunFault.TheVariants as causes
-use Rattle.ft_shell.specs.Feeds.{Fed}
+use Rattle.plain_shell.specs.declared.run.RunFault.TheVariants as causes
+use Rattle.plain_shell.specs.Feeds.{Fed}
 use Rattle.ft_shell.proofs.RunLemmas.{completes, if_err_at, so_far_kept, so_far_more, so_far_none, some_or_none, stops_at_flush, stops_first, stops_in_piece, stops_too_much, stops_unflushed}
 use Rattle.ft_shell.proofs.session.Session.run_pieces.Goals as goal
 

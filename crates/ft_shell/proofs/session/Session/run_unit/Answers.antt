@@ -4,10 +4,11 @@ use Rattle.std.specs.Io.KnownBytes.{Appends}
 use Rattle.shell_text.specs.Units.{Member}
 use Rattle.shell_text.specs.Splitting.{member_of_unit}
 use Rattle.ft_shell.specs.Shell.{Shell, lent}
-use Rattle.ft_shell.specs.Told.{deeds_of, echo_text, echoed}
+use Rattle.ft_shell.specs.Deeds.{deeds_of}
+use Rattle.plain_shell.specs.Told.{echo_text, echoed}
 use Rattle.ft_shell.specs.Turns.{calls_in, echo_of}
-use Rattle.ft_shell.specs.ToldViews.{told_as}
-use Rattle.ft_shell.specs.Writing.{AppendsUpTo}
+use Rattle.plain_shell.specs.ToldViews.{told_as}
+use Rattle.plain_shell.specs.Writing.{AppendsUpTo}
 use Rattle.ft_shell.specs.Ran.{Runs}
 use Rattle.ft_shell.proofs.RanLemmas.{breaks_echo, runs_err, runs_turn, unit_echo, unit_turned}
 use Rattle.ft_shell.proofs.session.Session.run_unit.Goals as goal

@@ -2,7 +2,7 @@
 use Rattle.std.proofs.Common.{rules, ◌≡◌, ◌∷◌, ◌∙◌, ℕ, List, Err, false, sym, ap, refl}
 use Rattle.shell_text.specs.Units.{Member}
 use Rattle.shell_text.specs.Splitting.{member_of_unit}
-use Rattle.ft_shell.specs.Feeds.{Fed, members_left}
+use Rattle.plain_shell.specs.Feeds.{Fed, members_left}
 use Rattle.ft_shell.proofs.RanLemmas.{passes_as, passes_none, passes_then, runs_as, runs_err, runs_then}
 use Rattle.ft_shell.proofs.session.Session.run_units.Goals as goal
 

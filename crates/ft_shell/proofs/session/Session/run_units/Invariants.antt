@@ -1,6 +1,6 @@
 -- the units that waited so far were run, and those that wait are ever fewer
 use Rattle.std.proofs.Common.{◌≡◌, ℕ, List, length}
-use Rattle.ft_shell.specs.Feeds.{members_left}
+use Rattle.plain_shell.specs.Feeds.{members_left}
 use Rattle.ft_shell.specs.Shell.{lent}
 use Rattle.ft_shell.specs.Ran.{Passes}
 use Rattle.ft_shell.proofs.session.Session.run_units.Given as goal

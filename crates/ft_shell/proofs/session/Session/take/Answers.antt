@@ -1,7 +1,7 @@
 -- one byte after the other
 use Rattle.std.proofs.Common.{rules, ◌≡◌, ◌∷◌, ◌++◌, ◌+◌, ◌∙◌, ℕ, List, Err, drop, get_or, true, false, sym, ap, refl}
 use Rattle.std.proofs.lemmas.List.{drop_all, drop_more}
-use Rattle.ft_shell.specs.Feeds.{members_left}
+use Rattle.plain_shell.specs.Feeds.{members_left}
 use Rattle.ft_shell.proofs.RanLemmas.{passes_as, passes_none, passes_then, runs_as, runs_err, runs_then}
 use Rattle.ft_shell.proofs.session.Session.take.Goals as goal
 

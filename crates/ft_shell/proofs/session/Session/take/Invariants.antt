@@ -1,6 +1,6 @@
 -- the bytes so far were taken, and no unit waits between two bytes
 use Rattle.std.proofs.Common.{◌≡◌, ℕ, List, [], ◌++◌, drop, false}
-use Rattle.ft_shell.specs.Feeds.{members_left}
+use Rattle.plain_shell.specs.Feeds.{members_left}
 use Rattle.ft_shell.specs.Shell.{lent}
 use Rattle.ft_shell.specs.Ran.{Passes}
 use Rattle.ft_shell.proofs.session.Session.take.Given as goal

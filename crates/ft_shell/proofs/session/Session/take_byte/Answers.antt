@@ -1,7 +1,7 @@
 -- a byte of a line, or a line feed
 use Rattle.std.proofs.Common.{rules, ◌≡◌, ◌∷◌, ℕ, List, Err}
-use Rattle.ft_shell.specs.declared.session.RunFault.TheVariants as causes
-use Rattle.ft_shell.specs.Feeds.{members_left}
+use Rattle.plain_shell.specs.declared.run.RunFault.TheVariants as causes
+use Rattle.plain_shell.specs.Feeds.{members_left}
 use Rattle.ft_shell.proofs.RanLemmas.{lacks_memory, passes_none, runs_err}
 use Rattle.ft_shell.proofs.session.Session.take_byte.Goals as goal
 

@@ -1,0 +1,25 @@
+-- Meaning. What turns of a session tell, and which calls they make of the full-text tables (own choice).
+use Rattle.std.specs.Prelude.{ℕ, Bool, false, List, [], ◌++◌, ◌+◌}
+use Rattle.ft_index.specs.Kept.{Call}
+use Rattle.plain_shell.specs.Told.{Told}
+
+-- what one or more turns tell, and the calls that they make of the full-text tables
+pub record Deeds : Type 0 where
+  pub out : List ℕ
+  pub err : List ℕ
+  pub faults : ℕ
+  pub ends : Bool
+  pub calls : List Call
+
+abbrev pub idle : Deeds
+idle = record { out = []; err = []; faults = 0; ends = false; calls = [] }
+
+abbrev pub told_by : Deeds → Told
+told_by all = record { out = all.out; err = all.err; faults = all.faults; ends = all.ends }
+
+abbrev pub deeds_of : Told → List Call → Deeds
+deeds_of told calls = record { out = told.out; err = told.err; faults = told.faults; ends = told.ends; calls = calls }
+
+-- what turns do, and then what the turns after them do
+abbrev pub and_then : Deeds → Deeds → Deeds
+and_then first rest = record { out = first.out ++ rest.out; err = first.err ++ rest.err; faults = first.faults + rest.faults; ends = rest.ends; calls = first.calls ++ rest.calls }

@@ -1,0 +1,10 @@
+pub mod ImportLemmas
+pub mod RecordLemmas
+pub mod AnswerLemmas
+pub mod QueryLemmas
+pub mod FeedLemmas
+pub mod WriteLemmas
+pub mod TablesLemmas
+pub mod CountLemmas
+pub mod PlainImportLemmas
+pub mod ImportTurnLemmas

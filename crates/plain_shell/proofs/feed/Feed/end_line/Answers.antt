@@ -1,0 +1,25 @@
+-- the line is taken, or refused
+use Rattle.std.proofs.Common.{rules, ◌≡◌, ◌≢◌, ◌++◌, [], sym, ◌∙◌, Ok, Err}
+use Rattle.shell_text.specs.declared.units.SplitFault.TheVariants as fault
+use Rattle.shell_text.specs.Splitting.{TakesLine}
+use Rattle.plain_shell.specs.Feeds.{members_left, refused_as}
+use Rattle.plain_shell.proofs.FeedLemmas.{taken_line, refused_line, IsPlain}
+use Rattle.plain_shell.proofs.feed.Feed.end_line.Goals as goal
+use Rattle.plain_shell.proofs.feed.Feed.end_line.Goals.{in-Ok, in-Err+else-is_memory}
+
+pub returns-clause-left : goal.returns-clause-left
+returns-clause-left c rest =
+    let plain : IsPlain c.args.self.now.line = search rules in
+    let none : c.args.self.now.splitting.waiting ≡ [] = search rules in
+    elim c.match-line.branch [
+      | in-Ok w ↦
+          let takes : TakesLine c.args.self.now.line c.args.self.now.splitting c.line.new.self (Ok w.in-Ok.field-0) = search rules in
+          taken_line c.args.self.now c.line.new.self w.in-Ok.field-0 rest plain none takes
+          ∙ (λ i. refused_as (sym w.refused-is i) ++ members_left (record { splitting = c.line.new.self; line = sym c.clear.ensures.items i }) rest)
+      | in-Err+else-is_memory w ↦
+          let takes : TakesLine c.args.self.now.line c.args.self.now.splitting c.line.new.self (Err w.in-Err.fault) = search rules in
+          let other : w.in-Err.fault ≢ fault.Memory = search rules in
+          let same : c.self.inside.number ≡ c.args.self.now.splitting.reading.line = search rules in
+          refused_line c.args.self.now c.line.new.self w.in-Err.fault c.self.inside.number rest plain none same other takes
+          ∙ (λ i. refused_as (sym w.refused-is i) ++ members_left (record { splitting = c.line.new.self; line = sym c.clear.ensures.items i }) rest)
+    ]

@@ -1,0 +1,15 @@
+-- Meaning
+pub mod Records
+pub mod Imports
+pub mod Told
+pub mod Sources
+pub mod Answers
+pub mod PlainStatements
+pub mod Listings
+pub mod DotParts
+pub mod Writing
+pub mod PlainImports
+pub mod IntoTables
+-- Steps
+pub mod ToldViews
+pub mod Feeds

@@ -1,0 +1,58 @@
+-- Meaning. What a query of plain SQL does in a session, and what is told of a refusal ("Command Line Shell For SQLite"; that a query is prepared
+-- for its names and then executed once, and how a refusal is told, are own choices).
+use Rattle.std.specs.Prelude.{ℕ, ◌≡◌, List, [], Bool, true, false, MatchBool}
+use Rattle.sqlite.specs.Store.{Ghosts}
+use Rattle.sqlite_value.specs.Order.{Row}
+use Rattle.sqlite.specs.Held.{Held, state}
+use Rattle.sqlite.specs.State.{HasCleanDisk, FailsToQuery, IsUnchanged, Shown}
+use Rattle.sqlite.specs.Listing.{understood}
+use Rattle.sqlite.specs.Outline.{Outline}
+use Rattle.sqlite.specs.Steps.{Outlines}
+use Rattle.sqlite.specs.declared.error.Error.{Error}
+use Rattle.sqlite.specs.declared.error.Error.TheVariants.{SqliteFailure}
+use Rattle.sqlite.specs.declared.error.ErrorCode.TheVariants as code
+use Rattle.shell_text.specs.Print.{Settings}
+use Rattle.plain_shell.specs.Answers.{rows_told}
+use Rattle.plain_shell.specs.Told.{Told, blames, lacks_memory, Tells}
+
+abbrev pub is_memory_error : Error → Bool
+is_memory_error (SqliteFailure code.OutOfMemory) = true
+is_memory_error _ = false
+
+-- the fault line of a refusal: its words are those of `sqlite`, but for want of memory
+abbrev pub TellsRefusal : Settings → ℕ → Error → Told → Type 0
+TellsRefusal settings line e told = MatchBool (is_memory_error e) (told ≡ lacks_memory settings line) ((words : List ℕ) × (told ≡ blames settings line words))
+
+module _ {P : Type 0} (g : Ghosts P) where
+  -- A step of the plain database. All that `sqlite` says has the premise that the disk is clean as the step ends; then it was
+  -- clean as the step began, so that no step is an unclean one of which nothing is said.
+  abbrev pub IfClean : Held P → Held P → Type 0 → Type 0
+  IfClean old new Step = HasCleanDisk (state g new) → HasCleanDisk (state g old) × Step
+
+  -- the statement was prepared, which tells its columns' names
+  pub record Prepares (text : List ℕ) (old new : Held P) (names : List (List ℕ)) : Type 0 where
+    pub outline : Outline
+    pub columns : names ≡ outline.columns
+    pub is : IfClean old new (Outlines (understood (state g old).now.schema text) outline × IsUnchanged (state g old) (state g new))
+
+  -- a query, or a write with RETURNING, is done with these rows
+  abbrev pub Shows : List ℕ → Held P → Held P → List Row → Type 0
+  Shows text old new rows = IfClean old new (Shown text [] (state g old) (state g new) rows)
+
+  abbrev pub Refuses : List ℕ → Held P → Held P → Error → Type 0
+  Refuses text old new e = IfClean old new (FailsToQuery text [] (state g old) (state g new) e)
+
+  -- it is prepared, and then answered
+  pub record Answers (text : List ℕ) (old new : Held P) (names : List (List ℕ)) (rows : List Row) : Type 0 where
+    pub prepared : Held P
+    pub prepares : Prepares text old prepared names
+    pub shows : Shows text prepared new rows
+
+  -- it is refused as it is prepared, or as it is run
+  pub data FailsToAnswer (text : List ℕ) (old new : Held P) (e : Error) : Type 0 where
+    unprepared : Refuses text old new e → FailsToAnswer text old new e
+    refused : (prepared : Held P) (names : List (List ℕ)) → Prepares text old prepared names → Refuses text prepared new e → FailsToAnswer text old new e
+
+  pub data QueryTurn (settings : Settings) (line : ℕ) (text : List ℕ) (old new : Held P) (told : Told) : Type 0 where
+    answered : (names : List (List ℕ)) (rows : List Row) → Answers text old new names rows → Tells settings line (rows_told settings line names rows) told → QueryTurn settings line text old new told
+    refused : (e : Error) → FailsToAnswer text old new e → TellsRefusal settings line e told → QueryTurn settings line text old new told

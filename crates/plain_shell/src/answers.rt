@@ -1,0 +1,166 @@
+// The rows that `sqlite` answers, as they are printed.
+ghost use Rattle.std.specs.Prelude.{◌≡◌, true, false, map, string_bytes, IfOk, IfSome, IfNone};
+ghost use Rattle.std.specs.Str.{is_utf8};
+ghost use Rattle.std.specs.List.{list_any};
+ghost use Rattle.sqlite_value.specs.Order.{column};
+ghost use Rattle.sqlite_value.specs.Value.{owned};
+ghost use Rattle.shell_text.specs.Print as print;
+ghost use Rattle.plain_shell.specs.Told.{Tells};
+ghost use Rattle.plain_shell.specs.ToldViews.{told_as};
+ghost use Rattle.plain_shell.specs.Answers as forms;
+
+use crate::told::Told;
+use shell_text::{Cell, Grid, PrintFault, Settings, write_grid};
+use sqlite::Row;
+use sqlite_value::value::{Bytes, ValueRef};
+use std::alloc::{AllocError, Global};
+
+fn is_float(value: ValueRef<'_>) -> bool
+    ensures { result ≡ forms.is_float (owned value.entry) }
+{
+    matches!(value, ValueRef::Real(_))
+}
+
+fn utf8_of(bytes: &[u8]) -> Option<&str>
+    ensures some { IfSome result (λ text. (text.now ≡ bytes.now) × (is_utf8 bytes.now ≡ true)) }
+    ensures none { IfNone result (is_utf8 bytes.now ≡ false) }
+{
+    let Ok(text) = str::from_utf8(bytes) else {
+        return None;
+    };
+    Some(text)
+}
+
+fn text_cell(alloc: Global, bytes: &[u8]) -> Result<Cell, AllocError>
+    ensures { IfOk result (λ cell. print.value_of cell ≡ forms.words_or_blob bytes.now) }
+{
+    match utf8_of(bytes) {
+        Some(text) => Ok(Cell::Text(String::from_str(alloc, text)?)),
+        None => Ok(Cell::Bytes(Vec::from_slice(alloc, bytes)?)),
+    }
+}
+
+fn cell_of(alloc: Global, value: ValueRef<'_>) -> Result<Cell, AllocError>
+    ensures { IfOk result (λ cell. print.value_of cell ≡ forms.shown_value (owned value.entry)) }
+{
+    match value {
+        ValueRef::Null | ValueRef::Real(_) => Ok(Cell::Null),
+        ValueRef::Int(number) => Ok(Cell::Int(number)),
+        ValueRef::Text(bytes) => text_cell(alloc, bytes),
+        ValueRef::Blob(bytes) => Ok(Cell::Bytes(Vec::from_slice(alloc, bytes)?)),
+    }
+}
+
+// The value in a column, and NULL past the end.
+fn value_at<'r>(row: &'r Row, at: usize) -> ValueRef<'r>
+    ensures { owned result ≡ column row.now at }
+{
+    match row.get_ref(at) {
+        Ok(value) => value,
+        Err(_) => ValueRef::Null,
+    }
+}
+
+fn has_float(row: &Row) -> bool
+    ensures { result ≡ list_any forms.is_float row.now }
+{
+    for at in 0..row.column_count() {
+        if is_float(value_at(row, at)) {
+            return true;
+        }
+    }
+    false
+}
+
+fn row_cells(alloc: Global, row: &Row) -> Result<Vec<Cell>, AllocError>
+    ensures { IfOk result (λ cells. map print.value_of cells.items
+        ≡ map forms.shown_value row.now) }
+{
+    let mut cells = Vec::new(alloc);
+    for at in 0..row.column_count() {
+        cells.push(cell_of(alloc, value_at(row, at))?)?;
+    }
+    Ok(cells)
+}
+
+fn have_float(rows: &[Row]) -> bool
+    ensures { result ≡ forms.has_float rows.now }
+{
+    for row in rows {
+        if has_float(row) {
+            return true;
+        }
+    }
+    false
+}
+
+fn all_cells(alloc: Global, rows: &[Row]) -> Result<Vec<Vec<Cell>>, AllocError>
+    ensures { IfOk result (λ cells. map (λ row. map print.value_of row.items) cells.items
+        ≡ map (map forms.shown_value) rows.now) }
+{
+    let mut cells = Vec::new(alloc);
+    for row in rows {
+        cells.push(row_cells(alloc, row)?)?;
+    }
+    Ok(cells)
+}
+
+// The name of the column at this place, counted from 1.
+fn column_name(alloc: Global, place: usize, name: &[u8]) -> Result<String, AllocError>
+    ensures { IfOk result (λ text. string_bytes text ≡ forms.column_name place name.now) }
+{
+    if !name.is_empty() {
+        if let Some(text) = utf8_of(name) {
+            return String::from_str(alloc, text);
+        }
+    }
+    format!(in alloc; "column{place}")
+}
+
+fn column_names(alloc: Global, names: &[Bytes]) -> Result<Vec<String>, AllocError>
+    ensures { IfOk result (λ texts. map string_bytes texts.items ≡ forms.column_names 1 names.now) }
+{
+    let mut texts = Vec::new(alloc);
+    for at in 0..names.len() {
+        texts.push(column_name(alloc, at + 1, names[at].as_slice())?)?;
+    }
+    Ok(texts)
+}
+
+fn printed(
+    alloc: Global,
+    settings: &Settings,
+    names: &[Bytes],
+    rows: &[Row],
+) -> Result<Vec<u8>, PrintFault>
+    ensures { IfOk result (λ bytes. bytes.items
+        ≡ print.printed settings.now (forms.table_of names.now rows.now)) }
+{
+    let grid = Grid {
+        names: column_names(alloc, names)?,
+        rows: all_cells(alloc, rows)?,
+    };
+    let mut bytes: Vec<u8> = Vec::new(alloc);
+    write_grid(alloc, settings, &grid, &mut bytes)?;
+    Ok(bytes)
+}
+
+/// What is told of an answer with these columns.
+pub(crate) fn rows_told(
+    alloc: Global,
+    settings: &Settings,
+    line: u64,
+    names: &[Bytes],
+    rows: &[Row],
+) -> Told
+    ensures { Tells settings.now line (forms.rows_told settings.now line names.now rows.now)
+        (told_as result) }
+{
+    if have_float(rows) {
+        return Told::blames(alloc, settings, line, "floating-point value in result");
+    }
+    match printed(alloc, settings, names, rows) {
+        Ok(bytes) => Told::says(alloc, bytes),
+        Err(_) => Told::lacks_memory(alloc, settings, line),
+    }
+}

@@ -1,0 +1,189 @@
+// The parts of an import.
+ghost use Rattle.std.specs.Prelude.{◌≡◌, ◌++◌, None, map, option_map, codes, chars, string_bytes, replicate, IfOk, OnOk};
+ghost use Rattle.std.specs.List.{flat_map};
+ghost use Rattle.ft_values.specs.Cells.{shown_value};
+ghost use Rattle.ft_content.specs.Command.{Insert};
+ghost use Rattle.ft_content.specs.Views as views;
+ghost use Rattle.ft_statements.specs.Views.{texts_of};
+ghost use Rattle.plain_shell.specs.Imports as forms;
+
+use crate::records::fitted;
+use ft_content::{Command, Value};
+use shell_text::{Settings, is_csv_separator};
+use std::alloc::{AllocError, Global};
+
+// Puts a name between quotation marks behind a text.
+fn push_identifier(text: &mut String, name: &str) -> Result<(), AllocError>
+    ensures { OnOk result (string_bytes text.new
+        ≡ string_bytes text.old ++ forms.identifier name.now) }
+{
+    text.push('"')?;
+    push_all_doubled(text, name)?;
+    text.push('"')?;
+    Ok(())
+}
+
+// Puts a character behind a text, or two quotation marks for one.
+fn push_doubled(text: &mut String, c: char) -> Result<(), AllocError>
+    ensures { OnOk result (string_bytes text.new ≡ string_bytes text.old ++ forms.doubled c) }
+{
+    if c == '"' {
+        text.push_str("\"\"")?;
+    } else {
+        text.push(c)?;
+    }
+    Ok(())
+}
+
+// Puts the characters of a name behind a text, with two quotation marks for one.
+fn push_all_doubled(text: &mut String, name: &str) -> Result<(), AllocError>
+    ensures { OnOk result (string_bytes text.new
+        ≡ string_bytes text.old ++ flat_map forms.doubled (chars name.now)) }
+{
+    for c in name.chars() {
+        push_doubled(text, c)?;
+    }
+    Ok(())
+}
+
+/// A statement that `sqlite` runs where a table of this name can be read.
+pub(crate) fn reading_text(alloc: Global, name: &str) -> Result<String, AllocError>
+    ensures { IfOk result (λ text. string_bytes text ≡ forms.reading_of name.now) }
+{
+    let mut text = "SELECT 1 FROM ".to_string(alloc)?;
+    push_identifier(&mut text, name)?;
+    text.push_str(" LIMIT 1")?;
+    Ok(text)
+}
+
+// Puts so many marks behind a text, with a comma between each two.
+fn push_marks(text: &mut String, count: usize) -> Result<(), AllocError>
+    ensures { OnOk result (string_bytes text.new
+        ≡ string_bytes text.old ++ forms.with_commas (λ mark. mark) (replicate count (codes "?"))) }
+{
+    if count == 0 {
+        return Ok(());
+    }
+    text.push_str("?")?;
+    for place in 1..count {
+        text.push_str(", ?")?;
+    }
+    Ok(())
+}
+
+/// A statement that puts a row of so many values into a table of this name.
+pub(crate) fn insertion_text(alloc: Global, name: &str, count: usize) -> Result<String, AllocError>
+    ensures { IfOk result (λ text. string_bytes text ≡ forms.insertion_of name.now count) }
+{
+    let mut text = "INSERT INTO ".to_string(alloc)?;
+    push_identifier(&mut text, name)?;
+    text.push_str(" VALUES (")?;
+    push_marks(&mut text, count)?;
+    text.push_str(")")?;
+    Ok(text)
+}
+
+fn push_column(text: &mut String, column: &str) -> Result<(), AllocError>
+    ensures { OnOk result (string_bytes text.new
+        ≡ string_bytes text.old ++ forms.text_column column.now) }
+{
+    push_identifier(text, column)?;
+    text.push_str(" TEXT")?;
+    Ok(())
+}
+
+// Puts columns behind a text, with a comma between each two.
+fn push_columns(text: &mut String, columns: &[String]) -> Result<(), AllocError>
+    ensures { OnOk result (string_bytes text.new
+        ≡ string_bytes text.old ++ forms.with_commas forms.text_column
+        (map string_bytes columns.now)) }
+{
+    let [first, rest @ ..] = columns else {
+        return Ok(());
+    };
+    push_column(text, first.as_str())?;
+    for column in rest {
+        text.push_str(", ")?;
+        push_column(text, column.as_str())?;
+    }
+    Ok(())
+}
+
+/// A statement that makes a table of this name, with columns of texts.
+pub(crate) fn creation_text(
+    alloc: Global,
+    name: &str,
+    columns: &[String],
+) -> Result<String, AllocError>
+    ensures { IfOk result (λ text. string_bytes text
+        ≡ forms.creation_of name.now (map string_bytes columns.now)) }
+{
+    let mut text = "CREATE TABLE ".to_string(alloc)?;
+    push_identifier(&mut text, name)?;
+    text.push_str(" (")?;
+    push_columns(&mut text, columns)?;
+    text.push_str(")")?;
+    Ok(text)
+}
+
+// A field as a value: its text, or NULL.
+fn field_cell(alloc: Global, field: Option<&str>) -> Result<Value, AllocError>
+    ensures { IfOk result (λ value. shown_value value
+        ≡ forms.field_cell (option_map (λ text. text.now) field.entry)) }
+{
+    match field {
+        Some(text) => Ok(Value::Text(String::from_str(alloc, text)?)),
+        None => Ok(Value::Null),
+    }
+}
+
+/// A record as a row of so many values of a full-text table.
+pub(crate) fn row_cells(
+    alloc: Global,
+    fields: &[String],
+    columns: usize,
+) -> Result<Vec<Value>, AllocError>
+    ensures { IfOk result (λ row. views.cells_of row
+        ≡ forms.row_cells columns (map string_bytes fields.now)) }
+{
+    let mut row = Vec::new(alloc);
+    for field in fitted(alloc, fields, columns)? {
+        row.push(field_cell(alloc, field)?)?;
+    }
+    Ok(row)
+}
+
+/// The command that puts records into a full-text table with so many columns.
+pub fn insert_of(
+    alloc: Global,
+    table: &str,
+    columns: usize,
+    records: Vec<Vec<String>>,
+) -> Result<Command, AllocError>
+    ensures { IfOk result (λ command. views.command_of command
+        ≡ Insert table.now None (map (forms.row_cells columns) (map texts_of records.items))) }
+{
+    let mut rows: Vec<Vec<Value>> = Vec::new(alloc);
+    for fields in records {
+        rows.push(row_cells(alloc, fields.as_slice(), columns)?)?;
+    }
+    Ok(Command::Insert {
+        table: String::from_str(alloc, table)?,
+        columns: None,
+        rows,
+    })
+}
+
+/// What parts the fields of a file: a comma where that is said, or else the separator, if it may part fields.
+pub fn delimiter_of(csv: bool, settings: &Settings) -> Option<u8>
+    ensures { result ≡ forms.delimiter_of csv settings.now }
+{
+    let separator = settings.separator();
+    if csv {
+        Some(b',')
+    } else if is_csv_separator(separator) {
+        separator.as_bytes().first().copied()
+    } else {
+        None
+    }
+}

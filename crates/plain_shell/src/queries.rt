@@ -1,0 +1,64 @@
+// What a query does in a session, and what is told of a refusal.
+ghost use Rattle.std.specs.Prelude.{◌≡◌, IfOk, IfErr};
+ghost use Rattle.plain_shell.specs.ToldViews.{told_as};
+ghost use Rattle.plain_shell.specs.PlainStatements as turns;
+ghost use Rattle.plain_shell.specs.PlainStatements.{TellsRefusal, Answers, FailsToAnswer, QueryTurn};
+
+use crate::answers::rows_told;
+use crate::told::Told;
+use shell_text::Settings;
+use sqlite::{Alter, Connection, Error, ErrorCode, Row, Statement};
+use std::alloc::Global;
+
+/// Whether an error is want of memory.
+pub(crate) fn is_memory_error(error: Error) -> bool
+    ensures { result ≡ turns.is_memory_error error }
+{
+    matches!(error, Error::SqliteFailure(ErrorCode::OutOfMemory))
+}
+
+/// The fault line of what `sqlite` refused.
+pub fn refusal(alloc: Global, settings: &Settings, line: u64, error: Error) -> Told
+    ensures { TellsRefusal settings.now line error (told_as result) }
+{
+    if is_memory_error(error) {
+        return Told::lacks_memory(alloc, settings, line);
+    }
+    match format!(in alloc; "{error}") {
+        Ok(words) => Told::blames_text(alloc, settings, line, words),
+        Err(_) => Told::lacks_memory(alloc, settings, line),
+    }
+}
+
+// A query is prepared for its names, and then executed.
+fn asked<P: Alter>(plain: &mut Connection<P>, text: &str) -> Result<(Statement, Vec<Row>), Error>
+    ensures answered { IfOk result (λ r. Answers P.Store text.now plain.old plain.new r.0.columns
+        r.1.items) }
+    ensures refused { IfErr result (FailsToAnswer P.Store text.now plain.old plain.new) }
+{
+    let statement = plain.prepare(text)?;
+    let rows = statement.query_all(plain, &[])?;
+    Ok((statement, rows))
+}
+
+/// Runs a query of plain SQL, and tells its answer.
+pub fn query_turn<P: Alter>(
+    alloc: Global,
+    settings: &Settings,
+    plain: &mut Connection<P>,
+    line: u64,
+    text: &str,
+) -> Told
+    ensures { QueryTurn P.Store settings.now line text.now plain.old plain.new (told_as result) }
+{
+    match asked(plain, text) {
+        Ok((statement, rows)) => rows_told(
+            alloc,
+            settings,
+            line,
+            statement.column_names(),
+            rows.as_slice(),
+        ),
+        Err(error) => refusal(alloc, settings, line, error),
+    }
+}
