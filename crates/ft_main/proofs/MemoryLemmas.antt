@@ -9,8 +9,8 @@ use Rattle.shell_text.specs.Print.{Settings}
 use Rattle.ft_store.specs.Kept.{StoreState, shows, value_in}
 use Rattle.ft_store.specs.Store.{nothing_held}
 use Rattle.ft_index.specs.Kept.{StoreHolds}
-use Rattle.ft_main.specs.declared.files.OpenFault.{OpenFault}
-use Rattle.ft_main.specs.declared.files.OpenFault.TheVariants as opening
+use Rattle.ft_files.specs.declared.databases.OpenFault.{OpenFault}
+use Rattle.ft_files.specs.declared.databases.OpenFault.TheVariants as opening
 use Rattle.ft_main.specs.Inputs.{NotOpened, Outputs, RunsOn}
 use Rattle.ft_main.specs.Memory.{FromNothing}
 

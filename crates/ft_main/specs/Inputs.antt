@@ -14,9 +14,9 @@ use Rattle.ft_shell.specs.Deeds.{Deeds, idle, and_then}
 use Rattle.ft_shell.specs.Runs.{Console}
 use Rattle.ft_shell.specs.Promise.{Ran, AllRan, PromiseKept}
 use Rattle.plain_shell.specs.Writing.{AppendsUpTo}
-use Rattle.ft_main.specs.declared.files.OpenFault.{OpenFault}
-use Rattle.ft_main.specs.declared.files.OpenFault.TheVariants as opening
-use Rattle.ft_main.specs.Reading.{unknown_files}
+use Rattle.ft_files.specs.declared.databases.OpenFault.{OpenFault}
+use Rattle.ft_files.specs.declared.databases.OpenFault.TheVariants as opening
+use Rattle.ft_files.specs.Reading.{unknown_files}
 
 -- ---- inputs
 

@@ -1,6 +1,3 @@
 -- Meaning
-pub mod Reading
 pub mod Inputs
 pub mod Memory
--- Steps
-pub mod Opening

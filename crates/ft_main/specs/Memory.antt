@@ -14,7 +14,7 @@ use Rattle.ft_line.specs.declared.line.Line.{Line}
 use Rattle.ft_line.specs.declared.line.LineFault.{LineFault}
 use Rattle.ft_line.specs.declared.line.LineFault.TheVariants as lines
 use Rattle.ft_line.specs.LineGives.{ReadsLine}
-use Rattle.ft_main.specs.declared.files.OpenFault.{OpenFault}
+use Rattle.ft_files.specs.declared.databases.OpenFault.{OpenFault}
 use Rattle.ft_main.specs.Inputs.{NotOpened, Outputs, RunsOver, due}
 
 module _ {P S : Type 0} (g : Ghosts P) (h : Ghosts S) where

@@ -1,9 +1,6 @@
 //! The program `ft4sh`: an SQL shell with full-text tables.
 #![tactic(auto)]
 
-mod access;
-mod files;
-mod source;
 mod start;
 
 use start::start;

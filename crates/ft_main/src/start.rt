@@ -7,8 +7,7 @@ ghost use Rattle.ft_main.specs.Inputs.{outputs_of, stage_of, due, RunsInTurn, Ru
 ghost use Rattle.ft_main.specs.Inputs as forms;
 ghost use Rattle.ft_main.specs.Memory.{RefusesLine, RunsInMemory, RunsLine, Starts};
 
-use crate::files::{OpenFault, open_files, open_in_memory};
-use crate::source::SystemFiles;
+use ft_files::{OpenFault, SystemFiles, open_files, open_in_memory};
 use ft_index::FullText;
 use ft_line::{Line, LineFault, read_line};
 use ft_shell::{RunFault, Session, Status};

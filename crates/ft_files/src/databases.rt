@@ -1,14 +1,14 @@
 //! The two databases: the plain tables and the full-text store.
 
-ghost use Rattle.std.specs.Prelude.{◌≡◌, string_bytes, IfOk, IfErr};
+ghost use Rattle.std.specs.Prelude.{◌≡◌, ◌⊎◌, string_bytes, IfOk, IfErr};
 ghost use Rattle.sqlite.specs.Files.{IsOpened, file_state, over_files};
 ghost use Rattle.sqlite.specs.Held.{IsNew};
 ghost use Rattle.sqlite.specs.State.{HasCleanDisk};
 ghost use Rattle.sqlite.specs.Steps.{IsEmpty};
 ghost use Rattle.ft_store.specs.Kept.{shows, value_in};
 ghost use Rattle.ft_store.specs.Store.{nothing_held};
-ghost use Rattle.ft_main.specs.Opening as forms;
-ghost use Rattle.ft_main.specs.declared.files.OpenFault.TheVariants as fault;
+ghost use Rattle.ft_files.specs.Opening as forms;
+ghost use Rattle.ft_files.specs.declared.databases.OpenFault.TheVariants as fault;
 
 use crate::access::make_beside;
 use ft_store::{Store, StoreFault, open_database};
@@ -18,7 +18,7 @@ use std::alloc::{AllocError, Global};
 
 /// Why a database is not opened.
 #[derive(Clone, Copy, Debug, PartialEq, Eq)]
-pub(crate) enum OpenFault {
+pub enum OpenFault {
     Database,
     NotAStore,
     Version(i64),
@@ -103,7 +103,7 @@ fn store_in_memory(alloc: Global) -> Result<Store<FileStore<Ram>>, OpenFault>
 }
 
 /// Both databases in files: that of the plain tables at the path, and the full-text store beside it.
-pub(crate) fn open_files(
+pub fn open_files(
     rt: &HostRuntime,
     path: &str,
 ) -> Result<(Connection<FileStore<File>>, Store<FileStore<File>>), OpenFault>
@@ -116,13 +116,14 @@ pub(crate) fn open_files(
 }
 
 /// Two empty databases in memory.
-pub(crate) fn open_in_memory(
+pub fn open_in_memory(
     rt: &HostRuntime,
 ) -> Result<(Connection<FileStore<Ram>>, Store<FileStore<Ram>>), OpenFault>
     ensures plain { IfOk result (λ both. IsEmpty (file_state both.0)) }
     ensures store { IfOk result (λ both. value_in over_files both.1 ≡ nothing_held) }
     ensures clean { IfOk result (λ both. HasCleanDisk (file_state both.0)
         × HasCleanDisk (shows over_files both.1)) }
+    ensures refused { IfErr result (λ f. (f ≡ fault.Database) ⊎ (f ≡ fault.Store)) }
 {
     let plain = plain_in_memory(rt)?;
     let store = store_in_memory(rt.alloc())?;

@@ -1,7 +1,7 @@
 -- one byte more than the most is asked for
 use Rattle.std.proofs.Common.{rules, ◌≤◌, ◌^◌, length}
-use Rattle.ft_main.proofs.ReadingLemmas.{all_taken}
-use Rattle.ft_main.proofs.source.read_all.Goals as goal
+use Rattle.ft_files.proofs.ReadingLemmas.{all_taken}
+use Rattle.ft_files.proofs.source.read_all.Goals as goal
 
 pub returns-in-Ok-2-clause-whole : goal.returns-in-Ok-2-clause-whole
 returns-in-Ok-2-clause-whole g c =

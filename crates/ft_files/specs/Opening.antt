@@ -2,8 +2,8 @@
 use Rattle.std.specs.Prelude.{ℕ, List, ◌++◌, codes}
 use Rattle.ft_store.specs.declared.fault.StoreFault.{StoreFault}
 use Rattle.ft_store.specs.declared.fault.StoreFault.TheVariants as store
-use Rattle.ft_main.specs.declared.files.OpenFault.{OpenFault}
-use Rattle.ft_main.specs.declared.files.OpenFault.TheVariants as fault
+use Rattle.ft_files.specs.declared.databases.OpenFault.{OpenFault}
+use Rattle.ft_files.specs.declared.databases.OpenFault.TheVariants as fault
 
 -- what is told of a store that is not opened: that it is none, its version where that is not taken, or no more than that
 abbrev pub fault_of : StoreFault → OpenFault

@@ -4,7 +4,7 @@ use Rattle.std.specs.Prelude.{IfSome, option_map}
 use Rattle.std.proofs.lemmas.List.{length-take, take_all}
 use Rattle.std.specs.declared.io.traits.Take.{Take}
 use Rattle.std.specs.Io.Take.{take_inner, take_limit, take_remaining}
-use Rattle.ft_main.specs.Reading.{AreAll}
+use Rattle.ft_files.specs.Reading.{AreAll}
 
 -- where at most the most came, all came
 pub all_read : (known : Option (List ℕ)) (bytes : List ℕ) → length bytes ≤ 2 ^ 26 → IfSome (option_map (take (2 ^ 26 + 1)) known) (λ xs. bytes ≡ xs) → AreAll known bytes

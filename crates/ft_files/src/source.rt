@@ -1,11 +1,11 @@
 //! The files of the system, as an import reads them.
 
-ghost use Rattle.ft_main.specs.Reading.{unknown_files, AreAll, IsRefused};
-ghost use Rattle.ft_main.specs.Reading as forms;
+ghost use Rattle.ft_files.specs.Reading.{unknown_files, AreAll, IsRefused};
+ghost use Rattle.ft_files.specs.Reading as forms;
 ghost use Rattle.std.specs.Prelude.{◌≡◌, IfOk, IfErr};
 ghost use Rattle.std.specs.IoError.{error_kind};
 
-use ft_shell::{Source, SourceFault};
+use plain_shell::{Source, SourceFault};
 use std::alloc::Global;
 use std::fs;
 use std::io::{self, ErrorKind, Read};
@@ -15,8 +15,8 @@ const MOST_BYTES: u64 = 64 << 20;
 
 /// The files that the host knows, by their paths.
 #[derive(Drop)]
-pub(crate) struct SystemFiles<'a> {
-    pub(crate) rt: &'a HostRuntime,
+pub struct SystemFiles<'a> {
+    pub rt: &'a HostRuntime,
 }
 
 // Why a file that isn't opened or read is not there.

@@ -1,0 +1,4 @@
+-- Meaning
+pub mod Reading
+-- Steps
+pub mod Opening
