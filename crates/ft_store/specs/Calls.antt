@@ -1,5 +1,5 @@
 -- Meaning. What a call does to a store.
-use Rattle.std.specs.Prelude.{◌≡◌, ◌≢◌, ◌⊎◌, pos, true, false, Result, List, [], ◌∷◌, map, IsTrue, OnOk}
+use Rattle.std.specs.Prelude.{◌≡◌, ◌≢◌, ◌⊎◌, pos, true, false, Result, List, [], ◌∷◌, map, IsTrue, IfErr, OnOk}
 use Rattle.std.specs.List.{AllByRecursion}
 use Rattle.sqlite.specs.declared.error.Error.{Error}
 use Rattle.sqlite.specs.declared.error.Error.TheVariants.{SqliteFailure}
@@ -59,6 +59,10 @@ pub record Reads {S X : Type 0} (g : Ghosts S) (old new : Held S) (result : Resu
   pub mode : (state g new).in_transaction ≡ false
   pub survives : Survives (state g old) (state g new) (λ _. IsTrue (state g old).is_open → ⊥)
 
+-- want of memory, or a refusal by the database
+abbrev pub IsPlainFault : StoreFault → Type 0
+IsPlainFault e = (e ≡ fault.Memory) ⊎ (e ≡ fault.Refused)
+
 -- What one statement of a change does in a transaction: where the disk did what it was told and the call is Ok, the value is
 -- that of `f`.
 abbrev pub StepsOnOk : {S : Type 0} → Ghosts S → Held S → Held S → Result (Unit {0}) StoreFault → (StoreValue → StoreValue) → Type 0
@@ -79,6 +83,13 @@ KeepsLast g old new = HasCleanDisk (state g new) → KeepsCommit (state g old) (
 abbrev pub LeavesNothing : {S : Type 0} → Ghosts S → Held S → Held S → Type 0
 LeavesNothing g old new = Survives (state g old) (state g new) (λ _. ⊥)
 
+-- What a statement in a transaction leaves, whatever it is answered: nothing is committed and the last commit stays, a crash leaves what it
+-- could leave before, and it is refused for want of memory or by the database.
+pub record StaysUncommitted {S X : Type 0} (g : Ghosts S) (old new : Held S) (result : Result X StoreFault) : Type 0 where
+  pub kept : KeepsLast g old new
+  pub survives : LeavesNothing g old new
+  pub fault : IfErr result IsPlainFault
+
 -- the same of several statements, in a transaction of an open connection
 abbrev pub StepsIfOpen : {S : Type 0} → Ghosts S → Held S → Held S → Result (Unit {0}) StoreFault → (StoreValue → StoreValue) → Type 0
 StepsIfOpen g old new result f =
@@ -98,10 +109,6 @@ pub record IsStored (db : Trees) (value : StoreValue) : Type 0 where
   pub numbered : AreNumbered store_schema.tables db
   pub marked : IsMarked db
   pub is : value_of db ≡ value
-
--- want of memory, or a refusal by the database
-abbrev pub IsPlainFault : StoreFault → Type 0
-IsPlainFault e = (e ≡ fault.Memory) ⊎ (e ≡ fault.Refused)
 
 -- why a read of lists is refused: a plain fault, or Damaged, where a list of places is not in its one form
 abbrev pub IsReadFault : StoreFault → Type 0

@@ -7,7 +7,7 @@ ghost use Rattle.ft_store.specs.Rows.{value_of};
 ghost use Rattle.ft_store.specs.Older.{older_schema, older_value, IsOlder, IsRenewed, IsStoreBy};
 ghost use Rattle.ft_store.specs.Made.{IsTabled, IsUnmarked, MakesOnOk};
 ghost use Rattle.ft_store.specs.Adopted.{IsAdoptFault, IsOfVersion};
-ghost use Rattle.ft_store.specs.Calls.{IsPlainFault, IsStored, IsStoreIfOpen, Keeps, KeepsLast, LeavesNothing};
+ghost use Rattle.ft_store.specs.Calls.{IsPlainFault, IsStored, IsStoreIfOpen, Keeps, KeepsLast, LeavesNothing, StaysUncommitted};
 
 use crate::examine::examine;
 use crate::fault::StoreFault;
@@ -21,9 +21,7 @@ fn add_table<S: Alter>(tx: &mut Transaction<'_, S>) -> Result<(), StoreFault>
     ensures same_reference { tx.new.conn.ghost_name ≡ tx.old.conn.ghost_name }
     ensures steps { MakesOnOk S.Store tx.old.conn.now tx.new.conn.now result (IsStoreBy Older)
         (λ old new. IsTabled new × (value_of new.trees ≡ older_value old.trees)) }
-    ensures fault { IfErr result IsPlainFault }
-    ensures kept { KeepsLast S.Store tx.old.conn.now tx.new.conn.now }
-    ensures survives { LeavesNothing S.Store tx.old.conn.now tx.new.conn.now }
+    ensures stays { StaysUncommitted S.Store tx.old.conn.now tx.new.conn.now result }
 {
     run(
         tx,
@@ -37,9 +35,7 @@ fn unmark<S: Alter>(tx: &mut Transaction<'_, S>) -> Result<(), StoreFault>
     ensures same_reference { tx.new.conn.ghost_name ≡ tx.old.conn.ghost_name }
     ensures steps { MakesOnOk S.Store tx.old.conn.now tx.new.conn.now result IsTabled
         (λ old new. IsUnmarked new × (value_of new.trees ≡ value_of old.trees)) }
-    ensures fault { IfErr result IsPlainFault }
-    ensures kept { KeepsLast S.Store tx.old.conn.now tx.new.conn.now }
-    ensures survives { LeavesNothing S.Store tx.old.conn.now tx.new.conn.now }
+    ensures stays { StaysUncommitted S.Store tx.old.conn.now tx.new.conn.now result }
 {
     run(tx, "DELETE FROM meta", &[])
 }

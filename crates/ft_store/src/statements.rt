@@ -13,7 +13,7 @@ ghost use Rattle.ft_store.specs.Packed.{spots_in};
 ghost use Rattle.ft_store.specs.Store.{StoreValue, cell_key_cmp, list_key_cmp, column_key_cmp, name_cmp};
 ghost use Rattle.ft_values.specs.Cells.{shown_value};
 ghost use Rattle.ft_store.specs.Changes.{num_of, txt_of};
-ghost use Rattle.ft_store.specs.Calls.{IsPlainFault, StepsOnOk, AddsOnOk, KeepsLast, LeavesNothing};
+ghost use Rattle.ft_store.specs.Calls.{IsPlainFault, StepsOnOk, AddsOnOk, KeepsLast, LeavesNothing, StaysUncommitted};
 ghost use Rattle.ft_store.specs.Groups.{Entry, entry_values, with_entries, GoesOnOk};
 
 use crate::fault::StoreFault;
@@ -33,9 +33,7 @@ pub(crate) fn run<S: Alter>(
         → OnOk result ((count : ℕ)
         × ExecutesInside 0 sql.now (bound params.now) (state S.Store tx.old.conn.now)
         (state S.Store tx.new.conn.now) (Ok count)) }
-    ensures fault { IfErr result IsPlainFault }
-    ensures kept { KeepsLast S.Store tx.old.conn.now tx.new.conn.now }
-    ensures survives { LeavesNothing S.Store tx.old.conn.now tx.new.conn.now }
+    ensures stays { StaysUncommitted S.Store tx.old.conn.now tx.new.conn.now result }
 {
     let _count = tx.execute(sql, params)?;
     Ok(())
@@ -55,9 +53,7 @@ fn add<S: Alter>(
         ((count : ℕ) × ExecutesInside 0 sql.now (bound params.now)
         (state S.Store tx.old.conn.now) (state S.Store tx.new.conn.now) (Ok count))
         (IsUnchanged (state S.Store tx.old.conn.now) (state S.Store tx.new.conn.now))) }
-    ensures fault { IfErr result IsPlainFault }
-    ensures kept { KeepsLast S.Store tx.old.conn.now tx.new.conn.now }
-    ensures survives { LeavesNothing S.Store tx.old.conn.now tx.new.conn.now }
+    ensures stays { StaysUncommitted S.Store tx.old.conn.now tx.new.conn.now result }
 {
     match tx.execute(sql, params) {
         Ok(_) => Ok(true),
@@ -103,9 +99,7 @@ pub(crate) fn drop_name<S: Alter>(tx: &mut Transaction<'_, S>, tab: i64) -> Resu
     ensures same_reference { tx.new.conn.ghost_name ≡ tx.old.conn.ghost_name }
     ensures steps { StepsOnOk S.Store tx.old.conn.now tx.new.conn.now result
         (λ v. record v { tables = where_key int_cmp (λ k. not (int_eq tab k)) v.tables }) }
-    ensures fault { IfErr result IsPlainFault }
-    ensures kept { KeepsLast S.Store tx.old.conn.now tx.new.conn.now }
-    ensures survives { LeavesNothing S.Store tx.old.conn.now tx.new.conn.now }
+    ensures stays { StaysUncommitted S.Store tx.old.conn.now tx.new.conn.now result }
 {
     run(tx, "DELETE FROM tab WHERE id = ?1", &[tab.to_sql()])
 }
@@ -120,9 +114,7 @@ pub(crate) fn drop_columns<S: Alter>(
         (λ v. record v {
           columns = where_key column_key_cmp (λ k. not (int_eq tab k.0)) v.columns;
         }) }
-    ensures fault { IfErr result IsPlainFault }
-    ensures kept { KeepsLast S.Store tx.old.conn.now tx.new.conn.now }
-    ensures survives { LeavesNothing S.Store tx.old.conn.now tx.new.conn.now }
+    ensures stays { StaysUncommitted S.Store tx.old.conn.now tx.new.conn.now result }
 {
     run(tx, "DELETE FROM col WHERE tab = ?1", &[tab.to_sql()])
 }
@@ -139,9 +131,7 @@ pub(crate) fn drop_column<S: Alter>(
           columns = where_key column_key_cmp
               (λ k. not (eq_by_cmp column_key_cmp (tab, column) k)) v.columns;
         }) }
-    ensures fault { IfErr result IsPlainFault }
-    ensures kept { KeepsLast S.Store tx.old.conn.now tx.new.conn.now }
-    ensures survives { LeavesNothing S.Store tx.old.conn.now tx.new.conn.now }
+    ensures stays { StaysUncommitted S.Store tx.old.conn.now tx.new.conn.now result }
 {
     run(
         tx,
@@ -157,9 +147,7 @@ pub(crate) fn drop_skips<S: Alter>(tx: &mut Transaction<'_, S>, tab: i64) -> Res
         (λ v. record v {
           skipped = where_key column_key_cmp (λ k. not (int_eq tab k.0)) v.skipped;
         }) }
-    ensures fault { IfErr result IsPlainFault }
-    ensures kept { KeepsLast S.Store tx.old.conn.now tx.new.conn.now }
-    ensures survives { LeavesNothing S.Store tx.old.conn.now tx.new.conn.now }
+    ensures stays { StaysUncommitted S.Store tx.old.conn.now tx.new.conn.now result }
 {
     run(tx, "DELETE FROM skip WHERE tab = ?1", &[tab.to_sql()])
 }
@@ -176,9 +164,7 @@ pub(crate) fn drop_skip<S: Alter>(
           skipped = where_key column_key_cmp
               (λ k. not (eq_by_cmp column_key_cmp (tab, column) k)) v.skipped;
         }) }
-    ensures fault { IfErr result IsPlainFault }
-    ensures kept { KeepsLast S.Store tx.old.conn.now tx.new.conn.now }
-    ensures survives { LeavesNothing S.Store tx.old.conn.now tx.new.conn.now }
+    ensures stays { StaysUncommitted S.Store tx.old.conn.now tx.new.conn.now result }
 {
     run(
         tx,
@@ -195,9 +181,7 @@ pub(crate) fn drop_contents<S: Alter>(
     ensures same_reference { tx.new.conn.ghost_name ≡ tx.old.conn.ghost_name }
     ensures steps { StepsOnOk S.Store tx.old.conn.now tx.new.conn.now result
         (λ v. record v { cells = where_key cell_key_cmp (λ k. not (int_eq tab k.0)) v.cells }) }
-    ensures fault { IfErr result IsPlainFault }
-    ensures kept { KeepsLast S.Store tx.old.conn.now tx.new.conn.now }
-    ensures survives { LeavesNothing S.Store tx.old.conn.now tx.new.conn.now }
+    ensures stays { StaysUncommitted S.Store tx.old.conn.now tx.new.conn.now result }
 {
     run(tx, "DELETE FROM cell WHERE tab = ?1", &[tab.to_sql()])
 }
@@ -214,9 +198,7 @@ pub(crate) fn drop_cells<S: Alter>(
           cells = where_key cell_key_cmp
               (λ k. not (int_eq tab k.0 && int_eq docid k.1)) v.cells;
         }) }
-    ensures fault { IfErr result IsPlainFault }
-    ensures kept { KeepsLast S.Store tx.old.conn.now tx.new.conn.now }
-    ensures survives { LeavesNothing S.Store tx.old.conn.now tx.new.conn.now }
+    ensures stays { StaysUncommitted S.Store tx.old.conn.now tx.new.conn.now result }
 {
     run(
         tx,
@@ -238,9 +220,7 @@ pub(crate) fn drop_cell<S: Alter>(
           cells = where_key cell_key_cmp
               (λ k. not (eq_by_cmp cell_key_cmp (tab, docid, column) k)) v.cells;
         }) }
-    ensures fault { IfErr result IsPlainFault }
-    ensures kept { KeepsLast S.Store tx.old.conn.now tx.new.conn.now }
-    ensures survives { LeavesNothing S.Store tx.old.conn.now tx.new.conn.now }
+    ensures stays { StaysUncommitted S.Store tx.old.conn.now tx.new.conn.now result }
 {
     run(
         tx,
@@ -254,9 +234,7 @@ pub(crate) fn drop_lists<S: Alter>(tx: &mut Transaction<'_, S>, tab: i64) -> Res
     ensures same_reference { tx.new.conn.ghost_name ≡ tx.old.conn.ghost_name }
     ensures steps { StepsOnOk S.Store tx.old.conn.now tx.new.conn.now result
         (λ v. record v { lists = where_key list_key_cmp (λ k. not (int_eq tab k.0)) v.lists }) }
-    ensures fault { IfErr result IsPlainFault }
-    ensures kept { KeepsLast S.Store tx.old.conn.now tx.new.conn.now }
-    ensures survives { LeavesNothing S.Store tx.old.conn.now tx.new.conn.now }
+    ensures stays { StaysUncommitted S.Store tx.old.conn.now tx.new.conn.now result }
 {
     run(tx, "DELETE FROM posting WHERE tab = ?1", &[tab.to_sql()])
 }
@@ -274,9 +252,7 @@ pub(crate) fn drop_list<S: Alter>(
           lists = where_key list_key_cmp
               (λ k. not (eq_by_cmp list_key_cmp (tab, term.now, docid) k)) v.lists;
         }) }
-    ensures fault { IfErr result IsPlainFault }
-    ensures kept { KeepsLast S.Store tx.old.conn.now tx.new.conn.now }
-    ensures survives { LeavesNothing S.Store tx.old.conn.now tx.new.conn.now }
+    ensures stays { StaysUncommitted S.Store tx.old.conn.now tx.new.conn.now result }
 {
     run(
         tx,
@@ -290,9 +266,7 @@ pub(crate) fn drop_sizes<S: Alter>(tx: &mut Transaction<'_, S>, tab: i64) -> Res
     ensures same_reference { tx.new.conn.ghost_name ≡ tx.old.conn.ghost_name }
     ensures steps { StepsOnOk S.Store tx.old.conn.now tx.new.conn.now result
         (λ v. record v { sizes = where_key cell_key_cmp (λ k. not (int_eq tab k.0)) v.sizes }) }
-    ensures fault { IfErr result IsPlainFault }
-    ensures kept { KeepsLast S.Store tx.old.conn.now tx.new.conn.now }
-    ensures survives { LeavesNothing S.Store tx.old.conn.now tx.new.conn.now }
+    ensures stays { StaysUncommitted S.Store tx.old.conn.now tx.new.conn.now result }
 {
     run(tx, "DELETE FROM sizes WHERE tab = ?1", &[tab.to_sql()])
 }
@@ -310,9 +284,7 @@ pub(crate) fn drop_size<S: Alter>(
           sizes = where_key cell_key_cmp
               (λ k. not (eq_by_cmp cell_key_cmp (tab, docid, column) k)) v.sizes;
         }) }
-    ensures fault { IfErr result IsPlainFault }
-    ensures kept { KeepsLast S.Store tx.old.conn.now tx.new.conn.now }
-    ensures survives { LeavesNothing S.Store tx.old.conn.now tx.new.conn.now }
+    ensures stays { StaysUncommitted S.Store tx.old.conn.now tx.new.conn.now result }
 {
     run(
         tx,
@@ -329,9 +301,7 @@ pub(crate) fn drop_note<S: Alter>(tx: &mut Transaction<'_, S>, name: &str) -> Re
           noted = where_key name_cmp
               (λ k. not (eq_by_cmp name_cmp (without_case name.now) k)) v.noted;
         }) }
-    ensures fault { IfErr result IsPlainFault }
-    ensures kept { KeepsLast S.Store tx.old.conn.now tx.new.conn.now }
-    ensures survives { LeavesNothing S.Store tx.old.conn.now tx.new.conn.now }
+    ensures stays { StaysUncommitted S.Store tx.old.conn.now tx.new.conn.now result }
 {
     run(tx, "DELETE FROM noted WHERE name = ?1", &[name.to_sql()])
 }
@@ -346,9 +316,7 @@ pub(crate) fn add_name<S: Alter>(
     ensures steps { AddsOnOk S.Store tx.old.conn.now tx.new.conn.now result
         (λ v. find int_cmp tab v.tables ≡ None)
         (λ v. record v { tables = put int_cmp tab name.now v.tables }) }
-    ensures fault { IfErr result IsPlainFault }
-    ensures kept { KeepsLast S.Store tx.old.conn.now tx.new.conn.now }
-    ensures survives { LeavesNothing S.Store tx.old.conn.now tx.new.conn.now }
+    ensures stays { StaysUncommitted S.Store tx.old.conn.now tx.new.conn.now result }
 {
     run(
         tx,
@@ -368,9 +336,7 @@ pub(crate) fn add_column<S: Alter>(
     ensures steps { AddsOnOk S.Store tx.old.conn.now tx.new.conn.now result
         (λ v. find column_key_cmp (tab, column) v.columns ≡ None)
         (λ v. record v { columns = put column_key_cmp (tab, column) name.now v.columns }) }
-    ensures fault { IfErr result IsPlainFault }
-    ensures kept { KeepsLast S.Store tx.old.conn.now tx.new.conn.now }
-    ensures survives { LeavesNothing S.Store tx.old.conn.now tx.new.conn.now }
+    ensures stays { StaysUncommitted S.Store tx.old.conn.now tx.new.conn.now result }
 {
     run(
         tx,
@@ -389,9 +355,7 @@ pub(crate) fn add_skip<S: Alter>(
     ensures steps { AddsOnOk S.Store tx.old.conn.now tx.new.conn.now result
         (λ v. find column_key_cmp (tab, column) v.skipped ≡ None)
         (λ v. record v { skipped = put column_key_cmp (tab, column) tt v.skipped }) }
-    ensures fault { IfErr result IsPlainFault }
-    ensures kept { KeepsLast S.Store tx.old.conn.now tx.new.conn.now }
-    ensures survives { LeavesNothing S.Store tx.old.conn.now tx.new.conn.now }
+    ensures stays { StaysUncommitted S.Store tx.old.conn.now tx.new.conn.now result }
 {
     run(
         tx,
@@ -415,9 +379,7 @@ pub(crate) fn add_cell<S: Alter>(
           cells = put cell_key_cmp (tab, docid, column) (shown_value value.now)
               v.cells;
         }) }
-    ensures fault { IfErr result IsPlainFault }
-    ensures kept { KeepsLast S.Store tx.old.conn.now tx.new.conn.now }
-    ensures survives { LeavesNothing S.Store tx.old.conn.now tx.new.conn.now }
+    ensures stays { StaysUncommitted S.Store tx.old.conn.now tx.new.conn.now result }
 {
     run(
         tx,
@@ -447,9 +409,7 @@ pub(crate) fn add_list<'a, S: Alter>(
           lists = put list_key_cmp (tab, term.now, docid)
               (unwrap_or (spots_in list.now) []) v.lists;
         }) }
-    ensures fault { IfErr result IsPlainFault }
-    ensures kept { KeepsLast S.Store tx.old.conn.now tx.new.conn.now }
-    ensures survives { LeavesNothing S.Store tx.old.conn.now tx.new.conn.now }
+    ensures stays { StaysUncommitted S.Store tx.old.conn.now tx.new.conn.now result }
 {
     run(
         tx,
@@ -474,9 +434,7 @@ pub(crate) fn add_lists<S: Alter>(
         → bound values.now ≡ flat_map entry_values entries
         → GoesOnOk S.Store tx.old.conn.now tx.new.conn.now result
         (λ added v. if added then with_entries entries v else v) }
-    ensures fault { IfErr result IsPlainFault }
-    ensures kept { KeepsLast S.Store tx.old.conn.now tx.new.conn.now }
-    ensures survives { LeavesNothing S.Store tx.old.conn.now tx.new.conn.now }
+    ensures stays { StaysUncommitted S.Store tx.old.conn.now tx.new.conn.now result }
 {
     add(
         tx,
@@ -497,9 +455,7 @@ pub(crate) fn add_size<S: Alter>(
     ensures steps { AddsOnOk S.Store tx.old.conn.now tx.new.conn.now result
         (λ v. find cell_key_cmp (tab, docid, column) v.sizes ≡ None)
         (λ v. record v { sizes = put cell_key_cmp (tab, docid, column) n v.sizes }) }
-    ensures fault { IfErr result IsPlainFault }
-    ensures kept { KeepsLast S.Store tx.old.conn.now tx.new.conn.now }
-    ensures survives { LeavesNothing S.Store tx.old.conn.now tx.new.conn.now }
+    ensures stays { StaysUncommitted S.Store tx.old.conn.now tx.new.conn.now result }
 {
     run(
         tx,
@@ -514,9 +470,7 @@ pub(crate) fn add_note<S: Alter>(tx: &mut Transaction<'_, S>, name: &str) -> Res
     ensures steps { AddsOnOk S.Store tx.old.conn.now tx.new.conn.now result
         (λ v. find name_cmp (without_case name.now) v.noted ≡ None)
         (λ v. record v { noted = put name_cmp (without_case name.now) name.now v.noted }) }
-    ensures fault { IfErr result IsPlainFault }
-    ensures kept { KeepsLast S.Store tx.old.conn.now tx.new.conn.now }
-    ensures survives { LeavesNothing S.Store tx.old.conn.now tx.new.conn.now }
+    ensures stays { StaysUncommitted S.Store tx.old.conn.now tx.new.conn.now result }
 {
     run(tx, "INSERT INTO noted (name) VALUES (?1)", &[name.to_sql()])
 }

@@ -13,7 +13,7 @@ ghost use Rattle.ft_store.specs.Store.{StoreValue, cell_key_cmp, list_key_cmp, c
 ghost use Rattle.ft_store.specs.Rows.{value_of};
 ghost use Rattle.ft_values.specs.Cells.{shown_value};
 ghost use Rattle.ft_store.specs.Changes.{shown_change, CanApply};
-ghost use Rattle.ft_store.specs.Calls.{IsPlainFault, IsChangeFault, StepsOnOk, StepsIfOpen, KeepsLast, LeavesNothing, IsStore, IsStored, IsStoreIfOpen, Keeps};
+ghost use Rattle.ft_store.specs.Calls.{IsPlainFault, IsChangeFault, StepsOnOk, StepsIfOpen, KeepsLast, LeavesNothing, IsStore, IsStored, IsStoreIfOpen, Keeps, StaysUncommitted};
 ghost use Rattle.ft_store.specs.Groups.{entry_values, entry_put, PutsList, GoesOnOk};
 
 use crate::fault::StoreFault;
@@ -38,9 +38,7 @@ fn put_column<S: Alter>(
     ensures same_reference { tx.new.conn.ghost_name ≡ tx.old.conn.ghost_name }
     ensures steps { StepsOnOk S.Store tx.old.conn.now tx.new.conn.now result
         (λ v. record v { columns = put column_key_cmp (tab, column) name.now v.columns }) }
-    ensures fault { IfErr result IsPlainFault }
-    ensures kept { KeepsLast S.Store tx.old.conn.now tx.new.conn.now }
-    ensures survives { LeavesNothing S.Store tx.old.conn.now tx.new.conn.now }
+    ensures stays { StaysUncommitted S.Store tx.old.conn.now tx.new.conn.now result }
 {
     drop_column(tx, tab, column)?;
     add_column(tx, tab, column, name)
@@ -51,9 +49,7 @@ fn put_skip<S: Alter>(tx: &mut Transaction<'_, S>, tab: i64, column: i64) -> Res
     ensures same_reference { tx.new.conn.ghost_name ≡ tx.old.conn.ghost_name }
     ensures steps { StepsOnOk S.Store tx.old.conn.now tx.new.conn.now result
         (λ v. record v { skipped = put column_key_cmp (tab, column) tt v.skipped }) }
-    ensures fault { IfErr result IsPlainFault }
-    ensures kept { KeepsLast S.Store tx.old.conn.now tx.new.conn.now }
-    ensures survives { LeavesNothing S.Store tx.old.conn.now tx.new.conn.now }
+    ensures stays { StaysUncommitted S.Store tx.old.conn.now tx.new.conn.now result }
 {
     drop_skip(tx, tab, column)?;
     add_skip(tx, tab, column)
@@ -73,9 +69,7 @@ fn put_cell<S: Alter>(
           cells = put cell_key_cmp (tab, docid, column) (shown_value value.now)
               v.cells;
         }) }
-    ensures fault { IfErr result IsPlainFault }
-    ensures kept { KeepsLast S.Store tx.old.conn.now tx.new.conn.now }
-    ensures survives { LeavesNothing S.Store tx.old.conn.now tx.new.conn.now }
+    ensures stays { StaysUncommitted S.Store tx.old.conn.now tx.new.conn.now result }
 {
     drop_cell(tx, tab, docid, column)?;
     add_cell(tx, tab, docid, column, value)
@@ -95,9 +89,7 @@ fn put_list<'a, S: Alter>(
           lists = put list_key_cmp (tab, term.now, docid)
               (unwrap_or (spots_in list.now) []) v.lists;
         }) }
-    ensures fault { IfErr result IsPlainFault }
-    ensures kept { KeepsLast S.Store tx.old.conn.now tx.new.conn.now }
-    ensures survives { LeavesNothing S.Store tx.old.conn.now tx.new.conn.now }
+    ensures stays { StaysUncommitted S.Store tx.old.conn.now tx.new.conn.now result }
 {
     drop_list(tx, tab, term, docid)?;
     add_list(tx, tab, term, docid, list)
@@ -114,9 +106,7 @@ fn put_size<S: Alter>(
     ensures same_reference { tx.new.conn.ghost_name ≡ tx.old.conn.ghost_name }
     ensures steps { StepsOnOk S.Store tx.old.conn.now tx.new.conn.now result
         (λ v. record v { sizes = put cell_key_cmp (tab, docid, column) n v.sizes }) }
-    ensures fault { IfErr result IsPlainFault }
-    ensures kept { KeepsLast S.Store tx.old.conn.now tx.new.conn.now }
-    ensures survives { LeavesNothing S.Store tx.old.conn.now tx.new.conn.now }
+    ensures stays { StaysUncommitted S.Store tx.old.conn.now tx.new.conn.now result }
 {
     drop_size(tx, tab, docid, column)?;
     add_size(tx, tab, docid, column, n)
@@ -127,9 +117,7 @@ fn put_note<S: Alter>(tx: &mut Transaction<'_, S>, name: &str) -> Result<(), Sto
     ensures same_reference { tx.new.conn.ghost_name ≡ tx.old.conn.ghost_name }
     ensures steps { StepsOnOk S.Store tx.old.conn.now tx.new.conn.now result
         (λ v. record v { noted = put name_cmp (without_case name.now) name.now v.noted }) }
-    ensures fault { IfErr result IsPlainFault }
-    ensures kept { KeepsLast S.Store tx.old.conn.now tx.new.conn.now }
-    ensures survives { LeavesNothing S.Store tx.old.conn.now tx.new.conn.now }
+    ensures stays { StaysUncommitted S.Store tx.old.conn.now tx.new.conn.now result }
 {
     drop_note(tx, name)?;
     add_note(tx, name)
@@ -164,9 +152,7 @@ fn clear_index<S: Alter>(tx: &mut Transaction<'_, S>, tab: i64) -> Result<(), St
     ensures same_reference { tx.new.conn.ghost_name ≡ tx.old.conn.ghost_name }
     ensures steps { StepsOnOk S.Store tx.old.conn.now tx.new.conn.now result
         (λ v. without_index tab v) }
-    ensures fault { IfErr result IsPlainFault }
-    ensures kept { KeepsLast S.Store tx.old.conn.now tx.new.conn.now }
-    ensures survives { LeavesNothing S.Store tx.old.conn.now tx.new.conn.now }
+    ensures stays { StaysUncommitted S.Store tx.old.conn.now tx.new.conn.now result }
 {
     drop_lists(tx, tab)?;
     drop_sizes(tx, tab)
@@ -177,9 +163,7 @@ fn clear_rows<S: Alter>(tx: &mut Transaction<'_, S>, tab: i64) -> Result<(), Sto
     ensures same_reference { tx.new.conn.ghost_name ≡ tx.old.conn.ghost_name }
     ensures steps { StepsOnOk S.Store tx.old.conn.now tx.new.conn.now result
         (λ v. without_rows tab v) }
-    ensures fault { IfErr result IsPlainFault }
-    ensures kept { KeepsLast S.Store tx.old.conn.now tx.new.conn.now }
-    ensures survives { LeavesNothing S.Store tx.old.conn.now tx.new.conn.now }
+    ensures stays { StaysUncommitted S.Store tx.old.conn.now tx.new.conn.now result }
 {
     clear_index(tx, tab)?;
     drop_contents(tx, tab)?;
@@ -200,9 +184,7 @@ fn put_columns<S: Alter>(
           columns = with_columns tab
               (enumerate_from 0 (map string_bytes columns.now)) v.columns;
         }) }
-    ensures fault { IfErr result IsPlainFault }
-    ensures kept { KeepsLast S.Store tx.old.conn.now tx.new.conn.now }
-    ensures survives { LeavesNothing S.Store tx.old.conn.now tx.new.conn.now }
+    ensures stays { StaysUncommitted S.Store tx.old.conn.now tx.new.conn.now result }
 {
     for (at, name) in columns.iter().enumerate() {
         put_column(tx, tab, at as i64, name.as_str())?;
@@ -219,9 +201,7 @@ fn put_skips<S: Alter>(
     ensures same_reference { tx.new.conn.ghost_name ≡ tx.old.conn.ghost_name }
     ensures steps { StepsIfOpen S.Store tx.old.conn.now tx.new.conn.now result
         (λ v. record v { skipped = with_skipped tab skipped.now v.skipped }) }
-    ensures fault { IfErr result IsPlainFault }
-    ensures kept { KeepsLast S.Store tx.old.conn.now tx.new.conn.now }
-    ensures survives { LeavesNothing S.Store tx.old.conn.now tx.new.conn.now }
+    ensures stays { StaysUncommitted S.Store tx.old.conn.now tx.new.conn.now result }
 {
     for column in skipped {
         put_skip(tx, tab, *column)?;
@@ -240,9 +220,7 @@ fn add_table<S: Alter>(
     ensures same_reference { tx.new.conn.ghost_name ≡ tx.old.conn.ghost_name }
     ensures steps { StepsOnOk S.Store tx.old.conn.now tx.new.conn.now result
         (λ v. applied (AddTable tab name.now (map string_bytes columns.now) skipped.now) v) }
-    ensures fault { IfErr result IsPlainFault }
-    ensures kept { KeepsLast S.Store tx.old.conn.now tx.new.conn.now }
-    ensures survives { LeavesNothing S.Store tx.old.conn.now tx.new.conn.now }
+    ensures stays { StaysUncommitted S.Store tx.old.conn.now tx.new.conn.now result }
 {
     clear_rows(tx, tab)?;
     add_name(tx, tab, name)?;
@@ -398,12 +376,10 @@ fn add_group<S: Alter>(
     changes: &[RowChange],
 ) -> Result<bool, StoreFault>
     ensures packable { IfOk result (λ added. IsTrue added → All CanApply changes.now) }
-    ensures fault { IfErr result IsPlainFault }
     ensures same_reference { tx.new.conn.ghost_name ≡ tx.old.conn.ghost_name }
     ensures goes { GoesOnOk S.Store tx.old.conn.now tx.new.conn.now result
         (λ added v. if added then all_applied (map shown_change changes.now) v else v) }
-    ensures kept { KeepsLast S.Store tx.old.conn.now tx.new.conn.now }
-    ensures survives { LeavesNothing S.Store tx.old.conn.now tx.new.conn.now }
+    ensures stays { StaysUncommitted S.Store tx.old.conn.now tx.new.conn.now result }
 {
     if changes.len() != GROUP {
         return Ok(false);

@@ -18,9 +18,9 @@ returns-clause-steps g c clean inside kept =
     let at_1 = state g.S.Store c.clear_rows.new.tx.conn.now in
     let at_2 = state g.S.Store c.add_name.new.tx.conn.now in
     let at_3 = state g.S.Store c.put_columns.new.tx.conn.now in
-    let clean_3 : HasCleanDisk at_3 = omega (arith, c.put_skips.ensures.survives.clean) in
-    let clean_2 : HasCleanDisk at_2 = omega (arith, c.put_columns.ensures.survives.clean) in
-    let clean_1 : HasCleanDisk at_1 = omega (arith, c.add_name.ensures.survives.clean) in
+    let clean_3 : HasCleanDisk at_3 = omega (arith, c.put_skips.ensures.stays.survives.clean) in
+    let clean_2 : HasCleanDisk at_2 = omega (arith, c.put_columns.ensures.stays.survives.clean) in
+    let clean_1 : HasCleanDisk at_1 = omega (arith, c.add_name.ensures.stays.survives.clean) in
     let one = subst (λ n. StepsIfDone g.S.Store c.args.tx.now.conn.now c.clear_rows.new.tx.conn.now (without_rows n)) (to_z-of_z c.ranges.tab) c.in_ok-clear_rows.ensures.steps clean_1 inside kept in
     let free = free_table old at_1 _ c.args.tab (value_of old.now.trees).tables one refl in
     let added = subst (λ n. AddsIfDone g.S.Store c.clear_rows.new.tx.conn.now c.add_name.new.tx.conn.now (λ v. find int_cmp n v.tables) (λ v. record v { tables = put int_cmp n c.args.name.now v.tables })) (to_z-of_z c.ranges.tab) c.in_ok-add_name.ensures.steps in

@@ -11,7 +11,7 @@ use Rattle.ft_store.proofs.write.clear_index.Goals as goal
 pub returns-clause-steps : goal.returns-clause-steps
 returns-clause-steps g c clean inside kept =
     let mid = state g.S.Store c.drop_lists.new.tx.conn.now in
-    let clean_1 : HasCleanDisk mid = omega (arith, c.drop_sizes.ensures.survives.clean) in
+    let clean_1 : HasCleanDisk mid = omega (arith, c.drop_sizes.ensures.stays.survives.clean) in
     let one = (simp (to_z-of_z, c.ranges.tab) at c.in_ok-drop_lists.ensures.steps) clean_1 inside kept in
     on_ok_weaker c.drop_sizes.result (then_step _ mid _ _ (λ (v : StoreValue). record v { sizes = where_key cell_key_cmp (λ k. not (int_eq c.args.tab k.0)) v.sizes }) one)
     ((simp (to_z-of_z, c.ranges.tab) at c.drop_sizes.ensures.steps) clean one.shown.mode (λ _. one.store))

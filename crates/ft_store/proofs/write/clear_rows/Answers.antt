@@ -15,10 +15,10 @@ returns-clause-steps g c clean inside kept =
     let at_2 = state g.S.Store c.drop_contents.new.tx.conn.now in
     let at_3 = state g.S.Store c.drop_skips.new.tx.conn.now in
     let at_4 = state g.S.Store c.drop_columns.new.tx.conn.now in
-    let clean_4 : HasCleanDisk at_4 = omega (arith, c.drop_name.ensures.survives.clean) in
-    let clean_3 : HasCleanDisk at_3 = omega (arith, c.drop_columns.ensures.survives.clean) in
-    let clean_2 : HasCleanDisk at_2 = omega (arith, c.drop_skips.ensures.survives.clean) in
-    let clean_1 : HasCleanDisk at_1 = omega (arith, c.drop_contents.ensures.survives.clean) in
+    let clean_4 : HasCleanDisk at_4 = omega (arith, c.drop_name.ensures.stays.survives.clean) in
+    let clean_3 : HasCleanDisk at_3 = omega (arith, c.drop_columns.ensures.stays.survives.clean) in
+    let clean_2 : HasCleanDisk at_2 = omega (arith, c.drop_skips.ensures.stays.survives.clean) in
+    let clean_1 : HasCleanDisk at_1 = omega (arith, c.drop_contents.ensures.stays.survives.clean) in
     let one = (simp (to_z-of_z, c.ranges.tab) at c.in_ok-clear_index.ensures.steps) clean_1 inside kept in
     let two = then_step _ at_1 at_2 _ (λ (v : StoreValue). record v { cells = where_key cell_key_cmp (λ k. not (int_eq c.args.tab k.0)) v.cells }) one
     (subst (λ n. StepsIfDone g.S.Store c.clear_index.new.tx.conn.now c.drop_contents.new.tx.conn.now (λ v. record v { cells = where_key cell_key_cmp (λ k. not (int_eq n k.0)) v.cells })) (to_z-of_z c.ranges.tab) c.in_ok-drop_contents.ensures.steps clean_2 one.shown.mode (λ _. one.store)) in

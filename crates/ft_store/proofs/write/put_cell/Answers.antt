@@ -11,7 +11,7 @@ returns-clause-steps g c clean inside kept =
     let old = state g.S.Store c.args.tx.now.conn.now in
     let mid = state g.S.Store c.drop_cell.new.tx.conn.now in
     let new = state g.S.Store c.add_cell.new.tx.conn.now in
-    let clean_1 : HasCleanDisk mid = omega (arith, c.add_cell.ensures.survives.clean) in
+    let clean_1 : HasCleanDisk mid = omega (arith, c.add_cell.ensures.stays.survives.clean) in
     let one = (simp (to_z-of_z, c.ranges.tab, c.ranges.docid, c.ranges.column) at c.in_ok-drop_cell.ensures.steps) clean_1 inside kept in
     on_ok_weaker c.add_cell.result (λ two. puts_cells old mid new (c.args.tab, c.args.docid, c.args.column) (shown_value c.args.value.now) one two)
     ((simp (to_z-of_z, c.ranges.tab, c.ranges.docid, c.ranges.column) at c.add_cell.ensures.steps) clean one.shown.mode (λ _. one.store))

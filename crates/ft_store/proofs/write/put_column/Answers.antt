@@ -10,7 +10,7 @@ returns-clause-steps g c clean inside kept =
     let old = state g.S.Store c.args.tx.now.conn.now in
     let mid = state g.S.Store c.drop_column.new.tx.conn.now in
     let new = state g.S.Store c.add_column.new.tx.conn.now in
-    let clean_1 : HasCleanDisk mid = omega (arith, c.add_column.ensures.survives.clean) in
+    let clean_1 : HasCleanDisk mid = omega (arith, c.add_column.ensures.stays.survives.clean) in
     let one = (simp (to_z-of_z, c.ranges.tab, c.ranges.column) at c.in_ok-drop_column.ensures.steps) clean_1 inside kept in
     on_ok_weaker c.add_column.result (λ two. puts_columns old mid new (c.args.tab, c.args.column) c.args.name.now one two)
     ((simp (to_z-of_z, c.ranges.tab, c.ranges.column) at c.add_column.ensures.steps) clean one.shown.mode (λ _. one.store))

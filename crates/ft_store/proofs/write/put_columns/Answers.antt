@@ -19,10 +19,10 @@ loop-at-preserved g c =
     let was = state g.S.Store c.loop-at.tx.conn.now in
     let now = state g.S.Store c.put_column.new.tx.conn.now in (
       c.put_column.ensures.same_reference ∙ c.loop-at.invariant.0,
-      survives_then old was now _ _ _ (λ _ db none. none) (λ _ db none. none) c.loop-at.invariant.1 c.put_column.ensures.survives,
-      λ clean. keeps_then old was now (c.loop-at.invariant.2 (omega (arith, c.put_column.ensures.survives.clean))) (c.put_column.ensures.kept clean),
+      survives_then old was now _ _ _ (λ _ db none. none) (λ _ db none. none) c.loop-at.invariant.1 c.put_column.ensures.stays.survives,
+      λ clean. keeps_then old was now (c.loop-at.invariant.2 (omega (arith, c.put_column.ensures.stays.survives.clean))) (c.put_column.ensures.stays.kept clean),
       λ clean inside is_open store.
-          let before = c.loop-at.invariant.3 (omega (arith, c.put_column.ensures.survives.clean)) inside is_open store in
+          let before = c.loop-at.invariant.3 (omega (arith, c.put_column.ensures.stays.survives.clean)) inside is_open store in
           column_step old was now _ _ c.args.columns.now c.loop-at.at c.index-columns-at.result c.loop-at-test.true c.index-columns-at.is (omega (arith, ints)) before
           ((rw c.as_str.ensures.value at c.in_ok-put_column.ensures.steps) clean before.shown.mode (λ _. before.store)),
     )

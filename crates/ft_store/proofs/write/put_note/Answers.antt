@@ -11,7 +11,7 @@ returns-clause-steps g c clean inside kept =
     let old = state g.S.Store c.args.tx.now.conn.now in
     let mid = state g.S.Store c.drop_note.new.tx.conn.now in
     let new = state g.S.Store c.add_note.new.tx.conn.now in
-    let clean_1 : HasCleanDisk mid = omega (arith, c.add_note.ensures.survives.clean) in
+    let clean_1 : HasCleanDisk mid = omega (arith, c.add_note.ensures.stays.survives.clean) in
     let one = c.in_ok-drop_note.ensures.steps clean_1 inside kept in
     on_ok_weaker c.add_note.result (λ two. puts_noted old mid new (without_case c.args.name.now) c.args.name.now one two)
     (c.add_note.ensures.steps clean one.shown.mode (λ _. one.store))

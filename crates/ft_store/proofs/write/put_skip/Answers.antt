@@ -10,7 +10,7 @@ returns-clause-steps g c clean inside kept =
     let old = state g.S.Store c.args.tx.now.conn.now in
     let mid = state g.S.Store c.drop_skip.new.tx.conn.now in
     let new = state g.S.Store c.add_skip.new.tx.conn.now in
-    let clean_1 : HasCleanDisk mid = omega (arith, c.add_skip.ensures.survives.clean) in
+    let clean_1 : HasCleanDisk mid = omega (arith, c.add_skip.ensures.stays.survives.clean) in
     let one = (simp (to_z-of_z, c.ranges.tab, c.ranges.column) at c.in_ok-drop_skip.ensures.steps) clean_1 inside kept in
     on_ok_weaker c.add_skip.result (λ two. puts_skipped old mid new (c.args.tab, c.args.column) tt one two)
     ((simp (to_z-of_z, c.ranges.tab, c.ranges.column) at c.add_skip.ensures.steps) clean one.shown.mode (λ _. one.store))
