@@ -6,7 +6,7 @@ ghost use Rattle.sqlite.specs.Held.{IsNew};
 ghost use Rattle.sqlite.specs.State.{HasCleanDisk};
 ghost use Rattle.sqlite.specs.Steps.{IsEmpty};
 ghost use Rattle.ft_store.specs.Kept.{shows, value_in};
-ghost use Rattle.ft_store.specs.Store.{nothing_held};
+ghost use Rattle.ft_rows.specs.Store.{nothing_held};
 ghost use Rattle.ft_files.specs.Opening as forms;
 ghost use Rattle.ft_files.specs.declared.databases.OpenFault.TheVariants as fault;
 

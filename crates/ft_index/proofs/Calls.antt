@@ -6,7 +6,7 @@ use Rattle.ft_content.specs.Command.{Command, Reply}
 use Rattle.ft_content.specs.Deserved.{Contents, deserved}
 use Rattle.ft_content.specs.Step.{step, step_by, after}
 use Rattle.sqlite.specs.Store.{Ghosts}
-use Rattle.ft_store.specs.Store.{applied, Note}
+use Rattle.ft_rows.specs.Store.{applied, Note}
 use Rattle.ft_index.specs.Kept.{StoreHolds, FullText, IsUp, value_of, Holds, Answers, Call, Executed, Noted, Runs, accepted, left_by, is_outside, AreAnswered, KeptByCalls}
 
 -- a step that is done leaves what comes after it, and one that is refused leaves the contents

@@ -6,7 +6,7 @@ use Rattle.sqlite.specs.State.{HasCleanDisk}
 use Rattle.sqlite.specs.Effect.{Database}
 use Rattle.sqlite.specs.Store.{Ghosts}
 use Rattle.ft_store.specs.declared.fault.StoreFault.{StoreFault}
-use Rattle.ft_store.specs.Store.{Change, Note, applied, all_applied}
+use Rattle.ft_rows.specs.Store.{Change, Note, applied, all_applied}
 use Rattle.ft_store.specs.Rows.{value_of as value_in_trees}
 use Rattle.ft_store.specs.Calls.{Keeps}
 use Rattle.ft_store.specs.Kept.{StoreState, shows, value_in}

@@ -8,7 +8,7 @@ use Rattle.std.proofs.lemmas.List.Folds.{list_all-map}
 use Rattle.sqlite.specs.Effect.{Database}
 use Rattle.sqlite.specs.Store.{Ghosts}
 use Rattle.ft_store.specs.Rows.{value_of}
-use Rattle.ft_store.specs.Store.{StoreValue, AreInOrder}
+use Rattle.ft_rows.specs.Store.{StoreValue, AreInOrder}
 use Rattle.ft_store.specs.Kept.{StoreState, value_in}
 use Rattle.ft_values.specs.declared.fault.Fault.{Fault}
 use Rattle.ft_values.specs.declared.fault.Fault.TheVariants as faults
@@ -19,10 +19,10 @@ use Rattle.ft_content.specs.Deserved.{TableState, Sound, Stale, Loose, Table, Co
 use Rattle.ft_content.specs.Step.{step, step_by, reply_to, after}
 use Rattle.ft_index.specs.Changed.{with_tables}
 use Rattle.ft_index.specs.DocumentsRead.{Looks}
-use Rattle.ft_index.specs.Found.{info_named}
+use Rattle.ft_documents.specs.Found.{info_named}
 use Rattle.ft_index.specs.Kept.{IsUp, AreHeld, StoreHolds, Stands, AreSound, Holds, Executes, Answers, is_sound, told_table}
 use Rattle.ft_index.specs.Opened.{IsNamed, AreMarked}
-use Rattle.ft_index.specs.Tables.{table_rows, table_index}
+use Rattle.ft_documents.specs.Tables.{table_rows, table_index}
 use Rattle.ft_index.proofs.HeldLemmas.{holds_one_contents}
 use Rattle.ft_index.proofs.InsertHolds.{found_stands}
 use Rattle.ft_index.proofs.KnownLemmas.{none_named, some_named}

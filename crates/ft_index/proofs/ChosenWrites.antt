@@ -14,11 +14,11 @@ use Rattle.ft_content.specs.Content.{Content, Documents, IsContent}
 use Rattle.ft_content.specs.Command.{Filter}
 use Rattle.ft_content.specs.Answer.{is_chosen, chosen}
 use Rattle.ft_content.specs.Step.{without_docid, docids_of}
-use Rattle.ft_index.specs.Rewrite.{Rewrite, by_docid, rewritten, with_cells, document_if}
+use Rattle.ft_documents.specs.Rewrite.{Rewrite, by_docid, rewritten, with_cells, document_if}
 use Rattle.ft_index.specs.Written.{LeadsTo}
-use Rattle.ft_index.proofs.KeyedRows.{less}
-use Rattle.ft_index.proofs.ChosenLemmas.{AreFound, all_found, less_apart}
-use Rattle.ft_index.proofs.InsertOf.{are_of}
+use Rattle.ft_documents.proofs.KeyedRows.{less}
+use Rattle.ft_documents.proofs.ChosenLemmas.{AreFound, all_found, less_apart}
+use Rattle.ft_documents.proofs.InsertOf.{are_of}
 
 -- ---- what rewrites leave alone
 

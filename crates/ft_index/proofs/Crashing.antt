@@ -8,8 +8,8 @@ use Rattle.sqlite.specs.State.{State, HasCleanDisk, Survives}
 use Rattle.sqlite.specs.Store.{Ghosts}
 use Rattle.sqlite.proofs.StateLemmas.{survives_then}
 use Rattle.ft_store.specs.Calls.{IsStored}
-use Rattle.ft_store.specs.Store.{Change, StoreValue, all_applied}
-use Rattle.ft_store.specs.Changes.{shown_change}
+use Rattle.ft_rows.specs.Store.{Change, StoreValue, all_applied}
+use Rattle.ft_rows.specs.Changes.{shown_change}
 use Rattle.ft_store.specs.Kept.{StoreState, shows, value_in}
 use Rattle.ft_values.specs.declared.rows.RowChange.{RowChange}
 use Rattle.ft_content.specs.Command.{Command}

@@ -6,7 +6,7 @@ use Rattle.std.specs.declared.cmp.Ordering.{Ordering}
 use Rattle.std.specs.declared.cmp.Ordering.TheVariants.{Less, Equal, Greater}
 use Rattle.std.specs.Ordering.{int_cmp, int_eq, is_lt, is_eq}
 use Rattle.std.specs.FinMap.Entries.{put, by_order}
-use Rattle.ft_store.specs.Store.{StoreValue, AreInOrder, AddTable, applied}
+use Rattle.ft_rows.specs.Store.{StoreValue, AreInOrder, AddTable, applied}
 use Rattle.ft_values.specs.declared.fault.Fault.{Fault}
 use Rattle.ft_values.specs.declared.table.TableInfo.{TableInfo as RustTableInfo}
 use Rattle.ft_content.specs.Content.{IsContent, names_of, skipped_from}
@@ -14,11 +14,11 @@ use Rattle.ft_content.specs.Command.{Command, Create, Done}
 use Rattle.ft_content.specs.Views.{TableInfo, shown_info}
 use Rattle.ft_content.specs.Deserved.{Table, Contents, table_named, made_columns, deserved}
 use Rattle.ft_content.specs.Step.{free_id_from, made_column, new_table, created, after, reply_to, step, step_by}
-use Rattle.ft_index.specs.Found.{with_told}
+use Rattle.ft_documents.specs.Found.{with_told}
 use Rattle.ft_index.specs.Planned.{Makes, table_change}
 use Rattle.ft_index.specs.Kept.{AreHeld, StoreHolds, told_table}
 use Rattle.ft_index.proofs.OneTable.{ids_sorted}
-use Rattle.ft_index.proofs.BareLemmas.{bare}
+use Rattle.ft_documents.proofs.AddLemmas.{bare}
 use Rattle.ft_index.proofs.TableChanges.{free_is_free, adds_one}
 use Rattle.ft_index.proofs.NameLemmas.{apart_after}
 use Rattle.ft_content.proofs.ContentLemmas.{create_makes_content}

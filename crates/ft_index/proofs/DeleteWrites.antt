@@ -12,10 +12,10 @@ use Rattle.ft_content.specs.Views.{bare_content, column_of}
 use Rattle.ft_content.specs.Deserved.{Contents, first_of, or_else, delete_tests, delete_fault, query_fault, deserved}
 use Rattle.ft_content.specs.Step.{deleted, docids_of, with_documents, on_table, after, touched, reply_to}
 use Rattle.ft_content.proofs.ContentLemmas.{delete_keeps_content}
-use Rattle.ft_index.specs.Rewrite.{Rewrite, removal}
+use Rattle.ft_documents.specs.Rewrite.{Rewrite, removal}
 use Rattle.ft_index.specs.Written.{LeadsTo}
-use Rattle.ft_index.proofs.BareLemmas.{unknown_bare, fault_bare}
-use Rattle.ft_index.proofs.FaultLemmas.{memory_or}
+use Rattle.ft_documents.proofs.BareLemmas.{unknown_bare, fault_bare}
+use Rattle.ft_documents.proofs.FaultLemmas.{memory_or}
 use Rattle.ft_index.proofs.ChosenWrites.{each_rewritten, chosen_lead, own_docids}
 use Rattle.ft_index.proofs.Writing.{IsWrite}
 

@@ -2,7 +2,7 @@
 use Rattle.std.proofs.Common.{◌≡◌, ◌⊎◌, inl, inr, ℕ, Bool, true, false, List, [], ◌∷◌, map, Option, Some, None, Result, Ok, Err, refl, sym, ap, subst, ◌∙◌}
 use Rattle.std.specs.Prelude.{IsTrue}
 use Rattle.sqlite.specs.Store.{Ghosts}
-use Rattle.ft_store.specs.Store.{AreInOrder, Change}
+use Rattle.ft_rows.specs.Store.{AreInOrder, Change}
 use Rattle.ft_store.specs.Kept.{StoreState, value_in}
 use Rattle.ft_values.specs.declared.fault.Fault.{Fault}
 use Rattle.ft_values.specs.declared.fault.Fault.TheVariants as faults
@@ -11,7 +11,7 @@ use Rattle.ft_content.specs.Command.{Command, Create, Reply, Done}
 use Rattle.ft_content.specs.Views.{TableInfo, shown_info}
 use Rattle.ft_content.specs.Deserved.{Contents, deserved}
 use Rattle.ft_content.specs.Step.{after, reply_to, step, step_by}
-use Rattle.ft_index.specs.Found.{with_told}
+use Rattle.ft_documents.specs.Found.{with_told}
 use Rattle.ft_index.specs.Planned.{Makes, table_change}
 use Rattle.ft_index.specs.Changed.{Changed, with_tables}
 use Rattle.ft_index.specs.Kept.{FullText, PlansFrom, AreHeld, Holds, Executes, Answers, is_outside, told_table}

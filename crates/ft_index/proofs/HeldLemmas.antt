@@ -4,8 +4,8 @@ use Rattle.std.specs.List.{AllZip}
 use Rattle.ft_content.specs.Content.{TableRows}
 use Rattle.ft_content.specs.Index.{IndexRows, index_rows}
 use Rattle.ft_content.specs.Deserved.{TableState, Sound, Stale, Loose, Table, Contents}
-use Rattle.ft_store.specs.Store.{StoreValue}
-use Rattle.ft_index.specs.Tables.{table_rows, table_index}
+use Rattle.ft_rows.specs.Store.{StoreValue}
+use Rattle.ft_documents.specs.Tables.{table_rows, table_index}
 use Rattle.ft_index.specs.Kept.{Stands, HoldsTable, HoldsOneContents}
 use Rattle.ft_content.proofs.RowLemmas.{contents_are_one}
 

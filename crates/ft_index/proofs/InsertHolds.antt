@@ -1,13 +1,13 @@
 -- What the store holds after the row changes of an Insert.
 use Rattle.std.proofs.Common.{◌≡◌, ℕ, Bool, true, false, cond, List, [], ◌∷◌, Some, ℤ, sym, ap, subst}
 use Rattle.std.specs.Prelude.{unwrap_or}
-use Rattle.ft_store.specs.Store.{StoreValue, AreInOrder}
+use Rattle.ft_rows.specs.Store.{StoreValue, AreInOrder}
 use Rattle.ft_content.specs.Content.{same_name}
 use Rattle.ft_content.specs.Views.{TableInfo}
 use Rattle.ft_content.specs.Deserved.{Table, Contents, table_named}
-use Rattle.ft_index.specs.Tables.{table_rows, table_index}
+use Rattle.ft_documents.specs.Tables.{table_rows, table_index}
 use Rattle.ft_index.specs.Kept.{AreHeld, HoldsTable, Stands}
-use Rattle.ft_index.specs.Rewrite.{HasContent}
+use Rattle.ft_documents.specs.Rewrite.{HasContent}
 use Rattle.ft_index.proofs.OneTable.{AreHeldIn}
 use Rattle.ft_index.proofs.KnownLemmas.{IsSoundTable}
 

@@ -17,14 +17,14 @@ use Rattle.ft_content.specs.Views.{bare_content, column_of}
 use Rattle.ft_content.specs.Deserved.{Contents, or_else, listed_columns, insert_tests, insert_rows, insert_fault, fault_of, has_docid, deserved}
 use Rattle.ft_content.specs.Step.{inserted, new_docids, with_documents, on_table, after, touched, reply_to}
 use Rattle.ft_content.proofs.ContentLemmas.{insert_keeps_content}
-use Rattle.ft_index.specs.declared.rewrite.Rewrite as source
-use Rattle.ft_index.specs.Rewrite.{Rewrite, shown_rewrite, by_docid, rewritten}
-use Rattle.ft_index.specs.Inserted.{IsNewIn, AreInserts, Inserts}
+use Rattle.ft_documents.specs.declared.rewrite.Rewrite as source
+use Rattle.ft_documents.specs.Rewrite.{Rewrite, shown_rewrite, by_docid, rewritten}
+use Rattle.ft_documents.specs.Inserted.{IsNewIn, AreInserts, Inserts}
 use Rattle.ft_index.specs.Written.{LeadsTo, Writes}
-use Rattle.ft_index.proofs.KeyedRows.{tie}
-use Rattle.ft_index.proofs.RewriteLemmas.{written, find_rewritten}
-use Rattle.ft_index.proofs.InsertDue.{once, inserted_is}
-use Rattle.ft_index.proofs.InsertOf.{each_found, are_of}
+use Rattle.ft_documents.proofs.KeyedRows.{tie}
+use Rattle.ft_documents.proofs.RewriteLemmas.{written, find_rewritten}
+use Rattle.ft_documents.proofs.InsertDue.{once, inserted_is}
+use Rattle.ft_documents.proofs.InsertOf.{each_found, are_of}
 use Rattle.ft_index.proofs.Writing.{IsWrite}
 
 -- a document that was not there has a new docid

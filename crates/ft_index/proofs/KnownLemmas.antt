@@ -10,7 +10,7 @@ use Rattle.ft_content.specs.Deserved.{TableState, Sound, Stale, Loose, Table, Co
 use Rattle.ft_content.specs.Command.{Create, Optimize, Done}
 use Rattle.ft_content.specs.Step.{after, reply_to, step, step_by}
 use Rattle.ft_index.specs.Kept.{told_table, is_sound}
-use Rattle.ft_index.specs.Found.{info_named, IsUnfit}
+use Rattle.ft_documents.specs.Found.{info_named, IsUnfit}
 
 pub told_named : (contents : Contents) (name : List ℕ) → info_named (map told_table contents) name ≡ option_map told_table (table_named contents name)
 told_named [] name = refl

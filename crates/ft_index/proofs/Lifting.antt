@@ -4,16 +4,17 @@ use Rattle.std.specs.Prelude.{unwrap_or}
 use Rattle.std.specs.List.{AllByRecursion}
 use Rattle.std.specs.Ordering.{int_eq}
 use Rattle.std.specs.Cmp.{int_cmp_total, eq_by_cmp_equiv}
-use Rattle.ft_store.specs.Store.{StoreValue, AreInOrder, Change, AddTable, DropTable, PutCell, DropCells, PutEntries, DropEntries, PutSize, DropSize, ClearIndex, Note, applied, all_applied}
+use Rattle.ft_rows.specs.Store.{StoreValue, AreInOrder, Change, AddTable, DropTable, PutCell, DropCells, PutEntries, DropEntries, PutSize, DropSize, ClearIndex, Note, applied, all_applied}
 use Rattle.ft_content.specs.Content.{Content, Documents, IsContent, content_rows}
 use Rattle.ft_content.specs.Index.{index_rows}
 use Rattle.ft_content.specs.Views.{TableInfo}
 use Rattle.ft_content.specs.Deserved.{Contents}
 use Rattle.ft_content.specs.Step.{with_documents, on_table}
-use Rattle.ft_index.specs.Tables.{table_rows, table_index}
-use Rattle.ft_index.specs.RowLaws.{table_of}
-use Rattle.ft_index.specs.Kept.{AreHeld, StoreHolds, IsOfDocids, Stands}
-use Rattle.ft_index.proofs.ChangeLemmas.{spares_others}
+use Rattle.ft_documents.specs.Tables.{table_rows, table_index}
+use Rattle.ft_documents.specs.RowLaws.{table_of}
+use Rattle.ft_index.specs.Kept.{AreHeld, StoreHolds, Stands}
+use Rattle.ft_documents.specs.Tables.{IsOfDocids}
+use Rattle.ft_documents.proofs.ChangeLemmas.{spares_others}
 use Rattle.ft_index.proofs.OneTable.{SparesAllBut, one_named, ids_sorted, changes_one, AreHeldIn}
 use Rattle.ft_index.proofs.KnownLemmas.{IsSoundTable}
 

@@ -8,7 +8,7 @@ use Rattle.ft_store.specs.Kept.{StoreState, shows, value_in}
 use Rattle.ft_store.specs.Rows.{value_of}
 use Rattle.ft_store.proofs.ChainLemmas.{kept_then}
 use Rattle.ft_content.specs.Content.{Content}
-use Rattle.ft_index.specs.Tables.{table_rows}
+use Rattle.ft_documents.specs.Tables.{table_rows}
 use Rattle.ft_index.specs.DocumentsRead.{HasRows, Looks}
 use Rattle.ft_index.specs.Walked.{IsIndexed}
 use Rattle.ft_index.proofs.ReadsLemmas.{nothing_done}

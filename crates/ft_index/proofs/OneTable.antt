@@ -8,13 +8,13 @@ use Rattle.std.specs.Cmp.{int_cmp_total, eq_by_cmp_equiv, tied_itself}
 use Rattle.std.specs.Cmp.Lexicographic.{nat_list_eq_equiv}
 use Rattle.std.specs.FinMap.Entries.{below_all, is_sorted}
 use Rattle.std.proofs.lemmas.Bool.{and_parts}
-use Rattle.ft_store.specs.Store.{StoreValue}
+use Rattle.ft_rows.specs.Store.{StoreValue}
 use Rattle.ft_content.specs.Content.{same_name, repeats_name}
 use Rattle.ft_content.specs.Deserved.{TableState, Table, Contents, table_named}
 use Rattle.ft_content.specs.Step.{on_table}
-use Rattle.ft_index.specs.Tables.{table_rows, table_index}
+use Rattle.ft_documents.specs.Tables.{table_rows, table_index}
 use Rattle.ft_index.specs.Kept.{Stands, HoldsTable}
-use Rattle.ft_index.proofs.KeyedRows.{below_apart}
+use Rattle.ft_documents.proofs.KeyedRows.{below_apart}
 
 neither : (a b : Bool) → (a || b) ≡ false → (a ≡ false) × (b ≡ false)
 neither true b h = absurd (let no = h in cc)

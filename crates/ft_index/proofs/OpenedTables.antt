@@ -9,8 +9,8 @@ use Rattle.sqlite.specs.Store.{Ghosts}
 use Rattle.ft_store.specs.Rows.{value_of}
 use Rattle.ft_store.specs.Kept.{StoreState, shows, value_in}
 use Rattle.ft_values.specs.declared.rows.TabRow.{TabRow}
-use Rattle.ft_store.specs.Store.{StoreValue}
-use Rattle.ft_store.specs.Shown.{Listed, shown_table, table_listed, AreNamedApart}
+use Rattle.ft_rows.specs.Store.{StoreValue}
+use Rattle.ft_rows.specs.Shown.{Listed, shown_table, table_listed, AreNamedApart}
 use Rattle.ft_content.specs.Content.{repeats_name}
 use Rattle.ft_content.specs.Views.{TableInfo}
 use Rattle.ft_content.specs.Deserved.{Table, Contents}
@@ -19,7 +19,7 @@ use Rattle.ft_index.specs.DocumentsRead.{Looks}
 use Rattle.ft_index.specs.Kept.{AreHeld, StoreHolds, HoldsTable, HoldsSome, told_table}
 use Rattle.ft_index.specs.Opened.{IsListed, IsFound, IsMarked, AreMarked, Opens}
 use Rattle.ft_index.proofs.HeldLemmas.{holds_one_contents}
-use Rattle.ft_index.specs.Tables.{table_rows, table_index}
+use Rattle.ft_documents.specs.Tables.{table_rows, table_index}
 
 -- what is told of each table that is listed
 abbrev pub IsMarkedRow : StoreValue → TabRow → TableInfo → Type 0
@@ -76,7 +76,7 @@ marked_holds store known apart all =
     let f = found store store.tables known all in
     (f.contents, record { named_once = ap repeats_name f.names ∙ same_repeats (map (λ (t : ℤ × List ℕ). t.1) store.tables) ∙ apart; held = f.held; told = f.told })
   where
-    same_repeats : (names : List (List ℕ)) → repeats_name names ≡ Rattle.ft_store.specs.Shown.repeats_name names
+    same_repeats : (names : List (List ℕ)) → repeats_name names ≡ Rattle.ft_rows.specs.Shown.repeats_name names
     same_repeats names = refl
 
 -- ---- a store that is taken

@@ -4,18 +4,19 @@ use Rattle.std.specs.Prelude.{All, Vec}
 use Rattle.std.specs.declared.alloc.Global.{Global}
 use Rattle.sqlite.specs.Store.{Ghosts}
 use Rattle.ft_values.specs.declared.rows.RowChange.{RowChange}
-use Rattle.ft_store.specs.Store.{AreInOrder}
-use Rattle.ft_store.specs.Changes.{shown_change}
+use Rattle.ft_rows.specs.Store.{AreInOrder}
+use Rattle.ft_rows.specs.Changes.{shown_change}
 use Rattle.ft_store.specs.Kept.{StoreState, value_in}
 use Rattle.ft_values.specs.declared.fault.Fault.{Fault}
 use Rattle.ft_content.specs.Content.{Column, Content, Documents}
 use Rattle.ft_content.specs.Command.{Command}
 use Rattle.ft_content.specs.Views.{TableInfo}
 use Rattle.ft_content.specs.Deserved.{Contents}
-use Rattle.ft_index.specs.declared.rewrite.Rewrite as source
-use Rattle.ft_index.specs.Found.{IsSoundNamed, IsUnfit}
-use Rattle.ft_index.specs.Rewrite.{AreRight, HasContent, shown_rewrite, docids_of}
-use Rattle.ft_index.specs.Kept.{IsUp, AreHeld, IsOfDocids, PlansFrom, held_columns}
+use Rattle.ft_documents.specs.declared.rewrite.Rewrite as source
+use Rattle.ft_documents.specs.Found.{IsSoundNamed, IsUnfit}
+use Rattle.ft_documents.specs.Rewrite.{AreRight, HasContent, shown_rewrite, docids_of}
+use Rattle.ft_index.specs.Kept.{IsUp, AreHeld, PlansFrom, held_columns}
+use Rattle.ft_documents.specs.Tables.{IsOfDocids}
 use Rattle.ft_index.specs.Changed.{with_tables}
 use Rattle.ft_index.specs.Written.{HasAll, Writes, PlansIn}
 use Rattle.ft_index.proofs.KnownLemmas.{IsSoundTable}

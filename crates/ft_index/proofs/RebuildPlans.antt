@@ -10,7 +10,7 @@ use Rattle.sqlite.specs.Store.{Ghosts}
 use Rattle.ft_values.specs.declared.rows.CellRow as stored_cell
 use Rattle.ft_values.specs.declared.rows.TabRow.{TabRow}
 use Rattle.ft_store.specs.Rows.{value_of}
-use Rattle.ft_store.specs.Store.{StoreValue, AreInOrder, Change, all_applied}
+use Rattle.ft_rows.specs.Store.{StoreValue, AreInOrder, Change, all_applied}
 use Rattle.ft_store.specs.Kept.{StoreState, shows, value_in}
 use Rattle.ft_values.specs.declared.fault.Fault.{Fault}
 use Rattle.ft_values.specs.declared.fault.Fault.TheVariants as faults
@@ -24,11 +24,12 @@ use Rattle.ft_content.proofs.RowLemmas.{contents_are_one, rows_are_read}
 use Rattle.ft_index.specs.declared.rebuild.TableContent.{TableContent}
 use Rattle.ft_index.specs.Changed.{Changed, with_tables}
 use Rattle.ft_index.specs.DocumentsRead.{Looks}
-use Rattle.ft_index.specs.Found.{info_named}
+use Rattle.ft_documents.specs.Found.{info_named}
 use Rattle.ft_index.specs.Kept.{IsUp, AreHeld, StoreHolds, Stands, Executes, Answers, PlansFrom, is_outside, told_table}
-use Rattle.ft_index.specs.Rebuild.{shown_document, MakesIndex, LeavesOthers, LeavesNames, HoldsContent, HoldsIfAny, with_sound}
-use Rattle.ft_index.specs.Standing.{AreContent, shown_row, listed_rows, columns_in}
-use Rattle.ft_index.specs.Tables.{table_rows, table_index}
+use Rattle.ft_documents.specs.Rebuild.{shown_document, MakesIndex, LeavesOthers, LeavesNames, with_sound}
+use Rattle.ft_index.specs.Rebuild.{HoldsContent, HoldsIfAny}
+use Rattle.ft_documents.specs.Standing.{AreContent, shown_row, listed_rows, columns_in}
+use Rattle.ft_documents.specs.Tables.{table_rows, table_index}
 use Rattle.ft_index.proofs.CheckLemmas.{IsTold, executes_read}
 use Rattle.ft_index.proofs.CreateLemmas.{refused_answers}
 use Rattle.ft_index.proofs.Executing.{done_answers, executes_refused}

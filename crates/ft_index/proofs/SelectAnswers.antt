@@ -4,7 +4,7 @@ use Rattle.std.specs.List.{list_any, flat_map}
 use Rattle.sqlite.specs.Effect.{Database}
 use Rattle.sqlite.specs.Store.{Ghosts}
 use Rattle.ft_query.specs.Trees.{Tree}
-use Rattle.ft_store.specs.Store.{StoreValue, AreInOrder}
+use Rattle.ft_rows.specs.Store.{StoreValue, AreInOrder}
 use Rattle.ft_store.specs.Rows.{value_of as value_of_trees}
 use Rattle.ft_store.specs.Kept.{StoreState, value_in, more_rows}
 use Rattle.ft_values.specs.declared.fault.Fault.{Fault}
@@ -17,18 +17,18 @@ use Rattle.ft_content.specs.Step.{answer_of_held, answer_of_found, after, reply_
 use Rattle.ft_content.specs.Views.{TableInfo}
 use Rattle.ft_query.specs.Reads.{query_of}
 use Rattle.ft_content.specs.Index.{index_rows}
-use Rattle.ft_index.specs.Tables.{table_rows, table_index}
-use Rattle.ft_index.specs.Found.{info_named, IsUnfit}
+use Rattle.ft_documents.specs.Tables.{table_rows, table_index}
+use Rattle.ft_documents.specs.Found.{info_named, IsUnfit}
 use Rattle.ft_index.specs.Kept.{FullText, IsUp, AreHeld, Executes, OnlyLooks, Answers, is_outside, held_columns}
 use Rattle.ft_index.specs.Changed.{with_tables}
 use Rattle.ft_index.specs.DocumentsRead.{Looks}
-use Rattle.ft_index.specs.Chosen.{ReadsAs}
+use Rattle.ft_documents.specs.Chosen.{ReadsAs}
 use Rattle.ft_index.specs.Selected.{IsAsked}
 use Rattle.ft_index.specs.RowsRead.{rows_asked, CountsHeld, CountsFound, CountsRows, CountsCommand}
 use Rattle.ft_index.proofs.KnownLemmas.{IsSoundTable, sound_table, sound_is, unfit_is}
 use Rattle.ft_index.proofs.CreateLemmas.{refused_answers}
 use Rattle.ft_index.proofs.InsertHolds.{sound_rows}
-use Rattle.ft_index.proofs.BareLemmas.{bare}
+use Rattle.ft_documents.proofs.AddLemmas.{bare}
 
 -- ---- only the columns of a content matter before it is read
 

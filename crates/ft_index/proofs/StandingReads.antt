@@ -18,8 +18,8 @@ use Rattle.ft_values.specs.declared.rows.SizeRow as stored_size
 use Rattle.ft_values.specs.declared.rows.EntryRow as stored_entry
 use Rattle.ft_values.specs.declared.rows.TabRow.{TabRow}
 use Rattle.ft_values.specs.Cells.{Cell}
-use Rattle.ft_store.specs.Store.{StoreValue, AreInOrder, CellKey, ListKey, cell_key_cmp, list_key_cmp}
-use Rattle.ft_store.specs.Shown as shown
+use Rattle.ft_rows.specs.Store.{StoreValue, AreInOrder, CellKey, ListKey, cell_key_cmp, list_key_cmp}
+use Rattle.ft_rows.specs.Shown as shown
 use Rattle.ft_content.specs.Content.{Column, Content, IsContent, TableRows, content_rows, content_in}
 use Rattle.ft_content.specs.Index.{EntryRow, entry_rows, Key, StoredSpot, SizeRow, IndexRows, index_rows}
 use Rattle.ft_content.specs.Views.{TableInfo}
@@ -29,13 +29,13 @@ use Rattle.ft_index.specs.declared.standing.Standing.TheVariants as standings
 use Rattle.ft_index.specs.declared.standing.Standing.{Standing}
 use Rattle.ft_index.specs.Kept.{Stands, held_columns, is_sound}
 use Rattle.ft_index.specs.Opened.{standing_of, StandsSo, IsListed, IsMarked}
-use Rattle.ft_index.specs.RewriteRows.{sized}
-use Rattle.ft_index.specs.Standing.{shown_size, shown_entry, shown_row, listed_rows, columns_in, list_rows, AreOfRows, AreContent, HaveContent}
-use Rattle.ft_index.specs.Tables.{table_rows, table_index}
-use Rattle.ft_index.proofs.OwnRows.{sorted_own}
-use Rattle.ft_index.proofs.StoreKeys.{list_keys}
-use Rattle.ft_index.proofs.StandingBack.{made_whole}
-use Rattle.ft_index.proofs.StandingContent.{some_columns, parts_of}
+use Rattle.ft_documents.specs.RewriteRows.{sized}
+use Rattle.ft_documents.specs.Standing.{shown_size, shown_entry, shown_row, listed_rows, columns_in, list_rows, AreOfRows, AreContent, HaveContent}
+use Rattle.ft_documents.specs.Tables.{table_rows, table_index}
+use Rattle.ft_documents.proofs.OwnRows.{sorted_own}
+use Rattle.ft_documents.proofs.StoreKeys.{list_keys}
+use Rattle.ft_documents.proofs.StandingBack.{made_whole}
+use Rattle.ft_documents.proofs.StandingContent.{some_columns, parts_of}
 
 abbrev lists_asked : ℤ → StoreValue → List (ListKey × List StoredSpot)
 lists_asked tab store = where_key list_key_cmp (λ k. int_eq tab k.0) store.lists

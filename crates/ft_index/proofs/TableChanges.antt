@@ -10,17 +10,17 @@ use Rattle.std.specs.FinMap.Entries.{put, by_order, where_key, below_all, is_sor
 use Rattle.std.proofs.lemmas.Int.{ints}
 use Rattle.std.proofs.lemmas.Bool.{and_parts, and_from}
 use Rattle.std.proofs.lemmas.Map.Lookups.{exact_signed}
-use Rattle.ft_store.specs.Store.{StoreValue, AreInOrder, AddTable, DropTable, applied}
+use Rattle.ft_rows.specs.Store.{StoreValue, AreInOrder, AddTable, DropTable, applied}
 use Rattle.ft_content.specs.Content.{Column, IsContent, same_name, names_of, skipped_from}
 use Rattle.ft_content.specs.Deserved.{Sound, Table, Contents}
 use Rattle.ft_content.specs.Step.{dropped, free_id_from}
-use Rattle.ft_index.specs.Tables.{table_rows, table_index}
+use Rattle.ft_documents.specs.Tables.{table_rows, table_index}
 use Rattle.ft_index.specs.Kept.{HoldsTable, StoreHolds}
-use Rattle.ft_index.proofs.AddLemmas.{added_rows, added_index}
-use Rattle.ft_index.proofs.BareLemmas.{bare}
+use Rattle.ft_documents.proofs.AddLemmas.{added_rows, added_index}
+use Rattle.ft_documents.proofs.AddLemmas.{bare}
 use Rattle.ft_index.proofs.OneTable.{IsOne, AreHeldIn, SparesAllBut, spared}
-use Rattle.ft_index.proofs.ChangeLemmas.{spares_others}
-use Rattle.ft_index.proofs.KeyedRows.{less}
+use Rattle.ft_documents.proofs.ChangeLemmas.{spares_others}
+use Rattle.ft_documents.proofs.KeyedRows.{less}
 
 -- ---- a table goes
 

@@ -3,14 +3,14 @@ use Rattle.std.proofs.Common.{Ok, ◌≡◌, ℕ, Bool, true, false, cond, not, 
 use Rattle.std.specs.Prelude.{is_none}
 use Rattle.std.specs.List.{AllByRecursion}
 use Rattle.std.specs.Ordering.{int_eq}
-use Rattle.ft_store.specs.Store.{StoreValue, AreInOrder, DropTable, applied}
+use Rattle.ft_rows.specs.Store.{StoreValue, AreInOrder, DropTable, applied}
 use Rattle.ft_values.specs.declared.fault.Fault.TheVariants as faults
 use Rattle.ft_content.specs.Content.{same_name}
 use Rattle.ft_content.specs.Command.{Drop, Done}
 use Rattle.ft_content.specs.Views.{TableInfo}
 use Rattle.ft_content.specs.Deserved.{Table, Contents, table_named, first_of, deserved}
 use Rattle.ft_content.specs.Step.{dropped, after, reply_to}
-use Rattle.ft_index.specs.Found.{info_named, without_told}
+use Rattle.ft_documents.specs.Found.{info_named, without_told}
 use Rattle.ft_index.specs.Kept.{AreHeld, StoreHolds, PlansFrom, told_table}
 use Rattle.ft_index.proofs.OneTable.{IsOne, one_named, ids_sorted}
 use Rattle.ft_index.proofs.TableChanges.{drop_spares, drops_one}

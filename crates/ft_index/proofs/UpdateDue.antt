@@ -13,9 +13,9 @@ use Rattle.ft_content.specs.Views.{bare_content, column_of}
 use Rattle.ft_content.specs.Deserved.{Contents, first_of, or_else, on_sound, has_column, is_text, is_null, docids_in, names_unknown, query_fault, moves_fault, update_tests, update_fault, deserved}
 use Rattle.ft_content.specs.Step.{updated, with_documents, on_table, after, touched, reply_to}
 use Rattle.ft_content.proofs.ContentLemmas.{update_keeps_content}
-use Rattle.ft_index.specs.Updated.{update_touches}
-use Rattle.ft_index.proofs.BareLemmas.{unknown_bare, fault_bare}
-use Rattle.ft_index.proofs.FaultLemmas.{memory_or}
+use Rattle.ft_documents.specs.Updated.{update_touches}
+use Rattle.ft_documents.proofs.BareLemmas.{unknown_bare, fault_bare}
+use Rattle.ft_documents.proofs.FaultLemmas.{memory_or}
 use Rattle.ft_index.proofs.Writing.{IsWrite}
 
 module _ (sets : List (List ℕ × Cell)) (f : Filter) where

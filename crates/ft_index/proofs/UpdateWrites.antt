@@ -20,17 +20,17 @@ use Rattle.ft_content.specs.Command.{Filter}
 use Rattle.ft_content.specs.Answer.{is_chosen, chosen}
 use Rattle.ft_content.specs.Deserved.{docids_in, with_values, has_docid, moves_fault}
 use Rattle.ft_content.specs.Step.{docids_of, docid_if_any, without_docid, moved, updated}
-use Rattle.ft_index.specs.declared.document.Document.{Document}
-use Rattle.ft_index.specs.DocumentsRead.{shown_document}
-use Rattle.ft_index.specs.Rewrite.{Rewrite, by_docid, rewritten}
-use Rattle.ft_index.specs.Updated.{changing, leaving, coming, moved_from, MayMove, update_touches}
+use Rattle.ft_documents.specs.declared.document.Document.{Document}
+use Rattle.ft_documents.specs.Gathered.{shown_document}
+use Rattle.ft_documents.specs.Rewrite.{Rewrite, by_docid, rewritten}
+use Rattle.ft_documents.specs.Updated.{changing, leaving, coming, moved_from, MayMove, update_touches}
 use Rattle.ft_index.specs.Written.{LeadsTo}
-use Rattle.ft_index.proofs.KeyedRows.{tie, of_true, true_of}
-use Rattle.ft_index.proofs.AddLemmas.{own_put}
-use Rattle.ft_index.proofs.FoundLemmas.{not_some}
-use Rattle.ft_index.proofs.ChosenLemmas.{all_found}
+use Rattle.ft_documents.proofs.KeyedRows.{tie, of_true, true_of}
+use Rattle.ft_documents.proofs.AddLemmas.{own_put}
+use Rattle.ft_documents.proofs.FoundLemmas.{not_some}
+use Rattle.ft_documents.proofs.ChosenLemmas.{all_found}
 use Rattle.ft_index.proofs.ChosenWrites.{each_rewritten, befores, all_rewritten, chosen_lead, own_docids}
-use Rattle.ft_index.proofs.InsertOf.{are_of}
+use Rattle.ft_documents.proofs.InsertOf.{are_of}
 
 -- the docids of documents as they are read
 pub docids_shown : (documents : List Document) → docids_of (map shown_document documents) ≡ map (λ (d : Document). d.docid) documents

@@ -14,19 +14,19 @@ use Rattle.ft_query.specs.Documents.{AreDocuments, PlaceList, lists_with}
 use Rattle.ft_query.proofs.Bridge.{postings_rise}
 use Rattle.ft_query.proofs.BridgeDocuments.{documents_are}
 use Rattle.ft_values.specs.declared.rows.ListRow.{ListRow}
-use Rattle.ft_store.specs.Store.{StoreValue, ListKey, list_key_cmp, name_cmp}
+use Rattle.ft_rows.specs.Store.{StoreValue, ListKey, list_key_cmp, name_cmp}
 use Rattle.ft_store.specs.Rows.{value_of}
-use Rattle.ft_store.specs.Shown.{shown_list, bare_list}
+use Rattle.ft_rows.specs.Shown.{shown_list, bare_list}
 use Rattle.ft_store.specs.Calls.{Keeps}
 use Rattle.ft_store.specs.Kept.{StoreState, shows, value_in}
 use Rattle.ft_content.specs.Content.{Content, IsContent}
 use Rattle.ft_content.specs.Index.{IndexRows, index_rows}
 use Rattle.ft_content.specs.Meaning.{content_documents, documents_in, entries_in, lists_of_terms, ListsMeanDocuments, TermsAreTheirLists, DocumentsAreInOrder}
 use Rattle.ft_content.proofs.MeaningLemmas.{lists_mean_documents, terms_are_their_lists, terms_are_counted, documents_are_in_order}
-use Rattle.ft_index.specs.Placed.{list_of, all_in, AreListsOf}
-use Rattle.ft_index.specs.Tables.{table_index}
+use Rattle.ft_documents.specs.Placed.{list_of, all_in, AreListsOf}
+use Rattle.ft_documents.specs.Tables.{table_index}
 use Rattle.ft_index.specs.Walked.{table_documents, AreReliable, IsIndexed}
-use Rattle.ft_index.proofs.AskedLemmas.{read_list, bare, asked_entries, rows_answer}
+use Rattle.ft_documents.proofs.AskedLemmas.{read_list, bare, asked_entries, rows_answer}
 
 means : ListsMeanDocuments
 means = lists_mean_documents postings_rise

@@ -3,7 +3,7 @@ use Rattle.std.proofs.Common.{◌≡◌, ℕ, List, ℤ, sym, ap, ◌∙◌}
 use Rattle.sqlite.specs.Store.{Ghosts}
 use Rattle.ft_store.specs.Kept.{StoreState, value_in}
 use Rattle.ft_content.specs.Content.{Column, Content}
-use Rattle.ft_index.specs.Tables.{table_rows, table_index}
+use Rattle.ft_documents.specs.Tables.{table_rows, table_index}
 use Rattle.ft_index.specs.DocumentsRead.{HasRows}
 use Rattle.ft_index.specs.Walked.{IsIndexed}
 use Rattle.ft_index.specs.Written.{HasAll}

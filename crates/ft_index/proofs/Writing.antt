@@ -5,8 +5,8 @@ use Rattle.std.specs.declared.alloc.Global.{Global}
 use Rattle.std.specs.List.{AllByRecursion}
 use Rattle.std.proofs.lemmas.List.Elements.{recursion_from_All, All-from_recursion}
 use Rattle.ft_values.specs.declared.rows.RowChange.{RowChange}
-use Rattle.ft_store.specs.Store.{StoreValue, AreInOrder, Change, AddTable, DropTable, PutCell, DropCells, PutEntries, DropEntries, PutSize, DropSize, ClearIndex, Note, all_applied}
-use Rattle.ft_store.specs.Changes.{shown_change}
+use Rattle.ft_rows.specs.Store.{StoreValue, AreInOrder, Change, AddTable, DropTable, PutCell, DropCells, PutEntries, DropEntries, PutSize, DropSize, ClearIndex, Note, all_applied}
+use Rattle.ft_rows.specs.Changes.{shown_change}
 use Rattle.ft_values.specs.declared.fault.Fault.{Fault}
 use Rattle.ft_values.specs.declared.fault.Fault.TheVariants as faults
 use Rattle.ft_content.specs.Content.{Content, Documents, IsContent, content_rows}
@@ -15,9 +15,10 @@ use Rattle.ft_content.specs.Command.{Command, Done}
 use Rattle.ft_content.specs.Views.{TableInfo}
 use Rattle.ft_content.specs.Deserved.{Table, Contents, table_named, on_sound, deserved}
 use Rattle.ft_content.specs.Step.{with_documents, on_table, after, reply_to, touched, touched_of, touched_found, touched_held}
-use Rattle.ft_index.specs.Found.{info_named, IsUnfit}
-use Rattle.ft_index.specs.Rewrite.{Rewrite, AreRight, docids_of, rewritten, rewritten_content}
-use Rattle.ft_index.specs.Kept.{AreHeld, StoreHolds, IsOfDocids, AreOfFound, StaysNear, PlansFrom, told_table, is_outside}
+use Rattle.ft_documents.specs.Found.{info_named, IsUnfit}
+use Rattle.ft_documents.specs.Rewrite.{Rewrite, AreRight, docids_of, rewritten, rewritten_content}
+use Rattle.ft_index.specs.Kept.{AreHeld, StoreHolds, AreOfFound, StaysNear, PlansFrom, told_table, is_outside}
+use Rattle.ft_documents.specs.Tables.{IsOfDocids}
 use Rattle.ft_index.specs.Written.{LeadsTo}
 use Rattle.ft_index.proofs.KnownLemmas.{IsSoundTable, sound_table, sound_is, unfit_is}
 use Rattle.ft_index.proofs.InsertHolds.{sound_rows}

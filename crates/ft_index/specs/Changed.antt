@@ -1,7 +1,7 @@
 -- Steps. What a change of rows leaves of a store.
 use Rattle.std.specs.Prelude.{◌≡◌, Bool, if◌then◌else◌, List}
 use Rattle.sqlite.specs.Store.{Ghosts}
-use Rattle.ft_store.specs.Store.{Change, all_applied}
+use Rattle.ft_rows.specs.Store.{Change, all_applied}
 use Rattle.ft_store.specs.Kept.{StoreState, value_in}
 use Rattle.ft_content.specs.Views.{TableInfo}
 use Rattle.ft_index.specs.Kept.{FullText, IsUp}

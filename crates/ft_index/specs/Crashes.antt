@@ -4,7 +4,7 @@ use Rattle.sqlite.specs.Tree.{Trees}
 use Rattle.sqlite.specs.State.{Survives}
 use Rattle.sqlite.specs.Store.{Ghosts}
 use Rattle.ft_store.specs.Calls.{IsStored}
-use Rattle.ft_store.specs.Store.{StoreValue, Note, applied}
+use Rattle.ft_rows.specs.Store.{StoreValue, Note, applied}
 use Rattle.ft_store.specs.Kept.{shows}
 use Rattle.ft_content.specs.Command.{Command}
 use Rattle.ft_content.specs.Deserved.{Contents}

@@ -1,11 +1,11 @@
 -- Meaning. What stays true of full-text tables, whatever is called.
-use Rattle.std.specs.Prelude.{◌≡◌, ◌≢◌, ◌⊎◌, ℕ, Bool, true, false, if◌then◌else◌, List, [], ◌∷◌, map, Option, Some, None, Result, Ok, Err, ℤ, IsTrue, is_ok, All, Contains, refl}
+use Rattle.std.specs.Prelude.{◌≡◌, ◌≢◌, ◌⊎◌, ℕ, Bool, true, false, if◌then◌else◌, List, [], ◌∷◌, map, Option, Some, None, Result, Ok, Err, ℤ, IsTrue, is_ok, All, refl}
 use Rattle.std.specs.List.{AllZip, list_any}
 use Rattle.std.specs.Ordering.{int_eq}
 use Rattle.std.specs.Coded.{Coded, code_by, coded×, coded_ℤ, coded_ℕ, coded_bool, coded_list}
 use Rattle.sqlite.specs.State.{HasCleanDisk, Survives}
 use Rattle.sqlite.specs.Store.{Ghosts}
-use Rattle.ft_store.specs.Store.{StoreValue, Change, AddTable, DropTable, PutCell, DropCells, PutEntries, DropEntries, PutSize, DropSize, ClearIndex, Note, applied, all_applied}
+use Rattle.ft_rows.specs.Store.{StoreValue, Change, Note, applied, all_applied}
 use Rattle.ft_store.specs.Kept.{StoreState, store_code, shows, value_in}
 use Rattle.ft_values.specs.declared.fault.Fault.{Fault}
 use Rattle.ft_values.specs.declared.fault.Fault.TheVariants as faults
@@ -15,7 +15,7 @@ use Rattle.ft_content.specs.Command.{Command, Create, Drop, Insert, Update, Dele
 use Rattle.ft_content.specs.Views.{TableInfo}
 use Rattle.ft_content.specs.Deserved.{TableState, Sound, Stale, Loose, Table, Contents, table_named, deserved}
 use Rattle.ft_content.specs.Step.{step, after, touched}
-use Rattle.ft_index.specs.Tables.{table_rows, table_index}
+use Rattle.ft_documents.specs.Tables.{table_rows, table_index, IsOfDocids}
 
 -- a `FullText` as callers see it: its store, and the tables by rising id
 pub record FullText (S : Type 0) : Type 0 where
@@ -113,19 +113,6 @@ pub record Executes {S : Type 0} (g : Ghosts S) (old : FullText S) (command : Co
   pub noted : IsUp g new → (first : Contents) → Holds g old first → (value_of g new).noted ≡ (value_of g old).noted
   -- what is refused changes nothing
   pub unchanged : is_ok answer ≡ false → IsUp g new → (value_of g new ≡ value_of g old) × (new.tables ≡ old.tables)
-
--- A change names rows of one table and of these documents alone: no change of whole tables.
-abbrev pub IsOfDocids : ℤ → List ℤ → Change → Type 0
-IsOfDocids id docids (AddTable tab name columns skipped) = ⊥
-IsOfDocids id docids (DropTable tab) = ⊥
-IsOfDocids id docids (PutCell tab docid column value) = (tab ≡ id) × Contains docids docid
-IsOfDocids id docids (DropCells tab docid) = (tab ≡ id) × Contains docids docid
-IsOfDocids id docids (PutEntries tab term docid spots) = (tab ≡ id) × Contains docids docid
-IsOfDocids id docids (DropEntries tab term docid) = (tab ≡ id) × Contains docids docid
-IsOfDocids id docids (PutSize tab docid column n) = (tab ≡ id) × Contains docids docid
-IsOfDocids id docids (DropSize tab docid column) = (tab ≡ id) × Contains docids docid
-IsOfDocids id docids (ClearIndex tab) = ⊥
-IsOfDocids id docids (Note name) = ⊥
 
 abbrev pub AreOfFound : Option (ℤ × Table) → List ℤ → List Change → Type 0
 AreOfFound None docids changes = changes ≡ []

@@ -6,8 +6,8 @@ use Rattle.sqlite.specs.State.{HasCleanDisk}
 use Rattle.sqlite.specs.Store.{Ghosts}
 use Rattle.ft_values.specs.declared.rows.TabRow.{TabRow}
 use Rattle.ft_store.specs.Kept.{StoreState, shows, value_in}
-use Rattle.ft_store.specs.Store.{StoreValue}
-use Rattle.ft_store.specs.Shown.{shown_table, table_listed}
+use Rattle.ft_rows.specs.Store.{StoreValue}
+use Rattle.ft_rows.specs.Shown.{shown_table, table_listed}
 use Rattle.ft_content.specs.Content.{TableRows}
 use Rattle.ft_content.specs.Index.{IndexRows}
 use Rattle.ft_content.specs.Views.{TableInfo}
@@ -16,7 +16,7 @@ use Rattle.ft_index.specs.declared.standing.Standing.{Standing}
 use Rattle.ft_index.specs.declared.standing.Standing.TheVariants as standings
 use Rattle.ft_index.specs.DocumentsRead.{Looks}
 use Rattle.ft_index.specs.Kept.{FullText, IsUp, Stands, StoreHolds, Holds, told_table}
-use Rattle.ft_index.specs.Tables.{table_rows, table_index}
+use Rattle.ft_documents.specs.Tables.{table_rows, table_index}
 
 abbrev pub standing_of : TableState → Standing
 standing_of (Sound content) = standings.Sound

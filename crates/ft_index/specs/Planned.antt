@@ -2,9 +2,9 @@
 use Rattle.std.specs.Prelude.{◌≡◌, ◌⊎◌, ℕ, Bool, List, map, Option, Some, None, Result, Ok, Err, pos, is_some, string_bytes, Vec, IsTrue}
 use Rattle.std.specs.declared.alloc.Global.{Global}
 use Rattle.ft_values.specs.declared.rows.RowChange.{RowChange}
-use Rattle.ft_store.specs.Store.{StoreValue, AreInOrder, Change, AddTable}
+use Rattle.ft_rows.specs.Store.{StoreValue, AreInOrder, Change, AddTable}
 use Rattle.ft_content.specs.Content.{names_of, skipped_from}
-use Rattle.ft_store.specs.Changes.{shown_change}
+use Rattle.ft_rows.specs.Changes.{shown_change}
 use Rattle.ft_values.specs.declared.fault.Fault.{Fault}
 use Rattle.ft_values.specs.declared.fault.Fault.TheVariants as faults
 use Rattle.ft_values.specs.declared.table.TableInfo.{TableInfo}

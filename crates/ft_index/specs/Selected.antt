@@ -13,7 +13,7 @@ use Rattle.ft_content.specs.Answer.{cells_with}
 use Rattle.ft_content.specs.Deserved.{is_match, is_offsets, items_in}
 use Rattle.ft_index.specs.DocumentsRead.{HasRows}
 use Rattle.ft_index.specs.Walked.{IsIndexed}
-use Rattle.ft_index.specs.Chosen.{ReadsAs}
+use Rattle.ft_documents.specs.Chosen.{ReadsAs}
 
 -- the row of a hit, where these are the cells of documents
 abbrev pub hit_cells : List Column → List Item → (ℤ → List Cell) → Hit → List Cell

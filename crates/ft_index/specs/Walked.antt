@@ -8,7 +8,7 @@ use Rattle.ft_store.specs.Kept.{StoreState, shows, value_in, more_rows}
 use Rattle.ft_content.specs.Content.{Content, IsContent}
 use Rattle.ft_content.specs.Index.{index_rows}
 use Rattle.ft_content.specs.Meaning.{documents_in}
-use Rattle.ft_index.specs.Tables.{table_index}
+use Rattle.ft_documents.specs.Tables.{table_index}
 
 -- the documents that a table's lists mean
 unfoldable pub table_documents : {S : Type 0} → Ghosts S → ℤ → StoreState S → List Document

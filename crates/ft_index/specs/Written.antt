@@ -12,8 +12,8 @@ use Rattle.ft_content.specs.Content.{Column, Documents, Content}
 use Rattle.ft_content.specs.Command.{Command}
 use Rattle.ft_content.specs.Views.{TableInfo}
 use Rattle.ft_content.specs.Deserved.{Contents}
-use Rattle.ft_index.specs.declared.rewrite.Rewrite as source
-use Rattle.ft_index.specs.Rewrite.{Rewrite, AreOf, HasContent, shown_rewrite, rewritten}
+use Rattle.ft_documents.specs.declared.rewrite.Rewrite as source
+use Rattle.ft_documents.specs.Rewrite.{Rewrite, AreOf, HasContent, shown_rewrite, rewritten}
 use Rattle.ft_index.specs.Kept.{IsUp, AreHeld, PlansFrom}
 use Rattle.ft_index.specs.Planned.{changes_of}
 use Rattle.ft_index.specs.Changed.{with_tables}

@@ -1,10 +1,10 @@
 // Row changes of a store.
 ghost use Rattle.std.specs.Prelude.{◌≡◌, ◌⊎◌, map, is_ok, IfErr, true, OnOk, IsTrue};
 ghost use Rattle.sqlite.specs.State.{Survives, HasCleanDisk};
-ghost use Rattle.ft_store.specs.Changes.{shown_change};
+ghost use Rattle.ft_rows.specs.Changes.{shown_change};
 ghost use Rattle.ft_store.specs.Calls.{IsStored};
 ghost use Rattle.ft_store.specs.Kept.{shows, value_in};
-ghost use Rattle.ft_store.specs.Store.{all_applied};
+ghost use Rattle.ft_rows.specs.Store.{all_applied};
 ghost use Rattle.ft_values.specs.declared.fault.Fault.TheVariants as faults;
 ghost use Rattle.ft_index.specs.Changed.{Changed};
 

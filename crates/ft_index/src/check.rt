@@ -11,7 +11,7 @@ ghost use Rattle.ft_index.specs.Changed.{with_tables};
 ghost use Rattle.ft_index.specs.DocumentsRead.{Looks};
 ghost use Rattle.ft_index.specs.Kept.{Stands, StoreHolds, AreSound, Executes, is_sound};
 ghost use Rattle.ft_index.specs.Opened.{IsNamed};
-ghost use Rattle.ft_index.specs.Tables.{table_rows, table_index};
+ghost use Rattle.ft_documents.specs.Tables.{table_rows, table_index};
 
 use crate::open::opened_tables;
 use crate::standing::{listed_table, read_standing};

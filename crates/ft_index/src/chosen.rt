@@ -10,14 +10,15 @@ ghost use Rattle.ft_content.specs.Content.{Content};
 ghost use Rattle.ft_content.specs.Command.{Docid};
 ghost use Rattle.ft_content.specs.Answer.{chosen};
 ghost use Rattle.ft_content.specs.Views.{cells_of, filter_of};
-ghost use Rattle.ft_index.specs.DocumentsRead.{HasRows, Looks, shown_document};
+ghost use Rattle.ft_index.specs.DocumentsRead.{HasRows, Looks};
+ghost use Rattle.ft_documents.specs.Gathered.{shown_document};
 ghost use Rattle.ft_index.specs.Walked.{IsIndexed};
-ghost use Rattle.ft_index.specs.Chosen.{ReadsAs, document_at};
+ghost use Rattle.ft_documents.specs.Chosen.{ReadsAs, document_at};
 
-use crate::document::Document;
 use crate::documents::{all_documents, document};
 use crate::matching::matched;
 use ft_content::{Fault, Filter, Value};
+use ft_documents::Document;
 use ft_query::{Hit, Query};
 use ft_store::Store;
 use sqlite::Alter;

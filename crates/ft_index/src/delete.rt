@@ -1,5 +1,5 @@
 //! Documents that a Delete removes.
-ghost use Rattle.std.specs.Prelude.{◌≡◌, map, string_bytes, IfOk, OnOk, IsTrue};
+ghost use Rattle.std.specs.Prelude.{map, string_bytes, OnOk, IsTrue};
 ghost use Rattle.sqlite.specs.State.{HasCleanDisk};
 ghost use Rattle.ft_store.specs.Kept.{shows};
 ghost use Rattle.ft_content.specs.Command as plain;
@@ -11,17 +11,13 @@ ghost use Rattle.ft_content.specs.Views.{column_of, filter_of, shown_info, answe
 ghost use Rattle.ft_index.specs.Kept.{Executes};
 ghost use Rattle.ft_index.specs.Changed.{with_tables};
 ghost use Rattle.ft_index.specs.Crashes.{CommandSurvives};
-ghost use Rattle.ft_index.specs.DocumentsRead.{Looks, shown_document};
-ghost use Rattle.ft_index.specs.Rewrite.{shown_rewrite, removal};
+ghost use Rattle.ft_index.specs.DocumentsRead.{Looks};
 ghost use Rattle.ft_index.specs.Written.{HasAll, Writes, PlansIn};
 
 use crate::change::change_rows;
 use crate::chosen::chosen_documents;
-use crate::document::Document;
-use crate::names::sound_table;
-use crate::query::filter_query;
-use crate::rewrite::{Rewrite, row_changes};
 use ft_content::{Fault, Filter, Reply, TableInfo, delete_tests};
+use ft_documents::{Document, Rewrite, filter_query, removals, row_changes, sound_table};
 use ft_store::{RowChange, Store};
 use sqlite::Alter;
 use std::alloc::{AllocError, Global};
@@ -100,22 +96,5 @@ fn written_by_delete<S: Alter>(
     let query = filter_query(alloc, known.columns.as_slice(), filter)?;
     let documents = chosen_documents(alloc, store, known.id, filter, query.as_ref())?;
     let rewrites = removals(alloc, documents)?;
-    Ok(rewrites)
-}
-
-// The rewrites that remove documents.
-fn removals(alloc: Global, documents: Vec<Document>) -> Result<Vec<Rewrite>, AllocError>
-    ensures { IfOk result (λ rewrites. map shown_rewrite rewrites.items
-        ≡ map removal (map shown_document documents.items)) }
-{
-    let mut rewrites = Vec::new(alloc);
-    for document in documents {
-        let Document { docid, cells } = document;
-        rewrites.push(Rewrite {
-            docid,
-            before: Some(cells),
-            after: None,
-        })?;
-    }
     Ok(rewrites)
 }

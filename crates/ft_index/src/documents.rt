@@ -11,10 +11,11 @@ ghost use Rattle.ft_values.specs.declared.fault.Fault.TheVariants as faults;
 ghost use Rattle.ft_content.specs.Content as content;
 ghost use Rattle.ft_content.specs.Content.{Content};
 ghost use Rattle.ft_content.specs.Views as views;
-ghost use Rattle.ft_index.specs.DocumentsRead.{HasRows, shown_document, shown_row, with_last, has_given};
+ghost use Rattle.ft_index.specs.DocumentsRead.{HasRows};
+ghost use Rattle.ft_documents.specs.Gathered.{shown_document, has_given};
 
-use crate::document::Document;
 use ft_content::{Fault, Value};
+use ft_documents::{Document, gathered};
 use ft_store::{CellRow, Store};
 use sqlite::Alter;
 use std::alloc::{AllocError, Global};
@@ -112,37 +113,6 @@ pub(crate) fn has_document<S: Alter>(
         }
         None => Ok(false),
     }
-}
-
-/// The documents that rows of cells are of.
-pub(crate) fn gathered(alloc: Global, rows: Vec<CellRow>) -> Result<Vec<Document>, AllocError>
-    ensures { IfOk result (λ documents. map shown_document documents.items
-        ≡ content.gathered (map shown_row rows.items)) }
-{
-    let mut documents = Vec::new(alloc);
-    for row in rows {
-        push_cell(alloc, &mut documents, row)?;
-    }
-    Ok(documents)
-}
-
-// Adds a cell to the last document, or a document with this cell.
-fn push_cell(alloc: Global, documents: &mut Vec<Document>, row: CellRow) -> Result<(), AllocError>
-    ensures { OnOk result (map shown_document documents.new.items
-        ≡ with_last (shown_row row) (map shown_document documents.old.items)) }
-{
-    let CellRow { docid, value, .. } = row;
-    let mut cells = Vec::new(alloc);
-    if let Some(last) = documents.pop() {
-        if last.docid == docid {
-            cells = last.cells;
-        } else {
-            documents.push(last)?;
-        }
-    }
-    cells.push(value)?;
-    documents.push(Document { docid, cells })?;
-    Ok(())
 }
 
 // The values of cells.

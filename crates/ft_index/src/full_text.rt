@@ -49,7 +49,7 @@ impl<S: Alter> FullText<S> {
     ghost use Rattle.ft_store.specs.Calls.{IsPlainFault};
     ghost use Rattle.ft_store.specs.Kept.{shows, value_in};
     ghost use Rattle.sqlite.specs.State.{HasCleanDisk};
-    ghost use Rattle.ft_store.specs.Store.{Note, applied, nothing_held};
+    ghost use Rattle.ft_rows.specs.Store.{Note, applied, nothing_held};
     ghost use Rattle.ft_values.specs.declared.fault.Fault.TheVariants as faults;
     ghost use Rattle.ft_content.specs.Deserved.{Contents};
     ghost use Rattle.ft_content.specs.Views.{shown_info, command_of, answer_of};

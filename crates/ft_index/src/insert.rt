@@ -4,9 +4,7 @@ ghost use Rattle.ft_content.specs.Content as content;
 ghost use Rattle.sqlite.specs.State.{HasCleanDisk, Survives};
 ghost use Rattle.ft_store.specs.Kept.{shows};
 ghost use Rattle.ft_values.specs.declared.fault.Fault.TheVariants as faults;
-ghost use Rattle.std.specs.Ordering.{int_cmp};
-ghost use Rattle.std.specs.FinMap.Entries.{is_sorted};
-ghost use Rattle.ft_content.specs.Content.{Documents, Content};
+ghost use Rattle.ft_content.specs.Content.{Content};
 ghost use Rattle.ft_content.specs.Command as plain;
 ghost use Rattle.ft_content.specs.Deserved.{insert_rows, insert_fault, listed_columns, docids_in};
 ghost use Rattle.ft_content.specs.Step.{inserted, new_docids};
@@ -15,18 +13,17 @@ ghost use Rattle.ft_content.specs.Views.{cells_of, column_of, shown_info};
 ghost use Rattle.ft_index.specs.Kept.{Executes};
 ghost use Rattle.ft_index.specs.Changed.{with_tables};
 ghost use Rattle.ft_index.specs.Crashes.{CommandSurvives};
-ghost use Rattle.ft_index.specs.DocumentsRead.{HasRows, Looks, has_given};
-ghost use Rattle.ft_index.specs.Inserted.{AreKnown, Makes, Inserts};
+ghost use Rattle.ft_index.specs.DocumentsRead.{HasRows, Looks};
+ghost use Rattle.ft_documents.specs.Gathered.{has_given};
+ghost use Rattle.ft_documents.specs.Inserted.{Inserts};
 ghost use Rattle.ft_index.specs.Written.{HasAll, Writes, PlansIn};
 
 use crate::change::change_rows;
 use crate::documents::{has_document, last_docid};
-use crate::names::sound_table;
-use crate::new_documents::NewDocuments;
-use crate::rewrite::{Rewrite, row_changes};
 use ft_content::{
     Column, Fault, Reply, TableInfo, Value, insert_tests, listed_names, repeats_name, row_docid,
 };
+use ft_documents::{Rewrite, made_documents, row_changes, sound_table};
 use ft_store::{RowChange, Store};
 use sqlite::Alter;
 use std::alloc::Global;
@@ -161,30 +158,6 @@ pub(crate) fn insert_rewrites<S: Alter>(
     Ok(rewrites)
 }
 
-/// The documents that rows make in a table with this last docid, or the fault of the first row that fails. At the place of each row
-/// stands whether the table has a document with the docid that the row gives.
-pub(crate) fn made_documents(
-    alloc: Global,
-    last: Option<i64>,
-    columns: &[Column],
-    names: &[&str],
-    rows: &[Vec<Value>],
-    stored: &[bool],
-) -> Result<NewDocuments, Fault>
-    ensures { (documents : Documents) → IsTrue (is_sorted int_cmp documents)
-        → views.last_docid documents ≡ last
-        → AreKnown documents (map (zip (map (λ n. n.now) names.now)) (map cells_of rows.now))
-        stored.now
-        → Makes documents (insert_rows (map column_of columns.now)
-        (map (zip (map (λ n. n.now) names.now)) (map cells_of rows.now)) documents) result }
-{
-    let mut new = NewDocuments::new(alloc, last);
-    for (place, row) in rows.iter().enumerate() {
-        new.add(columns, names, row.as_slice(), is_stored(stored, place))?;
-    }
-    Ok(new)
-}
-
 /// Of each row, whether the table has a document with the docid that the row gives. The store, which is open if it is clean, is only
 /// read, whatever is answered.
 fn stored_docids<S: Alter>(
@@ -212,13 +185,4 @@ fn stored_docids<S: Alter>(
         stored.push(has_document(alloc, store, tab, given)?)?;
     }
     Ok(stored)
-}
-
-fn is_stored(stored: &[bool], place: usize) -> bool
-    ensures { result ≡ unwrap_or (slice_get stored.now place) false }
-{
-    match stored.get(place) {
-        Some(is_stored) => *is_stored,
-        None => false,
-    }
 }

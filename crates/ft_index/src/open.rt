@@ -8,8 +8,8 @@ ghost use Rattle.ft_index.specs.DocumentsRead.{Looks};
 ghost use Rattle.ft_index.specs.Opened.{IsListed, IsMarked, AreMarked};
 
 use crate::standing::read_standing;
-use crate::standing_rows::listed_columns;
 use ft_content::TableInfo;
+use ft_documents::listed_columns;
 use ft_store::{Store, StoreFault, TabRow};
 use sqlite::Alter;
 use std::alloc::Global;

@@ -5,8 +5,8 @@ ghost use Rattle.ft_content.specs.Views.{shown_info, answer_of};
 ghost use Rattle.ft_content.specs.Deserved.{Contents};
 ghost use Rattle.ft_index.specs.Kept.{Answers, told_table};
 
-use crate::names::sound_place;
 use ft_content::{Fault, Reply, TableInfo};
+use ft_documents::sound_place;
 
 /// Answers an Optimize.
 pub(crate) fn optimize(tables: &[TableInfo], table: &str) -> Result<Reply, Fault>

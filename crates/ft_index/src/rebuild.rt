@@ -1,13 +1,9 @@
 //! Making the index of a table again.
-ghost use Rattle.std.specs.Prelude.{◌≡◌, ◌≤◌, ℤ, ℕ, List, All, IfOk, OnOk, IsTrue, length, map};
-ghost use Rattle.std.specs.Ordering.{int_cmp};
-ghost use Rattle.std.specs.FinMap.Entries.{is_sorted};
-ghost use Rattle.ft_store.specs.Changes.{shown_change, CanApply};
+ghost use Rattle.std.specs.Prelude.{ℤ, ℕ, List, IfOk, OnOk, IsTrue, map};
 ghost use Rattle.sqlite.specs.State.{HasCleanDisk};
 ghost use Rattle.ft_store.specs.Kept.{shows, value_in};
-ghost use Rattle.ft_content.specs.Content.{is_document};
 ghost use Rattle.ft_content.specs.Command as plain;
-ghost use Rattle.ft_content.specs.Views.{column_of, shown_info, answer_of};
+ghost use Rattle.ft_content.specs.Views.{shown_info, answer_of};
 ghost use Rattle.ft_content.specs.Deserved.{Contents};
 ghost use Rattle.ft_index.specs.Changed.{with_tables};
 ghost use Rattle.ft_index.specs.Crashes.{CommandSurvives};
@@ -15,18 +11,13 @@ ghost use Rattle.ft_index.specs.DocumentsRead.{Looks};
 ghost use Rattle.ft_index.specs.Kept.{AreHeld, PlansFrom, Executes};
 ghost use Rattle.ft_index.specs.Opened.{IsListed, IsNamed};
 ghost use Rattle.ft_index.specs.Planned.{changes_of};
-ghost use Rattle.ft_index.specs.Rebuild.{shown_document, MakesIndex, LeavesOthers, LeavesNames, HoldsIfAny};
-ghost use Rattle.ft_index.specs.Tables.{table_rows};
-ghost use Rattle.ft_index.specs.RewriteRows as rows;
+ghost use Rattle.ft_index.specs.Rebuild.{HoldsIfAny};
+ghost use Rattle.ft_documents.specs.Tables.{table_rows};
 
 use crate::change::change_rows;
-use crate::document::Document;
-use crate::document_index::DocumentIndex;
-use crate::documents::gathered;
 use crate::standing::listed_table;
-use crate::standing_rows::{is_content, listed_columns};
-use crate::told::mark_sound;
 use ft_content::{Column, Fault, Reply, TableInfo};
+use ft_documents::{Document, gathered, index_changes, is_content, listed_columns, mark_sound};
 use ft_store::{RowChange, Store, StoreFault, TabRow};
 use ft_values::table_place;
 use sqlite::Alter;
@@ -37,62 +28,6 @@ use std::alloc::{AllocError, Global};
 pub(crate) struct TableContent {
     columns: Vec<Column>,
     documents: Vec<Document>,
-}
-
-/// The row changes that make the index of a table again out of its documents, which stand by rising docid.
-pub(crate) fn index_changes(
-    alloc: Global,
-    tab: i64,
-    columns: &[Column],
-    documents: &[Document],
-) -> Result<Vec<RowChange>, AllocError>
-    ensures right { IfOk result (λ changes. MakesIndex tab (map column_of columns.now)
-        (map shown_document documents.now) (map shown_change changes.items)) }
-    ensures others { IfOk result (λ changes. LeavesOthers tab (map shown_change changes.items)) }
-    ensures names { IfOk result (λ changes. LeavesNames (map shown_change changes.items)) }
-    ensures packable { IfOk result (λ changes. length columns.now ≤ 100
-        → IsTrue (is_sorted int_cmp (map shown_document documents.now))
-        → All (λ d. IsTrue (is_document (length columns.now) d)) (map shown_document documents.now)
-        → All CanApply changes.items) }
-{
-    let index = index_of(alloc, columns, documents)?;
-    let changes = rebuilt(alloc, tab, index)?;
-    Ok(changes)
-}
-
-// The index of these documents.
-fn index_of(
-    alloc: Global,
-    columns: &[Column],
-    documents: &[Document],
-) -> Result<DocumentIndex, AllocError>
-    ensures lists { IfOk result (λ index. rows.lists_in index
-        ≡ rows.lists_of (map column_of columns.now) (map shown_document documents.now)) }
-    ensures sizes { IfOk result (λ index. rows.sizes_in index
-        ≡ rows.sizes_of (map column_of columns.now) (map shown_document documents.now)) }
-    ensures numbers { OnOk result (All (λ d. rows.AreShortNumbers (map column_of columns.now) d.1)
-        (map shown_document documents.now)) }
-{
-    let mut index = DocumentIndex::new(alloc);
-    for document in documents {
-        let docid = document.docid;
-        index.add(columns, docid, document.cells.as_slice())?;
-    }
-    Ok(index)
-}
-
-// No index row of before, and all of this index.
-fn rebuilt(alloc: Global, tab: i64, index: DocumentIndex) -> Result<Vec<RowChange>, AllocError>
-    ensures { IfOk result (λ changes. map shown_change changes.items
-        ≡ rows.rebuild_changes tab (rows.lists_in index) (rows.sizes_in index)) }
-{
-    let none = DocumentIndex::new(alloc);
-    let mut changes = Vec::new(alloc);
-    changes.push(RowChange::ClearIndex(tab))?;
-    let (lists, sizes) = index.into_parts();
-    none.put_lists(&mut changes, tab, lists)?;
-    none.put_sizes(&mut changes, tab, &sizes)?;
-    Ok(changes)
 }
 
 // What a table that is listed holds, None where its rows are no content. Its index rows aren't read. The store is only read, whatever is

@@ -18,20 +18,20 @@ ghost use Rattle.ft_content.specs.Views.{bare_content, cells_of, rows_of, column
 ghost use Rattle.ft_index.specs.Kept.{Executes, OnlyLooks};
 ghost use Rattle.ft_index.specs.Changed.{with_tables};
 ghost use Rattle.ft_index.specs.Planned.{PlansOver};
-ghost use Rattle.ft_index.specs.DocumentsRead.{HasRows, Looks, shown_document};
+ghost use Rattle.ft_index.specs.DocumentsRead.{HasRows, Looks};
+ghost use Rattle.ft_documents.specs.Gathered.{shown_document};
 ghost use Rattle.ft_index.specs.RowsRead as rows;
 ghost use Rattle.ft_index.specs.RowsRead.{rows_asked, CountsRows};
-ghost use Rattle.ft_index.specs.Chosen.{ReadsAs, cells_at};
+ghost use Rattle.ft_documents.specs.Chosen.{ReadsAs, cells_at};
 ghost use Rattle.ft_index.specs.Selected.{hit_cells, IsOf, IsAsked};
 
 use crate::chosen::{chosen_documents, found_cells};
-use crate::document::Document;
 use crate::matching::matched;
-use crate::names::{sound_place, sound_table};
 use ft_content::{
     Column, Fault, Filter, Grid, Item, Items, Reply, TableInfo, Value, answer_names, any_offsets,
     count_rows, cut, is_docid, item_row, read_query, select_tests,
 };
+use ft_documents::{Document, sound_place, sound_table};
 use ft_query::{Hit, Query, offsets_text};
 use ft_store::{RowChange, Store};
 use sqlite::Alter;

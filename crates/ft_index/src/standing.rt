@@ -13,12 +13,11 @@ ghost use Rattle.ft_content.specs.Deserved.{TableState};
 ghost use Rattle.ft_index.specs.DocumentsRead.{Looks};
 ghost use Rattle.ft_index.specs.Kept.{is_sound};
 ghost use Rattle.ft_index.specs.Opened.{standing_of, StandsSo, IsListed, IsNamed, IsFound};
-ghost use Rattle.ft_index.specs.Standing as standing;
-ghost use Rattle.ft_index.specs.Tables.{table_rows, table_index};
+ghost use Rattle.ft_documents.specs.Standing as standing;
+ghost use Rattle.ft_documents.specs.Tables.{table_rows, table_index};
 
-use crate::standing_index::are_theirs;
-use crate::standing_rows::{is_content, listed_columns};
 use ft_content::Column;
+use ft_documents::{are_theirs, is_content, listed_columns};
 use ft_store::{CellRow, Store, StoreFault, TabRow};
 use sqlite::Alter;
 use std::alloc::Global;

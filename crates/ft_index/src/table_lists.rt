@@ -2,10 +2,10 @@
 ghost use Rattle.std.specs.Prelude.{◌≡◌, ◌+◌, ◌-◌, ◌^◌, ◌||◌, false, min, map, Err, IfOk, OnOk, OnErr};
 ghost use Rattle.ft_query.specs.Documents.{plain_list, place_count};
 ghost use Rattle.ft_query.specs.Lists.{is_failed};
-ghost use Rattle.ft_store.specs.Shown.{shown_list, spot_count};
-ghost use Rattle.ft_index.specs.Placed.{AreListsOf};
+ghost use Rattle.ft_rows.specs.Shown.{shown_list, spot_count};
+ghost use Rattle.ft_documents.specs.Placed.{AreListsOf};
 
-use crate::doc_lists::doc_lists;
+use ft_documents::doc_lists;
 use ft_query::{DocList, ListFault, Lists};
 use ft_store::{ListRow, Store, StoreFault};
 use sqlite::Alter;

@@ -3,24 +3,23 @@ ghost use Rattle.std.specs.Prelude.{◌≡◌, ◌⊎◌, ◌∷◌, [], if◌th
 ghost use Rattle.sqlite.specs.State.{Survives, HasCleanDisk};
 ghost use Rattle.ft_store.specs.Calls.{IsStored};
 ghost use Rattle.ft_store.specs.Kept.{shows, value_in};
-ghost use Rattle.ft_store.specs.Store.{all_applied};
+ghost use Rattle.ft_rows.specs.Store.{all_applied};
 ghost use Rattle.ft_index.specs.Crashes.{CommandSurvives};
-ghost use Rattle.ft_store.specs.Changes.{shown_change};
-ghost use Rattle.ft_content.specs.Content.{names_of, skipped_from};
+ghost use Rattle.ft_rows.specs.Changes.{shown_change};
 ghost use Rattle.ft_content.specs.Command as plain;
-ghost use Rattle.ft_content.specs.Views.{shown_info, option_of, column_of, answer_of};
+ghost use Rattle.ft_content.specs.Views.{shown_info, option_of, answer_of};
 ghost use Rattle.ft_content.specs.Deserved.{Contents};
 ghost use Rattle.ft_index.specs.Kept.{told_table, Executes};
 ghost use Rattle.ft_index.specs.Planned.{PlansOver, Makes, table_change};
 ghost use Rattle.ft_index.specs.Changed.{Changed, with_tables};
-ghost use Rattle.ft_index.specs.Found.{with_told};
+ghost use Rattle.ft_documents.specs.Found.{with_told};
 ghost use Rattle.ft_values.specs.declared.fault.Fault.TheVariants as faults;
 
 use crate::change::change_rows;
-use crate::told::{insert_table, remove_table};
 use ft_content::{
     Column, Fault, Reply, TableInfo, create_fault, free_id, made_columns, made_names,
 };
+use ft_documents::{column_names, insert_table, remove_table, skipped};
 use ft_store::{RowChange, Store};
 use ft_values::table_place;
 use sqlite::Alter;
@@ -72,31 +71,6 @@ pub(crate) fn adding(alloc: Global, table: &TableInfo) -> Result<RowChange, Allo
     let names = column_names(alloc, table.columns.as_slice())?;
     let skipped = skipped(alloc, table.columns.as_slice())?;
     Ok(RowChange::AddTable(table.id, name, names, skipped))
-}
-
-/// The names of columns.
-pub(crate) fn column_names(alloc: Global, columns: &[Column]) -> Result<Vec<String>, AllocError>
-    ensures { IfOk result (λ names. map string_bytes names.items
-        ≡ names_of (map column_of columns.now)) }
-{
-    let mut names = Vec::new(alloc);
-    for column in columns {
-        names.push(column.name.clone()?)?;
-    }
-    Ok(names)
-}
-
-/// The numbers of the columns that aren't indexed.
-pub(crate) fn skipped(alloc: Global, columns: &[Column]) -> Result<Vec<i64>, AllocError>
-    ensures { IfOk result (λ numbers. numbers.items ≡ skipped_from 0 (map column_of columns.now)) }
-{
-    let mut numbers = Vec::new(alloc);
-    for (number, column) in columns.iter().enumerate() {
-        if !column.indexed {
-            numbers.push(number as i64)?;
-        }
-    }
-    Ok(numbers)
 }
 
 /// The row changes of a Create, or its fault.

@@ -1,5 +1,5 @@
 //! Documents that an Update changes.
-ghost use Rattle.std.specs.Prelude.{◌≡◌, ◌⊎◌, ◌∷◌, [], ℕ, List, Option, None, Some, ℤ, map, slice_get, string_bytes, MatchResult, IfOk, OnOk, IsTrue};
+ghost use Rattle.std.specs.Prelude.{◌≡◌, ◌⊎◌, ℕ, List, Option, None, Some, ℤ, map, slice_get, string_bytes, MatchResult, IfOk, OnOk, IsTrue};
 ghost use Rattle.sqlite.specs.State.{HasCleanDisk};
 ghost use Rattle.ft_store.specs.Kept.{shows};
 ghost use Rattle.ft_values.specs.declared.fault.Fault.TheVariants as faults;
@@ -12,22 +12,19 @@ ghost use Rattle.ft_content.specs.Views.{column_of, set_of, filter_of, shown_inf
 ghost use Rattle.ft_index.specs.Kept.{Executes};
 ghost use Rattle.ft_index.specs.Changed.{with_tables};
 ghost use Rattle.ft_index.specs.Crashes.{CommandSurvives};
-ghost use Rattle.ft_index.specs.DocumentsRead.{HasRows, Looks, shown_document};
-ghost use Rattle.ft_index.specs.Rewrite.{Rewrite as Shown, shown_rewrite};
-ghost use Rattle.ft_index.specs.Updated.{changing, leaving, coming, moved_from, MayMove, update_touches};
+ghost use Rattle.ft_index.specs.DocumentsRead.{HasRows, Looks};
+ghost use Rattle.ft_documents.specs.Gathered.{shown_document};
+ghost use Rattle.ft_documents.specs.Updated.{update_touches};
 ghost use Rattle.ft_index.specs.Written.{HasAll, Writes, PlansIn};
 
 use crate::change::change_rows;
 use crate::chosen::chosen_documents;
-use crate::document::Document;
 use crate::documents::has_document;
-use crate::names::sound_table;
-use crate::query::filter_query;
-use crate::rewrite::{Rewrite, row_changes};
 use ft_content::{
     Column, Fault, Filter, Reply, TableInfo, Value, moves_fault, repeats_set, set_docid,
     update_tests, with_values,
 };
+use ft_documents::{Document, Rewrite, filter_query, row_changes, sound_table, update_rewrites};
 use ft_store::{RowChange, Store};
 use sqlite::Alter;
 use std::alloc::{AllocError, Global};
@@ -155,96 +152,4 @@ fn numbers(alloc: Global, documents: &[Document]) -> Result<Vec<i64>, AllocError
         .iter()
         .map(|document| document.docid)
         .collect(alloc)
-}
-
-// The rewrites of chosen documents, of which one may get another docid.
-fn update_rewrites(
-    alloc: Global,
-    columns: &[Column],
-    sets: &[(String, Value)],
-    documents: Vec<Document>,
-    given: Option<i64>,
-) -> Result<Vec<Rewrite>, AllocError>
-    ensures { IfOk result (λ rewrites. MayMove given
-        (map (changing (map set_of sets.now) (map column_of columns.now))
-        (map shown_document documents.items)) (map shown_rewrite rewrites.items)) }
-{
-    let mut rewrites = change_rewrites(alloc, columns, sets, documents)?;
-    if let Some(docid) = given {
-        move_only(&mut rewrites, docid)?;
-    }
-    Ok(rewrites)
-}
-
-// The rewrites that set values of documents.
-fn change_rewrites(
-    alloc: Global,
-    columns: &[Column],
-    sets: &[(String, Value)],
-    documents: Vec<Document>,
-) -> Result<Vec<Rewrite>, AllocError>
-    ensures { IfOk result (λ rewrites. map shown_rewrite rewrites.items
-        ≡ map (changing (map set_of sets.now) (map column_of columns.now))
-        (map shown_document documents.items)) }
-{
-    let mut rewrites = Vec::new(alloc);
-    for document in documents {
-        let Document { docid, cells } = document;
-        let after = with_values(alloc, columns, sets, cells.as_slice())?;
-        rewrites.push(Rewrite {
-            docid,
-            before: Some(cells),
-            after: Some(after),
-        })?;
-    }
-    Ok(rewrites)
-}
-
-// Where this is the only rewrite, its document gets this docid.
-fn move_only(rewrites: &mut Vec<Rewrite>, docid: i64) -> Result<(), AllocError>
-    ensures none { map shown_rewrite rewrites.old.items ≡ []
-        → OnOk result (map shown_rewrite rewrites.new.items ≡ []) }
-    ensures only { (r : Shown) → map shown_rewrite rewrites.old.items ≡ r ∷ []
-        → OnOk result (map shown_rewrite rewrites.new.items ≡ moved_from r docid) }
-{
-    let Some(only) = rewrites.pop() else {
-        return Ok(());
-    };
-    if only.docid == docid {
-        rewrites.push(only)?;
-        return Ok(());
-    }
-    let is_behind = only.docid < docid;
-    let (leaves, comes) = parted(only, docid);
-    if is_behind {
-        rewrites.push(leaves)?;
-        rewrites.push(comes)?;
-    } else {
-        rewrites.push(comes)?;
-        rewrites.push(leaves)?;
-    }
-    Ok(())
-}
-
-// What leaves the docid that a document had, and what comes under this one.
-fn parted(only: Rewrite, docid: i64) -> (Rewrite, Rewrite)
-    ensures leaves { shown_rewrite result.0 ≡ leaving (shown_rewrite only) }
-    ensures comes { shown_rewrite result.1 ≡ coming (shown_rewrite only) docid }
-{
-    let Rewrite {
-        docid: old,
-        before,
-        after,
-    } = only;
-    let leaves = Rewrite {
-        docid: old,
-        before,
-        after: None,
-    };
-    let comes = Rewrite {
-        docid,
-        before: None,
-        after,
-    };
-    (leaves, comes)
 }

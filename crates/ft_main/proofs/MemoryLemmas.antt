@@ -7,7 +7,7 @@ use Rattle.sqlite.specs.Steps.{IsEmpty}
 use Rattle.sqlite.specs.Store.{Ghosts}
 use Rattle.shell_text.specs.Print.{Settings}
 use Rattle.ft_store.specs.Kept.{StoreState, shows, value_in}
-use Rattle.ft_store.specs.Store.{nothing_held}
+use Rattle.ft_rows.specs.Store.{nothing_held}
 use Rattle.ft_index.specs.Kept.{StoreHolds}
 use Rattle.ft_files.specs.declared.databases.OpenFault.{OpenFault}
 use Rattle.ft_files.specs.declared.databases.OpenFault.TheVariants as opening

@@ -8,7 +8,7 @@ use Rattle.ram_disk.specs.declared.disk.Ram.{Ram}
 use Rattle.ram_disk.specs.contracts.disk.RamDisk.TheImpl.{ghosts}
 use Rattle.shell_text.specs.Print.{Settings}
 use Rattle.ft_store.specs.Kept.{StoreState, value_in}
-use Rattle.ft_store.specs.Store.{nothing_held}
+use Rattle.ft_rows.specs.Store.{nothing_held}
 use Rattle.ft_shell.specs.Promise.{IsOpen, PromiseKept}
 use Rattle.ft_line.specs.declared.line.Line.{Line}
 use Rattle.ft_line.specs.declared.line.LineFault.{LineFault}

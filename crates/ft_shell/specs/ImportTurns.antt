@@ -10,7 +10,7 @@ use Rattle.shell_text.specs.Records.{IsNoText, csv_reader}
 use Rattle.ft_values.specs.declared.fault.Fault.{Fault}
 use Rattle.ft_content.specs.Command.{Command, Insert, Reply}
 use Rattle.ft_content.specs.Views.{TableInfo}
-use Rattle.ft_index.specs.Found.{info_named}
+use Rattle.ft_documents.specs.Found.{info_named}
 use Rattle.ft_index.specs.Kept.{FullText, Executes}
 use Rattle.ft_index.specs.Crashes.{CommandSurvives}
 use Rattle.ft_statements.specs.Dots.{Import}

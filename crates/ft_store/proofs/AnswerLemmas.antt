@@ -28,16 +28,16 @@ use Rattle.sqlite.proofs.Callers.{reads_as}
 use Rattle.sqlite_typed.proofs.TestLemmas.{by_order, at_texts, same_bytes, then_key, last_key, then_term, last_term}
 use Rattle.sqlite_keyed.proofs.ListLemmas.{map-map, filter-map}
 use Rattle.ft_values.specs.declared.rows.Spot.{Spot}
-use Rattle.ft_store.specs.Packed.{spots_in}
+use Rattle.ft_rows.specs.Packed.{spots_in}
 use Rattle.ft_store.specs.Tables.{store_schema}
 use Rattle.ft_values.specs.Cells.{Cell}
-use Rattle.ft_store.specs.Store.{ListKey, cell_key_cmp, list_key_cmp, column_key_cmp, name_cmp}
+use Rattle.ft_rows.specs.Store.{ListKey, cell_key_cmp, list_key_cmp, column_key_cmp, name_cmp}
 use Rattle.ft_values.specs.Cells as cells
 use Rattle.ft_store.specs.Rows.{keyed, table_entry, column_entry, skip_entry, cell_entry, list_entry, size_entry, note_entry, value_of}
 use Rattle.sqlite_rules.specs.Edit.{id_in}
-use Rattle.ft_store.specs.Changes.{num_of, txt_of}
+use Rattle.ft_store.specs.Rows.{num_of, txt_of}
 use Rattle.ft_store.specs.Found.{found_table, found_column, found_skip, found_cell, found_size, found_note, found_list, found_places, found_spots}
-use Rattle.ft_store.specs.Shown.{bare_list, lists_of_term, lists_of_prefix}
+use Rattle.ft_rows.specs.Shown.{bare_list, lists_of_term, lists_of_prefix}
 use Rattle.ft_store.specs.Calls.{IsStore}
 use Rattle.ft_store.proofs.Texts.{names_text, columns_text, skips_text, cells_text, document_text, term_text, prefix_text, bare_prefix_text, lists_text, bare_lists_text, sizes_text, noted_text}
 use Rattle.ft_store.proofs.TextLemmas.{query_by, rising, no_limit, list_shown, bare_shown, list_order, cell_order, names_query, names_is, names_plain, names_unlisted, columns_query, columns_is, columns_plain, columns_unlisted, skips_query, skips_is, skips_plain, skips_unlisted, cells_query, cells_is, cells_plain, cells_unlisted, document_query, document_is, document_plain, document_unlisted, term_query, term_is, term_plain, term_unlisted, prefix_query, prefix_is, prefix_plain, prefix_unlisted, bare_prefix_query, bare_prefix_is, bare_prefix_plain, bare_prefix_unlisted, bare_lists_query, bare_lists_is, bare_lists_plain, bare_lists_unlisted, lists_query, lists_is, lists_plain, lists_unlisted, sizes_query, sizes_is, sizes_plain, sizes_unlisted, noted_query, noted_is, noted_plain, noted_unlisted}
@@ -46,7 +46,8 @@ use Rattle.ft_store.proofs.RangeLemmas.{in_range}
 use Rattle.ft_store.proofs.SelectLemmas.{all_selected, permuted, still_sorted}
 use Rattle.ft_store.proofs.KeyedLemmas.{AreApart, whole_cmp, whole_total, whole_tie, apart-filter, sorted_by_key, keyed-where, sorted-keyed, at_value, keyed-map}
 use Rattle.ft_store.proofs.OrderLemmas.{tied_first, tied_second, tied_ints, tied_names, tied_cell_keys, cell_key_total, tied_list_keys, list_key_total, tied_column_keys, column_key_total, name_total}
-use Rattle.ft_store.proofs.TypedLemmas.{and_first, IsNameRow, IsColumnRow, IsSkipRow, IsCellRow, IsListRow, IsSizeRow, IsNoteRow, are_names, are_columns, are_skips, are_cells, are_lists, are_sizes, are_notes}
+use Rattle.ft_store.proofs.TypedLemmas.{IsNameRow, IsColumnRow, IsSkipRow, IsCellRow, IsListRow, IsSizeRow, IsNoteRow, are_names, are_columns, are_skips, are_cells, are_lists, are_sizes, are_notes}
+use Rattle.ft_rows.proofs.ListLemmas.{and_first}
 use Rattle.ft_store.proofs.ApartLemmas.{names_apart, columns_apart, skips_apart, cells_apart, lists_apart, sizes_apart, notes_apart}
 use Rattle.ft_store.proofs.StoredLemmas.{stored_entry}
 use Rattle.ft_store.proofs.WriteLemmas.{turned, turned_text}

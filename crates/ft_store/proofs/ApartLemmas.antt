@@ -26,12 +26,13 @@ use Rattle.sqlite_catalog.specs.Listing.{IsSound}
 use Rattle.sqlite_typed.proofs.TestLemmas.{at_ints, at_texts}
 use Rattle.sqlite_keyed.proofs.ListLemmas.{all_weaker}
 use Rattle.ft_store.specs.Tables.{store_schema, plain_order, case_order}
-use Rattle.ft_store.specs.Store.{cell_key_cmp, list_key_cmp, column_key_cmp, name_cmp}
+use Rattle.ft_rows.specs.Store.{cell_key_cmp, list_key_cmp, column_key_cmp, name_cmp}
 use Rattle.ft_store.specs.Rows.{table_entry, column_key, column_entry, skip_entry, cell_key, cell_entry, list_key, list_entry, size_entry, note_entry}
 use Rattle.ft_store.proofs.StoredLemmas.{stored_entry}
 use Rattle.ft_store.proofs.KeyedLemmas.{AreApart, none_from, equal_from}
 use Rattle.ft_store.proofs.OrderLemmas.{tied_cell_keys, tied_list_keys, tied_column_keys, tied_names}
-use Rattle.ft_store.proofs.TypedLemmas.{and_first, not_null, int_is, IsNameRow, IsColumnRow, IsSkipRow, IsCellRow, IsListRow, IsSizeRow, IsNoteRow, are_names, are_columns, are_skips, are_cells, are_lists, are_sizes, are_notes}
+use Rattle.ft_store.proofs.TypedLemmas.{not_null, int_is, IsNameRow, IsColumnRow, IsSkipRow, IsCellRow, IsListRow, IsSizeRow, IsNoteRow, are_names, are_columns, are_skips, are_cells, are_lists, are_sizes, are_notes}
+use Rattle.ft_rows.proofs.ListLemmas.{and_first}
 
 or_first : (a b : Bool) → (a || b) ≡ false → a ≡ false
 or_first true b h = h

@@ -1,27 +1,16 @@
 -- How lists become entries.
-use Rattle.std.proofs.Common.{◌≡◌, ◌≢◌, ℕ, ℤ, ◌+◌, ◌<◌, Bool, true, false, ◌&&◌, cond, List, [], ◌∷◌, ◌++◌, map, length, get_or, take, refl, sym, ap, ap₂, ◌∙◌, is_eq}
+use Rattle.std.proofs.Common.{◌≡◌, ◌≢◌, ℕ, ℤ, ◌+◌, Bool, true, false, ◌&&◌, cond, List, [], ◌∷◌, ◌++◌, map, refl, sym, ap, ap₂, ◌∙◌, is_eq}
 use Rattle.std.specs.List.{flat_map}
 use Rattle.std.specs.Ordering.{int_eq}
 use Rattle.std.specs.FinMap.Entries.{where_key}
-use Rattle.std.proofs.lemmas.List.{take_more, map-append}
-use Rattle.std.proofs.Common.{append_assoc, append-nil}
+use Rattle.std.proofs.lemmas.List.{map-append}
 use Rattle.sqlite.specs.Order.{Row}
 use Rattle.sqlite_typed.proofs.TestLemmas.{same_bytes}
 use Rattle.ft_values.specs.declared.rows.Spot.{Spot}
-use Rattle.ft_store.specs.Store.{ListKey, list_key_cmp, name_cmp}
-use Rattle.ft_store.specs.Shown.{Entry, bare_list, entries_with, entries_of, AreWhole, SomeDamaged}
-use Rattle.ft_store.proofs.TypedLemmas.{and_second}
-
-flat_more : {Y Z : Type 0} (f : Y → List Z) (ys : List Y) (y : Y) → flat_map f (ys ++ y ∷ []) ≡ flat_map f ys ++ f y
-flat_more f [] y = append-nil (f y)
-flat_more f (x ∷ ys) y = ap (λ zs. f x ++ zs) (flat_more f ys y) ∙ sym (append_assoc (f x) (flat_map f ys) (f y))
-
-module _ {X Y : Type 0} (found : X → Y) (rows : List X) (i : ℕ) (row : X) (inside : i < length rows) (is : row ≡ get_or rows i row) where
-  more : map found (take i rows) ++ found row ∷ [] ≡ map found (take (i + 1) rows)
-  more = sym (map-append found (take i rows) (row ∷ [])) ∙ ap (map found) (ap (λ r. take i rows ++ r ∷ []) is ∙ sym (take_more rows i row inside))
-
-  pub one_more_list : {Z : Type 0} (f : Y → List Z) (old new : List Z) → new ≡ old ++ f (found row) → old ≡ flat_map f (map found (take i rows)) → new ≡ flat_map f (map found (take (i + 1) rows))
-  one_more_list f old new added before = added ∙ ap (λ es. es ++ f (found row)) before ∙ sym (flat_more f (map found (take i rows)) (found row)) ∙ ap (flat_map f) more
+use Rattle.ft_rows.specs.Store.{ListKey, list_key_cmp, name_cmp}
+use Rattle.ft_rows.specs.Shown.{Entry, bare_list, entries_with, entries_of, AreWhole, SomeDamaged}
+use Rattle.ft_rows.proofs.ListLemmas.{and_second}
+use Rattle.ft_rows.proofs.ListLemmas.{flat_more}
 
 -- rows of lists, and one row more
 module _ {K : Type 0} (found : Row → K × List Spot) (row : Row) where

@@ -11,9 +11,9 @@ use Rattle.sqlite.specs.Order.{Row}
 use Rattle.sqlite.specs.State.{State, Executes, Shows, ExecutesInside, IsUnchanged}
 use Rattle.ft_values.specs.declared.rows.RowChange.{RowChange}
 use Rattle.ft_values.specs.declared.rows.RowChange.TheVariants as row
-use Rattle.ft_store.specs.Store.{StoreValue, Change, list_key_cmp, all_applied}
+use Rattle.ft_rows.specs.Store.{StoreValue, Change, list_key_cmp, all_applied}
 use Rattle.ft_store.specs.Rows.{value_of}
-use Rattle.ft_store.specs.Changes.{shown_change, CanApply}
+use Rattle.ft_rows.specs.Changes.{shown_change, CanApply}
 use Rattle.ft_store.specs.Calls.{IsStore, Steps, Goes}
 use Rattle.ft_store.specs.Groups.{Entry, entry_values, with_entries, entry_put, PutsList}
 use Rattle.ft_store.proofs.Texts.{add_lists_text}

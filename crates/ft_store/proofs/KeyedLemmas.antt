@@ -10,7 +10,7 @@ use Rattle.sqlite_value.specs.Order.{Row, value_cmp}
 use Rattle.sqlite_trees.specs.Tree.{put_row, rowid}
 use Rattle.sqlite_rules.specs.Edit.{is_taken, are_fresh, put_all}
 use Rattle.ft_store.specs.Groups.{put_each}
-use Rattle.ft_store.specs.Store.{without_key}
+use Rattle.ft_rows.specs.Store.{without_key}
 use Rattle.ft_store.specs.Rows.{keyed}
 use Rattle.ft_store.proofs.OrderLemmas.{tied_first, tied_second}
 use Rattle.ft_store.proofs.SortedLemmas.{sorted_is}

@@ -25,9 +25,9 @@ use Rattle.sqlite.proofs.Callers.{reads_as}
 use Rattle.sqlite_typed.proofs.TestLemmas.{then_key, last_key, last_term}
 use Rattle.ft_store.specs.Tables.{store_schema}
 use Rattle.ft_values.specs.Cells.{Cell}
-use Rattle.ft_store.specs.Store.{CellKey, cell_key_cmp}
+use Rattle.ft_rows.specs.Store.{CellKey, cell_key_cmp}
 use Rattle.ft_store.specs.Rows.{keyed, cell_key, cell_entry, value_of}
-use Rattle.ft_store.specs.Shown.{last_docid_of}
+use Rattle.ft_rows.specs.Shown.{last_docid_of}
 use Rattle.ft_store.specs.Calls.{IsStore}
 use Rattle.ft_store.proofs.Texts.{last_text}
 use Rattle.ft_store.proofs.TextLemmas.{falling, last_query, last_is, last_plain, last_unlisted}

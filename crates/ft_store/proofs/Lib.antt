@@ -13,11 +13,8 @@ pub mod MakeLemmas
 pub mod MigrateLemmas
 pub mod NamedLemmas
 pub mod OrderLemmas
-pub mod PackedLemmas
-pub mod PackedRows
 pub mod PutLemmas
 pub mod RangeLemmas
-pub mod ReadLemmas
 pub mod RowidLemmas
 pub mod SameLemmas
 pub mod ScanLemmas
@@ -31,4 +28,3 @@ pub mod TextLemmas
 pub mod Texts
 pub mod TypedLemmas
 pub mod WriteLemmas
-pub mod PackTests

@@ -17,7 +17,7 @@ use Rattle.sqlite_trees.specs.Tree.{put_row}
 use Rattle.sqlite.specs.Term.{Term, lit}
 use Rattle.sqlite.specs.Source.TheVariants.{Values}
 use Rattle.std.specs.Ordering.{int_cmp}
-use Rattle.ft_store.specs.Store.{cell_key_cmp, list_key_cmp, column_key_cmp, name_cmp}
+use Rattle.ft_rows.specs.Store.{cell_key_cmp, list_key_cmp, column_key_cmp, name_cmp}
 use Rattle.ft_store.specs.Rows.{keyed, table_entry, column_entry, skip_entry, cell_entry, list_entry, size_entry, note_entry}
 use Rattle.ft_store.proofs.ChangeLemmas.{inserts, cast_null, cast_int}
 use Rattle.sqlite_keyed.proofs.ListLemmas.{all-append, all_both}
@@ -26,7 +26,7 @@ use Rattle.ft_store.proofs.Texts.{make_meta_text, make_tab_text, make_col_text, 
 use Rattle.ft_store.specs.Made.{IsEmptyOf, IsUnmarked, Makes}
 use Rattle.ft_store.proofs.StepLemmas.{shaped_after, same_rows}
 use Rattle.ft_store.specs.Calls.{HasOwnRowids, IsStore}
-use Rattle.ft_store.specs.Store.{nothing_held}
+use Rattle.ft_rows.specs.Store.{nothing_held}
 use Rattle.ft_store.specs.Rows.{value_of}
 
 went : {B E R : Type 0} {b : B} {Stops : E → Type 0} → ((stop : E) × Stops stop × (Ok b ≡ Err stop)) ⊎ R → R

@@ -16,7 +16,7 @@ use Rattle.sqlite_tied.specs.Compute.{everything}
 use Rattle.sqlite_keyed.proofs.ListLemmas.{all_both, all-append}
 use Rattle.ft_store.specs.declared.same.Layout.TheVariants.{Older}
 use Rattle.ft_store.specs.Tables.{store_schema, meta_table, skip_table}
-use Rattle.ft_store.specs.Store.{cell_key_cmp, list_key_cmp, column_key_cmp, name_cmp}
+use Rattle.ft_rows.specs.Store.{cell_key_cmp, list_key_cmp, column_key_cmp, name_cmp}
 use Rattle.ft_store.specs.Rows.{keyed, table_entry, column_entry, skip_entry, cell_entry, list_entry, size_entry, note_entry, value_of}
 use Rattle.ft_store.specs.Calls.{HasOwnRowids, AreNumbered}
 use Rattle.ft_store.specs.Made.{Makes, IsTabled, IsUnmarked}

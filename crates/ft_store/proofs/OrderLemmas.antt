@@ -4,7 +4,7 @@ use Rattle.std.specs.Cmp.{IsTotalOrder}
 use Rattle.std.specs.Ordering.{ordering_then, int_cmp}
 use Rattle.std.proofs.lemmas.Cmp.{int_ranked, on_total, then_total, int_cmp_total, nat_list_cmp_total}
 use Rattle.sqlite_typed.proofs.TestLemmas.{same_bytes}
-use Rattle.ft_store.specs.Store.{CellKey, ListKey, ColumnKey, cell_key_cmp, list_key_cmp, column_key_cmp, name_cmp}
+use Rattle.ft_rows.specs.Store.{CellKey, ListKey, ColumnKey, cell_key_cmp, list_key_cmp, column_key_cmp, name_cmp}
 
 pub tied_first : (x y : Ordering) → ordering_then x y ≡ Equal → x ≡ Equal
 tied_first Less y h = h

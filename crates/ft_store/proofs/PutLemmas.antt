@@ -15,13 +15,13 @@ use Rattle.sqlite.specs.Store.{Ghosts}
 use Rattle.sqlite.specs.Held.{Held, state}
 use Rattle.ft_values.specs.declared.rows.Spot.{Spot}
 use Rattle.ft_values.specs.declared.rows.RowChange.{RowChange}
-use Rattle.ft_store.specs.Packed.{CanPack, packed_spots, plain_spot, stored_spot, spots_in}
+use Rattle.ft_rows.specs.Packed.{CanPack, packed_spots, plain_spot, stored_spot, spots_in}
 use Rattle.ft_values.specs.Cells.{Cell}
-use Rattle.ft_store.specs.Store.{CellKey, ListKey, ColumnKey, cell_key_cmp, list_key_cmp, column_key_cmp, name_cmp, StoreValue, Change, without_key, with_columns, with_skipped, applied, all_applied}
+use Rattle.ft_rows.specs.Store.{CellKey, ListKey, ColumnKey, cell_key_cmp, list_key_cmp, column_key_cmp, name_cmp, StoreValue, Change, without_key, with_columns, with_skipped, applied, all_applied}
 use Rattle.ft_store.specs.Rows.{column_entry, skip_entry, cell_entry, list_entry, size_entry, note_entry, value_of}
-use Rattle.ft_store.specs.Changes.{shown_change}
+use Rattle.ft_rows.specs.Changes.{shown_change}
 use Rattle.ft_store.specs.Calls.{IsStore, Steps, Goes, IsStored}
-use Rattle.ft_store.proofs.PackedLemmas.{packed_is_read}
+use Rattle.ft_rows.proofs.PackedLemmas.{packed_is_read}
 use Rattle.ft_store.proofs.KeyedLemmas.{is_sorted-keyed, find-without_key, put-without_key, respects}
 use Rattle.ft_store.proofs.OrderLemmas.{tied_ints, tied_names, tied_cell_keys, cell_key_total, tied_list_keys, list_key_total, tied_column_keys, column_key_total, name_total}
 

@@ -11,7 +11,7 @@ use Rattle.std.specs.Cmp.Lexicographic.{slice_cmp}
 use Rattle.std.proofs.lemmas.Bool.Decides.{nat_tests}
 use Rattle.std.proofs.lemmas.Cmp.{nat_cmp_total, ranked}
 use Rattle.sqlite_keyed.proofs.ListLemmas.{all-append}
-use Rattle.ft_store.specs.Store.{ListKey}
+use Rattle.ft_rows.specs.Store.{ListKey}
 use Rattle.ft_store.specs.Range.{after_last}
 
 abbrev below : List ℕ → List ℕ → Bool

@@ -22,7 +22,7 @@ use Rattle.sqlite_keyed.proofs.ListLemmas.{filter-map}
 use Rattle.ft_values.specs.declared.rows.Spot.{Spot}
 use Rattle.ft_store.specs.Tables.{store_schema, tab_table, col_table, cell_table, posting_table, sizes_table, noted_table, skip_table}
 use Rattle.ft_values.specs.Cells.{Cell}
-use Rattle.ft_store.specs.Store.{CellKey, ListKey, ColumnKey, cell_key_cmp, list_key_cmp, column_key_cmp, name_cmp, StoreValue}
+use Rattle.ft_rows.specs.Store.{CellKey, ListKey, ColumnKey, cell_key_cmp, list_key_cmp, column_key_cmp, name_cmp, StoreValue}
 use Rattle.ft_store.specs.Groups.{put_each}
 use Rattle.ft_store.specs.Rows.{keyed, table_entry, column_entry, skip_entry, cell_entry, list_entry, size_entry, note_entry, value_of}
 use Rattle.ft_store.specs.Calls.{HasOwnRowids, AreNumbered, IsStore, Steps}

@@ -2,7 +2,7 @@
 use Rattle.std.specs.Prelude.{ℕ, List}
 use Rattle.sqlite.specs.Order.{Row, column}
 use Rattle.sqlite_value.specs.Order.{bytes}
-use Rattle.ft_store.specs.Store.{ListKey}
+use Rattle.ft_rows.specs.Store.{ListKey}
 use Rattle.ft_store.specs.Rows.{list_key}
 
 -- under its key the bytes of its list

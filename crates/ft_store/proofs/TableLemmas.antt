@@ -5,8 +5,8 @@ use Rattle.std.specs.Ordering.{int_eq}
 use Rattle.std.specs.FinMap.Entries.{where_key}
 use Rattle.sqlite_keyed.proofs.ListLemmas.{map-map}
 use Rattle.ft_values.specs.declared.rows.TabRow.{TabRow}
-use Rattle.ft_store.specs.Store.{StoreValue, ColumnKey, column_key_cmp}
-use Rattle.ft_store.specs.Shown.{shown_column, shown_skip, shown_table, table_listed}
+use Rattle.ft_rows.specs.Store.{StoreValue, ColumnKey, column_key_cmp}
+use Rattle.ft_rows.specs.Shown.{shown_column, shown_skip, shown_table, table_listed}
 
 numbers_back : (tab : ℤ) (xs : List ℤ) → map (λ s. s.0.1) (map (shown_skip tab) xs) ≡ xs
 numbers_back tab [] = refl

@@ -22,15 +22,8 @@ use Rattle.sqlite_catalog.specs.Listing.{IsSound}
 use Rattle.sqlite_keyed.proofs.ListLemmas.{all_both}
 use Rattle.ft_store.specs.Tables.{store_schema, tab_table, col_table, cell_table, posting_table, sizes_table, noted_table, skip_table}
 use Rattle.ft_store.specs.Rows.{cell_in}
-use Rattle.ft_store.specs.Changes.{num_of, txt_of}
-
-pub and_first : (a b : Bool) → (a && b) ≡ true → a ≡ true
-and_first true b h = refl
-and_first false b h = h
-
-pub and_second : (a b : Bool) → (a && b) ≡ true → b ≡ true
-and_second true b h = h
-and_second false b h = absurd (true≢false (sym h))
+use Rattle.ft_store.specs.Rows.{num_of, txt_of}
+use Rattle.ft_rows.proofs.ListLemmas.{and_first, and_second}
 
 pub not_null : (b : Bool) → not b ≡ true → b ≡ false
 not_null true h = sym h

@@ -21,15 +21,15 @@ use Rattle.sqlite.specs.Kind.TheVariants as kind
 use Rattle.sqlite.specs.State.{State, Executes, Shows}
 use Rattle.sqlite.specs.Values.{bound_value}
 use Rattle.sqlite_typed.proofs.TestLemmas.{at_ints, at_texts, then_term, last_term}
-use Rattle.ft_store.specs.Packed.{spots_in}
+use Rattle.ft_rows.specs.Packed.{spots_in}
 use Rattle.ft_values.specs.Cells.{Cell}
-use Rattle.ft_store.specs.Store.{cell_key_cmp, list_key_cmp, column_key_cmp, name_cmp}
+use Rattle.ft_rows.specs.Store.{cell_key_cmp, list_key_cmp, column_key_cmp, name_cmp}
 use Rattle.ft_values.specs.Cells as cells
 use Rattle.ft_store.specs.Groups.{Entry, entry_values, entry_spots, put_each, with_entries}
 use Rattle.ft_store.specs.Tables.{posting_table}
 use Rattle.ft_store.specs.Rows.{cell_in, list_entry, value_of}
 use Rattle.ft_store.proofs.RowidLemmas.{IsInt}
-use Rattle.ft_store.specs.Changes.{num_of, txt_of}
+use Rattle.ft_store.specs.Rows.{num_of, txt_of}
 use Rattle.ft_store.specs.Calls.{IsStore, Steps}
 use Rattle.ft_store.proofs.Texts.{drop_name_text, drop_columns_text, drop_column_text, drop_skips_text, drop_skip_text, drop_contents_text, drop_cells_text, drop_cell_text, drop_lists_text, drop_list_text, drop_sizes_text, drop_size_text, drop_note_text, add_name_text, add_column_text, add_skip_text, add_cell_text, add_list_text, add_lists_text, add_size_text, add_note_text}
 use Rattle.ft_store.proofs.TextLemmas.{drop_name_terms, drop_name_is, drop_name_plain, drop_columns_terms, drop_columns_is, drop_columns_plain, drop_column_terms, drop_column_is, drop_column_plain, drop_skips_terms, drop_skips_is, drop_skips_plain, drop_skip_terms, drop_skip_is, drop_skip_plain, drop_contents_terms, drop_contents_is, drop_contents_plain, drop_cells_terms, drop_cells_is, drop_cells_plain, drop_cell_terms, drop_cell_is, drop_cell_plain, drop_lists_terms, drop_lists_is, drop_lists_plain, drop_list_terms, drop_list_is, drop_list_plain, drop_sizes_terms, drop_sizes_is, drop_sizes_plain, drop_size_terms, drop_size_is, drop_size_plain, drop_note_terms, drop_note_is, drop_note_plain, add_name_terms, add_name_is, add_name_plain, add_column_terms, add_column_is, add_column_plain, add_skip_terms, add_skip_is, add_skip_plain, add_cell_terms, add_cell_is, add_cell_plain, add_list_terms, add_list_is, add_list_plain, add_lists_terms, add_lists_is, add_lists_plain, add_size_terms, add_size_is, add_size_plain, add_note_terms, add_note_is, add_note_plain}

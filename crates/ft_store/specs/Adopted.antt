@@ -18,7 +18,7 @@ use Rattle.sqlite.specs.Store.{Ghosts}
 use Rattle.sqlite.specs.Held.{Held, state}
 use Rattle.std.specs.Prelude.{codes, ℕ}
 use Rattle.ft_store.specs.Tables.{no_schema, store_schema}
-use Rattle.ft_store.specs.Store.{nothing_held}
+use Rattle.ft_rows.specs.Store.{nothing_held}
 use Rattle.ft_store.specs.Calls.{IsPlainFault, IsStored, Keeps}
 use Rattle.ft_store.specs.Older.{older_schema, HasStoreTables, IsOlder, older_value}
 use Rattle.sqlite.specs.Tree.{Trees}

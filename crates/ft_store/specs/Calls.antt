@@ -20,7 +20,7 @@ use Rattle.ft_store.specs.declared.fault.StoreFault.TheVariants as fault
 use Rattle.ft_values.specs.declared.fault.Fault.{Fault}
 use Rattle.ft_values.specs.declared.fault.Fault.TheVariants as told
 use Rattle.ft_store.specs.Tables.{store_schema}
-use Rattle.ft_store.specs.Store.{StoreValue}
+use Rattle.ft_rows.specs.Store.{StoreValue}
 use Rattle.ft_store.specs.Rows.{value_of}
 
 -- the rowids are integers, and no two rows have one

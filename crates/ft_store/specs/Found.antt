@@ -1,13 +1,13 @@
 -- Steps. The rows that the queries of a store give, as rows under their keys.
 use Rattle.std.specs.Prelude.{ℕ, ℤ, List, [], unwrap_or}
 use Rattle.ft_values.specs.declared.rows.Spot.{Spot}
-use Rattle.ft_store.specs.Packed.{spots_in}
+use Rattle.ft_rows.specs.Packed.{spots_in}
 use Rattle.sqlite.specs.Order.{Row, column}
 use Rattle.sqlite_value.specs.Order.{bytes}
 use Rattle.sqlite_value.specs.Keys.{without_case}
 use Rattle.sqlite_rules.specs.Edit.{id_in}
 use Rattle.ft_values.specs.Cells.{Cell}
-use Rattle.ft_store.specs.Store.{CellKey, ListKey, ColumnKey}
+use Rattle.ft_rows.specs.Store.{CellKey, ListKey, ColumnKey}
 use Rattle.ft_store.specs.Rows.{cell_in}
 
 abbrev pub found_table : Row → ℤ × List ℕ

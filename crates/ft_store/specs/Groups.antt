@@ -9,8 +9,8 @@ use Rattle.sqlite.specs.Store.{Ghosts}
 use Rattle.sqlite.specs.Held.{Held, state}
 use Rattle.ft_store.specs.declared.fault.StoreFault.{StoreFault}
 use Rattle.ft_values.specs.declared.rows.Spot.{Spot}
-use Rattle.ft_store.specs.Packed.{CanPack, packed_spots, spots_in}
-use Rattle.ft_store.specs.Store.{ListKey, list_key_cmp, StoreValue}
+use Rattle.ft_rows.specs.Packed.{CanPack, packed_spots, spots_in}
+use Rattle.ft_rows.specs.Store.{ListKey, list_key_cmp, StoreValue}
 use Rattle.ft_values.specs.declared.rows.RowChange.{RowChange}
 use Rattle.ft_values.specs.declared.rows.RowChange.TheVariants as row
 use Rattle.ft_store.specs.Rows.{value_of}

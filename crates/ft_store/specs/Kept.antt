@@ -4,7 +4,7 @@ use Rattle.std.specs.Coded.{Coded, code_by, coded×, coded_ℕ}
 use Rattle.sqlite.specs.State.{State}
 use Rattle.sqlite.specs.Store.{Ghosts}
 use Rattle.sqlite.specs.Held.{Held, held_code, state}
-use Rattle.ft_store.specs.Store.{StoreValue}
+use Rattle.ft_rows.specs.Store.{StoreValue}
 use Rattle.ft_store.specs.Rows.{value_of}
 use Rattle.ft_store.specs.Calls.{IsStoreIfOpen}
 

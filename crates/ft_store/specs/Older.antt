@@ -9,7 +9,7 @@ use Rattle.sqlite_catalog.specs.Listing.{IsSound}
 use Rattle.ft_store.specs.declared.same.Layout.{Layout}
 use Rattle.ft_store.specs.declared.same.Layout.TheVariants.{Older, Present}
 use Rattle.ft_store.specs.Tables.{store_schema}
-use Rattle.ft_store.specs.Store.{StoreValue}
+use Rattle.ft_rows.specs.Store.{StoreValue}
 use Rattle.ft_store.specs.Rows.{value_of}
 use Rattle.ft_store.specs.Calls.{AreNumbered, IsStore}
 

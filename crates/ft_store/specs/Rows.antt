@@ -10,9 +10,9 @@ use Rattle.sqlite_value.specs.Keys.{without_case}
 use Rattle.sqlite_trees.specs.Tree.{Trees}
 use Rattle.sqlite_rules.specs.Edit.{id_in}
 use Rattle.ft_values.specs.declared.rows.Spot.{Spot}
-use Rattle.ft_store.specs.Packed.{spots_in}
+use Rattle.ft_rows.specs.Packed.{spots_in}
 use Rattle.ft_values.specs.Cells.{Cell, Null, Int, Text}
-use Rattle.ft_store.specs.Store.{CellKey, ListKey, ColumnKey, cell_key_cmp, list_key_cmp, column_key_cmp, name_cmp, StoreValue}
+use Rattle.ft_rows.specs.Store.{CellKey, ListKey, ColumnKey, cell_key_cmp, list_key_cmp, column_key_cmp, name_cmp, StoreValue}
 
 -- rows under their keys, in the order of the keys; of two with one key the first counts
 abbrev pub keyed : {K X : Type 0} → (K → K → Ordering) → List (K × X) → List (K × X)
@@ -24,6 +24,15 @@ abbrev pub cell_in : Value → Value → Cell
 cell_in (value.Int n) b = Int n
 cell_in a (value.Text t) = Text t
 cell_in a b = Null
+
+-- the two columns of a cell
+abbrev pub num_of : Cell → Value
+num_of (Int n) = value.Int n
+num_of _ = value.Null
+
+abbrev pub txt_of : Cell → Value
+txt_of (Text t) = value.Text t
+txt_of _ = value.Null
 
 -- none for a damaged list
 abbrev pub spots_or_none : Value → List Spot

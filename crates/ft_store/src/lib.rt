@@ -8,7 +8,6 @@ mod files;
 mod lists;
 mod make;
 mod migrate;
-mod packed;
 mod read;
 mod same;
 mod statements;
@@ -19,6 +18,6 @@ mod write;
 
 pub use fault::StoreFault;
 pub use files::open_database;
+pub use ft_rows::packed_lists;
 pub use ft_values::{CellRow, EntryRow, ListRow, RowChange, SizeRow, Spot, TabRow, Value};
-pub use packed::packed_lists;
 pub use store::{AdoptFault, Store};

@@ -11,16 +11,16 @@ ghost use Rattle.sqlite.specs.Values.{bound};
 ghost use Rattle.sqlite.specs.Held.{state};
 ghost use Rattle.sqlite_value.specs.Value.{owned};
 ghost use Rattle.sqlite.specs.declared.types.Value.TheVariants.{Int};
-ghost use Rattle.ft_store.specs.Store.{list_key_cmp, name_cmp};
+ghost use Rattle.ft_rows.specs.Store.{list_key_cmp, name_cmp};
 ghost use Rattle.ft_store.specs.Rows.{value_of};
 ghost use Rattle.ft_store.specs.Range.{after_last};
 ghost use Rattle.ft_store.specs.Found.{found_spots, found_places};
-ghost use Rattle.ft_store.specs.Shown.{shown_list, shown_entry, entries_with, entries_of, lists_of_term, lists_of_prefix, spot_count, AreWhole, AreRead, SomeDamaged};
+ghost use Rattle.ft_rows.specs.Shown.{shown_list, shown_entry, entries_with, entries_of, lists_of_term, lists_of_prefix, spot_count, AreWhole, AreRead, SomeDamaged};
 ghost use Rattle.ft_store.specs.Calls.{IsStoreIfOpen, IsPlainFault, IsReadFault, Reads};
 
 use crate::fault::StoreFault;
-use crate::packed::unpack;
 use crate::stream::{Gathered, gather};
+use ft_rows::unpack;
 use ft_values::{EntryRow, ListRow};
 use sqlite::types::ValueRef;
 use sqlite::{Alter, Connection, Row, params};
@@ -38,10 +38,9 @@ fn list_row(alloc: Global, row: &Row) -> Result<Option<ListRow>, StoreFault>
     let ValueRef::Blob(bytes) = row.get_ref(1)? else {
         return Err(StoreFault::Refused);
     };
-    match unpack(alloc, bytes) {
-        Ok(spots) => Ok(Some(ListRow { docid, spots })),
-        Err(StoreFault::Damaged) => Ok(None),
-        Err(fault) => Err(fault),
+    match unpack(alloc, bytes)? {
+        Some(spots) => Ok(Some(ListRow { docid, spots })),
+        None => Ok(None),
     }
 }
 
@@ -55,7 +54,7 @@ struct ListsOf {
 impl Gathered for ListsOf {
     ghost use Rattle.std.specs.Prelude.{◌≡◌, map, MatchBool};
     ghost use Rattle.ft_store.specs.Found.{found_spots};
-    ghost use Rattle.ft_store.specs.Shown.{shown_list, AreWhole, SomeDamaged};
+    ghost use Rattle.ft_rows.specs.Shown.{shown_list, AreWhole, SomeDamaged};
 
     ghost is_made_of = { λ made whole rows. MatchBool whole
         ((map shown_list made.lists.items ≡ map found_spots rows) × AreWhole (map found_spots rows))
@@ -147,7 +146,7 @@ struct EntriesOf {
 impl Gathered for EntriesOf {
     ghost use Rattle.std.specs.Prelude.{◌≡◌, ℤ, map, MatchBool};
     ghost use Rattle.ft_store.specs.Found.{found_places};
-    ghost use Rattle.ft_store.specs.Shown.{shown_entry, entries_of, AreWhole, SomeDamaged};
+    ghost use Rattle.ft_rows.specs.Shown.{shown_entry, entries_of, AreWhole, SomeDamaged};
 
     ghost is_made_of = { λ made whole rows. (tab : ℤ) → MatchBool whole
         ((map shown_entry made.entries.items ≡ entries_of (map (found_places tab) rows))

@@ -6,7 +6,7 @@ ghost use Rattle.sqlite.specs.Schema.{Schema};
 ghost use Rattle.sqlite.specs.Table.{Table};
 ghost use Rattle.sqlite.specs.Change.{created};
 ghost use Rattle.ft_store.specs.Tables.{no_schema};
-ghost use Rattle.ft_store.specs.Store.{nothing_held};
+ghost use Rattle.ft_rows.specs.Store.{nothing_held};
 ghost use Rattle.ft_store.specs.Rows.{value_of};
 ghost use Rattle.ft_store.specs.Calls.{IsPlainFault, IsStore, IsStored, Keeps, KeepsLast, LeavesNothing};
 ghost use Rattle.ft_store.specs.Made.{IsEmptyOf, IsUnmarked, Makes, MakesOnOk};

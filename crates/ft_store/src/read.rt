@@ -10,10 +10,10 @@ ghost use Rattle.sqlite.specs.Held.{state};
 ghost use Rattle.sqlite.specs.Order as order;
 ghost use Rattle.sqlite.specs.Order.{column};
 ghost use Rattle.sqlite_rules.specs.Edit.{id_in};
-ghost use Rattle.ft_store.specs.Store.{cell_key_cmp, column_key_cmp};
+ghost use Rattle.ft_rows.specs.Store.{cell_key_cmp, column_key_cmp};
 ghost use Rattle.ft_store.specs.Rows.{value_of};
 ghost use Rattle.ft_store.specs.Found.{found_table, found_column, found_skip, found_cell, found_size, found_note};
-ghost use Rattle.ft_store.specs.Shown.{shown_cell, shown_size, shown_name, shown_column, shown_skip, shown_note, last_docid_of};
+ghost use Rattle.ft_rows.specs.Shown.{shown_cell, shown_size, shown_name, shown_column, shown_skip, shown_note, last_docid_of};
 ghost use Rattle.ft_store.specs.Calls.{IsStoreIfOpen, IsPlainFault, Reads};
 
 use crate::fault::StoreFault;
@@ -76,7 +76,7 @@ struct CellsOf {
 impl Gathered for CellsOf {
     ghost use Rattle.std.specs.Prelude.{◌≡◌, ℤ, map, IsTrue};
     ghost use Rattle.ft_store.specs.Found.{found_cell};
-    ghost use Rattle.ft_store.specs.Shown.{shown_cell};
+    ghost use Rattle.ft_rows.specs.Shown.{shown_cell};
 
     ghost is_made_of = { λ made whole rows.
         IsTrue whole × ((tab : ℤ) → map (shown_cell tab) made.cells.items ≡ map (found_cell tab) rows) };

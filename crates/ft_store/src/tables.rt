@@ -3,7 +3,7 @@ ghost use Rattle.std.specs.Prelude.{◌≡◌, false, map, string_bytes, IfOk, I
 ghost use Rattle.sqlite.specs.State.{HasCleanDisk};
 ghost use Rattle.sqlite.specs.Held.{state};
 ghost use Rattle.ft_store.specs.Rows.{value_of};
-ghost use Rattle.ft_store.specs.Shown.{shown_table, table_listed, tables_listed};
+ghost use Rattle.ft_rows.specs.Shown.{shown_table, table_listed, tables_listed};
 ghost use Rattle.ft_store.specs.Calls.{IsStoreIfOpen, IsPlainFault, Reads};
 
 use crate::fault::StoreFault;

@@ -8,21 +8,21 @@ ghost use Rattle.sqlite.specs.State.{HasCleanDisk, Survives};
 ghost use Rattle.sqlite.specs.Held.{state};
 ghost use Rattle.sqlite.specs.Values.{bound};
 ghost use Rattle.sqlite_value.specs.Keys.{without_case};
-ghost use Rattle.ft_store.specs.Packed.{CanPack, spots_in};
-ghost use Rattle.ft_store.specs.Store.{StoreValue, cell_key_cmp, list_key_cmp, column_key_cmp, name_cmp, without_index, without_rows, with_columns, with_skipped, AddTable, applied, all_applied};
+ghost use Rattle.ft_rows.specs.Packed.{CanPack, spots_in};
+ghost use Rattle.ft_rows.specs.Store.{StoreValue, cell_key_cmp, list_key_cmp, column_key_cmp, name_cmp, without_index, without_rows, with_columns, with_skipped, AddTable, applied, all_applied};
 ghost use Rattle.ft_store.specs.Rows.{value_of};
 ghost use Rattle.ft_values.specs.Cells.{shown_value};
-ghost use Rattle.ft_store.specs.Changes.{shown_change, CanApply};
+ghost use Rattle.ft_rows.specs.Changes.{shown_change, CanApply};
 ghost use Rattle.ft_store.specs.Calls.{IsPlainFault, IsChangeFault, StepsOnOk, StepsIfOpen, KeepsLast, LeavesNothing, IsStore, IsStored, IsStoreIfOpen, Keeps, StaysUncommitted};
 ghost use Rattle.ft_store.specs.Groups.{entry_values, entry_put, PutsList, GoesOnOk};
 
 use crate::fault::StoreFault;
-use crate::packed::{can_pack, pack};
 use crate::statements::{
     add_cell, add_column, add_list, add_lists, add_name, add_note, add_size, add_skip, drop_cell,
     drop_cells, drop_column, drop_columns, drop_contents, drop_list, drop_lists, drop_name,
     drop_note, drop_size, drop_sizes, drop_skip, drop_skips,
 };
+use ft_rows::{can_pack, pack};
 use ft_values::{RowChange, Spot, Value};
 use sqlite::types::ValueRef;
 use sqlite::{Alter, Connection, Transaction};

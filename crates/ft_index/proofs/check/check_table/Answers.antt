@@ -9,7 +9,7 @@ use Rattle.ft_content.specs.Views.{TableInfo, shown_info}
 use Rattle.ft_index.specs.Opened.{IsNamed}
 use Rattle.ft_index.proofs.Executing.{executes_same}
 use Rattle.ft_index.specs.Changed.{with_tables}
-use Rattle.ft_index.proofs.FoundLemmas.{placed, unplaced}
+use Rattle.ft_documents.proofs.FoundLemmas.{placed, unplaced}
 use Rattle.ft_index.proofs.CheckLemmas.{executes_read, told_here, check_missing, check_right, check_wrong}
 use Rattle.ft_index.proofs.check.check_table.Goals as goal
 

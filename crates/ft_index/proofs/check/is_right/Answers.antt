@@ -6,7 +6,7 @@ use Rattle.ft_index.specs.Opened.{IsFound, IsListed}
 use Rattle.ft_index.proofs.HeldLemmas.{held_once}
 use Rattle.ft_index.proofs.StandingReads.{looked}
 use Rattle.ft_index.specs.Kept.{is_sound, Stands}
-use Rattle.ft_index.specs.Tables.{table_rows, table_index}
+use Rattle.ft_documents.specs.Tables.{table_rows, table_index}
 use Rattle.ft_index.proofs.check.is_right.Goals as goal
 
 pub returns-in_ok-standing-in-Some-clause-right : goal.returns-in_ok-standing-in-Some-clause-right

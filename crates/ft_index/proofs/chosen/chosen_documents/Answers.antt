@@ -10,9 +10,9 @@ use Rattle.ft_content.specs.Answer.{chosen}
 use Rattle.ft_content.specs.Views.{filter_of}
 use Rattle.ft_index.specs.DocumentsRead.{HasRows, Looks}
 use Rattle.ft_index.specs.Walked.{IsIndexed}
-use Rattle.ft_index.specs.Chosen.{ReadsAs, document_at}
-use Rattle.ft_index.specs.Matched.{chosen_hits, told}
-use Rattle.ft_index.proofs.ChosenLemmas.{chosen_all, of_hits}
+use Rattle.ft_documents.specs.Chosen.{ReadsAs, document_at}
+use Rattle.ft_documents.specs.Matched.{chosen_hits, told}
+use Rattle.ft_documents.proofs.ChosenLemmas.{chosen_all, of_hits}
 use Rattle.ft_index.proofs.LookLemmas.{rows_then, index_first}
 use Rattle.ft_index.proofs.chosen.chosen_documents.Goals as goal
 

@@ -7,8 +7,9 @@ use Rattle.std.proofs.lemmas.List.{take_more, take_all, map-append}
 use Rattle.ft_query.specs.declared.walk.Hit.{Hit}
 use Rattle.ft_values.specs.Cells.{Cell}
 use Rattle.ft_content.specs.Views.{cells_of}
-use Rattle.ft_index.specs.DocumentsRead.{HasRows, shown_document}
-use Rattle.ft_index.specs.Chosen.{document_at}
+use Rattle.ft_index.specs.DocumentsRead.{HasRows}
+use Rattle.ft_documents.specs.Gathered.{shown_document}
+use Rattle.ft_documents.specs.Chosen.{document_at}
 use Rattle.ft_index.proofs.LookLemmas.{looks_then, rows_first, rows_then}
 use Rattle.ft_index.proofs.chosen.documents_of_hits.Goals as goal
 

@@ -4,8 +4,9 @@ use Rattle.std.specs.Prelude.{IsTrue}
 use Rattle.sqlite.specs.State.{HasCleanDisk}
 use Rattle.ft_store.specs.Kept.{shows}
 use Rattle.ft_content.specs.Content.{Content}
-use Rattle.ft_index.specs.DocumentsRead.{HasRows, Looks, shown_document}
-use Rattle.ft_index.specs.Chosen.{document_at}
+use Rattle.ft_index.specs.DocumentsRead.{HasRows, Looks}
+use Rattle.ft_documents.specs.Gathered.{shown_document}
+use Rattle.ft_documents.specs.Chosen.{document_at}
 use Rattle.ft_index.proofs.chosen.documents_of_hits.Given as goal
 
 abbrev pub invariant-loop-hit : goal.invariant-loop-hit

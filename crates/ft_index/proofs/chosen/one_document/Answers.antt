@@ -4,10 +4,11 @@ use Rattle.std.specs.Ordering.{int_cmp}
 use Rattle.std.specs.FinMap.Entries.{find}
 use Rattle.ft_values.specs.declared.rows.Value.{Value}
 use Rattle.ft_content.specs.Views.{cells_of}
-use Rattle.ft_index.specs.declared.document.Document.{Document}
-use Rattle.ft_index.specs.DocumentsRead.{HasRows, shown_document}
-use Rattle.ft_index.specs.Rewrite.{document_if}
-use Rattle.ft_index.proofs.ChosenLemmas.{chosen_one}
+use Rattle.ft_documents.specs.declared.document.Document.{Document}
+use Rattle.ft_index.specs.DocumentsRead.{HasRows}
+use Rattle.ft_documents.specs.Gathered.{shown_document}
+use Rattle.ft_documents.specs.Rewrite.{document_if}
+use Rattle.ft_documents.proofs.ChosenLemmas.{chosen_one}
 use Rattle.ft_index.proofs.chosen.one_document.Goals as goal
 use Rattle.ft_index.proofs.chosen.one_document.Goals.{in-Some+in_ok-push, in_default}
 

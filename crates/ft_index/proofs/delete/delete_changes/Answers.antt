@@ -2,14 +2,14 @@
 use Rattle.std.proofs.Common.{rules, ◌≡◌, ℕ, List, map, string_bytes, Err, Ok, Result, Vec, Global, sym, ap, subst, ◌∙◌, to_z-of_z, to_z, of_z, w64, FitsSigned}
 use Rattle.std.specs.Prelude.{All}
 use Rattle.ft_values.specs.declared.rows.RowChange.{RowChange}
-use Rattle.ft_store.specs.Changes.{shown_change}
+use Rattle.ft_rows.specs.Changes.{shown_change}
 use Rattle.ft_values.specs.declared.fault.Fault.{Fault}
 use Rattle.ft_content.specs.Command as plain
 use Rattle.ft_content.specs.Views.{column_of, filter_of, shown_info}
-use Rattle.ft_index.specs.declared.rewrite.Rewrite.{Rewrite}
-use Rattle.ft_index.specs.Found.{IsSoundNamed, IsUnfit}
-use Rattle.ft_index.specs.Rewrite.{AreRight, shown_rewrite, docids_of}
-use Rattle.ft_index.specs.Kept.{IsOfDocids}
+use Rattle.ft_documents.specs.declared.rewrite.Rewrite.{Rewrite}
+use Rattle.ft_documents.specs.Found.{IsSoundNamed, IsUnfit}
+use Rattle.ft_documents.specs.Rewrite.{AreRight, shown_rewrite, docids_of}
+use Rattle.ft_documents.specs.Tables.{IsOfDocids}
 use Rattle.ft_index.specs.Written.{Writes, PlansIn}
 use Rattle.ft_index.proofs.DeleteWrites.{due, made, gone, is_write}
 use Rattle.ft_index.proofs.Planning.{plans_unfit, plans_fail, plans_do}

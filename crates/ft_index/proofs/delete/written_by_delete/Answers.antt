@@ -6,11 +6,11 @@ use Rattle.ft_values.specs.declared.fault.Fault.TheVariants as faults
 use Rattle.ft_content.specs.Answer.{chosen}
 use Rattle.ft_content.specs.Deserved.{delete_tests, query_fault}
 use Rattle.ft_content.specs.Views.{bare_content, column_of, filter_of}
-use Rattle.ft_index.specs.declared.rewrite.Rewrite.{Rewrite}
-use Rattle.ft_index.specs.Chosen.{ReadsAs}
-use Rattle.ft_index.specs.Rewrite.{removal}
+use Rattle.ft_documents.specs.declared.rewrite.Rewrite.{Rewrite}
+use Rattle.ft_documents.specs.Chosen.{ReadsAs}
+use Rattle.ft_documents.specs.Rewrite.{removal}
 use Rattle.ft_index.specs.Written.{Writes, LeadsTo}
-use Rattle.ft_index.proofs.BareLemmas.{reads_bare}
+use Rattle.ft_documents.proofs.BareLemmas.{reads_bare}
 use Rattle.ft_index.proofs.WholeReads.{rows_of, index_of}
 use Rattle.ft_index.proofs.DeleteWrites.{due, made, gone, leads, tested_due, text_due, none_due}
 use Rattle.ft_index.proofs.delete.written_by_delete.Goals as goal

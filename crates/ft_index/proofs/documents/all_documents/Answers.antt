@@ -1,7 +1,7 @@
 -- the documents that the rows are of
 use Rattle.std.proofs.Common.{◌∙◌, to_z-of_z}
 use Rattle.ft_store.specs.Kept.{value_in}
-use Rattle.ft_index.proofs.ReadRows.{all_read}
+use Rattle.ft_documents.proofs.ReadRows.{all_read}
 use Rattle.ft_index.proofs.documents.all_documents.Goals as goal
 
 pub returns-clause-found : goal.returns-clause-found

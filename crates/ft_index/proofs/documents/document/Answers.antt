@@ -3,7 +3,7 @@ use Rattle.std.proofs.Common.{◌≡◌, ◌==◌, ℕ, Some, length, vec_len, a
 use Rattle.std.proofs.lemmas.List.{length-map}
 use Rattle.ft_values.specs.Cells.{shown_value}
 use Rattle.ft_store.specs.Kept.{value_in, more_rows}
-use Rattle.ft_index.proofs.ReadRows.{none_read, some_read}
+use Rattle.ft_documents.proofs.ReadRows.{none_read, some_read}
 use Rattle.ft_index.proofs.documents.document.Goals as goal
 
 pub returns-then-is_empty-clause-found : goal.returns-then-is_empty-clause-found

@@ -1,8 +1,8 @@
 -- the last row is of the last document
 use Rattle.std.proofs.Common.{◌∙◌, sym, ap, to_z-of_z}
 use Rattle.ft_store.specs.Kept.{value_in}
-use Rattle.ft_store.specs.Shown.{last_docid_of}
-use Rattle.ft_index.proofs.ReadRows.{last_read}
+use Rattle.ft_rows.specs.Shown.{last_docid_of}
+use Rattle.ft_documents.proofs.ReadRows.{last_read}
 use Rattle.ft_index.proofs.documents.last_docid.Goals as goal
 
 pub returns-clause-last : goal.returns-clause-last

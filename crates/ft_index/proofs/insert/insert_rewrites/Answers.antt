@@ -8,11 +8,11 @@ use Rattle.ft_values.specs.declared.fault.Fault.{Fault}
 use Rattle.ft_content.specs.Content.{content_rows}
 use Rattle.ft_content.specs.Deserved.{insert_rows}
 use Rattle.ft_content.specs.Views.{cells_of, column_of}
-use Rattle.ft_index.specs.declared.rewrite.Rewrite.{Rewrite}
-use Rattle.ft_index.specs.Rewrite.{shown_rewrite}
-use Rattle.ft_index.specs.Tables.{table_rows}
-use Rattle.ft_index.specs.Inserted.{AreKnown, Inserts}
-use Rattle.ft_index.proofs.InsertRows.{known_from, new_are_inserts}
+use Rattle.ft_documents.specs.declared.rewrite.Rewrite.{Rewrite}
+use Rattle.ft_documents.specs.Rewrite.{shown_rewrite}
+use Rattle.ft_documents.specs.Tables.{table_rows}
+use Rattle.ft_documents.specs.Inserted.{AreKnown, Inserts}
+use Rattle.ft_documents.proofs.InsertRows.{known_from, new_are_inserts}
 use Rattle.ft_index.proofs.insert.insert_rewrites.Goals as goal
 
 pub returns-in_err-new-clause-rewrites : goal.returns-in_err-new-clause-rewrites

@@ -11,8 +11,9 @@ use Rattle.ft_store.specs.Rows.{value_of}
 use Rattle.ft_store.proofs.ChainLemmas.{kept_then, reads_then}
 use Rattle.ft_content.specs.Deserved.{docids_in}
 use Rattle.ft_content.specs.Views.{cells_of}
-use Rattle.ft_index.specs.Tables.{table_rows}
-use Rattle.ft_index.specs.DocumentsRead.{HasRows, has_given}
+use Rattle.ft_documents.specs.Tables.{table_rows}
+use Rattle.ft_index.specs.DocumentsRead.{HasRows}
+use Rattle.ft_documents.specs.Gathered.{has_given}
 use Rattle.ft_index.proofs.insert.stored_docids.Goals as goal
 
 pub loop-row-preserved : goal.loop-row-preserved

@@ -6,7 +6,8 @@ use Rattle.ft_store.specs.Kept.{shows}
 use Rattle.ft_content.specs.Content.{Content}
 use Rattle.ft_content.specs.Deserved.{docids_in}
 use Rattle.ft_content.specs.Views.{cells_of}
-use Rattle.ft_index.specs.DocumentsRead.{HasRows, Looks, has_given}
+use Rattle.ft_index.specs.DocumentsRead.{HasRows, Looks}
+use Rattle.ft_documents.specs.Gathered.{has_given}
 use Rattle.ft_index.proofs.insert.stored_docids.Given as goal
 
 abbrev pub invariant-loop-row : goal.invariant-loop-row

@@ -4,10 +4,10 @@ use Rattle.ft_store.specs.Kept.{value_in}
 use Rattle.ft_values.specs.declared.fault.Fault.{Fault}
 use Rattle.ft_content.specs.Content.{Content, content_rows}
 use Rattle.ft_content.specs.Views.{bare_content, cells_of, column_of}
-use Rattle.ft_index.specs.Tables.{table_rows}
-use Rattle.ft_index.specs.declared.rewrite.Rewrite.{Rewrite}
+use Rattle.ft_documents.specs.Tables.{table_rows}
+use Rattle.ft_documents.specs.declared.rewrite.Rewrite.{Rewrite}
 use Rattle.ft_index.specs.DocumentsRead.{HasRows}
-use Rattle.ft_index.specs.Inserted.{Inserts}
+use Rattle.ft_documents.specs.Inserted.{Inserts}
 use Rattle.ft_content.specs.Deserved.{insert_rows}
 use Rattle.ft_index.specs.Written.{Writes}
 use Rattle.ft_index.proofs.InsertWrites.{due, made, news, tested_writes, tests_are, rows_are, writes}

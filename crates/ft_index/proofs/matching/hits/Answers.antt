@@ -7,7 +7,7 @@ use Rattle.ft_store.specs.Kept.{StoreState}
 use Rattle.ft_content.specs.Answer.{cut}
 use Rattle.ft_content.specs.Meaning.{content_documents}
 use Rattle.ft_index.specs.Walked.{IsIndexed}
-use Rattle.ft_index.specs.Matched.{told}
+use Rattle.ft_documents.specs.Matched.{told}
 use Rattle.ft_index.proofs.WalkedLemmas.{indexed_at, rows_at}
 use Rattle.ft_index.proofs.matching.hits.Goals as goal
 

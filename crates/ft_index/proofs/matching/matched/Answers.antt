@@ -4,9 +4,9 @@ use Rattle.std.proofs.lemmas.Result.{IfOk-weaker}
 use Rattle.ft_query.specs.Trees.{tree_of}
 use Rattle.ft_query.specs.Occurs.{plain_hit}
 use Rattle.ft_content.specs.Answer.{query_read, cut}
-use Rattle.ft_index.specs.Matched.{told}
+use Rattle.ft_documents.specs.Matched.{told}
 use Rattle.ft_index.specs.RowsRead.{entries_asked}
-use Rattle.ft_index.proofs.MatchedLemmas.{hits_chosen, none_chosen, cut_none}
+use Rattle.ft_documents.proofs.MatchedLemmas.{hits_chosen, none_chosen, cut_none}
 use Rattle.ft_index.proofs.ReadsLemmas.{on_ok_from}
 use Rattle.ft_index.proofs.matching.matched.Goals as goal
 

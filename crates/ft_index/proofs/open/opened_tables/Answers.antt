@@ -5,7 +5,7 @@ use Rattle.std.proofs.lemmas.Iterator.Adapters.{YieldsList-from_vec}
 use Rattle.std.proofs.lemmas.Iterator.Consumers.{YieldsList-end}
 use Rattle.sqlite.specs.State.{HasCleanDisk}
 use Rattle.ft_store.specs.Kept.{shows, value_in}
-use Rattle.ft_store.specs.Shown.{shown_table}
+use Rattle.ft_rows.specs.Shown.{shown_table}
 use Rattle.ft_content.specs.Views.{shown_info}
 use Rattle.ft_index.proofs.StandingReads.{looked, looks_then}
 use Rattle.ft_index.proofs.OpenedTables.{IsMarkedRow, AreMarkedRows, one_marked_more, are_marked}

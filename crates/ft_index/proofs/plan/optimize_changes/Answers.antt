@@ -1,8 +1,8 @@
 -- by what an Optimize is answered
 use Rattle.std.proofs.Common.{rules, ◌≡◌, [], List, map, Ok, Err, Result, Vec, Global, sym, ap, subst}
 use Rattle.ft_values.specs.declared.rows.RowChange.{RowChange}
-use Rattle.ft_store.specs.Store.{Change}
-use Rattle.ft_store.specs.Changes.{shown_change}
+use Rattle.ft_rows.specs.Store.{Change}
+use Rattle.ft_rows.specs.Changes.{shown_change}
 use Rattle.ft_values.specs.declared.fault.Fault.{Fault}
 use Rattle.ft_content.specs.declared.command.Reply.{Reply}
 use Rattle.ft_content.specs.Command as plain

@@ -3,7 +3,7 @@ use Rattle.std.proofs.Common.{FitsSigned, map, sym, ap, subst, ◌∙◌, rules,
 use Rattle.std.specs.Prelude.{string_bytes}
 use Rattle.ft_store.specs.Kept.{value_in}
 use Rattle.ft_content.specs.Views.{column_of}
-use Rattle.ft_index.specs.Standing.{AreContent, listed_rows}
+use Rattle.ft_documents.specs.Standing.{AreContent, listed_rows}
 use Rattle.ft_index.proofs.StandingReads.{CellsRead, listed}
 use Rattle.ft_index.proofs.RebuildPlans.{held_none, held_some}
 use Rattle.ft_index.proofs.rebuild.read_content.Goals as goal

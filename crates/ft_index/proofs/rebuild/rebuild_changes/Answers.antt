@@ -2,14 +2,15 @@
 use Rattle.std.proofs.Common.{◌≡◌, inr, List, map, Some, None, refl, sym, ap, subst, ◌∙◌, rules, FitsSigned, w64, to_z, of_z, to_z-of_z}
 use Rattle.std.proofs.lemmas.Option.{slice_get_read, slice_get_within, same_Some}
 use Rattle.ft_store.specs.Kept.{value_in}
-use Rattle.ft_store.specs.Changes.{shown_change}
+use Rattle.ft_rows.specs.Changes.{shown_change}
 use Rattle.ft_values.specs.declared.table.TableInfo.{TableInfo as RustTableInfo}
 use Rattle.ft_content.specs.Content.{Column, Documents, same_name}
 use Rattle.ft_content.specs.Views.{TableInfo, shown_info, column_of}
 use Rattle.ft_index.specs.Opened.{IsNamed}
-use Rattle.ft_index.specs.Rebuild.{shown_document, HoldsIfAny, MakesIndex, LeavesOthers}
-use Rattle.ft_index.specs.Tables.{table_rows}
-use Rattle.ft_index.proofs.FoundLemmas.{placed, unplaced}
+use Rattle.ft_documents.specs.Rebuild.{shown_document, MakesIndex, LeavesOthers}
+use Rattle.ft_index.specs.Rebuild.{HoldsIfAny}
+use Rattle.ft_documents.specs.Tables.{table_rows}
+use Rattle.ft_documents.proofs.FoundLemmas.{placed, unplaced}
 use Rattle.ft_index.proofs.CheckLemmas.{told_here}
 use Rattle.ft_index.proofs.RebuildPlans.{rebuild_missing, rebuild_loose, rebuild_planned}
 use Rattle.ft_index.proofs.rebuild.rebuild_changes.Goals as goal

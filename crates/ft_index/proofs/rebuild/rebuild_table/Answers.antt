@@ -5,7 +5,7 @@ use Rattle.std.proofs.lemmas.Option.{slice_get_read, slice_get_within, same_Some
 use Rattle.sqlite.specs.State.{HasCleanDisk, Survives}
 use Rattle.ft_index.specs.Written.{PlansIn}
 use Rattle.ft_index.proofs.Crashing.{CommitsRows, crash_read, crash_written}
-use Rattle.ft_store.specs.Changes.{shown_change}
+use Rattle.ft_rows.specs.Changes.{shown_change}
 use Rattle.ft_store.specs.Kept.{shows, value_in}
 use Rattle.ft_values.specs.declared.rows.RowChange.{RowChange}
 use Rattle.ft_values.specs.declared.fault.Fault.{Fault}
@@ -16,12 +16,12 @@ use Rattle.ft_content.specs.Content.{same_name}
 use Rattle.ft_content.specs.Command as plain
 use Rattle.ft_content.specs.Deserved.{Contents}
 use Rattle.ft_content.specs.Views.{TableInfo, shown_info, answer_of}
-use Rattle.ft_index.specs.Found.{info_named}
+use Rattle.ft_documents.specs.Found.{info_named}
 use Rattle.ft_index.specs.Kept.{AreHeld, Executes, PlansFrom}
 use Rattle.ft_index.specs.Planned.{changes_of}
-use Rattle.ft_index.specs.Rebuild.{with_sound}
+use Rattle.ft_documents.specs.Rebuild.{with_sound}
 use Rattle.ft_index.specs.Changed.{Changed, with_tables}
-use Rattle.ft_index.proofs.FoundLemmas.{placed, unplaced}
+use Rattle.ft_documents.proofs.FoundLemmas.{placed, unplaced}
 use Rattle.ft_index.proofs.CheckLemmas.{told_here}
 use Rattle.ft_index.proofs.RebuildPlans.{refused_plan, refused_after, executes_after, told_after, rebuild_missing, rebuild_reply}
 use Rattle.ft_index.proofs.rebuild.rebuild_table.Goals as goal

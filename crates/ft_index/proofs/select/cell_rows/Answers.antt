@@ -9,7 +9,7 @@ use Rattle.ft_values.specs.Cells.{shown_value, Cell}
 use Rattle.ft_content.specs.Content.{Content}
 use Rattle.ft_content.specs.Views.{cells_of, column_of, item_of}
 use Rattle.ft_index.specs.DocumentsRead.{HasRows}
-use Rattle.ft_index.specs.Chosen.{cells_at}
+use Rattle.ft_documents.specs.Chosen.{cells_at}
 use Rattle.ft_index.specs.Selected.{hit_cells}
 use Rattle.ft_index.proofs.LookLemmas.{looks_then, rows_first, rows_then}
 use Rattle.ft_index.proofs.SelectRows.{found_wide, counted_more}

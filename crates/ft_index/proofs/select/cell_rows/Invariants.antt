@@ -6,7 +6,7 @@ use Rattle.ft_store.specs.Kept.{shows, more_rows}
 use Rattle.ft_content.specs.Content.{Content}
 use Rattle.ft_content.specs.Views.{rows_of, column_of, item_of}
 use Rattle.ft_index.specs.DocumentsRead.{HasRows, Looks}
-use Rattle.ft_index.specs.Chosen.{cells_at}
+use Rattle.ft_documents.specs.Chosen.{cells_at}
 use Rattle.ft_index.specs.Selected.{hit_cells}
 use Rattle.ft_index.proofs.select.cell_rows.Given as goal
 

@@ -4,7 +4,7 @@ use Rattle.std.specs.List.{list_any}
 use Rattle.ft_content.specs.Answer.{item_rows}
 use Rattle.ft_content.specs.Deserved.{is_offsets}
 use Rattle.ft_content.specs.Views.{bare_content, rows_of, item_of}
-use Rattle.ft_index.specs.DocumentsRead.{shown_document}
+use Rattle.ft_documents.specs.Gathered.{shown_document}
 use Rattle.ft_index.proofs.select.document_rows.Given as goal
 
 abbrev pub invariant-loop-document : goal.invariant-loop-document

@@ -8,7 +8,7 @@ use Rattle.ft_content.specs.Answer.{cut}
 use Rattle.ft_content.specs.Views.{column_of, item_of}
 use Rattle.ft_index.specs.DocumentsRead.{HasRows, Looks}
 use Rattle.ft_index.specs.Walked.{IsIndexed}
-use Rattle.ft_index.specs.Matched.{chosen_hits, told}
+use Rattle.ft_documents.specs.Matched.{chosen_hits, told}
 use Rattle.ft_index.proofs.LookLemmas.{rows_then, index_first}
 use Rattle.ft_index.proofs.ReadsLemmas.{on_ok_from}
 use Rattle.ft_index.proofs.SelectRows.{hit_rows, hit_rows_unread, hits_answered, as_many, counted_both, asked_with, asked_without}

@@ -2,7 +2,7 @@
 use Rattle.std.proofs.Common.{ℤ, List, map, sym, ap, subst, ◌∙◌, to_z-of_z}
 use Rattle.ft_content.specs.Answer.{cut}
 use Rattle.ft_content.specs.Views.{filter_of, column_of, item_of}
-use Rattle.ft_index.specs.declared.document.Document.{Document}
+use Rattle.ft_documents.specs.declared.document.Document.{Document}
 use Rattle.ft_index.specs.DocumentsRead.{HasRows}
 use Rattle.ft_index.specs.Walked.{IsIndexed}
 use Rattle.ft_index.proofs.SelectRows.{document_rows_are, no_offsets}

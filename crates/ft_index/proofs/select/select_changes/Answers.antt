@@ -1,12 +1,12 @@
 -- by the table, and the query
 use Rattle.std.proofs.Common.{rules, ◌≡◌, ◌⊎◌, [], List, map, Ok, Err, None, Some, Result, Vec, Global, string_bytes, sym, ap, subst, ◌∙◌}
 use Rattle.ft_values.specs.declared.rows.RowChange.{RowChange}
-use Rattle.ft_store.specs.Store.{Change}
-use Rattle.ft_store.specs.Changes.{shown_change}
+use Rattle.ft_rows.specs.Store.{Change}
+use Rattle.ft_rows.specs.Changes.{shown_change}
 use Rattle.ft_values.specs.declared.fault.Fault.{Fault}
 use Rattle.ft_content.specs.Command as plain
 use Rattle.ft_content.specs.Views.{shown_info, items_of, filter_of}
-use Rattle.ft_index.specs.Found.{IsUnfit, IsSoundNamed}
+use Rattle.ft_documents.specs.Found.{IsUnfit, IsSoundNamed}
 use Rattle.ft_index.specs.Kept.{PlansFrom}
 use Rattle.ft_index.specs.Planned.{changes_of}
 use Rattle.ft_index.proofs.PlanAnswers.{select_unplanned, select_fails, select_plans}

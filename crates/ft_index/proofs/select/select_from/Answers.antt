@@ -10,7 +10,7 @@ use Rattle.ft_content.specs.Views.{TableInfo, shown_info, column_of, items_of, f
 use Rattle.ft_index.specs.Changed.{with_tables}
 use Rattle.ft_index.specs.Kept.{Executes}
 use Rattle.ft_index.specs.Selected.{IsAsked}
-use Rattle.ft_index.proofs.FoundLemmas.{stands_within, stands_there}
+use Rattle.ft_documents.proofs.FoundLemmas.{stands_within, stands_there}
 use Rattle.ft_index.proofs.LookLemmas.{no_look}
 use Rattle.ft_index.proofs.SelectAnswers.{select_unfit, select_undone, select_done, select_counts}
 use Rattle.ft_index.proofs.select.select_from.Goals as goal

@@ -5,7 +5,7 @@ use Rattle.ft_content.specs.declared.command.Filter.{Filter}
 use Rattle.ft_content.specs.Deserved.{or_else, select_tests, reading_fault, query_fault}
 use Rattle.ft_content.specs.Answer.{reading}
 use Rattle.ft_content.specs.Views.{bare_content, items_of, filter_of}
-use Rattle.ft_index.proofs.FaultLemmas.{if_err_memory}
+use Rattle.ft_documents.proofs.FaultLemmas.{if_err_memory}
 use Rattle.ft_index.proofs.select.select_query.Goals as goal
 
 pub returns-in-Some-clause-fault : goal.returns-in-Some-clause-fault

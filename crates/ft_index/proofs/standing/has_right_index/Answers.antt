@@ -4,7 +4,7 @@ use Rattle.sqlite.specs.State.{HasCleanDisk}
 use Rattle.sqlite.specs.Effect.{Database}
 use Rattle.ft_store.specs.Kept.{shows, value_in}
 use Rattle.ft_store.specs.Rows.{value_of}
-use Rattle.ft_index.specs.Tables.{table_index}
+use Rattle.ft_documents.specs.Tables.{table_index}
 use Rattle.ft_index.proofs.StandingReads.{SizesRead, EntriesRead, of_rows, damaged_others}
 use Rattle.ft_index.proofs.standing.has_right_index.Goals as goal
 

@@ -6,8 +6,8 @@ use Rattle.sqlite.specs.State.{HasCleanDisk}
 use Rattle.ft_store.specs.Kept.{shows, value_in}
 use Rattle.ft_content.specs.Views.{column_of}
 use Rattle.ft_content.specs.Index.{index_rows}
-use Rattle.ft_index.specs.Standing.{AreContent, HaveContent, shown_row, listed_rows}
-use Rattle.ft_index.specs.Tables.{table_rows, table_index}
+use Rattle.ft_documents.specs.Standing.{AreContent, HaveContent, shown_row, listed_rows}
+use Rattle.ft_documents.specs.Tables.{table_rows, table_index}
 use Rattle.ft_index.proofs.StandingReads.{looked, looks_then, CellsRead, listed, stands_loose, stands_sound, stands_stale, have_content, have_columns, are_listed, are_named}
 use Rattle.ft_index.proofs.standing.read_standing.Goals as goal
 

@@ -9,7 +9,7 @@ use Rattle.ft_content.specs.Views.{shown_info, option_of, answer_of}
 use Rattle.ft_index.specs.Kept.{FullText, Executes, told_table}
 use Rattle.ft_content.specs.Deserved.{Contents}
 use Rattle.ft_index.specs.Planned.{Makes, table_change}
-use Rattle.ft_index.specs.Found.{with_told}
+use Rattle.ft_documents.specs.Found.{with_told}
 use Rattle.ft_values.specs.declared.fault.Fault.TheVariants as faults
 use Rattle.ft_index.specs.Changed.{Changed, with_tables}
 use Rattle.ft_index.proofs.Executing.{create_refused, create_nothing, create_adds, executes_refused}

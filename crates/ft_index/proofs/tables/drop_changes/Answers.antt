@@ -1,8 +1,8 @@
 -- the table of the name is the one that goes
 use Rattle.std.proofs.Common.{inr, ◌≡◌, ◌∷◌, [], List, ◌++◌, Ok, refl, sym, ap, subst, ◌∙◌, map, rules, FitsSigned, w64, to_z, of_z, to_z-of_z, Vec, Global}
 use Rattle.std.specs.Prelude.{slice_index_or}
-use Rattle.ft_store.specs.Changes.{shown_change}
-use Rattle.ft_store.specs.Store.{Change, DropTable}
+use Rattle.ft_rows.specs.Changes.{shown_change}
+use Rattle.ft_rows.specs.Store.{Change, DropTable}
 use Rattle.ft_values.specs.declared.rows.RowChange.{RowChange}
 use Rattle.ft_values.specs.declared.rows.RowChange.TheVariants as changes
 use Rattle.ft_values.specs.declared.table.TableInfo.{TableInfo as RustTableInfo}
@@ -10,9 +10,9 @@ use Rattle.std.proofs.lemmas.Option.{slice_get_read, slice_get_within, same_Some
 use Rattle.ft_content.specs.Content.{same_name}
 use Rattle.ft_content.specs.Command.{Drop}
 use Rattle.ft_content.specs.Views.{TableInfo, shown_info}
-use Rattle.ft_index.specs.Found.{info_named}
+use Rattle.ft_documents.specs.Found.{info_named}
 use Rattle.ft_index.specs.Kept.{PlansFrom}
-use Rattle.ft_index.proofs.FoundLemmas.{placed, unplaced}
+use Rattle.ft_documents.proofs.FoundLemmas.{placed, unplaced}
 use Rattle.ft_index.proofs.KnownLemmas.{none_named}
 use Rattle.ft_index.proofs.TablePlans.{drop_missing, drop_spared, drop_planned}
 use Rattle.ft_index.proofs.tables.drop_changes.Goals as goal

@@ -2,7 +2,7 @@
 use Rattle.std.proofs.Common.{rules, ◌≡◌, ◌⊎◌, List, map, true, Ok, Err, None, Result, Vec, Global, refl, sym, ap, subst, ◌∙◌, FitsSigned, w64, to_z, of_z, to_z-of_z}
 use Rattle.std.specs.Prelude.{is_ok}
 use Rattle.std.proofs.lemmas.Option.{slice_get_read, slice_get_within, same_Some}
-use Rattle.ft_store.specs.Changes.{shown_change}
+use Rattle.ft_rows.specs.Changes.{shown_change}
 use Rattle.ft_store.specs.Kept.{value_in}
 use Rattle.ft_values.specs.declared.rows.RowChange.{RowChange}
 use Rattle.ft_values.specs.declared.fault.Fault.{Fault}
@@ -13,11 +13,11 @@ use Rattle.ft_content.specs.Content.{same_name}
 use Rattle.ft_content.specs.Command as plain
 use Rattle.ft_content.specs.Deserved.{Contents}
 use Rattle.ft_content.specs.Views.{TableInfo, shown_info, answer_of}
-use Rattle.ft_index.specs.Found.{info_named, without_told}
+use Rattle.ft_documents.specs.Found.{info_named, without_told}
 use Rattle.ft_index.specs.Kept.{AreHeld, Executes, PlansFrom}
 use Rattle.ft_index.specs.Planned.{changes_of}
 use Rattle.ft_index.specs.Changed.{Changed, with_tables}
-use Rattle.ft_index.proofs.FoundLemmas.{placed, unplaced}
+use Rattle.ft_documents.proofs.FoundLemmas.{placed, unplaced}
 use Rattle.ft_index.proofs.TablePlans.{told_dropped, told_spared, drop_done}
 use Rattle.ft_index.proofs.Executing.{executes_unplanned, executes_refused, executes_planned}
 use Rattle.sqlite.specs.State.{Survives}

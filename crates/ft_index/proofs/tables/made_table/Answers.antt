@@ -5,8 +5,8 @@ use Rattle.ft_content.specs.Content.{same_name}
 use Rattle.ft_content.specs.Deserved.{create_fault}
 use Rattle.ft_content.specs.Step.{made_column}
 use Rattle.ft_content.specs.Views.{TableInfo, shown_info, option_of}
-use Rattle.ft_index.specs.Found.{info_named}
-use Rattle.ft_index.proofs.FoundLemmas.{found_is, unplaced, not_some}
+use Rattle.ft_documents.specs.Found.{info_named}
+use Rattle.ft_documents.proofs.FoundLemmas.{found_is, unplaced, not_some}
 use Rattle.ft_index.proofs.KnownLemmas.{same_names, same_ids, create_due, is_named, none_named}
 use Rattle.ft_index.proofs.tables.made_table.Goals as goal
 

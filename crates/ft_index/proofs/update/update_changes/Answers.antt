@@ -6,12 +6,12 @@ use Rattle.ft_values.specs.declared.fault.Fault.{Fault}
 use Rattle.ft_content.specs.Command as plain
 use Rattle.ft_content.specs.Content.{Content}
 use Rattle.ft_content.specs.Views.{set_of, filter_of, column_of, shown_info}
-use Rattle.ft_index.specs.declared.rewrite.Rewrite.{Rewrite}
-use Rattle.ft_index.specs.Found.{IsSoundNamed, IsUnfit}
-use Rattle.ft_index.specs.Rewrite.{AreRight, shown_rewrite, docids_of}
-use Rattle.ft_index.specs.Kept.{IsOfDocids}
+use Rattle.ft_documents.specs.declared.rewrite.Rewrite.{Rewrite}
+use Rattle.ft_documents.specs.Found.{IsSoundNamed, IsUnfit}
+use Rattle.ft_documents.specs.Rewrite.{AreRight, shown_rewrite, docids_of}
+use Rattle.ft_documents.specs.Tables.{IsOfDocids}
 use Rattle.ft_index.specs.Written.{HasAll, Writes, PlansIn}
-use Rattle.ft_store.specs.Changes.{shown_change}
+use Rattle.ft_rows.specs.Changes.{shown_change}
 use Rattle.ft_index.proofs.UpdateDue.{due, made, touches, repeats_due, is_write}
 use Rattle.ft_index.proofs.Planning.{plans_unfit, plans_fail, plans_do}
 use Rattle.ft_index.proofs.update.update_changes.Goals as goal

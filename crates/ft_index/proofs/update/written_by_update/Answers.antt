@@ -9,14 +9,14 @@ use Rattle.ft_content.specs.Answer.{chosen}
 use Rattle.ft_content.specs.Deserved.{update_tests, query_fault, moves_fault, docids_in}
 use Rattle.ft_content.specs.Views.{bare_content, column_of, set_of, filter_of}
 use Rattle.ft_content.proofs.ContentLemmas.{update_keeps_content}
-use Rattle.ft_index.specs.declared.rewrite.Rewrite.{Rewrite}
-use Rattle.ft_index.specs.declared.document.Document.{Document}
-use Rattle.ft_index.specs.DocumentsRead.{shown_document}
-use Rattle.ft_index.specs.Rewrite.{shown_rewrite}
-use Rattle.ft_index.specs.Updated.{changing, MayMove}
-use Rattle.ft_index.specs.Chosen.{ReadsAs}
+use Rattle.ft_documents.specs.declared.rewrite.Rewrite.{Rewrite}
+use Rattle.ft_documents.specs.declared.document.Document.{Document}
+use Rattle.ft_documents.specs.Gathered.{shown_document}
+use Rattle.ft_documents.specs.Rewrite.{shown_rewrite}
+use Rattle.ft_documents.specs.Updated.{changing, MayMove}
+use Rattle.ft_documents.specs.Chosen.{ReadsAs}
 use Rattle.ft_index.specs.Written.{Writes}
-use Rattle.ft_index.proofs.BareLemmas.{reads_bare}
+use Rattle.ft_documents.proofs.BareLemmas.{reads_bare}
 use Rattle.ft_index.proofs.LookLemmas.{rows_first, rows_then, index_first}
 use Rattle.ft_index.proofs.WholeReads.{rows_of, index_of}
 use Rattle.ft_index.proofs.UpdateDue.{due, made, touches, tested_due, text_due, moves_due}

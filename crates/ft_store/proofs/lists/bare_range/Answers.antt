@@ -3,7 +3,7 @@ use Rattle.sqlite.specs.Given.{IsPlain}
 use Rattle.sqlite.specs.Listing.{understood}
 use Rattle.sqlite.specs.Held.{state}
 use Rattle.std.proofs.lemmas.Result.{IfOk-weaker}
-use Rattle.ft_store.specs.Shown.{AreWhole}
+use Rattle.ft_rows.specs.Shown.{AreWhole}
 use Rattle.ft_store.proofs.Texts.{bare_prefix_text}
 use Rattle.ft_store.proofs.TextLemmas.{bare_prefix_plain}
 use Rattle.ft_store.proofs.AnswerLemmas.{bare_prefix_shown}

@@ -4,7 +4,7 @@ use Rattle.sqlite.specs.Given.{IsPlain}
 use Rattle.sqlite.specs.Listing.{understood}
 use Rattle.sqlite.specs.Held.{state}
 use Rattle.std.proofs.lemmas.Result.{IfOk-weaker}
-use Rattle.ft_store.specs.Shown.{shown_entry, entries_of, AreWhole, SomeDamaged}
+use Rattle.ft_rows.specs.Shown.{shown_entry, entries_of, AreWhole, SomeDamaged}
 use Rattle.ft_store.proofs.Texts.{lists_text}
 use Rattle.ft_store.proofs.TextLemmas.{lists_plain}
 use Rattle.ft_store.proofs.AnswerLemmas.{lists_stored_shown, placed}

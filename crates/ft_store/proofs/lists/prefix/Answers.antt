@@ -2,9 +2,9 @@ use Rattle.std.proofs.Common.{◌≡◌, Bool, [], map, subst, to_z-of_z, rules}
 use Rattle.std.specs.Prelude.{IfOk}
 use Rattle.std.specs.FinMap.Entries.{where_key}
 use Rattle.sqlite.specs.Held.{state}
-use Rattle.ft_store.specs.Store.{ListKey, list_key_cmp}
+use Rattle.ft_rows.specs.Store.{ListKey, list_key_cmp}
 use Rattle.ft_store.specs.Rows.{value_of}
-use Rattle.ft_store.specs.Shown.{shown_entry, entries_of, AreWhole, SomeDamaged}
+use Rattle.ft_rows.specs.Shown.{shown_entry, entries_of, AreWhole, SomeDamaged}
 use Rattle.ft_store.proofs.RangeLemmas.{below_255, all_begin, none_of}
 use Rattle.ft_store.proofs.lists.prefix.Goals as goal
 

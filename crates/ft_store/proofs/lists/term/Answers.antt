@@ -2,7 +2,7 @@ use Rattle.std.proofs.Common.{map, ap, ◌∙◌, to_z-of_z}
 use Rattle.std.specs.List.{flat_map}
 use Rattle.sqlite.specs.Held.{state}
 use Rattle.ft_store.specs.Rows.{value_of}
-use Rattle.ft_store.specs.Shown.{shown_list, entries_with}
+use Rattle.ft_rows.specs.Shown.{shown_list, entries_with}
 use Rattle.ft_store.proofs.EntryLemmas.{term_entries}
 use Rattle.ft_store.proofs.lists.term.Goals as goal
 

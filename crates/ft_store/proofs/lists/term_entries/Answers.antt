@@ -1,6 +1,6 @@
 use Rattle.std.proofs.Common.{map}
-use Rattle.ft_store.specs.Shown.{shown_list, shown_entry, entries_with}
-use Rattle.ft_store.proofs.EntryLemmas.{one_more_list}
+use Rattle.ft_rows.specs.Shown.{shown_list, shown_entry, entries_with}
+use Rattle.ft_rows.proofs.ListLemmas.{one_more_list}
 use Rattle.ft_store.proofs.lists.term_entries.Goals as goal
 
 pub loop-list-preserved : goal.loop-list-preserved

@@ -3,7 +3,7 @@ use Rattle.sqlite.specs.Given.{IsPlain}
 use Rattle.sqlite.specs.Listing.{understood}
 use Rattle.sqlite.specs.Held.{state}
 use Rattle.std.proofs.lemmas.Result.{IfOk-weaker}
-use Rattle.ft_store.specs.Shown.{AreWhole}
+use Rattle.ft_rows.specs.Shown.{AreWhole}
 use Rattle.ft_store.proofs.Texts.{term_text}
 use Rattle.ft_store.proofs.TextLemmas.{term_plain}
 use Rattle.ft_store.proofs.AnswerLemmas.{term_shown}

@@ -1,6 +1,6 @@
 use Rattle.std.proofs.Common.{◌≡◌, map, take}
 use Rattle.ft_store.specs.Found.{found_column}
-use Rattle.ft_store.specs.Shown.{shown_column}
+use Rattle.ft_rows.specs.Shown.{shown_column}
 use Rattle.ft_store.proofs.read.column_rows.Given as goal
 
 abbrev pub invariant-loop-row : goal.invariant-loop-row

@@ -1,4 +1,4 @@
-use Rattle.ft_store.specs.Store.{name_cmp}
+use Rattle.ft_rows.specs.Store.{name_cmp}
 use Rattle.std.proofs.Common.{map, sym, ap, subst, ◌∙◌, arith}
 use Rattle.sqlite.specs.Given.{IsPlain}
 use Rattle.sqlite.specs.Listing.{understood}

@@ -1,5 +1,5 @@
 use Rattle.ft_store.specs.Found.{found_size}
-use Rattle.ft_store.specs.Shown.{shown_size}
+use Rattle.ft_rows.specs.Shown.{shown_size}
 use Rattle.ft_store.proofs.CallLemmas.{one_more}
 use Rattle.ft_store.proofs.read.size_rows.Goals as goal
 

@@ -1,6 +1,6 @@
 use Rattle.std.proofs.Common.{FitsSigned, w64, rules, to_z-of_z}
 use Rattle.ft_store.specs.Found.{found_skip}
-use Rattle.ft_store.specs.Shown.{shown_skip}
+use Rattle.ft_rows.specs.Shown.{shown_skip}
 use Rattle.ft_store.proofs.CallLemmas.{one_more}
 use Rattle.ft_store.proofs.read.skip_rows.Goals as goal
 

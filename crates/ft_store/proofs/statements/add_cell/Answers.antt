@@ -4,7 +4,7 @@ use Rattle.sqlite.specs.declared.types.Value.TheVariants.{Int}
 use Rattle.sqlite.specs.State.{ExecutesInside}
 use Rattle.sqlite.specs.Held.{state}
 use Rattle.ft_values.specs.Cells.{shown_value}
-use Rattle.ft_store.specs.Changes.{num_of, txt_of}
+use Rattle.ft_store.specs.Rows.{num_of, txt_of}
 use Rattle.ft_store.proofs.Texts.{add_cell_text}
 use Rattle.ft_store.proofs.WriteLemmas.{does_add_cell, bound_num, bound_txt}
 use Rattle.ft_store.proofs.statements.add_cell.Goals as goal

@@ -4,7 +4,7 @@ use Rattle.std.specs.FinMap.Entries.{where_key}
 use Rattle.sqlite.specs.Effect.{Database}
 use Rattle.sqlite.specs.Held.{state}
 use Rattle.sqlite.specs.State.{HasCleanDisk}
-use Rattle.ft_store.specs.Store.{column_key_cmp}
+use Rattle.ft_rows.specs.Store.{column_key_cmp}
 use Rattle.ft_store.specs.Rows.{value_of}
 use Rattle.ft_store.proofs.ChainLemmas.{kept_store, kept_then, reads_then}
 use Rattle.ft_store.proofs.TableLemmas.{listed}

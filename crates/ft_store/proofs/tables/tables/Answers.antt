@@ -6,7 +6,7 @@ use Rattle.sqlite.specs.Held.{state}
 use Rattle.sqlite.specs.State.{HasCleanDisk}
 use Rattle.sqlite_keyed.proofs.ListLemmas.{map-map}
 use Rattle.ft_store.specs.Rows.{value_of}
-use Rattle.ft_store.specs.Shown.{shown_name, shown_table, table_listed}
+use Rattle.ft_rows.specs.Shown.{shown_name, shown_table, table_listed}
 use Rattle.ft_store.proofs.CallLemmas.{one_more}
 use Rattle.ft_store.proofs.ChainLemmas.{Reading, reading_then}
 use Rattle.ft_store.proofs.tables.tables.Goals as goal

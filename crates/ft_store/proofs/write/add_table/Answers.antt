@@ -6,7 +6,7 @@ use Rattle.std.specs.FinMap.Entries.{put, find}
 use Rattle.std.proofs.lemmas.Result.{on_ok_weaker}
 use Rattle.sqlite.specs.Held.{state}
 use Rattle.sqlite.specs.State.{HasCleanDisk}
-use Rattle.ft_store.specs.Store.{StoreValue, without_rows, with_columns, with_skipped}
+use Rattle.ft_rows.specs.Store.{StoreValue, without_rows, with_columns, with_skipped}
 use Rattle.ft_store.specs.Rows.{value_of}
 use Rattle.ft_store.specs.Calls.{StepsIfOpen}
 use Rattle.ft_store.proofs.PutLemmas.{then_step, free_table, StepsIfDone, AddsIfDone, StepsIfOpenDone}

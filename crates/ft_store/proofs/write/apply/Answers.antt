@@ -1,7 +1,7 @@
 use Rattle.std.proofs.Common.{sym, subst, map, to_z-of_z, FitsSigned, w64, rules}
 use Rattle.std.specs.Prelude.{string_bytes}
-use Rattle.ft_store.specs.Store.{AddTable, applied, without_rows}
-use Rattle.ft_store.specs.Changes.{shown_change}
+use Rattle.ft_rows.specs.Store.{AddTable, applied, without_rows}
+use Rattle.ft_rows.specs.Changes.{shown_change}
 use Rattle.ft_store.specs.Calls.{StepsOnOk}
 use Rattle.ft_store.proofs.write.apply.Goals as goal
 

@@ -4,9 +4,9 @@ use Rattle.std.proofs.lemmas.List.Elements.{All-more}
 use Rattle.sqlite.specs.Held.{state}
 use Rattle.sqlite.proofs.StateLemmas.{survives_then}
 use Rattle.ft_values.specs.declared.rows.RowChange.{RowChange}
-use Rattle.ft_store.specs.Store.{all_applied}
+use Rattle.ft_rows.specs.Store.{all_applied}
 use Rattle.ft_store.specs.Rows.{value_of}
-use Rattle.ft_store.specs.Changes.{shown_change, CanApply}
+use Rattle.ft_rows.specs.Changes.{shown_change, CanApply}
 use Rattle.ft_store.specs.Calls.{Goes}
 use Rattle.ft_store.proofs.CallLemmas.{keeps_then}
 use Rattle.ft_store.proofs.PutLemmas.{goes_on}

@@ -1,9 +1,9 @@
 use Rattle.std.proofs.Common.{◌≡◌, map, take, All, IsTrue}
 use Rattle.sqlite.specs.State.{HasCleanDisk, KeepsCommit, Survives}
 use Rattle.sqlite.specs.Held.{state}
-use Rattle.ft_store.specs.Store.{all_applied}
+use Rattle.ft_rows.specs.Store.{all_applied}
 use Rattle.ft_store.specs.Rows.{value_of}
-use Rattle.ft_store.specs.Changes.{shown_change, CanApply}
+use Rattle.ft_rows.specs.Changes.{shown_change, CanApply}
 use Rattle.ft_store.specs.Calls.{IsStore, Goes}
 use Rattle.ft_store.proofs.write.apply_each.Given as goal
 

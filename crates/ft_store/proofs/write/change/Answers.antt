@@ -4,9 +4,9 @@ use Rattle.sqlite.specs.Tree.{Trees}
 use Rattle.sqlite.specs.State.{Survives}
 use Rattle.sqlite.specs.Held.{state}
 use Rattle.sqlite.proofs.StateLemmas.{survives_then}
-use Rattle.ft_store.specs.Store.{all_applied}
+use Rattle.ft_rows.specs.Store.{all_applied}
 use Rattle.ft_store.specs.Rows.{value_of}
-use Rattle.ft_store.specs.Changes.{shown_change, CanApply}
+use Rattle.ft_rows.specs.Changes.{shown_change, CanApply}
 use Rattle.ft_store.specs.Calls.{IsStored}
 use Rattle.ft_store.proofs.PutLemmas.{all_gone}
 use Rattle.ft_store.proofs.GroupLemmas.{group_can, group_goes}

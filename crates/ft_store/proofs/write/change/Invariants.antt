@@ -1,9 +1,9 @@
 use Rattle.std.proofs.Common.{◌≡◌, ◌≤◌, ◌-◌, length, map, take, All}
 use Rattle.sqlite.specs.State.{HasCleanDisk, Survives}
 use Rattle.sqlite.specs.Held.{state}
-use Rattle.ft_store.specs.Store.{all_applied}
+use Rattle.ft_rows.specs.Store.{all_applied}
 use Rattle.ft_store.specs.Rows.{value_of}
-use Rattle.ft_store.specs.Changes.{shown_change, CanApply}
+use Rattle.ft_rows.specs.Changes.{shown_change, CanApply}
 use Rattle.ft_store.specs.Calls.{Goes}
 use Rattle.ft_store.proofs.write.change.Given as goal
 

@@ -4,7 +4,7 @@ use Rattle.std.specs.FinMap.Entries.{where_key}
 use Rattle.std.proofs.lemmas.Result.{on_ok_weaker}
 use Rattle.sqlite.specs.Held.{state}
 use Rattle.sqlite.specs.State.{HasCleanDisk}
-use Rattle.ft_store.specs.Store.{StoreValue, cell_key_cmp}
+use Rattle.ft_rows.specs.Store.{StoreValue, cell_key_cmp}
 use Rattle.ft_store.proofs.PutLemmas.{then_step}
 use Rattle.ft_store.proofs.write.clear_index.Goals as goal
 

@@ -2,7 +2,7 @@ use Rattle.std.proofs.Common.{◌∙◌, map, ap, sym, subst}
 use Rattle.std.specs.Vec.{vec_items}
 use Rattle.std.proofs.lemmas.List.{map_push}
 use Rattle.std.proofs.lemmas.List.Elements.{All-more}
-use Rattle.ft_store.specs.Packed.{CanPack, packed_spots}
+use Rattle.ft_rows.specs.Packed.{CanPack, packed_spots}
 use Rattle.ft_store.specs.Groups.{entry_put, PutsList}
 use Rattle.ft_values.specs.declared.rows.RowChange.{RowChange}
 use Rattle.ft_store.proofs.GroupLemmas.{one_more_list}

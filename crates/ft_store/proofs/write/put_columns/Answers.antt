@@ -6,7 +6,7 @@ use Rattle.std.proofs.lemmas.Int.{ints}
 use Rattle.std.proofs.lemmas.List.{take_all}
 use Rattle.sqlite.specs.Held.{state}
 use Rattle.sqlite.proofs.StateLemmas.{survives_then}
-use Rattle.ft_store.specs.Store.{with_columns}
+use Rattle.ft_rows.specs.Store.{with_columns}
 use Rattle.ft_store.specs.Rows.{value_of}
 use Rattle.ft_store.specs.Calls.{Steps}
 use Rattle.ft_store.proofs.CallLemmas.{keeps_then}

@@ -3,7 +3,7 @@ use Rattle.std.specs.Prelude.{string_bytes}
 use Rattle.std.specs.List.{enumerate_from}
 use Rattle.sqlite.specs.State.{HasCleanDisk, KeepsCommit, Survives}
 use Rattle.sqlite.specs.Held.{state}
-use Rattle.ft_store.specs.Store.{with_columns}
+use Rattle.ft_rows.specs.Store.{with_columns}
 use Rattle.ft_store.specs.Rows.{value_of}
 use Rattle.ft_store.specs.Calls.{IsStore, Steps}
 use Rattle.ft_store.proofs.write.put_columns.Given as goal

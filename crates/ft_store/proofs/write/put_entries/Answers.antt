@@ -3,8 +3,8 @@ use Rattle.std.specs.Prelude.{unwrap_or}
 use Rattle.std.specs.FinMap.Entries.{put}
 use Rattle.std.proofs.lemmas.Result.{on_ok_weaker}
 use Rattle.sqlite.specs.Held.{state}
-use Rattle.ft_store.specs.Packed.{spots_in}
-use Rattle.ft_store.specs.Store.{list_key_cmp}
+use Rattle.ft_rows.specs.Packed.{spots_in}
+use Rattle.ft_rows.specs.Store.{list_key_cmp}
 use Rattle.ft_store.specs.Rows.{value_of}
 use Rattle.ft_store.specs.Calls.{Steps}
 use Rattle.ft_store.proofs.PutLemmas.{packed_back}

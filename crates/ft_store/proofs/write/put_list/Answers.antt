@@ -3,7 +3,7 @@ use Rattle.std.proofs.lemmas.Result.{on_ok_weaker}
 use Rattle.sqlite.specs.Held.{state}
 use Rattle.sqlite.specs.State.{HasCleanDisk}
 use Rattle.std.specs.Prelude.{unwrap_or}
-use Rattle.ft_store.specs.Packed.{spots_in}
+use Rattle.ft_rows.specs.Packed.{spots_in}
 use Rattle.ft_store.proofs.PutLemmas.{puts_lists}
 use Rattle.ft_store.proofs.write.put_list.Goals as goal
 

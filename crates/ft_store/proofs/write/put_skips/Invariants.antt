@@ -1,7 +1,7 @@
 use Rattle.std.proofs.Common.{◌≡◌, take, IsTrue}
 use Rattle.sqlite.specs.State.{HasCleanDisk, KeepsCommit, Survives}
 use Rattle.sqlite.specs.Held.{state}
-use Rattle.ft_store.specs.Store.{with_skipped}
+use Rattle.ft_rows.specs.Store.{with_skipped}
 use Rattle.ft_store.specs.Rows.{value_of}
 use Rattle.ft_store.specs.Calls.{IsStore, Steps}
 use Rattle.ft_store.proofs.write.put_skips.Given as goal

@@ -4,10 +4,10 @@ use Rattle.std.specs.Prelude.{is_ok, OnOk}
 use Rattle.sqlite.specs.Tree.{Trees}
 use Rattle.sqlite.specs.Store.{Ghosts}
 use Rattle.ft_values.specs.declared.fault.Fault.{Fault}
-use Rattle.ft_store.specs.Store.{Change, Note, applied, all_applied}
+use Rattle.ft_rows.specs.Store.{Change, Note, applied, all_applied}
 use Rattle.ft_store.specs.Calls.{IsStored}
 use Rattle.ft_store.specs.Kept.{shows, value_in}
-use Rattle.ft_store.specs.Changes.{shown_change}
+use Rattle.ft_rows.specs.Changes.{shown_change}
 use Rattle.ft_content.specs.Views.{shown_info}
 use Rattle.ft_index.specs.Kept.{FullText, IsUp, Notes, value_of}
 use Rattle.ft_index.specs.Crashes.{NoteSurvives}

@@ -1,6 +1,6 @@
 -- the names without their small letters
 use Rattle.std.proofs.Common.{◌≡◌, ℕ, List, [], ◌∷◌, map, string_bytes, String, Global, refl, sym, ap, subst, ◌∙◌}
-use Rattle.ft_store.specs.Shown.{shown_note}
+use Rattle.ft_rows.specs.Shown.{shown_note}
 use Rattle.ft_index.specs.Kept.{FullText, value_of}
 use Rattle.ft_index.proofs.full_text.FullText.noted.Goals as goal
 

@@ -4,9 +4,9 @@ use Rattle.std.specs.List.{starts_with}
 use Rattle.std.specs.Ordering.{int_eq}
 use Rattle.ft_query.specs.Documents.{plain_list, lists_with}
 use Rattle.ft_values.specs.declared.rows.ListRow.{ListRow}
-use Rattle.ft_index.specs.Placed.{AreListsOf}
+use Rattle.ft_documents.specs.Placed.{AreListsOf}
 use Rattle.ft_index.specs.Walked.{table_documents}
-use Rattle.ft_index.proofs.AskedLemmas.{rows_count}
+use Rattle.ft_documents.proofs.AskedLemmas.{rows_count}
 use Rattle.ft_index.proofs.WalkedLemmas.{still_reliable, walk_answer}
 use Rattle.ft_index.proofs.table_lists.TableListsLists.prefix.Goals as goal
 

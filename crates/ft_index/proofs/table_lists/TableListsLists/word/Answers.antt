@@ -4,10 +4,10 @@ use Rattle.std.specs.Prelude.{bytes_eq}
 use Rattle.std.specs.Ordering.{int_eq, is_eq}
 use Rattle.ft_query.specs.Documents.{plain_list, lists_with}
 use Rattle.ft_values.specs.declared.rows.ListRow.{ListRow}
-use Rattle.ft_store.specs.Store.{name_cmp}
-use Rattle.ft_index.specs.Placed.{AreListsOf}
+use Rattle.ft_rows.specs.Store.{name_cmp}
+use Rattle.ft_documents.specs.Placed.{AreListsOf}
 use Rattle.ft_index.specs.Walked.{table_documents}
-use Rattle.ft_index.proofs.AskedLemmas.{rows_count}
+use Rattle.ft_documents.proofs.AskedLemmas.{rows_count}
 use Rattle.ft_index.proofs.WalkedLemmas.{still_reliable, walk_answer, asks_term}
 use Rattle.ft_index.proofs.table_lists.TableListsLists.word.Goals as goal
 

@@ -2,7 +2,7 @@ use Rattle.std.proofs.Common.{◌≡◌, [], ◌++◌, ◌∙◌, map, ap₂, ru
 use Rattle.sqlite.specs.Order.{column}
 use Rattle.sqlite_value.specs.Order.{bytes}
 use Rattle.ft_store.specs.Found.{found_spots, found_places}
-use Rattle.ft_store.specs.Shown.{shown_entry, entries_with, list_entries}
+use Rattle.ft_rows.specs.Shown.{shown_entry, entries_with, list_entries}
 use Rattle.ft_store.proofs.EntryLemmas.{damaged_more, damaged_last, entries_more, whole_more}
 use Rattle.ft_store.proofs.lists.EntriesOfGathered.add.Goals as goal
 

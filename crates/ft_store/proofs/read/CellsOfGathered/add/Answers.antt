@@ -1,5 +1,5 @@
 use Rattle.ft_store.specs.Found.{found_cell}
-use Rattle.ft_store.specs.Shown.{shown_cell}
+use Rattle.ft_rows.specs.Shown.{shown_cell}
 use Rattle.ft_store.proofs.CallLemmas.{next_more}
 use Rattle.ft_store.proofs.read.CellsOfGathered.add.Goals as goal
 

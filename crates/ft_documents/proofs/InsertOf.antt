@@ -1,0 +1,70 @@
+-- The rewrites of an Insert are rewrites of its table's content.
+use Rattle.std.proofs.Common.{◌≡◌, ℕ, zero, suc, ◌<◌, Bool, true, false, cond, List, [], ◌∷◌, length, get_or, Option, Some, None, ℤ, ap, subst, ◌∙◌, arith}
+use Rattle.std.specs.Prelude.{All, IfSome, IsTrue, unwrap_or}
+use Rattle.std.specs.List.{AllByRecursion, list_all}
+use Rattle.std.specs.Ordering.{int_cmp, int_eq, is_lt, is_eq}
+use Rattle.std.specs.Cmp.{int_cmp_total, tied_itself, eq_by_cmp_equiv}
+use Rattle.std.specs.FinMap.Entries.{find, below_all, is_sorted}
+use Rattle.std.proofs.lemmas.Bool.{and_parts}
+use Rattle.ft_values.specs.Cells.{Cell}
+use Rattle.ft_content.specs.Content.{Documents, Content, IsContent, is_document}
+use Rattle.ft_documents.specs.Rewrite.{Rewrite, AreOf, FitIfAny, by_docid, rewritten}
+use Rattle.ft_documents.proofs.RewriteLemmas.{written, find_rewritten}
+use Rattle.ft_documents.proofs.KeyedRows.{below_apart}
+
+all_of : {A : Type 0} (P : A → Type 0) (xs : List A) → AllByRecursion P xs → All P xs
+all_of P [] h = λ k d inside. absurd (omega (arith, inside))
+all_of {A} P (x ∷ xs) h = go (all_of P xs h.1)
+  where
+    go : All P xs → (k : ℕ) (d : A) → k < length (x ∷ xs) → P (get_or (x ∷ xs) k d)
+    go rest zero d inside = h.0
+    go rest (suc k) d inside = rest k d (omega (arith, inside))
+
+-- ---- each rewrite is found under its docid
+
+found_behind : (first : Rewrite) (rs all : List Rewrite) → below_all int_cmp first.docid (by_docid rs) ≡ true → AllByRecursion (λ (r : Rewrite). find int_cmp r.docid (by_docid all) ≡ Some r) rs → AllByRecursion (λ (r : Rewrite). find int_cmp r.docid (by_docid (first ∷ all)) ≡ Some r) rs
+found_behind first [] all below found = tt
+found_behind first (r ∷ rs) all below found =
+    let parts = and_parts (is_lt (int_cmp first.docid r.docid)) (below_all int_cmp first.docid (by_docid rs)) below in
+    let other : int_eq r.docid first.docid ≡ false = (eq_by_cmp_equiv int_cmp_total).symm r.docid first.docid ∙ below_apart _ parts.0 in
+    (ap (λ b. cond b (Some first) (find int_cmp r.docid (by_docid all))) other ∙ found.0, found_behind first rs all parts.1 found.1)
+
+pub each_found : (rs : List Rewrite) → is_sorted int_cmp (by_docid rs) ≡ true → AllByRecursion (λ (r : Rewrite). find int_cmp r.docid (by_docid rs) ≡ Some r) rs
+each_found [] sorted = tt
+each_found (r ∷ rs) sorted =
+    let parts = and_parts (below_all int_cmp r.docid (by_docid rs)) (is_sorted int_cmp (by_docid rs)) sorted in
+    (ap (λ b. cond b (Some r) (find int_cmp r.docid (by_docid rs))) (ap is_eq (tied_itself int_cmp_total r.docid)), found_behind r rs rs parts.0 (each_found rs parts.1))
+
+-- a document that is found among fit ones is fit
+found_fit : (width : ℕ) (documents : Documents) (docid : ℤ) (cells : List Cell) → list_all (is_document width) documents ≡ true → find int_cmp docid documents ≡ Some cells → is_document width (docid, cells) ≡ true
+found_fit width [] docid cells fit found = absurd (let no = found in cc)
+found_fit width (d ∷ ds) docid cells fit found =
+    let parts = and_parts (is_document width d) (list_all (is_document width) ds) fit in
+    go (int_eq docid d.0) found (found_fit width ds docid cells parts.1) parts.0
+  where
+    go : (b : Bool) → cond b (Some d.1) (find int_cmp docid ds) ≡ Some cells → (find int_cmp docid ds ≡ Some cells → is_document width (docid, cells) ≡ true) → is_document width d ≡ true → is_document width (docid, cells) ≡ true
+    go true is rest here = subst (λ cs. is_document width (docid, cs) ≡ true) (ap (λ o. unwrap_or o cells) is) here
+    go false is rest here = rest is
+
+fit_if_any : (width : ℕ) (documents : Documents) (r : Rewrite) → list_all (is_document width) documents ≡ true → find int_cmp r.docid documents ≡ r.after → FitIfAny width r
+fit_if_any width documents r fit found = go r.after found
+  where
+    go : (after : Option (List Cell)) → find int_cmp r.docid documents ≡ after → IfSome after (λ cells. IsTrue (is_document width (r.docid, cells)))
+    go None is = tt
+    go (Some cells) is = found_fit width documents r.docid cells fit is
+
+all_fit : (width : ℕ) (documents : Documents) (all rs : List Rewrite) → is_sorted int_cmp (by_docid all) ≡ true → list_all (is_document width) (rewritten all documents) ≡ true → AllByRecursion (λ (r : Rewrite). find int_cmp r.docid (by_docid all) ≡ Some r) rs → AllByRecursion (FitIfAny width) rs
+all_fit width documents all [] sorted fit found = tt
+all_fit width documents all (r ∷ rs) sorted fit found = (
+  fit_if_any width (rewritten all documents) r fit (find_rewritten r.docid all documents sorted ∙ ap (λ o. written o (find int_cmp r.docid documents)) found.0),
+  all_fit width documents all rs sorted fit found.1,
+)
+
+-- Rewrites that know what each document was, and make a content, are rewrites of the content.
+pub are_of : (name : List ℕ) (content : Content) (rewrites : List Rewrite) → is_sorted int_cmp (by_docid rewrites) ≡ true → AllByRecursion (λ (r : Rewrite). r.before ≡ find int_cmp r.docid content.documents) rewrites →
+    IsContent name (record content { documents = rewritten rewrites content.documents }) → AreOf content rewrites
+are_of name content rewrites rising befores is = record {
+  rising = rising;
+  befores = all_of (λ (r : Rewrite). r.before ≡ find int_cmp r.docid content.documents) rewrites befores;
+  afters = all_of (FitIfAny (length content.columns)) rewrites (all_fit (length content.columns) content.documents rewrites rewrites rising is.documents (each_found rewrites rising));
+}

@@ -1,0 +1,228 @@
+-- Rows under keys: what is found in them after they are mapped, filtered and put.
+use Rattle.std.proofs.Common.{◌≡◌, Bool, true, false, cond, not, T, ◌&&◌, List, [], ◌∷◌, map, Option, Some, None, refl, sym, ap, subst, ◌∙◌, ℤ}
+use Rattle.std.specs.Prelude.{filter, option_map, is_some}
+use Rattle.std.specs.declared.cmp.Ordering.{Ordering}
+use Rattle.std.specs.declared.cmp.Ordering.TheVariants.{Less, Equal, Greater}
+use Rattle.std.specs.Ordering.{int_cmp, int_eq, eq_by_cmp, is_eq, is_lt, ordering_then}
+use Rattle.std.specs.Cmp.{IsTotalOrder, eq_by_cmp_equiv, int_cmp_total, tied_itself}
+use Rattle.std.specs.FinMap.{int_cmp-IsAntisymmetric}
+use Rattle.std.specs.FinMap.Entries.{put, find, below_all, is_sorted, is_sorted-put, is_sorted-where_key, find-put, find-where_key, same_entries}
+use Rattle.std.proofs.lemmas.Bool.{and_parts, and_from}
+use Rattle.std.proofs.lemmas.Map.Lookups.{CmpEqualImpliesEq}
+use Rattle.ft_rows.specs.Store.{without_key}
+use Rattle.ft_documents.specs.RewriteRows.{all_put, was_there, gone, changed}
+
+pub true_of : (b : Bool) → T b → b ≡ true
+true_of true h = refl
+true_of false h = absurd h
+
+pub of_true : (b : Bool) → b ≡ true → T b
+of_true b h = subst T (sym h) tt
+
+pub tie : (o : Ordering) → is_eq o ≡ true → o ≡ Equal
+tie Less h = absurd (let no = h in cc)
+tie Equal h = refl
+tie Greater h = absurd (let no = h in cc)
+
+pub itself : (x : ℤ) → int_eq x x ≡ true
+itself x = ap is_eq (tied_itself int_cmp_total x)
+
+pub turned_round : (x y : ℤ) → int_eq x y ≡ int_eq y x
+turned_round x y = (eq_by_cmp_equiv int_cmp_total).symm x y
+
+pub same_int : (x y : ℤ) → int_eq x y ≡ true → x ≡ y
+same_int x y h = int_cmp-IsAntisymmetric x y (tie _ h)
+
+pub second_tie : (a b : Ordering) → is_eq (ordering_then a b) ≡ true → is_eq b ≡ true
+second_tie Less b h = absurd (let no = h in cc)
+second_tie Equal b h = h
+second_tie Greater b h = absurd (let no = h in cc)
+
+pub below_apart : (o : Ordering) → is_lt o ≡ true → is_eq o ≡ false
+below_apart Less h = refl
+below_apart Equal h = absurd (let no = h in cc)
+below_apart Greater h = refl
+
+pub less : (o : Ordering) → is_lt o ≡ true → o ≡ Less
+less Less h = refl
+less Equal h = absurd (let no = h in cc)
+less Greater h = absurd (let no = h in cc)
+
+pub then_equal : (o r : Ordering) → is_eq o ≡ true → ordering_then o r ≡ r
+then_equal Less r h = absurd (let no = h in cc)
+then_equal Equal r h = refl
+then_equal Greater r h = absurd (let no = h in cc)
+
+pub then_apart : (o r : Ordering) → is_eq o ≡ false → is_eq (ordering_then o r) ≡ false
+then_apart Less r h = refl
+then_apart Equal r h = absurd (let no = h in cc)
+then_apart Greater r h = refl
+
+-- ---- values that are mapped
+
+pub find-values : {K V W : Type 0} (R : K → K → Ordering) (f : V → W) (q : K) (es : List (K × V)) → find R q (map (λ e. (e.0, f e.1)) es) ≡ option_map f (find R q es)
+find-values R f q [] = refl
+find-values R f q (e ∷ es) = elim (eq_by_cmp R q e.0) as (λ b. cond b (Some (f e.1)) (find R q (map (λ e. (e.0, f e.1)) es)) ≡ option_map f (cond b (Some e.1) (find R q es))) [ true ↦ refl | false ↦ find-values R f q es ]
+
+below-values : {K V W : Type 0} (R : K → K → Ordering) (f : V → W) (x : K) (es : List (K × V)) → below_all R x (map (λ e. (e.0, f e.1)) es) ≡ below_all R x es
+below-values R f x [] = refl
+below-values R f x (e ∷ es) = ap (λ b. is_lt (R x e.0) && b) (below-values R f x es)
+
+pub sorted-values : {K V W : Type 0} (R : K → K → Ordering) (f : V → W) (es : List (K × V)) → is_sorted R (map (λ e. (e.0, f e.1)) es) ≡ is_sorted R es
+sorted-values R f [] = refl
+sorted-values R f (e ∷ es) = λ i. below-values R f e.0 es i && sorted-values R f es i
+
+module _ {K V : Type 0} (R : K → K → Ordering) (o : IsTotalOrder R) (exact : CmpEqualImpliesEq R) where
+  -- a key below all others isn't there
+  pub none_below : (q k : K) (es : List (K × V)) → eq_by_cmp R q k ≡ true → below_all R k es ≡ true → find R q es ≡ None
+  none_below q k [] same h = refl
+  none_below q k (e ∷ es) same h =
+      let parts = and_parts (is_lt (R k e.0)) (below_all R k es) h in
+      let is = ap (λ x. R x e.0) (exact q k (tie _ same)) ∙ less _ parts.0 in
+      ap (λ r. cond (is_eq r) (Some e.1) (find R q es)) is ∙ none_below q k es same parts.1
+
+  -- ---- rows that are put
+
+  pub sorted_put : (es rows : List (K × V)) → is_sorted R rows ≡ true → is_sorted R (all_put R es rows) ≡ true
+  sorted_put [] rows h = h
+  sorted_put (e ∷ es) rows h = sorted_put es (put R e.0 e.1 rows) (true_of _ (is_sorted-put R o e.0 e.1 rows (of_true _ h)))
+
+  abbrev pub or_else : Option V → Option V → Option V
+  or_else None later = later
+  or_else (Some v) later = Some v
+
+  pub find_all_put : (q : K) (es rows : List (K × V)) → is_sorted R es ≡ true → find R q (all_put R es rows) ≡ or_else (find R q es) (find R q rows)
+  find_all_put q [] rows h = refl
+  find_all_put q (e ∷ es) rows h =
+      let parts = and_parts (below_all R e.0 es) (is_sorted R es) h in
+      find_all_put q es (put R e.0 e.1 rows) parts.1 ∙ ap (or_else (find R q es)) (find-put R o q e.0 e.1 rows)
+      ∙ elim (eq_by_cmp R q e.0) as (λ b. eq_by_cmp R q e.0 ≡ b → or_else (find R q es) (cond b (Some e.1) (find R q rows)) ≡ or_else (cond b (Some e.1) (find R q es)) (find R q rows)) [
+        | true ↦ λ same. ap (λ x. or_else x (Some e.1)) (none_below q e.0 es same parts.0)
+        | false ↦ λ _. refl
+      ] refl
+
+  or_none : (x : Option V) → or_else x None ≡ x
+  or_none None = refl
+  or_none (Some v) = refl
+
+  -- rows in order that are put one after another
+  pub put_in_order : (es : List (K × V)) → is_sorted R es ≡ true → all_put R es [] ≡ es
+  put_in_order es h = same_entries R o exact (all_put R es []) es (of_true _ (sorted_put es [] refl)) (of_true _ h) (λ q. find_all_put q es [] h ∙ or_none (find R q es))
+
+  -- ---- rows that pass a test of key and value
+
+  abbrev pub kept : (K × V → Bool) → K → Option V → Option V
+  kept p q None = None
+  kept p q (Some v) = cond (p (q, v)) (Some v) None
+
+  below-filter : (p : K × V → Bool) (x : K) (es : List (K × V)) → below_all R x es ≡ true → below_all R x (filter p es) ≡ true
+  below-filter p x [] h = refl
+  below-filter p x (e ∷ es) h =
+      let parts = and_parts (is_lt (R x e.0)) (below_all R x es) h in
+      elim (p e) as (λ b. below_all R x (cond b (e ∷ filter p es) (filter p es)) ≡ true) [ true ↦ and_from (is_lt (R x e.0)) (below_all R x (filter p es)) parts.0 (below-filter p x es parts.1) | false ↦ below-filter p x es parts.1 ]
+
+  pub sorted-filter : (p : K × V → Bool) (es : List (K × V)) → is_sorted R es ≡ true → is_sorted R (filter p es) ≡ true
+  sorted-filter p [] h = refl
+  sorted-filter p (e ∷ es) h =
+      let parts = and_parts (below_all R e.0 es) (is_sorted R es) h in
+      elim (p e) as (λ b. is_sorted R (cond b (e ∷ filter p es) (filter p es)) ≡ true) [ true ↦ and_from (below_all R e.0 (filter p es)) (is_sorted R (filter p es)) (below-filter p e.0 es parts.0) (sorted-filter p es parts.1) | false ↦ sorted-filter p es parts.1 ]
+
+  pub find-filter : (p : K × V → Bool) (q : K) (es : List (K × V)) → is_sorted R es ≡ true → find R q (filter p es) ≡ kept p q (find R q es)
+  find-filter p q [] h = refl
+  find-filter p q (e ∷ es) h =
+      let parts = and_parts (below_all R e.0 es) (is_sorted R es) h in
+      let rest = find-filter p q es parts.1 in
+      elim (eq_by_cmp R q e.0) as (λ b. eq_by_cmp R q e.0 ≡ b → find R q (cond (p e) (e ∷ filter p es) (filter p es)) ≡ kept p q (cond b (Some e.1) (find R q es))) [
+        | true ↦ λ same. elim (p e) as (λ c. p e ≡ c → find R q (cond c (e ∷ filter p es) (filter p es)) ≡ cond (p (q, e.1)) (Some e.1) None) [
+          | true ↦ λ passes. ap (λ b. cond b (Some e.1) (find R q (filter p es))) same ∙ sym (ap (λ b. cond b (Some e.1) None) (ap (λ k. p (k, e.1)) (exact q e.0 (tie _ same)) ∙ passes))
+          | false ↦ λ fails. rest ∙ ap (kept p q) (none_below q e.0 es same parts.0) ∙ sym (ap (λ b. cond b (Some e.1) None) (ap (λ k. p (k, e.1)) (exact q e.0 (tie _ same)) ∙ fails))
+        ] refl
+        | false ↦ λ apart. elim (p e) as (λ c. find R q (cond c (e ∷ filter p es) (filter p es)) ≡ kept p q (find R q es)) [
+          | true ↦ ap (λ b. cond b (Some e.1) (find R q (filter p es))) apart ∙ rest
+          | false ↦ rest
+        ]
+      ] refl
+
+  -- ---- rows that are dropped by their keys
+
+  abbrev pub all_dropped : List (K × V) → List (K × V) → List (K × V)
+  all_dropped [] rows = rows
+  all_dropped (e ∷ es) rows = all_dropped es (without_key R e.0 rows)
+
+  pub sorted_dropped : (es rows : List (K × V)) → is_sorted R rows ≡ true → is_sorted R (all_dropped es rows) ≡ true
+  sorted_dropped [] rows h = h
+  sorted_dropped (e ∷ es) rows h = sorted_dropped es (without_key R e.0 rows) (true_of _ (is_sorted-where_key R (λ k. not (eq_by_cmp R e.0 k)) rows (of_true _ h)))
+
+  abbrev pub unless_some : Option V → Option V → Option V
+  unless_some None later = later
+  unless_some (Some v) later = None
+
+  unless_none : (a : Option V) → unless_some a None ≡ None
+  unless_none None = refl
+  unless_none (Some v) = refl
+
+  pub find_all_dropped : (q : K) (es rows : List (K × V)) → find R q (all_dropped es rows) ≡ unless_some (find R q es) (find R q rows)
+  find_all_dropped q [] rows = refl
+  find_all_dropped q (e ∷ es) rows =
+      let p : K → Bool = λ (k : K). not (eq_by_cmp R e.0 k) in
+      find_all_dropped q es (without_key R e.0 rows)
+      ∙ ap (unless_some (find R q es)) (find-where_key R p q (λ x t. ap p (sym (exact q x t))) rows ∙ ap (λ b. cond (not b) (find R q rows) None) ((eq_by_cmp_equiv o).symm e.0 q))
+      ∙ elim (eq_by_cmp R q e.0) as (λ b. unless_some (find R q es) (cond (not b) (find R q rows) None) ≡ unless_some (cond b (Some e.1) (find R q es)) (find R q rows)) [
+        | true ↦ unless_none (find R q es)
+        | false ↦ refl
+      ]
+
+  -- ---- from old rows to new ones
+
+  abbrev of_gone : Option V → Option V → Option V
+  of_gone old new = cond (is_some new) None old
+
+  nothing : (b : Bool) (x : Option V) → x ≡ None → x ≡ cond b x x
+  nothing true x h = refl
+  nothing false x h = refl
+
+  turned : (b : Bool) (v : V) → cond (not b) (Some v) None ≡ cond b None (Some v)
+  turned true v = refl
+  turned false v = refl
+
+  gone_kept : (q : K) (new : List (K × V)) (x : Option V) → kept (λ e. not (is_some (find R e.0 new))) q x ≡ of_gone x (find R q new)
+  gone_kept q new None = nothing (is_some (find R q new)) None refl
+  gone_kept q new (Some v) = turned (is_some (find R q new)) v
+
+  gone_found : (q : K) (old new : List (K × V)) → is_sorted R old ≡ true → find R q (gone R old new) ≡ of_gone (find R q old) (find R q new)
+  gone_found q old new h = find-filter (λ e. not (is_some (find R e.0 new))) q old h ∙ gone_kept q new (find R q old)
+
+  abbrev pub replaced : Option V → Option V → Option V → Option V
+  replaced old None there = cond (is_some old) None there
+  replaced old (Some v) there = Some v
+
+  abbrev pub fresh : (V → V → Bool) → Option V → Option V → Option V
+  fresh same old None = None
+  fresh same old (Some v) = cond (not (was_there same old v)) (Some v) None
+
+  by_cases : (same : V → V → Bool) → ((v w : V) → same v w ≡ true → v ≡ w) → (old new there : Option V) → ((v : V) → old ≡ Some v → there ≡ Some v) → or_else (fresh same old new) (unless_some (of_gone old new) there) ≡ replaced old new there
+  by_cases same sound None None there held = refl
+  by_cases same sound None (Some v) there held = refl
+  by_cases same sound (Some w) None there held = refl
+  by_cases same sound (Some w) (Some v) there held =
+      elim (same w v) as (λ b. same w v ≡ b → or_else (cond (not b) (Some v) None) there ≡ Some v) [
+        | true ↦ λ is. held w refl ∙ ap Some (sound w v is)
+        | false ↦ λ _. refl
+      ] refl
+
+  fresh_kept : (same : V → V → Bool) (q : K) (old : List (K × V)) (x : Option V) → kept (λ e. not (was_there same (find R e.0 old) e.1)) q x ≡ fresh same (find R q old) x
+  fresh_kept same q old None = refl
+  fresh_kept same q old (Some v) = refl
+
+  pub changed_found : (same : V → V → Bool) (q : K) (old new : List (K × V)) → is_sorted R new ≡ true → find R q (changed R same old new) ≡ fresh same (find R q old) (find R q new)
+  changed_found same q old new h = find-filter (λ e. not (was_there same (find R e.0 old) e.1)) q new h ∙ fresh_kept same q old (find R q new)
+
+  -- What is found after the gone rows are dropped and the changed ones are put, where the old ones were there.
+  pub find_replaced : (same : V → V → Bool) → ((v w : V) → same v w ≡ true → v ≡ w) → (q : K) (old new rows : List (K × V)) → is_sorted R old ≡ true → is_sorted R new ≡ true → ((v : V) → find R q old ≡ Some v → find R q rows ≡ Some v) →
+      find R q (all_put R (changed R same old new) (all_dropped (gone R old new) rows)) ≡ replaced (find R q old) (find R q new) (find R q rows)
+  find_replaced same sound q old new rows g h there =
+      let p : K × V → Bool = λ (e : K × V). not (was_there same (find R e.0 old) e.1) in
+      let left : find R q (all_dropped (gone R old new) rows) ≡ unless_some (of_gone (find R q old) (find R q new)) (find R q rows) = find_all_dropped q (gone R old new) rows ∙ ap (λ x. unless_some x (find R q rows)) (gone_found q old new g) in
+      find_all_put q (changed R same old new) (all_dropped (gone R old new) rows) (sorted-filter p new h)
+      ∙ (λ i. or_else (changed_found same q old new h i) (left i))
+      ∙ by_cases same sound (find R q old) (find R q new) (find R q rows) there

@@ -1,0 +1,118 @@
+-- The row changes of rewrites name their documents alone.
+use Rattle.std.proofs.Common.{ℕ, List, [], ◌∷◌, ◌++◌, map, Option, Some, None, ℤ, refl, sym}
+use Rattle.std.specs.Prelude.{filter, length, All, Contains, unwrap_or, nat_lt}
+use Rattle.std.specs.List.{flat_map, enumerate_from}
+use Rattle.std.specs.declared.cmp.Ordering.{Ordering}
+use Rattle.std.specs.declared.cmp.Ordering.TheVariants.{Less, Equal, Greater}
+use Rattle.std.specs.Ordering.{int_cmp, int_eq}
+use Rattle.std.specs.FinMap.Entries.{by_order, put, find}
+use Rattle.std.proofs.lemmas.List.Elements.{All-nil, All-cons, All-head, All-tail, All-append, All-map, All-filter, All-weaker, All-same, All-contains_itself}
+use Rattle.ft_query.specs.Tokens.{PlainToken}
+use Rattle.ft_values.specs.Cells.{Cell}
+use Rattle.ft_rows.specs.Store.{column_key_cmp, Change, PutCell, DropCells, PutEntries, DropEntries, PutSize, DropSize}
+use Rattle.ft_content.specs.Content.{Column, Documents}
+use Rattle.ft_content.specs.Index.{Entry, Key, key_cmp, key_of, StoredSpot, stored_spot, Size, SizeRow, size_row, document_tokens, document_postings, entry_at, document_entries, document_sizes, sizes, index_rows}
+use Rattle.ft_documents.specs.Tables.{IsOfDocids}
+use Rattle.ft_documents.specs.Rewrite.{Rewrite, befores, afters, document_if, docids_of}
+use Rattle.ft_documents.specs.RewriteRows.{with_entries, all_put, sized, same_cell, same_spots, gone, changed, numbered, goes, dropped_documents, put_cells, put_documents, dropped_lists, put_lists, dropped_sizes, put_sizes, lists_with, lists_of, sizes_of, list_changes, rewrite_changes}
+use Rattle.ft_documents.proofs.IndexOf.{lists_made}
+
+pub All-flat_map : {X Y : Type 0} (P : Y → Type 0) (f : X → List Y) (xs : List X) → All (λ x. All P (f x)) xs → All P (flat_map f xs)
+All-flat_map P f [] h = All-nil P
+All-flat_map P f (x ∷ xs) h = All-append P (f x) (flat_map f xs) (All-head (λ x. All P (f x)) x xs h) (All-flat_map P f xs (All-tail (λ x. All P (f x)) x xs h))
+
+-- a key that is put
+keys_put : {K V : Type 0} (R : K → K → Ordering) (Q : K → Type 0) (k : K) (v : V) (es : List (K × V)) → Q k → All (λ e. Q e.0) es → All (λ e. Q e.0) (put R k v es)
+keys_put R Q k v [] q h = All-cons (λ e. Q e.0) (k, v) [] q h
+keys_put R Q k v (e ∷ es) q h =
+    let first = All-head (λ e. Q e.0) e es h in
+    let rest = All-tail (λ e. Q e.0) e es h in
+    elim (R k e.0) as (λ o. All (λ e. Q e.0) (by_order o ((k, v) ∷ e ∷ es) ((e.0, v) ∷ es) (e ∷ put R k v es))) [
+      | Less ↦ All-cons (λ e. Q e.0) (k, v) (e ∷ es) q h
+      | Equal ↦ All-cons (λ e. Q e.0) (e.0, v) es first rest
+      | Greater ↦ All-cons (λ e. Q e.0) e (put R k v es) first (keys_put R Q k v es q rest)
+    ]
+
+pub keys_all_put : {K V : Type 0} (R : K → K → Ordering) (Q : K → Type 0) (es rows : List (K × V)) → All (λ e. Q e.0) es → All (λ e. Q e.0) rows → All (λ e. Q e.0) (all_put R es rows)
+keys_all_put R Q [] rows h g = g
+keys_all_put R Q (e ∷ es) rows h g = keys_all_put R Q es (put R e.0 e.1 rows) (All-tail (λ e. Q e.0) e es h) (keys_put R Q e.0 e.1 rows (All-head (λ e. Q e.0) e es h) g)
+
+-- rows of documents that pass, for a claim of docids
+module _ (D : ℤ → Type 0) where
+  abbrev OfDocuments : Documents → Type 0
+  OfDocuments documents = All (λ (d : ℤ × List Cell). D d.0) documents
+
+  entries_near : (columns : List Column) (documents : Documents) → OfDocuments documents → All (λ (e : Entry). D e.docid) (flat_map (document_entries columns) documents)
+  entries_near columns documents h = All-flat_map (λ (e : Entry). D e.docid) (document_entries columns) documents
+      (All-weaker (λ (d : ℤ × List Cell). D d.0) (λ d. All (λ (e : Entry). D e.docid) (document_entries columns d)) (λ d is. All-map (λ (e : Entry). D e.docid) (entry_at d.0) (document_postings columns d.1) (λ _ _ _. is)) documents h)
+
+  joined_near : (es : List Entry) (lists : List (Key × List StoredSpot)) → All (λ (e : Entry). D e.docid) es → All (λ (l : Key × List StoredSpot). D l.0.1) lists → All (λ (l : Key × List StoredSpot). D l.0.1) (with_entries es lists)
+  joined_near [] lists h g = g
+  joined_near (e ∷ es) lists h g =
+      joined_near es (put key_cmp (key_of e) (unwrap_or (find key_cmp (key_of e) lists) [] ++ stored_spot e.spot ∷ []) lists) (All-tail (λ (e : Entry). D e.docid) e es h)
+      (keys_put key_cmp (λ (k : Key). D k.1) (key_of e) (unwrap_or (find key_cmp (key_of e) lists) [] ++ stored_spot e.spot ∷ []) lists (All-head (λ (e : Entry). D e.docid) e es h) g)
+
+  pub lists_near : (columns : List Column) (documents : Documents) → OfDocuments documents → All (λ (l : Key × List StoredSpot). D l.0.1) (lists_of columns documents)
+  lists_near columns documents h = All-same (λ (l : Key × List StoredSpot). D l.0.1) (lists_of columns documents) (lists_with columns documents []) (sym (lists_made columns documents))
+      (joined_near (flat_map (document_entries columns) documents) [] (entries_near columns documents h) (All-nil (λ (l : Key × List StoredSpot). D l.0.1)))
+
+  document_near : (columns : List Column) (d : ℤ × List Cell) → D d.0 → All (λ (s : Size). D s.docid) (document_sizes columns d)
+  document_near columns d is =
+      let size : ℕ × List PlainToken → Size = λ c. record { docid = d.0; column = c.0; n = length c.1 } in
+      All-filter (λ (s : Size). nat_lt 0 s.n) (λ (s : Size). D s.docid) (map size (enumerate_from 0 (document_tokens columns d.1))) (All-map (λ (s : Size). D s.docid) size (enumerate_from 0 (document_tokens columns d.1)) (λ _ _ _. is))
+
+  pub sizes_near : (columns : List Column) (documents : Documents) → OfDocuments documents → All (λ (s : (ℤ × ℤ) × ℤ). D s.0.0) (sizes_of columns documents)
+  unfolding index_rows sizes
+  sizes_near columns documents h =
+      let ss = flat_map (document_sizes columns) documents in
+      let near : All (λ (s : Size). D s.docid) ss = All-flat_map (λ (s : Size). D s.docid) (document_sizes columns) documents (All-weaker (λ (d : ℤ × List Cell). D d.0) (λ d. All (λ (s : Size). D s.docid) (document_sizes columns d)) (document_near columns) documents h) in
+      keys_all_put column_key_cmp (λ (k : ℤ × ℤ). D k.0) (sized (map size_row ss)) []
+      (All-map (λ (s : (ℤ × ℤ) × ℤ). D s.0.0) (λ (s : SizeRow). ((s.docid, s.column), s.n)) (map size_row ss) (All-map (λ (s : SizeRow). D s.docid) size_row ss near))
+      (All-nil (λ (s : (ℤ × ℤ) × ℤ). D s.0.0))
+
+  if_near : (docid : ℤ) (cells : Option (List Cell)) → D docid → OfDocuments (document_if docid cells)
+  if_near docid None is = All-nil (λ (d : ℤ × List Cell). D d.0)
+  if_near docid (Some cells) is = All-cons (λ (d : ℤ × List Cell). D d.0) (docid, cells) [] is (All-nil (λ (d : ℤ × List Cell). D d.0))
+
+  befores_near : (rewrites : List Rewrite) → All (λ (r : Rewrite). D r.docid) rewrites → OfDocuments (befores rewrites)
+  befores_near rewrites h = All-flat_map (λ (d : ℤ × List Cell). D d.0) (λ (r : Rewrite). document_if r.docid r.before) rewrites (All-weaker (λ (r : Rewrite). D r.docid) (λ r. OfDocuments (document_if r.docid r.before)) (λ r is. if_near r.docid r.before is) rewrites h)
+
+  afters_near : (rewrites : List Rewrite) → All (λ (r : Rewrite). D r.docid) rewrites → OfDocuments (afters rewrites)
+  afters_near rewrites h = All-flat_map (λ (d : ℤ × List Cell). D d.0) (λ (r : Rewrite). document_if r.docid r.after) rewrites (All-weaker (λ (r : Rewrite). D r.docid) (λ r. OfDocuments (document_if r.docid r.after)) (λ r is. if_near r.docid r.after is) rewrites h)
+
+  -- any claim of changes that holds of a document's changes holds of all changes
+  module _ (P : Change → Type 0) where
+    pub changes_near : (tab : ℤ) (columns : List Column) (rewrites : List Rewrite) → ((docid : ℤ) → D docid → P (DropCells tab docid)) → ((docid column : ℤ) (cell : Cell) → D docid → P (PutCell tab docid column cell)) →
+        ((term : List ℕ) (docid : ℤ) → D docid → P (DropEntries tab term docid)) → ((term : List ℕ) (docid : ℤ) (spots : List StoredSpot) → D docid → P (PutEntries tab term docid spots)) →
+        ((docid column : ℤ) → D docid → P (DropSize tab docid column)) → ((docid column n : ℤ) → D docid → P (PutSize tab docid column n)) → All (λ (r : Rewrite). D r.docid) rewrites → All P (rewrite_changes tab columns rewrites)
+    unfolding rewrite_changes
+    changes_near tab columns rewrites drops puts drop_list put_list drop_size put_size h =
+        let old = lists_of columns (befores rewrites) in
+        let new = lists_of columns (afters rewrites) in
+        let olds = sizes_of columns (befores rewrites) in
+        let news = sizes_of columns (afters rewrites) in
+        let N : Key × List StoredSpot → Type 0 = λ l. D l.0.1 in
+        let S : (ℤ × ℤ) × ℤ → Type 0 = λ s. D s.0.0 in
+        All-append P (dropped_documents tab rewrites) _
+        (All-map P (λ (r : Rewrite). DropCells tab r.docid) (filter goes rewrites) (All-weaker (λ (r : Rewrite). D r.docid) (λ r. P (DropCells tab r.docid)) (λ r is. drops r.docid is) (filter goes rewrites) (All-filter goes (λ (r : Rewrite). D r.docid) rewrites h)))
+        (All-append P (put_documents tab rewrites) _
+        (All-flat_map P (λ (r : Rewrite). put_cells tab r.docid (unwrap_or r.before []) (unwrap_or r.after [])) rewrites (All-weaker (λ (r : Rewrite). D r.docid) (λ r. All P (put_cells tab r.docid (unwrap_or r.before []) (unwrap_or r.after [])))
+        (λ r is. All-map P (λ (c : ℤ × Cell). PutCell tab r.docid c.0 c.1) (changed int_cmp same_cell (numbered (unwrap_or r.before [])) (numbered (unwrap_or r.after []))) (λ k d _. puts r.docid _ _ is)) rewrites h))
+        (All-append P (list_changes tab old new) _
+        (All-append P (dropped_lists tab (gone key_cmp old new)) (put_lists tab (changed key_cmp same_spots old new))
+        (All-map P (λ (l : Key × List StoredSpot). DropEntries tab l.0.0 l.0.1) (gone key_cmp old new) (All-weaker N (λ l. P (DropEntries tab l.0.0 l.0.1)) (λ l is. drop_list l.0.0 l.0.1 is) (gone key_cmp old new) (All-filter _ N old (lists_near columns (befores rewrites) (befores_near rewrites h)))))
+        (All-map P (λ (l : Key × List StoredSpot). PutEntries tab l.0.0 l.0.1 l.1) (changed key_cmp same_spots old new) (All-weaker N (λ l. P (PutEntries tab l.0.0 l.0.1 l.1)) (λ l is. put_list l.0.0 l.0.1 l.1 is) (changed key_cmp same_spots old new) (All-filter _ N new (lists_near columns (afters rewrites) (afters_near rewrites h))))))
+        (All-append P (dropped_sizes tab (gone column_key_cmp olds news)) (put_sizes tab (changed column_key_cmp int_eq olds news))
+        (All-map P (λ (s : (ℤ × ℤ) × ℤ). DropSize tab s.0.0 s.0.1) (gone column_key_cmp olds news) (All-weaker S (λ s. P (DropSize tab s.0.0 s.0.1)) (λ s is. drop_size s.0.0 s.0.1 is) (gone column_key_cmp olds news) (All-filter _ S olds (sizes_near columns (befores rewrites) (befores_near rewrites h)))))
+        (All-map P (λ (s : (ℤ × ℤ) × ℤ). PutSize tab s.0.0 s.0.1 s.1) (changed column_key_cmp int_eq olds news) (All-weaker S (λ s. P (PutSize tab s.0.0 s.0.1 s.1)) (λ s is. put_size s.0.0 s.0.1 s.1 is) (changed column_key_cmp int_eq olds news) (All-filter _ S news (sizes_near columns (afters rewrites) (afters_near rewrites h))))))))
+
+-- each change is of one of the documents
+pub near : (tab : ℤ) (columns : List Column) (rewrites : List Rewrite) → All (IsOfDocids tab (docids_of rewrites)) (rewrite_changes tab columns rewrites)
+near tab columns rewrites =
+    let docids = docids_of rewrites in
+    changes_near (Contains docids) (IsOfDocids tab docids) tab columns rewrites (λ docid is. (refl, is)) (λ docid column cell is. (refl, is)) (λ term docid is. (refl, is)) (λ term docid spots is. (refl, is)) (λ docid column is. (refl, is)) (λ docid column n is. (refl, is))
+    (mapped rewrites (All-contains_itself docids))
+  where
+    mapped : (rs : List Rewrite) → All (Contains (docids_of rewrites)) (map (λ (r : Rewrite). r.docid) rs) → All (λ (r : Rewrite). Contains (docids_of rewrites) r.docid) rs
+    mapped [] h = All-nil (λ (r : Rewrite). Contains (docids_of rewrites) r.docid)
+    mapped (r ∷ rs) h = All-cons (λ (r : Rewrite). Contains (docids_of rewrites) r.docid) r rs (All-head (Contains (docids_of rewrites)) r.docid (docids_of rs) h) (mapped rs (All-tail (Contains (docids_of rewrites)) r.docid (docids_of rs) h))

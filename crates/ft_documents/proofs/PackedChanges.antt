@@ -1,0 +1,93 @@
+-- The row changes of documents put lists that can be packed.
+use Rattle.std.proofs.Common.{◌≡◌, ℕ, ◌≤◌, true, false, cond, List, [], ◌∷◌, map, length, get_or, Option, Some, None, ℤ, sym, subst, ◌∙◌}
+use Rattle.std.specs.List.{list_all}
+use Rattle.std.proofs.lemmas.Bool.{and_parts}
+use Rattle.std.specs.Prelude.{◌==◌, filter, All, IfSome, unwrap_or}
+use Rattle.std.specs.Ordering.{int_cmp, int_eq}
+use Rattle.std.specs.FinMap.Entries.{find, is_sorted}
+use Rattle.std.proofs.lemmas.List.Elements.{All-nil, All-cons, All-head, All-tail, All-append, All-map, All-filter, All-weaker}
+use Rattle.ft_values.specs.declared.rows.RowChange.{RowChange}
+use Rattle.ft_values.specs.declared.rows.RowChange.TheVariants as row
+use Rattle.ft_rows.specs.Changes.{shown_change, CanApply}
+use Rattle.ft_rows.specs.Packed.{CanPack}
+use Rattle.ft_values.specs.Cells.{Cell}
+use Rattle.ft_rows.specs.Store.{column_key_cmp, PutCell, DropCells, PutEntries, DropEntries, PutSize, DropSize}
+use Rattle.ft_content.specs.Content.{Column, Documents, is_cell, is_document}
+use Rattle.ft_content.specs.Index.{Key, key_cmp, StoredSpot}
+use Rattle.ft_content.proofs.IndexLemmas.{key_cmp_total}
+use Rattle.ft_documents.specs.Rewrite.{Rewrite, befores, afters, document_if, by_docid, FitIfAny, IsPackable}
+use Rattle.ft_documents.specs.RewriteRows.{same_cell, same_spots, gone, changed, numbered, goes, dropped_documents, put_cells, put_documents, dropped_lists, put_lists, dropped_sizes, put_sizes, lists_of, sizes_of, list_changes, rewrite_changes, AreShortNumbers, HasShortNumbers}
+use Rattle.ft_documents.proofs.NearLemmas.{All-flat_map}
+use Rattle.ft_documents.proofs.NewLemmas.{all_found}
+use Rattle.ft_documents.proofs.RewriteLemmas.{sorted_held}
+use Rattle.ft_documents.proofs.RowKinds.{lists_are}
+use Rattle.ft_documents.proofs.PackLemmas.{list_packed, AreShortTexts, short_texts}
+
+module _ (columns : List Column) where
+  abbrev pub ShortDocument : ℤ × List Cell → Type 0
+  ShortDocument d = AreShortTexts columns d.1
+
+  found_short : (docid : ℤ) (documents : Documents) → All ShortDocument documents → IfSome (find int_cmp docid documents) (AreShortTexts columns)
+  found_short docid [] h = tt
+  found_short docid (d ∷ ds) h = elim (int_eq docid d.0) as (λ b. IfSome (cond b (Some d.1) (find int_cmp docid ds)) (AreShortTexts columns)) [ true ↦ All-head ShortDocument d ds h | false ↦ found_short docid ds (All-tail ShortDocument d ds h) ]
+
+  pub lists_packed : (documents : Documents) → length columns ≤ 100 → is_sorted int_cmp documents ≡ true → All ShortDocument documents → All (λ (l : Key × List StoredSpot). CanPack l.1) (lists_of columns documents)
+  lists_packed documents few rising short =
+      let rows = lists_of columns documents in
+      All-weaker (λ (l : Key × List StoredSpot). find key_cmp l.0 rows ≡ Some l.1) (λ (l : Key × List StoredSpot). CanPack l.1)
+      (λ l is. list_packed columns l.0 (find int_cmp l.0.1 documents) l.1 few (found_short l.0.1 documents short) (sym ((lists_are columns).found l.0 documents rising) ∙ is)) rows
+      (all_found key_cmp key_cmp_total rows ((lists_are columns).sorted documents rising))
+
+  -- documents of a table have short texts
+  pub document_short : (d : ℤ × List Cell) → is_document (length columns) d ≡ true → AreShortNumbers columns d.1 → ShortDocument d
+  document_short d is numbers = short_texts columns d.1 (and_parts (length d.1 == length columns) (list_all is_cell d.1) is).1 numbers
+
+  short_if : (docid : ℤ) (before after : Option (List Cell)) → FitIfAny (length columns) (record { docid = docid; before = before; after = after }) → IfSome after (AreShortNumbers columns) → All ShortDocument (document_if docid after)
+  short_if docid before None fits numbers = All-nil ShortDocument
+  short_if docid before (Some cells) fits numbers = All-cons ShortDocument (docid, cells) [] (document_short (docid, cells) fits numbers) (All-nil ShortDocument)
+
+  afters_short : (rewrites : List Rewrite) → All (FitIfAny (length columns)) rewrites → All (HasShortNumbers columns) rewrites → All ShortDocument (afters rewrites)
+  afters_short rewrites fits numbers = All-flat_map ShortDocument (λ (r : Rewrite). document_if r.docid r.after) rewrites
+      (All-weaker (λ (r : Rewrite). FitIfAny (length columns) r × HasShortNumbers columns r) (λ r. All ShortDocument (document_if r.docid r.after)) (λ r is. short_if r.docid r.before r.after is.0 is.1) rewrites (λ k d within. (fits k d within, numbers k d within)))
+
+all_packable : (tab : ℤ) (columns : List Column) (rewrites : List Rewrite) → length columns ≤ 100 → is_sorted int_cmp (by_docid rewrites) ≡ true → All (FitIfAny (length columns)) rewrites → All (HasShortNumbers columns) rewrites → All IsPackable (rewrite_changes tab columns rewrites)
+unfolding rewrite_changes
+all_packable tab columns rewrites few rising fits numbers =
+    let old = lists_of columns (befores rewrites) in
+    let new = lists_of columns (afters rewrites) in
+    let olds = sizes_of columns (befores rewrites) in
+    let news = sizes_of columns (afters rewrites) in
+    let packed = lists_packed columns (afters rewrites) few (sorted_held (λ (r : Rewrite). r.after) rewrites rising) (afters_short columns rewrites fits numbers) in
+    All-append IsPackable (dropped_documents tab rewrites) _ (All-map IsPackable (λ (r : Rewrite). DropCells tab r.docid) (filter goes rewrites) (λ _ _ _. tt))
+    (All-append IsPackable (put_documents tab rewrites) _
+    (All-flat_map IsPackable (λ (r : Rewrite). put_cells tab r.docid (unwrap_or r.before []) (unwrap_or r.after [])) rewrites
+    (λ k d _. put_packable k d))
+    (All-append IsPackable (list_changes tab old new) _
+    (All-append IsPackable (dropped_lists tab (gone key_cmp old new)) (put_lists tab (changed key_cmp same_spots old new))
+    (All-map IsPackable (λ (l : Key × List StoredSpot). DropEntries tab l.0.0 l.0.1) (gone key_cmp old new) (λ _ _ _. tt))
+    (All-map IsPackable (λ (l : Key × List StoredSpot). PutEntries tab l.0.0 l.0.1 l.1) (changed key_cmp same_spots old new) (All-filter _ (λ (l : Key × List StoredSpot). CanPack l.1) new packed)))
+    (All-append IsPackable (dropped_sizes tab (gone column_key_cmp olds news)) (put_sizes tab (changed column_key_cmp int_eq olds news))
+    (All-map IsPackable (λ (s : (ℤ × ℤ) × ℤ). DropSize tab s.0.0 s.0.1) (gone column_key_cmp olds news) (λ _ _ _. tt))
+    (All-map IsPackable (λ (s : (ℤ × ℤ) × ℤ). PutSize tab s.0.0 s.0.1 s.1) (changed column_key_cmp int_eq olds news) (λ _ _ _. tt)))))
+  where
+    put_packable : (k : ℕ) (d : Rewrite) → All IsPackable (put_cells tab (get_or rewrites k d).docid (unwrap_or (get_or rewrites k d).before []) (unwrap_or (get_or rewrites k d).after []))
+    put_packable k d = All-map IsPackable (λ (c : ℤ × Cell). PutCell tab (get_or rewrites k d).docid c.0 c.1) (changed int_cmp same_cell (numbered (unwrap_or (get_or rewrites k d).before [])) (numbered (unwrap_or (get_or rewrites k d).after []))) (λ _ _ _. tt)
+
+can_apply : (change : RowChange) → IsPackable (shown_change change) → CanApply change
+can_apply (row.AddTable id name columns skipped) h = tt
+can_apply (row.DropTable id) h = tt
+can_apply (row.PutCell tab docid at v) h = tt
+can_apply (row.DropCells tab docid) h = tt
+can_apply (row.PutEntries tab term docid spots) h = h
+can_apply (row.DropEntries tab term docid) h = tt
+can_apply (row.PutSize tab docid at n) h = tt
+can_apply (row.DropSize tab docid at) h = tt
+can_apply (row.ClearIndex tab) h = tt
+can_apply (row.Note name) h = tt
+
+pub all_apply : (changes : List RowChange) → All IsPackable (map shown_change changes) → All CanApply changes
+all_apply [] h = All-nil CanApply
+all_apply (c ∷ cs) h = All-cons CanApply c cs (can_apply c (All-head IsPackable (shown_change c) (map shown_change cs) h)) (all_apply cs (All-tail IsPackable (shown_change c) (map shown_change cs) h))
+
+pub are_packable : (tab : ℤ) (columns : List Column) (rewrites : List Rewrite) (changes : List RowChange) → map shown_change changes ≡ rewrite_changes tab columns rewrites → length columns ≤ 100 → is_sorted int_cmp (by_docid rewrites) ≡ true → All (FitIfAny (length columns)) rewrites → All (HasShortNumbers columns) rewrites → All CanApply changes
+are_packable tab columns rewrites changes is few rising fits numbers = all_apply changes (subst (All IsPackable) (sym is) (all_packable tab columns rewrites few rising fits numbers))

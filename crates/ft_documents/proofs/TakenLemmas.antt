@@ -1,0 +1,60 @@
+-- The first hits of a walk.
+use Rattle.std.proofs.Common.{◌≡◌, ℕ, ◌≤◌, ◌<◌, ℤ, Bool, true, false, List, [], ◌++◌, Option, Some, None, length, map, take, refl, sym, ap, ◌∙◌, arith, IsTrue}
+use Rattle.std.specs.Prelude.{MatchOption, ⊤}
+use Rattle.std.proofs.lemmas.List.{take_all, map-append}
+use Rattle.std.proofs.Math.Seq.{take-append_seam}
+use Rattle.ft_query.specs.declared.walk.Hit.{Hit}
+use Rattle.ft_query.specs.declared.walk.Offset.{Offset}
+use Rattle.ft_query.specs.Documents.{Document}
+use Rattle.ft_query.specs.Trees.{tree_of}
+use Rattle.ft_query.specs.Occurs.{PlainHit, hits_of}
+use Rattle.ft_query.specs.Walk.{Walk, Walked, WalkedTo, hit_list, hit_at}
+use Rattle.ft_content.specs.Answer.{cut}
+use Rattle.ft_documents.specs.Matched.{told, Tells}
+
+-- as many as are wanted
+pub full : (most : Option ℕ) (n : ℕ) (hits rest : List PlainHit) (below : Bool) → length hits ≡ n → (MatchOption most ⊤ (λ m. n < m) → IsTrue below) → below ≡ false → MatchOption most ⊤ (λ m. n ≤ m) → hits ≡ cut most 0 (hits ++ rest)
+full None n hits rest below count wants not_below room = absurd (let no = wants tt in cc)
+full (Some m) n hits rest below count wants not_below room =
+    let not_less : n < m → ⊥ = λ less. (let yes = wants less in absurd (let no = not_below in cc)) in
+    let same : length hits ≡ m = omega arith in
+    sym (take-append_seam hits rest) ∙ ap (λ k. take k (hits ++ rest)) same
+
+-- all there are, and no more than are wanted
+pub whole : (most : Option ℕ) (hits : List PlainHit) → MatchOption most ⊤ (λ m. length hits ≤ m) → hits ≡ cut most 0 hits
+whole None hits room = refl
+whole (Some m) hits room = sym (take_all m hits room)
+
+-- no hit is left
+pub ended : (wanted : Bool) (old new : Walk) (hit : Option Hit) (documents : List Document) → hit ≡ None → Tells wanted old new hit documents → map (told wanted) (hits_of (tree_of old.query) documents) ≡ []
+ended wanted old new hit documents none tells = tells.hits_are ∙ (λ i. hit_list (none i) ++ map (told wanted) (hits_of (tree_of old.query) (tells.ended none i)))
+
+-- a hit with its offsets is told as it is
+pub told_whole : (old new : Walk) (hit : Option Hit) (documents : List Document) → Walked old new hit documents → Tells true old new hit documents
+told_whole old new hit documents walked = record {
+  rest = walked.went.rest;
+  stands = walked.went.stands;
+  hits_are = ap (map (told true)) walked.went.hits_are ∙ map-append (told true) (hit_list hit) (hits_of (tree_of old.query) walked.went.rest) ∙ ap (λ hs. hs ++ map (told true) (hits_of (tree_of old.query) walked.went.rest)) (own hit);
+  ended = walked.ended;
+}
+  where
+    own : (hit : Option Hit) → map (told true) (hit_list hit) ≡ hit_list hit
+    own None = refl
+    own (Some h) = refl
+
+-- a docid is told as a hit without offsets
+pub told_bare : (old new : Walk) (docid : Option ℤ) (hit : Option Hit) (documents : List Document) → hit_list hit ≡ hit_at docid [] → WalkedTo old new docid documents → Tells false old new hit documents
+told_bare old new docid hit documents is walked = record {
+  rest = walked.went.rest;
+  stands = walked.went.stands;
+  hits_are = ap (map (told false)) walked.went.hits_are ∙ map-append (told false) (hit_at docid walked.offsets) (hits_of (tree_of old.query) walked.went.rest) ∙ ap (λ hs. hs ++ map (told false) (hits_of (tree_of old.query) walked.went.rest)) (own docid walked.offsets ∙ sym is);
+  ended = λ none. walked.ended (no_docid docid (sym is ∙ ap hit_list none));
+}
+  where
+    own : (docid : Option ℤ) (offsets : List Offset) → map (told false) (hit_at docid offsets) ≡ hit_at docid []
+    own None offsets = refl
+    own (Some d) offsets = refl
+
+    no_docid : (docid : Option ℤ) → hit_at docid [] ≡ [] → docid ≡ None
+    no_docid None h = refl
+    no_docid (Some d) h = absurd (let no = h in cc)

@@ -1,0 +1,24 @@
+use Rattle.std.proofs.Common.{◌≡◌, ◌++◌, ◌∷◌, [], cond, not, map, ℤ, sym, ap, ◌∙◌, to_z-of_z, to_z, of_z, w64, rules}
+use Rattle.std.specs.Ordering.{int_eq}
+use Rattle.std.specs.FinMap.Entries.{find}
+use Rattle.ft_rows.specs.Store.{column_key_cmp, PutSize}
+use Rattle.ft_rows.specs.Changes.{shown_change}
+use Rattle.ft_documents.specs.RewriteRows.{sizes_in, was_there, changed, put_sizes}
+use Rattle.ft_documents.proofs.Steps.{kept_more, change_more}
+use Rattle.ft_documents.proofs.document_index.DocumentIndex.put_sizes.Goals as goal
+
+pub loop-key-preserved-in-Continue-1 : goal.loop-key-preserved-in-Continue-1
+loop-key-preserved-in-Continue-1 c =
+    let t = to_z-of_z c.ranges.tab in
+    let key = c.in-Some.key.now in
+    let n = c.in-Some.n.now in
+    let d : to_z w64 (of_z w64 key.0) ≡ key.0 = search rules in
+    let k : to_z w64 (of_z w64 key.1) ≡ key.1 = search rules in
+    let m : to_z w64 (of_z w64 n) ≡ n = search rules in
+    let x : (ℤ × ℤ) × ℤ = (key, n) in
+    let old = map shown_change c.loop-key.changes.items in
+    let grown : map shown_change c.push.new.self.items ≡ cond (not (was_there int_eq (find column_key_cmp key (sizes_in c.args.self.now)) n)) (old ++ PutSize c.args.tab key.0 key.1 n ∷ []) old =
+    change_more _ _ _ c.in_ok-push.ensures.items ∙ (λ i. old ++ PutSize (t i) (d i) (k i) (m i) ∷ [])
+    ∙ ap (λ b. cond (not b) (old ++ PutSize c.args.tab key.0 key.1 n ∷ []) old) (sym c.if-not-has_size.true ∙ c.has_size.ensures ∙ ap (was_there int_eq (find column_key_cmp key (sizes_in c.args.self.now))) m) in
+    rw t (kept_more (λ (e : (ℤ × ℤ) × ℤ). not (was_there int_eq (find column_key_cmp e.0 (sizes_in c.args.self.now)) e.1)) (λ (s : (ℤ × ℤ) × ℤ). PutSize c.args.tab s.0.0 s.0.1 s.1) x c.next.new.self old _ _ grown
+    (ap (λ es. old ++ put_sizes c.args.tab (changed column_key_cmp int_eq (sizes_in c.args.self.now) es)) (sym c.in-Some.ensures.steps) ∙ (rw t at c.loop-key.invariant)))

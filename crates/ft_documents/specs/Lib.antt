@@ -1,0 +1,16 @@
+-- Meaning
+pub mod Found
+pub mod Tables
+-- Steps
+pub mod Gathered
+pub mod Chosen
+pub mod Inserted
+pub mod Matched
+pub mod NewDocuments
+pub mod Placed
+pub mod Rebuild
+pub mod Rewrite
+pub mod RewriteRows
+pub mod RowLaws
+pub mod Standing
+pub mod Updated

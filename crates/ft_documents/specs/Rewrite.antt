@@ -1,0 +1,101 @@
+-- Steps. Documents that are written anew, and what row changes of them do. All of it is our own choice.
+use Rattle.std.specs.Prelude.{◌≡◌, ◌≢◌, ℕ, List, [], ◌∷◌, map, length, Option, Some, None, option_map, ℤ, IsTrue, IsSome, IfSome, All}
+use Rattle.std.specs.List.{flat_map}
+use Rattle.std.specs.Ordering.{int_cmp}
+use Rattle.std.specs.FinMap.Entries.{put, find, is_sorted}
+use Rattle.ft_rows.specs.Packed.{CanPack}
+use Rattle.ft_values.specs.Cells.{Cell}
+use Rattle.ft_rows.specs.Store.{StoreValue, AreInOrder, cell_key_cmp, list_key_cmp, Change, AddTable, DropTable, PutCell, DropCells, PutEntries, DropEntries, PutSize, DropSize, ClearIndex, Note, all_applied}
+use Rattle.ft_content.specs.Content.{Column, Documents, Content, IsContent, content_rows, is_document}
+use Rattle.ft_content.specs.Index.{index_rows}
+use Rattle.ft_content.specs.Step.{without_docid}
+use Rattle.ft_content.specs.Views.{cells_of}
+use Rattle.ft_documents.specs.declared.rewrite.Rewrite as source
+use Rattle.ft_documents.specs.Tables.{table_rows, table_index}
+
+-- a document that is written anew: the cells that it had, if it was there, and those that it gets, if it stays
+pub record Rewrite : Type 0 where
+  pub docid : ℤ
+  pub before : Option (List Cell)
+  pub after : Option (List Cell)
+
+abbrev pub shown_rewrite : source.Rewrite → Rewrite
+shown_rewrite r = record { docid = r.docid; before = option_map cells_of r.before; after = option_map cells_of r.after }
+
+-- the rewrite that removes a document
+abbrev pub removal : ℤ × List Cell → Rewrite
+removal d = record { docid = d.0; before = Some d.1; after = None }
+
+abbrev pub with_cells : ℤ → Option (List Cell) → Documents → Documents
+with_cells docid None documents = without_docid docid documents
+with_cells docid (Some cells) documents = put int_cmp docid cells documents
+
+-- the documents after rewrites, one after another
+abbrev pub rewritten : List Rewrite → Documents → Documents
+rewritten [] documents = documents
+rewritten (r ∷ rs) documents = rewritten rs (with_cells r.docid r.after documents)
+
+abbrev pub document_if : ℤ → Option (List Cell) → Documents
+document_if docid None = []
+document_if docid (Some cells) = (docid, cells) ∷ []
+
+-- the documents as they were, and as they are to be
+abbrev pub befores : List Rewrite → Documents
+befores rewrites = flat_map (λ (r : Rewrite). document_if r.docid r.before) rewrites
+
+abbrev pub afters : List Rewrite → Documents
+afters rewrites = flat_map (λ (r : Rewrite). document_if r.docid r.after) rewrites
+
+-- rewrites under their docids
+abbrev pub by_docid : List Rewrite → List (ℤ × Rewrite)
+by_docid rewrites = map (λ (r : Rewrite). (r.docid, r)) rewrites
+
+abbrev pub docids_of : List Rewrite → List ℤ
+docids_of rewrites = map (λ (r : Rewrite). r.docid) rewrites
+
+-- cells that a document of a table with this many columns may have
+abbrev pub FitIfAny : ℕ → Rewrite → Type 0
+FitIfAny width r = IfSome r.after (λ cells. IsTrue (is_document width (r.docid, cells)))
+
+-- Rewrites of a content by rising docid: each knows what its document was, and makes a document of it.
+pub record AreOf (content : Content) (rewrites : List Rewrite) : Type 0 where
+  pub rising : IsTrue (is_sorted int_cmp (by_docid rewrites))
+  pub befores : All (λ (r : Rewrite). r.before ≡ find int_cmp r.docid content.documents) rewrites
+  pub afters : All (FitIfAny (length content.columns)) rewrites
+
+-- A store has a content's rows and index rows in one table.
+pub record HasContent (name : List ℕ) (content : Content) (tab : ℤ) (store : StoreValue) : Type 0 where
+  pub order : AreInOrder store
+  pub is_content : IsContent name content
+  pub rows : table_rows tab store ≡ content_rows content
+  pub index : table_index tab store ≡ index_rows content
+
+abbrev pub rewritten_content : List Rewrite → Content → Content
+rewritten_content rewrites content = record content { documents = rewritten rewrites content.documents }
+
+-- Row changes of rewrites are right: they lead to the rows and the index rows made from scratch out of the new content.
+abbrev pub AreRight : ℤ → List Column → List Rewrite → List Change → Type 0
+AreRight tab columns rewrites changes = (name : List ℕ) (content : Content) (store : StoreValue) → HasContent name content tab store → content.columns ≡ columns → AreOf content rewrites →
+    (table_rows tab (all_applied changes store) ≡ content_rows (rewritten_content rewrites content)) × (table_index tab (all_applied changes store) ≡ index_rows (rewritten_content rewrites content))
+
+-- A change names what is new: it puts no row that stands as it is, and drops no list or size that isn't there.
+abbrev pub IsNew : StoreValue → Change → Type 0
+IsNew store (AddTable tab name columns skipped) = Unit {0}
+IsNew store (DropTable tab) = Unit {0}
+IsNew store (PutCell tab docid column value) = find cell_key_cmp (tab, docid, column) store.cells ≢ Some value
+IsNew store (DropCells tab docid) = Unit {0}
+IsNew store (PutEntries tab term docid spots) = find list_key_cmp (tab, term, docid) store.lists ≢ Some spots
+IsNew store (DropEntries tab term docid) = IsSome (find list_key_cmp (tab, term, docid) store.lists)
+IsNew store (PutSize tab docid column n) = find cell_key_cmp (tab, docid, column) store.sizes ≢ Some n
+IsNew store (DropSize tab docid column) = IsSome (find cell_key_cmp (tab, docid, column) store.sizes)
+IsNew store (ClearIndex tab) = Unit {0}
+IsNew store (Note name) = Unit {0}
+
+-- What stands as it was is not named.
+abbrev pub AreNew : ℤ → List Column → List Rewrite → List Change → Type 0
+AreNew tab columns rewrites changes = (name : List ℕ) (content : Content) (store : StoreValue) → HasContent name content tab store → content.columns ≡ columns → AreOf content rewrites → All (IsNew store) changes
+
+-- places that are put can be packed
+abbrev pub IsPackable : Change → Type 0
+IsPackable (PutEntries tab term docid spots) = CanPack spots
+IsPackable _ = Unit {0}

@@ -1,0 +1,131 @@
+-- Steps. How the rows of a table stand that the store lists. All of it is our own choice.
+use Rattle.std.specs.Prelude.{◌≡◌, ◌≢◌, ℕ, ◌+◌, ◌==◌, Bool, true, false, if◌then◌else◌, not, ◌&&◌, List, [], ◌∷◌, map, length, Option, Some, None, String, string_bytes, bytes_eq, ℤ, pos, IsTrue}
+use Rattle.std.specs.declared.alloc.Global.{Global}
+use Rattle.std.specs.List.{AllByRecursion, list_all, list_any, flat_map}
+use Rattle.std.specs.Ordering.{int_cmp, int_eq, is_lt}
+use Rattle.std.specs.FinMap.Entries.{is_sorted}
+use Rattle.ft_values.specs.declared.rows.CellRow as stored
+use Rattle.ft_values.specs.declared.rows.EntryRow as entries
+use Rattle.ft_values.specs.declared.rows.SizeRow as sizes
+use Rattle.ft_values.specs.declared.rows.TabRow.{TabRow}
+use Rattle.ft_values.specs.Cells.{shown_value}
+use Rattle.ft_content.specs.Content.{Cell, CellRow, Column, TableRows, Documents, Content, IsContent, content_rows, document_rows, is_cell, is_document}
+use Rattle.ft_content.specs.Index.{EntryRow, entry_rows, Key, StoredSpot, key_cmp, IndexRows, index_rows}
+use Rattle.ft_documents.specs.RewriteRows.{same_spot, sized, sizes_of, lists_of}
+
+-- a cell as a table's rows have it
+abbrev pub shown_row : stored.CellRow → CellRow
+shown_row cell = record { docid = cell.docid; column = cell.column; value = shown_value cell.value }
+
+-- a column under its number
+abbrev pub shown_column : ℤ × String Global → ℤ × List ℕ
+shown_column c = (c.0, string_bytes c.1)
+
+-- the rows of a table that is listed, with these cells
+abbrev pub listed_rows : TabRow → List stored.CellRow → TableRows
+listed_rows table cells = record { columns = map shown_column table.columns.items; skipped = table.skipped.items; cells = map shown_row cells }
+
+-- rows are a content that a table of this name may have
+pub record AreContent (name : List ℕ) (rows : TableRows) : Type 0 where
+  pub content : Content
+  pub is_content : IsContent name content
+  pub is : rows ≡ content_rows content
+
+-- cells are those of documents with so many columns, by rising docid
+pub record AreDocuments (width : ℕ) (cells : List CellRow) : Type 0 where
+  pub documents : Documents
+  pub each : IsTrue (list_all (is_document width) documents)
+  pub rising : IsTrue (is_sorted int_cmp documents)
+  pub are : cells ≡ flat_map document_rows documents
+
+-- A document's first cell has a docid above that of the cell before it, and each other has the same.
+abbrev pub stands_after : ℕ → Option ℤ → ℤ → Bool
+stands_after place None docid = place == 0
+stands_after place (Some last) docid = if place == 0 then is_lt (int_cmp last docid) else int_eq last docid
+
+-- A cell is the one at this place of a document, after a cell of the docid.
+abbrev pub follows : ℕ → Option ℤ → CellRow → Bool
+follows place last cell = int_eq cell.column (pos place) && is_cell cell.value && stands_after place last cell.docid
+
+-- columns are numbered from here on
+abbrev pub numbered_from : ℕ → List (ℤ × List ℕ) → Bool
+numbered_from k [] = true
+numbered_from k (column ∷ columns) = int_eq column.0 (pos k) && numbered_from (k + 1) columns
+
+-- the columns that rows say
+abbrev pub columns_in : TableRows → List Column
+columns_in rows = map (λ (c : ℤ × List ℕ). record { name = c.1; indexed = not (list_any (int_eq c.0) rows.skipped) }) rows.columns
+
+-- a size under docid and column, and an entry, as index rows have them
+abbrev pub shown_size : sizes.SizeRow → (ℤ × ℤ) × ℤ
+shown_size s = ((s.docid, s.column), s.n)
+
+abbrev pub shown_entry : entries.EntryRow → EntryRow
+shown_entry e = record { term = string_bytes e.term; docid = e.docid; spot = e.spot }
+
+abbrev pub same_size : (ℤ × ℤ) × ℤ → (ℤ × ℤ) × ℤ → Bool
+same_size a b = int_eq a.0.0 b.0.0 && (int_eq a.0.1 b.0.1 && int_eq a.1 b.1)
+
+abbrev pub same_entry : EntryRow → EntryRow → Bool
+same_entry a b = bytes_eq a.term b.term && (int_eq a.docid b.docid && same_spot a.spot b.spot)
+
+-- whether this is the first of some
+abbrev pub is_first : {X : Type 0} → (X → X → Bool) → X → List X → Bool
+is_first same x [] = false
+is_first same x (y ∷ ys) = same x y
+
+-- what comes after these, where they are the first
+abbrev pub after_first : {X : Type 0} → (X → X → Bool) → List X → List X → Option (List X)
+after_first same [] ys = Some ys
+after_first same (x ∷ xs) [] = None
+after_first same (x ∷ xs) (y ∷ ys) = if same x y then after_first same xs ys else None
+
+-- the entries of a list
+abbrev pub list_rows : Key × List StoredSpot → List EntryRow
+list_rows l = map (λ (s : StoredSpot). record { term = l.0.0; docid = l.0.1; spot = s }) l.1
+
+-- what a row of a document holds
+abbrev pub cell_in : stored.CellRow → Cell
+cell_in row = shown_value row.value
+
+-- the sizes and the entries of one document
+abbrev pub own_sizes : List Column → ℤ × List Cell → List ((ℤ × ℤ) × ℤ)
+own_sizes columns document = sizes_of columns (document ∷ [])
+
+abbrev pub own_entries : List Column → ℤ × List Cell → List EntryRow
+own_entries columns document = entry_rows (lists_of columns (document ∷ []))
+
+-- whether two rests are there that pass a test
+abbrev pub rests_pass : {X Y : Type 0} → Option X → Option Y → (X → Y → Bool) → Bool
+rests_pass None ys test = false
+rests_pass (Some xs) None test = false
+rests_pass (Some xs) (Some ys) test = test xs ys
+
+-- whether sizes and entries are those of documents, one after another
+abbrev pub are_of_documents : List Column → Documents → List ((ℤ × ℤ) × ℤ) → List EntryRow → Bool
+are_of_documents columns [] sizes entries = length sizes == 0 && length entries == 0
+are_of_documents columns (d ∷ ds) sizes entries = rests_pass (after_first same_size (own_sizes columns d) sizes) (after_first same_entry (own_entries columns d) entries) (are_of_documents columns ds)
+
+-- documents of tables with so many columns that have these cells
+pub record HaveCells (width : ℕ) (rows : List CellRow) (documents : Documents) : Type 0 where
+  pub each : IsTrue (list_all (is_document width) documents)
+  pub are : rows ≡ flat_map document_rows documents
+
+-- the rows of a content
+pub record HaveContent (columns : List Column) (rows : List CellRow) (content : Content) : Type 0 where
+  pub name : List ℕ
+  pub is_content : IsContent name content
+  pub columns_are : content.columns ≡ columns
+  pub cells_are : rows ≡ (content_rows content).cells
+
+-- Sizes and entries by docid are those of a content: the sizes made from scratch, and the entries of one document after another.
+pub record AreTheirs (content : Content) (sizes : List ((ℤ × ℤ) × ℤ)) (entries : List EntryRow) : Type 0 where
+  pub sizes_are : sizes ≡ sized (index_rows content).sizes
+  pub entries_are : entries ≡ flat_map (own_entries content.columns) content.documents
+
+-- the sizes and entries of index rows of which no list is empty
+pub record AreOfRows (rows : IndexRows) (sizes : List ((ℤ × ℤ) × ℤ)) (entries : List EntryRow) : Type 0 where
+  pub sizes_are : sizes ≡ sized rows.sizes
+  pub entries_are : entries ≡ entry_rows rows.lists
+  pub rising : IsTrue (is_sorted key_cmp rows.lists)
+  pub whole : AllByRecursion (λ (l : Key × List StoredSpot). l.1 ≢ []) rows.lists

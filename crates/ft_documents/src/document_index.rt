@@ -1,0 +1,419 @@
+//! The index of some documents, made from scratch, and the row changes from one to another.
+ghost use Rattle.std.specs.Prelude.{◌≡◌, ◌<◌, ◌≤◌, ◌^◌, pos, length, map, drop, option_map, string_bytes, IfSome};
+ghost use Rattle.ft_values.specs.Cells.{shown_value};
+ghost use Rattle.ft_content.specs.Content as content;
+ghost use Rattle.ft_documents.specs.RewriteRows.{IsShortNumber};
+ghost use Rattle.ft_documents.specs.Standing as standing;
+
+use ft_content::{Column, Value};
+use ft_query::{Token, tokens};
+use ft_values::{CellRow, EntryRow, RowChange, SizeRow, Spot};
+use itoa::Buffer;
+use std::alloc::{AllocError, Global};
+use std::collections::BTreeMap;
+
+/// Posting lists under term and docid.
+pub(crate) type PostingLists = BTreeMap<(String, i64), Vec<Spot>>;
+
+/// The sizes of cells under docid and column.
+pub(crate) type Sizes = BTreeMap<(i64, i64), i64>;
+
+/// The posting lists of documents, and the sizes of their cells.
+#[derive(Drop)]
+pub(crate) struct DocumentIndex {
+    alloc: Global,
+    lists: PostingLists,
+    sizes: Sizes,
+}
+
+impl DocumentIndex {
+    ghost use Rattle.std.specs.Prelude.{◌++◌, ◌∷◌, [], map, option_map, unwrap_or, string_bytes, IfSome, OnOk};
+    ghost use Rattle.std.specs.FinMap.Entries.{put, find};
+    ghost use Rattle.ft_query.specs.Tokens.{plain_token, tokens_of};
+    ghost use Rattle.ft_rows.specs.Store.{column_key_cmp};
+    ghost use Rattle.ft_content.specs.Index as index;
+    ghost use Rattle.ft_content.specs.Views.{cells_of, column_of};
+    ghost use Rattle.ft_documents.specs.Rewrite.{document_if};
+    ghost use Rattle.ft_documents.specs.RewriteRows as rows;
+
+    /// The index of no document.
+    pub(crate) fn new(alloc: Global) -> DocumentIndex
+        ensures lists { rows.lists_in result ≡ [] }
+        ensures sizes { rows.sizes_in result ≡ [] }
+    {
+        DocumentIndex {
+            alloc,
+            lists: BTreeMap::new(alloc),
+            sizes: BTreeMap::new(alloc),
+        }
+    }
+
+    /// Adds the tokens of a document.
+    pub(crate) fn add(
+        &mut self,
+        columns: &[Column],
+        docid: i64,
+        cells: &[Value],
+    ) -> Result<(), AllocError>
+        ensures lists { OnOk result (rows.lists_in self.new
+            ≡ rows.lists_with (map column_of columns.now) ((docid, map shown_value cells.now) ∷ [])
+            (rows.lists_in self.old)) }
+        ensures sizes { OnOk result (rows.sizes_in self.new
+            ≡ rows.sizes_with (map column_of columns.now) ((docid, map shown_value cells.now) ∷ [])
+            (rows.sizes_in self.old)) }
+        ensures numbers { OnOk result (rows.AreShortNumbers (map column_of columns.now)
+            (map shown_value cells.now)) }
+    {
+        for place in 0..columns.len().min(cells.len()) {
+            let value = &cells[place];
+            if columns[place].indexed {
+                self.add_cell(docid, place, value)?;
+            }
+        }
+        Ok(())
+    }
+
+    /// Adds the tokens of a document, whose cells are in rows.
+    pub(crate) fn add_rows(
+        &mut self,
+        columns: &[Column],
+        docid: i64,
+        cells: &[CellRow],
+    ) -> Result<(), AllocError>
+        ensures lists { OnOk result (rows.lists_in self.new
+            ≡ rows.lists_with (map column_of columns.now)
+            ((docid, map standing.cell_in cells.now) ∷ []) (rows.lists_in self.old)) }
+        ensures sizes { OnOk result (rows.sizes_in self.new
+            ≡ rows.sizes_with (map column_of columns.now)
+            ((docid, map standing.cell_in cells.now) ∷ []) (rows.sizes_in self.old)) }
+    {
+        for place in 0..columns.len().min(cells.len()) {
+            let value = &cells[place].value;
+            if columns[place].indexed {
+                self.add_cell(docid, place, value)?;
+            }
+        }
+        Ok(())
+    }
+
+    /// Adds the tokens of a document, if there is one.
+    pub(crate) fn add_if_any(
+        &mut self,
+        columns: &[Column],
+        docid: i64,
+        cells: &Option<Vec<Value>>,
+    ) -> Result<(), AllocError>
+        ensures lists { OnOk result (rows.lists_in self.new
+            ≡ rows.lists_with (map column_of columns.now)
+            (document_if docid (option_map cells_of cells.now)) (rows.lists_in self.old)) }
+        ensures sizes { OnOk result (rows.sizes_in self.new
+            ≡ rows.sizes_with (map column_of columns.now)
+            (document_if docid (option_map cells_of cells.now)) (rows.sizes_in self.old)) }
+        ensures numbers { OnOk result (IfSome (option_map cells_of cells.now)
+            (rows.AreShortNumbers (map column_of columns.now))) }
+    {
+        match cells {
+            Some(cells) => self.add(columns, docid, cells.as_slice()),
+            None => Ok(()),
+        }
+    }
+
+    // Adds the tokens of a cell that is indexed.
+    fn add_cell(&mut self, docid: i64, place: usize, value: &Value) -> Result<(), AllocError>
+        requires { place < 2 ^ 63 }
+        ensures lists { OnOk result (rows.lists_in self.new
+            ≡ rows.with_entries (rows.cell_entries docid place
+            (tokens_of (content.cell_text (shown_value value.now)))) (rows.lists_in self.old)) }
+        ensures sizes { OnOk result (rows.sizes_in self.new
+            ≡ rows.all_put column_key_cmp (rows.sized
+            (rows.cell_sizes docid place (length
+            (tokens_of (content.cell_text (shown_value value.now)))))) (rows.sizes_in self.old)) }
+        ensures number { OnOk result (IsShortNumber (shown_value value.now)) }
+    {
+        let mut buffer = Buffer::new();
+        let text = text_of(value, &mut buffer);
+        let found = tokens(self.alloc, text)?;
+        self.add_size(docid, place, found.len())?;
+        for token in found {
+            self.add_token(docid, place, token)?;
+        }
+        Ok(())
+    }
+
+    // Adds the size of a cell, if it has tokens.
+    fn add_size(&mut self, docid: i64, place: usize, n: usize) -> Result<(), AllocError>
+        requires place { place < 2 ^ 63 }
+        requires n { n < 2 ^ 63 }
+        ensures lists { OnOk result (rows.lists_in self.new ≡ rows.lists_in self.old) }
+        ensures sizes { OnOk result (rows.sizes_in self.new
+            ≡ rows.all_put column_key_cmp (rows.sized (rows.cell_sizes docid place n))
+            (rows.sizes_in self.old)) }
+    {
+        if n > 0 {
+            self.sizes.insert((docid, place as i64), n as i64)?;
+        }
+        Ok(())
+    }
+
+    // Adds a token of a cell.
+    fn add_token(&mut self, docid: i64, place: usize, token: Token) -> Result<(), AllocError>
+        requires place { place < 2 ^ 63 }
+        requires pos { token.pos < 2 ^ 63 }
+        requires start { token.start < 2 ^ 63 }
+        requires size { token.size < 2 ^ 63 }
+        ensures lists { OnOk result (rows.lists_in self.new
+            ≡ rows.with_entries (rows.cell_entries docid place (plain_token token ∷ []))
+            (rows.lists_in self.old)) }
+        ensures sizes { OnOk result (rows.sizes_in self.new ≡ rows.sizes_in self.old) }
+    {
+        let spot = Spot {
+            column: place as i64,
+            pos: token.pos as i64,
+            place: token.start as i64,
+            size: token.size as i64,
+        };
+        self.add_spot((token.term, docid), spot)
+    }
+
+    // Adds a spot to a list.
+    fn add_spot(&mut self, key: (String, i64), spot: Spot) -> Result<(), AllocError>
+        ensures lists { OnOk result (rows.lists_in self.new
+            ≡ put index.key_cmp (string_bytes key.0, key.1)
+            (unwrap_or (find index.key_cmp (string_bytes key.0, key.1) (rows.lists_in self.old)) []
+            ++ spot ∷ []) (rows.lists_in self.old)) }
+        ensures sizes { OnOk result (rows.sizes_in self.new ≡ rows.sizes_in self.old) }
+    {
+        if let Some(spots) = self.lists.get_mut(&key) {
+            spots.push(spot)?;
+            return Ok(());
+        }
+        // most terms stand once in a document
+        let mut spots = Vec::with_capacity(self.alloc, 1)?;
+        spots.push(spot)?;
+        self.lists.insert(key, spots)?;
+        Ok(())
+    }
+}
+
+// The text of a cell.
+fn text_of<'a>(value: &'a Value, buffer: &'a mut Buffer) -> &'a str
+    ensures text { result.now ≡ content.cell_text (shown_value value.now) }
+    ensures short { length result.now < 2 ^ 63 }
+    ensures number { IsShortNumber (shown_value value.now) }
+{
+    match value {
+        Value::Null => "",
+        Value::Int(number) => buffer.format(*number),
+        Value::Text(text) => text.as_str(),
+    }
+}
+
+impl DocumentIndex {
+    ghost use Rattle.std.specs.Prelude.{◌++◌, map, string_bytes, OnOk};
+    ghost use Rattle.std.specs.Ordering.{int_eq};
+    ghost use Rattle.std.specs.FinMap.Entries.{find};
+    ghost use Rattle.ft_rows.specs.Store.{column_key_cmp};
+    ghost use Rattle.ft_rows.specs.Changes.{shown_change};
+    ghost use Rattle.ft_content.specs.Index.{key_cmp};
+    ghost use Rattle.ft_documents.specs.RewriteRows as rows;
+
+    /// Its lists and its sizes.
+    pub(crate) fn into_parts(self) -> (PostingLists, Sizes)
+        ensures { (result.0 ≡ self.lists) × (result.1 ≡ self.sizes) }
+    {
+        let DocumentIndex { lists, sizes, .. } = self;
+        (lists, sizes)
+    }
+
+    /// Drops the lists that another index has not.
+    pub(crate) fn drop_lists(
+        &self,
+        changes: &mut Vec<RowChange>,
+        tab: i64,
+        new: &DocumentIndex,
+    ) -> Result<(), AllocError>
+        ensures { OnOk result (map shown_change changes.new.items
+            ≡ map shown_change changes.old.items ++ rows.dropped_lists tab
+            (rows.gone key_cmp (rows.lists_in self.now) (rows.lists_in new.now))) }
+    {
+        for (key, _spots) in self.lists.iter() {
+            let docid = key.1;
+            if !new.lists.contains_key(key) {
+                changes.push(RowChange::DropEntries(tab, key.0.clone()?, docid))?;
+            }
+        }
+        Ok(())
+    }
+
+    /// Puts the lists of another index that are new or differ. They are moved into the changes.
+    pub(crate) fn put_lists(
+        &self,
+        changes: &mut Vec<RowChange>,
+        tab: i64,
+        new: PostingLists,
+    ) -> Result<(), AllocError>
+        ensures { OnOk result (map shown_change changes.new.items
+            ≡ map shown_change changes.old.items ++ rows.put_lists tab
+            (rows.changed key_cmp rows.same_spots (rows.lists_in self.now)
+            (map rows.shown_list new.entries))) }
+    {
+        for (key, spots) in new {
+            if !self.has_list(&key, spots.as_slice()) {
+                let (term, docid) = key;
+                changes.push(RowChange::PutEntries(tab, term, docid, spots))?;
+            }
+        }
+        Ok(())
+    }
+
+    // Whether it has exactly this list under its key.
+    fn has_list(&self, key: &(String, i64), spots: &[Spot]) -> bool
+        ensures { result ≡ rows.was_there rows.same_spots
+            (find key_cmp (string_bytes key.now.0, key.now.1) (rows.lists_in self.now)) spots.now }
+    {
+        match self.lists.get(key) {
+            Some(other) => other.as_slice() == spots,
+            None => false,
+        }
+    }
+
+    /// Drops the sizes that another index has not.
+    pub(crate) fn drop_sizes(
+        &self,
+        changes: &mut Vec<RowChange>,
+        tab: i64,
+        new: &Sizes,
+    ) -> Result<(), AllocError>
+        ensures { OnOk result (map shown_change changes.new.items
+            ≡ map shown_change changes.old.items ++ rows.dropped_sizes tab
+            (rows.gone column_key_cmp (rows.sizes_in self.now) new.now.entries)) }
+    {
+        for (key, _n) in self.sizes.iter() {
+            let (docid, column) = *key;
+            if !new.contains_key(key) {
+                changes.push(RowChange::DropSize(tab, docid, column))?;
+            }
+        }
+        Ok(())
+    }
+
+    /// Puts the sizes of another index that are new or differ.
+    pub(crate) fn put_sizes(
+        &self,
+        changes: &mut Vec<RowChange>,
+        tab: i64,
+        new: &Sizes,
+    ) -> Result<(), AllocError>
+        ensures { OnOk result (map shown_change changes.new.items
+            ≡ map shown_change changes.old.items ++ rows.put_sizes tab
+            (rows.changed column_key_cmp int_eq (rows.sizes_in self.now) new.now.entries)) }
+    {
+        for (key, n) in new.iter() {
+            let (docid, column) = *key;
+            let n = *n;
+            if !self.has_size(key, n) {
+                changes.push(RowChange::PutSize(tab, docid, column, n))?;
+            }
+        }
+        Ok(())
+    }
+    // Whether it has exactly this size under its key.
+    fn has_size(&self, key: &(i64, i64), n: i64) -> bool
+        ensures { result ≡ rows.was_there int_eq
+            (find column_key_cmp key.now (rows.sizes_in self.now)) n }
+    {
+        match self.sizes.get(key) {
+            Some(other) => *other == n,
+            None => false,
+        }
+    }
+}
+
+impl DocumentIndex {
+    ghost use Rattle.ft_content.specs.Index as index;
+    ghost use Rattle.ft_documents.specs.RewriteRows as rows;
+
+    /// How many sizes it has, where they are the first of these.
+    pub(crate) fn count_sizes(&self, sizes: &[SizeRow]) -> Option<usize>
+        ensures rest { option_map (λ n. map standing.shown_size (drop n sizes.now)) result
+            ≡ standing.after_first standing.same_size (rows.sizes_in self.now)
+            (map standing.shown_size sizes.now) }
+        ensures within { IfSome result (λ n. n ≤ length sizes.now) }
+    {
+        let mut place = 0;
+        for (key, n) in self.sizes.iter() {
+            let n = *n;
+            if !is_size(sizes, place, key, n) {
+                return None;
+            }
+            place += 1;
+        }
+        Some(place)
+    }
+
+    /// How many entries it has, where they are the first of these.
+    pub(crate) fn count_entries(&self, entries: &[EntryRow]) -> Option<usize>
+        ensures rest { option_map (λ n. map standing.shown_entry (drop n entries.now)) result
+            ≡ standing.after_first standing.same_entry (index.entry_rows (rows.lists_in self.now))
+            (map standing.shown_entry entries.now) }
+        ensures within { IfSome result (λ n. n ≤ length entries.now) }
+    {
+        let mut place = 0;
+        for (key, spots) in self.lists.iter() {
+            match end_of_list(entries, place, key, spots.as_slice()) {
+                Some(end) => place = end,
+                None => return None,
+            }
+        }
+        Some(place)
+    }
+}
+
+// Whether this size stands at a place.
+fn is_size(sizes: &[SizeRow], place: usize, key: &(i64, i64), n: i64) -> bool
+    ensures { result ≡ standing.is_first standing.same_size (key.now, n)
+        (map standing.shown_size (drop place sizes.now)) }
+{
+    match sizes.get(place) {
+        Some(size) => key.0 == size.docid && key.1 == size.column && n == size.n,
+        None => false,
+    }
+}
+
+// Whether this spot of a key stands at a place.
+fn is_entry(entries: &[EntryRow], place: usize, key: &(String, i64), spot: &Spot) -> bool
+    ensures { result ≡ standing.is_first standing.same_entry
+        (record { term = string_bytes key.now.0; docid = key.now.1; spot = spot.now })
+        (map standing.shown_entry (drop place entries.now)) }
+{
+    match entries.get(place) {
+        Some(entry) => {
+            key.0.as_str() == entry.term.as_str() && key.1 == entry.docid && *spot == entry.spot
+        }
+        None => false,
+    }
+}
+
+// Where a list ends among entries, where it begins at a place.
+fn end_of_list(
+    entries: &[EntryRow],
+    start: usize,
+    key: &(String, i64),
+    spots: &[Spot],
+) -> Option<usize>
+    requires { start ≤ length entries.now }
+    ensures rest { option_map (λ n. map standing.shown_entry (drop n entries.now)) result
+        ≡ standing.after_first standing.same_entry
+        (standing.list_rows ((string_bytes key.now.0, key.now.1), spots.now))
+        (map standing.shown_entry (drop start entries.now)) }
+    ensures within { IfSome result (λ n. n ≤ length entries.now) }
+{
+    let mut place = start;
+    for spot in spots {
+        if !is_entry(entries, place, key, spot) {
+            return None;
+        }
+        place += 1;
+    }
+    Some(place)
+}

@@ -1,0 +1,33 @@
+//! Documents as rows, and what commands on full-text tables do with them in memory: what needs no store.
+#![tactic(auto)]
+
+mod columns;
+mod document;
+mod document_index;
+mod documents;
+mod hits;
+mod lists;
+mod names;
+mod new_documents;
+mod query;
+mod rebuild;
+mod rewrite;
+mod standing_index;
+mod standing_rows;
+mod told;
+mod writes;
+
+pub use columns::{column_names, skipped};
+pub use document::Document;
+pub use documents::gathered;
+pub use hits::taken;
+pub use lists::doc_lists;
+pub use names::{sound_place, sound_table};
+pub use new_documents::{NewDocuments, made_documents};
+pub use query::filter_query;
+pub use rebuild::index_changes;
+pub use rewrite::{Rewrite, row_changes};
+pub use standing_index::are_theirs;
+pub use standing_rows::{is_content, listed_columns};
+pub use told::{insert_table, mark_sound, remove_table};
+pub use writes::{removals, update_rewrites};

@@ -1,0 +1,143 @@
+//! The documents that rows of an Insert make.
+ghost use Rattle.std.specs.Prelude.{◌≡◌, false, map, zip, slice_get, unwrap_or, IsTrue};
+ghost use Rattle.std.specs.Ordering.{int_cmp};
+ghost use Rattle.std.specs.FinMap.Entries.{is_sorted};
+ghost use Rattle.ft_content.specs.Content.{Documents};
+ghost use Rattle.ft_content.specs.Deserved.{insert_rows};
+ghost use Rattle.ft_content.specs.Views as views;
+ghost use Rattle.ft_content.specs.Views.{cells_of, column_of};
+ghost use Rattle.ft_documents.specs.Inserted.{AreKnown, Makes};
+
+use crate::rewrite::Rewrite;
+use ft_content::{Column, Fault, Value, docid_for_row, last_docid_after, new_cells, row_docid};
+use std::alloc::{AllocError, Global};
+use std::collections::BTreeMap;
+
+/// New documents by rising docid, and the last docid of a table with them.
+#[derive(Drop)]
+pub struct NewDocuments {
+    alloc: Global,
+    last: Option<i64>,
+    documents: BTreeMap<i64, Vec<Value>>,
+}
+
+impl NewDocuments {
+    ghost use Rattle.std.specs.Prelude.{None, [], map, zip, slice_get, is_some, IfSome, IfOk, IsTrue};
+    ghost use Rattle.std.specs.Ordering.{int_cmp};
+    ghost use Rattle.std.specs.FinMap.Entries.{find, is_sorted};
+    ghost use Rattle.ft_values.specs.Cells.{shown_value};
+    ghost use Rattle.ft_content.specs.Content.{Documents};
+    ghost use Rattle.ft_content.specs.Deserved as deserved;
+    ghost use Rattle.ft_content.specs.Views.{last_docid, cells_of, column_of};
+    ghost use Rattle.ft_documents.specs.NewDocuments.{documents_in, with_new, new_rewrite, AreBeside, Places};
+    ghost use Rattle.ft_documents.specs.Rewrite.{shown_rewrite};
+
+    /// None yet, for a table with this last docid.
+    pub(crate) fn new(alloc: Global, last: Option<i64>) -> NewDocuments
+        ensures none { documents_in result ≡ [] }
+        ensures beside { (documents : Documents) → IsTrue (is_sorted int_cmp documents)
+            → last_docid documents ≡ last → AreBeside documents result }
+    {
+        NewDocuments {
+            alloc,
+            last,
+            documents: BTreeMap::new(alloc),
+        }
+    }
+
+    /// Adds the document of a row, whose docid, if it gives one, may be that of a document of the table.
+    pub(crate) fn add(
+        &mut self,
+        columns: &[Column],
+        names: &[&str],
+        row: &[Value],
+        is_stored: bool,
+    ) -> Result<(), Fault>
+        ensures { (documents : Documents) → AreBeside documents self.old
+            → IfSome (slice_get (deserved.docids_in
+            (zip (map (λ n. n.now) names.now) (map shown_value row.now))) 0)
+            (λ docid. deserved.has_docid documents docid ≡ is_stored)
+            → Places documents (deserved.insert_row (with_new self.old documents)
+            (deserved.docids_in (zip (map (λ n. n.now) names.now) (map shown_value row.now)))
+            (deserved.new_cells (zip (map (λ n. n.now) names.now) (map shown_value row.now))
+            (map column_of columns.now))) self.new result }
+    {
+        let given = row_docid(names, row);
+        let is_taken = is_stored || self.has(given);
+        let docid = docid_for_row(self.last, given, is_taken)?;
+        let cells = new_cells(self.alloc, columns, names, row)?;
+        self.put(docid, cells)
+    }
+
+    // Whether a new document has the docid that is given.
+    fn has(&self, given: Option<i64>) -> bool
+        ensures { IfSome given (λ docid. result
+            ≡ is_some (find int_cmp docid (documents_in self.now))) }
+    {
+        match given {
+            Some(docid) => self.documents.contains_key(&docid),
+            None => false,
+        }
+    }
+
+    // Puts a document under a docid that none has.
+    fn put(&mut self, docid: i64, cells: Vec<Value>) -> Result<(), Fault>
+        ensures { (documents : Documents) → AreBeside documents self.old
+            → find int_cmp docid (with_new self.old documents) ≡ None
+            → Places documents (deserved.place_document (with_new self.old documents) docid
+            (cells_of cells)) self.new result }
+    {
+        self.documents.insert(docid, cells)?;
+        self.last = Some(last_docid_after(self.last, docid));
+        Ok(())
+    }
+
+    /// The rewrites that make these documents.
+    pub fn into_rewrites(self) -> Result<Vec<Rewrite>, AllocError>
+        ensures { IfOk result (λ rewrites. map shown_rewrite rewrites.items
+            ≡ map new_rewrite (documents_in self)) }
+    {
+        let mut rewrites = Vec::new(self.alloc);
+        for (docid, cells) in self.documents {
+            rewrites.push(Rewrite {
+                docid,
+                before: None,
+                after: Some(cells),
+            })?;
+        }
+        Ok(rewrites)
+    }
+}
+
+/// The documents that rows make in a table with this last docid, or the fault of the first row that fails. At the place of each row
+/// stands whether the table has a document with the docid that the row gives.
+pub fn made_documents(
+    alloc: Global,
+    last: Option<i64>,
+    columns: &[Column],
+    names: &[&str],
+    rows: &[Vec<Value>],
+    stored: &[bool],
+) -> Result<NewDocuments, Fault>
+    ensures { (documents : Documents) → IsTrue (is_sorted int_cmp documents)
+        → views.last_docid documents ≡ last
+        → AreKnown documents (map (zip (map (λ n. n.now) names.now)) (map cells_of rows.now))
+        stored.now
+        → Makes documents (insert_rows (map column_of columns.now)
+        (map (zip (map (λ n. n.now) names.now)) (map cells_of rows.now)) documents) result }
+{
+    let mut new = NewDocuments::new(alloc, last);
+    for (place, row) in rows.iter().enumerate() {
+        new.add(columns, names, row.as_slice(), is_stored(stored, place))?;
+    }
+    Ok(new)
+}
+
+fn is_stored(stored: &[bool], place: usize) -> bool
+    ensures { result ≡ unwrap_or (slice_get stored.now place) false }
+{
+    match stored.get(place) {
+        Some(is_stored) => *is_stored,
+        None => false,
+    }
+}

@@ -1,0 +1,71 @@
+//! Making the index of a table again.
+ghost use Rattle.std.specs.Prelude.{◌≡◌, ◌≤◌, All, IfOk, OnOk, IsTrue, length, map};
+ghost use Rattle.std.specs.Ordering.{int_cmp};
+ghost use Rattle.std.specs.FinMap.Entries.{is_sorted};
+ghost use Rattle.ft_rows.specs.Changes.{shown_change, CanApply};
+ghost use Rattle.ft_content.specs.Content.{is_document};
+ghost use Rattle.ft_content.specs.Views.{column_of};
+ghost use Rattle.ft_documents.specs.Rebuild.{shown_document, MakesIndex, LeavesOthers, LeavesNames};
+ghost use Rattle.ft_documents.specs.RewriteRows as rows;
+
+use crate::document::Document;
+use crate::document_index::DocumentIndex;
+use ft_content::Column;
+use ft_values::RowChange;
+use std::alloc::{AllocError, Global};
+
+/// The row changes that make the index of a table again out of its documents, which stand by rising docid.
+pub fn index_changes(
+    alloc: Global,
+    tab: i64,
+    columns: &[Column],
+    documents: &[Document],
+) -> Result<Vec<RowChange>, AllocError>
+    ensures right { IfOk result (λ changes. MakesIndex tab (map column_of columns.now)
+        (map shown_document documents.now) (map shown_change changes.items)) }
+    ensures others { IfOk result (λ changes. LeavesOthers tab (map shown_change changes.items)) }
+    ensures names { IfOk result (λ changes. LeavesNames (map shown_change changes.items)) }
+    ensures packable { IfOk result (λ changes. length columns.now ≤ 100
+        → IsTrue (is_sorted int_cmp (map shown_document documents.now))
+        → All (λ d. IsTrue (is_document (length columns.now) d)) (map shown_document documents.now)
+        → All CanApply changes.items) }
+{
+    let index = index_of(alloc, columns, documents)?;
+    let changes = rebuilt(alloc, tab, index)?;
+    Ok(changes)
+}
+
+// The index of these documents.
+fn index_of(
+    alloc: Global,
+    columns: &[Column],
+    documents: &[Document],
+) -> Result<DocumentIndex, AllocError>
+    ensures lists { IfOk result (λ index. rows.lists_in index
+        ≡ rows.lists_of (map column_of columns.now) (map shown_document documents.now)) }
+    ensures sizes { IfOk result (λ index. rows.sizes_in index
+        ≡ rows.sizes_of (map column_of columns.now) (map shown_document documents.now)) }
+    ensures numbers { OnOk result (All (λ d. rows.AreShortNumbers (map column_of columns.now) d.1)
+        (map shown_document documents.now)) }
+{
+    let mut index = DocumentIndex::new(alloc);
+    for document in documents {
+        let docid = document.docid;
+        index.add(columns, docid, document.cells.as_slice())?;
+    }
+    Ok(index)
+}
+
+// No index row of before, and all of this index.
+fn rebuilt(alloc: Global, tab: i64, index: DocumentIndex) -> Result<Vec<RowChange>, AllocError>
+    ensures { IfOk result (λ changes. map shown_change changes.items
+        ≡ rows.rebuild_changes tab (rows.lists_in index) (rows.sizes_in index)) }
+{
+    let none = DocumentIndex::new(alloc);
+    let mut changes = Vec::new(alloc);
+    changes.push(RowChange::ClearIndex(tab))?;
+    let (lists, sizes) = index.into_parts();
+    none.put_lists(&mut changes, tab, lists)?;
+    none.put_sizes(&mut changes, tab, &sizes)?;
+    Ok(changes)
+}

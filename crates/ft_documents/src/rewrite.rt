@@ -1,0 +1,217 @@
+//! Documents that are written anew, as row changes.
+ghost use Rattle.std.specs.Prelude.{◌≡◌, ◌++◌, ◌≤◌, [], map, option_map, unwrap_or, length, pos, All, IsTrue, IfOk, OnOk};
+ghost use Rattle.std.specs.Ordering.{int_cmp};
+ghost use Rattle.std.specs.FinMap.Entries.{find, is_sorted};
+ghost use Rattle.ft_values.specs.Cells.{shown_value};
+ghost use Rattle.ft_rows.specs.Changes.{shown_change, CanApply};
+ghost use Rattle.ft_content.specs.Views.{cells_of, column_of};
+ghost use Rattle.ft_documents.specs.Tables.{IsOfDocids};
+ghost use Rattle.ft_documents.specs.Rewrite.{shown_rewrite, docids_of, befores, afters, by_docid, AreRight, AreNew, FitIfAny};
+ghost use Rattle.ft_documents.specs.RewriteRows as rows;
+
+use crate::document_index::DocumentIndex;
+use ft_content::{Column, Value};
+use ft_values::RowChange;
+use std::alloc::{AllocError, Global};
+
+/// A document that is written anew: the cells that it had, if it was there, and those that it gets, if it stays.
+#[derive(Drop)]
+pub struct Rewrite {
+    pub docid: i64,
+    pub before: Option<Vec<Value>>,
+    pub after: Option<Vec<Value>>,
+}
+
+impl Rewrite {
+    ghost use Rattle.std.specs.Prelude.{◌≡◌};
+    ghost use Rattle.ft_documents.specs.Rewrite.{shown_rewrite};
+    ghost use Rattle.ft_documents.specs.RewriteRows as rows;
+
+    // Whether the document was there and does not stay.
+    fn goes(&self) -> bool
+        ensures { result ≡ rows.goes (shown_rewrite self.now) }
+    {
+        self.before.is_some() && self.after.is_none()
+    }
+}
+
+/// The row changes that follow from documents which are written anew.
+pub fn row_changes(
+    alloc: Global,
+    tab: i64,
+    columns: &[Column],
+    rewrites: &[Rewrite],
+) -> Result<Vec<RowChange>, AllocError>
+    ensures right { IfOk result (λ changes. AreRight tab (map column_of columns.now)
+        (map shown_rewrite rewrites.now) (map shown_change changes.items)) }
+    ensures packable { IfOk result (λ changes. length columns.now ≤ 100
+        → IsTrue (is_sorted int_cmp (by_docid (map shown_rewrite rewrites.now)))
+        → All (FitIfAny (length columns.now)) (map shown_rewrite rewrites.now)
+        → All CanApply changes.items) }
+    ensures new { IfOk result (λ changes. AreNew tab (map column_of columns.now)
+        (map shown_rewrite rewrites.now) (map shown_change changes.items)) }
+    ensures near { IfOk result (λ changes. All
+        (IsOfDocids tab (docids_of (map shown_rewrite rewrites.now)))
+        (map shown_change changes.items)) }
+{
+    let changes = planned_changes(alloc, tab, columns, rewrites)?;
+    Ok(changes)
+}
+
+// The row changes, kind by kind.
+fn planned_changes(
+    alloc: Global,
+    tab: i64,
+    columns: &[Column],
+    rewrites: &[Rewrite],
+) -> Result<Vec<RowChange>, AllocError>
+    ensures plan { IfOk result (λ changes. map shown_change changes.items
+        ≡ rows.rewrite_changes tab (map column_of columns.now) (map shown_rewrite rewrites.now)) }
+    ensures numbers { OnOk result (All (rows.HasShortNumbers (map column_of columns.now))
+        (map shown_rewrite rewrites.now)) }
+{
+    let mut changes = Vec::new(alloc);
+    drop_documents(&mut changes, tab, rewrites)?;
+    put_documents(alloc, &mut changes, tab, rewrites)?;
+    let (old, new) = indexes(alloc, columns, rewrites)?;
+    old.drop_lists(&mut changes, tab, &new)?;
+    let (lists, sizes) = new.into_parts();
+    old.put_lists(&mut changes, tab, lists)?;
+    old.drop_sizes(&mut changes, tab, &sizes)?;
+    old.put_sizes(&mut changes, tab, &sizes)?;
+    Ok(changes)
+}
+
+// Drops the cells of documents that go.
+fn drop_documents(
+    changes: &mut Vec<RowChange>,
+    tab: i64,
+    rewrites: &[Rewrite],
+) -> Result<(), AllocError>
+    ensures { OnOk result (map shown_change changes.new.items
+        ≡ map shown_change changes.old.items ++ rows.dropped_documents tab
+        (map shown_rewrite rewrites.now)) }
+{
+    for rewrite in rewrites {
+        let docid = rewrite.docid;
+        if rewrite.goes() {
+            changes.push(RowChange::DropCells(tab, docid))?;
+        }
+    }
+    Ok(())
+}
+
+// Puts the cells that are new or differ.
+fn put_documents(
+    alloc: Global,
+    changes: &mut Vec<RowChange>,
+    tab: i64,
+    rewrites: &[Rewrite],
+) -> Result<(), AllocError>
+    ensures { OnOk result (map shown_change changes.new.items
+        ≡ map shown_change changes.old.items ++ rows.put_documents tab
+        (map shown_rewrite rewrites.now)) }
+{
+    for rewrite in rewrites {
+        let docid = rewrite.docid;
+        let before = cells_in(&rewrite.before);
+        let after = cells_in(&rewrite.after);
+        put_cells(alloc, changes, tab, docid, before, after)?;
+    }
+    Ok(())
+}
+
+// The cells of a document, none where there is none.
+fn cells_in(cells: &Option<Vec<Value>>) -> &[Value]
+    ensures { map shown_value result.now ≡ unwrap_or (option_map cells_of cells.now) [] }
+{
+    match cells {
+        Some(cells) => cells.as_slice(),
+        None => &[],
+    }
+}
+
+// Puts the cells of one document that are new or differ.
+fn put_cells(
+    alloc: Global,
+    changes: &mut Vec<RowChange>,
+    tab: i64,
+    docid: i64,
+    before: &[Value],
+    after: &[Value],
+) -> Result<(), AllocError>
+    ensures { OnOk result (map shown_change changes.new.items
+        ≡ map shown_change changes.old.items ++ rows.put_cells tab docid
+        (map shown_value before.now) (map shown_value after.now)) }
+{
+    for (place, value) in after.iter().enumerate() {
+        if !is_at(before, place, value) {
+            let copy = copied(alloc, value)?;
+            changes.push(RowChange::PutCell(tab, docid, place as i64, copy))?;
+        }
+    }
+    Ok(())
+}
+
+// Whether this value is at this place.
+fn is_at(values: &[Value], place: usize, value: &Value) -> bool
+    ensures { result ≡ rows.was_there rows.same_cell
+        (find int_cmp (pos place) (rows.numbered (map shown_value values.now)))
+        (shown_value value.now) }
+{
+    match values.get(place) {
+        Some(other) => is_same(other, value),
+        None => false,
+    }
+}
+
+fn is_same(a: &Value, b: &Value) -> bool
+    ensures { result ≡ rows.same_cell (shown_value a.now) (shown_value b.now) }
+{
+    match (a, b) {
+        (Value::Null, Value::Null) => true,
+        (Value::Int(m), Value::Int(n)) => *m == *n,
+        (Value::Text(s), Value::Text(t)) => s.as_str() == t.as_str(),
+        _ => false,
+    }
+}
+
+fn copied(alloc: Global, value: &Value) -> Result<Value, AllocError>
+    ensures { IfOk result (λ copy. shown_value copy ≡ shown_value value.now) }
+{
+    match value {
+        Value::Null => Ok(Value::Null),
+        Value::Int(n) => Ok(Value::Int(*n)),
+        Value::Text(text) => {
+            let copy = text.as_str().to_string(alloc)?;
+            Ok(Value::Text(copy))
+        }
+    }
+}
+
+// The index of the documents as they were, and as they are to be.
+fn indexes(
+    alloc: Global,
+    columns: &[Column],
+    rewrites: &[Rewrite],
+) -> Result<(DocumentIndex, DocumentIndex), AllocError>
+    ensures old_lists { IfOk result (λ made. rows.lists_in made.0
+        ≡ rows.lists_of (map column_of columns.now) (befores (map shown_rewrite rewrites.now))) }
+    ensures old_sizes { IfOk result (λ made. rows.sizes_in made.0
+        ≡ rows.sizes_of (map column_of columns.now) (befores (map shown_rewrite rewrites.now))) }
+    ensures new_lists { IfOk result (λ made. rows.lists_in made.1
+        ≡ rows.lists_of (map column_of columns.now) (afters (map shown_rewrite rewrites.now))) }
+    ensures new_sizes { IfOk result (λ made. rows.sizes_in made.1
+        ≡ rows.sizes_of (map column_of columns.now) (afters (map shown_rewrite rewrites.now))) }
+    ensures numbers { OnOk result (All (rows.HasShortNumbers (map column_of columns.now))
+        (map shown_rewrite rewrites.now)) }
+{
+    let mut old = DocumentIndex::new(alloc);
+    let mut new = DocumentIndex::new(alloc);
+    for rewrite in rewrites {
+        let docid = rewrite.docid;
+        old.add_if_any(columns, docid, &rewrite.before)?;
+        new.add_if_any(columns, docid, &rewrite.after)?;
+    }
+    Ok((old, new))
+}

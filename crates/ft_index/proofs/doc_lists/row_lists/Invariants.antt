@@ -1,8 +1,0 @@
--- the lists so far
-use Rattle.std.proofs.Common.{◌≡◌, map}
-use Rattle.ft_query.specs.Documents.{plain_list}
-use Rattle.ft_index.specs.Placed.{list_of}
-use Rattle.ft_index.proofs.doc_lists.row_lists.Given as goal
-
-abbrev pub invariant-loop-row : goal.invariant-loop-row
-invariant-loop-row l = map plain_list l.lists.items ≡ map list_of l.yielded

@@ -1,9 +1,0 @@
--- the changes so far, and those of the lists that are left
-use Rattle.std.proofs.Common.{◌≡◌, ◌++◌, map}
-use Rattle.ft_content.specs.Index.{key_cmp}
-use Rattle.ft_store.specs.Changes.{shown_change}
-use Rattle.ft_index.specs.RewriteRows as rows
-use Rattle.ft_index.proofs.document_index.DocumentIndex.drop_lists.Given as goal
-
-abbrev pub invariant-loop-key : goal.invariant-loop-key
-invariant-loop-key l = map shown_change l.changes.items ++ rows.dropped_lists l.tab (rows.gone key_cmp (map rows.shown_list l.key-iterator) (rows.lists_in l.new)) ≡ map shown_change l.fn.changes.items ++ rows.dropped_lists l.tab (rows.gone key_cmp (rows.lists_in l.self) (rows.lists_in l.new))

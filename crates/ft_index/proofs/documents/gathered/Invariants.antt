@@ -1,8 +1,0 @@
--- the documents of the rows so far
-use Rattle.std.proofs.Common.{◌≡◌, map}
-use Rattle.ft_content.specs.Content as content
-use Rattle.ft_index.specs.DocumentsRead.{shown_document, shown_row}
-use Rattle.ft_index.proofs.documents.gathered.Given as goal
-
-abbrev pub invariant-loop-row : goal.invariant-loop-row
-invariant-loop-row l = map shown_document l.documents.items ≡ content.gathered (map shown_row l.yielded)

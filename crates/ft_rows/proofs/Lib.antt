@@ -1,0 +1,5 @@
+pub mod ListLemmas
+pub mod PackTests
+pub mod PackedLemmas
+pub mod PackedRows
+pub mod ReadLemmas

@@ -1,0 +1,7 @@
+-- Meaning
+pub mod Changes
+pub mod Packed
+pub mod Shown
+pub mod Store
+-- Steps
+pub mod Unpacking

@@ -1,0 +1,257 @@
+//! The packed list: where one term stands in one document, as bytes.
+ghost use Rattle.std.specs.Prelude.{◌≡◌, ℕ, [], ◌∷◌, ◌++◌, ◌+◌, ◌<◌, ◌&&◌, ◌||◌, ◌==◌, map, reverse, true, false, if◌then◌else◌, Some, None, IfOk, IfSome, IfNone, OnOk, MatchOption, slice_index, IsTrue};
+ghost use Rattle.std.specs.List.{flat_map};
+ghost use Rattle.std.specs.Option.{option_and_then};
+ghost use Rattle.ft_rows.specs.Packed.{CanPack, is_natural, PackedIsRead, PackedIsExact, OnlyPackedIsRead, packed_spots, spots_in, stored_spot, plain_spot, leb128, natural, numbers_after, numbers_in, unpacked, is_spot, is_after, origin};
+ghost use Rattle.ft_rows.specs.Unpacking.{next_numbers, spot_from, passes, checked};
+
+use ft_values::Spot;
+use std::alloc::{AllocError, Global};
+
+/// A packed list is read as the places that it was made of, and no others have it.
+pub fn packed_lists()
+    ensures read { PackedIsRead }
+    ensures exact { PackedIsExact }
+    ensures only { OnlyPackedIsRead }
+{}
+
+const ORIGIN: Spot = Spot {
+    column: 0,
+    pos: 0,
+    place: 0,
+    size: 0,
+};
+
+fn natural(number: i64) -> u64
+    ensures { result ≡ natural number }
+{
+    if number < 0 { 0 } else { number as u64 }
+}
+
+/// Where a number counts from: the last one in the same column, else 0.
+fn kept(same: bool, number: i64) -> u64
+    ensures { result ≡ (if same then natural number else 0) }
+{
+    if same { natural(number) } else { 0 }
+}
+
+// ---- packing
+
+fn push_number(bytes: &mut Vec<u8>, number: u64) -> Result<(), AllocError>
+    ensures { OnOk result (bytes.new.items ≡ bytes.old.items ++ leb128 number) }
+{
+    let mut rest = number;
+    while rest >= 128 {
+        bytes.push((rest % 128 + 128) as u8)?;
+        rest /= 128;
+    }
+    bytes.push(rest as u8)?;
+    Ok(())
+}
+
+/// The four numbers of a place behind the last one.
+fn push_spot(bytes: &mut Vec<u8>, last: &Spot, spot: &Spot) -> Result<(), AllocError>
+    ensures { OnOk result (bytes.new.items ≡ bytes.old.items ++ flat_map leb128
+        (numbers_after (plain_spot last.now) (plain_spot spot.now ∷ []))) }
+{
+    let column = natural(spot.column);
+    let same = column == natural(last.column);
+    push_number(bytes, column.saturating_sub(natural(last.column)))?;
+    push_number(
+        bytes,
+        natural(spot.pos).saturating_sub(kept(same, last.pos)),
+    )?;
+    push_number(
+        bytes,
+        natural(spot.place).saturating_sub(kept(same, last.place)),
+    )?;
+    push_number(bytes, natural(spot.size))
+}
+
+/// The packed list of places that rise.
+pub fn pack(alloc: Global, spots: &[Spot]) -> Result<Vec<u8>, AllocError>
+    ensures { IfOk result (λ bytes. bytes.items ≡ packed_spots spots.now) }
+{
+    let mut bytes = Vec::new(alloc);
+    let mut last = ORIGIN;
+    for spot in spots {
+        push_spot(&mut bytes, &last, spot)?;
+        last = *spot;
+    }
+    Ok(bytes)
+}
+
+// ---- which places can be packed
+
+fn is_natural(spot: &Spot) -> bool
+    ensures { result ≡ is_natural spot.now }
+{
+    spot.column >= 0 && spot.pos >= 0 && spot.place >= 0 && spot.size >= 0
+}
+
+/// Whether a posting may have a place, the first or one behind the last.
+fn may_follow(is_first: bool, last: &Spot, spot: &Spot) -> bool
+    ensures { result ≡ (is_natural spot.now && passes is_first (plain_spot last.now)
+        (plain_spot spot.now)) }
+{
+    is_natural(spot)
+        && passes(
+            is_first,
+            last,
+            natural(spot.column),
+            natural(spot.pos),
+            natural(spot.place),
+            natural(spot.size),
+        )
+}
+
+/// Whether places can be packed.
+pub fn can_pack(spots: &[Spot]) -> bool
+    ensures can { IsTrue result → CanPack spots.now }
+    ensures cannot { CanPack spots.now → IsTrue result }
+{
+    let mut last = ORIGIN;
+    for (at, spot) in spots.iter().enumerate() {
+        if !may_follow(at == 0, &last, spot) {
+            return false;
+        }
+        last = *spot;
+    }
+    !spots.is_empty()
+}
+
+// ---- unpacking
+
+/// Takes a byte before the numbers so far, the first of which is at the end. False where no list has them.
+fn add_byte(numbers: &mut Vec<u32>, byte: u8) -> Result<bool, AllocError>
+    ensures goes { IfOk result (λ more. more ≡ true
+        → next_numbers byte (reverse numbers.old.items) ≡ Some (reverse numbers.new.items)) }
+    ensures ends { IfOk result (λ more. more ≡ false → (ns : _)
+        → next_numbers byte (reverse numbers.old.items) ≡ Some ns → 1000000 < slice_index ns 0) }
+{
+    if byte < 128 {
+        numbers.push(u32::from(byte))?;
+        return Ok(true);
+    }
+    let high = numbers.pop().unwrap_or(0);
+    if high == 0 {
+        return Ok(false);
+    }
+    if high >= 0x4000 {
+        return Ok(false);
+    }
+    numbers.push(u32::from(byte) - 128 + 128 * high)?;
+    Ok(true)
+}
+
+/// The numbers of a list. None where no list has them.
+fn numbers_in(alloc: Global, bytes: &[u8]) -> Result<Option<Vec<u32>>, AllocError>
+    ensures { IfOk result (λ o. MatchOption o (unpacked bytes.now ≡ None)
+        (λ ns. numbers_in bytes.now ≡ Some ns.items)) }
+{
+    let mut numbers = Vec::with_capacity(alloc, bytes.len())?;
+    let mut at = bytes.len();
+    while at > 0 {
+        at -= 1;
+        if !add_byte(&mut numbers, bytes[at])? {
+            return Ok(None);
+        }
+    }
+    numbers.reverse();
+    Ok(Some(numbers))
+}
+
+fn is_spot(column: u64, pos: u64, place: u64, size: u64) -> bool
+    ensures { result ≡ is_spot (record { column = column; pos = pos; place = place; size = size }) }
+{
+    column <= 99 && pos < 1_000_000 && place < 1_000_000 && 0 < size && size <= 1_000_000
+}
+
+fn is_after(last: &Spot, column: u64, pos: u64, place: u64) -> bool
+    ensures { (size : ℕ)
+        → result ≡ is_after (plain_spot last.now)
+        (record { column = column; pos = pos; place = place; size = size }) }
+{
+    natural(last.column) < column
+        || (natural(last.column) == column
+            && natural(last.pos) < pos
+            && natural(last.place) < place)
+}
+
+fn passes(is_first: bool, last: &Spot, column: u64, pos: u64, place: u64, size: u64) -> bool
+    ensures { result ≡ passes is_first (plain_spot last.now)
+        (record { column = column; pos = pos; place = place; size = size }) }
+{
+    is_spot(column, pos, place, size) && (is_first || is_after(last, column, pos, place))
+}
+
+fn stored(column: u64, pos: u64, place: u64, size: u64) -> Spot
+    requires { is_spot (record { column = column; pos = pos; place = place; size = size }) ≡ true }
+    ensures { result ≡ stored_spot
+        (record { column = column; pos = pos; place = place; size = size }) }
+{
+    Spot {
+        column: column as i64,
+        pos: pos as i64,
+        place: place as i64,
+        size: size as i64,
+    }
+}
+
+/// The place that four numbers say behind the last one, if a posting may have it.
+fn spot_at(last: &Spot, is_first: bool, c: u32, p: u32, l: u32, z: u32) -> Option<Spot>
+    ensures found { IfSome result (λ spot. (passes is_first (plain_spot last.now)
+        (spot_from (plain_spot last.now) c p l z) ≡ true)
+        × (spot ≡ stored_spot (spot_from (plain_spot last.now) c p l z))) }
+    ensures none { IfNone result (passes is_first (plain_spot last.now)
+        (spot_from (plain_spot last.now) c p l z) ≡ false) }
+{
+    let same = c == 0;
+    let column = natural(last.column) + u64::from(c);
+    let pos = kept(same, last.pos) + u64::from(p);
+    let place = kept(same, last.place) + u64::from(l);
+    let size = u64::from(z);
+    if !passes(is_first, last, column, pos, place, size) {
+        return None;
+    }
+    Some(stored(column, pos, place, size))
+}
+
+/// The places that numbers say, if a posting may have them.
+fn spots_from(alloc: Global, numbers: &[u32]) -> Result<Option<Vec<Spot>>, AllocError>
+    ensures { IfOk result (λ o. MatchOption o (checked true origin numbers.now ≡ None)
+        (λ spots. (checked true origin numbers.now ≡ Some (map plain_spot spots.items))
+        × (spots.items ≡ map stored_spot (map plain_spot spots.items)))) }
+{
+    let mut spots = Vec::with_capacity(alloc, numbers.len() / 4)?;
+    let mut last = ORIGIN;
+    let mut at = 0;
+    while at < numbers.len() {
+        let (_, rest) = numbers.split_at(at);
+        if rest.len() < 4 {
+            return Ok(None);
+        }
+        let Some(spot) = spot_at(&last, at == 0, rest[0], rest[1], rest[2], rest[3]) else {
+            return Ok(None);
+        };
+        spots.push(spot)?;
+        last = spot;
+        at += 4;
+    }
+    Ok(Some(spots))
+}
+
+/// The places that a packed list stands for. None for any bytes that are no packed list.
+pub fn unpack(alloc: Global, bytes: &[u8]) -> Result<Option<Vec<Spot>>, AllocError>
+    ensures { IfOk result (λ o. MatchOption o (spots_in bytes.now ≡ None)
+        (λ spots. spots_in bytes.now ≡ Some spots.items)) }
+{
+    if bytes.is_empty() {
+        return Ok(None);
+    }
+    let Some(numbers) = numbers_in(alloc, bytes)? else {
+        return Ok(None);
+    };
+    let spots = spots_from(alloc, numbers.as_slice())?;
+    Ok(spots)
+}

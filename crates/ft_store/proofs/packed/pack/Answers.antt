@@ -1,7 +1,0 @@
-use Rattle.std.proofs.Common.{refl}
-use Rattle.ft_store.specs.Packed.{packed}
-use Rattle.ft_store.proofs.packed.pack.Goals as goal
-
-pub loop-spot-init : goal.loop-spot-init
-unfolding packed
-loop-spot-init c = rw c.new-bytes.ensures.items refl
