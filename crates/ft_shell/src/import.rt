@@ -308,4 +308,3 @@ fn noted_told<S: Alter>(
         }
     }
 }
-

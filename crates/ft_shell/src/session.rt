@@ -14,8 +14,8 @@ use crate::unit_turn::unit_turn;
 use ft_index::FullText;
 use ft_statements::split_text;
 use plain_shell::{
-    Feed, Refusal, RunFault, Source, Status, Told, echo_text, end_refusal, flush, is_memory, is_over,
-    read_chunk, tell,
+    Feed, Refusal, RunFault, Source, Status, Told, echo_text, end_refusal, flush, is_memory,
+    is_over, read_chunk, tell,
 };
 use ram_disk::Honest;
 use shell_text::{Settings, Unit, blocks_read_whole};
@@ -480,4 +480,3 @@ impl<P: Alter, S: Honest> Session<P, S> {
         Session::<P, S>::kept_by_runs();
     }
 }
-
