@@ -2,7 +2,7 @@
 use Rattle.std.proofs.Common.{◌≡◌, ℕ, List, map, Option, refl, ap, ◌∙◌}
 use Rattle.ft_query.specs.Trees.{Tree}
 use Rattle.ft_values.specs.declared.table.Column as source
-use Rattle.ft_content.specs.Content.{Column, Content}
+use Rattle.ft_content.specs.Content.{Content}
 use Rattle.ft_content.specs.Command.{Filter, All, Docid, Match}
 use Rattle.ft_content.specs.Answer.{reading}
 use Rattle.ft_content.specs.Deserved.{names_unknown, query_fault, reading_fault}

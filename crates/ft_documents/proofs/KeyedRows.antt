@@ -3,7 +3,7 @@ use Rattle.std.proofs.Common.{◌≡◌, Bool, true, false, cond, not, T, ◌&&�
 use Rattle.std.specs.Prelude.{filter, option_map, is_some}
 use Rattle.std.specs.declared.cmp.Ordering.{Ordering}
 use Rattle.std.specs.declared.cmp.Ordering.TheVariants.{Less, Equal, Greater}
-use Rattle.std.specs.Ordering.{int_cmp, int_eq, eq_by_cmp, is_eq, is_lt, ordering_then}
+use Rattle.std.specs.Ordering.{int_eq, eq_by_cmp, is_eq, is_lt, ordering_then}
 use Rattle.std.specs.Cmp.{IsTotalOrder, eq_by_cmp_equiv, int_cmp_total, tied_itself}
 use Rattle.std.specs.FinMap.{int_cmp-IsAntisymmetric}
 use Rattle.std.specs.FinMap.Entries.{put, find, below_all, is_sorted, is_sorted-put, is_sorted-where_key, find-put, find-where_key, same_entries}

@@ -1,5 +1,5 @@
 -- by whether offsets are wanted
-use Rattle.std.proofs.Common.{◌≡◌, true, false, sym, subst}
+use Rattle.std.proofs.Common.{sym, subst}
 use Rattle.std.proofs.lemmas.Result.{IfOk-weaker}
 use Rattle.ft_documents.specs.Matched.{Tells}
 use Rattle.ft_documents.proofs.TakenLemmas.{told_whole, told_bare}

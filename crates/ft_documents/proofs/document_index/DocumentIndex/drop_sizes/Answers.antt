@@ -3,7 +3,7 @@ use Rattle.std.specs.Prelude.{is_some}
 use Rattle.std.specs.FinMap.Entries.{find}
 use Rattle.ft_rows.specs.Store.{column_key_cmp, DropSize}
 use Rattle.ft_rows.specs.Changes.{shown_change}
-use Rattle.ft_documents.specs.RewriteRows.{sizes_in, gone, dropped_sizes}
+use Rattle.ft_documents.specs.RewriteRows.{gone, dropped_sizes}
 use Rattle.ft_documents.proofs.Steps.{kept_more, change_more}
 use Rattle.ft_documents.proofs.MapSteps.{find_looked_up}
 use Rattle.ft_documents.proofs.document_index.DocumentIndex.drop_sizes.Goals as goal
