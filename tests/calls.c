@@ -1,7 +1,8 @@
 /* Stops the program at one of its calls, or has that call and all later ones fail. Calls are counted from 1: with FILES those that write a
  * file (pwrite, write, ftruncate, fsync, fdatasync), else those on the descriptor STREAM (read of 0, write of 1 or 2). At the one whose number
- * is in AT, HOW says what comes: `kill` stops the program before the call, `half` within it, after half of the bytes, and `fail` has it
- * fail. PIECE is the most bytes that a read of the input gives. The number of all calls is written to the file named in COUNTED. */
+ * is in AT, HOW says what comes: `kill` stops the program before the call, `half` within it, after half of the bytes, `lost` before it with
+ * all gone that was not synced, as where the power fails, and `fail` has it fail. With UNSYNCED files are never synced. PIECE is the most bytes
+ * that a read of the input gives. The number of all calls is written to the file named in COUNTED. */
 #define _GNU_SOURCE
 #include <dlfcn.h>
 #include <errno.h>
@@ -10,10 +11,21 @@
 #include <string.h>
 #include <fcntl.h>
 #include <stdio.h>
+#include <sys/stat.h>
 #include <unistd.h>
 
 static long at, count, piece;
-static int of_files, stream = -1, how;
+static int of_files, stream = -1, how, unsynced;
+
+/* What a write has taken from a file that was not synced since: the bytes that stood there, and the file's length. The last one is first. */
+struct taken {
+    struct taken *before;
+    int fd;
+    off_t place, length;
+    size_t size;
+    char bytes[];
+};
+static struct taken *all_taken;
 
 __attribute__((constructor)) static void begin(void) {
     const char *text = getenv("AT");
@@ -25,6 +37,49 @@ __attribute__((constructor)) static void begin(void) {
     stream = text ? atoi(text) : -1;
     text = getenv("HOW");
     how = text ? text[0] : 'k';
+    unsynced = getenv("UNSYNCED") != NULL;
+}
+
+static void *next(const char *name) {
+    return dlsym(RTLD_NEXT, name);
+}
+
+/* Keeps what a write of so many bytes takes, where that may be lost. */
+static void take(int fd, size_t size, off_t place) {
+    struct stat now;
+    struct taken *it;
+    if (how != 'l' || fd <= 2 || fstat(fd, &now) || !S_ISREG(now.st_mode)) return;
+    it = malloc(sizeof *it + size);
+    it->before = all_taken;
+    it->fd = fd;
+    it->place = place;
+    it->length = now.st_size;
+    it->size = 0;
+    if (place < now.st_size) {
+        ssize_t there = pread(fd, it->bytes, size, place);
+        if (there < 0) abort();
+        it->size = there;
+    }
+    all_taken = it;
+}
+
+/* A file is synced: nothing of it may be lost. */
+static void settle(int fd) {
+    struct taken **it = &all_taken;
+    while (!unsynced && *it) {
+        if ((*it)->fd == fd)
+            *it = (*it)->before;
+        else
+            it = &(*it)->before;
+    }
+}
+
+/* Gives back all that was taken. */
+static void lose(void) {
+    ssize_t (*write_at)(int, const void *, size_t, off_t) = next("pwrite");
+    int (*cut)(int, off_t) = next("ftruncate");
+    for (struct taken *it = all_taken; it; it = it->before)
+        if (write_at(it->fd, it->bytes, it->size, it->place) < 0 || cut(it->fd, it->length)) abort();
 }
 
 static int is_counted(int fd, int is_read) {
@@ -38,7 +93,8 @@ static int fails(int fd, int is_read) {
     count += 1;
     if (at == 0 || count < at) return 0;
     if (how == 'f') return 1;
-    if (how == 'k') kill(getpid(), SIGKILL);
+    if (how == 'l') lose();
+    if (how == 'k' || how == 'l') kill(getpid(), SIGKILL);
     return 0;
 }
 
@@ -50,10 +106,6 @@ static int is_torn(int fd) {
 static int failed(void) {
     errno = EIO;
     return -1;
-}
-
-static void *next(const char *name) {
-    return dlsym(RTLD_NEXT, name);
 }
 
 ssize_t read(int fd, void *to, size_t size) {
@@ -69,6 +121,7 @@ ssize_t write(int fd, const void *from, size_t size) {
         real(fd, from, size / 2);
         kill(getpid(), SIGKILL);
     }
+    take(fd, size, lseek(fd, 0, SEEK_CUR));
     return real(fd, from, size);
 }
 
@@ -79,6 +132,7 @@ ssize_t pwrite(int fd, const void *from, size_t size, off_t place) {
         real(fd, from, size / 2, place);
         kill(getpid(), SIGKILL);
     }
+    take(fd, size, place);
     return real(fd, from, size, place);
 }
 
@@ -87,9 +141,12 @@ ssize_t pwrite64(int fd, const void *from, size_t size, off_t place) {
 }
 
 int ftruncate(int fd, off_t size) {
+    struct stat now;
     int (*real)(int, off_t) = next("ftruncate");
     if (fails(fd, 0)) return failed();
     if (is_torn(fd)) kill(getpid(), SIGKILL);
+    if (!fstat(fd, &now) && now.st_size > size) take(fd, now.st_size - size, size);
+    else take(fd, 0, size);
     return real(fd, size);
 }
 
@@ -101,13 +158,27 @@ int fsync(int fd) {
     int (*real)(int) = next("fsync");
     if (fails(fd, 0)) return failed();
     if (is_torn(fd)) kill(getpid(), SIGKILL);
-    return real(fd);
+    settle(fd);
+    return unsynced ? 0 : real(fd);
 }
 
 int fdatasync(int fd) {
     int (*real)(int) = next("fdatasync");
     if (fails(fd, 0)) return failed();
     if (is_torn(fd)) kill(getpid(), SIGKILL);
+    settle(fd);
+    return unsynced ? 0 : real(fd);
+}
+
+/* What was taken from a file that is closed unsynced is given back by another descriptor. */
+int close(int fd) {
+    int (*real)(int) = next("close");
+    int other = -1;
+    for (struct taken *it = all_taken; it; it = it->before) {
+        if (it->fd != fd) continue;
+        if (other < 0) other = dup(fd);
+        it->fd = other;
+    }
     return real(fd);
 }
 

@@ -1,8 +1,8 @@
 """Stops the program at each of its writes, and has its disk, its input and its outputs fail at each of their calls: calls.py PROGRAM [TEXT].
 
 Of what is listed here all is tried, or what TEXT is in the name of.
-- A run of one command on a FILE is stopped at each write of a file, before it and within it, and the file is opened again: every table is
-  sound, and all is as before the command or as after it; and as after it where it was answered. A plain table that was made may not be
+- A run of one command on a FILE is stopped at each write of a file, before it, within it, and before it with all lost that was not synced,
+  and the file is opened again: every table is sound, and all is as before the command or as after it; and as after it where it was answered. A plain table that was made may not be
   noted yet: the two files are not in step.
 - The same of a run that opens a store of version 2, from which one of version 3 is made: it is one of the two, and holds the same.
 - The disk fails from each write on: all is as before the command or as after it, what was answered is there, and every table is sound.
@@ -93,6 +93,8 @@ INSERT INTO mail(mail) VALUES('integrity-check');
 INSERT INTO e(e) VALUES('integrity-check');
 INSERT INTO m(m) VALUES('integrity-check');
 """.strip("\n").split("\n")
+# How a run is stopped at a write: before it, within it, and before it with what was not synced lost.
+STOPS = ("kill", "half", "lost")
 OWN_LINE = re.compile(r"Error: near line \d+: .+")
 UNSOUND = ("database disk image is malformed", "full-text index is unsound", "unable to open")
 
@@ -194,7 +196,7 @@ def tries_of_opening(older, before):
     """Yields what is tried of a run that opens a store of version 2."""
     _, writes, _, _ = older.after([OPEN], FILES=1)
     for at in range(1, writes + 1):
-        for how in ("kill", "half"):
+        for how in STOPS:
             yield f"an opening of version 2 is stopped ({how}) at write {at} of {writes}", functools.partial(stopped, older, OPEN, before, before, at, how)
         yield f"an opening of version 2 with a disk that fails from write {at} on", functools.partial(failing, older, OPEN, before, before, at)
 
@@ -205,7 +207,7 @@ def tries_of_command(rooms, before, command):
     if not is_sound or after == before and "rebuild" not in command:
         yield f"{command}: it does nothing", lambda: str(after)
     for at in range(1, writes + 1):
-        for how in ("kill", "half"):
+        for how in STOPS:
             yield f"{command} is stopped ({how}) at write {at} of {writes}", functools.partial(stopped, rooms, command, before, after, at, how)
         yield f"{command} with a disk that fails from write {at} on", functools.partial(failing, rooms, command, before, after, at)
 

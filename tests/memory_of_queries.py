@@ -1,6 +1,6 @@
 """Refuses the allocations of the tests of queries one at a time: memory_of_queries.py PROGRAM.
 
-PROGRAM has the tests of the crate text_tests: crates/text_tests/out/text_tests_tests, as `rt ci` and `rt test` leave it. Each of TESTS is
+PROGRAM has the tests of the crate query_tests: crates/query_tests/out/query_tests_tests, as `rt ci` and `rt test` leave it. Each of TESTS is
 run with each of its allocations refused alone. It makes a refused call of `parse`, `open` or `next` once more, so one of these holds:
 - it finds what it finds with ample memory;
 - what was refused is none of those calls' own, and it ends in want of memory.
@@ -14,13 +14,13 @@ import sys
 import tempfile
 
 TESTS = (
-    "query::walk::near_and_chains",
-    "query::walk::two_columns",
-    "query::walk::sets_of_documents",
-    "query::walk::occurrences_of_one_word_and_documents_by_docid",
-    "query::walk::prefixes",
-    "query::walk::first_terms",
-    "query::walk::steps_are_bounded",
+    "walk::near_and_chains",
+    "walk::two_columns",
+    "walk::sets_of_documents",
+    "walk::occurrences_of_one_word_and_documents_by_docid",
+    "walk::prefixes",
+    "walk::first_terms",
+    "walk::steps_are_bounded",
 )
 WANT = ("AllocError", "AllocFailed")
 

@@ -85,6 +85,11 @@ def wants_whole_characters(words):
     return subprocess.run(words, input=given).returncode
 
 
+def syncs_nothing(words):
+    """Syncs no file (tests/calls.c)."""
+    return subprocess.run(words, env={**os.environ, "UNSYNCED": "1"}).returncode
+
+
 def migrates_by_two(words):
     """Makes a store of version 2 one of version 3 by two transactions."""
     if len(words) > 1 and os.path.exists(f"{words[1]}-fts4"):
@@ -144,6 +149,7 @@ WRAPPERS = {
         answers_first,
         holds_back,
         wants_whole_characters,
+        syncs_nothing,
         migrates_by_two,
         opens_to_all,
         reaches_too_far,
@@ -159,6 +165,7 @@ CASES = [
     (hushes_faults, "memory", ["997", "2500"], r"session, allocation \d+: "),
     (commits_row_by_row, "calls", ["INSERT INTO d VALUES('blue plum'),('red fig'); is stopped (kill)"], r"is stopped \(kill\) at write"),
     (answers_first, "calls", ["INSERT INTO d VALUES('blue plum'),('red fig'); is stopped (kill)"], "it was answered, and is not there"),
+    (syncs_nothing, "calls", ["INSERT INTO d VALUES('blue plum'),('red fig'); is stopped (lost)"], "it was answered, and is not there"),
     (hushes_faults, "calls", ["UPDATE d SET x='green' WHERE docid=1; with a disk that fails from write 2 on"], "no fault was told, and it is not there"),
     (hushes_faults, "calls", ["stream 0 fails from call 9 of"], "stream 0 fails from call 9"),
     (hushes_faults, "calls", ["stream 1 fails from call 1 of"], "stream 1 fails from call 1"),

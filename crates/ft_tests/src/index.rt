@@ -3,7 +3,6 @@
 mod changes;
 mod commands;
 mod damage;
-mod stops;
 
 use ft_index::{Command, Fault, FullText, Reply};
 use ft_store::Store;

@@ -1,8 +1,6 @@
 //! A store of full-text rows in memory.
 
 mod adopting;
-mod groups;
-mod lists;
 mod rows;
 
 use crate::empty::Begins;

@@ -1,7 +1,7 @@
 use Rattle.std.proofs.Common.{◌≡◌, ◌-◌, ◌^◌, map, min}
 use Rattle.std.specs.Prelude.{take}
 use Rattle.ft_query.specs.Documents.{plain_list, place_count}
-use Rattle.text_tests.proofs.query.words.count.Given as goal
+use Rattle.query_tests.proofs.words.count.Given as goal
 
 abbrev pub invariant-loop-list : goal.invariant-loop-list
 invariant-loop-list l = l.places ≡ min (place_count (map plain_list (take l.list-index l.lists))) (2 ^ 64 - 1)

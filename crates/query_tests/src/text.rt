@@ -1,5 +1,5 @@
 //! Tokens.
-use super::expect;
+use crate::expected::expect;
 use ft_query::{Token, tokens};
 use std::alloc::Global;
 use std::test::Fail;

@@ -1,5 +1,5 @@
 //! Queries by their trees, the limits on both sides, and what the default column is for.
-use super::expect;
+use crate::expected::expect;
 use ft_query::{Chain, Phrase, Query, QueryFault, QueryTerm, parse};
 use std::alloc::{AllocError, Global};
 use std::test::Fail;

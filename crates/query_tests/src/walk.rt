@@ -1,8 +1,7 @@
 //! Walks over the words of some documents: what they find, in how many steps, and that a call without memory may be made again.
 //! `tests/memory_of_queries` refuses each of their allocations alone.
-use super::expect;
-use super::words::{Texts, words_of};
-use crate::names::names_of;
+use crate::expected::expect;
+use crate::words::{Texts, words_of};
 use ft_query::{Hit, ListFault, Lists, Matches, Offset, Query, QueryFault, offsets_text, parse};
 use std::alloc::{AllocError, Global};
 use std::test::Fail;
@@ -41,6 +40,15 @@ fn open<'q>(alloc: Global, query: &'q Query, documents: &[Texts<'_>]) -> Result<
         Some(matches) => Ok(matches),
         None => Err("no walk")?,
     }
+}
+
+// These names, each a text of its own.
+fn names_of(alloc: Global, names: &[&str]) -> Result<Vec<String>, AllocError> {
+    let mut texts: Vec<String> = Vec::new(alloc);
+    for name in names {
+        texts.push(name.to_string(alloc)?)?;
+    }
+    Ok(texts)
 }
 
 // The query of a text that is one, or is none, also where the first call lacks memory.
@@ -231,19 +239,6 @@ const SET_ROWS: [(&str, &str); 8] = [
 #[test]
 fn sets_of_documents(rt: HostRuntime) -> Result<(), Fail> {
     finds(rt.alloc(), &["x"], &SETS, &SET_ROWS)
-}
-
-const LETTERS: [Texts<'static>; 2] = [(1, &["Ærø café"]), (2, &["-15"])];
-
-const LETTER_ROWS: [(&str, &str); 3] = [
-    ("ærø", ""),
-    ("CAFé", "1: 0 0 6 5;"),
-    ("15", "2: 0 0 1 2;"),
-];
-
-#[test]
-fn letters_past_ascii(rt: HostRuntime) -> Result<(), Fail> {
-    finds(rt.alloc(), &["x"], &LETTERS, &LETTER_ROWS)
 }
 
 const LINES: [Texts<'static>; 3] = [(1, &["linux driver"]), (2, &["line"]), (3, &["lion"])];

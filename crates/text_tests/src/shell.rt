@@ -1,8 +1,0 @@
-//! Tests of the text layer of the shell.
-mod dot;
-mod names;
-mod print;
-mod records;
-mod settings;
-mod units;
-mod words;
