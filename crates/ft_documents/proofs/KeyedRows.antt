@@ -217,6 +217,28 @@ module _ {K V : Type 0} (R : K → K → Ordering) (o : IsTotalOrder R) (exact :
   pub changed_found : (same : V → V → Bool) (q : K) (old new : List (K × V)) → is_sorted R new ≡ true → find R q (changed R same old new) ≡ fresh same (find R q old) (find R q new)
   changed_found same q old new h = find-filter (λ e. not (was_there same (find R e.0 old) e.1)) q new h ∙ fresh_kept same q old (find R q new)
 
+  renewed : (same : V → V → Bool) → ((v w : V) → same v w ≡ true → v ≡ w) → (old new there : Option V) → ((v : V) → old ≡ Some v → there ≡ Some v) → or_else (fresh same old new) (unless_some (fresh same new old) there) ≡ replaced old new there
+  renewed same sound None None there held = refl
+  renewed same sound None (Some v) there held = refl
+  renewed same sound (Some w) None there held = refl
+  renewed same sound (Some w) (Some v) there held =
+      elim (same w v) as (λ b. same w v ≡ b → or_else (cond (not b) (Some v) None) (unless_some (fresh same (Some v) (Some w)) there) ≡ Some v) [
+        | true ↦ λ is.
+            let one : w ≡ v = sound w v is in
+            ap (λ b. unless_some (cond (not b) (Some w) None) there) (subst (λ x. same x w ≡ true) one (ap (same w) one ∙ is)) ∙ held w refl ∙ ap Some one
+        | false ↦ λ _. refl
+      ] refl
+
+  -- What is found after the rows that are gone or differ are dropped and the changed ones are put, where the old ones were there.
+  pub find_renewed : (same : V → V → Bool) → ((v w : V) → same v w ≡ true → v ≡ w) → (q : K) (old new rows : List (K × V)) → is_sorted R old ≡ true → is_sorted R new ≡ true → ((v : V) → find R q old ≡ Some v → find R q rows ≡ Some v) →
+      find R q (all_put R (changed R same old new) (all_dropped (changed R same new old) rows)) ≡ replaced (find R q old) (find R q new) (find R q rows)
+  find_renewed same sound q old new rows g h there =
+      let p : K × V → Bool = λ (e : K × V). not (was_there same (find R e.0 old) e.1) in
+      let left : find R q (all_dropped (changed R same new old) rows) ≡ unless_some (fresh same (find R q new) (find R q old)) (find R q rows) = find_all_dropped q (changed R same new old) rows ∙ ap (λ x. unless_some x (find R q rows)) (changed_found same q new old g) in
+      find_all_put q (changed R same old new) (all_dropped (changed R same new old) rows) (sorted-filter p new h)
+      ∙ (λ i. or_else (changed_found same q old new h i) (left i))
+      ∙ renewed same sound (find R q old) (find R q new) (find R q rows) there
+
   -- What is found after the gone rows are dropped and the changed ones are put, where the old ones were there.
   pub find_replaced : (same : V → V → Bool) → ((v w : V) → same v w ≡ true → v ≡ w) → (q : K) (old new rows : List (K × V)) → is_sorted R old ≡ true → is_sorted R new ≡ true → ((v : V) → find R q old ≡ Some v → find R q rows ≡ Some v) →
       find R q (all_put R (changed R same old new) (all_dropped (gone R old new) rows)) ≡ replaced (find R q old) (find R q new) (find R q rows)

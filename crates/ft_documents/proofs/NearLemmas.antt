@@ -99,8 +99,8 @@ module _ (D : ℤ → Type 0) where
         (All-flat_map P (λ (r : Rewrite). put_cells tab r.docid (unwrap_or r.before []) (unwrap_or r.after [])) rewrites (All-weaker (λ (r : Rewrite). D r.docid) (λ r. All P (put_cells tab r.docid (unwrap_or r.before []) (unwrap_or r.after [])))
         (λ r is. All-map P (λ (c : ℤ × Cell). PutCell tab r.docid c.0 c.1) (changed int_cmp same_cell (numbered (unwrap_or r.before [])) (numbered (unwrap_or r.after []))) (λ k d _. puts r.docid _ _ is)) rewrites h))
         (All-append P (list_changes tab old new) _
-        (All-append P (dropped_lists tab (gone key_cmp old new)) (put_lists tab (changed key_cmp same_spots old new))
-        (All-map P (λ (l : Key × List StoredSpot). DropEntries tab l.0.0 l.0.1) (gone key_cmp old new) (All-weaker N (λ l. P (DropEntries tab l.0.0 l.0.1)) (λ l is. drop_list l.0.0 l.0.1 is) (gone key_cmp old new) (All-filter _ N old (lists_near columns (befores rewrites) (befores_near rewrites h)))))
+        (All-append P (dropped_lists tab (changed key_cmp same_spots new old)) (put_lists tab (changed key_cmp same_spots old new))
+        (All-map P (λ (l : Key × List StoredSpot). DropEntries tab l.0.0 l.0.1) (changed key_cmp same_spots new old) (All-weaker N (λ l. P (DropEntries tab l.0.0 l.0.1)) (λ l is. drop_list l.0.0 l.0.1 is) (changed key_cmp same_spots new old) (All-filter _ N old (lists_near columns (befores rewrites) (befores_near rewrites h)))))
         (All-map P (λ (l : Key × List StoredSpot). PutEntries tab l.0.0 l.0.1 l.1) (changed key_cmp same_spots old new) (All-weaker N (λ l. P (PutEntries tab l.0.0 l.0.1 l.1)) (λ l is. put_list l.0.0 l.0.1 l.1 is) (changed key_cmp same_spots old new) (All-filter _ N new (lists_near columns (afters rewrites) (afters_near rewrites h))))))
         (All-append P (dropped_sizes tab (gone column_key_cmp olds news)) (put_sizes tab (changed column_key_cmp int_eq olds news))
         (All-map P (λ (s : (ℤ × ℤ) × ℤ). DropSize tab s.0.0 s.0.1) (gone column_key_cmp olds news) (All-weaker S (λ s. P (DropSize tab s.0.0 s.0.1)) (λ s is. drop_size s.0.0 s.0.1 is) (gone column_key_cmp olds news) (All-filter _ S olds (sizes_near columns (befores rewrites) (befores_near rewrites h)))))

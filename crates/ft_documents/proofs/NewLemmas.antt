@@ -72,6 +72,12 @@ module _ {K V : Type 0} (S : K → K → Ordering) (o : IsTotalOrder S) (exact :
       (All-weaker (λ (e : K × V). find S e.0 (rows (befores rewrites)) ≡ Some e.1) (λ (e : K × V). IsSome (find S e.0 (rows documents))) (λ e is. ap is_some (old_there S o exact docid_of rows one are documents rewrites ordered rising known e.0 e.1 is)) (rows (befores rewrites))
       (all_found S o (rows (befores rewrites)) (sorted_befores S o exact docid_of rows one are documents rewrites ordered rising known)))
 
+  stale_new : All (λ (e : K × V). IsSome (find S e.0 (rows documents))) (changed S same (rows (afters rewrites)) (rows (befores rewrites)))
+  stale_new =
+      All-filter (λ (e : K × V). not (was_there same (find S e.0 (rows (afters rewrites))) e.1)) (λ (e : K × V). IsSome (find S e.0 (rows documents))) (rows (befores rewrites))
+      (All-weaker (λ (e : K × V). find S e.0 (rows (befores rewrites)) ≡ Some e.1) (λ (e : K × V). IsSome (find S e.0 (rows documents))) (λ e is. ap is_some (old_there S o exact docid_of rows one are documents rewrites ordered rising known e.0 e.1 is)) (rows (befores rewrites))
+      (all_found S o (rows (befores rewrites)) (sorted_befores S o exact docid_of rows one are documents rewrites ordered rising known)))
+
   changed_new : All (λ (e : K × V). find S e.0 (rows documents) ≢ Some e.1) (changed S same (rows (befores rewrites)) (rows (afters rewrites)))
   changed_new =
       let old = rows (befores rewrites) in
@@ -142,10 +148,10 @@ module _ (name : List ℕ) (content : Content) (tab : ℤ) (store : StoreValue) 
       (All-flat_map (IsNew store) (λ (r : Rewrite). put_cells tab r.docid (unwrap_or r.before []) (unwrap_or r.after [])) rewrites
       (All-weaker (λ (r : Rewrite). r.before ≡ find int_cmp r.docid documents) (λ r. All (IsNew store) (put_cells tab r.docid (unwrap_or r.before []) (unwrap_or r.after []))) cells_new rewrites known))
       (All-append (IsNew store) (list_changes tab lists_old lists_new) _
-      (All-append (IsNew store) (dropped_lists tab (gone key_cmp lists_old lists_new)) (put_lists tab (changed key_cmp same_spots lists_old lists_new))
-      (All-map (IsNew store) (λ (l : Key × List StoredSpot). DropEntries tab l.0.0 l.0.1) (gone key_cmp lists_old lists_new)
-      (All-weaker (λ (l : Key × List StoredSpot). IsSome (find key_cmp l.0 (lists_of columns documents))) (λ (l : Key × List StoredSpot). IsSome (find list_key_cmp (tab, l.0.0, l.0.1) store.lists)) (λ l is. ap is_some (list_there l.0) ∙ is) (gone key_cmp lists_old lists_new)
-      (gone_new key_cmp key_cmp_total key_cmp_exact (λ k. k.1) (lists_of columns) (one_list columns) (lists_are columns) documents rewrites has.is_content.rising are.rising known same_spots spots_whole)))
+      (All-append (IsNew store) (dropped_lists tab (changed key_cmp same_spots lists_new lists_old)) (put_lists tab (changed key_cmp same_spots lists_old lists_new))
+      (All-map (IsNew store) (λ (l : Key × List StoredSpot). DropEntries tab l.0.0 l.0.1) (changed key_cmp same_spots lists_new lists_old)
+      (All-weaker (λ (l : Key × List StoredSpot). IsSome (find key_cmp l.0 (lists_of columns documents))) (λ (l : Key × List StoredSpot). IsSome (find list_key_cmp (tab, l.0.0, l.0.1) store.lists)) (λ l is. ap is_some (list_there l.0) ∙ is) (changed key_cmp same_spots lists_new lists_old)
+      (stale_new key_cmp key_cmp_total key_cmp_exact (λ k. k.1) (lists_of columns) (one_list columns) (lists_are columns) documents rewrites has.is_content.rising are.rising known same_spots spots_whole)))
       (All-map (IsNew store) (λ (l : Key × List StoredSpot). PutEntries tab l.0.0 l.0.1 l.1) (changed key_cmp same_spots lists_old lists_new)
       (All-weaker (λ (l : Key × List StoredSpot). find key_cmp l.0 (lists_of columns documents) ≢ Some l.1) (λ (l : Key × List StoredSpot). find list_key_cmp (tab, l.0.0, l.0.1) store.lists ≢ Some l.1) (λ l is there. is (sym (list_there l.0) ∙ there)) (changed key_cmp same_spots lists_old lists_new)
       (changed_new key_cmp key_cmp_total key_cmp_exact (λ k. k.1) (lists_of columns) (one_list columns) (lists_are columns) documents rewrites has.is_content.rising are.rising known same_spots spots_whole))))

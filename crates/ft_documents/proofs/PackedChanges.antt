@@ -63,8 +63,8 @@ all_packable tab columns rewrites few rising fits numbers =
     (All-flat_map IsPackable (λ (r : Rewrite). put_cells tab r.docid (unwrap_or r.before []) (unwrap_or r.after [])) rewrites
     (λ k d _. put_packable k d))
     (All-append IsPackable (list_changes tab old new) _
-    (All-append IsPackable (dropped_lists tab (gone key_cmp old new)) (put_lists tab (changed key_cmp same_spots old new))
-    (All-map IsPackable (λ (l : Key × List StoredSpot). DropEntries tab l.0.0 l.0.1) (gone key_cmp old new) (λ _ _ _. tt))
+    (All-append IsPackable (dropped_lists tab (changed key_cmp same_spots new old)) (put_lists tab (changed key_cmp same_spots old new))
+    (All-map IsPackable (λ (l : Key × List StoredSpot). DropEntries tab l.0.0 l.0.1) (changed key_cmp same_spots new old) (λ _ _ _. tt))
     (All-map IsPackable (λ (l : Key × List StoredSpot). PutEntries tab l.0.0 l.0.1 l.1) (changed key_cmp same_spots old new) (All-filter _ (λ (l : Key × List StoredSpot). CanPack l.1) new packed)))
     (All-append IsPackable (dropped_sizes tab (gone column_key_cmp olds news)) (put_sizes tab (changed column_key_cmp int_eq olds news))
     (All-map IsPackable (λ (s : (ℤ × ℤ) × ℤ). DropSize tab s.0.0 s.0.1) (gone column_key_cmp olds news) (λ _ _ _. tt))

@@ -15,7 +15,7 @@ use Rattle.ft_values.specs.Cells.{Cell}
 use Rattle.ft_content.specs.Content.{Documents}
 use Rattle.ft_documents.specs.Rewrite.{Rewrite, with_cells, rewritten, document_if, befores, afters, by_docid}
 use Rattle.ft_documents.specs.RewriteRows.{all_put, gone, changed}
-use Rattle.ft_documents.proofs.KeyedRows.{true_of, of_true, tie, none_below, sorted_put, sorted_dropped, all_dropped, replaced, find_replaced, turned_round}
+use Rattle.ft_documents.proofs.KeyedRows.{true_of, of_true, tie, none_below, sorted_put, sorted_dropped, all_dropped, replaced, find_replaced, find_renewed, turned_round}
 
 abbrev pub Cells : Type 0
 Cells = Option (List Cell)
@@ -173,3 +173,13 @@ module _ {K V : Type 0} (S : K → K → Ordering) (o : IsTotalOrder S) (exact :
       same_entries S o exact _ _ (of_true _ (sorted_put S o exact (changed S same old new) (all_dropped S o exact (gone S old new) (rows documents)) (sorted_dropped S o exact (gone S old new) (rows documents) (are.sorted documents ordered))))
       (of_true _ (are.sorted (rewritten rewrites documents) (sorted_rewritten rewrites documents ordered)))
       (λ q. find_replaced S o exact same sound q old new (rows documents) (are.sorted (befores rewrites) (sorted_held (λ r. r.before) rewrites rising)) (are.sorted (afters rewrites) (sorted_held (λ r. r.after) rewrites rising)) (old_there q) ∙ replaced_by q)
+
+  -- Rows of rewrites: where those that are gone or differ are dropped and the changed ones are put, the rows are those of the documents as they are to be.
+  pub rows_renewed : (same : V → V → Bool) → ((v w : V) → same v w ≡ true → v ≡ w) →
+      all_put S (changed S same (rows (befores rewrites)) (rows (afters rewrites))) (all_dropped S o exact (changed S same (rows (afters rewrites)) (rows (befores rewrites))) (rows documents)) ≡ rows (rewritten rewrites documents)
+  rows_renewed same sound =
+      let old = rows (befores rewrites) in
+      let new = rows (afters rewrites) in
+      same_entries S o exact _ _ (of_true _ (sorted_put S o exact (changed S same old new) (all_dropped S o exact (changed S same new old) (rows documents)) (sorted_dropped S o exact (changed S same new old) (rows documents) (are.sorted documents ordered))))
+      (of_true _ (are.sorted (rewritten rewrites documents) (sorted_rewritten rewrites documents ordered)))
+      (λ q. find_renewed S o exact same sound q old new (rows documents) (are.sorted (befores rewrites) (sorted_held (λ r. r.before) rewrites rising)) (are.sorted (afters rewrites) (sorted_held (λ r. r.after) rewrites rising)) (old_there q) ∙ replaced_by q)

@@ -20,7 +20,7 @@ use Rattle.ft_documents.specs.RewriteRows.{all_put, same_spot, same_spots, gone,
 use Rattle.ft_documents.proofs.StoreKeys.{list_exact, list_total, cell_exact, cell_total, column_exact, column_total, list_keys, cell_keys}
 use Rattle.ft_documents.proofs.KeyedRows.{tie, all_dropped, sorted_dropped}
 use Rattle.ft_documents.proofs.DocumentRows.{rows_by}
-use Rattle.ft_documents.proofs.RewriteLemmas.{sorted_rewritten, rows_replaced}
+use Rattle.ft_documents.proofs.RewriteLemmas.{sorted_rewritten, rows_replaced, rows_renewed}
 use Rattle.ft_documents.proofs.RowKinds.{cell_row, keyed_cell, content_cells, keyed_again, one_list, lists_are, size_of, sized_again, sizes_again, counts, stored_sizes, sizes_are}
 use Rattle.ft_documents.proofs.DocumentRows.{one_by}
 use Rattle.ft_documents.proofs.OwnRows.{own, joined, own_all_put, own_all_dropped}
@@ -31,7 +31,7 @@ use Rattle.ft_documents.proofs.CellsRight.{wide, cells_right}
 
 module _ (tab : ℤ) (columns : List Column) (rewrites : List Rewrite) where
   abbrev lists_gone : List (Key × List StoredSpot)
-  lists_gone = gone key_cmp (lists_of columns (befores rewrites)) (lists_of columns (afters rewrites))
+  lists_gone = changed key_cmp same_spots (lists_of columns (afters rewrites)) (lists_of columns (befores rewrites))
 
   abbrev lists_changed : List (Key × List StoredSpot)
   lists_changed = changed key_cmp same_spots (lists_of columns (befores rewrites)) (lists_of columns (afters rewrites))
@@ -156,7 +156,7 @@ module _ (name : List ℕ) (content : Content) (tab : ℤ) (store : StoreValue) 
     lists_last =
         own_all_put list_keys tab (lists_changed tab columns rewrites) (all_dropped list_key_cmp list_total list_exact (joined list_keys tab (lists_gone tab columns rewrites)) store.lists) (sorted_dropped list_key_cmp list_total list_exact (joined list_keys tab (lists_gone tab columns rewrites)) store.lists has.order.lists)
         ∙ ap (all_put key_cmp (lists_changed tab columns rewrites)) (own_all_dropped list_keys tab (lists_gone tab columns rewrites) store.lists ∙ ap (all_dropped key_cmp key_cmp_total key_cmp_exact (lists_gone tab columns rewrites)) own_lists)
-        ∙ rows_replaced key_cmp key_cmp_total key_cmp_exact (λ k. k.1) (lists_of columns) (one_list columns) (lists_are columns) content.documents rewrites has.is_content.rising are.rising are.befores same_spots spots_sound
+        ∙ rows_renewed key_cmp key_cmp_total key_cmp_exact (λ k. k.1) (lists_of columns) (one_list columns) (lists_are columns) content.documents rewrites has.is_content.rising are.rising are.befores same_spots spots_sound
 
     sizes_last : own cell_keys tab (sizes_after tab columns rewrites store) ≡ sizes_of columns last
     sizes_last =

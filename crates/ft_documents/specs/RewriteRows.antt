@@ -70,7 +70,7 @@ put_cells tab docid before after = map (λ (c : ℤ × Cell). PutCell tab docid 
 abbrev pub put_documents : ℤ → List Rewrite → List Change
 put_documents tab rewrites = flat_map (λ (r : Rewrite). put_cells tab r.docid (unwrap_or r.before []) (unwrap_or r.after [])) rewrites
 
--- the lists and sizes that are gone, and those that are new or differ
+-- the lists that are gone or differ and the sizes that are gone, and what is new or differs
 abbrev pub dropped_lists : ℤ → List (Key × List StoredSpot) → List Change
 dropped_lists tab lists = map (λ (l : Key × List StoredSpot). DropEntries tab l.0.0 l.0.1) lists
 
@@ -138,9 +138,10 @@ lists_of columns documents = (index_rows (content_with columns documents)).lists
 abbrev pub sizes_of : List Column → Documents → List ((ℤ × ℤ) × ℤ)
 sizes_of columns documents = all_put column_key_cmp (sized (index_rows (content_with columns documents)).sizes) []
 
--- The row changes from one index to another: kind by kind, each by rising keys.
+-- The row changes from one index to another: kind by kind, each by rising keys. A list that differs is dropped first, so that no list is put
+-- under a key that is there.
 abbrev pub list_changes : ℤ → List (Key × List StoredSpot) → List (Key × List StoredSpot) → List Change
-list_changes tab old new = dropped_lists tab (gone key_cmp old new) ++ put_lists tab (changed key_cmp same_spots old new)
+list_changes tab old new = dropped_lists tab (changed key_cmp same_spots new old) ++ put_lists tab (changed key_cmp same_spots old new)
 
 abbrev pub size_changes : ℤ → List ((ℤ × ℤ) × ℤ) → List ((ℤ × ℤ) × ℤ) → List Change
 size_changes tab old new = dropped_sizes tab (gone column_key_cmp old new) ++ put_sizes tab (changed column_key_cmp int_eq old new)

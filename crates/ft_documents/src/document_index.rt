@@ -225,7 +225,7 @@ impl DocumentIndex {
         (lists, sizes)
     }
 
-    /// Drops the lists that another index has not.
+    /// Drops the lists that another index has not, or has otherwise.
     pub(crate) fn drop_lists(
         &self,
         changes: &mut Vec<RowChange>,
@@ -234,11 +234,12 @@ impl DocumentIndex {
     ) -> Result<(), AllocError>
         ensures { OnOk result (map shown_change changes.new.items
             ≡ map shown_change changes.old.items ++ rows.dropped_lists tab
-            (rows.gone key_cmp (rows.lists_in self.now) (rows.lists_in new.now))) }
+            (rows.changed key_cmp rows.same_spots (rows.lists_in new.now)
+            (rows.lists_in self.now))) }
     {
-        for (key, _spots) in self.lists.iter() {
+        for (key, spots) in self.lists.iter() {
             let docid = key.1;
-            if !new.lists.contains_key(key) {
+            if !new.has_list(key, spots.as_slice()) {
                 changes.push(RowChange::DropEntries(tab, key.0.clone()?, docid))?;
             }
         }

@@ -19,7 +19,7 @@ returns-clause-plan c =
     six_pieces _ _ _ _ _ _ _ _ _ _ _ _ _ (ap (map shown_change) c.new-changes.ensures.items)
     (c.in_ok-drop_documents.ensures ∙ (λ i. map shown_change c.new-changes.result.items ++ dropped_documents (t i) rewrites))
     (c.in_ok-put_documents.ensures ∙ (λ i. map shown_change c.drop_documents.new.changes.items ++ put_documents (t i) rewrites))
-    (c.in_ok-drop_lists.ensures ∙ (λ i. map shown_change c.put_documents.new.changes.items ++ dropped_lists (t i) (gone key_cmp (made.old_lists i) (made.new_lists i))))
+    (c.in_ok-drop_lists.ensures ∙ (λ i. map shown_change c.put_documents.new.changes.items ++ dropped_lists (t i) (changed key_cmp same_spots (made.new_lists i) (made.old_lists i))))
     (c.in_ok-put_lists.ensures ∙ (λ i. map shown_change c.drop_lists.new.changes.items ++ put_lists (t i) (changed key_cmp same_spots (made.old_lists i) (map shown_list (c.into_parts-lists.ensures.0 i).entries))) ∙ ap (λ ls. map shown_change c.drop_lists.new.changes.items ++ put_lists c.args.tab (changed key_cmp same_spots (lists_of columns (befores rewrites)) ls)) made.new_lists)
     (c.in_ok-drop_sizes.ensures ∙ (λ i. map shown_change c.put_lists.new.changes.items ++ dropped_sizes (t i) (gone column_key_cmp (made.old_sizes i) (c.into_parts-lists.ensures.1 i).entries)) ∙ ap (λ ss. map shown_change c.put_lists.new.changes.items ++ dropped_sizes c.args.tab (gone column_key_cmp (sizes_of columns (befores rewrites)) ss)) made.new_sizes)
     (c.in_ok-put_sizes.ensures ∙ (λ i. map shown_change c.drop_sizes.new.changes.items ++ put_sizes (t i) (changed column_key_cmp int_eq (made.old_sizes i) (c.into_parts-lists.ensures.1 i).entries)) ∙ ap (λ ss. map shown_change c.drop_sizes.new.changes.items ++ put_sizes c.args.tab (changed column_key_cmp int_eq (sizes_of columns (befores rewrites)) ss)) made.new_sizes)

@@ -6,4 +6,4 @@ use Rattle.ft_documents.specs.RewriteRows as rows
 use Rattle.ft_documents.proofs.document_index.DocumentIndex.drop_lists.Given as goal
 
 abbrev pub invariant-loop-key : goal.invariant-loop-key
-invariant-loop-key l = map shown_change l.changes.items ++ rows.dropped_lists l.tab (rows.gone key_cmp (map rows.shown_list l.key-iterator) (rows.lists_in l.new)) ≡ map shown_change l.fn.changes.items ++ rows.dropped_lists l.tab (rows.gone key_cmp (rows.lists_in l.self) (rows.lists_in l.new))
+invariant-loop-key l = map shown_change l.changes.items ++ rows.dropped_lists l.tab (rows.changed key_cmp rows.same_spots (rows.lists_in l.new) (map rows.shown_list l.key-iterator)) ≡ map shown_change l.fn.changes.items ++ rows.dropped_lists l.tab (rows.changed key_cmp rows.same_spots (rows.lists_in l.new) (rows.lists_in l.self))
