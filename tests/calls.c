@@ -50,6 +50,7 @@ static void take(int fd, size_t size, off_t place) {
     struct taken *it;
     if (how != 'l' || fd <= 2 || fstat(fd, &now) || !S_ISREG(now.st_mode)) return;
     it = malloc(sizeof *it + size);
+    if (!it) abort();
     it->before = all_taken;
     it->fd = fd;
     it->place = place;

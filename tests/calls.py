@@ -2,8 +2,8 @@
 
 Of what is listed here all is tried, or what TEXT is in the name of.
 - A run of one command on a FILE is stopped at each write of a file, before it, within it, and before it with all lost that was not synced,
-  and the file is opened again: every table is sound, and all is as before the command or as after it; and as after it where it was answered. A plain table that was made may not be
-  noted yet: the two files are not in step.
+  and the file is opened again: every table is sound, and all is as before the command or as after it; and as after it where it was answered.
+  A plain table that was made may not be noted yet: the two files are not in step.
 - The same of a run that opens a store of version 2, from which one of version 3 is made: it is one of the two, and holds the same.
 - The disk fails from each write on: all is as before the command or as after it, what was answered is there, and every table is sound.
 - The input fails from each read on: the lines that were read whole ran and are answered, and nothing else. A line without its end is not
