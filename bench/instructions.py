@@ -1,8 +1,8 @@
 """Counts the instructions of queries and of single changes, which no other work on the machine makes more: instructions.py PROGRAM [DOCUMENTS].
 
-For each query of measure.py, over a table of the corpus in a file: what the program takes for it, what it takes to count the posting rows of its
-words in a copy of the full-text store opened as a plain file, which is the engine's part, and the ratio. For a single UPDATE, DELETE and INSERT
-what each takes, on the mean of WRITES of them. It needs valgrind.
+For each query of measure.py, over a table of the corpus in a file: what the program takes for it, the engine's part, and the ratio. The engine's
+part is what the program takes to count the posting rows of the query's words, and to read the documents that it tells, in a copy of the full-text
+store opened as a plain file. For a single UPDATE, DELETE and INSERT what each takes, on the mean of WRITES of them. It needs valgrind.
 """
 import concurrent.futures
 import os
@@ -13,7 +13,7 @@ import sys
 import tempfile
 
 import corpus
-from measure import QUERIES
+from measure import QUERIES, reads
 
 TIMES = 20  # runs of one query
 WRITES = 50
@@ -48,11 +48,12 @@ def main(program, count=300):
         text = corpus.CREATE + "INSERT INTO mail VALUES" + ",".join(f"('{subject}','{body}')" for subject, body in rows) + ";\n"
         subprocess.run([program, path], input=text, text=True, check=True)
         shutil.copy(f"{path}-fts4", plain)
+        needed = {name: reads(program, plain, name, tests) for name, _, tests in QUERIES}
         counted = lambda path, lines: pool.submit(instructions, program, room, path, lines)
         nothing = {it: counted(it, []) for it in (path, plain)}
         told = {}
-        for name, query, tests in QUERIES:
-            counts = [f"SELECT count(list) FROM posting WHERE tab = 1 AND {test};" for test in tests]
+        for name, query, _ in QUERIES:
+            counts = needed[name]
             told[name] = counted(path, [query] * TIMES), counted(plain, counts * TIMES) if counts else None
         made = {name: counted(path, lines) for name, lines in changes(rows).items()}
         less = lambda it, path, times: (it.result() - nothing[path].result()) // times

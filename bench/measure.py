@@ -114,14 +114,24 @@ def queries(program, path, output):
     return told, shell.end()
 
 
+def reads(program, copy, name, tests):
+    """Statements that read what a query needs from the engine: the posting rows of its words, and the cells of documents that it tells."""
+    told = [f"SELECT count(list) FROM posting WHERE tab = 1 AND {test};" for test in tests]
+    if name.endswith("texts"):
+        asked = f"SELECT docid FROM posting WHERE tab = 1 AND {tests[0]};\n"
+        docids = subprocess.run([program, copy], input=asked, capture_output=True, text=True, check=True).stdout.split()
+        told += [f"SELECT count(txt) FROM cell WHERE tab = 1 AND docid = {docid};" for docid in docids]
+    return told
+
+
 def engine_parts(program, path, copy):
-    """Seconds that the engine needs for the posting rows of each query, over a copy of the full-text store opened as a plain file."""
+    """Seconds that the engine needs for the rows of each query, over a copy of the full-text store opened as a plain file."""
     shutil.copy(f"{path}-fts4", copy)
+    needed = {name: "\n".join(reads(program, copy, name, tests)) for name, _, tests in QUERIES}
     shell = Shell(program, copy, os.devnull)
     shell.seconds("SELECT 1;")
     told = {}
-    for name, _, rows in QUERIES:
-        counts = "\n".join(f"SELECT count(list) FROM posting WHERE tab = 1 AND {test};" for test in rows)
+    for name, counts in needed.items():
         if counts:
             told[f"{name}, ms"] = 1000 * median([shell.seconds(counts) for _ in range(REPEATS)])
     shell.end()

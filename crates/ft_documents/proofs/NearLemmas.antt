@@ -106,13 +106,17 @@ module _ (D : ℤ → Type 0) where
         (All-map P (λ (s : (ℤ × ℤ) × ℤ). DropSize tab s.0.0 s.0.1) (gone column_key_cmp olds news) (All-weaker S (λ s. P (DropSize tab s.0.0 s.0.1)) (λ s is. drop_size s.0.0 s.0.1 is) (gone column_key_cmp olds news) (All-filter _ S olds (sizes_near columns (befores rewrites) (befores_near rewrites h)))))
         (All-map P (λ (s : (ℤ × ℤ) × ℤ). PutSize tab s.0.0 s.0.1 s.1) (changed column_key_cmp int_eq olds news) (All-weaker S (λ s. P (PutSize tab s.0.0 s.0.1 s.1)) (λ s is. put_size s.0.0 s.0.1 s.1 is) (changed column_key_cmp int_eq olds news) (All-filter _ S news (sizes_near columns (afters rewrites) (afters_near rewrites h))))))))
 
+-- the docids of rewrites are those of each
+pub contains_own : (rewrites : List Rewrite) → All (λ (r : Rewrite). Contains (docids_of rewrites) r.docid) rewrites
+contains_own rewrites = mapped rewrites (All-contains_itself (docids_of rewrites))
+  where
+    mapped : (rs : List Rewrite) → All (Contains (docids_of rewrites)) (map (λ (r : Rewrite). r.docid) rs) → All (λ (r : Rewrite). Contains (docids_of rewrites) r.docid) rs
+    mapped [] h = All-nil (λ (r : Rewrite). Contains (docids_of rewrites) r.docid)
+    mapped (r ∷ rs) h = All-cons (λ (r : Rewrite). Contains (docids_of rewrites) r.docid) r rs (All-head (Contains (docids_of rewrites)) r.docid (docids_of rs) h) (mapped rs (All-tail (Contains (docids_of rewrites)) r.docid (docids_of rs) h))
+
 -- each change is of one of the documents
 pub near : (tab : ℤ) (columns : List Column) (rewrites : List Rewrite) → All (IsOfDocids tab (docids_of rewrites)) (rewrite_changes tab columns rewrites)
 near tab columns rewrites =
     let docids = docids_of rewrites in
     changes_near (Contains docids) (IsOfDocids tab docids) tab columns rewrites (λ docid is. (refl, is)) (λ docid column cell is. (refl, is)) (λ term docid is. (refl, is)) (λ term docid spots is. (refl, is)) (λ docid column is. (refl, is)) (λ docid column n is. (refl, is))
-    (mapped rewrites (All-contains_itself docids))
-  where
-    mapped : (rs : List Rewrite) → All (Contains (docids_of rewrites)) (map (λ (r : Rewrite). r.docid) rs) → All (λ (r : Rewrite). Contains (docids_of rewrites) r.docid) rs
-    mapped [] h = All-nil (λ (r : Rewrite). Contains (docids_of rewrites) r.docid)
-    mapped (r ∷ rs) h = All-cons (λ (r : Rewrite). Contains (docids_of rewrites) r.docid) r rs (All-head (Contains (docids_of rewrites)) r.docid (docids_of rs) h) (mapped rs (All-tail (Contains (docids_of rewrites)) r.docid (docids_of rs) h))
+    (contains_own rewrites)

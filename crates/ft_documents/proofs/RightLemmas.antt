@@ -10,7 +10,7 @@ use Rattle.std.proofs.lemmas.List.Elements.{All-nil, All-cons, All-head, All-tai
 use Rattle.std.proofs.lemmas.Map.Lookups.{exact_signed}
 use Rattle.std.proofs.lemmas.Simd.{map-map}
 use Rattle.ft_values.specs.Cells.{Cell}
-use Rattle.ft_rows.specs.Store.{StoreValue, CellKey, ListKey, cell_key_cmp, list_key_cmp, column_key_cmp, all_applied}
+use Rattle.ft_rows.specs.Store.{StoreValue, AreInOrder, CellKey, ListKey, cell_key_cmp, list_key_cmp, column_key_cmp, all_applied}
 use Rattle.ft_content.specs.Content.{Column, Documents, Content, is_cell, is_document, content_rows, document_rows}
 use Rattle.ft_content.specs.Index.{Key, key_cmp, StoredSpot, index_rows}
 use Rattle.ft_content.proofs.IndexLemmas.{key_cmp_total, key_cmp_exact}
@@ -18,7 +18,7 @@ use Rattle.ft_documents.specs.Tables.{table_rows, table_index}
 use Rattle.ft_documents.specs.Rewrite.{Rewrite, befores, afters, by_docid, rewritten, rewritten_content, FitIfAny, AreOf, HasContent, AreRight}
 use Rattle.ft_documents.specs.RewriteRows.{all_put, same_spot, same_spots, gone, changed, numbered, goes, dropped_documents, put_documents, dropped_lists, put_lists, dropped_sizes, put_sizes, sized, lists_of, sizes_of, list_changes, size_changes, rewrite_changes}
 use Rattle.ft_documents.proofs.StoreKeys.{list_exact, list_total, cell_exact, cell_total, column_exact, column_total, list_keys, cell_keys}
-use Rattle.ft_documents.proofs.KeyedRows.{tie, all_dropped, sorted_dropped}
+use Rattle.ft_documents.proofs.KeyedRows.{tie, all_dropped, sorted_put, sorted_dropped}
 use Rattle.ft_documents.proofs.DocumentRows.{rows_by}
 use Rattle.ft_documents.proofs.RewriteLemmas.{sorted_rewritten, rows_replaced, rows_renewed}
 use Rattle.ft_documents.proofs.RowKinds.{cell_row, keyed_cell, content_cells, keyed_again, one_list, lists_are, size_of, sized_again, sizes_again, counts, stored_sizes, sizes_are}
@@ -68,6 +68,17 @@ module _ (tab : ℤ) (columns : List Column) (rewrites : List Rewrite) where
       ∙ applied_append l s two
       ∙ ap (all_applied s) (applied_append (dropped_lists tab lists_gone) (put_lists tab lists_changed) two ∙ ap (all_applied (put_lists tab lists_changed)) (dropped_lists_applied tab lists_gone two) ∙ put_lists_applied tab lists_changed three)
       ∙ applied_append (dropped_sizes tab sizes_gone) (put_sizes tab sizes_changed) four ∙ ap (all_applied (put_sizes tab sizes_changed)) (dropped_sizes_applied tab sizes_gone four) ∙ put_sizes_applied tab sizes_changed five
+
+  pub order_after : (store : StoreValue) → AreInOrder store → AreInOrder (all_applied (rewrite_changes tab columns rewrites) store)
+  order_after store order = subst AreInOrder (sym (store_after store)) (record {
+    tables = order.tables;
+    columns = order.columns;
+    skipped = order.skipped;
+    cells = sorted_put cell_key_cmp cell_total cell_exact (joined cell_keys tab (rows_by new_cells (by_docid rewrites))) (cells_dropped tab (filter goes rewrites) store.cells) (sorted_cells_dropped tab (filter goes rewrites) store.cells order.cells);
+    lists = sorted_put list_key_cmp list_total list_exact (joined list_keys tab lists_changed) _ (sorted_dropped list_key_cmp list_total list_exact (joined list_keys tab lists_gone) store.lists order.lists);
+    sizes = sorted_put cell_key_cmp cell_total cell_exact (joined cell_keys tab sizes_changed) _ (sorted_dropped cell_key_cmp cell_total cell_exact (joined cell_keys tab sizes_gone) store.sizes order.sizes);
+    noted = order.noted;
+  })
 
 -- ---- tests that decide
 

@@ -13,4 +13,5 @@ pub mod Rewrite
 pub mod RewriteRows
 pub mod RowLaws
 pub mod Standing
+pub mod Terms
 pub mod Updated

@@ -1,17 +1,18 @@
 -- Steps. How the rows of a table stand that the store lists. All of it is our own choice.
-use Rattle.std.specs.Prelude.{◌≡◌, ◌≢◌, ℕ, ◌+◌, ◌==◌, Bool, true, false, if◌then◌else◌, not, ◌&&◌, List, [], ◌∷◌, map, length, Option, Some, None, String, string_bytes, bytes_eq, ℤ, pos, IsTrue}
+use Rattle.std.specs.Prelude.{◌≡◌, ◌≢◌, ℕ, ◌+◌, ◌==◌, Bool, true, false, if◌then◌else◌, not, ◌&&◌, List, [], ◌∷◌, map, length, Option, Some, None, String, Vec, string_bytes, ℤ, pos, IsTrue}
 use Rattle.std.specs.declared.alloc.Global.{Global}
-use Rattle.std.specs.List.{AllByRecursion, list_all, list_any, flat_map}
+use Rattle.std.specs.List.{list_all, list_any, flat_map}
 use Rattle.std.specs.Ordering.{int_cmp, int_eq, is_lt}
 use Rattle.std.specs.FinMap.Entries.{is_sorted}
 use Rattle.ft_values.specs.declared.rows.CellRow as stored
-use Rattle.ft_values.specs.declared.rows.EntryRow as entries
 use Rattle.ft_values.specs.declared.rows.SizeRow as sizes
 use Rattle.ft_values.specs.declared.rows.TabRow.{TabRow}
 use Rattle.ft_values.specs.Cells.{shown_value}
 use Rattle.ft_content.specs.Content.{Cell, CellRow, Column, TableRows, Documents, Content, IsContent, content_rows, document_rows, is_cell, is_document}
-use Rattle.ft_content.specs.Index.{EntryRow, entry_rows, Key, StoredSpot, key_cmp, IndexRows, index_rows}
-use Rattle.ft_documents.specs.RewriteRows.{same_spot, sized, sizes_of, lists_of}
+use Rattle.ft_content.specs.Index.{index_rows}
+use Rattle.ft_documents.specs.RewriteRows.{sized, sizes_of}
+use Rattle.ft_documents.specs.Terms.{lists_of_terms}
+use Rattle.ft_rows.specs.declared.terms.TermLists.{TermLists}
 
 -- a cell as a table's rows have it
 abbrev pub shown_row : stored.CellRow → CellRow
@@ -56,18 +57,12 @@ numbered_from k (column ∷ columns) = int_eq column.0 (pos k) && numbered_from 
 abbrev pub columns_in : TableRows → List Column
 columns_in rows = map (λ (c : ℤ × List ℕ). record { name = c.1; indexed = not (list_any (int_eq c.0) rows.skipped) }) rows.columns
 
--- a size under docid and column, and an entry, as index rows have them
+-- a size under docid and column, as index rows have them
 abbrev pub shown_size : sizes.SizeRow → (ℤ × ℤ) × ℤ
 shown_size s = ((s.docid, s.column), s.n)
 
-abbrev pub shown_entry : entries.EntryRow → EntryRow
-shown_entry e = record { term = string_bytes e.term; docid = e.docid; spot = e.spot }
-
 abbrev pub same_size : (ℤ × ℤ) × ℤ → (ℤ × ℤ) × ℤ → Bool
 same_size a b = int_eq a.0.0 b.0.0 && (int_eq a.0.1 b.0.1 && int_eq a.1 b.1)
-
-abbrev pub same_entry : EntryRow → EntryRow → Bool
-same_entry a b = bytes_eq a.term b.term && (int_eq a.docid b.docid && same_spot a.spot b.spot)
 
 -- whether this is the first of some
 abbrev pub is_first : {X : Type 0} → (X → X → Bool) → X → List X → Bool
@@ -80,31 +75,23 @@ after_first same [] ys = Some ys
 after_first same (x ∷ xs) [] = None
 after_first same (x ∷ xs) (y ∷ ys) = if same x y then after_first same xs ys else None
 
--- the entries of a list
-abbrev pub list_rows : Key × List StoredSpot → List EntryRow
-list_rows l = map (λ (s : StoredSpot). record { term = l.0.0; docid = l.0.1; spot = s }) l.1
-
 -- what a row of a document holds
 abbrev pub cell_in : stored.CellRow → Cell
 cell_in row = shown_value row.value
 
--- the sizes and the entries of one document
+-- the sizes of one document
 abbrev pub own_sizes : List Column → ℤ × List Cell → List ((ℤ × ℤ) × ℤ)
 own_sizes columns document = sizes_of columns (document ∷ [])
 
-abbrev pub own_entries : List Column → ℤ × List Cell → List EntryRow
-own_entries columns document = entry_rows (lists_of columns (document ∷ []))
+-- whether a rest is there that passes a test
+abbrev pub rest_passes : {X : Type 0} → Option X → (X → Bool) → Bool
+rest_passes None test = false
+rest_passes (Some xs) test = test xs
 
--- whether two rests are there that pass a test
-abbrev pub rests_pass : {X Y : Type 0} → Option X → Option Y → (X → Y → Bool) → Bool
-rests_pass None ys test = false
-rests_pass (Some xs) None test = false
-rests_pass (Some xs) (Some ys) test = test xs ys
-
--- whether sizes and entries are those of documents, one after another
-abbrev pub are_of_documents : List Column → Documents → List ((ℤ × ℤ) × ℤ) → List EntryRow → Bool
-are_of_documents columns [] sizes entries = length sizes == 0 && length entries == 0
-are_of_documents columns (d ∷ ds) sizes entries = rests_pass (after_first same_size (own_sizes columns d) sizes) (after_first same_entry (own_entries columns d) entries) (are_of_documents columns ds)
+-- whether sizes are those of documents, one after another
+abbrev pub are_sizes_of : List Column → Documents → List ((ℤ × ℤ) × ℤ) → Bool
+are_sizes_of columns [] sizes = length sizes == 0
+are_sizes_of columns (d ∷ ds) sizes = rest_passes (after_first same_size (own_sizes columns d) sizes) (are_sizes_of columns ds)
 
 -- documents of tables with so many columns that have these cells
 pub record HaveCells (width : ℕ) (rows : List CellRow) (documents : Documents) : Type 0 where
@@ -118,14 +105,8 @@ pub record HaveContent (columns : List Column) (rows : List CellRow) (content : 
   pub columns_are : content.columns ≡ columns
   pub cells_are : rows ≡ (content_rows content).cells
 
--- Sizes and entries by docid are those of a content: the sizes made from scratch, and the entries of one document after another.
-pub record AreTheirs (content : Content) (sizes : List ((ℤ × ℤ) × ℤ)) (entries : List EntryRow) : Type 0 where
-  pub sizes_are : sizes ≡ sized (index_rows content).sizes
-  pub entries_are : entries ≡ flat_map (own_entries content.columns) content.documents
-
--- the sizes and entries of index rows of which no list is empty
-pub record AreOfRows (rows : IndexRows) (sizes : List ((ℤ × ℤ) × ℤ)) (entries : List EntryRow) : Type 0 where
-  pub sizes_are : sizes ≡ sized rows.sizes
-  pub entries_are : entries ≡ entry_rows rows.lists
-  pub rising : IsTrue (is_sorted key_cmp rows.lists)
-  pub whole : AllByRecursion (λ (l : Key × List StoredSpot). l.1 ≢ []) rows.lists
+-- The sizes are those of a content made from scratch, and lists by their terms are its posting lists. No lists are told where the sizes are
+-- others.
+abbrev pub AreTheirs : Content → List ((ℤ × ℤ) × ℤ) → Option (Vec TermLists Global) → Type 0
+AreTheirs content sizes None = sizes ≢ sized (index_rows content).sizes
+AreTheirs content sizes (Some lists) = (sizes ≡ sized (index_rows content).sizes) × (lists_of_terms lists.items ≡ (index_rows content).lists)

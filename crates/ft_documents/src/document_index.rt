@@ -7,7 +7,7 @@ ghost use Rattle.ft_documents.specs.Standing as standing;
 
 use ft_content::{Column, Value};
 use ft_query::{Token, tokens};
-use ft_values::{CellRow, EntryRow, RowChange, SizeRow, Spot};
+use ft_values::{CellRow, RowChange, SizeRow, Spot};
 use itoa::Buffer;
 use std::alloc::{AllocError, Global};
 use std::collections::BTreeMap;
@@ -209,7 +209,7 @@ fn text_of<'a>(value: &'a Value, buffer: &'a mut Buffer) -> &'a str
 }
 
 impl DocumentIndex {
-    ghost use Rattle.std.specs.Prelude.{◌++◌, map, string_bytes, OnOk};
+    ghost use Rattle.std.specs.Prelude.{◌≡◌, ◌++◌, [], map, string_bytes, OnOk};
     ghost use Rattle.std.specs.Ordering.{int_eq};
     ghost use Rattle.std.specs.FinMap.Entries.{find};
     ghost use Rattle.ft_rows.specs.Store.{column_key_cmp};
@@ -223,6 +223,15 @@ impl DocumentIndex {
     {
         let DocumentIndex { lists, sizes, .. } = self;
         (lists, sizes)
+    }
+
+    /// Takes its lists out of it. Its sizes stay.
+    pub(crate) fn take_lists(&mut self) -> PostingLists
+        ensures taken { map rows.shown_list result.entries ≡ rows.lists_in self.old }
+        ensures none { rows.lists_in self.new ≡ [] }
+        ensures sizes { rows.sizes_in self.new ≡ rows.sizes_in self.old }
+    {
+        std::mem::replace(&mut self.lists, BTreeMap::new(self.alloc))
     }
 
     /// Drops the lists that another index has not, or has otherwise.
@@ -331,7 +340,6 @@ impl DocumentIndex {
 }
 
 impl DocumentIndex {
-    ghost use Rattle.ft_content.specs.Index as index;
     ghost use Rattle.ft_documents.specs.RewriteRows as rows;
 
     /// How many sizes it has, where they are the first of these.
@@ -351,23 +359,6 @@ impl DocumentIndex {
         }
         Some(place)
     }
-
-    /// How many entries it has, where they are the first of these.
-    pub(crate) fn count_entries(&self, entries: &[EntryRow]) -> Option<usize>
-        ensures rest { option_map (λ n. map standing.shown_entry (drop n entries.now)) result
-            ≡ standing.after_first standing.same_entry (index.entry_rows (rows.lists_in self.now))
-            (map standing.shown_entry entries.now) }
-        ensures within { IfSome result (λ n. n ≤ length entries.now) }
-    {
-        let mut place = 0;
-        for (key, spots) in self.lists.iter() {
-            match end_of_list(entries, place, key, spots.as_slice()) {
-                Some(end) => place = end,
-                None => return None,
-            }
-        }
-        Some(place)
-    }
 }
 
 // Whether this size stands at a place.
@@ -379,42 +370,4 @@ fn is_size(sizes: &[SizeRow], place: usize, key: &(i64, i64), n: i64) -> bool
         Some(size) => key.0 == size.docid && key.1 == size.column && n == size.n,
         None => false,
     }
-}
-
-// Whether this spot of a key stands at a place.
-fn is_entry(entries: &[EntryRow], place: usize, key: &(String, i64), spot: &Spot) -> bool
-    ensures { result ≡ standing.is_first standing.same_entry
-        (record { term = string_bytes key.now.0; docid = key.now.1; spot = spot.now })
-        (map standing.shown_entry (drop place entries.now)) }
-{
-    match entries.get(place) {
-        Some(entry) => {
-            key.0.as_str() == entry.term.as_str() && key.1 == entry.docid && *spot == entry.spot
-        }
-        None => false,
-    }
-}
-
-// Where a list ends among entries, where it begins at a place.
-fn end_of_list(
-    entries: &[EntryRow],
-    start: usize,
-    key: &(String, i64),
-    spots: &[Spot],
-) -> Option<usize>
-    requires { start ≤ length entries.now }
-    ensures rest { option_map (λ n. map standing.shown_entry (drop n entries.now)) result
-        ≡ standing.after_first standing.same_entry
-        (standing.list_rows ((string_bytes key.now.0, key.now.1), spots.now))
-        (map standing.shown_entry (drop start entries.now)) }
-    ensures within { IfSome result (λ n. n ≤ length entries.now) }
-{
-    let mut place = start;
-    for spot in spots {
-        if !is_entry(entries, place, key, spot) {
-            return None;
-        }
-        place += 1;
-    }
-    Some(place)
 }

@@ -7,9 +7,11 @@ ghost use Rattle.ft_content.specs.Content.{is_document};
 ghost use Rattle.ft_content.specs.Views.{column_of};
 ghost use Rattle.ft_documents.specs.Rebuild.{shown_document, MakesIndex, LeavesOthers, LeavesNames};
 ghost use Rattle.ft_documents.specs.RewriteRows as rows;
+ghost use Rattle.ft_documents.specs.Terms.{lists_in_terms};
 
 use crate::document::Document;
-use crate::document_index::DocumentIndex;
+use crate::document_index::{DocumentIndex, Sizes};
+use crate::term_index::TermIndex;
 use ft_content::Column;
 use ft_values::RowChange;
 use std::alloc::{AllocError, Global};
@@ -30,42 +32,49 @@ pub fn index_changes(
         → All (λ d. IsTrue (is_document (length columns.now) d)) (map shown_document documents.now)
         → All CanApply changes.items) }
 {
-    let index = index_of(alloc, columns, documents)?;
-    let changes = rebuilt(alloc, tab, index)?;
+    let (lists, sizes) = index_of(alloc, columns, documents)?;
+    let changes = rebuilt(alloc, tab, lists, sizes)?;
     Ok(changes)
 }
 
-// The index of these documents.
+// The lists and sizes of these documents: the lists, where they stand by rising docid.
 fn index_of(
     alloc: Global,
     columns: &[Column],
     documents: &[Document],
-) -> Result<DocumentIndex, AllocError>
-    ensures lists { IfOk result (λ index. rows.lists_in index
+) -> Result<(TermIndex, Sizes), AllocError>
+    ensures lists { IsTrue (is_sorted int_cmp (map shown_document documents.now))
+        → IfOk result (λ made. lists_in_terms made.0
         ≡ rows.lists_of (map column_of columns.now) (map shown_document documents.now)) }
-    ensures sizes { IfOk result (λ index. rows.sizes_in index
+    ensures sizes { IfOk result (λ made. made.1.entries
         ≡ rows.sizes_of (map column_of columns.now) (map shown_document documents.now)) }
     ensures numbers { OnOk result (All (λ d. rows.AreShortNumbers (map column_of columns.now) d.1)
         (map shown_document documents.now)) }
 {
+    let mut lists = TermIndex::new(alloc);
     let mut index = DocumentIndex::new(alloc);
     for document in documents {
         let docid = document.docid;
         index.add(columns, docid, document.cells.as_slice())?;
+        lists.add(index.take_lists())?;
     }
-    Ok(index)
+    Ok((lists, index.into_parts().1))
 }
 
-// No index row of before, and all of this index.
-fn rebuilt(alloc: Global, tab: i64, index: DocumentIndex) -> Result<Vec<RowChange>, AllocError>
+// No index row of before, and all of these.
+fn rebuilt(
+    alloc: Global,
+    tab: i64,
+    lists: TermIndex,
+    sizes: Sizes,
+) -> Result<Vec<RowChange>, AllocError>
     ensures { IfOk result (λ changes. map shown_change changes.items
-        ≡ rows.rebuild_changes tab (rows.lists_in index) (rows.sizes_in index)) }
+        ≡ rows.rebuild_changes tab (lists_in_terms lists) sizes.entries) }
 {
     let none = DocumentIndex::new(alloc);
     let mut changes = Vec::new(alloc);
     changes.push(RowChange::ClearIndex(tab))?;
-    let (lists, sizes) = index.into_parts();
-    none.put_lists(&mut changes, tab, lists)?;
+    lists.put_lists(&mut changes, tab)?;
     none.put_sizes(&mut changes, tab, &sizes)?;
     Ok(changes)
 }

@@ -1,16 +1,18 @@
-//! Whether the index rows of a table are those made from scratch out of its documents.
-ghost use Rattle.std.specs.Prelude.{◌≡◌, ◌<◌, ◌↔◌, ◌∷◌, [], map, length, IsTrue, IfOk, OnOk};
+//! The index rows of a table, made from scratch out of its cells.
+ghost use Rattle.std.specs.Prelude.{◌≡◌, ◌<◌, ◌∷◌, [], false, map, length, IsTrue, IfOk, MatchOption};
 ghost use Rattle.std.specs.Ordering.{int_cmp};
-ghost use Rattle.std.specs.List.Sorted.{IsSortedByKey, IsStableByKey};
+ghost use Rattle.std.specs.FinMap.Entries.{is_sorted};
 ghost use Rattle.ft_content.specs.Content.{Content, Documents};
-ghost use Rattle.ft_content.specs.Index.{IndexRows, index_rows};
 ghost use Rattle.ft_content.specs.Views.{column_of};
 ghost use Rattle.ft_documents.specs.RewriteRows as rows;
 ghost use Rattle.ft_documents.specs.Standing as standing;
+ghost use Rattle.ft_documents.specs.Terms.{lists_in_terms};
 
 use crate::document_index::DocumentIndex;
+use crate::term_index::TermIndex;
 use ft_content::Column;
-use ft_values::{CellRow, EntryRow, SizeRow};
+use ft_rows::TermLists;
+use ft_values::{CellRow, SizeRow};
 use std::alloc::{AllocError, Global};
 
 // The index of one document.
@@ -32,79 +34,62 @@ fn index_of(
     Ok(index)
 }
 
-/// Whether sizes and entries, these by docid, are those of the documents that have these cells.
-fn are_of_documents(
+// The posting lists of the documents that have these cells, by their terms, where these are their sizes.
+fn lists_of_documents(
     alloc: Global,
     columns: &[Column],
     cells: &[CellRow],
     sizes: &[SizeRow],
-    entries: &[EntryRow],
-) -> Result<bool, AllocError>
+) -> Result<Option<TermIndex>, AllocError>
     requires { 0 < length columns.now }
     ensures { (documents : Documents)
         → standing.HaveCells (length columns.now) (map standing.shown_row cells.now) documents
-        → IfOk result (λ b. b ≡ standing.are_of_documents (map column_of columns.now) documents
-        (map standing.shown_size sizes.now) (map standing.shown_entry entries.now)) }
+        → IsTrue (is_sorted int_cmp documents)
+        → IfOk result (λ o. MatchOption o (standing.are_sizes_of (map column_of columns.now)
+        documents (map standing.shown_size sizes.now) ≡ false)
+        (λ index. IsTrue (standing.are_sizes_of (map column_of columns.now) documents
+        (map standing.shown_size sizes.now))
+        × (lists_in_terms index ≡ rows.lists_of (map column_of columns.now) documents))) }
 {
     let mut cells = cells;
     let mut sizes = sizes;
-    let mut entries = entries;
+    let mut lists = TermIndex::new(alloc);
     while let Some(first) = cells.first() {
         if cells.len() < columns.len() {
-            return Ok(false);
+            return Ok(None);
         }
         let docid = first.docid;
         let (own, others) = cells.split_at(columns.len());
         let index = index_of(alloc, columns, docid, own)?;
-        let size_count = match index.count_sizes(sizes) {
-            Some(count) => count,
-            None => return Ok(false),
+        let Some(count) = index.count_sizes(sizes) else {
+            return Ok(None);
         };
-        let entry_count = match index.count_entries(entries) {
-            Some(count) => count,
-            None => return Ok(false),
-        };
-        sizes = sizes.split_at(size_count).1;
-        entries = entries.split_at(entry_count).1;
+        lists.add(index.into_parts().0)?;
+        sizes = sizes.split_at(count).1;
         cells = others;
     }
-    Ok(sizes.is_empty() && entries.is_empty())
+    if sizes.is_empty() {
+        Ok(Some(lists))
+    } else {
+        Ok(None)
+    }
 }
 
-// Puts entries in order by their docids. Those of one docid stay in theirs.
-fn sort_by_docid(entries: &mut Vec<EntryRow>) -> Result<(), AllocError>
-    ensures sorted { OnOk result (IsSortedByKey (λ e. e.docid) int_cmp entries.new.items) }
-    ensures stable { IsStableByKey (λ e. e.docid) int_cmp entries.old.items entries.new.items }
-{
-    entries.sort_by_key(|entry| entry.docid)
-}
-
-/// Whether these sizes and entries are those of a content that has these cells. The entries are put in order by docid
-/// first, those of one docid as they were.
-pub fn are_theirs(
+/// The posting lists of a content that has these cells, made from scratch, by their terms; none where these aren't the sizes of its cells.
+pub fn index_lists(
     alloc: Global,
     columns: &[Column],
     cells: &[CellRow],
     sizes: &[SizeRow],
-    entries: &mut Vec<EntryRow>,
-) -> Result<bool, AllocError>
+) -> Result<Option<Vec<TermLists>>, AllocError>
     requires { 0 < length columns.now }
-    ensures theirs { (content : Content)
+    ensures { (content : Content)
         → standing.HaveContent (map column_of columns.now) (map standing.shown_row cells.now)
         content
-        → IfOk result (λ b. IsTrue b ↔ standing.AreTheirs content
-        (map standing.shown_size sizes.now) (map standing.shown_entry entries.new.items)) }
-    ensures sorted { OnOk result (IsSortedByKey (λ e. e.docid) int_cmp entries.new.items) }
-    ensures stable { IsStableByKey (λ e. e.docid) int_cmp entries.old.items entries.new.items }
-
-    // So they are exactly where the index rows are those made from scratch.
-    ensures right { (content : Content) (rows : IndexRows)
-        → standing.HaveContent (map column_of columns.now) (map standing.shown_row cells.now)
-        content
-        → standing.AreOfRows rows (map standing.shown_size sizes.now)
-        (map standing.shown_entry entries.old.items)
-        → IfOk result (λ b. IsTrue b ↔ (rows ≡ index_rows content)) }
+        → IfOk result (standing.AreTheirs content (map standing.shown_size sizes.now)) }
 {
-    sort_by_docid(entries)?;
-    are_of_documents(alloc, columns, cells, sizes, entries.as_slice())
+    match lists_of_documents(alloc, columns, cells, sizes)? {
+        Some(lists) => Ok(Some(lists.into_lists()?)),
+        None => Ok(None),
+    }
 }

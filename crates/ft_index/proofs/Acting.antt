@@ -1,16 +1,12 @@
 -- Commands that read, and then change rows.
-use Rattle.std.proofs.Common.{◌≡◌, ◌⊎◌, inl, inr, ℕ, Bool, true, false, cond, List, [], ◌∷◌, map, Option, Some, None, Result, Ok, Err, ℤ, refl, sym, ap, subst, ◌∙◌, arith}
-use Rattle.std.specs.Prelude.{IsTrue, Vec}
-use Rattle.std.specs.declared.alloc.Global.{Global}
+use Rattle.std.proofs.Common.{◌≡◌, ◌⊎◌, inl, inr, ℕ, Bool, true, false, cond, List, [], ◌∷◌, map, Some, Result, Ok, Err, ℤ, refl, sym, ap, subst, ◌∙◌, arith}
+use Rattle.std.specs.Prelude.{IsTrue}
 use Rattle.sqlite_trees.specs.View.{doubt}
-use Rattle.sqlite.specs.State.{HasCleanDisk}
 use Rattle.sqlite.specs.Effect.{Database}
 use Rattle.sqlite.specs.Store.{Ghosts}
 use Rattle.ft_store.specs.Rows.{value_of as value_in_trees}
 use Rattle.ft_rows.specs.Store.{Change, all_applied}
-use Rattle.ft_rows.specs.Changes.{shown_change}
 use Rattle.ft_store.specs.Kept.{StoreState, shows, value_in}
-use Rattle.ft_values.specs.declared.rows.RowChange.{RowChange}
 use Rattle.ft_values.specs.declared.fault.Fault.{Fault}
 use Rattle.ft_values.specs.declared.fault.Fault.TheVariants as faults
 use Rattle.ft_content.specs.Content.{Content, Documents, same_name}
@@ -21,7 +17,7 @@ use Rattle.ft_content.specs.Step.{after, reply_to, with_documents, on_table}
 use Rattle.ft_index.specs.DocumentsRead.{Looks}
 use Rattle.ft_index.specs.Kept.{IsUp, AreHeld, PlansFrom, Executes, Answers, is_outside, told_table}
 use Rattle.ft_index.specs.Changed.{Changed, with_tables}
-use Rattle.ft_index.specs.Written.{PlansIn}
+use Rattle.ft_index.specs.Written.{PlansTo}
 use Rattle.ft_index.proofs.CreateLemmas.{refused_answers}
 use Rattle.ft_index.proofs.NameLemmas.{apart_after}
 use Rattle.ft_index.proofs.Executing.{done_answers, executes_refused}
@@ -67,7 +63,7 @@ module _ {S : Type 0} (g : Ghosts S) where
   }
 
   -- a plan that is refused
-  pub executes_failed : (old new : StoreState S) (tables : List TableInfo) (command : Command) (fault : Fault) → Looks g old new → PlansIn g tables old new command (Err fault) → Executes g (with_tables old tables) command (Err fault) (with_tables new tables)
+  pub executes_failed : (old new : StoreState S) (tables : List TableInfo) (command : Command) (fault : Fault) → Looks g old new → PlansTo g tables old new command (Err fault) → Executes g (with_tables old tables) command (Err fault) (with_tables new tables)
   executes_failed old new tables command fault looks plans = executes_read old new tables command (Err fault) looks (λ up first held. due first (plans up first held))
     where
       due : (first : Contents) → IsTrue (is_outside (Err fault)) ⊎ (deserved first command ≡ Some fault) → Answers first command (Err fault) first
@@ -80,8 +76,8 @@ module _ {S : Type 0} (g : Ghosts S) where
   executes_undone old mid new tables changes command fault outside looks changed = executes_refused g old new tables changes command fault outside (then_changed old mid new changes false looks changed)
 
   -- a plan that is carried out, and leaves the tables that are told
-  pub executes_written : (old mid new : StoreState S) (tables : List TableInfo) (changes : Vec RowChange Global) (command : Command) (name : List ℕ) (change : Content → Documents) →
-      ((contents : Contents) → after contents command ≡ on_table contents name (with_documents change)) → ((contents : Contents) → reply_to contents command ≡ Done) → Looks g old mid → PlansIn g tables old mid command (Ok changes) → Changed g mid new (map shown_change changes.items) true → Executes g (with_tables old tables) command (Ok Done) (with_tables new tables)
+  pub executes_written : (old mid new : StoreState S) (tables : List TableInfo) (changes : List Change) (command : Command) (name : List ℕ) (change : Content → Documents) →
+      ((contents : Contents) → after contents command ≡ on_table contents name (with_documents change)) → ((contents : Contents) → reply_to contents command ≡ Done) → Looks g old mid → PlansTo g tables old mid command (Ok changes) → Changed g mid new changes true → Executes g (with_tables old tables) command (Ok Done) (with_tables new tables)
   executes_written old mid new tables changes command name change leaves replies looks plans changed = record {
     was_up = λ up. all.was_up tables tables up;
     steps = λ up first holds. (
@@ -97,8 +93,8 @@ module _ {S : Type 0} (g : Ghosts S) where
     unchanged = λ no up. absurd (let wrong = no in cc);
   }
     where
-      all : Changed g old new (map shown_change changes.items) true
-      all = then_changed old mid new (map shown_change changes.items) true looks changed
+      all : Changed g old new changes true
+      all = then_changed old mid new changes true looks changed
 
-      planned : IsUp g (with_tables new tables) → (first : Contents) → AreHeld (value_in g old) tables first → PlansFrom first command (value_in g old) (Ok (map shown_change changes.items))
+      planned : IsUp g (with_tables new tables) → (first : Contents) → AreHeld (value_in g old) tables first → PlansFrom first command (value_in g old) (Ok changes)
       planned up first holds = plans (changed.was_up tables tables up) first holds

@@ -1,7 +1,6 @@
 -- What a crash leaves of commands.
-use Rattle.std.proofs.Common.{◌≡◌, ◌⊎◌, inl, inr, ℕ, Bool, true, List, [], ◌∷◌, map, Option, Some, None, Result, Ok, Err, ℤ, refl, sym, ap, subst, ◌∙◌, arith}
-use Rattle.std.specs.Prelude.{IsTrue, Vec, is_ok}
-use Rattle.std.specs.declared.alloc.Global.{Global}
+use Rattle.std.proofs.Common.{◌≡◌, inl, List, None, Ok, refl, sym, ap, subst, arith}
+use Rattle.std.specs.Prelude.{IsTrue}
 use Rattle.sqlite_trees.specs.View.{doubt}
 use Rattle.sqlite.specs.Tree.{Trees}
 use Rattle.sqlite.specs.State.{State, HasCleanDisk, Survives}
@@ -9,18 +8,16 @@ use Rattle.sqlite.specs.Store.{Ghosts}
 use Rattle.sqlite.proofs.StateLemmas.{survives_then}
 use Rattle.ft_store.specs.Calls.{IsStored}
 use Rattle.ft_rows.specs.Store.{Change, StoreValue, all_applied}
-use Rattle.ft_rows.specs.Changes.{shown_change}
 use Rattle.ft_store.specs.Kept.{StoreState, shows, value_in}
-use Rattle.ft_values.specs.declared.rows.RowChange.{RowChange}
 use Rattle.ft_content.specs.Command.{Command}
 use Rattle.ft_content.specs.Views.{TableInfo}
 use Rattle.ft_content.specs.Deserved.{Contents, deserved}
 use Rattle.ft_content.specs.Step.{after, step, step_by}
 use Rattle.ft_index.specs.DocumentsRead.{Looks}
-use Rattle.ft_index.specs.Kept.{IsUp, AreHeld, StoreHolds, PlansFrom}
+use Rattle.ft_index.specs.Kept.{IsUp, AreHeld, StoreHolds}
 use Rattle.ft_index.specs.Changed.{with_tables}
-use Rattle.ft_index.specs.Written.{PlansIn}
-use Rattle.ft_index.specs.Crashes.{HoldsAfter, CommitsCommand, CommandSurvives}
+use Rattle.ft_index.specs.Written.{PlansTo}
+use Rattle.ft_index.specs.Crashes.{CommandSurvives}
 use Rattle.ft_index.proofs.Acting.{looks_same}
 use Rattle.ft_index.proofs.ReadsLemmas.{nothing_done}
 
@@ -61,8 +58,8 @@ module _ {S : Type 0} (g : Ghosts S) where
       record { left = all_applied changes (value_in g old); stored = commits up.is_open; held = subst (StoreHolds (all_applied changes (value_in g old))) (left_is first command (leads up first holds).0) (leads up first holds).1; noted = (leads up first holds).2 }) survives
 
   -- a plan that was made by reads, and is carried out
-  pub crash_written : (old mid new : StoreState S) (tables others : List TableInfo) (command : Command) (changes : Vec RowChange Global) → Looks g old mid → (HasCleanDisk (shows g mid) → IsTrue (shows g old).is_open → IsTrue (shows g mid).is_open) →
-      PlansIn g tables old mid command (Ok changes) → Survives (shows g mid) (shows g new) (CommitsRows mid (map shown_change changes.items)) → CommandSurvives g (with_tables old tables) command (with_tables new others)
+  pub crash_written : (old mid new : StoreState S) (tables others : List TableInfo) (command : Command) (changes : List Change) → Looks g old mid → (HasCleanDisk (shows g mid) → IsTrue (shows g old).is_open → IsTrue (shows g mid).is_open) →
+      PlansTo g tables old mid command (Ok changes) → Survives (shows g mid) (shows g new) (CommitsRows mid changes) → CommandSurvives g (with_tables old tables) command (with_tables new others)
   crash_written old mid new tables others command changes looks live plans survives =
       survives_then (shows g old) (shows g mid) (shows g new) _ _ _ (λ clean db none up first holds. absurd (none up.is_open)) (λ clean db commits up first holds.
       let c : doubt (shows g new).is_clean ≡ 0 = clean in
@@ -70,8 +67,8 @@ module _ {S : Type 0} (g : Ghosts S) where
       let mid_up : IsUp g (with_tables mid tables) = record { clean = mid_clean; is_open = live mid_clean up.is_open } in
       let planned = plans mid_up first holds in
       record {
-        left = all_applied (map shown_change changes.items) (value_in g old);
-        stored = subst (λ (v : StoreValue). IsStored db (all_applied (map shown_change changes.items) v)) (looks_same g old mid tables looks mid_up) (commits mid_up.is_open);
-        held = subst (StoreHolds (all_applied (map shown_change changes.items) (value_in g old))) (left_is first command planned.0) planned.1;
+        left = all_applied changes (value_in g old);
+        stored = subst (λ (v : StoreValue). IsStored db (all_applied changes v)) (looks_same g old mid tables looks mid_up) (commits mid_up.is_open);
+        held = subst (StoreHolds (all_applied changes (value_in g old))) (left_is first command planned.0) planned.1;
         noted = planned.2;
       }) looks.survives survives

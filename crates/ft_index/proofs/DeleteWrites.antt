@@ -1,5 +1,5 @@
 -- What a Delete writes.
-use Rattle.std.proofs.Common.{◌≡◌, ◌⊎◌, inl, inr, ℕ, Bool, true, false, cond, not, List, [], ◌∷◌, ◌++◌, map, filter, Option, Some, None, Result, Ok, Err, ℤ, refl, sym, ap, subst, ◌∙◌}
+use Rattle.std.proofs.Common.{◌≡◌, ◌⊎◌, inl, inr, ℕ, Bool, true, false, cond, not, List, [], ◌∷◌, ◌++◌, map, filter, Option, Some, None, ℤ, refl, ap, ◌∙◌}
 use Rattle.std.specs.Prelude.{◌≢◌}
 use Rattle.ft_values.specs.Cells.{Cell}
 use Rattle.ft_values.specs.declared.fault.Fault.{Fault}
@@ -12,7 +12,7 @@ use Rattle.ft_content.specs.Views.{bare_content, column_of}
 use Rattle.ft_content.specs.Deserved.{Contents, first_of, or_else, delete_tests, delete_fault, query_fault, deserved}
 use Rattle.ft_content.specs.Step.{deleted, docids_of, with_documents, on_table, after, touched, reply_to}
 use Rattle.ft_content.proofs.ContentLemmas.{delete_keeps_content}
-use Rattle.ft_documents.specs.Rewrite.{Rewrite, removal}
+use Rattle.ft_documents.specs.Rewrite.{removal}
 use Rattle.ft_index.specs.Written.{LeadsTo}
 use Rattle.ft_documents.proofs.BareLemmas.{unknown_bare, fault_bare}
 use Rattle.ft_documents.proofs.FaultLemmas.{memory_or}

@@ -1,5 +1,5 @@
 -- What an Insert writes.
-use Rattle.std.proofs.Common.{◌≡◌, ◌⊎◌, inl, inr, ℕ, Bool, true, false, cond, not, List, [], ◌∷◌, map, filter, zip, Option, Some, None, Result, Ok, Err, ℤ, refl, sym, ap, subst, ◌∙◌}
+use Rattle.std.proofs.Common.{◌≡◌, inl, inr, ℕ, Bool, true, false, cond, not, List, [], ◌∷◌, map, filter, zip, Option, Some, None, Result, Ok, Err, ℤ, refl, sym, ap, subst, ◌∙◌}
 use Rattle.std.specs.Prelude.{Contains, Vec, unwrap_or, is_some}
 use Rattle.std.specs.declared.alloc.Global.{Global}
 use Rattle.std.specs.List.{AllByRecursion}
@@ -9,18 +9,17 @@ use Rattle.std.proofs.lemmas.Map.Lookups.{exact_signed}
 use Rattle.ft_query.proofs.OffsetOrder.{contains_head, contains_tail}
 use Rattle.ft_values.specs.Cells.{Cell}
 use Rattle.ft_values.specs.declared.fault.Fault.{Fault}
-use Rattle.ft_values.specs.declared.fault.Fault.TheVariants as faults
 use Rattle.ft_content.specs.Content.{Content, Documents, IsContent, names_of, repeats_name}
 use Rattle.ft_content.specs.Command.{Insert, Done}
 use Rattle.ft_values.specs.declared.table.Column.{Column}
 use Rattle.ft_content.specs.Views.{bare_content, column_of}
-use Rattle.ft_content.specs.Deserved.{Contents, or_else, listed_columns, insert_tests, insert_rows, insert_fault, fault_of, has_docid, deserved}
+use Rattle.ft_content.specs.Deserved.{Contents, or_else, listed_columns, insert_tests, insert_rows, insert_fault, fault_of, has_docid}
 use Rattle.ft_content.specs.Step.{inserted, new_docids, with_documents, on_table, after, touched, reply_to}
 use Rattle.ft_content.proofs.ContentLemmas.{insert_keeps_content}
 use Rattle.ft_documents.specs.declared.rewrite.Rewrite as source
 use Rattle.ft_documents.specs.Rewrite.{Rewrite, shown_rewrite, by_docid, rewritten}
-use Rattle.ft_documents.specs.Inserted.{IsNewIn, AreInserts, Inserts}
-use Rattle.ft_index.specs.Written.{LeadsTo, Writes}
+use Rattle.ft_documents.specs.Inserted.{IsNewIn, Inserts}
+use Rattle.ft_index.specs.Written.{Writes}
 use Rattle.ft_documents.proofs.KeyedRows.{tie}
 use Rattle.ft_documents.proofs.RewriteLemmas.{written, find_rewritten}
 use Rattle.ft_documents.proofs.InsertDue.{once, inserted_is}

@@ -1,4 +1,5 @@
 pub mod Calls
+pub mod GroupLemmas
 pub mod HeldLemmas
 pub mod NameLemmas
 pub mod SoundLemmas

@@ -1,19 +1,18 @@
 -- Plans of commands that change no document.
-use Rattle.std.proofs.Common.{◌≡◌, ◌⊎◌, inl, inr, ℕ, Bool, true, List, [], ◌∷◌, map, Option, Some, None, Result, Ok, Err, ℤ, refl, sym, ap, subst, ◌∙◌}
-use Rattle.std.specs.Prelude.{IsTrue, is_some}
+use Rattle.std.proofs.Common.{◌≡◌, ◌⊎◌, inl, inr, ℕ, Bool, List, [], ◌∷◌, Option, Some, None, Result, Ok, Err, refl, sym, ap, subst, ◌∙◌}
+use Rattle.std.specs.Prelude.{IsTrue}
 use Rattle.ft_rows.specs.Store.{StoreValue, AreInOrder}
 use Rattle.ft_values.specs.declared.fault.Fault.{Fault}
 use Rattle.ft_values.specs.declared.fault.Fault.TheVariants as faults
 use Rattle.ft_values.specs.declared.table.TableInfo.{TableInfo as RustTableInfo}
-use Rattle.ft_content.specs.Content.{Content}
 use Rattle.ft_content.specs.Command.{Command, Create, Select, Check, Optimize, Filter, Items, Reply}
 use Rattle.ft_content.specs.Views.{TableInfo}
 use Rattle.ft_content.specs.Deserved.{Contents, select_fault, deserved}
-use Rattle.ft_content.specs.Step.{after, step, step_by, reply_to}
+use Rattle.ft_content.specs.Step.{after, step, step_by}
 use Rattle.ft_documents.specs.Found.{info_named, IsUnfit, IsSoundNamed}
 use Rattle.ft_index.specs.Planned.{Makes, table_change}
-use Rattle.ft_index.specs.Kept.{AreHeld, StoreHolds, StaysNear, PlansFrom, Answers, is_outside, told_table}
-use Rattle.ft_index.proofs.KnownLemmas.{IsSoundTable, sound_table, sound_is, unfit_is}
+use Rattle.ft_index.specs.Kept.{AreHeld, StoreHolds, StaysNear, PlansFrom, Answers, is_outside}
+use Rattle.ft_index.proofs.KnownLemmas.{sound_table, sound_is, unfit_is}
 use Rattle.ft_index.proofs.SelectAnswers.{fault_bare, told_columns}
 use Rattle.ft_documents.proofs.AddLemmas.{bare}
 use Rattle.ft_index.proofs.CreateLemmas.{made_is_held, nothing_made}

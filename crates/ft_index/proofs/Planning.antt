@@ -1,11 +1,9 @@
 -- The plan of a command that writes documents of a table which is told as sound.
-use Rattle.std.proofs.Common.{◌≡◌, ℕ, List, map, Option, Result, Ok, Err, ℤ, sym, ap, subst, ◌∙◌}
+use Rattle.std.proofs.Common.{◌≡◌, ℕ, List, map, Option, Ok, Err, ℤ, sym, ap, subst, ◌∙◌}
 use Rattle.std.specs.Prelude.{All, Vec}
 use Rattle.std.specs.declared.alloc.Global.{Global}
 use Rattle.sqlite.specs.Store.{Ghosts}
-use Rattle.ft_values.specs.declared.rows.RowChange.{RowChange}
-use Rattle.ft_rows.specs.Store.{AreInOrder}
-use Rattle.ft_rows.specs.Changes.{shown_change}
+use Rattle.ft_rows.specs.Store.{AreInOrder, Change}
 use Rattle.ft_store.specs.Kept.{StoreState, value_in}
 use Rattle.ft_values.specs.declared.fault.Fault.{Fault}
 use Rattle.ft_content.specs.Content.{Column, Content, Documents}
@@ -15,16 +13,16 @@ use Rattle.ft_content.specs.Deserved.{Contents}
 use Rattle.ft_documents.specs.declared.rewrite.Rewrite as source
 use Rattle.ft_documents.specs.Found.{IsSoundNamed, IsUnfit}
 use Rattle.ft_documents.specs.Rewrite.{AreRight, HasContent, shown_rewrite, docids_of}
-use Rattle.ft_index.specs.Kept.{IsUp, AreHeld, PlansFrom, held_columns}
+use Rattle.ft_index.specs.Kept.{IsUp, AreHeld, held_columns}
 use Rattle.ft_documents.specs.Tables.{IsOfDocids}
 use Rattle.ft_index.specs.Changed.{with_tables}
-use Rattle.ft_index.specs.Written.{HasAll, Writes, PlansIn}
+use Rattle.ft_index.specs.Written.{HasAll, Writes, PlansTo}
 use Rattle.ft_index.proofs.KnownLemmas.{IsSoundTable}
 use Rattle.ft_index.proofs.InsertHolds.{sound_rows}
 use Rattle.ft_index.proofs.Writing.{IsWrite, plan_unfit, sound_here, plan_fails, plan_written}
 
 module _ {S : Type 0} (g : Ghosts S) (command : Command) (name : List ℕ) (due : List ℕ → Content → Option Fault) (change : Content → Documents) (touch : Content → List ℤ) (is : IsWrite command name due change touch) (old new : StoreState S) (tables : List TableInfo) where
-  pub plans_unfit : (fault : Fault) → IsUnfit tables name fault → PlansIn g tables old new command (Err fault)
+  pub plans_unfit : (fault : Fault) → IsUnfit tables name fault → PlansTo g tables old new command (Err fault)
   plans_unfit fault unfit up contents held = plan_unfit command name due change touch is (value_in g old) tables contents held fault unfit
 
   module _ (known : TableInfo) (order : AreInOrder (value_in g old)) (named : IsSoundNamed tables name known) where
@@ -42,19 +40,19 @@ module _ {S : Type 0} (g : Ghosts S) (command : Command) (name : List ℕ) (due 
           columns_are = ap held_columns (sym t.held) ∙ ap (λ (k : TableInfo). k.columns) t.told;
         }
 
-    pub plans_fail : (fault : Fault) → ((content : Content) → HasAll g known.id known.name known.columns old new content → Writes content (due known.name content) (change content) (touch content) (Err fault)) → PlansIn g tables old new command (Err fault)
+    pub plans_fail : (fault : Fault) → ((content : Content) → HasAll g known.id known.name known.columns old new content → Writes content (due known.name content) (change content) (touch content) (Err fault)) → PlansTo g tables old new command (Err fault)
     plans_fail fault writes up contents held =
         let t = here contents held in
         plan_fails command name due change touch is (value_in g old) tables contents held known t fault
         (subst (λ (k : TableInfo). Writes t.content (due k.name t.content) (change t.content) (touch t.content) (Err fault)) (sym t.told) (writes t.content (has_all contents held up)))
 
-    pub plans_do : (rewrites : Vec source.Rewrite Global) (changes : Vec RowChange Global) → ((content : Content) → HasAll g known.id known.name known.columns old new content → Writes content (due known.name content) (change content) (touch content) (Ok rewrites)) →
-        AreRight known.id known.columns (map shown_rewrite rewrites.items) (map shown_change changes.items) → All (IsOfDocids known.id (docids_of (map shown_rewrite rewrites.items))) (map shown_change changes.items) → PlansIn g tables old new command (Ok changes)
+    pub plans_do : (rewrites : Vec source.Rewrite Global) (changes : List Change) → ((content : Content) → HasAll g known.id known.name known.columns old new content → Writes content (due known.name content) (change content) (touch content) (Ok rewrites)) →
+        AreRight known.id known.columns (map shown_rewrite rewrites.items) changes → All (IsOfDocids known.id (docids_of (map shown_rewrite rewrites.items))) changes → PlansTo g tables old new command (Ok changes)
     plans_do rewrites changes writes right near up contents held =
         let t = here contents held in
         let has = has_all contents held up in
         let written = subst (λ (k : TableInfo). Writes t.content (due k.name t.content) (change t.content) (touch t.content) (Ok rewrites)) (sym t.told) (writes t.content has) in
         let id : known.id ≡ t.table.0 = ap (λ (k : TableInfo). k.id) (sym t.told) in
-        plan_written command name due change touch is (value_in g old) tables contents held known t (map shown_rewrite rewrites.items) (map shown_change changes.items) order written.0 written.1
-        (subst (λ (columns : List Column). AreRight t.table.0 columns (map shown_rewrite rewrites.items) (map shown_change changes.items)) (sym has.columns_are) (subst (λ k. AreRight k known.columns (map shown_rewrite rewrites.items) (map shown_change changes.items)) id right))
-        (subst (λ k. All (IsOfDocids k (docids_of (map shown_rewrite rewrites.items))) (map shown_change changes.items)) id near)
+        plan_written command name due change touch is (value_in g old) tables contents held known t (map shown_rewrite rewrites.items) changes order written.0 written.1
+        (subst (λ (columns : List Column). AreRight t.table.0 columns (map shown_rewrite rewrites.items) changes) (sym has.columns_are) (subst (λ k. AreRight k known.columns (map shown_rewrite rewrites.items) changes) id right))
+        (subst (λ k. All (IsOfDocids k (docids_of (map shown_rewrite rewrites.items))) changes) id near)

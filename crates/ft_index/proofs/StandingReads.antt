@@ -1,7 +1,6 @@
 -- Rows of a table as they are read, and how they stand.
-use Rattle.std.proofs.Common.{◌≡◌, ◌≢◌, ℕ, ◌<◌, List, [], ◌∷◌, ◌++◌, map, length, ℤ, string_bytes, refl, sym, ap, subst, ◌∙◌, arith}
+use Rattle.std.proofs.Common.{◌≡◌, ◌≢◌, ℕ, ◌<◌, true, false, cond, List, [], ◌∷◌, ◌++◌, map, length, ℤ, string_bytes, refl, sym, ap, subst, ◌∙◌, arith}
 use Rattle.std.specs.Prelude.{IsTrue}
-use Rattle.std.specs.List.{AllByRecursion}
 use Rattle.std.specs.Ordering.{int_eq}
 use Rattle.std.specs.FinMap.Entries.{where_key}
 use Rattle.std.proofs.lemmas.List.{map-append}
@@ -15,13 +14,12 @@ use Rattle.ft_store.proofs.ChainLemmas.{kept_then, reads_then}
 use Rattle.ft_index.specs.DocumentsRead.{Looks}
 use Rattle.ft_values.specs.declared.rows.CellRow as stored_cell
 use Rattle.ft_values.specs.declared.rows.SizeRow as stored_size
-use Rattle.ft_values.specs.declared.rows.EntryRow as stored_entry
 use Rattle.ft_values.specs.declared.rows.TabRow.{TabRow}
 use Rattle.ft_values.specs.Cells.{Cell}
-use Rattle.ft_rows.specs.Store.{StoreValue, AreInOrder, CellKey, ListKey, cell_key_cmp, list_key_cmp}
+use Rattle.ft_rows.specs.Store.{StoreValue, CellKey, ListKey, cell_key_cmp, list_key_cmp}
 use Rattle.ft_rows.specs.Shown as shown
 use Rattle.ft_content.specs.Content.{Column, Content, IsContent, TableRows, content_rows, content_in}
-use Rattle.ft_content.specs.Index.{EntryRow, entry_rows, Key, StoredSpot, SizeRow, IndexRows, index_rows}
+use Rattle.ft_content.specs.Index.{Key, StoredSpot, SizeRow, IndexRows, index_rows}
 use Rattle.ft_content.specs.Views.{TableInfo}
 use Rattle.ft_content.specs.Deserved.{TableState, Sound, Stale, Loose}
 use Rattle.ft_content.proofs.RowLemmas.{rows_are_read}
@@ -30,11 +28,14 @@ use Rattle.ft_index.specs.declared.standing.Standing.{Standing}
 use Rattle.ft_index.specs.Kept.{Stands, held_columns, is_sound}
 use Rattle.ft_index.specs.Opened.{standing_of, StandsSo, IsListed, IsMarked}
 use Rattle.ft_documents.specs.RewriteRows.{sized}
-use Rattle.ft_documents.specs.Standing.{shown_size, shown_entry, shown_row, listed_rows, columns_in, list_rows, AreOfRows, AreContent, HaveContent}
+use Rattle.ft_documents.specs.Standing.{shown_size, shown_row, listed_rows, columns_in, AreContent, HaveContent}
+use Rattle.ft_documents.specs.Terms.{lists_of_term, lists_of_terms}
+use Rattle.ft_rows.specs.Terms.{lists_under, lists_by_terms}
+use Rattle.ft_rows.specs.declared.terms.TermLists.{TermLists}
+use Rattle.ft_values.specs.declared.rows.ListRow.{ListRow}
 use Rattle.ft_documents.specs.Tables.{table_rows, table_index}
-use Rattle.ft_documents.proofs.OwnRows.{sorted_own}
-use Rattle.ft_documents.proofs.StoreKeys.{list_keys}
-use Rattle.ft_documents.proofs.StandingBack.{made_whole}
+use Rattle.ft_documents.proofs.KeyedRows.{same_int}
+use Rattle.ft_documents.proofs.StandingSizes.{sized_back}
 use Rattle.ft_documents.proofs.StandingContent.{some_columns, parts_of}
 
 abbrev lists_asked : ℤ → StoreValue → List (ListKey × List StoredSpot)
@@ -46,54 +47,59 @@ own_list l = ((l.0.1, l.0.2), l.1)
 abbrev own_size : CellKey × ℤ → SizeRow
 own_size z = record { docid = z.0.1; column = z.0.2; n = z.1 }
 
-abbrev entry_of : shown.Entry → EntryRow
-entry_of e = record { term = e.0; docid = e.1; spot = e.2 }
-
-sizes_read : (tab : ℤ) (store : StoreValue) (found : List stored_size.SizeRow) → map (shown.shown_size tab) found ≡ where_key cell_key_cmp (λ k. int_eq tab k.0) store.sizes → map shown_size found ≡ sized (table_index tab store).sizes
+pub sizes_read : (tab : ℤ) (store : StoreValue) (found : List stored_size.SizeRow) → map (shown.shown_size tab) found ≡ where_key cell_key_cmp (λ k. int_eq tab k.0) store.sizes → map shown_size found ≡ sized (table_index tab store).sizes
 sizes_read tab store found is =
     sym (ap (λ zs. sized (map own_size zs)) (sym is)
     ∙ ap sized (map-map own_size (shown.shown_size tab) found)
     ∙ map-map (λ (s : SizeRow). ((s.docid, s.column), s.n)) (λ (s : stored_size.SizeRow). own_size (shown.shown_size tab s)) found)
 
-rows_of_list : (term : List ℕ) (docid : ℤ) (spots : List StoredSpot) → map entry_of (map (λ s. (term, docid, s)) spots) ≡ list_rows ((term, docid), spots)
-rows_of_list term docid [] = refl
-rows_of_list term docid (s ∷ ss) = ap (λ xs. record { term = term; docid = docid; spot = s } ∷ xs) (rows_of_list term docid ss)
-
-rows_of_lists : (lists : List (ListKey × List StoredSpot)) → map entry_of (shown.entries_of lists) ≡ entry_rows (map own_list lists)
-rows_of_lists [] = refl
-rows_of_lists (l ∷ ls) = map-append entry_of (shown.list_entries l) (shown.entries_of ls) ∙ (λ i. rows_of_list l.0.1 l.0.2 l.1 i ++ rows_of_lists ls i)
-
-entries_read : (tab : ℤ) (store : StoreValue) (found : List stored_entry.EntryRow) → map shown.shown_entry found ≡ shown.entries_of (lists_asked tab store) → map shown_entry found ≡ entry_rows (table_index tab store).lists
-entries_read tab store found is = sym (map-map entry_of shown.shown_entry found) ∙ ap (map entry_of) is ∙ rows_of_lists (lists_asked tab store)
-
-whole_own : (lists : List (ListKey × List StoredSpot)) → shown.AreWhole lists → AllByRecursion (λ (l : Key × List StoredSpot). l.1 ≢ []) (map own_list lists)
-whole_own [] whole = tt
-whole_own (l ∷ ls) whole = (whole.0, whole_own ls whole.1)
-
-own_whole : (lists : List (ListKey × List StoredSpot)) → AllByRecursion (λ (l : Key × List StoredSpot). l.1 ≢ []) (map own_list lists) → shown.AreWhole lists
-own_whole [] whole = tt
-own_whole (l ∷ ls) whole = (whole.0, own_whole ls whole.1)
-
 abbrev pub SizesRead : ℤ → StoreValue → List stored_size.SizeRow → Type 0
 SizesRead tab store ss = map (shown.shown_size tab) ss ≡ where_key cell_key_cmp (λ k. int_eq tab k.0) store.sizes
 
-abbrev pub EntriesRead : ℤ → StoreValue → List stored_entry.EntryRow → Type 0
-EntriesRead tab store es = (map shown.shown_entry es ≡ shown.entries_of (lists_asked tab store)) × shown.AreWhole (lists_asked tab store)
+-- ---- lists by their terms
 
--- sizes and entries as they are read are those of a table's index rows
-pub of_rows : (tab : ℤ) (store : StoreValue) (ss : List stored_size.SizeRow) (es : List stored_entry.EntryRow) → AreInOrder store → SizesRead tab store ss → EntriesRead tab store es →
-    AreOfRows (table_index tab store) (map shown_size ss) (map shown_entry es)
-of_rows tab store ss es order sizes entries = record {
-  sizes_are = sizes_read tab store ss sizes;
-  entries_are = entries_read tab store es entries.0;
-  rising = sorted_own list_keys tab store.lists order.lists;
-  whole = whole_own (lists_asked tab store) entries.1;
-}
+abbrev given : ℤ → Key × List StoredSpot → ListKey × List StoredSpot
+given tab l = ((tab, l.0.0, l.0.1), l.1)
 
--- a damaged list is none of those made from scratch
-pub damaged_others : (tab : ℤ) (store : StoreValue) (content : Content) → shown.SomeDamaged (lists_asked tab store) → table_index tab store ≢ index_rows content
-damaged_others tab store content damaged same =
-    damaged (own_whole (lists_asked tab store) (subst (AllByRecursion (λ (l : Key × List StoredSpot). l.1 ≢ [])) (sym (ap (λ (r : IndexRows). r.lists) same)) (made_whole content.columns content.documents)))
+asked_given : (tab : ℤ) (lists : List (ListKey × List StoredSpot)) → map (given tab) (map own_list (where_key list_key_cmp (λ k. int_eq tab k.0) lists)) ≡ where_key list_key_cmp (λ k. int_eq tab k.0) lists
+asked_given tab [] = refl
+asked_given tab (l ∷ ls) =
+    let rest = where_key list_key_cmp (λ k. int_eq tab k.0) ls in
+    elim (int_eq tab l.0.0) as (λ b. int_eq tab l.0.0 ≡ b → map (given tab) (map own_list (cond b (l ∷ rest) rest)) ≡ cond b (l ∷ rest) rest) [
+      | true ↦ λ same. (λ i. ((same_int tab l.0.0 same i, l.0.1, l.0.2), l.1) ∷ asked_given tab ls i)
+      | false ↦ λ _. asked_given tab ls
+    ] refl
+
+term_given : (tab : ℤ) (term : List ℕ) (ls : List ListRow) → map (given tab) (lists_of_term term ls) ≡ map (λ (l : ListRow). ((tab, term, l.docid), l.spots.items)) ls
+term_given tab term [] = refl
+term_given tab term (l ∷ ls) = ap (λ xs. ((tab, term, l.docid), l.spots.items) ∷ xs) (term_given tab term ls)
+
+terms_given : (tab : ℤ) (terms : List TermLists) → map (given tab) (lists_of_terms terms) ≡ lists_by_terms tab terms
+terms_given tab [] = refl
+terms_given tab (t ∷ ts) = map-append (given tab) (lists_of_term (string_bytes t.term) t.lists.items) (lists_of_terms ts) ∙ (λ i. term_given tab (string_bytes t.term) t.lists.items i ++ terms_given tab ts i)
+
+term_own : (tab : ℤ) (term : List ℕ) (ls : List ListRow) → map own_list (map (λ (l : ListRow). ((tab, term, l.docid), l.spots.items)) ls) ≡ lists_of_term term ls
+term_own tab term [] = refl
+term_own tab term (l ∷ ls) = ap (λ xs. ((term, l.docid), l.spots.items) ∷ xs) (term_own tab term ls)
+
+terms_own : (tab : ℤ) (terms : List TermLists) → map own_list (lists_by_terms tab terms) ≡ lists_of_terms terms
+terms_own tab [] = refl
+terms_own tab (t ∷ ts) = map-append own_list (lists_under tab t) (lists_by_terms tab ts) ∙ (λ i. term_own tab (string_bytes t.term) t.lists.items i ++ terms_own tab ts i)
+
+-- A table's index rows are those of a content where its sizes and lists are.
+pub rows_same : (tab : ℤ) (store : StoreValue) (content : Content) (ss : List stored_size.SizeRow) (terms : List TermLists) → SizesRead tab store ss → (map shown_size ss ≡ sized (index_rows content).sizes) × (lists_of_terms terms ≡ (index_rows content).lists) →
+    lists_asked tab store ≡ lists_by_terms tab terms → table_index tab store ≡ index_rows content
+rows_same tab store content ss terms read theirs same =
+    let lists : (table_index tab store).lists ≡ (index_rows content).lists = ap (map own_list) same ∙ terms_own tab terms ∙ theirs.1 in
+    let sizes : (table_index tab store).sizes ≡ (index_rows content).sizes = sized_back (table_index tab store).sizes (index_rows content).sizes (sym (sizes_read tab store ss read) ∙ theirs.0) in
+    λ i. record { lists = lists i; sizes = sizes i }
+
+pub lists_same : (tab : ℤ) (store : StoreValue) (content : Content) (terms : List TermLists) → lists_of_terms terms ≡ (index_rows content).lists → table_index tab store ≡ index_rows content → lists_asked tab store ≡ lists_by_terms tab terms
+lists_same tab store content terms theirs same =
+    sym (asked_given tab store.lists) ∙ ap (map (given tab)) (ap (λ (r : IndexRows). r.lists) same ∙ sym theirs) ∙ terms_given tab terms
+
+pub sizes_others : (tab : ℤ) (store : StoreValue) (content : Content) (ss : List stored_size.SizeRow) → SizesRead tab store ss → map shown_size ss ≢ sized (index_rows content).sizes → table_index tab store ≢ index_rows content
+sizes_others tab store content ss read others same = others (sizes_read tab store ss read ∙ ap (λ (r : IndexRows). sized r.sizes) same)
 
 -- ---- reads one after another
 

@@ -1,16 +1,16 @@
 -- What an Update deserves, by its tests one after another.
-use Rattle.std.proofs.Common.{◌≡◌, ◌≢◌, ◌⊎◌, inl, inr, ℕ, Bool, true, false, cond, not, ◌&&◌, ◌||◌, List, [], ◌∷◌, map, length, Option, Some, None, Result, Ok, Err, ℤ, refl, sym, ap, subst, ◌∙◌}
+use Rattle.std.proofs.Common.{◌≡◌, ◌≢◌, ◌⊎◌, inl, inr, ℕ, Bool, true, false, not, ◌&&◌, ◌||◌, List, [], ◌∷◌, map, length, Option, Some, None, ℤ, refl, ap, ◌∙◌}
 use Rattle.std.specs.Prelude.{nat_lt}
 use Rattle.std.specs.List.{list_all, list_any}
 use Rattle.ft_values.specs.Cells.{Cell}
 use Rattle.ft_values.specs.declared.fault.Fault.{Fault}
 use Rattle.ft_values.specs.declared.fault.Fault.TheVariants as faults
 use Rattle.ft_values.specs.declared.table.Column as source
-use Rattle.ft_content.specs.Content.{Column, Content, Documents, IsContent, is_docid, is_too_long, has_nul, repeats_name}
+use Rattle.ft_content.specs.Content.{Content, Documents, is_docid, is_too_long, has_nul, repeats_name}
 use Rattle.ft_content.specs.Command.{Filter, Update, Done}
 use Rattle.ft_content.specs.Answer.{chosen}
 use Rattle.ft_content.specs.Views.{bare_content, column_of}
-use Rattle.ft_content.specs.Deserved.{Contents, first_of, or_else, on_sound, has_column, is_text, is_null, docids_in, names_unknown, query_fault, moves_fault, update_tests, update_fault, deserved}
+use Rattle.ft_content.specs.Deserved.{Contents, first_of, or_else, on_sound, has_column, is_text, is_null, docids_in, query_fault, moves_fault, update_tests, update_fault, deserved}
 use Rattle.ft_content.specs.Step.{updated, with_documents, on_table, after, touched, reply_to}
 use Rattle.ft_content.proofs.ContentLemmas.{update_keeps_content}
 use Rattle.ft_documents.specs.Updated.{update_touches}

@@ -1,19 +1,17 @@
 -- What an Update writes.
-use Rattle.std.proofs.Common.{◌≡◌, ◌≢◌, ◌⊎◌, inl, inr, ℕ, Bool, true, false, cond, not, T, ◌&&◌, List, [], ◌∷◌, ◌++◌, map, filter, Option, Some, None, Result, Ok, Err, ℤ, refl, sym, ap, subst, ◌∙◌}
-use Rattle.std.specs.Prelude.{slice_get, Contains, is_some}
+use Rattle.std.proofs.Common.{◌≡◌, ℕ, Bool, true, false, cond, not, ◌&&◌, List, [], ◌∷◌, ◌++◌, map, Option, Some, None, ℤ, refl, sym, ap, subst, ◌∙◌}
+use Rattle.std.specs.Prelude.{slice_get, Contains}
 use Rattle.std.specs.List.{AllByRecursion}
 use Rattle.std.specs.declared.cmp.Ordering.{Ordering}
 use Rattle.std.specs.declared.cmp.Ordering.TheVariants.{Less, Equal, Greater}
-use Rattle.std.specs.Ordering.{int_cmp, int_eq, is_lt, is_eq, ordering_reverse, eq_by_cmp}
-use Rattle.std.specs.Cmp.{int_cmp_total, tied_itself, eq_by_cmp_equiv}
-use Rattle.std.specs.FinMap.Entries.{put, find, where_key, is_sorted, is_sorted-put, is_sorted-where_key, find-put, find-where_key, same_entries}
-use Rattle.std.proofs.lemmas.Bool.{and_from}
+use Rattle.std.specs.Ordering.{int_cmp, int_eq, is_lt, is_eq, ordering_reverse}
+use Rattle.std.specs.Cmp.{int_cmp_total, eq_by_cmp_equiv}
+use Rattle.std.specs.FinMap.Entries.{put, find, is_sorted, is_sorted-put, is_sorted-where_key, find-put, find-where_key, same_entries}
 use Rattle.std.proofs.lemmas.Map.Lookups.{exact_signed}
-use Rattle.std.proofs.lemmas.List.Elements.{Contains-append_left, recursion_from_All, All-contains_itself}
+use Rattle.std.proofs.lemmas.List.Elements.{Contains-append_left}
 use Rattle.ft_query.proofs.OffsetOrder.{contains_head, contains_tail}
 use Rattle.ft_store.proofs.KeyedLemmas.{put-without_key}
 use Rattle.ft_values.specs.Cells.{Cell}
-use Rattle.ft_values.specs.declared.fault.Fault.{Fault}
 use Rattle.ft_values.specs.declared.fault.Fault.TheVariants as faults
 use Rattle.ft_content.specs.Content.{Content, Documents, IsContent}
 use Rattle.ft_content.specs.Command.{Filter}
@@ -23,9 +21,9 @@ use Rattle.ft_content.specs.Step.{docids_of, docid_if_any, without_docid, moved,
 use Rattle.ft_documents.specs.declared.document.Document.{Document}
 use Rattle.ft_documents.specs.Gathered.{shown_document}
 use Rattle.ft_documents.specs.Rewrite.{Rewrite, by_docid, rewritten}
-use Rattle.ft_documents.specs.Updated.{changing, leaving, coming, moved_from, MayMove, update_touches}
+use Rattle.ft_documents.specs.Updated.{changing, leaving, coming, moved_from, MayMove}
 use Rattle.ft_index.specs.Written.{LeadsTo}
-use Rattle.ft_documents.proofs.KeyedRows.{tie, of_true, true_of}
+use Rattle.ft_documents.proofs.KeyedRows.{tie, of_true}
 use Rattle.ft_documents.proofs.AddLemmas.{own_put}
 use Rattle.ft_documents.proofs.FoundLemmas.{not_some}
 use Rattle.ft_documents.proofs.ChosenLemmas.{all_found}

@@ -1,5 +1,5 @@
 -- The rows and the index rows of a table that a content has, as reads want them.
-use Rattle.std.proofs.Common.{◌≡◌, ℕ, List, ℤ, sym, ap, ◌∙◌}
+use Rattle.std.proofs.Common.{◌≡◌, ℕ, List, ℤ, ap, ◌∙◌}
 use Rattle.sqlite.specs.Store.{Ghosts}
 use Rattle.ft_store.specs.Kept.{StoreState, value_in}
 use Rattle.ft_content.specs.Content.{Column, Content}

@@ -1,23 +1,20 @@
 -- From rewrites of one table's documents to a plan, and from a plan to what a command does.
-use Rattle.std.proofs.Common.{◌≡◌, ◌⊎◌, inl, inr, ℕ, zero, suc, ◌<◌, Bool, true, false, List, [], ◌∷◌, map, length, Option, Some, None, Result, Ok, Err, ℤ, refl, sym, ap, subst, ◌∙◌, arith}
-use Rattle.std.specs.Prelude.{IsTrue, All, Contains, Vec, slice_index_or}
-use Rattle.std.specs.declared.alloc.Global.{Global}
+use Rattle.std.proofs.Common.{◌≡◌, ◌⊎◌, inl, inr, ℕ, zero, suc, ◌<◌, List, [], ◌∷◌, length, Option, Some, None, Ok, Err, ℤ, refl, sym, ap, subst, ◌∙◌, arith}
+use Rattle.std.specs.Prelude.{IsTrue, All, Contains, slice_index_or}
 use Rattle.std.specs.List.{AllByRecursion}
 use Rattle.std.proofs.lemmas.List.Elements.{recursion_from_All, All-from_recursion}
-use Rattle.ft_values.specs.declared.rows.RowChange.{RowChange}
 use Rattle.ft_rows.specs.Store.{StoreValue, AreInOrder, Change, AddTable, DropTable, PutCell, DropCells, PutEntries, DropEntries, PutSize, DropSize, ClearIndex, Note, all_applied}
-use Rattle.ft_rows.specs.Changes.{shown_change}
 use Rattle.ft_values.specs.declared.fault.Fault.{Fault}
 use Rattle.ft_values.specs.declared.fault.Fault.TheVariants as faults
 use Rattle.ft_content.specs.Content.{Content, Documents, IsContent, content_rows}
 use Rattle.ft_content.specs.Index.{index_rows}
 use Rattle.ft_content.specs.Command.{Command, Done}
 use Rattle.ft_content.specs.Views.{TableInfo}
-use Rattle.ft_content.specs.Deserved.{Table, Contents, table_named, on_sound, deserved}
+use Rattle.ft_content.specs.Deserved.{Contents, table_named, on_sound, deserved}
 use Rattle.ft_content.specs.Step.{with_documents, on_table, after, reply_to, touched, touched_of, touched_found, touched_held}
 use Rattle.ft_documents.specs.Found.{info_named, IsUnfit}
-use Rattle.ft_documents.specs.Rewrite.{Rewrite, AreRight, docids_of, rewritten, rewritten_content}
-use Rattle.ft_index.specs.Kept.{AreHeld, StoreHolds, AreOfFound, StaysNear, PlansFrom, told_table, is_outside}
+use Rattle.ft_documents.specs.Rewrite.{Rewrite, AreRight, docids_of, rewritten_content}
+use Rattle.ft_index.specs.Kept.{AreHeld, StoreHolds, AreOfFound, StaysNear, PlansFrom, is_outside}
 use Rattle.ft_documents.specs.Tables.{IsOfDocids}
 use Rattle.ft_index.specs.Written.{LeadsTo}
 use Rattle.ft_index.proofs.KnownLemmas.{IsSoundTable, sound_table, sound_is, unfit_is}

@@ -1,5 +1,5 @@
 -- Meaning. The documents of a table in a store, as they are read.
-use Rattle.std.specs.Prelude.{◌≡◌, ℕ, List, ℤ, IsTrue}
+use Rattle.std.specs.Prelude.{◌≡◌, ℕ, List, ℤ, Result, IsTrue, OnOk}
 use Rattle.sqlite.specs.State.{HasCleanDisk, Survives}
 use Rattle.sqlite.specs.Store.{Ghosts}
 use Rattle.ft_store.specs.Calls.{Keeps}
@@ -19,3 +19,8 @@ pub record HasRows {S : Type 0} (g : Ghosts S) (tab : ℤ) (old new : StoreState
 pub record Looks {S : Type 0} (g : Ghosts S) (old new : StoreState S) : Type 0 where
   pub kept : HasCleanDisk (shows g new) → Keeps (shows g old) (shows g new)
   pub survives : Survives (shows g old) (shows g new) (λ _. IsTrue (shows g old).is_open → ⊥)
+
+-- the same of a call that may be refused: its answer leaves the store open, if it was
+pub record LooksOn {S X F : Type 0} (g : Ghosts S) (old new : StoreState S) (result : Result X F) : Type 0 where
+  pub only : Looks g old new
+  pub live : HasCleanDisk (shows g new) → OnOk result (IsTrue (shows g old).is_open → IsTrue (shows g new).is_open)

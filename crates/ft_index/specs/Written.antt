@@ -1,22 +1,26 @@
 -- Steps. Commands that write documents of one table anew. All of it is our own choice.
-use Rattle.std.specs.Prelude.{◌≡◌, ◌⊎◌, ℕ, List, map, Option, Some, None, Result, Ok, Err, ℤ, IsTrue, Contains, Vec}
+use Rattle.std.specs.Prelude.{◌≡◌, ◌⊎◌, ℕ, Bool, List, map, Option, Some, None, Result, Ok, Err, ℤ, IsTrue, All, Contains, Vec}
 use Rattle.std.specs.declared.alloc.Global.{Global}
 use Rattle.std.specs.List.{AllByRecursion}
-use Rattle.sqlite.specs.State.{HasCleanDisk}
+use Rattle.sqlite.specs.State.{HasCleanDisk, Survives}
 use Rattle.sqlite.specs.Store.{Ghosts}
 use Rattle.ft_values.specs.declared.rows.RowChange.{RowChange}
+use Rattle.ft_rows.specs.Store.{Change, all_applied}
+use Rattle.ft_store.specs.Calls.{IsStored}
 use Rattle.ft_store.specs.Kept.{StoreState, shows, value_in}
 use Rattle.ft_values.specs.declared.fault.Fault.{Fault}
 use Rattle.ft_values.specs.declared.fault.Fault.TheVariants as faults
 use Rattle.ft_content.specs.Content.{Column, Documents, Content}
 use Rattle.ft_content.specs.Command.{Command}
-use Rattle.ft_content.specs.Views.{TableInfo}
+use Rattle.ft_content.specs.Views.{TableInfo, column_of}
 use Rattle.ft_content.specs.Deserved.{Contents}
 use Rattle.ft_documents.specs.declared.rewrite.Rewrite as source
-use Rattle.ft_documents.specs.Rewrite.{Rewrite, AreOf, HasContent, shown_rewrite, rewritten}
+use Rattle.ft_documents.specs.Rewrite.{Rewrite, AreOf, AreRight, HasContent, shown_rewrite, docids_of, rewritten}
+use Rattle.ft_documents.specs.Tables.{IsOfDocids}
+use Rattle.ft_index.specs.declared.written.Written.{Written}
 use Rattle.ft_index.specs.Kept.{IsUp, AreHeld, PlansFrom}
 use Rattle.ft_index.specs.Planned.{changes_of}
-use Rattle.ft_index.specs.Changed.{with_tables}
+use Rattle.ft_index.specs.Changed.{with_tables, Changed}
 
 -- The rows and index rows of a table were those of a content with these columns, and the store is up as the call ends.
 pub record HasAll {S : Type 0} (g : Ghosts S) (tab : ℤ) (name : List ℕ) (columns : List Column) (old new : StoreState S) (content : Content) : Type 0 where
@@ -36,6 +40,28 @@ abbrev pub Writes : Content → Option Fault → Documents → List ℤ → Resu
 Writes content due documents touched (Ok rewrites) = (due ≡ None) × LeadsTo content documents touched (map shown_rewrite rewrites.items)
 Writes content due documents touched (Err fault) = ((fault ≡ faults.Store) ⊎ (fault ≡ faults.Memory)) ⊎ (due ≡ Some fault)
 
--- What a plan is that is made by reads, where the store is up as they end.
+-- What reads lead to, where the store is up as they end: changes that are a plan of the command, or its fault.
+abbrev pub PlansTo : {S : Type 0} → Ghosts S → List TableInfo → StoreState S → StoreState S → Command → Result (List Change) Fault → Type 0
+PlansTo g tables old new command answer = IsUp g (with_tables new tables) → (contents : Contents) → AreHeld (value_in g old) tables contents → PlansFrom contents command (value_in g old) answer
+
 abbrev pub PlansIn : {S : Type 0} → Ghosts S → List TableInfo → StoreState S → StoreState S → Command → Result (Vec RowChange Global) Fault → Type 0
-PlansIn g tables old new command answer = IsUp g (with_tables new tables) → (contents : Contents) → AreHeld (value_in g old) tables contents → PlansFrom contents command (value_in g old) (changes_of answer)
+PlansIn g tables old new command answer = PlansTo g tables old new command (changes_of answer)
+
+-- Row changes that are right for documents of a table, and are of these alone.
+abbrev pub AreOfWritten : Written → List Change → Type 0
+AreOfWritten written changes =
+    AreRight written.table.now.id (map column_of written.table.now.columns.items) (map shown_rewrite written.rewrites.items) changes
+    × All (IsOfDocids written.table.now.id (docids_of (map shown_rewrite written.rewrites.items))) changes
+
+-- What reads lead to: documents whose row changes, as long as they are right, are a plan of the command, or its fault.
+abbrev pub WritesIn : {S : Type 0} → Ghosts S → List TableInfo → StoreState S → StoreState S → Command → Result Written Fault → Type 0
+WritesIn g tables old new command (Ok written) = (changes : List Change) → AreOfWritten written changes → PlansTo g tables old new command (Ok changes)
+WritesIn g tables old new command (Err fault) = PlansTo g tables old new command (Err fault)
+
+-- What the writing of documents does: the store holds all of some right changes of its rows, or none.
+pub record MakesWritten {S : Type 0} (g : Ghosts S) (written : Written) (old new : StoreState S) (is_done : Bool) : Type 0 where
+  pub changes : List Change
+  pub of_written : AreOfWritten written changes
+  pub changed : Changed g old new changes is_done
+  -- a crash leaves what it could leave before, or a store with all changes made
+  pub crash : Survives (shows g old) (shows g new) (λ db. IsTrue (shows g old).is_open → IsStored db (all_applied changes (value_in g old)))

@@ -8,7 +8,7 @@ ghost use Rattle.ft_content.specs.Command as plain;
 ghost use Rattle.ft_content.specs.Views.{shown_info, answer_of};
 ghost use Rattle.ft_content.specs.Deserved.{TableState, Contents};
 ghost use Rattle.ft_index.specs.Changed.{with_tables};
-ghost use Rattle.ft_index.specs.DocumentsRead.{Looks};
+ghost use Rattle.ft_index.specs.DocumentsRead.{Looks, LooksOn};
 ghost use Rattle.ft_index.specs.Kept.{Stands, StoreHolds, AreSound, Executes, is_sound};
 ghost use Rattle.ft_index.specs.Opened.{IsNamed};
 ghost use Rattle.ft_documents.specs.Tables.{table_rows, table_index};
@@ -29,10 +29,7 @@ fn is_right<S: Alter>(alloc: Global, store: &mut Store<S>, id: i64) -> Result<bo
         → Stands named.1 (table_rows named.0 (value_in S.Store store.old))
         (table_index named.0 (value_in S.Store store.old)) held
         → IfOk result (λ b. b ≡ is_sound held) }
-    ensures looks { Looks S.Store store.old store.new }
-    ensures live { HasCleanDisk (shows S.Store store.new)
-        → OnOk result (IsTrue (shows S.Store store.old).is_open
-        → IsTrue (shows S.Store store.new).is_open) }
+    ensures looks { LooksOn S.Store store.old store.new result }
 {
     match listed_table(store, id)? {
         Some(table) => {
@@ -53,10 +50,7 @@ pub(crate) fn check_table<S: Alter>(
     ensures checks { Executes S.Store (with_tables store.old (map shown_info tables.now))
         (plain.Check table.now) (answer_of result)
         (with_tables store.new (map shown_info tables.now)) }
-    ensures looks { Looks S.Store store.old store.new }
-    ensures live { HasCleanDisk (shows S.Store store.new)
-        → OnOk result (IsTrue (shows S.Store store.old).is_open
-        → IsTrue (shows S.Store store.new).is_open) }
+    ensures looks { LooksOn S.Store store.old store.new result }
 {
     store.is_in_order();
     let Some(place) = table_place(tables, table) else {

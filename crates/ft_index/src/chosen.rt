@@ -10,7 +10,7 @@ ghost use Rattle.ft_content.specs.Content.{Content};
 ghost use Rattle.ft_content.specs.Command.{Docid};
 ghost use Rattle.ft_content.specs.Answer.{chosen};
 ghost use Rattle.ft_content.specs.Views.{cells_of, filter_of};
-ghost use Rattle.ft_index.specs.DocumentsRead.{HasRows, Looks};
+ghost use Rattle.ft_index.specs.DocumentsRead.{HasRows, Looks, LooksOn};
 ghost use Rattle.ft_documents.specs.Gathered.{shown_document};
 ghost use Rattle.ft_index.specs.Walked.{IsIndexed};
 ghost use Rattle.ft_documents.specs.Chosen.{ReadsAs, document_at};
@@ -39,10 +39,7 @@ pub(crate) fn chosen_documents<S: Alter>(
         → ReadsAs content (filter_of filter.now) (option_map (λ q. tree_of q.now) query.entry)
         → map shown_document found.items ≡ chosen content (filter_of filter.now)) }
     ensures faults { IfErr result (λ fault. (fault ≡ faults.Store) ⊎ (fault ≡ faults.Memory)) }
-    ensures looks { Looks S.Store store.old store.new }
-    ensures live { HasCleanDisk (shows S.Store store.new)
-        → OnOk result (IsTrue (shows S.Store store.old).is_open
-        → IsTrue (shows S.Store store.new).is_open) }
+    ensures looks { LooksOn S.Store store.old store.new result }
 {
     match filter {
         Filter::All => all_documents(alloc, store, tab),
@@ -88,10 +85,7 @@ fn documents_of_hits<S: Alter>(
         → HasRows S.Store tab store.old store.new content
         → map shown_document found.items ≡ map (λ h. document_at content h.docid) hits.now) }
     ensures faults { IfErr result (λ fault. (fault ≡ faults.Store) ⊎ (fault ≡ faults.Memory)) }
-    ensures looks { Looks S.Store store.old store.new }
-    ensures live { HasCleanDisk (shows S.Store store.new)
-        → OnOk result (IsTrue (shows S.Store store.old).is_open
-        → IsTrue (shows S.Store store.new).is_open) }
+    ensures looks { LooksOn S.Store store.old store.new result }
 {
     let mut documents = Vec::new(alloc);
     for hit in hits {

@@ -11,13 +11,13 @@ ghost use Rattle.ft_content.specs.Views.{column_of, filter_of, shown_info, answe
 ghost use Rattle.ft_index.specs.Kept.{Executes};
 ghost use Rattle.ft_index.specs.Changed.{with_tables};
 ghost use Rattle.ft_index.specs.Crashes.{CommandSurvives};
-ghost use Rattle.ft_index.specs.DocumentsRead.{Looks};
-ghost use Rattle.ft_index.specs.Written.{HasAll, Writes, PlansIn};
+ghost use Rattle.ft_index.specs.DocumentsRead.{LooksOn};
+ghost use Rattle.ft_index.specs.Written.{HasAll, Writes, PlansIn, WritesIn};
 
-use crate::change::change_rows;
 use crate::chosen::chosen_documents;
+use crate::written::Written;
 use ft_content::{Fault, Filter, Reply, TableInfo, delete_tests};
-use ft_documents::{Document, Rewrite, filter_query, removals, row_changes, sound_table};
+use ft_documents::{Document, Rewrite, filter_query, removals, sound_table};
 use ft_store::{RowChange, Store};
 use sqlite::Alter;
 use std::alloc::{AllocError, Global};
@@ -40,8 +40,8 @@ pub(crate) fn delete_from<S: Alter>(
         → OnOk result (IsTrue (shows S.Store store.old).is_open
         → IsTrue (shows S.Store store.new).is_open) }
 {
-    let changes = delete_changes(alloc, store, tables, table, filter)?;
-    change_rows(store, changes.as_slice())?;
+    let written = delete_written(alloc, store, tables, table, filter)?;
+    written.make(alloc, store)?;
     Ok(Reply::Done)
 }
 
@@ -55,21 +55,32 @@ pub(crate) fn delete_changes<S: Alter>(
 ) -> Result<Vec<RowChange>, Fault>
     ensures plans { PlansIn S.Store (map shown_info tables.now) store.old store.new
         (plain.Delete table.now (filter_of filter.now)) result }
-    ensures looks { Looks S.Store store.old store.new }
-    ensures live { HasCleanDisk (shows S.Store store.new)
-        → OnOk result (IsTrue (shows S.Store store.old).is_open
-        → IsTrue (shows S.Store store.new).is_open) }
+    ensures looks { LooksOn S.Store store.old store.new result }
+{
+    let written = delete_written(alloc, store, tables, table, filter)?;
+    let changes = written.changes(alloc)?;
+    Ok(changes)
+}
+
+// The documents that a Delete removes, or its fault. The store is only read, whatever is answered.
+fn delete_written<'t, S: Alter>(
+    alloc: Global,
+    store: &mut Store<S>,
+    tables: &'t [TableInfo],
+    table: &str,
+    filter: &Filter,
+) -> Result<Written<'t>, Fault>
+    ensures writes { WritesIn S.Store (map shown_info tables.now) store.old store.new
+        (plain.Delete table.now (filter_of filter.now)) result }
+    ensures looks { LooksOn S.Store store.old store.new result }
 {
     store.is_in_order();
     let known = sound_table(tables, table)?;
     let rewrites = written_by_delete(alloc, store, known, filter)?;
-    let changes = row_changes(
-        alloc,
-        known.id,
-        known.columns.as_slice(),
-        rewrites.as_slice(),
-    )?;
-    Ok(changes)
+    Ok(Written {
+        table: known,
+        rewrites,
+    })
 }
 
 // The rewrites of a Delete from a sound table, or its fault. The store is only read, whatever is answered.
@@ -85,10 +96,7 @@ fn written_by_delete<S: Alter>(
         → Writes content (delete_fault (string_bytes known.now.name) content (filter_of filter.now))
         (deleted content (filter_of filter.now)) (docids_of (chosen content (filter_of filter.now)))
         result }
-    ensures looks { Looks S.Store store.old store.new }
-    ensures live { HasCleanDisk (shows S.Store store.new)
-        → OnOk result (IsTrue (shows S.Store store.old).is_open
-        → IsTrue (shows S.Store store.new).is_open) }
+    ensures looks { LooksOn S.Store store.old store.new result }
 {
     if let Some(fault) = delete_tests(known.name.as_str(), known.columns.as_slice(), filter) {
         return Err(fault);

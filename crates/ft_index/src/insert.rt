@@ -13,17 +13,17 @@ ghost use Rattle.ft_content.specs.Views.{cells_of, column_of, shown_info};
 ghost use Rattle.ft_index.specs.Kept.{Executes};
 ghost use Rattle.ft_index.specs.Changed.{with_tables};
 ghost use Rattle.ft_index.specs.Crashes.{CommandSurvives};
-ghost use Rattle.ft_index.specs.DocumentsRead.{HasRows, Looks};
+ghost use Rattle.ft_index.specs.DocumentsRead.{HasRows, Looks, LooksOn};
 ghost use Rattle.ft_documents.specs.Gathered.{has_given};
 ghost use Rattle.ft_documents.specs.Inserted.{Inserts};
-ghost use Rattle.ft_index.specs.Written.{HasAll, Writes, PlansIn};
+ghost use Rattle.ft_index.specs.Written.{HasAll, Writes, PlansIn, WritesIn};
 
-use crate::change::change_rows;
 use crate::documents::{has_document, last_docid};
+use crate::written::Written;
 use ft_content::{
     Column, Fault, Reply, TableInfo, Value, insert_tests, listed_names, repeats_name, row_docid,
 };
-use ft_documents::{Rewrite, made_documents, row_changes, sound_table};
+use ft_documents::{Rewrite, made_documents, sound_table};
 use ft_store::{RowChange, Store};
 use sqlite::Alter;
 use std::alloc::Global;
@@ -48,8 +48,8 @@ pub(crate) fn insert_into<S: Alter>(
         → OnOk result (IsTrue (shows S.Store store.old).is_open
         → IsTrue (shows S.Store store.new).is_open) }
 {
-    let changes = insert_changes(alloc, store, tables, table, columns, rows)?;
-    change_rows(store, changes.as_slice())?;
+    let written = insert_written(alloc, store, tables, table, columns, rows)?;
+    written.make(alloc, store)?;
     Ok(Reply::Done)
 }
 
@@ -65,10 +65,26 @@ pub(crate) fn insert_changes<S: Alter>(
     ensures plans { PlansIn S.Store (map shown_info tables.now) store.old store.new
         (plain.Insert table.now (option_map (λ n. map string_bytes n.now) columns.entry)
         (map cells_of rows.now)) result }
-    ensures looks { Looks S.Store store.old store.new }
-    ensures live { HasCleanDisk (shows S.Store store.new)
-        → OnOk result (IsTrue (shows S.Store store.old).is_open
-        → IsTrue (shows S.Store store.new).is_open) }
+    ensures looks { LooksOn S.Store store.old store.new result }
+{
+    let written = insert_written(alloc, store, tables, table, columns, rows)?;
+    let changes = written.changes(alloc)?;
+    Ok(changes)
+}
+
+// The documents that an Insert makes, or its fault. The store is only read, whatever is answered.
+fn insert_written<'t, S: Alter>(
+    alloc: Global,
+    store: &mut Store<S>,
+    tables: &'t [TableInfo],
+    table: &str,
+    columns: Option<&[String]>,
+    rows: &[Vec<Value>],
+) -> Result<Written<'t>, Fault>
+    ensures writes { WritesIn S.Store (map shown_info tables.now) store.old store.new
+        (plain.Insert table.now (option_map (λ n. map string_bytes n.now) columns.entry)
+        (map cells_of rows.now)) result }
+    ensures looks { LooksOn S.Store store.old store.new result }
 {
     store.is_in_order();
     if lists_twice(columns) {
@@ -76,13 +92,10 @@ pub(crate) fn insert_changes<S: Alter>(
     }
     let known = sound_table(tables, table)?;
     let rewrites = written_by_insert(alloc, store, known, columns, rows)?;
-    let changes = row_changes(
-        alloc,
-        known.id,
-        known.columns.as_slice(),
-        rewrites.as_slice(),
-    )?;
-    Ok(changes)
+    Ok(Written {
+        table: known,
+        rewrites,
+    })
 }
 
 // Whether a column is listed twice.
@@ -113,10 +126,7 @@ fn written_by_insert<S: Alter>(
         (option_map (λ n. map string_bytes n.now) columns.entry) (map cells_of rows.now))
         (new_docids content.documents (inserted content
         (option_map (λ n. map string_bytes n.now) columns.entry) (map cells_of rows.now))) result }
-    ensures looks { Looks S.Store store.old store.new }
-    ensures live { HasCleanDisk (shows S.Store store.new)
-        → OnOk result (IsTrue (shows S.Store store.old).is_open
-        → IsTrue (shows S.Store store.new).is_open) }
+    ensures looks { LooksOn S.Store store.old store.new result }
 {
     let names = listed_names(alloc, known.columns.as_slice(), columns)?;
     if let Some(fault) = insert_tests(known.columns.as_slice(), names.as_slice(), rows) {
@@ -146,10 +156,7 @@ pub(crate) fn insert_rewrites<S: Alter>(
     ensures rewrites { (content : Content) → HasRows S.Store tab store.old store.new content
         → Inserts content.documents (insert_rows (map column_of columns.now)
         (map (zip (map (λ n. n.now) names.now)) (map cells_of rows.now)) content.documents) result }
-    ensures looks { Looks S.Store store.old store.new }
-    ensures live { HasCleanDisk (shows S.Store store.new)
-        → OnOk result (IsTrue (shows S.Store store.old).is_open
-        → IsTrue (shows S.Store store.new).is_open) }
+    ensures looks { LooksOn S.Store store.old store.new result }
 {
     let last = last_docid(store, tab)?;
     let stored = stored_docids(alloc, store, tab, names, rows)?;

@@ -19,6 +19,7 @@ mod standing;
 mod table_lists;
 mod tables;
 mod update;
+mod written;
 
 pub use ft_content::{Column, Command, Fault, Filter, Grid, Item, Items, Reply, TableInfo, Value};
 pub use full_text::{FullText, NewFault};

@@ -7,7 +7,7 @@ ghost use Rattle.ft_content.specs.Views.{shown_info, answer_of};
 ghost use Rattle.ft_content.specs.Deserved.{Contents};
 ghost use Rattle.ft_index.specs.Changed.{with_tables};
 ghost use Rattle.ft_index.specs.Crashes.{CommandSurvives};
-ghost use Rattle.ft_index.specs.DocumentsRead.{Looks};
+ghost use Rattle.ft_index.specs.DocumentsRead.{LooksOn};
 ghost use Rattle.ft_index.specs.Kept.{AreHeld, PlansFrom, Executes};
 ghost use Rattle.ft_index.specs.Opened.{IsListed, IsNamed};
 ghost use Rattle.ft_index.specs.Planned.{changes_of};
@@ -41,10 +41,7 @@ fn read_content<S: Alter>(
         → IsListed (value_in S.Store store.old) named table.now
         → IfOk result (λ found. HoldsIfAny named.1 (table_rows named.0 (value_in S.Store store.old))
         found) }
-    ensures looks { Looks S.Store store.old store.new }
-    ensures live { HasCleanDisk (shows S.Store store.new)
-        → OnOk result (IsTrue (shows S.Store store.old).is_open
-        → IsTrue (shows S.Store store.new).is_open) }
+    ensures looks { LooksOn S.Store store.old store.new result }
 {
     let columns = listed_columns(alloc, table)?;
     let cells = store.cells(table.id)?;
@@ -65,10 +62,7 @@ fn content_under<S: Alter>(
         → IsNamed (value_in S.Store store.old) id named
         → IfOk result (λ found. HoldsIfAny named.1 (table_rows named.0 (value_in S.Store store.old))
         found) }
-    ensures looks { Looks S.Store store.old store.new }
-    ensures live { HasCleanDisk (shows S.Store store.new)
-        → OnOk result (IsTrue (shows S.Store store.old).is_open
-        → IsTrue (shows S.Store store.new).is_open) }
+    ensures looks { LooksOn S.Store store.old store.new result }
 {
     match listed_table(store, id)? {
         Some(table) => read_content(alloc, store, &table),
@@ -87,10 +81,7 @@ pub(crate) fn rebuild_changes<S: Alter>(
         → AreHeld (value_in S.Store store.old) (map shown_info tables.now) contents
         → PlansFrom contents (plain.Rebuild table.now) (value_in S.Store store.old)
         (changes_of result) }
-    ensures looks { Looks S.Store store.old store.new }
-    ensures live { HasCleanDisk (shows S.Store store.new)
-        → OnOk result (IsTrue (shows S.Store store.old).is_open
-        → IsTrue (shows S.Store store.new).is_open) }
+    ensures looks { LooksOn S.Store store.old store.new result }
 {
     store.is_in_order();
     let Some(place) = table_place(tables, table) else {

@@ -18,7 +18,7 @@ ghost use Rattle.ft_content.specs.Views.{bare_content, cells_of, rows_of, column
 ghost use Rattle.ft_index.specs.Kept.{Executes, OnlyLooks};
 ghost use Rattle.ft_index.specs.Changed.{with_tables};
 ghost use Rattle.ft_index.specs.Planned.{PlansOver};
-ghost use Rattle.ft_index.specs.DocumentsRead.{HasRows, Looks};
+ghost use Rattle.ft_index.specs.DocumentsRead.{HasRows, LooksOn};
 ghost use Rattle.ft_documents.specs.Gathered.{shown_document};
 ghost use Rattle.ft_index.specs.RowsRead as rows;
 ghost use Rattle.ft_index.specs.RowsRead.{rows_asked, CountsRows};
@@ -143,10 +143,7 @@ fn select_grid<S: Alter>(
         → store.new.rows_read ≡ more_rows (rows_asked content (items_of items.now)
         (filter_of filter.now) limit offset) store.old) }
     ensures faults { IfErr result (λ fault. (fault ≡ faults.Store) ⊎ (fault ≡ faults.Memory)) }
-    ensures looks { Looks S.Store store.old store.new }
-    ensures live { HasCleanDisk (shows S.Store store.new)
-        → OnOk result (IsTrue (shows S.Store store.old).is_open
-        → IsTrue (shows S.Store store.new).is_open) }
+    ensures looks { LooksOn S.Store store.old store.new result }
 {
     let columns = info.columns.as_slice();
     let rows = selected_rows(
@@ -181,10 +178,7 @@ fn selected_rows<S: Alter>(
         → store.new.rows_read ≡ more_rows (rows_asked content (items_of items.now)
         (filter_of filter.now) limit offset) store.old) }
     ensures faults { IfErr result (λ fault. (fault ≡ faults.Store) ⊎ (fault ≡ faults.Memory)) }
-    ensures looks { Looks S.Store store.old store.new }
-    ensures live { HasCleanDisk (shows S.Store store.new)
-        → OnOk result (IsTrue (shows S.Store store.old).is_open
-        → IsTrue (shows S.Store store.new).is_open) }
+    ensures looks { LooksOn S.Store store.old store.new result }
 {
     match items {
         Items::Count => {
@@ -224,10 +218,7 @@ fn chosen_count<S: Alter>(
         → store.new.rows_read ≡ more_rows (rows.entries_asked content
         (query_in content (filter_of filter.now))) store.old) }
     ensures faults { IfErr result (λ fault. (fault ≡ faults.Store) ⊎ (fault ≡ faults.Memory)) }
-    ensures looks { Looks S.Store store.old store.new }
-    ensures live { HasCleanDisk (shows S.Store store.new)
-        → OnOk result (IsTrue (shows S.Store store.old).is_open
-        → IsTrue (shows S.Store store.new).is_open) }
+    ensures looks { LooksOn S.Store store.old store.new result }
 {
     match filter {
         Filter::Match { .. } => {
@@ -260,10 +251,7 @@ fn read_rows<S: Alter>(
         (answer.answer_rows content (plain.Listed (map item_of items.now))
         (filter_of filter.now))) }
     ensures faults { IfErr result (λ fault. (fault ≡ faults.Store) ⊎ (fault ≡ faults.Memory)) }
-    ensures looks { Looks S.Store store.old store.new }
-    ensures live { HasCleanDisk (shows S.Store store.new)
-        → OnOk result (IsTrue (shows S.Store store.old).is_open
-        → IsTrue (shows S.Store store.new).is_open) }
+    ensures looks { LooksOn S.Store store.old store.new result }
 {
     let documents = chosen_documents(alloc, store, tab, filter, None)?;
     let answered = cut(documents.as_slice(), limit, offset);
@@ -312,10 +300,7 @@ fn matched_rows<S: Alter>(
         → store.new.rows_read ≡ more_rows (rows_asked content (plain.Listed (map item_of items.now))
         (Match name text) limit offset) store.old) }
     ensures faults { IfErr result (λ fault. (fault ≡ faults.Store) ⊎ (fault ≡ faults.Memory)) }
-    ensures looks { Looks S.Store store.old store.new }
-    ensures live { HasCleanDisk (shows S.Store store.new)
-        → OnOk result (IsTrue (shows S.Store store.old).is_open
-        → IsTrue (shows S.Store store.new).is_open) }
+    ensures looks { LooksOn S.Store store.old store.new result }
 {
     let most = most_hits(limit, offset);
     let hits = matched(store, alloc, tab, query, any_offsets(items), most)?;
@@ -392,10 +377,7 @@ fn cell_rows<S: Alter>(
         → HasRows S.Store tab store.old store.new content
         → store.new.rows_read ≡ more_rows (length content.columns * length hits.now) store.old) }
     ensures faults { IfErr result (λ fault. (fault ≡ faults.Store) ⊎ (fault ≡ faults.Memory)) }
-    ensures looks { Looks S.Store store.old store.new }
-    ensures live { HasCleanDisk (shows S.Store store.new)
-        → OnOk result (IsTrue (shows S.Store store.old).is_open
-        → IsTrue (shows S.Store store.new).is_open) }
+    ensures looks { LooksOn S.Store store.old store.new result }
 {
     // So the count of rows is known to be of 64 bits.
     let _read = store.rows_read();

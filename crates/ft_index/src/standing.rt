@@ -17,7 +17,7 @@ ghost use Rattle.ft_documents.specs.Standing as standing;
 ghost use Rattle.ft_documents.specs.Tables.{table_rows, table_index};
 
 use ft_content::Column;
-use ft_documents::{are_theirs, is_content, listed_columns};
+use ft_documents::{index_lists, is_content, listed_columns};
 use ft_store::{CellRow, Store, StoreFault, TabRow};
 use sqlite::Alter;
 use std::alloc::Global;
@@ -112,13 +112,9 @@ fn has_right_index<S: Alter>(
     ensures cause { IfErr result IsPlainFault }
     ensures looks { Looks S.Store store.old store.new }
 {
-    store.is_in_order();
     let sizes = store.sizes(tab)?;
-    let mut entries = match store.entries(tab) {
-        Ok(entries) => entries,
-        Err(StoreFault::Damaged) => return Ok(false),
-        Err(fault) => return Err(fault),
-    };
-    let right = are_theirs(alloc, columns, cells, sizes.as_slice(), &mut entries)?;
-    Ok(right)
+    match index_lists(alloc, columns, cells, sizes.as_slice())? {
+        Some(lists) => store.has_lists(tab, lists),
+        None => Ok(false),
+    }
 }

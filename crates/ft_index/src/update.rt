@@ -12,19 +12,19 @@ ghost use Rattle.ft_content.specs.Views.{column_of, set_of, filter_of, shown_inf
 ghost use Rattle.ft_index.specs.Kept.{Executes};
 ghost use Rattle.ft_index.specs.Changed.{with_tables};
 ghost use Rattle.ft_index.specs.Crashes.{CommandSurvives};
-ghost use Rattle.ft_index.specs.DocumentsRead.{HasRows, Looks};
+ghost use Rattle.ft_index.specs.DocumentsRead.{HasRows, LooksOn};
 ghost use Rattle.ft_documents.specs.Gathered.{shown_document};
 ghost use Rattle.ft_documents.specs.Updated.{update_touches};
-ghost use Rattle.ft_index.specs.Written.{HasAll, Writes, PlansIn};
+ghost use Rattle.ft_index.specs.Written.{HasAll, Writes, PlansIn, WritesIn};
 
-use crate::change::change_rows;
 use crate::chosen::chosen_documents;
 use crate::documents::has_document;
+use crate::written::Written;
 use ft_content::{
     Column, Fault, Filter, Reply, TableInfo, Value, moves_fault, repeats_set, set_docid,
     update_tests, with_values,
 };
-use ft_documents::{Document, Rewrite, filter_query, row_changes, sound_table, update_rewrites};
+use ft_documents::{Document, Rewrite, filter_query, sound_table, update_rewrites};
 use ft_store::{RowChange, Store};
 use sqlite::Alter;
 use std::alloc::{AllocError, Global};
@@ -48,8 +48,8 @@ pub(crate) fn update_documents<S: Alter>(
         → OnOk result (IsTrue (shows S.Store store.old).is_open
         → IsTrue (shows S.Store store.new).is_open) }
 {
-    let changes = update_changes(alloc, store, tables, table, sets, filter)?;
-    change_rows(store, changes.as_slice())?;
+    let written = update_written(alloc, store, tables, table, sets, filter)?;
+    written.make(alloc, store)?;
     Ok(Reply::Done)
 }
 
@@ -64,10 +64,25 @@ pub(crate) fn update_changes<S: Alter>(
 ) -> Result<Vec<RowChange>, Fault>
     ensures plans { PlansIn S.Store (map shown_info tables.now) store.old store.new
         (plain.Update table.now (map set_of sets.now) (filter_of filter.now)) result }
-    ensures looks { Looks S.Store store.old store.new }
-    ensures live { HasCleanDisk (shows S.Store store.new)
-        → OnOk result (IsTrue (shows S.Store store.old).is_open
-        → IsTrue (shows S.Store store.new).is_open) }
+    ensures looks { LooksOn S.Store store.old store.new result }
+{
+    let written = update_written(alloc, store, tables, table, sets, filter)?;
+    let changes = written.changes(alloc)?;
+    Ok(changes)
+}
+
+// The documents that an Update changes, or its fault. The store is only read, whatever is answered.
+fn update_written<'t, S: Alter>(
+    alloc: Global,
+    store: &mut Store<S>,
+    tables: &'t [TableInfo],
+    table: &str,
+    sets: &[(String, Value)],
+    filter: &Filter,
+) -> Result<Written<'t>, Fault>
+    ensures writes { WritesIn S.Store (map shown_info tables.now) store.old store.new
+        (plain.Update table.now (map set_of sets.now) (filter_of filter.now)) result }
+    ensures looks { LooksOn S.Store store.old store.new result }
 {
     store.is_in_order();
     if repeats_set(sets) {
@@ -75,13 +90,10 @@ pub(crate) fn update_changes<S: Alter>(
     }
     let known = sound_table(tables, table)?;
     let rewrites = written_by_update(alloc, store, known, sets, filter)?;
-    let changes = row_changes(
-        alloc,
-        known.id,
-        known.columns.as_slice(),
-        rewrites.as_slice(),
-    )?;
-    Ok(changes)
+    Ok(Written {
+        table: known,
+        rewrites,
+    })
 }
 
 // The rewrites of an Update of a sound table, or its fault. The store is only read, whatever is answered.
@@ -99,10 +111,7 @@ fn written_by_update<S: Alter>(
         (map set_of sets.now) (filter_of filter.now))
         (updated content (map set_of sets.now) (filter_of filter.now))
         (update_touches content (map set_of sets.now) (filter_of filter.now)) result }
-    ensures looks { Looks S.Store store.old store.new }
-    ensures live { HasCleanDisk (shows S.Store store.new)
-        → OnOk result (IsTrue (shows S.Store store.old).is_open
-        → IsTrue (shows S.Store store.new).is_open) }
+    ensures looks { LooksOn S.Store store.old store.new result }
 {
     let columns = known.columns.as_slice();
     if let Some(fault) = update_tests(known.name.as_str(), columns, sets, filter) {
@@ -131,10 +140,7 @@ fn test_move<S: Alter>(
         (λ fault. ((fault ≡ faults.Store) ⊎ (fault ≡ faults.Memory))
         ⊎ (deserved.moves_fault content.documents (map shown_document documents.now) docids
         ≡ Some fault)) }
-    ensures looks { Looks S.Store store.old store.new }
-    ensures live { HasCleanDisk (shows S.Store store.new)
-        → OnOk result (IsTrue (shows S.Store store.old).is_open
-        → IsTrue (shows S.Store store.new).is_open) }
+    ensures looks { LooksOn S.Store store.old store.new result }
 {
     let docids = numbers(alloc, documents)?;
     let is_taken = has_document(alloc, store, tab, given)?;

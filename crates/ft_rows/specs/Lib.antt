@@ -4,4 +4,5 @@ pub mod Packed
 pub mod Shown
 pub mod Store
 -- Steps
+pub mod Terms
 pub mod Unpacking

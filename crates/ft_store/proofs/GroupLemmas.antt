@@ -116,7 +116,7 @@ one_more_bound changes i change lists list values inside is all at before =
 
 -- ---- one group after the other
 
-applied-append : (xs ys : List Change) (v : StoreValue) → all_applied (xs ++ ys) v ≡ all_applied ys (all_applied xs v)
+pub applied-append : (xs ys : List Change) (v : StoreValue) → all_applied (xs ++ ys) v ≡ all_applied ys (all_applied xs v)
 applied-append [] ys v = refl
 applied-append (x ∷ xs) ys v = applied-append xs ys _
 

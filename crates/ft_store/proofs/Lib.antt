@@ -6,13 +6,16 @@ pub mod CallLemmas
 pub mod ChainLemmas
 pub mod ChangeLemmas
 pub mod EntryLemmas
+pub mod ExpectedLemmas
 pub mod GroupLemmas
+pub mod InsideLemmas
 pub mod KeyedLemmas
 pub mod LastLemmas
 pub mod MakeLemmas
 pub mod MigrateLemmas
 pub mod NamedLemmas
 pub mod OrderLemmas
+pub mod PartLemmas
 pub mod PutLemmas
 pub mod RangeLemmas
 pub mod RowidLemmas

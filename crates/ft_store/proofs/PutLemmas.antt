@@ -1,5 +1,5 @@
 -- How the steps of a change are put together.
-use Rattle.std.proofs.Common.{◌≡◌, ℕ, ◌+◌, ◌<◌, ◌≤◌, ℤ, pos, not, cond, List, [], ◌∷◌, ◌++◌, map, length, get_or, take, Option, None, refl, sym, ap, ◌∙◌, subst, arith, IsTrue, is_eq}
+use Rattle.std.proofs.Common.{◌≡◌, ℕ, ◌+◌, ◌<◌, ℤ, pos, not, cond, List, [], ◌∷◌, ◌++◌, map, length, get_or, take, Option, None, refl, sym, ap, ◌∙◌, subst, arith, IsTrue, is_eq}
 use Rattle.std.specs.Prelude.{unwrap_or, option_map, string_bytes, String}
 use Rattle.std.specs.declared.alloc.Global.{Global}
 use Rattle.std.specs.List.{enumerate_from}
@@ -7,7 +7,7 @@ use Rattle.std.specs.Ordering.{int_cmp, int_eq}
 use Rattle.std.specs.FinMap.Entries.{put, where_key, find, find-where_key}
 use Rattle.std.specs.Cmp.{tied_itself}
 use Rattle.std.proofs.lemmas.Cmp.{int_cmp_total}
-use Rattle.std.proofs.lemmas.List.{take_more, take_all, map-append, length-map, length-take-le}
+use Rattle.std.proofs.lemmas.List.{take_more, map-append, length-map, length-take-le}
 use Rattle.sqlite.specs.Tree.{Trees}
 use Rattle.sqlite_catalog.specs.Listing.{IsSound}
 use Rattle.sqlite.specs.State.{State, HasCleanDisk}
@@ -158,15 +158,14 @@ goes_on old was now changes i change v inside is before step = record {
 }
 
 -- what a commit writes is the value after all changes
-pub all_gone : (old last : State) (changes : List RowChange) (i : ℕ) (v : StoreValue) → length changes ≤ i → Goes old last (all_applied (map shown_change (take i changes)) v) → IsTrue old.is_open
-    → (db : Trees) → db ≡ last.now.trees → IsStored db (all_applied (map shown_change changes) v)
-all_gone old last changes i v end goes is_open db is =
+pub all_done : (old last : State) (list : List Change) (v : StoreValue) → Goes old last (all_applied list v) → IsTrue old.is_open → (db : Trees) → db ≡ last.now.trees → IsStored db (all_applied list v)
+all_done old last list v goes is_open db is =
     let at = goes.going is_open in
-    subst (λ t. IsStored t (all_applied (map shown_change changes) v)) (sym is) (record {
+    subst (λ t. IsStored t (all_applied list v)) (sym is) (record {
       sound = subst (λ s. IsSound s last.now.trees) at.1.schema at.1.sound;
       numbered = at.1.numbered;
       marked = at.1.marked;
-      is = at.2 ∙ ap (λ l. all_applied (map shown_change l) v) (take_all i changes end);
+      is = at.2;
     })
 
 -- ---- the loops over the columns of a table

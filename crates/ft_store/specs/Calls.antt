@@ -1,5 +1,6 @@
 -- Meaning. What a call does to a store.
-use Rattle.std.specs.Prelude.{◌≡◌, ◌≢◌, ◌⊎◌, pos, true, false, Result, List, [], ◌∷◌, map, IsTrue, IfErr, OnOk}
+use Rattle.std.specs.Prelude.{◌≡◌, ◌≢◌, ◌⊎◌, pos, true, false, Result, List, [], ◌∷◌, map, IsTrue, IfErr, OnOk, OnErr}
+use Rattle.std.specs.Borrow.{MutBor}
 use Rattle.std.specs.List.{AllByRecursion}
 use Rattle.sqlite.specs.declared.error.Error.{Error}
 use Rattle.sqlite.specs.declared.error.Error.TheVariants.{SqliteFailure}
@@ -20,7 +21,7 @@ use Rattle.ft_store.specs.declared.fault.StoreFault.TheVariants as fault
 use Rattle.ft_values.specs.declared.fault.Fault.{Fault}
 use Rattle.ft_values.specs.declared.fault.Fault.TheVariants as told
 use Rattle.ft_store.specs.Tables.{store_schema}
-use Rattle.ft_rows.specs.Store.{StoreValue}
+use Rattle.ft_rows.specs.Store.{StoreValue, Change, all_applied}
 use Rattle.ft_store.specs.Rows.{value_of}
 
 -- the rowids are integers, and no two rows have one
@@ -52,16 +53,18 @@ pub record Steps (old new : State) (value : StoreValue) : Type 0 where
 abbrev pub Keeps : State → State → Type 0
 Keeps old new = IsTrue new.is_open → (new.now ≡ old.now) × (new.committed ≡ old.committed) × IsTrue old.is_open
 
--- What a read leaves: nothing is changed and nothing is committed, and one that is answered leaves the connection open.
-pub record Reads {S X : Type 0} (g : Ghosts S) (old new : Held S) (result : Result X StoreFault) : Type 0 where
+-- want of memory, or a refusal by the database
+abbrev pub IsPlainFault : StoreFault → Type 0
+IsPlainFault e = (e ≡ fault.Memory) ⊎ (e ≡ fault.Refused)
+
+-- What a read leaves: nothing is changed and nothing is committed, and one that is answered leaves the connection open. It is refused for
+-- such a reason.
+pub record Reads {S X : Type 0} (g : Ghosts S) (old new : Held S) (result : Result X StoreFault) (IsFault : StoreFault → Type 0) : Type 0 where
   pub kept : HasCleanDisk (state g new) → Keeps (state g old) (state g new)
   pub live : HasCleanDisk (state g new) → OnOk result (IsTrue (state g new).is_open)
   pub mode : (state g new).in_transaction ≡ false
   pub survives : Survives (state g old) (state g new) (λ _. IsTrue (state g old).is_open → ⊥)
-
--- want of memory, or a refusal by the database
-abbrev pub IsPlainFault : StoreFault → Type 0
-IsPlainFault e = (e ≡ fault.Memory) ⊎ (e ≡ fault.Refused)
+  pub fault : IfErr result IsFault
 
 -- What one statement of a change does in a transaction: where the disk did what it was told and the call is Ok, the value is
 -- that of `f`.
@@ -83,12 +86,17 @@ KeepsLast g old new = HasCleanDisk (state g new) → KeepsCommit (state g old) (
 abbrev pub LeavesNothing : {S : Type 0} → Ghosts S → Held S → Held S → Type 0
 LeavesNothing g old new = Survives (state g old) (state g new) (λ _. ⊥)
 
--- What a statement in a transaction leaves, whatever it is answered: nothing is committed and the last commit stays, a crash leaves what it
--- could leave before, and it is refused for want of memory or by the database.
-pub record StaysUncommitted {S X : Type 0} (g : Ghosts S) (old new : Held S) (result : Result X StoreFault) : Type 0 where
-  pub kept : KeepsLast g old new
-  pub survives : LeavesNothing g old new
-  pub fault : IfErr result IsPlainFault
+-- What is done in a transaction leaves, whatever it is answered: the transaction is of the same connection, nothing is committed and the last
+-- commit stays, and a crash leaves what it could leave before. It is refused for such a reason.
+pub record StaysInside {S X : Type 0} (g : Ghosts S) (old new : MutBor (Held S)) (result : Result X StoreFault) (IsFault : StoreFault → Type 0) : Type 0 where
+  pub same_reference : new.ghost_name ≡ old.ghost_name
+  pub kept : KeepsLast g old.now new.now
+  pub survives : LeavesNothing g old.now new.now
+  pub fault : IfErr result IsFault
+
+-- the same of a statement, which is refused for want of memory or by the database
+abbrev pub StaysUncommitted : {S X : Type 0} → Ghosts S → MutBor (Held S) → MutBor (Held S) → Result X StoreFault → Type 0
+StaysUncommitted g old new result = StaysInside g old new result IsPlainFault
 
 -- the same of several statements, in a transaction of an open connection
 abbrev pub StepsIfOpen : {S : Type 0} → Ghosts S → Held S → Held S → Result (Unit {0}) StoreFault → (StoreValue → StoreValue) → Type 0
@@ -118,6 +126,14 @@ IsReadFault e = IsPlainFault e ⊎ (e ≡ fault.Damaged)
 abbrev pub IsChangeFault : Type 0 → StoreFault → Type 0
 IsChangeFault CanBeMade e = IsPlainFault e ⊎ ((e ≡ fault.Damaged) × (CanBeMade → ⊥))
 
+-- What changes of rows do in one transaction: all of them are made, and the database is open, or none is. A crash leaves what it could leave
+-- before, or a store with all of them made.
+pub record MakesAllOrNone (old new : State) (result : Result (Unit {0}) StoreFault) (changes : List Change) : Type 0 where
+  pub all : HasCleanDisk new → OnOk result (IsStore new.now × (value_of new.now.trees ≡ all_applied changes (value_of old.now.trees)))
+  pub none : HasCleanDisk new → OnErr result (Keeps old new)
+  pub live : HasCleanDisk new → OnOk result (IsTrue old.is_open × IsTrue new.is_open)
+  pub crash : Survives old new (λ db. IsTrue old.is_open → IsStored db (all_applied changes (value_of old.now.trees)))
+
 -- the fault that an error of the database is: want of memory is Memory, any other is Refused
 abbrev pub fault_of : Error → StoreFault
 fault_of (SqliteFailure code.OutOfMemory) = fault.Memory
@@ -126,6 +142,11 @@ fault_of _ = fault.Refused
 -- what is kept true of the connection of a store between calls
 abbrev pub IsStoreIfOpen : State → Type 0
 IsStoreIfOpen s = HasCleanDisk s → IsTrue s.is_open → IsStore s.now
+
+-- the connection of a store between its calls, as they find it
+pub record IsAtRest (s : State) : Type 0 where
+  pub settled : s.in_transaction ≡ false
+  pub store : IsStoreIfOpen s
 
 -- what a full-text command answers where the store refused a call for this reason (own choice)
 abbrev pub fault_of_read : StoreFault → Fault

@@ -1,12 +1,13 @@
 -- Meaning. A store as callers see it: the connection that it holds, and how many rows its reads gave.
-use Rattle.std.specs.Prelude.{◌≡◌, ℕ, ◌+◌, ◌-◌, ◌^◌, min, false, refl}
+use Rattle.std.specs.Prelude.{◌≡◌, ℕ, ◌+◌, ◌-◌, ◌^◌, min, false, refl, Result, IsTrue, IfOk, IfErr, OnOk, OnErr}
 use Rattle.std.specs.Coded.{Coded, code_by, coded×, coded_ℕ}
-use Rattle.sqlite.specs.State.{State}
+use Rattle.sqlite.specs.State.{State, HasCleanDisk, Survives}
 use Rattle.sqlite.specs.Store.{Ghosts}
 use Rattle.sqlite.specs.Held.{Held, held_code, state}
 use Rattle.ft_rows.specs.Store.{StoreValue}
 use Rattle.ft_store.specs.Rows.{value_of}
-use Rattle.ft_store.specs.Calls.{IsStoreIfOpen}
+use Rattle.ft_store.specs.Calls.{IsStoreIfOpen, Keeps}
+use Rattle.ft_store.specs.declared.fault.StoreFault.{StoreFault}
 
 pub record StoreState (S : Type 0) : Type 0 where
   pub held : Held S
@@ -30,3 +31,13 @@ pub record IsKept {S : Type 0} (g : Ghosts S) (h : Held S) : Type 0 where
 -- so many rows more, as a number of 64 bits that stays at its greatest value
 abbrev pub more_rows : {S : Type 0} → ℕ → StoreState S → ℕ
 more_rows n s = min (s.rows_read + n) (2 ^ 64 - 1)
+
+-- What a read of a store leaves, whatever it is answered: what is seen stays, and an answer leaves the database open; a crash leaves what it
+-- could leave before; and an answer counts so many rows more. It is refused for such a reason.
+pub record ReadsRows {S X : Type 0} (g : Ghosts S) (old new : StoreState S) (result : Result X StoreFault) (count : X → ℕ) (IsFault : StoreFault → Type 0) : Type 0 where
+  pub kept : HasCleanDisk (shows g new) → Keeps (shows g old) (shows g new)
+  pub live : HasCleanDisk (shows g new) → OnOk result (IsTrue (shows g new).is_open)
+  pub survives : Survives (shows g old) (shows g new) (λ _. IsTrue (shows g old).is_open → ⊥)
+  pub counted : IfOk result (λ x. new.rows_read ≡ more_rows (count x) old)
+  pub uncounted : OnErr result (new.rows_read ≡ old.rows_read)
+  pub causes : IfErr result IsFault

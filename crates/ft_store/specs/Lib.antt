@@ -6,10 +6,12 @@ pub mod Older
 pub mod Rows
 pub mod Tables
 -- Steps
+pub mod Expected
 pub mod Found
 pub mod Groups
 pub mod Made
 pub mod Opened
+pub mod Parts
 pub mod Range
 pub mod Same
 pub mod Scan

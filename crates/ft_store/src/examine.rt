@@ -87,8 +87,7 @@ fn is_numbered<S: Alter>(
     ensures own { HasCleanDisk (state S.Store conn.new)
         → IfOk result (λ b. IsTrue b
         → HasOwnRowids ((state S.Store conn.old).now.trees (tree_at at))) }
-    ensures read { Reads S.Store conn.old conn.new result }
-    ensures fault { IfErr result IsPlainFault }
+    ensures read { Reads S.Store conn.old conn.new result IsPlainFault }
 {
     let mut numbers = Rising { last: None };
     gather(conn, rowids_query(at), &[], &mut numbers)
@@ -115,8 +114,7 @@ fn version<S: Alter>(conn: &mut Connection<S>, layout: Layout) -> Result<Option<
     ensures one { HasCleanDisk (state S.Store conn.new)
         → IfOk result (λ o. MatchOption o (length ((state S.Store conn.old).now.trees 0) ≢ 1)
         (λ n. map (λ r. column r 2) ((state S.Store conn.old).now.trees 0) ≡ Int n ∷ [])) }
-    ensures read { Reads S.Store conn.old conn.new result }
-    ensures fault { IfErr result IsPlainFault }
+    ensures read { Reads S.Store conn.old conn.new result IsPlainFault }
 {
     let rows = select(conn, "SELECT version FROM meta", &[])?;
     only_number(rows.as_slice())

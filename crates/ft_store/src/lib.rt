@@ -3,11 +3,13 @@
 
 mod adopt;
 mod examine;
+mod expected;
 mod fault;
 mod files;
 mod lists;
 mod make;
 mod migrate;
+mod parts;
 mod read;
 mod same;
 mod statements;
@@ -18,6 +20,7 @@ mod write;
 
 pub use fault::StoreFault;
 pub use files::open_database;
-pub use ft_rows::packed_lists;
+pub use ft_rows::{TermLists, packed_lists};
 pub use ft_values::{CellRow, EntryRow, ListRow, RowChange, SizeRow, Spot, TabRow, Value};
+pub use parts::Parts;
 pub use store::{AdoptFault, Store};

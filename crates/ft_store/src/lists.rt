@@ -16,7 +16,7 @@ ghost use Rattle.ft_store.specs.Rows.{value_of};
 ghost use Rattle.ft_store.specs.Range.{after_last};
 ghost use Rattle.ft_store.specs.Found.{found_spots, found_places};
 ghost use Rattle.ft_rows.specs.Shown.{shown_list, shown_entry, entries_with, entries_of, lists_of_term, lists_of_prefix, spot_count, AreWhole, AreRead, SomeDamaged};
-ghost use Rattle.ft_store.specs.Calls.{IsStoreIfOpen, IsPlainFault, IsReadFault, Reads};
+ghost use Rattle.ft_store.specs.Calls.{IsPlainFault, IsReadFault, Reads, IsAtRest};
 
 use crate::fault::StoreFault;
 use crate::stream::{Gathered, gather};
@@ -90,8 +90,7 @@ fn select_lists<S: Alter>(
         → (rows : List order.Row)
         × Shown sql.now (bound params.now) (state S.Store conn.old) (state S.Store conn.new) rows
         × SomeDamaged (map found_spots rows) }
-    ensures fault { IfErr result IsReadFault }
-    ensures read { Reads S.Store conn.old conn.new result }
+    ensures read { Reads S.Store conn.old conn.new result IsReadFault }
 {
     let mut found = ListsOf {
         alloc,
@@ -185,8 +184,7 @@ fn select_entries<S: Alter>(
         → (rows : List order.Row)
         × Shown sql.now (bound params.now) (state S.Store conn.old) (state S.Store conn.new) rows
         × ((tab : ℤ) → SomeDamaged (map (found_places tab) rows)) }
-    ensures fault { IfErr result IsReadFault }
-    ensures read { Reads S.Store conn.old conn.new result }
+    ensures read { Reads S.Store conn.old conn.new result IsReadFault }
     ensures stays { HasCleanDisk (state S.Store conn.new) → result ≡ Err StoreFault.Damaged
         → IsTrue (state S.Store conn.new).is_open }
 {
@@ -222,15 +220,13 @@ pub(crate) fn term_lists<S: Alter>(
     tab: i64,
     term: &str,
 ) -> Result<Vec<ListRow>, StoreFault>
-    requires store { IsStoreIfOpen (state S.Store conn.old) }
-    requires settled { (state S.Store conn.old).in_transaction ≡ false }
+    requires { IsAtRest (state S.Store conn.old) }
     ensures rows { HasCleanDisk (state S.Store conn.new)
         → IfOk result (λ found. AreRead (lists_of_term tab term.now
         (value_of (state S.Store conn.old).now.trees)) found.items) }
     ensures damaged { HasCleanDisk (state S.Store conn.new) → result ≡ Err StoreFault.Damaged
         → SomeDamaged (lists_of_term tab term.now (value_of (state S.Store conn.old).now.trees)) }
-    ensures fault { IfErr result IsReadFault }
-    ensures read { Reads S.Store conn.old conn.new result }
+    ensures read { Reads S.Store conn.old conn.new result IsReadFault }
 {
     select_lists(
         conn,
@@ -247,8 +243,7 @@ pub(crate) fn term<S: Alter>(
     tab: i64,
     term: &str,
 ) -> Result<Vec<EntryRow>, StoreFault>
-    requires store { IsStoreIfOpen (state S.Store conn.old) }
-    requires settled { (state S.Store conn.old).in_transaction ≡ false }
+    requires { IsAtRest (state S.Store conn.old) }
     ensures rows { HasCleanDisk (state S.Store conn.new)
         → IfOk result (λ found. let asked = where_key list_key_cmp
         (λ k. int_eq tab k.0 && is_eq (name_cmp term.now k.1))
@@ -257,8 +252,7 @@ pub(crate) fn term<S: Alter>(
     ensures damaged { HasCleanDisk (state S.Store conn.new) → result ≡ Err StoreFault.Damaged
         → SomeDamaged (where_key list_key_cmp (λ k. int_eq tab k.0 && is_eq (name_cmp term.now k.1))
         (value_of (state S.Store conn.old).now.trees).lists) }
-    ensures fault { IfErr result IsReadFault }
-    ensures read { Reads S.Store conn.old conn.new result }
+    ensures read { Reads S.Store conn.old conn.new result IsReadFault }
 {
     let lists = term_lists(conn, alloc, tab, term)?;
     Ok(term_entries(alloc, term, lists.as_slice())?)
@@ -272,8 +266,7 @@ pub(crate) fn entries<S: Alter>(
     alloc: Global,
     tab: i64,
 ) -> Result<Vec<EntryRow>, StoreFault>
-    requires store { IsStoreIfOpen (state S.Store conn.old) }
-    requires settled { (state S.Store conn.old).in_transaction ≡ false }
+    requires { IsAtRest (state S.Store conn.old) }
     ensures rows { HasCleanDisk (state S.Store conn.new)
         → IfOk result (λ found. let asked = where_key list_key_cmp (λ k. int_eq tab k.0)
         (value_of (state S.Store conn.old).now.trees).lists in
@@ -281,8 +274,7 @@ pub(crate) fn entries<S: Alter>(
     ensures damaged { HasCleanDisk (state S.Store conn.new) → result ≡ Err StoreFault.Damaged
         → SomeDamaged (where_key list_key_cmp (λ k. int_eq tab k.0)
         (value_of (state S.Store conn.old).now.trees).lists) }
-    ensures fault { IfErr result IsReadFault }
-    ensures read { Reads S.Store conn.old conn.new result }
+    ensures read { Reads S.Store conn.old conn.new result IsReadFault }
     ensures stays { HasCleanDisk (state S.Store conn.new) → result ≡ Err StoreFault.Damaged
         → IsTrue (state S.Store conn.new).is_open }
 {
@@ -300,16 +292,14 @@ fn table_lists<S: Alter>(
     alloc: Global,
     tab: i64,
 ) -> Result<Vec<ListRow>, StoreFault>
-    requires store { IsStoreIfOpen (state S.Store conn.old) }
-    requires settled { (state S.Store conn.old).in_transaction ≡ false }
+    requires { IsAtRest (state S.Store conn.old) }
     ensures rows { HasCleanDisk (state S.Store conn.new)
         → IfOk result (λ found. AreRead (where_key list_key_cmp (λ k. int_eq tab k.0)
         (value_of (state S.Store conn.old).now.trees).lists) found.items) }
     ensures damaged { HasCleanDisk (state S.Store conn.new) → result ≡ Err StoreFault.Damaged
         → SomeDamaged (where_key list_key_cmp (λ k. int_eq tab k.0)
         (value_of (state S.Store conn.old).now.trees).lists) }
-    ensures fault { IfErr result IsReadFault }
-    ensures read { Reads S.Store conn.old conn.new result }
+    ensures read { Reads S.Store conn.old conn.new result IsReadFault }
 {
     select_lists(
         conn,
@@ -346,8 +336,7 @@ fn range<'a, S: Alter>(
     from: &'a [u8],
     end: &'a [u8],
 ) -> Result<Vec<EntryRow>, StoreFault>
-    requires store { IsStoreIfOpen (state S.Store conn.old) }
-    requires settled { (state S.Store conn.old).in_transaction ≡ false }
+    requires rest { IsAtRest (state S.Store conn.old) }
     requires some { from.now ≢ [] }
     requires past { end.now ≡ after_last from.now }
     ensures rows { HasCleanDisk (state S.Store conn.new) → IfOk result (λ found.
@@ -355,8 +344,7 @@ fn range<'a, S: Alter>(
         (map shown_entry found.items ≡ entries_of asked) × AreWhole asked) }
     ensures damaged { HasCleanDisk (state S.Store conn.new) → result ≡ Err StoreFault.Damaged
         → SomeDamaged (lists_of_prefix tab from.now (value_of (state S.Store conn.old).now.trees)) }
-    ensures fault { IfErr result IsReadFault }
-    ensures read { Reads S.Store conn.old conn.new result }
+    ensures read { Reads S.Store conn.old conn.new result IsReadFault }
 {
     select_entries(
         conn,
@@ -374,8 +362,7 @@ fn bare_range<'a, S: Alter>(
     from: &'a [u8],
     end: &'a [u8],
 ) -> Result<Vec<ListRow>, StoreFault>
-    requires store { IsStoreIfOpen (state S.Store conn.old) }
-    requires settled { (state S.Store conn.old).in_transaction ≡ false }
+    requires rest { IsAtRest (state S.Store conn.old) }
     requires some { from.now ≢ [] }
     requires past { end.now ≡ after_last from.now }
     ensures rows { HasCleanDisk (state S.Store conn.new)
@@ -383,8 +370,7 @@ fn bare_range<'a, S: Alter>(
         (value_of (state S.Store conn.old).now.trees)) found.items) }
     ensures damaged { HasCleanDisk (state S.Store conn.new) → result ≡ Err StoreFault.Damaged
         → SomeDamaged (lists_of_prefix tab from.now (value_of (state S.Store conn.old).now.trees)) }
-    ensures fault { IfErr result IsReadFault }
-    ensures read { Reads S.Store conn.old conn.new result }
+    ensures read { Reads S.Store conn.old conn.new result IsReadFault }
 {
     select_lists(
         conn,
@@ -401,8 +387,7 @@ pub(crate) fn prefix<S: Alter>(
     tab: i64,
     begin: &str,
 ) -> Result<Vec<EntryRow>, StoreFault>
-    requires store { IsStoreIfOpen (state S.Store conn.old) }
-    requires settled { (state S.Store conn.old).in_transaction ≡ false }
+    requires { IsAtRest (state S.Store conn.old) }
     ensures rows { HasCleanDisk (state S.Store conn.new)
         → IfOk result (λ found. let asked = where_key list_key_cmp
         (λ k. int_eq tab k.0 && starts_with nat_eq k.1 begin.now)
@@ -412,8 +397,7 @@ pub(crate) fn prefix<S: Alter>(
         → SomeDamaged (where_key list_key_cmp
         (λ k. int_eq tab k.0 && starts_with nat_eq k.1 begin.now)
         (value_of (state S.Store conn.old).now.trees).lists) }
-    ensures fault { IfErr result IsReadFault }
-    ensures read { Reads S.Store conn.old conn.new result }
+    ensures read { Reads S.Store conn.old conn.new result IsReadFault }
 {
     if begin.is_empty() {
         return entries(conn, alloc, tab);
@@ -429,16 +413,14 @@ pub(crate) fn prefix_lists<S: Alter>(
     tab: i64,
     begin: &str,
 ) -> Result<Vec<ListRow>, StoreFault>
-    requires store { IsStoreIfOpen (state S.Store conn.old) }
-    requires settled { (state S.Store conn.old).in_transaction ≡ false }
+    requires { IsAtRest (state S.Store conn.old) }
     ensures rows { HasCleanDisk (state S.Store conn.new)
         → IfOk result (λ found. AreRead (lists_of_prefix tab begin.now
         (value_of (state S.Store conn.old).now.trees)) found.items) }
     ensures damaged { HasCleanDisk (state S.Store conn.new) → result ≡ Err StoreFault.Damaged
         → SomeDamaged (lists_of_prefix tab begin.now
         (value_of (state S.Store conn.old).now.trees)) }
-    ensures fault { IfErr result IsReadFault }
-    ensures read { Reads S.Store conn.old conn.new result }
+    ensures read { Reads S.Store conn.old conn.new result IsReadFault }
 {
     if begin.is_empty() {
         return table_lists(conn, alloc, tab);

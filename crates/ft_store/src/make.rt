@@ -8,7 +8,7 @@ ghost use Rattle.sqlite.specs.Change.{created};
 ghost use Rattle.ft_store.specs.Tables.{no_schema};
 ghost use Rattle.ft_rows.specs.Store.{nothing_held};
 ghost use Rattle.ft_store.specs.Rows.{value_of};
-ghost use Rattle.ft_store.specs.Calls.{IsPlainFault, IsStore, IsStored, Keeps, KeepsLast, LeavesNothing};
+ghost use Rattle.ft_store.specs.Calls.{IsPlainFault, IsStore, IsStored, Keeps, StaysUncommitted};
 ghost use Rattle.ft_store.specs.Made.{IsEmptyOf, IsUnmarked, Makes, MakesOnOk};
 
 use crate::fault::StoreFault;
@@ -16,7 +16,6 @@ use crate::statements::run;
 use sqlite::{Alter, Connection, Transaction};
 
 fn create<S: Alter>(tx: &mut Transaction<'_, S>, sql: &str) -> Result<(), StoreFault>
-    ensures same_reference { tx.new.conn.ghost_name ≡ tx.old.conn.ghost_name }
     ensures steps { HasCleanDisk (state S.Store tx.new.conn.now)
         → IsTrue (state S.Store tx.old.conn.now).in_transaction
         → OnOk result ((s : Schema) (table : Table) → Makes s sql.now table
@@ -25,21 +24,16 @@ fn create<S: Alter>(tx: &mut Transaction<'_, S>, sql: &str) -> Result<(), StoreF
         → IsEmptyOf (created s table) (state S.Store tx.new.conn.now).now
         × Shows (state S.Store tx.old.conn.now) (state S.Store tx.new.conn.now)
         (state S.Store tx.new.conn.now).now (state S.Store tx.old.conn.now).committed true) }
-    ensures fault { IfErr result IsPlainFault }
-    ensures kept { KeepsLast S.Store tx.old.conn.now tx.new.conn.now }
-    ensures survives { LeavesNothing S.Store tx.old.conn.now tx.new.conn.now }
+    ensures stays { StaysUncommitted S.Store tx.old.conn tx.new.conn result }
 {
     run(tx, sql, &[])
 }
 
 /// The tables, without a row.
 fn create_all<S: Alter>(tx: &mut Transaction<'_, S>) -> Result<(), StoreFault>
-    ensures same_reference { tx.new.conn.ghost_name ≡ tx.old.conn.ghost_name }
     ensures steps { MakesOnOk S.Store tx.old.conn.now tx.new.conn.now result (IsEmptyOf no_schema)
         (λ _ new. IsUnmarked new × (value_of new.trees ≡ nothing_held)) }
-    ensures fault { IfErr result IsPlainFault }
-    ensures kept { KeepsLast S.Store tx.old.conn.now tx.new.conn.now }
-    ensures survives { LeavesNothing S.Store tx.old.conn.now tx.new.conn.now }
+    ensures stays { StaysUncommitted S.Store tx.old.conn tx.new.conn result }
 {
     create(
         tx,
@@ -77,12 +71,9 @@ fn create_all<S: Alter>(tx: &mut Transaction<'_, S>) -> Result<(), StoreFault>
 
 /// Marks the tables of a store with their version.
 pub(crate) fn mark<S: Alter>(tx: &mut Transaction<'_, S>) -> Result<(), StoreFault>
-    ensures same_reference { tx.new.conn.ghost_name ≡ tx.old.conn.ghost_name }
     ensures steps { MakesOnOk S.Store tx.old.conn.now tx.new.conn.now result IsUnmarked
         (λ old new. IsStore new × (value_of new.trees ≡ value_of old.trees)) }
-    ensures fault { IfErr result IsPlainFault }
-    ensures kept { KeepsLast S.Store tx.old.conn.now tx.new.conn.now }
-    ensures survives { LeavesNothing S.Store tx.old.conn.now tx.new.conn.now }
+    ensures stays { StaysUncommitted S.Store tx.old.conn tx.new.conn result }
 {
     run(tx, "INSERT INTO meta (one, version) VALUES (1, 3)", &[])
 }

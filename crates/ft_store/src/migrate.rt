@@ -18,10 +18,9 @@ use sqlite::{Alter, Connection, Transaction};
 
 /// Adds the table of the columns that aren't indexed, without a row.
 fn add_table<S: Alter>(tx: &mut Transaction<'_, S>) -> Result<(), StoreFault>
-    ensures same_reference { tx.new.conn.ghost_name ≡ tx.old.conn.ghost_name }
     ensures steps { MakesOnOk S.Store tx.old.conn.now tx.new.conn.now result (IsStoreBy Older)
         (λ old new. IsTabled new × (value_of new.trees ≡ older_value old.trees)) }
-    ensures stays { StaysUncommitted S.Store tx.old.conn.now tx.new.conn.now result }
+    ensures stays { StaysUncommitted S.Store tx.old.conn tx.new.conn result }
 {
     run(
         tx,
@@ -32,10 +31,9 @@ fn add_table<S: Alter>(tx: &mut Transaction<'_, S>) -> Result<(), StoreFault>
 
 /// Takes the version out.
 fn unmark<S: Alter>(tx: &mut Transaction<'_, S>) -> Result<(), StoreFault>
-    ensures same_reference { tx.new.conn.ghost_name ≡ tx.old.conn.ghost_name }
     ensures steps { MakesOnOk S.Store tx.old.conn.now tx.new.conn.now result IsTabled
         (λ old new. IsUnmarked new × (value_of new.trees ≡ value_of old.trees)) }
-    ensures stays { StaysUncommitted S.Store tx.old.conn.now tx.new.conn.now result }
+    ensures stays { StaysUncommitted S.Store tx.old.conn tx.new.conn result }
 {
     run(tx, "DELETE FROM meta", &[])
 }

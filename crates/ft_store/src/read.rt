@@ -14,7 +14,7 @@ ghost use Rattle.ft_rows.specs.Store.{cell_key_cmp, column_key_cmp};
 ghost use Rattle.ft_store.specs.Rows.{value_of};
 ghost use Rattle.ft_store.specs.Found.{found_table, found_column, found_skip, found_cell, found_size, found_note};
 ghost use Rattle.ft_rows.specs.Shown.{shown_cell, shown_size, shown_name, shown_column, shown_skip, shown_note, last_docid_of};
-ghost use Rattle.ft_store.specs.Calls.{IsStoreIfOpen, IsPlainFault, Reads};
+ghost use Rattle.ft_store.specs.Calls.{IsPlainFault, Reads, IsAtRest};
 
 use crate::fault::StoreFault;
 use crate::stream::{Gathered, gather};
@@ -35,9 +35,8 @@ pub(crate) fn select<S: Alter>(
     ensures shown { HasCleanDisk (state S.Store conn.new)
         → IfOk result (λ rows. Shown sql.now (bound params.now) (state S.Store conn.old)
         (state S.Store conn.new) rows.items) }
-    ensures read { Reads S.Store conn.old conn.new result }
+    ensures read { Reads S.Store conn.old conn.new result IsPlainFault }
     ensures whole { ¬ (result ≡ Err StoreFault.Damaged) }
-    ensures fault { IfErr result IsPlainFault }
 {
     let _schema = conn.schema();
     let _settled = conn.is_autocommit();
@@ -101,8 +100,7 @@ fn select_cells<S: Alter>(
         → IfOk result (λ cells. (rows : List order.Row)
         × Shown sql.now (bound params.now) (state S.Store conn.old) (state S.Store conn.new) rows
         × ((tab : ℤ) → map (shown_cell tab) cells.items ≡ map (found_cell tab) rows)) }
-    ensures read { Reads S.Store conn.old conn.new result }
-    ensures fault { IfErr result IsPlainFault }
+    ensures read { Reads S.Store conn.old conn.new result IsPlainFault }
 {
     let mut found = CellsOf {
         cells: Vec::new(alloc),
@@ -221,13 +219,11 @@ pub(crate) fn names<S: Alter>(
     conn: &mut Connection<S>,
     alloc: Global,
 ) -> Result<Vec<(i64, String)>, StoreFault>
-    requires store { IsStoreIfOpen (state S.Store conn.old) }
-    requires settled { (state S.Store conn.old).in_transaction ≡ false }
+    requires { IsAtRest (state S.Store conn.old) }
     ensures rows { HasCleanDisk (state S.Store conn.new)
         → IfOk result (λ found. map shown_name found.items
         ≡ (value_of (state S.Store conn.old).now.trees).tables) }
-    ensures read { Reads S.Store conn.old conn.new result }
-    ensures fault { IfErr result IsPlainFault }
+    ensures read { Reads S.Store conn.old conn.new result IsPlainFault }
 {
     let rows = select(
         conn,
@@ -243,14 +239,12 @@ pub(crate) fn columns<S: Alter>(
     alloc: Global,
     tab: i64,
 ) -> Result<Vec<(i64, String)>, StoreFault>
-    requires store { IsStoreIfOpen (state S.Store conn.old) }
-    requires settled { (state S.Store conn.old).in_transaction ≡ false }
+    requires { IsAtRest (state S.Store conn.old) }
     ensures rows { HasCleanDisk (state S.Store conn.new)
         → IfOk result (λ found. map (shown_column tab) found.items
         ≡ where_key column_key_cmp (λ k. int_eq tab k.0)
         (value_of (state S.Store conn.old).now.trees).columns) }
-    ensures read { Reads S.Store conn.old conn.new result }
-    ensures fault { IfErr result IsPlainFault }
+    ensures read { Reads S.Store conn.old conn.new result IsPlainFault }
 {
     let rows = select(
         conn,
@@ -266,14 +260,12 @@ pub(crate) fn skips<S: Alter>(
     alloc: Global,
     tab: i64,
 ) -> Result<Vec<i64>, StoreFault>
-    requires store { IsStoreIfOpen (state S.Store conn.old) }
-    requires settled { (state S.Store conn.old).in_transaction ≡ false }
+    requires { IsAtRest (state S.Store conn.old) }
     ensures rows { HasCleanDisk (state S.Store conn.new)
         → IfOk result (λ found. map (shown_skip tab) found.items
         ≡ where_key column_key_cmp (λ k. int_eq tab k.0)
         (value_of (state S.Store conn.old).now.trees).skipped) }
-    ensures read { Reads S.Store conn.old conn.new result }
-    ensures fault { IfErr result IsPlainFault }
+    ensures read { Reads S.Store conn.old conn.new result IsPlainFault }
 {
     let rows = select(
         conn,
@@ -289,14 +281,12 @@ pub(crate) fn cells<S: Alter>(
     alloc: Global,
     tab: i64,
 ) -> Result<Vec<CellRow>, StoreFault>
-    requires store { IsStoreIfOpen (state S.Store conn.old) }
-    requires settled { (state S.Store conn.old).in_transaction ≡ false }
+    requires { IsAtRest (state S.Store conn.old) }
     ensures rows { HasCleanDisk (state S.Store conn.new)
         → IfOk result (λ found. map (shown_cell tab) found.items
         ≡ where_key cell_key_cmp (λ k. int_eq tab k.0)
         (value_of (state S.Store conn.old).now.trees).cells) }
-    ensures read { Reads S.Store conn.old conn.new result }
-    ensures fault { IfErr result IsPlainFault }
+    ensures read { Reads S.Store conn.old conn.new result IsPlainFault }
 {
     select_cells(
         conn,
@@ -313,14 +303,12 @@ pub(crate) fn document<S: Alter>(
     tab: i64,
     docid: i64,
 ) -> Result<Vec<CellRow>, StoreFault>
-    requires store { IsStoreIfOpen (state S.Store conn.old) }
-    requires settled { (state S.Store conn.old).in_transaction ≡ false }
+    requires { IsAtRest (state S.Store conn.old) }
     ensures rows { HasCleanDisk (state S.Store conn.new)
         → IfOk result (λ found. map (shown_cell tab) found.items
         ≡ where_key cell_key_cmp (λ k. int_eq tab k.0 && int_eq docid k.1)
         (value_of (state S.Store conn.old).now.trees).cells) }
-    ensures read { Reads S.Store conn.old conn.new result }
-    ensures fault { IfErr result IsPlainFault }
+    ensures read { Reads S.Store conn.old conn.new result IsPlainFault }
 {
     select_cells(
         conn,
@@ -347,13 +335,11 @@ pub(crate) fn last_docid<S: Alter>(
     conn: &mut Connection<S>,
     tab: i64,
 ) -> Result<Option<i64>, StoreFault>
-    requires store { IsStoreIfOpen (state S.Store conn.old) }
-    requires settled { (state S.Store conn.old).in_transaction ≡ false }
+    requires { IsAtRest (state S.Store conn.old) }
     ensures last { HasCleanDisk (state S.Store conn.new)
         → IfOk result (λ last. last ≡ last_docid_of tab
         (value_of (state S.Store conn.old).now.trees).cells) }
-    ensures read { Reads S.Store conn.old conn.new result }
-    ensures fault { IfErr result IsPlainFault }
+    ensures read { Reads S.Store conn.old conn.new result IsPlainFault }
 {
     let rows = select(
         conn,
@@ -369,14 +355,12 @@ pub(crate) fn sizes<S: Alter>(
     alloc: Global,
     tab: i64,
 ) -> Result<Vec<SizeRow>, StoreFault>
-    requires store { IsStoreIfOpen (state S.Store conn.old) }
-    requires settled { (state S.Store conn.old).in_transaction ≡ false }
+    requires { IsAtRest (state S.Store conn.old) }
     ensures rows { HasCleanDisk (state S.Store conn.new)
         → IfOk result (λ found. map (shown_size tab) found.items
         ≡ where_key cell_key_cmp (λ k. int_eq tab k.0)
         (value_of (state S.Store conn.old).now.trees).sizes) }
-    ensures read { Reads S.Store conn.old conn.new result }
-    ensures fault { IfErr result IsPlainFault }
+    ensures read { Reads S.Store conn.old conn.new result IsPlainFault }
 {
     let rows = select(
         conn,
@@ -391,13 +375,11 @@ pub(crate) fn noted<S: Alter>(
     conn: &mut Connection<S>,
     alloc: Global,
 ) -> Result<Vec<String>, StoreFault>
-    requires store { IsStoreIfOpen (state S.Store conn.old) }
-    requires settled { (state S.Store conn.old).in_transaction ≡ false }
+    requires { IsAtRest (state S.Store conn.old) }
     ensures rows { HasCleanDisk (state S.Store conn.new)
         → IfOk result (λ found. map shown_note found.items
         ≡ (value_of (state S.Store conn.old).now.trees).noted) }
-    ensures read { Reads S.Store conn.old conn.new result }
-    ensures fault { IfErr result IsPlainFault }
+    ensures read { Reads S.Store conn.old conn.new result IsPlainFault }
 {
     let rows = select(
         conn,

@@ -1,6 +1,6 @@
 ghost use Rattle.sqlite.specs.Held.{state};
 ghost use Rattle.ft_rows.specs.Store.{StoreValue};
-ghost use Rattle.std.specs.Prelude.{◌≡◌, ◌≢◌, ℤ, ◌&&◌, false, codes, Err, MatchResult, IfErr, map, vec_len, length, option_to_list, nat_eq, All, IsTrue, IfOk, OnOk, OnErr};
+ghost use Rattle.std.specs.Prelude.{◌≡◌, ◌≢◌, ◌↔◌, if◌then◌else◌, ℤ, ◌&&◌, false, codes, Err, MatchResult, IfErr, map, vec_len, length, option_to_list, nat_eq, All, IsTrue, IfOk, OnOk, OnErr};
 ghost use Rattle.std.specs.Ordering.{int_eq, is_eq};
 ghost use Rattle.std.specs.List.{starts_with};
 ghost use Rattle.std.specs.FinMap.Entries.{where_key};
@@ -10,16 +10,22 @@ ghost use Rattle.sqlite_trees.specs.Tree.{Trees};
 ghost use Rattle.ft_rows.specs.Store.{cell_key_cmp, list_key_cmp, name_cmp, nothing_held, all_applied, AreInOrder};
 ghost use Rattle.ft_rows.specs.Changes.{shown_change, CanApply};
 ghost use Rattle.ft_rows.specs.Shown.{shown_cell, shown_size, shown_note, shown_list, shown_entry, lists_of_term, lists_of_prefix, spot_count, tables_listed, shown_table, last_docid_of, entries_of, AreWhole, AreRead, SomeDamaged, AreNamedApart};
-ghost use Rattle.ft_store.specs.Calls.{IsPlainFault, IsReadFault, IsChangeFault, IsStored, Keeps};
+ghost use Rattle.ft_rows.specs.Terms.{lists_by_terms};
+ghost use Rattle.ft_store.specs.Expected.{place_count};
+ghost use Rattle.ft_store.specs.Calls.{IsPlainFault, IsReadFault, IsChangeFault, IsStored, Keeps, MakesAllOrNone};
 ghost use Rattle.ft_store.specs.Adopted.{IsTaken, IsNotTaken, IsNotTakenFor, LeavesMade};
 ghost use Rattle.ft_store.specs.Older.{IsOlder};
+ghost use Rattle.ft_store.specs.Parts.{changes_in, CanMake};
 
 use crate::adopt::take;
+use crate::expected::count_places;
 use crate::fault::StoreFault;
 use crate::files::open_for_store;
 use crate::lists::count_spots;
 use crate::make::made;
-use crate::{lists, read, tables, write};
+use crate::parts::Parts;
+use crate::{expected, lists, read, tables, write};
+use ft_rows::TermLists;
 use ft_values::{CellRow, EntryRow, ListRow, RowChange, SizeRow, TabRow};
 use ram_disk::{Ram, open_ram};
 use sqlite::{Alter, Connection, File, FileFrom, FileStore, Start, Unknown};
@@ -127,7 +133,7 @@ impl<S: Alter + Drop> Store<S> {
 }
 
 impl<S: Alter> Store<S> {
-    ghost use Rattle.ft_store.specs.Kept.{shows, value_in, more_rows};
+    ghost use Rattle.ft_store.specs.Kept.{shows, value_in, ReadsRows};
 
     /// Takes a database that holds a store, as it is, or one without objects, which becomes an empty store in one
     /// transaction. A store of version 2 becomes one of version 3 that holds the same, also in one transaction. Any other
@@ -180,16 +186,7 @@ impl<S: Alter> Store<S> {
         ensures rows { HasCleanDisk (shows S.Store self.new)
             → IfOk result (λ found. map shown_table found.items
             ≡ tables_listed (value_in S.Store self.old)) }
-        ensures kept { HasCleanDisk (shows S.Store self.new)
-            → Keeps (shows S.Store self.old) (shows S.Store self.new) }
-        ensures live { HasCleanDisk (shows S.Store self.new)
-            → OnOk result (IsTrue (shows S.Store self.new).is_open) }
-        ensures survives { Survives (shows S.Store self.old) (shows S.Store self.new)
-            (λ _. IsTrue (shows S.Store self.old).is_open → ⊥) }
-        ensures counted { IfOk result (λ found. self.new.rows_read
-            ≡ more_rows (vec_len found) self.old) }
-        ensures uncounted { OnErr result (self.new.rows_read ≡ self.old.rows_read) }
-        ensures causes { IfErr result IsPlainFault }
+        ensures read { ReadsRows S.Store self.old self.new result vec_len IsPlainFault }
     {
         let found = tables::tables(&mut self.conn, self.alloc)?;
         self.rows_read = self.rows_read.saturating_add(found.len() as u64);
@@ -201,16 +198,7 @@ impl<S: Alter> Store<S> {
         ensures rows { HasCleanDisk (shows S.Store self.new)
             → IfOk result (λ found. map (shown_cell tab) found.items
             ≡ where_key cell_key_cmp (λ k. int_eq tab k.0) (value_in S.Store self.old).cells) }
-        ensures kept { HasCleanDisk (shows S.Store self.new)
-            → Keeps (shows S.Store self.old) (shows S.Store self.new) }
-        ensures live { HasCleanDisk (shows S.Store self.new)
-            → OnOk result (IsTrue (shows S.Store self.new).is_open) }
-        ensures survives { Survives (shows S.Store self.old) (shows S.Store self.new)
-            (λ _. IsTrue (shows S.Store self.old).is_open → ⊥) }
-        ensures counted { IfOk result (λ found. self.new.rows_read
-            ≡ more_rows (vec_len found) self.old) }
-        ensures uncounted { OnErr result (self.new.rows_read ≡ self.old.rows_read) }
-        ensures causes { IfErr result IsPlainFault }
+        ensures read { ReadsRows S.Store self.old self.new result vec_len IsPlainFault }
     {
         let found = read::cells(&mut self.conn, self.alloc, tab)?;
         self.rows_read = self.rows_read.saturating_add(found.len() as u64);
@@ -223,16 +211,7 @@ impl<S: Alter> Store<S> {
             → IfOk result (λ found. map (shown_cell tab) found.items
             ≡ where_key cell_key_cmp (λ k. int_eq tab k.0 && int_eq docid k.1)
             (value_in S.Store self.old).cells) }
-        ensures kept { HasCleanDisk (shows S.Store self.new)
-            → Keeps (shows S.Store self.old) (shows S.Store self.new) }
-        ensures live { HasCleanDisk (shows S.Store self.new)
-            → OnOk result (IsTrue (shows S.Store self.new).is_open) }
-        ensures survives { Survives (shows S.Store self.old) (shows S.Store self.new)
-            (λ _. IsTrue (shows S.Store self.old).is_open → ⊥) }
-        ensures counted { IfOk result (λ found. self.new.rows_read
-            ≡ more_rows (vec_len found) self.old) }
-        ensures uncounted { OnErr result (self.new.rows_read ≡ self.old.rows_read) }
-        ensures causes { IfErr result IsPlainFault }
+        ensures read { ReadsRows S.Store self.old self.new result vec_len IsPlainFault }
     {
         let found = read::document(&mut self.conn, self.alloc, tab, docid)?;
         self.rows_read = self.rows_read.saturating_add(found.len() as u64);
@@ -243,16 +222,8 @@ impl<S: Alter> Store<S> {
     pub fn last_docid(&mut self, tab: i64) -> Result<Option<i64>, StoreFault>
         ensures last { HasCleanDisk (shows S.Store self.new)
             → IfOk result (λ last. last ≡ last_docid_of tab (value_in S.Store self.old).cells) }
-        ensures kept { HasCleanDisk (shows S.Store self.new)
-            → Keeps (shows S.Store self.old) (shows S.Store self.new) }
-        ensures live { HasCleanDisk (shows S.Store self.new)
-            → OnOk result (IsTrue (shows S.Store self.new).is_open) }
-        ensures survives { Survives (shows S.Store self.old) (shows S.Store self.new)
-            (λ _. IsTrue (shows S.Store self.old).is_open → ⊥) }
-        ensures counted { IfOk result (λ last. self.new.rows_read
-            ≡ more_rows (length (option_to_list last)) self.old) }
-        ensures uncounted { OnErr result (self.new.rows_read ≡ self.old.rows_read) }
-        ensures causes { IfErr result IsPlainFault }
+        ensures read { ReadsRows S.Store self.old self.new result
+            (λ last. length (option_to_list last)) IsPlainFault }
     {
         let last = read::last_docid(&mut self.conn, tab)?;
         self.rows_read = self.rows_read.saturating_add(u64::from(last.is_some()));
@@ -265,20 +236,11 @@ impl<S: Alter> Store<S> {
             → IfOk result (λ found. let asked = where_key list_key_cmp
             (λ k. int_eq tab k.0 && is_eq (name_cmp term.now k.1)) (value_in S.Store self.old).lists
             in (map shown_entry found.items ≡ entries_of asked) × AreWhole asked) }
+        ensures read { ReadsRows S.Store self.old self.new result vec_len IsReadFault }
         ensures damaged { HasCleanDisk (shows S.Store self.new) → result ≡ Err StoreFault.Damaged
             → SomeDamaged (where_key list_key_cmp
             (λ k. int_eq tab k.0 && is_eq (name_cmp term.now k.1))
             (value_in S.Store self.old).lists) }
-        ensures causes { IfErr result IsReadFault }
-        ensures kept { HasCleanDisk (shows S.Store self.new)
-            → Keeps (shows S.Store self.old) (shows S.Store self.new) }
-        ensures survives { Survives (shows S.Store self.old) (shows S.Store self.new)
-            (λ _. IsTrue (shows S.Store self.old).is_open → ⊥) }
-        ensures counted { IfOk result (λ found. self.new.rows_read
-            ≡ more_rows (vec_len found) self.old) }
-        ensures uncounted { OnErr result (self.new.rows_read ≡ self.old.rows_read) }
-        ensures live { HasCleanDisk (shows S.Store self.new)
-            → OnOk result (IsTrue (shows S.Store self.new).is_open) }
     {
         let found = lists::term(&mut self.conn, self.alloc, tab, term)?;
         self.rows_read = self.rows_read.saturating_add(found.len() as u64);
@@ -290,18 +252,10 @@ impl<S: Alter> Store<S> {
         ensures rows { HasCleanDisk (shows S.Store self.new)
             → IfOk result (λ found. AreRead (lists_of_term tab term.now (value_in S.Store self.old))
             found.items) }
+        ensures read { ReadsRows S.Store self.old self.new result
+            (λ found. spot_count (map shown_list found.items)) IsReadFault }
         ensures damaged { HasCleanDisk (shows S.Store self.new) → result ≡ Err StoreFault.Damaged
             → SomeDamaged (lists_of_term tab term.now (value_in S.Store self.old)) }
-        ensures causes { IfErr result IsReadFault }
-        ensures kept { HasCleanDisk (shows S.Store self.new)
-            → Keeps (shows S.Store self.old) (shows S.Store self.new) }
-        ensures survives { Survives (shows S.Store self.old) (shows S.Store self.new)
-            (λ _. IsTrue (shows S.Store self.old).is_open → ⊥) }
-        ensures counted { IfOk result (λ found. self.new.rows_read
-            ≡ more_rows (spot_count (map shown_list found.items)) self.old) }
-        ensures uncounted { OnErr result (self.new.rows_read ≡ self.old.rows_read) }
-        ensures live { HasCleanDisk (shows S.Store self.new)
-            → OnOk result (IsTrue (shows S.Store self.new).is_open) }
     {
         let found = lists::term_lists(&mut self.conn, self.alloc, tab, term)?;
         self.rows_read = self.rows_read.saturating_add(count_spots(found.as_slice()));
@@ -316,20 +270,11 @@ impl<S: Alter> Store<S> {
             (λ k. int_eq tab k.0 && starts_with nat_eq k.1 begin.now)
             (value_in S.Store self.old).lists in (map shown_entry found.items ≡ entries_of asked)
             × AreWhole asked) }
+        ensures read { ReadsRows S.Store self.old self.new result vec_len IsReadFault }
         ensures damaged { HasCleanDisk (shows S.Store self.new) → result ≡ Err StoreFault.Damaged
             → SomeDamaged (where_key list_key_cmp
             (λ k. int_eq tab k.0 && starts_with nat_eq k.1 begin.now)
             (value_in S.Store self.old).lists) }
-        ensures causes { IfErr result IsReadFault }
-        ensures kept { HasCleanDisk (shows S.Store self.new)
-            → Keeps (shows S.Store self.old) (shows S.Store self.new) }
-        ensures survives { Survives (shows S.Store self.old) (shows S.Store self.new)
-            (λ _. IsTrue (shows S.Store self.old).is_open → ⊥) }
-        ensures counted { IfOk result (λ found. self.new.rows_read
-            ≡ more_rows (vec_len found) self.old) }
-        ensures uncounted { OnErr result (self.new.rows_read ≡ self.old.rows_read) }
-        ensures live { HasCleanDisk (shows S.Store self.new)
-            → OnOk result (IsTrue (shows S.Store self.new).is_open) }
     {
         let found = lists::prefix(&mut self.conn, self.alloc, tab, begin)?;
         self.rows_read = self.rows_read.saturating_add(found.len() as u64);
@@ -342,18 +287,10 @@ impl<S: Alter> Store<S> {
         ensures rows { HasCleanDisk (shows S.Store self.new)
             → IfOk result (λ found. AreRead (lists_of_prefix tab begin.now
             (value_in S.Store self.old)) found.items) }
+        ensures read { ReadsRows S.Store self.old self.new result
+            (λ found. spot_count (map shown_list found.items)) IsReadFault }
         ensures damaged { HasCleanDisk (shows S.Store self.new) → result ≡ Err StoreFault.Damaged
             → SomeDamaged (lists_of_prefix tab begin.now (value_in S.Store self.old)) }
-        ensures causes { IfErr result IsReadFault }
-        ensures kept { HasCleanDisk (shows S.Store self.new)
-            → Keeps (shows S.Store self.old) (shows S.Store self.new) }
-        ensures survives { Survives (shows S.Store self.old) (shows S.Store self.new)
-            (λ _. IsTrue (shows S.Store self.old).is_open → ⊥) }
-        ensures counted { IfOk result (λ found. self.new.rows_read
-            ≡ more_rows (spot_count (map shown_list found.items)) self.old) }
-        ensures uncounted { OnErr result (self.new.rows_read ≡ self.old.rows_read) }
-        ensures live { HasCleanDisk (shows S.Store self.new)
-            → OnOk result (IsTrue (shows S.Store self.new).is_open) }
     {
         let found = lists::prefix_lists(&mut self.conn, self.alloc, tab, begin)?;
         self.rows_read = self.rows_read.saturating_add(count_spots(found.as_slice()));
@@ -366,19 +303,10 @@ impl<S: Alter> Store<S> {
             → IfOk result (λ found. let asked = where_key list_key_cmp (λ k. int_eq tab k.0)
             (value_in S.Store self.old).lists in (map shown_entry found.items ≡ entries_of asked)
             × AreWhole asked) }
+        ensures read { ReadsRows S.Store self.old self.new result vec_len IsReadFault }
         ensures damaged { HasCleanDisk (shows S.Store self.new) → result ≡ Err StoreFault.Damaged
             → SomeDamaged (where_key list_key_cmp (λ k. int_eq tab k.0)
             (value_in S.Store self.old).lists) }
-        ensures causes { IfErr result IsReadFault }
-        ensures kept { HasCleanDisk (shows S.Store self.new)
-            → Keeps (shows S.Store self.old) (shows S.Store self.new) }
-        ensures survives { Survives (shows S.Store self.old) (shows S.Store self.new)
-            (λ _. IsTrue (shows S.Store self.old).is_open → ⊥) }
-        ensures counted { IfOk result (λ found. self.new.rows_read
-            ≡ more_rows (vec_len found) self.old) }
-        ensures uncounted { OnErr result (self.new.rows_read ≡ self.old.rows_read) }
-        ensures live { HasCleanDisk (shows S.Store self.new)
-            → OnOk result (IsTrue (shows S.Store self.new).is_open) }
         ensures stays { HasCleanDisk (shows S.Store self.new) → result ≡ Err StoreFault.Damaged
             → IsTrue (shows S.Store self.new).is_open }
     {
@@ -387,21 +315,29 @@ impl<S: Alter> Store<S> {
         Ok(found)
     }
 
+    /// Whether the lists of a table are exactly these, by term and docid. Where they are, each place counts as a row, else
+    /// none.
+    pub fn has_lists(&mut self, tab: i64, terms: Vec<TermLists>) -> Result<bool, StoreFault>
+        ensures same { HasCleanDisk (shows S.Store self.new)
+            → IfOk result (λ b. IsTrue b ↔ (where_key list_key_cmp (λ k. int_eq tab k.0)
+            (value_in S.Store self.old).lists ≡ lists_by_terms tab terms.items)) }
+        ensures read { ReadsRows S.Store self.old self.new result
+            (λ b. if b then place_count terms.items else 0) IsPlainFault }
+    {
+        let places = count_places(terms.as_slice());
+        let same = expected::has_lists(&mut self.conn, self.alloc, tab, terms)?;
+        if same {
+            self.rows_read = self.rows_read.saturating_add(places);
+        }
+        Ok(same)
+    }
+
     /// The sizes of a table's cells, by rising docid and then column.
     pub fn sizes(&mut self, tab: i64) -> Result<Vec<SizeRow>, StoreFault>
         ensures rows { HasCleanDisk (shows S.Store self.new)
             → IfOk result (λ found. map (shown_size tab) found.items
             ≡ where_key cell_key_cmp (λ k. int_eq tab k.0) (value_in S.Store self.old).sizes) }
-        ensures kept { HasCleanDisk (shows S.Store self.new)
-            → Keeps (shows S.Store self.old) (shows S.Store self.new) }
-        ensures live { HasCleanDisk (shows S.Store self.new)
-            → OnOk result (IsTrue (shows S.Store self.new).is_open) }
-        ensures survives { Survives (shows S.Store self.old) (shows S.Store self.new)
-            (λ _. IsTrue (shows S.Store self.old).is_open → ⊥) }
-        ensures counted { IfOk result (λ found. self.new.rows_read
-            ≡ more_rows (vec_len found) self.old) }
-        ensures uncounted { OnErr result (self.new.rows_read ≡ self.old.rows_read) }
-        ensures causes { IfErr result IsPlainFault }
+        ensures read { ReadsRows S.Store self.old self.new result vec_len IsPlainFault }
     {
         let found = read::sizes(&mut self.conn, self.alloc, tab)?;
         self.rows_read = self.rows_read.saturating_add(found.len() as u64);
@@ -413,16 +349,7 @@ impl<S: Alter> Store<S> {
         ensures rows { HasCleanDisk (shows S.Store self.new)
             → IfOk result (λ found. map shown_note found.items
             ≡ (value_in S.Store self.old).noted) }
-        ensures kept { HasCleanDisk (shows S.Store self.new)
-            → Keeps (shows S.Store self.old) (shows S.Store self.new) }
-        ensures live { HasCleanDisk (shows S.Store self.new)
-            → OnOk result (IsTrue (shows S.Store self.new).is_open) }
-        ensures survives { Survives (shows S.Store self.old) (shows S.Store self.new)
-            (λ _. IsTrue (shows S.Store self.old).is_open → ⊥) }
-        ensures counted { IfOk result (λ found. self.new.rows_read
-            ≡ more_rows (vec_len found) self.old) }
-        ensures uncounted { OnErr result (self.new.rows_read ≡ self.old.rows_read) }
-        ensures causes { IfErr result IsPlainFault }
+        ensures read { ReadsRows S.Store self.old self.new result vec_len IsPlainFault }
     {
         let found = read::noted(&mut self.conn, self.alloc)?;
         self.rows_read = self.rows_read.saturating_add(found.len() as u64);
@@ -433,23 +360,11 @@ impl<S: Alter> Store<S> {
     pub fn change(&mut self, changes: &[RowChange]) -> Result<(), StoreFault>
         ensures packable { OnOk result (All CanApply changes.now) }
         ensures causes { IfErr result (IsChangeFault (All CanApply changes.now)) }
-        ensures all { HasCleanDisk (shows S.Store self.new)
-            → OnOk result (value_in S.Store self.new
-            ≡ all_applied (map shown_change changes.now) (value_in S.Store self.old)) }
-        ensures none { HasCleanDisk (shows S.Store self.new)
-            → OnErr result (Keeps (shows S.Store self.old) (shows S.Store self.new)) }
-        ensures live { HasCleanDisk (shows S.Store self.new)
-            → OnOk result (IsTrue (shows S.Store self.old).is_open
-            × IsTrue (shows S.Store self.new).is_open) }
+        ensures made { MakesAllOrNone (shows S.Store self.old) (shows S.Store self.new) result
+            (map shown_change changes.now) }
         ensures unread { self.new.rows_read ≡ self.old.rows_read }
 
-        // A crash leaves what it could leave before, or a store with all changes made.
-        ensures crash { Survives (shows S.Store self.old) (shows S.Store self.new)
-            (λ db. IsTrue (shows S.Store self.old).is_open
-            → IsStored db (all_applied (map shown_change changes.now)
-            (value_in S.Store self.old))) }
-
-        // After Ok, and while the store is open, it leaves that store alone.
+        // After Ok, and while the store is open, a crash leaves that store alone.
         ensures alone { HasCleanDisk (shows S.Store self.new)
             → OnOk result (IsTrue (shows S.Store self.new).is_open → (db : Trees)
             → (shows S.Store self.new).may_leave db
@@ -457,6 +372,26 @@ impl<S: Alter> Store<S> {
             (value_in S.Store self.old))) }
     {
         write::change(&mut self.conn, self.alloc, changes)?;
+        let _settled = self.conn.is_autocommit();
+        Ok(())
+    }
+
+    /// Makes all changes of all parts that come, in their order, in one transaction, or none: as they come one part stands in memory at a
+    /// time. A part that is not made for want of memory is `Memory`; the other causes are those of `change`.
+    pub fn change_parts<P: Parts>(&mut self, parts: &mut P) -> Result<(), StoreFault>
+        ensures packable { OnOk result (All CanMake (changes_in (P.Parts.to_come parts.old))) }
+        ensures causes { IfErr result
+            (IsChangeFault (All CanMake (changes_in (P.Parts.to_come parts.old)))) }
+        ensures made { MakesAllOrNone (shows S.Store self.old) (shows S.Store self.new) result
+            (changes_in (P.Parts.to_come parts.old)) }
+        ensures unread { self.new.rows_read ≡ self.old.rows_read }
+        ensures alone { HasCleanDisk (shows S.Store self.new)
+            → OnOk result (IsTrue (shows S.Store self.new).is_open → (db : Trees)
+            → (shows S.Store self.new).may_leave db
+            → IsStored db (all_applied (changes_in (P.Parts.to_come parts.old))
+            (value_in S.Store self.old))) }
+    {
+        write::change_parts(&mut self.conn, self.alloc, parts)?;
         let _settled = self.conn.is_autocommit();
         Ok(())
     }

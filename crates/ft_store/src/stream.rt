@@ -6,6 +6,7 @@ ghost use Rattle.sqlite.specs.Listing.{understood};
 ghost use Rattle.sqlite.specs.Order as order;
 ghost use Rattle.sqlite.specs.Values.{bound};
 ghost use Rattle.sqlite.specs.Held.{state};
+ghost use Rattle.ft_rows.specs.declared.terms.TermLists.{TermLists};
 ghost use Rattle.ft_store.specs.Calls.{IsPlainFault, Reads};
 
 use crate::fault::StoreFault;
@@ -17,10 +18,14 @@ pub(crate) trait Gathered: Sized {
     /// It is made of these rows, which are all whole, or it is known that one of them isn't.
     ghost is_made_of: { Self → Bool → List order.Row → Type 0 };
 
+    /// The lists that the rows are compared with, which stay. Mostly there are none.
+    ghost expects: { Self → List TermLists } = { λ _. [] };
+
     /// Adds what a row gives, where those before it are whole, and says whether all still are.
     fn add(&mut self, whole: bool, row: &Row) -> Result<bool, StoreFault>
         ensures added { IfOk result (λ still. (rows : List order.Row)
             → is_made_of self.old whole rows → is_made_of self.new still (rows ++ row.now ∷ [])) }
+        ensures expects { IfOk result (λ _. expects self.new ≡ expects self.old) }
         ensures fault { IfErr result IsPlainFault };
 }
 
@@ -39,9 +44,9 @@ pub(crate) fn gather<S: Alter, G: Gathered>(
         → IfOk result (λ whole. (rows : List order.Row)
         × Shown sql.now (bound params.now) (state S.Store conn.old) (state S.Store conn.new) rows
         × G.Gathered.is_made_of into.new whole rows) }
-    ensures read { Reads S.Store conn.old conn.new result }
+    ensures expects { IfOk result (λ _. G.Gathered.expects into.new ≡ G.Gathered.expects into.old) }
+    ensures read { Reads S.Store conn.old conn.new result IsPlainFault }
     ensures whole { ¬ (result ≡ Err StoreFault.Damaged) }
-    ensures fault { IfErr result IsPlainFault }
 {
     let _schema = conn.schema();
     let _settled = conn.is_autocommit();

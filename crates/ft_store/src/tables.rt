@@ -4,7 +4,7 @@ ghost use Rattle.sqlite.specs.State.{HasCleanDisk};
 ghost use Rattle.sqlite.specs.Held.{state};
 ghost use Rattle.ft_store.specs.Rows.{value_of};
 ghost use Rattle.ft_rows.specs.Shown.{shown_table, table_listed, tables_listed};
-ghost use Rattle.ft_store.specs.Calls.{IsStoreIfOpen, IsPlainFault, Reads};
+ghost use Rattle.ft_store.specs.Calls.{IsPlainFault, Reads, IsAtRest};
 
 use crate::fault::StoreFault;
 use crate::read::{columns, names, skips};
@@ -19,13 +19,11 @@ fn table<S: Alter>(
     id: i64,
     name: String,
 ) -> Result<TabRow, StoreFault>
-    requires store { IsStoreIfOpen (state S.Store conn.old) }
-    requires settled { (state S.Store conn.old).in_transaction ≡ false }
+    requires { IsAtRest (state S.Store conn.old) }
     ensures rows { HasCleanDisk (state S.Store conn.new)
         → IfOk result (λ found. shown_table found
         ≡ table_listed (value_of (state S.Store conn.old).now.trees) (id, string_bytes name)) }
-    ensures read { Reads S.Store conn.old conn.new result }
-    ensures fault { IfErr result IsPlainFault }
+    ensures read { Reads S.Store conn.old conn.new result IsPlainFault }
 {
     let columns = columns(conn, alloc, id)?;
     let skipped = skips(conn, alloc, id)?;
@@ -42,13 +40,11 @@ pub(crate) fn tables<S: Alter>(
     conn: &mut Connection<S>,
     alloc: Global,
 ) -> Result<Vec<TabRow>, StoreFault>
-    requires store { IsStoreIfOpen (state S.Store conn.old) }
-    requires settled { (state S.Store conn.old).in_transaction ≡ false }
+    requires { IsAtRest (state S.Store conn.old) }
     ensures rows { HasCleanDisk (state S.Store conn.new)
         → IfOk result (λ found. map shown_table found.items
         ≡ tables_listed (value_of (state S.Store conn.old).now.trees)) }
-    ensures read { Reads S.Store conn.old conn.new result }
-    ensures fault { IfErr result IsPlainFault }
+    ensures read { Reads S.Store conn.old conn.new result IsPlainFault }
 {
     let names = names(conn, alloc)?;
     let mut found = Vec::new(alloc);

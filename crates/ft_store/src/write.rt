@@ -13,10 +13,12 @@ ghost use Rattle.ft_rows.specs.Store.{StoreValue, cell_key_cmp, list_key_cmp, co
 ghost use Rattle.ft_store.specs.Rows.{value_of};
 ghost use Rattle.ft_values.specs.Cells.{shown_value};
 ghost use Rattle.ft_rows.specs.Changes.{shown_change, CanApply};
-ghost use Rattle.ft_store.specs.Calls.{IsPlainFault, IsChangeFault, StepsOnOk, StepsIfOpen, KeepsLast, LeavesNothing, IsStore, IsStored, IsStoreIfOpen, Keeps, StaysUncommitted};
+ghost use Rattle.ft_store.specs.Calls.{IsChangeFault, StepsOnOk, StepsIfOpen, StaysUncommitted, MakesAllOrNone, IsAtRest, StaysInside};
 ghost use Rattle.ft_store.specs.Groups.{entry_values, entry_put, PutsList, GoesOnOk};
+ghost use Rattle.ft_store.specs.Parts.{changes_in, CanMake};
 
 use crate::fault::StoreFault;
+use crate::parts::Parts;
 use crate::statements::{
     add_cell, add_column, add_list, add_lists, add_name, add_note, add_size, add_skip, drop_cell,
     drop_cells, drop_column, drop_columns, drop_contents, drop_list, drop_lists, drop_name,
@@ -35,10 +37,9 @@ fn put_column<S: Alter>(
     column: i64,
     name: &str,
 ) -> Result<(), StoreFault>
-    ensures same_reference { tx.new.conn.ghost_name ≡ tx.old.conn.ghost_name }
     ensures steps { StepsOnOk S.Store tx.old.conn.now tx.new.conn.now result
         (λ v. record v { columns = put column_key_cmp (tab, column) name.now v.columns }) }
-    ensures stays { StaysUncommitted S.Store tx.old.conn.now tx.new.conn.now result }
+    ensures stays { StaysUncommitted S.Store tx.old.conn tx.new.conn result }
 {
     drop_column(tx, tab, column)?;
     add_column(tx, tab, column, name)
@@ -46,10 +47,9 @@ fn put_column<S: Alter>(
 
 /// Puts that a column isn't indexed.
 fn put_skip<S: Alter>(tx: &mut Transaction<'_, S>, tab: i64, column: i64) -> Result<(), StoreFault>
-    ensures same_reference { tx.new.conn.ghost_name ≡ tx.old.conn.ghost_name }
     ensures steps { StepsOnOk S.Store tx.old.conn.now tx.new.conn.now result
         (λ v. record v { skipped = put column_key_cmp (tab, column) tt v.skipped }) }
-    ensures stays { StaysUncommitted S.Store tx.old.conn.now tx.new.conn.now result }
+    ensures stays { StaysUncommitted S.Store tx.old.conn tx.new.conn result }
 {
     drop_skip(tx, tab, column)?;
     add_skip(tx, tab, column)
@@ -63,13 +63,12 @@ fn put_cell<S: Alter>(
     column: i64,
     value: &Value,
 ) -> Result<(), StoreFault>
-    ensures same_reference { tx.new.conn.ghost_name ≡ tx.old.conn.ghost_name }
     ensures steps { StepsOnOk S.Store tx.old.conn.now tx.new.conn.now result
         (λ v. record v {
           cells = put cell_key_cmp (tab, docid, column) (shown_value value.now)
               v.cells;
         }) }
-    ensures stays { StaysUncommitted S.Store tx.old.conn.now tx.new.conn.now result }
+    ensures stays { StaysUncommitted S.Store tx.old.conn tx.new.conn result }
 {
     drop_cell(tx, tab, docid, column)?;
     add_cell(tx, tab, docid, column, value)
@@ -83,13 +82,12 @@ fn put_list<'a, S: Alter>(
     docid: i64,
     list: &'a [u8],
 ) -> Result<(), StoreFault>
-    ensures same_reference { tx.new.conn.ghost_name ≡ tx.old.conn.ghost_name }
     ensures steps { StepsOnOk S.Store tx.old.conn.now tx.new.conn.now result
         (λ v. record v {
           lists = put list_key_cmp (tab, term.now, docid)
               (unwrap_or (spots_in list.now) []) v.lists;
         }) }
-    ensures stays { StaysUncommitted S.Store tx.old.conn.now tx.new.conn.now result }
+    ensures stays { StaysUncommitted S.Store tx.old.conn tx.new.conn result }
 {
     drop_list(tx, tab, term, docid)?;
     add_list(tx, tab, term, docid, list)
@@ -103,10 +101,9 @@ fn put_size<S: Alter>(
     column: i64,
     n: i64,
 ) -> Result<(), StoreFault>
-    ensures same_reference { tx.new.conn.ghost_name ≡ tx.old.conn.ghost_name }
     ensures steps { StepsOnOk S.Store tx.old.conn.now tx.new.conn.now result
         (λ v. record v { sizes = put cell_key_cmp (tab, docid, column) n v.sizes }) }
-    ensures stays { StaysUncommitted S.Store tx.old.conn.now tx.new.conn.now result }
+    ensures stays { StaysUncommitted S.Store tx.old.conn tx.new.conn result }
 {
     drop_size(tx, tab, docid, column)?;
     add_size(tx, tab, docid, column, n)
@@ -114,10 +111,9 @@ fn put_size<S: Alter>(
 
 /// Puts a noted name.
 fn put_note<S: Alter>(tx: &mut Transaction<'_, S>, name: &str) -> Result<(), StoreFault>
-    ensures same_reference { tx.new.conn.ghost_name ≡ tx.old.conn.ghost_name }
     ensures steps { StepsOnOk S.Store tx.old.conn.now tx.new.conn.now result
         (λ v. record v { noted = put name_cmp (without_case name.now) name.now v.noted }) }
-    ensures stays { StaysUncommitted S.Store tx.old.conn.now tx.new.conn.now result }
+    ensures stays { StaysUncommitted S.Store tx.old.conn tx.new.conn result }
 {
     drop_note(tx, name)?;
     add_note(tx, name)
@@ -133,12 +129,10 @@ fn put_entries<S: Alter>(
     spots: &[Spot],
 ) -> Result<(), StoreFault>
     ensures packable { OnOk result (CanPack spots.now) }
-    ensures fault { IfErr result (IsChangeFault (CanPack spots.now)) }
-    ensures same_reference { tx.new.conn.ghost_name ≡ tx.old.conn.ghost_name }
     ensures steps { StepsOnOk S.Store tx.old.conn.now tx.new.conn.now result
         (λ v. record v { lists = put list_key_cmp (tab, term.now, docid) spots.now v.lists }) }
-    ensures kept { KeepsLast S.Store tx.old.conn.now tx.new.conn.now }
-    ensures survives { LeavesNothing S.Store tx.old.conn.now tx.new.conn.now }
+    ensures stays { StaysInside S.Store tx.old.conn tx.new.conn result
+        (IsChangeFault (CanPack spots.now)) }
 {
     if !can_pack(spots) {
         return Err(StoreFault::Damaged);
@@ -149,10 +143,9 @@ fn put_entries<S: Alter>(
 
 /// Takes all index rows of a table out.
 fn clear_index<S: Alter>(tx: &mut Transaction<'_, S>, tab: i64) -> Result<(), StoreFault>
-    ensures same_reference { tx.new.conn.ghost_name ≡ tx.old.conn.ghost_name }
     ensures steps { StepsOnOk S.Store tx.old.conn.now tx.new.conn.now result
         (λ v. without_index tab v) }
-    ensures stays { StaysUncommitted S.Store tx.old.conn.now tx.new.conn.now result }
+    ensures stays { StaysUncommitted S.Store tx.old.conn tx.new.conn result }
 {
     drop_lists(tx, tab)?;
     drop_sizes(tx, tab)
@@ -160,10 +153,9 @@ fn clear_index<S: Alter>(tx: &mut Transaction<'_, S>, tab: i64) -> Result<(), St
 
 /// Takes all rows of a table out.
 fn clear_rows<S: Alter>(tx: &mut Transaction<'_, S>, tab: i64) -> Result<(), StoreFault>
-    ensures same_reference { tx.new.conn.ghost_name ≡ tx.old.conn.ghost_name }
     ensures steps { StepsOnOk S.Store tx.old.conn.now tx.new.conn.now result
         (λ v. without_rows tab v) }
-    ensures stays { StaysUncommitted S.Store tx.old.conn.now tx.new.conn.now result }
+    ensures stays { StaysUncommitted S.Store tx.old.conn tx.new.conn result }
 {
     clear_index(tx, tab)?;
     drop_contents(tx, tab)?;
@@ -178,13 +170,12 @@ fn put_columns<S: Alter>(
     tab: i64,
     columns: &[String],
 ) -> Result<(), StoreFault>
-    ensures same_reference { tx.new.conn.ghost_name ≡ tx.old.conn.ghost_name }
     ensures steps { StepsIfOpen S.Store tx.old.conn.now tx.new.conn.now result
         (λ v. record v {
           columns = with_columns tab
               (enumerate_from 0 (map string_bytes columns.now)) v.columns;
         }) }
-    ensures stays { StaysUncommitted S.Store tx.old.conn.now tx.new.conn.now result }
+    ensures stays { StaysUncommitted S.Store tx.old.conn tx.new.conn result }
 {
     for (at, name) in columns.iter().enumerate() {
         put_column(tx, tab, at as i64, name.as_str())?;
@@ -198,10 +189,9 @@ fn put_skips<S: Alter>(
     tab: i64,
     skipped: &[i64],
 ) -> Result<(), StoreFault>
-    ensures same_reference { tx.new.conn.ghost_name ≡ tx.old.conn.ghost_name }
     ensures steps { StepsIfOpen S.Store tx.old.conn.now tx.new.conn.now result
         (λ v. record v { skipped = with_skipped tab skipped.now v.skipped }) }
-    ensures stays { StaysUncommitted S.Store tx.old.conn.now tx.new.conn.now result }
+    ensures stays { StaysUncommitted S.Store tx.old.conn tx.new.conn result }
 {
     for column in skipped {
         put_skip(tx, tab, *column)?;
@@ -217,10 +207,9 @@ fn add_table<S: Alter>(
     columns: &[String],
     skipped: &[i64],
 ) -> Result<(), StoreFault>
-    ensures same_reference { tx.new.conn.ghost_name ≡ tx.old.conn.ghost_name }
     ensures steps { StepsOnOk S.Store tx.old.conn.now tx.new.conn.now result
         (λ v. applied (AddTable tab name.now (map string_bytes columns.now) skipped.now) v) }
-    ensures stays { StaysUncommitted S.Store tx.old.conn.now tx.new.conn.now result }
+    ensures stays { StaysUncommitted S.Store tx.old.conn tx.new.conn result }
 {
     clear_rows(tx, tab)?;
     add_name(tx, tab, name)?;
@@ -235,12 +224,10 @@ fn apply<S: Alter>(
     change: &RowChange,
 ) -> Result<(), StoreFault>
     ensures packable { OnOk result (CanApply change.now) }
-    ensures fault { IfErr result (IsChangeFault (CanApply change.now)) }
-    ensures same_reference { tx.new.conn.ghost_name ≡ tx.old.conn.ghost_name }
     ensures steps { StepsOnOk S.Store tx.old.conn.now tx.new.conn.now result
         (λ v. applied (shown_change change.now) v) }
-    ensures kept { KeepsLast S.Store tx.old.conn.now tx.new.conn.now }
-    ensures survives { LeavesNothing S.Store tx.old.conn.now tx.new.conn.now }
+    ensures stays { StaysInside S.Store tx.old.conn tx.new.conn result
+        (IsChangeFault (CanApply change.now)) }
 {
     match change {
         RowChange::AddTable(tab, name, columns, skipped) => add_table(
@@ -271,12 +258,10 @@ fn apply_each<S: Alter>(
     changes: &[RowChange],
 ) -> Result<(), StoreFault>
     ensures packable { OnOk result (All CanApply changes.now) }
-    ensures fault { IfErr result (IsChangeFault (All CanApply changes.now)) }
-    ensures same_reference { tx.new.conn.ghost_name ≡ tx.old.conn.ghost_name }
     ensures goes { GoesOnOk S.Store tx.old.conn.now tx.new.conn.now result
         (λ _ v. all_applied (map shown_change changes.now) v) }
-    ensures kept { KeepsLast S.Store tx.old.conn.now tx.new.conn.now }
-    ensures survives { LeavesNothing S.Store tx.old.conn.now tx.new.conn.now }
+    ensures stays { StaysInside S.Store tx.old.conn tx.new.conn result
+        (IsChangeFault (All CanApply changes.now)) }
 {
     for change in changes {
         apply(tx, alloc, change)?;
@@ -376,10 +361,9 @@ fn add_group<S: Alter>(
     changes: &[RowChange],
 ) -> Result<bool, StoreFault>
     ensures packable { IfOk result (λ added. IsTrue added → All CanApply changes.now) }
-    ensures same_reference { tx.new.conn.ghost_name ≡ tx.old.conn.ghost_name }
     ensures goes { GoesOnOk S.Store tx.old.conn.now tx.new.conn.now result
         (λ added v. if added then all_applied (map shown_change changes.now) v else v) }
-    ensures stays { StaysUncommitted S.Store tx.old.conn.now tx.new.conn.now result }
+    ensures stays { StaysUncommitted S.Store tx.old.conn tx.new.conn result }
 {
     if changes.len() != GROUP {
         return Ok(false);
@@ -398,12 +382,10 @@ fn apply_group<S: Alter>(
     changes: &[RowChange],
 ) -> Result<(), StoreFault>
     ensures packable { OnOk result (All CanApply changes.now) }
-    ensures fault { IfErr result (IsChangeFault (All CanApply changes.now)) }
-    ensures same_reference { tx.new.conn.ghost_name ≡ tx.old.conn.ghost_name }
     ensures goes { GoesOnOk S.Store tx.old.conn.now tx.new.conn.now result
         (λ _ v. all_applied (map shown_change changes.now) v) }
-    ensures kept { KeepsLast S.Store tx.old.conn.now tx.new.conn.now }
-    ensures survives { LeavesNothing S.Store tx.old.conn.now tx.new.conn.now }
+    ensures stays { StaysInside S.Store tx.old.conn tx.new.conn result
+        (IsChangeFault (All CanApply changes.now)) }
 {
     let added = add_group(tx, alloc, changes)?;
     if added {
@@ -412,39 +394,65 @@ fn apply_group<S: Alter>(
     apply_each(tx, alloc, changes)
 }
 
+/// Makes row changes in a transaction, in their order.
+fn apply_all<S: Alter>(
+    tx: &mut Transaction<'_, S>,
+    alloc: Global,
+    changes: &[RowChange],
+) -> Result<(), StoreFault>
+    ensures packable { OnOk result (All CanApply changes.now) }
+    ensures goes { GoesOnOk S.Store tx.old.conn.now tx.new.conn.now result
+        (λ _ v. all_applied (map shown_change changes.now) v) }
+    ensures stays { StaysInside S.Store tx.old.conn tx.new.conn result
+        (IsChangeFault (All CanApply changes.now)) }
+{
+    let mut at = 0;
+    while at < changes.len() {
+        let end = at + group_size(&changes[at..]);
+        apply_group(tx, alloc, &changes[at..end])?;
+        at = end;
+    }
+    Ok(())
+}
+
 /// Makes all changes, in their order, or none.
 pub(crate) fn change<S: Alter>(
     conn: &mut Connection<S>,
     alloc: Global,
     changes: &[RowChange],
 ) -> Result<(), StoreFault>
-    requires settled { (state S.Store conn.old).in_transaction ≡ false }
-    requires store { IsStoreIfOpen (state S.Store conn.old) }
+    requires { IsAtRest (state S.Store conn.old) }
     ensures packable { OnOk result (All CanApply changes.now) }
     ensures fault { IfErr result (IsChangeFault (All CanApply changes.now)) }
-    ensures all { HasCleanDisk (state S.Store conn.new)
-        → OnOk result (IsStore (state S.Store conn.new).now
-        × (value_of (state S.Store conn.new).now.trees
-        ≡ all_applied (map shown_change changes.now)
-        (value_of (state S.Store conn.old).now.trees))) }
-    ensures none { HasCleanDisk (state S.Store conn.new)
-        → OnErr result (Keeps (state S.Store conn.old) (state S.Store conn.new)) }
-    ensures live { HasCleanDisk (state S.Store conn.new)
-        → OnOk result (IsTrue (state S.Store conn.old).is_open
-        × IsTrue (state S.Store conn.new).is_open) }
+    ensures made { MakesAllOrNone (state S.Store conn.old) (state S.Store conn.new) result
+        (map shown_change changes.now) }
     ensures mode { (state S.Store conn.new).in_transaction ≡ false }
-    ensures crash { Survives (state S.Store conn.old) (state S.Store conn.new)
-        (λ db. IsTrue (state S.Store conn.old).is_open
-        → IsStored db (all_applied (map shown_change changes.now)
-        (value_of (state S.Store conn.old).now.trees))) }
 {
     let _settled = conn.is_autocommit();
     let mut tx = conn.transaction();
-    let mut at = 0;
-    while at < changes.len() {
-        let end = at + group_size(&changes[at..]);
-        apply_group(&mut tx, alloc, &changes[at..end])?;
-        at = end;
+    apply_all(&mut tx, alloc, changes)?;
+    tx.commit()?;
+    Ok(())
+}
+
+/// Makes all changes of all parts that come, in their order, or none.
+pub(crate) fn change_parts<S: Alter, P: Parts>(
+    conn: &mut Connection<S>,
+    alloc: Global,
+    parts: &mut P,
+) -> Result<(), StoreFault>
+    requires { IsAtRest (state S.Store conn.old) }
+    ensures packable { OnOk result (All CanMake (changes_in (P.Parts.to_come parts.old))) }
+    ensures fault { IfErr result
+        (IsChangeFault (All CanMake (changes_in (P.Parts.to_come parts.old)))) }
+    ensures made { MakesAllOrNone (state S.Store conn.old) (state S.Store conn.new) result
+        (changes_in (P.Parts.to_come parts.old)) }
+    ensures mode { (state S.Store conn.new).in_transaction ≡ false }
+{
+    let _settled = conn.is_autocommit();
+    let mut tx = conn.transaction();
+    while let Some(changes) = parts.next()? {
+        apply_all(&mut tx, alloc, changes.as_slice())?;
     }
     tx.commit()?;
     Ok(())

@@ -27,7 +27,7 @@ returns-then-branch-clause-checks g c =
     let read = slice_get_read c.args.tables.now _ c.in-Some.place c.index-tables-place.result refl (slice_get_within c.args.tables.now c.in-Some.place s.item s.is) c.index-tables-place.is in
     let same : s.item ≡ c.index-tables-place.result = same_Some s.item c.index-tables-place.result (sym s.is ∙ read) in
     let fits : FitsSigned w64 c.index-tables-place.result.id = search rules in
-    executes_read g.S.Store c.args.store.now c.is_right.new.store tables (plain.Check c.args.table.now) _ c.in_ok-is_right.ensures.looks (λ up first holds.
+    executes_read g.S.Store c.args.store.now c.is_right.new.store tables (plain.Check c.args.table.now) _ c.in_ok-is_right.ensures.looks.only (λ up first holds.
     let t = told_here v tables first c.args.table.now (shown_info s.item) c.is_in_order.ensures.order holds s.found in
     let named : IsNamed v (to_z w64 (of_z w64 c.index-tables-place.result.id)) (t.table.0, t.table.1.name) = subst (λ k. IsNamed v k (t.table.0, t.table.1.name)) (ap (λ (i : RustTableInfo). i.id) same ∙ sym (to_z-of_z fits)) t.named in
     let read_named = subst (λ (i : RustTableInfo). IsNamed v (to_z w64 (of_z w64 i.id)) (t.table.0, t.table.1.name)) c.index-tables-place.is named in
@@ -42,7 +42,7 @@ returns-else-branch-clause-checks g c =
     let read = slice_get_read c.args.tables.now _ c.in-Some.place c.index-tables-place.result refl (slice_get_within c.args.tables.now c.in-Some.place s.item s.is) c.index-tables-place.is in
     let same : s.item ≡ c.index-tables-place.result = same_Some s.item c.index-tables-place.result (sym s.is ∙ read) in
     let fits : FitsSigned w64 c.index-tables-place.result.id = search rules in
-    executes_read g.S.Store c.args.store.now c.is_right.new.store tables (plain.Check c.args.table.now) _ c.in_ok-is_right.ensures.looks (λ up first holds.
+    executes_read g.S.Store c.args.store.now c.is_right.new.store tables (plain.Check c.args.table.now) _ c.in_ok-is_right.ensures.looks.only (λ up first holds.
     let t = told_here v tables first c.args.table.now (shown_info s.item) c.is_in_order.ensures.order holds s.found in
     let named : IsNamed v (to_z w64 (of_z w64 c.index-tables-place.result.id)) (t.table.0, t.table.1.name) = subst (λ k. IsNamed v k (t.table.0, t.table.1.name)) (ap (λ (i : RustTableInfo). i.id) same ∙ sym (to_z-of_z fits)) t.named in
     let read_named = subst (λ (i : RustTableInfo). IsNamed v (to_z w64 (of_z w64 i.id)) (t.table.0, t.table.1.name)) c.index-tables-place.is named in

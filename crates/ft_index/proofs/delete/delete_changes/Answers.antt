@@ -1,63 +1,31 @@
--- by the table, and what is written
-use Rattle.std.proofs.Common.{rules, ◌≡◌, ℕ, List, map, string_bytes, Err, Ok, Result, Vec, Global, sym, ap, subst, ◌∙◌, to_z-of_z, to_z, of_z, w64, FitsSigned}
-use Rattle.std.specs.Prelude.{All}
+-- by what is written
+use Rattle.std.proofs.Common.{rules, ◌≡◌, map, Err, Ok, Result, Vec, Global, sym, subst}
 use Rattle.ft_values.specs.declared.rows.RowChange.{RowChange}
 use Rattle.ft_rows.specs.Changes.{shown_change}
 use Rattle.ft_values.specs.declared.fault.Fault.{Fault}
 use Rattle.ft_content.specs.Command as plain
-use Rattle.ft_content.specs.Views.{column_of, filter_of, shown_info}
-use Rattle.ft_documents.specs.declared.rewrite.Rewrite.{Rewrite}
-use Rattle.ft_documents.specs.Found.{IsSoundNamed, IsUnfit}
-use Rattle.ft_documents.specs.Rewrite.{AreRight, shown_rewrite, docids_of}
-use Rattle.ft_documents.specs.Tables.{IsOfDocids}
-use Rattle.ft_index.specs.Written.{Writes, PlansIn}
-use Rattle.ft_index.proofs.DeleteWrites.{due, made, gone, is_write}
-use Rattle.ft_index.proofs.Planning.{plans_unfit, plans_fail, plans_do}
+use Rattle.ft_content.specs.Views.{filter_of, shown_info}
+use Rattle.ft_index.specs.declared.written.Written.{Written}
+use Rattle.ft_index.specs.Written.{PlansIn, WritesIn}
 use Rattle.ft_index.proofs.delete.delete_changes.Goals as goal
 
-pub returns-in_err-known-clause-plans : goal.returns-in_err-known-clause-plans
-returns-in_err-known-clause-plans g c =
+pub returns-in_err-written-clause-plans : goal.returns-in_err-written-clause-plans
+returns-in_err-written-clause-plans g c =
     let f = filter_of c.args.filter.now in
     let tables = map shown_info c.args.tables.now in
-    let fault : Fault = c.in_err-known.field-0.0 in
+    let command = plain.Delete c.args.table.now f in
+    let fault : Fault = c.in_err-written.field-0.0 in
     let is : c.from_residual.result ≡ Err fault = search rules in
-    let unfit : IsUnfit tables c.args.table.now fault = c.in_err-known.ensures in
-    let command = plain.Delete c.args.table.now f in
-    subst (λ (r : Result (Vec RowChange Global) Fault). PlansIn g.S.Store tables c.args.store.now c.args.store.now command r) (sym is)
-    (plans_unfit g.S.Store command c.args.table.now (due f) (made f) (gone f) (is_write f c.args.table.now) c.args.store.now c.args.store.now tables fault unfit)
-
-pub returns-in_err-rewrites-clause-plans : goal.returns-in_err-rewrites-clause-plans
-returns-in_err-rewrites-clause-plans g c =
-    let f = filter_of c.args.filter.now in
-    let tables = map shown_info c.args.tables.now in
-    let fault : Fault = c.in_err-rewrites.field-0.0 in
-    let is : c.from_residual-in_err-rewrites.result ≡ Err fault = search rules in
-    let failed : c.written_by_delete.result ≡ Err fault = search rules in
-    let command = plain.Delete c.args.table.now f in
-    let known = shown_info c.in_ok-known.known.now in
-    let named : IsSoundNamed tables c.args.table.now known = c.in_ok-known.ensures in
-    subst (λ (r : Result (Vec RowChange Global) Fault). PlansIn g.S.Store tables c.args.store.now c.written_by_delete.new.store command r) (sym is)
-    (plans_fail g.S.Store command c.args.table.now (due f) (made f) (gone f) (is_write f c.args.table.now) c.args.store.now c.written_by_delete.new.store tables known c.is_in_order.ensures.order named fault
-    (λ content has. subst (λ (r : Result (Vec Rewrite Global) Fault). Writes content (due f known.name content) (made f content) (gone f content) r) failed (c.written_by_delete.ensures.written content has)))
+    let failed : c.delete_written.result ≡ Err fault = search rules in
+    subst (λ (r : Result (Vec RowChange Global) Fault). PlansIn g.S.Store tables c.args.store.now c.delete_written.new.store command r) (sym is)
+    (subst (λ (r : Result Written Fault). WritesIn g.S.Store tables c.args.store.now c.delete_written.new.store command r) failed c.delete_written.ensures.writes)
 
 pub returns-clause-plans : goal.returns-clause-plans
 returns-clause-plans g c =
     let f = filter_of c.args.filter.now in
     let tables = map shown_info c.args.tables.now in
     let command = plain.Delete c.args.table.now f in
-    let known = shown_info c.in_ok-known.known.now in
-    let named : IsSoundNamed tables c.args.table.now known = c.in_ok-known.ensures in
-    let rewrites = c.in_ok-rewrites.rewrites in
-    let changes = c.in_ok-changes.changes in
-    let done : c.written_by_delete.result ≡ Ok rewrites = search rules in
-    let fits : FitsSigned w64 known.id = search rules in
-    let list = map shown_change changes.items in
-    let right = subst (λ k. AreRight k known.columns (map shown_rewrite rewrites.items) list) (to_z-of_z fits)
-    (subst (λ l. AreRight (to_z w64 (of_z w64 known.id)) (map column_of l) (map shown_rewrite rewrites.items) list) c.as_slice.ensures.value
-    (subst (λ l. AreRight (to_z w64 (of_z w64 known.id)) (map column_of c.as_slice.result.now) (map shown_rewrite l) list) c.as_slice-2.ensures.value c.in_ok-changes.ensures.right)) in
-    let near = subst (λ k. All (IsOfDocids k (docids_of (map shown_rewrite rewrites.items))) list) (to_z-of_z fits)
-    (subst (λ l. All (IsOfDocids (to_z w64 (of_z w64 known.id)) (docids_of (map shown_rewrite l))) list) c.as_slice-2.ensures.value c.in_ok-changes.ensures.near) in
-    plans_do g.S.Store command c.args.table.now (due f) (made f) (gone f) (is_write f c.args.table.now) c.args.store.now c.written_by_delete.new.store tables known c.is_in_order.ensures.order named rewrites changes
-    (λ content has. subst (λ (r : Result (Vec Rewrite Global) Fault). Writes content (due f known.name content) (made f content) (gone f content) r) done (c.written_by_delete.ensures.written content has))
-    right
-    near
+    let written = c.in_ok-written.written in
+    let done : c.delete_written.result ≡ Ok written = search rules in
+    let writes = subst (λ (r : Result Written Fault). WritesIn g.S.Store tables c.args.store.now c.delete_written.new.store command r) done c.delete_written.ensures.writes in
+    writes (map shown_change c.in_ok-changes.changes.items) c.in_ok-changes.ensures

@@ -1,9 +1,8 @@
 -- by its tests, and the documents that are chosen
-use Rattle.std.proofs.Common.{rules, ◌≡◌, ◌≢◌, inr, ℕ, List, map, string_bytes, option_map, Err, Ok, Option, Some, None, Result, Vec, Global, sym, ap, subst, ◌∙◌, to_z-of_z, to_z, of_z, w64, FitsSigned}
+use Rattle.std.proofs.Common.{rules, ◌≡◌, ◌≢◌, map, string_bytes, option_map, Err, Some, None, Result, Vec, Global, sym, ap, subst, ◌∙◌, to_z-of_z, to_z, of_z, w64, FitsSigned}
 use Rattle.ft_query.specs.Trees.{tree_of}
 use Rattle.ft_values.specs.declared.fault.Fault.{Fault}
 use Rattle.ft_values.specs.declared.fault.Fault.TheVariants as faults
-use Rattle.ft_content.specs.Answer.{chosen}
 use Rattle.ft_content.specs.Deserved.{delete_tests, query_fault}
 use Rattle.ft_content.specs.Views.{bare_content, column_of, filter_of}
 use Rattle.ft_documents.specs.declared.rewrite.Rewrite.{Rewrite}
@@ -12,7 +11,7 @@ use Rattle.ft_documents.specs.Rewrite.{removal}
 use Rattle.ft_index.specs.Written.{Writes, LeadsTo}
 use Rattle.ft_documents.proofs.BareLemmas.{reads_bare}
 use Rattle.ft_index.proofs.WholeReads.{rows_of, index_of}
-use Rattle.ft_index.proofs.DeleteWrites.{due, made, gone, leads, tested_due, text_due, none_due}
+use Rattle.ft_index.proofs.DeleteWrites.{due, made, gone, leads, text_due, none_due}
 use Rattle.ft_index.proofs.delete.written_by_delete.Goals as goal
 
 pub returns-in_err-query-clause-written : goal.returns-in_err-query-clause-written

@@ -21,4 +21,4 @@ pub returns-clause-counted : goal.returns-clause-counted
 returns-clause-counted g c =
     let same : vec_len c.in_ok-rows.rows ≡ vec_len c.in_ok-cells.cells =
     c.in_ok-rows.rows.ok.0 ∙ sym (length-map c.in_ok-rows.rows.items (λ row. shown_value row.value)) ∙ ap length (sym c.in_ok-cells.ensures) ∙ length-map c.in_ok-cells.cells.items shown_value ∙ sym c.in_ok-cells.cells.ok.0 in
-    c.in_ok-rows.ensures.counted ∙ ap (λ (n : ℕ). more_rows n c.args.store.now) same
+    c.in_ok-rows.ensures.read.counted ∙ ap (λ (n : ℕ). more_rows n c.args.store.now) same

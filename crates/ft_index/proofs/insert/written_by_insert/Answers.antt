@@ -1,9 +1,8 @@
 -- by its tests, and what its rows make
-use Rattle.std.proofs.Common.{rules, zip, FitsSigned, ◌≡◌, inr, ℕ, List, map, option_map, string_bytes, Err, Ok, Option, Some, None, Result, Vec, Global, sym, ap, subst, ◌∙◌, to_z-of_z, to_z, of_z, w64}
+use Rattle.std.proofs.Common.{rules, zip, FitsSigned, ◌≡◌, inr, map, option_map, string_bytes, Err, Ok, Some, None, Result, Vec, Global, sym, ap, subst, ◌∙◌, to_z-of_z, to_z, of_z, w64}
 use Rattle.ft_store.specs.Kept.{value_in}
 use Rattle.ft_values.specs.declared.fault.Fault.{Fault}
-use Rattle.ft_content.specs.Content.{Content, content_rows}
-use Rattle.ft_content.specs.Views.{bare_content, cells_of, column_of}
+use Rattle.ft_content.specs.Views.{cells_of, column_of}
 use Rattle.ft_documents.specs.Tables.{table_rows}
 use Rattle.ft_documents.specs.declared.rewrite.Rewrite.{Rewrite}
 use Rattle.ft_index.specs.DocumentsRead.{HasRows}

@@ -1,5 +1,5 @@
 -- by the plan of a Select
-use Rattle.std.proofs.Common.{ℕ, map, string_bytes, sym, subst}
+use Rattle.std.proofs.Common.{sym, subst}
 use Rattle.ft_store.specs.Kept.{value_in}
 use Rattle.ft_content.specs.declared.command.Command.{Command}
 use Rattle.ft_content.specs.Command as plain

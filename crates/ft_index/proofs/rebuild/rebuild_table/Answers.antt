@@ -36,7 +36,7 @@ returns-in_err-changes-clause-executes g c =
     let command = plain.Rebuild c.args.table.now in
     let value = value_in g.S.Store c.args.store.now in
     subst (λ (a : Result Reply Fault). Executes g.S.Store (with_tables c.args.store.now tables) command (answer_of a) (with_tables c.rebuild_changes.new.store tables)) (sym is)
-    (refused_plan g.S.Store c.args.store.now c.rebuild_changes.new.store tables command fault c.rebuild_changes.ensures.looks
+    (refused_plan g.S.Store c.args.store.now c.rebuild_changes.new.store tables command fault c.rebuild_changes.ensures.looks.only
     (λ clean contents held. subst (λ (r : Result (Vec RowChange Global) Fault). PlansFrom contents command value (changes_of r)) planned
     (c.rebuild_changes.ensures.plan clean contents (subst (λ ts. AreHeld value (map shown_info ts) contents) (sym c.as_slice.ensures.value) held))))
 
@@ -51,7 +51,7 @@ returns-in_err-change_rows-clause-executes g c =
     let mid = c.rebuild_changes.new.store in
     let changed = subst (λ (r : Result (Unit {0}) Fault). Changed g.S.Store mid c.change_rows.new.store (map shown_change c.as_slice-2.result.now) (is_ok r)) refused c.change_rows.ensures.changed in
     subst (λ (a : Result Reply Fault). Executes g.S.Store (with_tables c.args.store.now tables) command (answer_of a) (with_tables c.change_rows.new.store tables)) (sym is)
-    (refused_after g.S.Store c.args.store.now mid c.change_rows.new.store tables (map shown_change c.as_slice-2.result.now) command c.rebuild_changes.ensures.looks fault outside changed)
+    (refused_after g.S.Store c.args.store.now mid c.change_rows.new.store tables (map shown_change c.as_slice-2.result.now) command c.rebuild_changes.ensures.looks.only fault outside changed)
 
 pub returns-clause-executes : goal.returns-clause-executes
 returns-clause-executes g c =
@@ -82,7 +82,7 @@ returns-clause-executes g c =
           ∙ ap (λ k. with_sound k tables) (to_z-of_z fits)
           ∙ ap (λ (t : RustTableInfo). with_sound t.id tables) same in
           subst (λ (ts : List TableInfo). Executes g.S.Store (with_tables c.args.store.now tables) command (Ok plain.Done) (with_tables c.change_rows.new.store ts)) (sym told)
-          (executes_after g.S.Store c.args.store.now mid c.change_rows.new.store tables changes command c.rebuild_changes.ensures.looks (with_sound s.item.id tables) plans changed
+          (executes_after g.S.Store c.args.store.now mid c.change_rows.new.store tables changes command c.rebuild_changes.ensures.looks.only (with_sound s.item.id tables) plans changed
           (λ contents held fine. told_after value tables contents c.args.table.now (shown_info s.item) (told_here value tables contents c.args.table.now (shown_info s.item) c.is_in_order.ensures.order held named) held.told fine)
           (λ contents. rebuild_reply contents c.args.table.now))
       | in_default w ↦
@@ -91,7 +91,7 @@ returns-clause-executes g c =
           let named = ap (λ ts. info_named (map shown_info ts) c.args.table.now) (sym here) ∙ unplaced shown_info (λ (t : TableInfo). same_name t.name c.args.table.now) c.as_slice-known.result.now (sym c.table_place.ensures ∙ none) in
           let told : map shown_info c.match-table_place.tables.items ≡ tables = ap (λ (v : Vec RustTableInfo Global). map shown_info v.items) w.tables-is in
           subst (λ (ts : List TableInfo). Executes g.S.Store (with_tables c.args.store.now tables) command (Ok plain.Done) (with_tables c.change_rows.new.store ts)) (sym told)
-          (executes_after g.S.Store c.args.store.now mid c.change_rows.new.store tables changes command c.rebuild_changes.ensures.looks tables plans changed
+          (executes_after g.S.Store c.args.store.now mid c.change_rows.new.store tables changes command c.rebuild_changes.ensures.looks.only tables plans changed
           (λ contents held fine. absurd (let no = sym fine ∙ rebuild_missing contents tables c.args.table.now held.told named in cc))
           (λ contents. rebuild_reply contents c.args.table.now))
     ]
@@ -99,7 +99,7 @@ returns-clause-executes g c =
 pub returns-in_err-changes-clause-crash : goal.returns-in_err-changes-clause-crash
 returns-in_err-changes-clause-crash g c =
     let tables = map shown_info c.args.tables.now.items in
-    crash_read g.S.Store c.args.store.now c.rebuild_changes.new.store tables tables (plain.Rebuild c.args.table.now) c.rebuild_changes.ensures.looks
+    crash_read g.S.Store c.args.store.now c.rebuild_changes.new.store tables tables (plain.Rebuild c.args.table.now) c.rebuild_changes.ensures.looks.only
 
 pub returns-in_err-change_rows-clause-crash : goal.returns-in_err-change_rows-clause-crash
 returns-in_err-change_rows-clause-crash g c =
@@ -113,7 +113,7 @@ returns-in_err-change_rows-clause-crash g c =
     let plans : PlansIn g.S.Store tables c.args.store.now mid command (Ok changes) =
     λ up contents held. subst (λ (r : Result (Vec RowChange Global) Fault). PlansFrom contents command value (changes_of r)) planned
     (c.rebuild_changes.ensures.plan up.clean contents (subst (λ ts. AreHeld value (map shown_info ts) contents) (sym c.as_slice.ensures.value) held)) in
-    crash_written g.S.Store c.args.store.now mid c.change_rows.new.store tables after command changes c.rebuild_changes.ensures.looks c.in_ok-changes.ensures.live plans
+    crash_written g.S.Store c.args.store.now mid c.change_rows.new.store tables after command (map shown_change changes.items) c.rebuild_changes.ensures.looks.only c.in_ok-changes.ensures.looks.live plans
     (subst (λ (cs : List RowChange). Survives (shows g.S.Store mid) (shows g.S.Store c.change_rows.new.store) (CommitsRows g.S.Store mid (map shown_change cs))) c.as_slice-2.ensures.value c.change_rows.ensures.crash)
 
 pub returns-clause-crash : goal.returns-clause-crash
@@ -128,5 +128,5 @@ returns-clause-crash g c =
     let plans : PlansIn g.S.Store tables c.args.store.now mid command (Ok changes) =
     λ up contents held. subst (λ (r : Result (Vec RowChange Global) Fault). PlansFrom contents command value (changes_of r)) planned
     (c.rebuild_changes.ensures.plan up.clean contents (subst (λ ts. AreHeld value (map shown_info ts) contents) (sym c.as_slice.ensures.value) held)) in
-    crash_written g.S.Store c.args.store.now mid c.change_rows.new.store tables after command changes c.rebuild_changes.ensures.looks c.in_ok-changes.ensures.live plans
+    crash_written g.S.Store c.args.store.now mid c.change_rows.new.store tables after command (map shown_change changes.items) c.rebuild_changes.ensures.looks.only c.in_ok-changes.ensures.looks.live plans
     (subst (λ (cs : List RowChange). Survives (shows g.S.Store mid) (shows g.S.Store c.change_rows.new.store) (CommitsRows g.S.Store mid (map shown_change cs))) c.as_slice-2.ensures.value c.change_rows.ensures.crash)

@@ -57,4 +57,4 @@ returns-clause-found g c content rows =
     ∙ ap (map row) (take_all c.loop-hit.hit-index c.args.hits.now c.loop-hit-test.false)
 
 pub returns-in_err-cells-clause-looks : goal.returns-in_err-cells-clause-looks
-returns-in_err-cells-clause-looks g c = looks_then g.S.Store c.args.store.now c.loop-hit.store c.found_cells.new.store c.loop-hit.invariant.looks c.found_cells.ensures.looks c.loop-hit.invariant.live
+returns-in_err-cells-clause-looks g c = record { only = looks_then g.S.Store c.args.store.now c.loop-hit.store c.found_cells.new.store c.loop-hit.invariant.looks c.found_cells.ensures.looks c.loop-hit.invariant.live; live = search rules }

@@ -20,7 +20,7 @@ returns-then-has_column-clause-found g c = IfOk-weaker c.cell_rows.result _ _ (�
     let middle = c.matched.new.store in
     let last = c.cell_rows.new.store in
     let one : Looks g.S.Store first middle = record { kept = c.matched.ensures.kept; survives = c.matched.ensures.survives } in
-    let two = c.cell_rows.ensures.looks in
+    let two = c.cell_rows.ensures.looks.only in
     let t = sym (to_z-of_z c.ranges.tab) in
     let tab : ℤ = to_z w64 (of_z w64 c.args.tab) in
     let here = subst (λ (k : ℤ). HasRows g.S.Store k first last content) t asked.held.rows in
@@ -38,7 +38,7 @@ returns-then-has_column-clause-counted g c = on_ok_from c.cell_rows.result _ _ (
     let middle = c.matched.new.store in
     let last = c.cell_rows.new.store in
     let one : Looks g.S.Store first middle = record { kept = c.matched.ensures.kept; survives = c.matched.ensures.survives } in
-    let two = c.cell_rows.ensures.looks in
+    let two = c.cell_rows.ensures.looks.only in
     let t = sym (to_z-of_z c.ranges.tab) in
     let tab : ℤ = to_z w64 (of_z w64 c.args.tab) in
     let here = subst (λ (k : ℤ). HasRows g.S.Store k first last content) t asked.held.rows in

@@ -1,5 +1,5 @@
 -- by the table, and the query
-use Rattle.std.proofs.Common.{rules, ◌≡◌, ◌⊎◌, [], List, map, Ok, Err, None, Some, Result, Vec, Global, string_bytes, sym, ap, subst, ◌∙◌}
+use Rattle.std.proofs.Common.{rules, ◌≡◌, [], List, map, Ok, Err, Result, Vec, Global, sym, ap, subst}
 use Rattle.ft_values.specs.declared.rows.RowChange.{RowChange}
 use Rattle.ft_rows.specs.Store.{Change}
 use Rattle.ft_rows.specs.Changes.{shown_change}

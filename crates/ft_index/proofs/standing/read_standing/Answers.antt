@@ -35,7 +35,7 @@ has_right_index-requires g c =
 
 pub returns-in_err-has_right_index-clause-looks : goal.returns-in_err-has_right_index-clause-looks
 returns-in_err-has_right_index-clause-looks g c =
-    looks_then g.S.Store c.args.store.now c.cells.new.self (record { kept = c.in_ok-cells.ensures.kept; survives = c.in_ok-cells.ensures.survives }) c.in_ok-cells.ensures.live c.has_right_index.new.store c.in_err-has_right_index.ensures.looks
+    looks_then g.S.Store c.args.store.now c.cells.new.self (record { kept = c.in_ok-cells.ensures.read.kept; survives = c.in_ok-cells.ensures.read.survives }) c.in_ok-cells.ensures.read.live c.has_right_index.new.store c.in_err-has_right_index.ensures.looks
 
 pub returns-then-branch-clause-stands : goal.returns-then-branch-clause-stands
 returns-then-branch-clause-stands g c = λ named clean is.
@@ -43,7 +43,7 @@ returns-then-branch-clause-stands g c = λ named clean is.
     let table = c.args.table.now in
     let cells = c.in_ok-cells.cells.items in
     let middle : HasCleanDisk (shows g.S.Store c.cells.new.self) = omega (arith, c.in_ok-has_right_index.ensures.looks.survives.clean, clean) in
-    let same = looked g.S.Store c.args.store.now c.cells.new.self (record { kept = c.in_ok-cells.ensures.kept; survives = c.in_ok-cells.ensures.survives }) c.in_ok-cells.ensures.live middle in
+    let same = looked g.S.Store c.args.store.now c.cells.new.self (record { kept = c.in_ok-cells.ensures.read.kept; survives = c.in_ok-cells.ensures.read.survives }) c.in_ok-cells.ensures.read.live middle in
     let fits : FitsSigned w64 table.id = search rules in
     let l = listed old named table cells is (subst (λ k. CellsRead k old cells) (to_z-of_z fits) (c.in_ok-cells.ensures.rows middle)) in
     let columns = ap (map column_of) c.as_slice.ensures.value ∙ c.in_ok-columns.ensures in
@@ -59,7 +59,7 @@ returns-clause-stands g c = λ named clean is.
     let table = c.args.table.now in
     let cells = c.in_ok-cells.cells.items in
     let middle : HasCleanDisk (shows g.S.Store c.cells.new.self) = omega (arith, c.in_ok-has_right_index.ensures.looks.survives.clean, clean) in
-    let same = looked g.S.Store c.args.store.now c.cells.new.self (record { kept = c.in_ok-cells.ensures.kept; survives = c.in_ok-cells.ensures.survives }) c.in_ok-cells.ensures.live middle in
+    let same = looked g.S.Store c.args.store.now c.cells.new.self (record { kept = c.in_ok-cells.ensures.read.kept; survives = c.in_ok-cells.ensures.read.survives }) c.in_ok-cells.ensures.read.live middle in
     let fits : FitsSigned w64 table.id = search rules in
     let l = listed old named table cells is (subst (λ k. CellsRead k old cells) (to_z-of_z fits) (c.in_ok-cells.ensures.rows middle)) in
     let columns = ap (map column_of) c.as_slice.ensures.value ∙ c.in_ok-columns.ensures in
@@ -71,8 +71,8 @@ returns-clause-stands g c = λ named clean is.
 
 pub returns-then-branch-clause-looks : goal.returns-then-branch-clause-looks
 returns-then-branch-clause-looks g c =
-    looks_then g.S.Store c.args.store.now c.cells.new.self (record { kept = c.in_ok-cells.ensures.kept; survives = c.in_ok-cells.ensures.survives }) c.in_ok-cells.ensures.live c.has_right_index.new.store c.in_ok-has_right_index.ensures.looks
+    looks_then g.S.Store c.args.store.now c.cells.new.self (record { kept = c.in_ok-cells.ensures.read.kept; survives = c.in_ok-cells.ensures.read.survives }) c.in_ok-cells.ensures.read.live c.has_right_index.new.store c.in_ok-has_right_index.ensures.looks
 
 pub returns-clause-looks : goal.returns-clause-looks
 returns-clause-looks g c =
-    looks_then g.S.Store c.args.store.now c.cells.new.self (record { kept = c.in_ok-cells.ensures.kept; survives = c.in_ok-cells.ensures.survives }) c.in_ok-cells.ensures.live c.has_right_index.new.store c.in_ok-has_right_index.ensures.looks
+    looks_then g.S.Store c.args.store.now c.cells.new.self (record { kept = c.in_ok-cells.ensures.read.kept; survives = c.in_ok-cells.ensures.read.survives }) c.in_ok-cells.ensures.read.live c.has_right_index.new.store c.in_ok-has_right_index.ensures.looks

@@ -1,5 +1,5 @@
 -- by what is made
-use Rattle.std.proofs.Common.{rules, ◌≡◌, [], ◌∷◌, List, map, string_bytes, Ok, Err, None, Some, Result, Vec, Global, sym, ap, subst, ◌∙◌}
+use Rattle.std.proofs.Common.{rules, ◌≡◌, [], ◌∷◌, List, map, string_bytes, Ok, Err, None, Result, Vec, Global, sym, ap, subst, ◌∙◌}
 use Rattle.ft_values.specs.declared.rows.RowChange.{RowChange}
 use Rattle.ft_rows.specs.Store.{Change}
 use Rattle.ft_rows.specs.Changes.{shown_change}

@@ -13,8 +13,7 @@ use Rattle.ft_documents.specs.Found.{with_told}
 use Rattle.ft_values.specs.declared.fault.Fault.TheVariants as faults
 use Rattle.ft_index.specs.Changed.{Changed, with_tables}
 use Rattle.ft_index.proofs.Executing.{create_refused, create_nothing, create_adds, executes_refused}
-use Rattle.sqlite.specs.State.{Survives}
-use Rattle.ft_store.specs.Kept.{StoreState, shows, value_in}
+use Rattle.ft_store.specs.Kept.{StoreState, value_in}
 use Rattle.ft_index.specs.Crashes.{CommandSurvives}
 use Rattle.ft_index.proofs.CreateLemmas.{made_is_held}
 use Rattle.ft_index.proofs.Crashing.{crash_same, crash_changed}

@@ -1,11 +1,11 @@
 -- by the docids
-use Rattle.std.proofs.Common.{rules, ◌≡◌, inr, map, Some, Bool, sym, ap, subst, ◌∙◌, to_z-of_z, to_z, of_z, w64}
+use Rattle.std.proofs.Common.{◌≡◌, inr, map, Bool, sym, ap, subst, ◌∙◌, to_z-of_z, to_z, of_z, w64}
 use Rattle.std.specs.Prelude.{IfSome}
 use Rattle.ft_store.specs.Kept.{value_in}
-use Rattle.ft_content.specs.Deserved.{has_docid, moves_fault}
+use Rattle.ft_content.specs.Deserved.{has_docid}
 use Rattle.ft_documents.specs.Tables.{table_rows}
 use Rattle.ft_index.specs.DocumentsRead.{HasRows}
-use Rattle.ft_documents.specs.Gathered.{shown_document, has_given}
+use Rattle.ft_documents.specs.Gathered.{shown_document}
 use Rattle.ft_documents.proofs.InsertRows.{given_is}
 use Rattle.ft_index.proofs.UpdateWrites.{docids_shown}
 use Rattle.ft_index.proofs.update.test_move.Goals as goal

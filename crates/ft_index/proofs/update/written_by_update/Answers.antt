@@ -1,5 +1,5 @@
 -- by its tests, the documents that are chosen, and where one may go
-use Rattle.std.proofs.Common.{rules, ◌≡◌, ◌≢◌, ◌⊎◌, inl, inr, ℕ, ℤ, List, map, string_bytes, option_map, Err, Ok, Option, Some, None, Result, Vec, Global, sym, ap, subst, ◌∙◌, to_z-of_z, to_z, of_z, w64, FitsSigned}
+use Rattle.std.proofs.Common.{rules, ◌≡◌, ◌≢◌, inl, inr, List, map, string_bytes, option_map, Err, Some, None, Result, Vec, Global, sym, ap, subst, ◌∙◌, to_z-of_z, to_z, of_z, w64, FitsSigned}
 use Rattle.std.specs.Prelude.{slice_get}
 use Rattle.ft_query.specs.Trees.{tree_of}
 use Rattle.ft_values.specs.declared.fault.Fault.{Fault}
@@ -10,7 +10,6 @@ use Rattle.ft_content.specs.Deserved.{update_tests, query_fault, moves_fault, do
 use Rattle.ft_content.specs.Views.{bare_content, column_of, set_of, filter_of}
 use Rattle.ft_content.proofs.ContentLemmas.{update_keeps_content}
 use Rattle.ft_documents.specs.declared.rewrite.Rewrite.{Rewrite}
-use Rattle.ft_documents.specs.declared.document.Document.{Document}
 use Rattle.ft_documents.specs.Gathered.{shown_document}
 use Rattle.ft_documents.specs.Rewrite.{shown_rewrite}
 use Rattle.ft_documents.specs.Updated.{changing, MayMove}
@@ -64,8 +63,8 @@ returns-in_err-test_move-clause-written g c content has =
     let new = c.test_move.new.store in
     let rows = rows_of g.S.Store tab c.args.known.now.id same table columns old new content has in
     let index = index_of g.S.Store tab c.args.known.now.id same table columns old new content has in
-    let one = c.in_ok-documents.ensures.looks in
-    let two = c.test_move.ensures.looks in
+    let one = c.in_ok-documents.ensures.looks.only in
+    let two = c.test_move.ensures.looks.only in
     let shown : option_map (λ q. tree_of q.now) c.as_ref.result ≡ option_map tree_of c.in_ok-query.query = search rules in
     let here = subst (ReadsAs content f) (sym shown) (reads_bare content cols has.columns_are f (option_map tree_of c.in_ok-query.query) reads) in
     let found = c.in_ok-documents.ensures.chosen content (rows_first g.S.Store old mid new one two tab content rows) (index_first g.S.Store old mid new one two tab content index) here in
@@ -96,8 +95,8 @@ returns-clause-written g c content has =
     let new = c.test_move.new.store in
     let rows = rows_of g.S.Store tab c.args.known.now.id same table columns old new content has in
     let index = index_of g.S.Store tab c.args.known.now.id same table columns old new content has in
-    let one = c.in_ok-documents.ensures.looks in
-    let two = c.test_move.ensures.looks in
+    let one = c.in_ok-documents.ensures.looks.only in
+    let two = c.test_move.ensures.looks.only in
     let shown : option_map (λ q. tree_of q.now) c.as_ref.result ≡ option_map tree_of c.in_ok-query.query = search rules in
     let here = subst (ReadsAs content f) (sym shown) (reads_bare content cols has.columns_are f (option_map tree_of c.in_ok-query.query) reads) in
     let found = c.in_ok-documents.ensures.chosen content (rows_first g.S.Store old mid new one two tab content rows) (index_first g.S.Store old mid new one two tab content index) here in

@@ -17,17 +17,19 @@ returns-in_err-rows-clause-read g c =
       live = search rules;
       mode = refused.mode c.requires.settled;
       survives = commits_nothing _ _ _ _ c.requires.plain refused.survives;
+      fault = search rules;
     }
 
 pub rows-init : goal.rows-init
 rows-init g c =
-    (begun g.S.Store c.args.sql.now (bound c.args.params.now) c.args.conn.now c.requires.plain c.in_ok-rows.rows.conn.now _ (c.in_ok-rows.ensures.mode c.requires.settled) c.in_ok-rows.ensures.survives c.in_ok-rows.ensures.begun c.requires.none, refl)
+    (begun g.S.Store c.args.sql.now (bound c.args.params.now) c.args.conn.now c.requires.plain c.in_ok-rows.rows.conn.now _ (c.in_ok-rows.ensures.mode c.requires.settled) c.in_ok-rows.ensures.survives c.in_ok-rows.ensures.begun c.requires.none, refl, refl)
 
 pub rows-preserved : goal.rows-preserved
 rows-preserved g c =
     let moved = c.next.follows.holds-at-none in (
       one_row g.S.Store c.args.sql.now (bound c.args.params.now) c.args.conn.now c.requires.plain c.rows.rows c.next.follows.lender-at-none c.next.result moved _ c.rows.invariant.0 c.in-Some.row (c.in_ok-row.was ∙ ap Ok c.in-Some.is) _ c.in_ok-whole-in-Some.ensures.added,
       moved.same_reference ∙ c.rows.invariant.1,
+      c.in_ok-whole-in-Some.ensures.expects ∙ c.rows.invariant.2,
     )
 
 pub returns-in_err-row-clause-read : goal.returns-in_err-row-clause-read
@@ -39,6 +41,7 @@ returns-in_err-row-clause-read g c =
       live = search rules;
       mode = subst (λ (now : Held g.row.S.Denot). now.in_transaction ≡ false) (sym ended) (moved.mode c.rows.invariant.0.mode);
       survives = subst (λ (now : Held g.row.S.Denot). Survives (state g.S.Store c.args.conn.now) (state g.S.Store now) (λ _. IsTrue (state g.S.Store c.args.conn.now).is_open → ⊥)) (sym ended) (moved_survives g.S.Store c.args.sql.now (bound c.args.params.now) c.args.conn.now c.requires.plain c.rows.rows c.next.follows.lender-at-none c.next.result moved _ c.rows.invariant.0);
+      fault = search rules;
     }
 
 pub returns-in_err-whole-in-Some-clause-read : goal.returns-in_err-whole-in-Some-clause-read
@@ -50,6 +53,7 @@ returns-in_err-whole-in-Some-clause-read g c =
       live = search rules;
       mode = subst (λ (now : Held g.row.S.Denot). now.in_transaction ≡ false) (sym ended) (moved.mode c.rows.invariant.0.mode);
       survives = subst (λ (now : Held g.row.S.Denot). Survives (state g.S.Store c.args.conn.now) (state g.S.Store now) (λ _. IsTrue (state g.S.Store c.args.conn.now).is_open → ⊥)) (sym ended) (moved_survives g.S.Store c.args.sql.now (bound c.args.params.now) c.args.conn.now c.requires.plain c.rows.rows c.next.follows.lender-at-none c.next.result moved _ c.rows.invariant.0);
+      fault = search rules;
     }
 
 pub returns-in-None-clause-made : goal.returns-in-None-clause-made
@@ -68,6 +72,7 @@ returns-in-None-clause-read g c =
       live = subst (λ (now : Held g.row.S.Denot). HasCleanDisk (state g.S.Store now) → IsTrue (state g.S.Store now).is_open) (sym ended) (λ clean. (moved_unchanged g.S.Store c.args.sql.now (bound c.args.params.now) c.args.conn.now c.requires.plain c.rows.rows c.next.follows.lender-at-none c.next.result moved _ c.rows.invariant.0 None (c.in_ok-row.was ∙ ap Ok c.in-None.is) clean).0.is_open);
       mode = subst (λ (now : Held g.row.S.Denot). now.in_transaction ≡ false) (sym ended) (moved.mode c.rows.invariant.0.mode);
       survives = subst (λ (now : Held g.row.S.Denot). Survives (state g.S.Store c.args.conn.now) (state g.S.Store now) (λ _. IsTrue (state g.S.Store c.args.conn.now).is_open → ⊥)) (sym ended) (moved_survives g.S.Store c.args.sql.now (bound c.args.params.now) c.args.conn.now c.requires.plain c.rows.rows c.next.follows.lender-at-none c.next.result moved _ c.rows.invariant.0);
+      fault = search rules;
     }
 
 pub returns-clause-read : goal.returns-clause-read
@@ -78,4 +83,5 @@ returns-clause-read g c =
       live = search rules;
       mode = subst (λ (now : Held g.row.S.Denot). now.in_transaction ≡ false) (sym ended) (c.rows.invariant.0.mode);
       survives = subst (λ (now : Held g.row.S.Denot). Survives (state g.S.Store c.args.conn.now) (state g.S.Store now) (λ _. IsTrue (state g.S.Store c.args.conn.now).is_open → ⊥)) (sym ended) (c.rows.invariant.0.survives);
+      fault = search rules;
     }

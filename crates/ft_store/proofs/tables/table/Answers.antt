@@ -10,8 +10,8 @@ use Rattle.ft_store.proofs.ChainLemmas.{kept_store, kept_then, reads_then}
 use Rattle.ft_store.proofs.TableLemmas.{listed}
 use Rattle.ft_store.proofs.tables.table.Goals as goal
 
-pub skips-requires-clause-store : goal.skips-requires-clause-store
-skips-requires-clause-store g c = kept_store (state g.S.Store c.args.conn.now) (state g.S.Store c.columns.new.conn) _ c.columns.ensures.read.kept c.columns.ensures.read.survives c.requires.store
+pub skips-requires : goal.skips-requires
+skips-requires g c = record { settled = c.columns.ensures.read.mode; store = kept_store (state g.S.Store c.args.conn.now) (state g.S.Store c.columns.new.conn) _ c.columns.ensures.read.kept c.columns.ensures.read.survives c.requires.store }
 
 pub returns-clause-rows : goal.returns-clause-rows
 returns-clause-rows g c clean =
@@ -29,6 +29,7 @@ returns-clause-read g c = record {
   live = c.in_ok-skipped.ensures.read.live;
   mode = c.skips.ensures.read.mode;
   survives = reads_then (state g.S.Store c.args.conn.now) (state g.S.Store c.columns.new.conn) (state g.S.Store c.skips.new.conn) c.in_ok-columns.ensures.read.live c.columns.ensures.read.survives c.skips.ensures.read.survives;
+  fault = search rules;
 }
 
 pub returns-in_err-skipped-clause-read : goal.returns-in_err-skipped-clause-read
@@ -37,4 +38,5 @@ returns-in_err-skipped-clause-read g c = record {
   live = search rules;
   mode = c.skips.ensures.read.mode;
   survives = reads_then (state g.S.Store c.args.conn.now) (state g.S.Store c.columns.new.conn) (state g.S.Store c.skips.new.conn) c.in_ok-columns.ensures.read.live c.columns.ensures.read.survives c.skips.ensures.read.survives;
+  fault = search rules;
 }

@@ -46,4 +46,4 @@ returns-in_err-push-clause-read g c =
     let now = state g.S.Store c.table.new.conn in
     let read : Reading was now = record { mode = c.table.ensures.read.mode; kept = c.table.ensures.read.kept; live = c.in_ok-table.ensures.read.live; survives = c.table.ensures.read.survives } in
     let all = reading_then (state g.S.Store c.args.conn.now) was now c.loop-named.invariant.0 read in
-    record { kept = all.kept; live = search rules; mode = all.mode; survives = all.survives }
+    record { kept = all.kept; live = search rules; mode = all.mode; survives = all.survives; fault = search rules }

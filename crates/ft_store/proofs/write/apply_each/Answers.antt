@@ -19,13 +19,13 @@ loop-change-preserved g c =
     let now = state g.S.Store c.apply.new.tx.conn.now in
     let at = c.loop-change.change-index in (
       (
-        c.apply.ensures.same_reference ∙ c.loop-change.invariant.0.0,
+        c.apply.ensures.stays.same_reference ∙ c.loop-change.invariant.0.0,
         All-more CanApply c.args.changes.now at c.change-item.result c.loop-change-test.true c.loop-change.invariant.0.1 (subst CanApply c.change-item.is c.in_ok-apply.ensures.packable),
       ),
-      survives_then old was now _ _ _ (λ _ db none. none) (λ _ db none. none) c.loop-change.invariant.1 c.apply.ensures.survives,
-      λ clean. keeps_then old was now (c.loop-change.invariant.2 (omega (arith, c.apply.ensures.survives.clean))) (c.apply.ensures.kept clean),
+      survives_then old was now _ _ _ (λ _ db none. none) (λ _ db none. none) c.loop-change.invariant.1 c.apply.ensures.stays.survives,
+      λ clean. keeps_then old was now (c.loop-change.invariant.2 (omega (arith, c.apply.ensures.stays.survives.clean))) (c.apply.ensures.stays.kept clean),
       λ clean inside kept.
-          let before = c.loop-change.invariant.3 (omega (arith, c.apply.ensures.survives.clean)) inside kept in
+          let before = c.loop-change.invariant.3 (omega (arith, c.apply.ensures.stays.survives.clean)) inside kept in
           goes_on old was now c.args.changes.now at c.change-item.result (value_of old.now.trees) c.loop-change-test.true c.change-item.is before
           (c.in_ok-apply.ensures.steps clean before.inside (λ is_open. (before.going (before.was_open is_open)).1)),
     )

@@ -16,7 +16,7 @@ returns-clause-goes g c clean inside kept =
     let mid = state g.S.Store c.add_group.new.tx.conn.now in
     let new = state g.S.Store c.apply_each.new.tx.conn.now in
     let v = value_of old.now.trees in
-    let clean_mid : HasCleanDisk mid = omega (arith, c.apply_each.ensures.survives.clean) in
+    let clean_mid : HasCleanDisk mid = omega (arith, c.apply_each.ensures.stays.survives.clean) in
     let one = subst (λ (b : Bool). Goes old mid (if b then all_applied (map shown_change c.args.changes.now) v else v)) c.if-added.false (c.in_ok-added.ensures.goes clean_mid inside kept) in
     IfOk-weaker c.apply_each.result _ _ (λ _. goes_then old mid new v (all_applied (map shown_change c.args.changes.now)) one)
     (c.apply_each.ensures.goes clean one.inside (λ is_open. (one.going (one.was_open is_open)).1))

@@ -18,7 +18,7 @@ loop-at-preserved g c =
     let old = state g.S.Store c.args.tx.now.conn.now in
     let was = state g.S.Store c.loop-at.tx.conn.now in
     let now = state g.S.Store c.put_column.new.tx.conn.now in (
-      c.put_column.ensures.same_reference ∙ c.loop-at.invariant.0,
+      c.put_column.ensures.stays.same_reference ∙ c.loop-at.invariant.0,
       survives_then old was now _ _ _ (λ _ db none. none) (λ _ db none. none) c.loop-at.invariant.1 c.put_column.ensures.stays.survives,
       λ clean. keeps_then old was now (c.loop-at.invariant.2 (omega (arith, c.put_column.ensures.stays.survives.clean))) (c.put_column.ensures.stays.kept clean),
       λ clean inside is_open store.

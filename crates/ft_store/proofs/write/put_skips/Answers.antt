@@ -11,7 +11,7 @@ loop-column-preserved g c =
     let was = state g.S.Store c.loop-column.tx.conn.now in
     let now = state g.S.Store c.put_skip.new.tx.conn.now in
     let fits : FitsSigned w64 (get_or c.args.skipped.now c.loop-column.column-index (pos 0)) = search rules in (
-      c.put_skip.ensures.same_reference ∙ c.loop-column.invariant.0,
+      c.put_skip.ensures.stays.same_reference ∙ c.loop-column.invariant.0,
       survives_then old was now _ _ _ (λ _ db none. none) (λ _ db none. none) c.loop-column.invariant.1 c.put_skip.ensures.stays.survives,
       λ clean. keeps_then old was now (c.loop-column.invariant.2 (omega (arith, c.put_skip.ensures.stays.survives.clean))) (c.put_skip.ensures.stays.kept clean),
       λ clean inside is_open store.

@@ -1,5 +1,5 @@
-use Rattle.std.proofs.Common.{◌≡◌, ◌⊎◌, inl, inr, List, map, subst, refl, sym, Option, Some, None, Result, Ok, Err, rules, ap}
-use Rattle.std.specs.Prelude.{IsTrue, OnOk}
+use Rattle.std.proofs.Common.{◌≡◌, inl, inr, map, subst, sym, Result, Ok, Err, ap}
+use Rattle.std.specs.Prelude.{OnOk}
 use Rattle.sqlite.specs.Tree.{Trees}
 use Rattle.sqlite.specs.Store.{Ghosts}
 use Rattle.ft_store.specs.Calls.{IsStored}

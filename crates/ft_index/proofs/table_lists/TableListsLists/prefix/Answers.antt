@@ -1,10 +1,8 @@
 -- the rows of the terms that begin so
-use Rattle.std.proofs.Common.{ℤ, ◌+◌, ◌-◌, ◌^◌, List, min, w64, SFits, to_z-of_z, ◌&&◌, map, nat_eq, refl, sym, subst, ap, ◌∙◌, rules}
+use Rattle.std.proofs.Common.{ℤ, ◌+◌, ◌-◌, ◌^◌, min, w64, SFits, to_z-of_z, ◌&&◌, map, nat_eq, refl, sym, ap, ◌∙◌, rules}
 use Rattle.std.specs.List.{starts_with}
 use Rattle.std.specs.Ordering.{int_eq}
 use Rattle.ft_query.specs.Documents.{plain_list, lists_with}
-use Rattle.ft_values.specs.declared.rows.ListRow.{ListRow}
-use Rattle.ft_documents.specs.Placed.{AreListsOf}
 use Rattle.ft_index.specs.Walked.{table_documents}
 use Rattle.ft_documents.proofs.AskedLemmas.{rows_count}
 use Rattle.ft_index.proofs.WalkedLemmas.{still_reliable, walk_answer}
@@ -15,7 +13,7 @@ returns-in_ok-answered-in-Ok-clause-answer g c reliable =
     let same = c.in_ok-answered-in-Ok.ensures.counted in
     let tab : ℤ = c.args.self.now.tab in
     let fits : SFits w64 c.args.self.now.tab = search rules in
-    let answer = walk_answer g.S.Store tab c.args.self.now.store.now c.prefix_lists.new.self c.in-Ok.ensures.kept (λ k. int_eq tab k.0 && starts_with nat_eq k.1 c.args.begin.now) (λ t. starts_with nat_eq t c.args.begin.now)
+    let answer = walk_answer g.S.Store tab c.args.self.now.store.now c.prefix_lists.new.self c.in-Ok.ensures.read.kept (λ k. int_eq tab k.0 && starts_with nat_eq k.1 c.args.begin.now) (λ t. starts_with nat_eq t c.args.begin.now)
     (λ k. refl) c.in-Ok.rows.items (λ clean. (simp (to_z-of_z, fits) at (c.in-Ok.ensures.rows clean).0))
     (map plain_list c.in_ok-answered-in-Ok.field-0.items) c.in_ok-answered-in-Ok.ensures.lists
     (rw same at reliable) in
@@ -24,7 +22,7 @@ returns-in_ok-answered-in-Ok-clause-answer g c reliable =
 pub returns-in_ok-answered-in-Ok-clause-clean : goal.returns-in_ok-answered-in-Ok-clause-clean
 returns-in_ok-answered-in-Ok-clause-clean g c reliable =
     let same = c.in_ok-answered-in-Ok.ensures.counted in
-    let stays = still_reliable g.S.Store c.args.self.now.tab c.args.self.now.store.now c.prefix_lists.new.self c.in-Ok.ensures.kept c.in-Ok.ensures.survives (rw same at reliable) in
+    let stays = still_reliable g.S.Store c.args.self.now.tab c.args.self.now.store.now c.prefix_lists.new.self c.in-Ok.ensures.read.kept c.in-Ok.ensures.read.survives (rw same at reliable) in
     (stays.0, ap (λ l. table_documents g.S.Store l.tab l.store.now) same ∙ stays.1)
 
 pub returns-in_ok-answered-in-Ok-clause-given : goal.returns-in_ok-answered-in-Ok-clause-given
@@ -35,11 +33,11 @@ returns-in_ok-answered-in-Ok-clause-given g c =
 pub returns-in_err-answered-in-Ok-clause-clean : goal.returns-in_err-answered-in-Ok-clause-clean
 returns-in_err-answered-in-Ok-clause-clean g c reliable =
     let same = c.in_err-answered-in-Ok.ensures.err in
-    let stays = still_reliable g.S.Store c.args.self.now.tab c.args.self.now.store.now c.prefix_lists.new.self c.in-Ok.ensures.kept c.in-Ok.ensures.survives (rw same at reliable) in
+    let stays = still_reliable g.S.Store c.args.self.now.tab c.args.self.now.store.now c.prefix_lists.new.self c.in-Ok.ensures.read.kept c.in-Ok.ensures.read.survives (rw same at reliable) in
     (stays.0, ap (λ l. table_documents g.S.Store l.tab l.store.now) same ∙ stays.1)
 
 pub returns-in-Err-clause-clean : goal.returns-in-Err-clause-clean
 returns-in-Err-clause-clean g c reliable =
     let same = c.refused.ensures in
-    let stays = still_reliable g.S.Store c.args.self.now.tab c.args.self.now.store.now c.prefix_lists.new.self c.in-Err.ensures.kept c.in-Err.ensures.survives (rw same at reliable) in
+    let stays = still_reliable g.S.Store c.args.self.now.tab c.args.self.now.store.now c.prefix_lists.new.self c.in-Err.ensures.read.kept c.in-Err.ensures.read.survives (rw same at reliable) in
     (stays.0, ap (λ l. table_documents g.S.Store l.tab l.store.now) same ∙ stays.1)

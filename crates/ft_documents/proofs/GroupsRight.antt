@@ -1,0 +1,188 @@
+-- The row changes of documents that are written anew group by group, one group's behind the other's.
+use Rattle.std.proofs.Common.{◌≡◌, ℕ, Less, Equal, Greater, true, false, cond, ◌&&◌, not, List, [], ◌∷◌, ◌++◌, length, Option, Some, None, ℤ, refl, sym, ap, subst, ◌∙◌}
+use Rattle.std.specs.Prelude.{All, Contains, IfSome, IsTrue}
+use Rattle.std.specs.List.{flat_map, list_all, AllByRecursion}
+use Rattle.std.specs.Ordering.{int_cmp, int_eq, is_lt}
+use Rattle.std.specs.Cmp.{int_cmp_total, eq_by_cmp_equiv}
+use Rattle.std.specs.FinMap.{int_cmp-IsAntisymmetric}
+use Rattle.std.specs.FinMap.Entries.{find, put, below_all, is_sorted, by_order}
+use Rattle.std.proofs.lemmas.Bool.{and_parts, and_from}
+use Rattle.std.proofs.lemmas.List.{map-append}
+use Rattle.std.proofs.lemmas.List.Elements.{All-nil, All-append, recursion_from_All, All-from_recursion}
+use Rattle.ft_values.specs.Cells.{Cell}
+use Rattle.ft_rows.specs.Store.{Change, all_applied}
+use Rattle.ft_content.specs.Content.{Column, Documents, Content, is_document, content_rows}
+use Rattle.ft_content.specs.Index.{index_rows}
+use Rattle.ft_documents.specs.Tables.{table_rows, table_index, IsOfDocids}
+use Rattle.ft_documents.specs.Rewrite.{Rewrite, with_cells, rewritten, rewritten_content, docids_of, by_docid, FitIfAny, AreOf, HasContent, AreRight}
+use Rattle.ft_documents.specs.RewriteRows.{rewrite_changes}
+use Rattle.ft_documents.proofs.KeyedRows.{below_apart}
+use Rattle.ft_documents.proofs.AppliedLemmas.{applied_append}
+use Rattle.ft_documents.proofs.RewriteLemmas.{sorted_rewritten, written, find_rewritten}
+use Rattle.ft_documents.proofs.RightLemmas.{order_after, are_right}
+use Rattle.ft_documents.proofs.NearLemmas.{changes_near, contains_own}
+
+-- ---- two lists, one behind the other
+
+first_all : {X : Type 0} (P : X → Type 0) (xs ys : List X) → AllByRecursion P (xs ++ ys) → AllByRecursion P xs
+first_all P [] ys all = tt
+first_all P (x ∷ xs) ys all = (all.0, first_all P xs ys all.1)
+
+last_all : {X : Type 0} (P : X → Type 0) (xs ys : List X) → AllByRecursion P (xs ++ ys) → AllByRecursion P ys
+last_all P [] ys all = all
+last_all P (x ∷ xs) ys all = last_all P xs ys all.1
+
+below_first : (docid : ℤ) (xs ys : List (ℤ × Rewrite)) → below_all int_cmp docid (xs ++ ys) ≡ true → below_all int_cmp docid xs ≡ true
+below_first docid [] ys h = refl
+below_first docid (x ∷ xs) ys h =
+    let parts = and_parts (is_lt (int_cmp docid x.0)) (below_all int_cmp docid (xs ++ ys)) h in
+    and_from (is_lt (int_cmp docid x.0)) (below_all int_cmp docid xs) parts.0 (below_first docid xs ys parts.1)
+
+below_last : (docid : ℤ) (xs ys : List (ℤ × Rewrite)) → below_all int_cmp docid (xs ++ ys) ≡ true → below_all int_cmp docid ys ≡ true
+below_last docid [] ys h = h
+below_last docid (x ∷ xs) ys h = below_last docid xs ys (and_parts (is_lt (int_cmp docid x.0)) (below_all int_cmp docid (xs ++ ys)) h).1
+
+sorted_first : (xs ys : List (ℤ × Rewrite)) → is_sorted int_cmp (xs ++ ys) ≡ true → is_sorted int_cmp xs ≡ true
+sorted_first [] ys h = refl
+sorted_first (x ∷ xs) ys h =
+    let parts = and_parts (below_all int_cmp x.0 (xs ++ ys)) (is_sorted int_cmp (xs ++ ys)) h in
+    and_from (below_all int_cmp x.0 xs) (is_sorted int_cmp xs) (below_first x.0 xs ys parts.0) (sorted_first xs ys parts.1)
+
+sorted_last : (xs ys : List (ℤ × Rewrite)) → is_sorted int_cmp (xs ++ ys) ≡ true → is_sorted int_cmp ys ≡ true
+sorted_last [] ys h = h
+sorted_last (x ∷ xs) ys h = sorted_last xs ys (and_parts (below_all int_cmp x.0 (xs ++ ys)) (is_sorted int_cmp (xs ++ ys)) h).1
+
+-- the documents of those behind aren't among the first
+none_yet : (rs : List Rewrite) → AllByRecursion (λ (r : Rewrite). find int_cmp r.docid (by_docid []) ≡ None) rs
+none_yet [] = tt
+none_yet (r ∷ rs) = (refl, none_yet rs)
+
+nor_this : (x : ℤ × Rewrite) (xs : List (ℤ × Rewrite)) (rs : List Rewrite) → below_all int_cmp x.0 (by_docid rs) ≡ true → AllByRecursion (λ (r : Rewrite). find int_cmp r.docid xs ≡ None) rs → AllByRecursion (λ (r : Rewrite). find int_cmp r.docid (x ∷ xs) ≡ None) rs
+nor_this x xs [] below none = tt
+nor_this x xs (r ∷ rs) below none =
+    let parts = and_parts (is_lt (int_cmp x.0 r.docid)) (below_all int_cmp x.0 (by_docid rs)) below in
+    let other : int_eq r.docid x.0 ≡ false = (eq_by_cmp_equiv int_cmp_total).symm r.docid x.0 ∙ below_apart _ parts.0 in
+    (ap (λ b. cond b (Some x.1) (find int_cmp r.docid xs)) other ∙ none.0, nor_this x xs rs parts.1 none.1)
+
+not_among : (xs : List (ℤ × Rewrite)) (rs : List Rewrite) → is_sorted int_cmp (xs ++ by_docid rs) ≡ true → AllByRecursion (λ (r : Rewrite). find int_cmp r.docid xs ≡ None) rs
+not_among [] rs h = none_yet rs
+not_among (x ∷ xs) rs h =
+    let parts = and_parts (below_all int_cmp x.0 (xs ++ by_docid rs)) (is_sorted int_cmp (xs ++ by_docid rs)) h in
+    nor_this x xs rs (below_last x.0 xs (by_docid rs) parts.0) (not_among xs rs parts.1)
+
+-- ---- documents stay documents of their table
+
+fit_put : (width : ℕ) (docid : ℤ) (cells : List Cell) (documents : Documents) → is_document width (docid, cells) ≡ true → list_all (is_document width) documents ≡ true → list_all (is_document width) (put int_cmp docid cells documents) ≡ true
+fit_put width docid cells [] new h = and_from (is_document width (docid, cells)) true new refl
+fit_put width docid cells (d ∷ ds) new h =
+    let parts = and_parts (is_document width d) (list_all (is_document width) ds) h in
+    elim (int_cmp docid d.0) as (λ o. int_cmp docid d.0 ≡ o → list_all (is_document width) (by_order o ((docid, cells) ∷ d ∷ ds) ((d.0, cells) ∷ ds) (d ∷ put int_cmp docid cells ds)) ≡ true) [
+      | Less ↦ λ _. and_from (is_document width (docid, cells)) (is_document width d && list_all (is_document width) ds) new h
+      | Equal ↦ λ same. and_from (is_document width (d.0, cells)) (list_all (is_document width) ds) (subst (λ (x : ℤ). is_document width (x, cells) ≡ true) (int_cmp-IsAntisymmetric docid d.0 same) new) parts.1
+      | Greater ↦ λ _. and_from (is_document width d) (list_all (is_document width) (put int_cmp docid cells ds)) parts.0 (fit_put width docid cells ds new parts.1)
+    ] refl
+
+fit_without : (width : ℕ) (docid : ℤ) (documents : Documents) → list_all (is_document width) documents ≡ true → list_all (is_document width) (with_cells docid None documents) ≡ true
+fit_without width docid [] h = refl
+fit_without width docid (d ∷ ds) h =
+    let parts = and_parts (is_document width d) (list_all (is_document width) ds) h in
+    let rest = fit_without width docid ds parts.1 in
+    elim (not (int_eq docid d.0)) as (λ b. list_all (is_document width) (cond b (d ∷ with_cells docid None ds) (with_cells docid None ds)) ≡ true) [
+      | true ↦ and_from (is_document width d) (list_all (is_document width) (with_cells docid None ds)) parts.0 rest
+      | false ↦ rest
+    ]
+
+fit_with : (width : ℕ) (docid : ℤ) (cells : Option (List Cell)) (documents : Documents) → IfSome cells (λ cs. IsTrue (is_document width (docid, cs))) → list_all (is_document width) documents ≡ true → list_all (is_document width) (with_cells docid cells documents) ≡ true
+fit_with width docid None documents new h = fit_without width docid documents h
+fit_with width docid (Some cells) documents new h = fit_put width docid cells documents new h
+
+fit_rewritten : (width : ℕ) (rewrites : List Rewrite) (documents : Documents) → AllByRecursion (FitIfAny width) rewrites → list_all (is_document width) documents ≡ true → list_all (is_document width) (rewritten rewrites documents) ≡ true
+fit_rewritten width [] documents fit h = h
+fit_rewritten width (r ∷ rs) documents fit h = fit_rewritten width rs (with_cells r.docid r.after documents) fit.1 (fit_with width r.docid r.after documents fit.0 h)
+
+-- ---- what is known of documents behind the first
+
+known_still : (first rest : List Rewrite) (documents : Documents) → is_sorted int_cmp (by_docid first) ≡ true → AllByRecursion (λ (r : Rewrite). find int_cmp r.docid (by_docid first) ≡ None) rest → AllByRecursion (λ (r : Rewrite). r.before ≡ find int_cmp r.docid documents) rest
+    → AllByRecursion (λ (r : Rewrite). r.before ≡ find int_cmp r.docid (rewritten first documents)) rest
+known_still first [] documents sorted none known = tt
+known_still first (r ∷ rs) documents sorted none known = (
+  known.0 ∙ sym (find_rewritten r.docid first documents sorted ∙ ap (λ o. written o (find int_cmp r.docid documents)) none.0),
+  known_still first rs documents sorted none.1 known.1,
+)
+
+rewritten_both : (first rest : List Rewrite) (documents : Documents) → rewritten (first ++ rest) documents ≡ rewritten rest (rewritten first documents)
+rewritten_both [] rest documents = refl
+rewritten_both (r ∷ rs) rest documents = rewritten_both rs rest (with_cells r.docid r.after documents)
+
+module _ (first rest : List Rewrite) (content : Content) (are : AreOf content (first ++ rest)) where
+  rising : is_sorted int_cmp (by_docid first ++ by_docid rest) ≡ true
+  rising = subst (λ l. is_sorted int_cmp l ≡ true) (map-append (λ (r : Rewrite). (r.docid, r)) first rest) are.rising
+
+  abbrev known : Rewrite → Type 0
+  known r = r.before ≡ find int_cmp r.docid content.documents
+
+  all_known : AllByRecursion known (first ++ rest)
+  all_known = recursion_from_All known (first ++ rest) are.befores
+
+  abbrev width : ℕ
+  width = length content.columns
+
+  all_fit : AllByRecursion (FitIfAny width) (first ++ rest)
+  all_fit = recursion_from_All (FitIfAny width) (first ++ rest) are.afters
+
+  first_of : AreOf content first
+  first_of = record {
+    rising = sorted_first (by_docid first) (by_docid rest) rising;
+    befores = All-from_recursion known first (first_all known first rest all_known);
+    afters = All-from_recursion (FitIfAny width) first (first_all (FitIfAny width) first rest all_fit);
+  }
+
+  rest_of : AreOf (rewritten_content first content) rest
+  rest_of = record {
+    rising = sorted_last (by_docid first) (by_docid rest) rising;
+    befores = All-from_recursion (λ (r : Rewrite). r.before ≡ find int_cmp r.docid (rewritten first content.documents)) rest
+        (known_still first rest content.documents first_of.rising (not_among (by_docid first) rest rising) (last_all known first rest all_known));
+    afters = All-from_recursion (FitIfAny width) rest (last_all (FitIfAny width) first rest all_fit);
+  }
+
+-- ---- groups
+
+-- the changes of a group, and right ones of those behind it
+then_right : (tab : ℤ) (columns : List Column) (first rest : List Rewrite) (changes : List Change) → AreRight tab columns rest changes → AreRight tab columns (first ++ rest) (rewrite_changes tab columns first ++ changes)
+then_right tab columns first rest changes right name content store has same are =
+    let of_first = first_of first rest content are in
+    let done = are_right tab columns first name content store has same of_first in
+    let mid = all_applied (rewrite_changes tab columns first) store in
+    let has_mid : HasContent name (rewritten_content first content) tab mid = record {
+      order = order_after tab columns first store has.order;
+      is_content = record {
+        columns = has.is_content.columns;
+        documents = fit_rewritten (length content.columns) first content.documents (recursion_from_All (FitIfAny (length content.columns)) first of_first.afters) has.is_content.documents;
+        rising = sorted_rewritten first content.documents has.is_content.rising;
+      };
+      rows = done.0;
+      index = done.1;
+    } in
+    let last = right name (rewritten_content first content) mid has_mid same (rest_of first rest content are) in
+    let both = applied_append (rewrite_changes tab columns first) changes store in
+    let made : rewritten_content rest (rewritten_content first content) ≡ rewritten_content (first ++ rest) content = λ i. record content { documents = sym (rewritten_both first rest content.documents) i } in
+    (ap (table_rows tab) both ∙ last.0 ∙ ap content_rows made, ap (table_index tab) both ∙ last.1 ∙ ap index_rows made)
+
+pub groups_right : (tab : ℤ) (columns : List Column) (groups : List (List Rewrite)) → AreRight tab columns (flat_map (λ group. group) groups) (flat_map (rewrite_changes tab columns) groups)
+groups_right tab columns [] = λ name content store has same are. (has.rows, has.index)
+groups_right tab columns (group ∷ groups) = then_right tab columns group (flat_map (λ g. g) groups) (flat_map (rewrite_changes tab columns) groups) (groups_right tab columns groups)
+
+-- and each is of one of the documents
+each_near : (tab : ℤ) (columns : List Column) (docids : List ℤ) (groups : List (List Rewrite)) → AllByRecursion (λ (r : Rewrite). Contains docids r.docid) (flat_map (λ group. group) groups) → All (IsOfDocids tab docids) (flat_map (rewrite_changes tab columns) groups)
+each_near tab columns docids [] own = All-nil (IsOfDocids tab docids)
+each_near tab columns docids (group ∷ groups) own =
+    let D : Rewrite → Type 0 = λ r. Contains docids r.docid in
+    All-append (IsOfDocids tab docids) (rewrite_changes tab columns group) (flat_map (rewrite_changes tab columns) groups)
+    (changes_near (Contains docids) (IsOfDocids tab docids) tab columns group (λ docid is. (refl, is)) (λ docid column cell is. (refl, is)) (λ term docid is. (refl, is)) (λ term docid spots is. (refl, is)) (λ docid column is. (refl, is)) (λ docid column n is. (refl, is))
+    (All-from_recursion D group (first_all D group (flat_map (λ g. g) groups) own)))
+    (each_near tab columns docids groups (last_all D group (flat_map (λ g. g) groups) own))
+
+pub groups_near : (tab : ℤ) (columns : List Column) (groups : List (List Rewrite)) → All (IsOfDocids tab (docids_of (flat_map (λ group. group) groups))) (flat_map (rewrite_changes tab columns) groups)
+groups_near tab columns groups =
+    let rewrites = flat_map (λ (group : List Rewrite). group) groups in
+    each_near tab columns (docids_of rewrites) groups (recursion_from_All (λ (r : Rewrite). Contains (docids_of rewrites) r.docid) rewrites (contains_own rewrites))

@@ -1,0 +1,9 @@
+-- the changes of the terms so far
+use Rattle.std.proofs.Common.{◌≡◌, ◌++◌, map}
+use Rattle.ft_rows.specs.Changes.{shown_change}
+use Rattle.ft_documents.specs.RewriteRows.{put_lists}
+use Rattle.ft_documents.specs.Terms.{lists_in_groups}
+use Rattle.ft_documents.proofs.term_index.TermIndex.put_lists.Given as goal
+
+abbrev pub invariant-loop-term : goal.invariant-loop-term
+invariant-loop-term l = map shown_change l.changes.items ≡ map shown_change l.fn.changes.items ++ put_lists l.tab (lists_in_groups l.yielded)

@@ -1,0 +1,36 @@
+-- Steps. The posting lists of documents by their terms. All of it is our own choice.
+use Rattle.std.specs.Prelude.{◌≡◌, List, map, ℕ, String, Vec, string_bytes, IsTrue}
+use Rattle.std.specs.List.{AllByRecursion, flat_map}
+use Rattle.std.specs.declared.alloc.Global.{Global}
+use Rattle.std.specs.Ordering.{int_cmp, is_eq, nat_cmp}
+use Rattle.std.specs.declared.cmp.Ordering.TheVariants.{Greater}
+use Rattle.std.specs.Cmp.Lexicographic.{slice_cmp}
+use Rattle.ft_values.specs.declared.rows.ListRow.{ListRow}
+use Rattle.ft_rows.specs.declared.terms.TermLists.{TermLists}
+use Rattle.ft_content.specs.Index.{Key, StoredSpot}
+use Rattle.ft_documents.specs.declared.term_index.TermIndex.{TermIndex}
+
+-- the lists of a term under their keys
+abbrev pub lists_of_term : List ℕ → List ListRow → List (Key × List StoredSpot)
+lists_of_term term lists = map (λ (l : ListRow). ((term, l.docid), l.spots.items)) lists
+
+-- those of terms, one after another
+abbrev pub lists_of_terms : List TermLists → List (Key × List StoredSpot)
+lists_of_terms terms = flat_map (λ (t : TermLists). lists_of_term (string_bytes t.term) t.lists.items) terms
+
+-- a term of a map, with its lists
+abbrev pub Group : Type 0
+Group = String Global × Vec ListRow Global
+
+abbrev pub group_lists : Group → List (Key × List StoredSpot)
+group_lists g = lists_of_term (string_bytes g.0) g.1.items
+
+abbrev pub lists_in_groups : List Group → List (Key × List StoredSpot)
+lists_in_groups groups = flat_map group_lists groups
+
+abbrev pub lists_in_terms : TermIndex → List (Key × List StoredSpot)
+lists_in_terms index = lists_in_groups index.terms.entries
+
+-- the lists of this term are those of lower docids
+abbrev pub IsAfter : Key → List (Key × List StoredSpot) → Type 0
+IsAfter key lists = AllByRecursion (λ (l : Key × List StoredSpot). IsTrue (is_eq (slice_cmp nat_cmp key.0 l.0.0)) → int_cmp key.1 l.0.1 ≡ Greater) lists

@@ -1,0 +1,63 @@
+-- Documents that are written group by group.
+use Rattle.std.proofs.Common.{◌≡◌, false, List, [], ◌∷◌, ◌++◌, map, ℤ, refl, sym, ap, subst, ◌∙◌, append-nil}
+use Rattle.std.specs.Prelude.{All, Vec}
+use Rattle.std.specs.declared.alloc.Global.{Global}
+use Rattle.std.specs.List.{flat_map}
+use Rattle.std.specs.Vec.{vec_items}
+use Rattle.std.proofs.lemmas.List.{map-append}
+use Rattle.sqlite.specs.Store.{Ghosts}
+use Rattle.ft_rows.specs.Store.{Change}
+use Rattle.ft_store.specs.Kept.{StoreState, shows}
+use Rattle.ft_store.specs.Parts.{changes_in}
+use Rattle.ft_content.specs.Content.{Column}
+use Rattle.ft_content.specs.Views.{column_of}
+use Rattle.ft_documents.specs.declared.rewrite.Rewrite as source
+use Rattle.ft_documents.specs.Rewrite.{Rewrite, AreRight, shown_rewrite, docids_of}
+use Rattle.ft_documents.specs.RewriteRows.{rewrite_changes}
+use Rattle.ft_documents.specs.Tables.{IsOfDocids}
+use Rattle.ft_documents.proofs.GroupsRight.{groups_right, groups_near}
+use Rattle.ft_index.specs.declared.written.Written.{Written}
+use Rattle.ft_index.specs.Written.{AreOfWritten, MakesWritten}
+use Rattle.ft_index.proofs.ReadsLemmas.{nothing_done}
+use Rattle.ft_index.proofs.Crashing.{survives_as}
+
+abbrev Groups : Type 0
+Groups = List (Vec source.Rewrite Global)
+
+abbrev shown : Groups → List (List Rewrite)
+shown groups = map (λ (group : Vec source.Rewrite Global). map shown_rewrite group.items) groups
+
+joined : (groups : Groups) → flat_map (λ group. group) (shown groups) ≡ map shown_rewrite (flat_map vec_items groups)
+joined [] = refl
+joined (group ∷ groups) = ap (λ l. map shown_rewrite group.items ++ l) (joined groups) ∙ sym (map-append shown_rewrite group.items (flat_map vec_items groups))
+
+-- the part of each group
+abbrev pub parts_of : ℤ → List Column → Groups → List (List Change)
+parts_of tab columns groups = map (λ (group : Vec source.Rewrite Global). rewrite_changes tab columns (map shown_rewrite group.items)) groups
+
+parts_are : (tab : ℤ) (columns : List Column) (groups : Groups) → flat_map (rewrite_changes tab columns) (shown groups) ≡ changes_in (parts_of tab columns groups)
+parts_are tab columns [] = refl
+parts_are tab columns (group ∷ groups) = ap (λ l. rewrite_changes tab columns (map shown_rewrite group.items) ++ l) (parts_are tab columns groups)
+
+module _ (written : Written) where
+  abbrev tab : ℤ
+  tab = written.table.now.id
+
+  abbrev columns : List Column
+  columns = map column_of written.table.now.columns.items
+
+  pub of_groups : (groups : Groups) → flat_map vec_items groups ≡ written.rewrites.items → AreOfWritten written (changes_in (parts_of tab columns groups))
+  of_groups groups is =
+      let all : flat_map (λ (group : List Rewrite). group) (shown groups) ≡ map shown_rewrite written.rewrites.items = joined groups ∙ ap (map shown_rewrite) is in
+      let P : List Rewrite → List Change → Type 0 = λ rewrites changes. AreRight tab columns rewrites changes × All (IsOfDocids tab (docids_of rewrites)) changes in
+      subst (λ rewrites. P rewrites (changes_in (parts_of tab columns groups))) all
+      (subst (P (flat_map (λ group. group) (shown groups))) (parts_are tab columns groups) (groups_right tab columns (shown groups), groups_near tab columns (shown groups)))
+
+  -- where nothing is made
+  pub makes_nothing : {S : Type 0} (g : Ghosts S) (store : StoreState S) → MakesWritten g written store store false
+  makes_nothing g store = record {
+    changes = changes_in (parts_of tab columns (written.rewrites ∷ []));
+    of_written = of_groups (written.rewrites ∷ []) (append-nil written.rewrites.items);
+    changed = record { was_up = λ tables others up. record { clean = up.clean; is_open = up.is_open }; value = λ tables up. refl };
+    crash = survives_as (shows g store) (shows g store) _ _ (λ clean db none is_open. absurd (none is_open)) (nothing_done (shows g store));
+  }

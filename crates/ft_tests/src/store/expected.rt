@@ -1,0 +1,104 @@
+//! Lists that a table is asked for, beside those that it has.
+
+use super::begun;
+use crate::empty::{Begins, Trial, tried};
+use ft_store::{ListRow, Spot, TermLists};
+use std::alloc::{AllocError, Global};
+use std::test::Fail;
+
+// The term `pear` in the documents 2 and 5 of the table 1, `red` in 2, and a list of another table.
+const ROWS: &str =
+    "INSERT INTO posting VALUES (1, 'pear', 2, x'00010404'), (1, 'pear', 5, x'00000004'),
+    (1, 'red', 2, x'00000003'), (2, 'red', 9, x'00000003')";
+
+// The same with a list that can't be read.
+const DAMAGED: &str =
+    "INSERT INTO posting VALUES (1, 'pear', 2, x'00010404'), (1, 'pear', 5, x'00000004'),
+    (1, 'red', 2, x'00')";
+
+// A document with a place of a term: its position, where its bytes begin, and how many they are.
+type Document = (i64, i64, i64, i64);
+
+// A term and its documents.
+type Term = (&'static str, &'static [Document]);
+
+const PEAR: Term = ("pear", &[(2, 1, 4, 4), (5, 0, 0, 4)]);
+
+const RED: Term = ("red", &[(2, 0, 0, 3)]);
+
+// What is asked of which rows, what is answered, and how many rows were read then.
+const TRIALS: [(&str, &[Term], bool, u64); 11] = [
+    (ROWS, &[PEAR, RED], true, 3),
+    (ROWS, &[PEAR, ("plum", &[]), RED, ("zoo", &[])], true, 3),
+    (ROWS, &[], false, 0),
+    (ROWS, &[PEAR], false, 0),
+    (ROWS, &[RED], false, 0),
+    (ROWS, &[PEAR, RED, ("zoo", &[(2, 2, 9, 3)])], false, 0),
+    (
+        ROWS,
+        &[("pear", &[(2, 1, 4, 4), (6, 0, 0, 4)]), RED],
+        false,
+        0,
+    ),
+    (ROWS, &[PEAR, ("redo", &[(2, 0, 0, 3)])], false, 0),
+    (ROWS, &[PEAR, ("red", &[(2, 0, 0, 4)])], false, 0),
+    (DAMAGED, &[PEAR, RED], false, 0),
+    ("", &[], true, 0),
+];
+
+fn lists_of(alloc: Global, documents: &[Document]) -> Result<Vec<ListRow>, AllocError> {
+    let mut lists = Vec::new(alloc);
+    for (docid, pos, place, size) in documents {
+        let mut spots = Vec::new(alloc);
+        spots.push(Spot {
+            column: 0,
+            pos: *pos,
+            place: *place,
+            size: *size,
+        })?;
+        lists.push(ListRow {
+            docid: *docid,
+            spots,
+        })?;
+    }
+    Ok(lists)
+}
+
+fn terms_of(alloc: Global, terms: &[Term]) -> Result<Vec<TermLists>, AllocError> {
+    let mut found = Vec::new(alloc);
+    for (term, documents) in terms {
+        let lists = lists_of(alloc, documents)?;
+        found.push(TermLists {
+            term: String::from_str(alloc, term)?,
+            lists,
+        })?;
+    }
+    Ok(found)
+}
+
+// Whether a store of these rows has exactly these lists in its table 1, and how many rows were read then.
+#[derive(Clone, Copy)]
+struct Asked {
+    rows: &'static str,
+    terms: &'static [Term],
+}
+
+impl Trial for Asked {
+    type Found = (bool, u64);
+
+    fn over<S: Begins>(self, alloc: Global) -> Result<(bool, u64), Fail> {
+        let mut store = begun::<S>(alloc, self.rows)?;
+        let terms = terms_of(alloc, self.terms)?;
+        let same = store.has_lists(1, terms)?;
+        Ok((same, store.rows_read()))
+    }
+}
+
+#[test]
+fn lists_are_those_asked_for(rt: HostRuntime) -> Result<(), Fail> {
+    for (rows, terms, want, read) in TRIALS {
+        let found = tried(rt.alloc(), Asked { rows, terms })?;
+        assert_eq!(&rt; found, (want, read));
+    }
+    Ok(())
+}
