@@ -13,6 +13,7 @@ pub mod FirstLemmas
 pub mod FoundLemmas
 pub mod FoundLists
 pub mod GatheredRows
+pub mod GatheredTerms
 pub mod GroupsRight
 pub mod IndexOf
 pub mod InsertDue

@@ -5,7 +5,7 @@ use Rattle.std.specs.declared.cmp.Ordering.{Ordering}
 use Rattle.std.specs.declared.cmp.Ordering.TheVariants.{Less, Equal, Greater}
 use Rattle.std.specs.List.{AllByRecursion}
 use Rattle.std.specs.List.Sorted.{IsStrictlySortedBy}
-use Rattle.std.specs.Map.{lookup, set_value, keys_of}
+use Rattle.std.specs.Map.{lookup, keys_of}
 use Rattle.std.specs.BTreeMap.{insert_entry}
 use Rattle.std.specs.Ordering.{int_cmp, is_eq, is_lt, match_ordering, nat_cmp, ordering_then, ordering_reverse}
 use Rattle.std.specs.Cmp.{IsTotalOrder, int_cmp_total, tied_itself}
@@ -18,7 +18,7 @@ use Rattle.ft_values.specs.declared.rows.ListRow.{ListRow}
 use Rattle.ft_content.specs.Index.{Key, key_cmp, StoredSpot}
 use Rattle.ft_content.proofs.IndexLemmas.{key_cmp_exact}
 use Rattle.ft_documents.specs.RewriteRows.{all_put, shown_list}
-use Rattle.ft_documents.specs.Terms.{Group, IsAfter, lists_of_term, group_lists, lists_in_groups}
+use Rattle.ft_documents.specs.Terms.{Group, IsAfter, lists_of_term, group_lists, lists_in_groups, term_cmp}
 use Rattle.ft_documents.proofs.KeyedRows.{less}
 use Rattle.ft_documents.proofs.MapSteps.{ShownList, held_cmp}
 
@@ -60,16 +60,13 @@ behind_own t term d (l ∷ ls) h after = (ap (λ o. ordering_then o (int_cmp d l
 
 -- ---- a list and those of a map
 
-abbrev pub term_cmp : String Global → String Global → Ordering
-term_cmp a b = slice_cmp nat_cmp (string_bytes a) (string_bytes b)
-
 abbrev pub is_term : String Global → String Global → Bool
 is_term t u = is_eq (term_cmp t u)
 
-term_total : IsTotalOrder term_cmp
+pub term_total : IsTotalOrder term_cmp
 term_total = on_total (λ (t : String Global). string_bytes t) nat_list_cmp_total
 
-all_above : (t u : String Global) (gs : List Group) → term_cmp t u ≡ Less → AllByRecursion (λ y. term_cmp u y ≡ Less) (keys_of gs) → AllByRecursion (λ y. term_cmp t y ≡ Less) (keys_of gs)
+pub all_above : (t u : String Global) (gs : List Group) → term_cmp t u ≡ Less → AllByRecursion (λ y. term_cmp u y ≡ Less) (keys_of gs) → AllByRecursion (λ y. term_cmp t y ≡ Less) (keys_of gs)
 all_above t u [] h all = tt
 all_above t u (g ∷ gs) h all = (term_total.trans t u g.0 h all.0, all_above t u gs h all.1)
 
@@ -104,7 +101,7 @@ insert_group t list v (g ∷ gs) one sorted none =
 
 -- a term that has lists of lower docids
 pub push_group : (t : String Global) (list : ListRow) (v held : Vec ListRow Global) (gs : List Group) → v.items ≡ held.items ++ list ∷ [] → IsStrictlySortedBy term_cmp (keys_of gs) → lookup (is_term t) gs ≡ Some held →
-    IsAfter (string_bytes t, list.docid) (lists_in_groups gs) → lists_in_groups (set_value (is_term t) gs v) ≡ put key_cmp (string_bytes t, list.docid) list.spots.items (lists_in_groups gs)
+    IsAfter (string_bytes t, list.docid) (lists_in_groups gs) → lists_in_groups (insert_entry term_cmp gs t v) ≡ put key_cmp (string_bytes t, list.docid) list.spots.items (lists_in_groups gs)
 unfolding IsStrictlySortedBy
 push_group t list v held [] more sorted found after = absurd (let no = found in cc)
 push_group t list v held (g ∷ gs) more sorted found after =
@@ -112,7 +109,7 @@ push_group t list v held (g ∷ gs) more sorted found after =
     let rest = lists_in_groups gs in
     let parts = after_parts key (group_lists g) rest after in
     elim (term_cmp t g.0) as (λ o. term_cmp t g.0 ≡ o → cond (is_eq o) (Some g.1) (lookup (is_term t) gs) ≡ Some held →
-    lists_in_groups (cond (is_eq o) ((g.0, v) ∷ gs) (g ∷ set_value (is_term t) gs v)) ≡ put key_cmp key list.spots.items (group_lists g ++ rest)) [
+    lists_in_groups (match_ordering o ((t, v) ∷ g ∷ gs) ((g.0, v) ∷ gs) (g ∷ insert_entry term_cmp gs t v)) ≡ put key_cmp key list.spots.items (group_lists g ++ rest)) [
       | Less ↦ λ h found. absurd (let no : None ≡ Some held = sym (none_above t gs (all_above t g.0 gs h sorted.0)) ∙ found in cc)
       | Equal ↦ λ h found.
           let term : string_bytes t ≡ string_bytes g.0 = ap (λ (k : Key). k.0) (key_cmp_exact (string_bytes t, list.docid) (string_bytes g.0, list.docid) (same_docid (string_bytes t) (string_bytes g.0) list.docid h)) in

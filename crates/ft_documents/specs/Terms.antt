@@ -1,5 +1,7 @@
 -- Steps. The posting lists of documents by their terms. All of it is our own choice.
-use Rattle.std.specs.Prelude.{◌≡◌, List, map, ℕ, String, Vec, string_bytes, IsTrue}
+use Rattle.std.specs.Prelude.{◌≡◌, List, [], ◌∷◌, map, ℕ, String, Vec, string_bytes, IsTrue}
+use Rattle.std.specs.BTreeMap.{insert_entry}
+use Rattle.std.specs.declared.cmp.Ordering.{Ordering}
 use Rattle.std.specs.List.{AllByRecursion, flat_map}
 use Rattle.std.specs.declared.alloc.Global.{Global}
 use Rattle.std.specs.Ordering.{int_cmp, is_eq, nat_cmp}
@@ -28,8 +30,17 @@ group_lists g = lists_of_term (string_bytes g.0) g.1.items
 abbrev pub lists_in_groups : List Group → List (Key × List StoredSpot)
 lists_in_groups groups = flat_map group_lists groups
 
+-- the order of terms
+abbrev pub term_cmp : String Global → String Global → Ordering
+term_cmp a b = slice_cmp nat_cmp (string_bytes a) (string_bytes b)
+
+-- terms put among others that stand in their order
+abbrev pub gathered : List Group → List Group → List Group
+gathered sorted [] = sorted
+gathered sorted (g ∷ gs) = gathered (insert_entry term_cmp sorted g.0 g.1) gs
+
 abbrev pub lists_in_terms : TermIndex → List (Key × List StoredSpot)
-lists_in_terms index = lists_in_groups index.terms.entries
+lists_in_terms index = lists_in_groups (gathered [] index.terms.entries)
 
 -- the lists of this term are those of lower docids
 abbrev pub IsAfter : Key → List (Key × List StoredSpot) → Type 0

@@ -1,20 +1,21 @@
 //! The posting lists of documents by their terms.
-ghost use Rattle.std.specs.Prelude.{◌≡◌, ◌++◌, map, OnOk};
+ghost use Rattle.std.specs.Prelude.{◌≡◌, ◌++◌, [], map, IfOk, OnOk};
 ghost use Rattle.ft_rows.specs.Changes.{shown_change};
 ghost use Rattle.ft_documents.specs.RewriteRows.{put_lists};
-ghost use Rattle.ft_documents.specs.Terms.{lists_of_term};
+ghost use Rattle.ft_documents.specs.Terms.{lists_of_term, gathered};
 
 use crate::document_index::PostingLists;
 use ft_rows::TermLists;
 use ft_values::{ListRow, RowChange};
 use std::alloc::{AllocError, Global};
-use std::collections::BTreeMap;
+use std::collections::{BTreeMap, HashMap};
 
-/// The posting lists of documents, which come by rising docid, under their terms.
+/// The posting lists of documents, which come by rising docid, under their terms. A term is found by its hash, and the
+/// terms are put in order once, at the end: there is a step for each posting, and far fewer terms.
 #[derive(Drop)]
 pub(crate) struct TermIndex {
     alloc: Global,
-    terms: BTreeMap<String, Vec<ListRow>>,
+    terms: HashMap<String, Vec<ListRow>>,
 }
 
 impl TermIndex {
@@ -34,7 +35,7 @@ impl TermIndex {
     {
         TermIndex {
             alloc,
-            terms: BTreeMap::new(alloc),
+            terms: HashMap::new(alloc),
         }
     }
 
@@ -78,7 +79,7 @@ impl TermIndex {
     {
         let TermIndex { alloc, terms } = self;
         let mut found = Vec::new(alloc);
-        for (term, lists) in terms {
+        for (term, lists) in by_terms(alloc, terms)? {
             found.push(TermLists { term, lists })?;
         }
         Ok(found)
@@ -91,11 +92,25 @@ impl TermIndex {
             (terms.lists_in_terms self)) }
     {
         let TermIndex { alloc, terms } = self;
-        for (term, lists) in terms {
+        for (term, lists) in by_terms(alloc, terms)? {
             put_term(alloc, changes, tab, term.as_str(), lists)?;
         }
         Ok(())
     }
+}
+
+// The same, by rising terms.
+fn by_terms(
+    alloc: Global,
+    terms: HashMap<String, Vec<ListRow>>,
+) -> Result<BTreeMap<String, Vec<ListRow>>, AllocError>
+    ensures { IfOk result (λ found. found.entries ≡ gathered [] terms.entries) }
+{
+    let mut found = BTreeMap::new(alloc);
+    for (term, lists) in terms {
+        found.insert(term, lists)?;
+    }
+    Ok(found)
 }
 
 // Puts the lists of a term.

@@ -1,17 +1,27 @@
-use Rattle.std.proofs.Common.{◌++◌, ◌∷◌, [], sym, ap, ◌∙◌}
-use Rattle.std.specs.BTreeMap.{insert_entry}
-use Rattle.ft_documents.specs.Terms.{lists_in_groups}
-use Rattle.ft_documents.proofs.TermLemmas.{term_cmp, insert_group, push_group}
+use Rattle.std.proofs.Common.{◌++◌, ◌∷◌, [], Some, cond, String, refl, sym, ap, subst, ◌∙◌}
+use Rattle.std.specs.Prelude.{IsSome}
+use Rattle.std.specs.declared.alloc.Global.{Global}
+use Rattle.std.specs.Map.{lookup}
+use Rattle.std.specs.String.{string_eq}
+use Rattle.ft_documents.specs.Terms.{gathered}
+use Rattle.ft_documents.proofs.TermLemmas.{insert_group, push_group}
+use Rattle.ft_documents.proofs.GatheredTerms.{are_sorted, found_under, term_joins}
 use Rattle.ft_documents.proofs.term_index.TermIndex.add_list.Goals as goal
 
 pub returns-in-Some : goal.returns-in-Some
 returns-in-Some c = λ after.
-    ap lists_in_groups (c.get_mut.follows.holds c.push.new.self).0
-    ∙ push_group c.args.term c.args.list c.push.new.self c.in-Some.lists.now c.args.self.now.terms.entries c.in_ok-push.ensures.items c.get_mut.ensures.ordered (sym c.in-Some.ensures.value) after
+    let old = c.args.self.now.terms.entries in
+    let lists = c.push.new.self in
+    let written = c.get_mut.follows.holds lists in
+    let held = found_under c.args.term old c.get_mut.ensures.unique ∙ sym c.in-Some.ensures.value in
+    term_joins c.args.term lists old _ c.get_mut.ensures.unique written.4 (written.3 (subst IsSome c.in-Some.ensures.value refl)).0
+    ∙ push_group c.args.term c.args.list lists c.in-Some.lists.now (gathered [] old) c.in_ok-push.ensures.items (are_sorted old) held after
 
 pub returns : goal.returns
 returns c = λ after.
+    let old = c.args.self.now.terms.entries in
     let lists = c.push-2.new.self in
-    ap lists_in_groups c.in_ok-insert.ensures.entries
-    ∙ ap (λ m. lists_in_groups (insert_entry term_cmp m.entries c.args.term lists)) c.get_mut.follows.holds-at-none
-    ∙ insert_group c.args.term c.args.list lists c.args.self.now.terms.entries (c.in_ok-push-2.ensures.items ∙ ap (λ ls. ls ++ c.args.list ∷ []) c.in_ok-lists.ensures.items) c.get_mut.ensures.ordered (sym c.in_default.ensures.value)
+    let none = found_under c.args.term old c.get_mut.ensures.unique ∙ sym c.in_default.ensures.value in
+    let joins = λ (q : String Global). c.in_ok-insert.ensures.updates.0 q ∙ ap (λ m. cond (string_eq c.args.term q) (Some lists) (lookup (string_eq q) m.entries)) c.get_mut.follows.holds-at-none in
+    term_joins c.args.term lists old _ c.get_mut.ensures.unique c.in_ok-insert.ensures.unique joins
+    ∙ insert_group c.args.term c.args.list lists (gathered [] old) (c.in_ok-push-2.ensures.items ∙ ap (λ ls. ls ++ c.args.list ∷ []) c.in_ok-lists.ensures.items) (are_sorted old) none
