@@ -1,26 +1,23 @@
 -- Terms put in order are the same terms: what stands under a term is found in both, and a term that joins the one joins the other.
-use Rattle.std.proofs.Common.{◌≡◌, ◌≢◌, ⊎_elim, Bool, true, false, cond, List, [], ◌∷◌, ◌++◌, map, Option, Some, None, ℕ, refl, sym, ap, ◌∙◌, String, Vec, string_bytes}
+use Rattle.std.proofs.Common.{◌≡◌, ◌≢◌, ⊎_elim, Bool, true, false, cond, List, [], ◌∷◌, ◌++◌, Option, Some, None, refl, sym, ap, ◌∙◌, String, Vec, string_bytes}
 use Rattle.std.specs.Option.{option_or, is_some, unwrap_or}
 use Rattle.std.specs.declared.alloc.Global.{Global}
-use Rattle.std.specs.declared.cmp.Ordering.{Ordering}
 use Rattle.std.specs.declared.cmp.Ordering.TheVariants.{Less, Equal, Greater}
 use Rattle.std.specs.List.{AllByRecursion, IsDistinct}
 use Rattle.std.specs.List.Sorted.{IsStrictlySortedBy}
 use Rattle.std.specs.Map.{lookup, keys_of}
 use Rattle.std.specs.BTreeMap.{insert_entry}
-use Rattle.std.specs.Ordering.{eq_by_cmp, is_eq, match_ordering, nat_cmp, ordering_reverse}
+use Rattle.std.specs.Ordering.{eq_by_cmp, is_eq, match_ordering, ordering_reverse}
 use Rattle.std.specs.Cmp.{IsEquivalence, eq_by_cmp_equiv, tied_itself}
-use Rattle.std.specs.Cmp.Lexicographic.{slice_cmp}
-use Rattle.std.specs.Str.{bytes_eq}
 use Rattle.std.specs.String.{string_eq, string_eq_equiv}
 use Rattle.std.proofs.lemmas.Bool.{cases_Bool, true≢false}
 use Rattle.std.proofs.lemmas.Map.{lookup-none}
 use Rattle.std.proofs.lemmas.Map.Entries.{lookup_head, lookup_tail, none_past_head, none_below_head}
-use Rattle.std.proofs.lemmas.Map.Keys.{sorted_head, sorted_tail, IsDistinct-tail, IsDistinct-from_sorted}
+use Rattle.std.proofs.lemmas.Map.Keys.{sorted_tail, IsDistinct-tail, IsDistinct-from_sorted}
 use Rattle.std.proofs.lemmas.Map.Lookups.{exact_bytes}
 use Rattle.std.proofs.lemmas.Map.Text.{is_eq-slice_cmp}
 use Rattle.ft_values.specs.declared.rows.ListRow.{ListRow}
-use Rattle.ft_documents.specs.Terms.{Group, term_cmp, gathered, lists_of_term, group_lists, lists_in_groups}
+use Rattle.ft_documents.specs.Terms.{Group, term_cmp, gathered, lists_of_term, lists_in_groups}
 use Rattle.ft_documents.proofs.TermLemmas.{is_term, term_total, all_above}
 
 abbrev Term : Type 0
@@ -141,10 +138,10 @@ some-none v h = true≢false (ap is_some h)
 module _ (g k : Group) (gs hs : List Group) (first : Sorted (g ∷ gs)) (second : Sorted (k ∷ hs)) (same : (q : Term) → under q (g ∷ gs) ≡ under q (k ∷ hs)) where
   heads : term_cmp g.0 k.0 ≡ Equal
   heads = elim (term_cmp g.0 k.0) as (λ o. term_cmp g.0 k.0 ≡ o → term_cmp g.0 k.0 ≡ Equal) [
-      | Less ↦ λ h. absurd (some-none g.1 (sym (first_under g gs) ∙ same g.0 ∙ none_before g.0 k hs second h))
-      | Equal ↦ λ h. h
-      | Greater ↦ λ h. absurd (some-none k.1 (sym (first_under k hs) ∙ sym (same k.0) ∙ none_before k.0 g gs first (term_total.antisymm k.0 g.0 ∙ ap ordering_reverse h)))
-    ] refl
+    | Less ↦ λ h. absurd (some-none g.1 (sym (first_under g gs) ∙ same g.0 ∙ none_before g.0 k hs second h))
+    | Equal ↦ λ h. h
+    | Greater ↦ λ h. absurd (some-none k.1 (sym (first_under k hs) ∙ sym (same k.0) ∙ none_before k.0 g gs first (term_total.antisymm k.0 g.0 ∙ ap ordering_reverse h)))
+  ] refl
 
   values : g.1 ≡ k.1
   values = ap (λ o. unwrap_or o g.1) (sym (first_under g gs) ∙ same g.0 ∙ lookup_head (is_term g.0) k hs (ap is_eq heads))
@@ -172,7 +169,7 @@ pub term_joins : (t : Term) (v : Vec ListRow Global) (old new : List Group) → 
     lists_in_groups (gathered [] new) ≡ lists_in_groups (insert_entry term_cmp (gathered [] old) t v)
 term_joins t v old new once still joins =
     same_lists (gathered [] new) (insert_entry term_cmp (gathered [] old) t v) (are_sorted new) (sorted_insert t v (gathered [] old) (are_sorted old)) (λ q.
-      found_under q new still
-      ∙ joins q
-      ∙ (λ i. cond (sym (is_eq-slice_cmp (string_bytes t) (string_bytes q)) i) (Some v) (sym (found_under q old once) i))
-      ∙ sym (under_insert q t v (gathered [] old)))
+    found_under q new still
+    ∙ joins q
+    ∙ (λ i. cond (sym (is_eq-slice_cmp (string_bytes t) (string_bytes q)) i) (Some v) (sym (found_under q old once) i))
+    ∙ sym (under_insert q t v (gathered [] old)))

@@ -1,5 +1,5 @@
 -- Documents that are written group by group.
-use Rattle.std.proofs.Common.{◌≡◌, false, List, [], ◌∷◌, ◌++◌, map, ℤ, refl, sym, ap, subst, ◌∙◌, append-nil}
+use Rattle.std.proofs.Common.{◌≡◌, inr, Err, List, [], ◌∷◌, ◌++◌, map, ℤ, refl, sym, ap, subst, ◌∙◌, append-nil}
 use Rattle.std.specs.Prelude.{All, Vec}
 use Rattle.std.specs.declared.alloc.Global.{Global}
 use Rattle.std.specs.List.{flat_map}
@@ -9,6 +9,7 @@ use Rattle.sqlite.specs.Store.{Ghosts}
 use Rattle.ft_rows.specs.Store.{Change}
 use Rattle.ft_store.specs.Kept.{StoreState, shows}
 use Rattle.ft_store.specs.Parts.{changes_in}
+use Rattle.ft_values.specs.declared.fault.Fault.TheVariants as faults
 use Rattle.ft_content.specs.Content.{Column}
 use Rattle.ft_content.specs.Views.{column_of}
 use Rattle.ft_documents.specs.declared.rewrite.Rewrite as source
@@ -53,11 +54,16 @@ module _ (written : Written) where
       subst (λ rewrites. P rewrites (changes_in (parts_of tab columns groups))) all
       (subst (P (flat_map (λ group. group) (shown groups))) (parts_are tab columns groups) (groups_right tab columns (shown groups), groups_near tab columns (shown groups)))
 
-  -- where nothing is made
-  pub makes_nothing : {S : Type 0} (g : Ghosts S) (store : StoreState S) → MakesWritten g written store store false
+  -- where nothing is made, for want of memory
+  pub makes_nothing : {S : Type 0} (g : Ghosts S) (store : StoreState S) → MakesWritten {X = Unit {0}} g written store store (Err faults.Memory)
   makes_nothing g store = record {
     changes = changes_in (parts_of tab columns (written.rewrites ∷ []));
     of_written = of_groups (written.rewrites ∷ []) (append-nil written.rewrites.items);
-    changed = record { was_up = λ tables others up. record { clean = up.clean; is_open = up.is_open }; value = λ tables up. refl };
-    crash = survives_as (shows g store) (shows g store) _ _ (λ clean db none is_open. absurd (none is_open)) (nothing_done (shows g store));
+    makes = record {
+      changed = record { was_up = λ tables others up. record { clean = up.clean; is_open = up.is_open }; value = λ tables up. refl };
+      crash = survives_as (shows g store) (shows g store) _ _ (λ clean db none is_open. absurd (none is_open)) (nothing_done (shows g store));
+      live = λ clean. tt;
+      cause = inr refl;
+      unread = refl;
+    };
   }

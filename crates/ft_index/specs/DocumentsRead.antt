@@ -1,5 +1,5 @@
 -- Meaning. The documents of a table in a store, as they are read.
-use Rattle.std.specs.Prelude.{◌≡◌, ℕ, List, ℤ, Result, IsTrue, OnOk}
+use Rattle.std.specs.Prelude.{◌≡◌, ℕ, List, ℤ, Result, IsTrue, OnOk, IfErr}
 use Rattle.sqlite.specs.State.{HasCleanDisk, Survives}
 use Rattle.sqlite.specs.Store.{Ghosts}
 use Rattle.ft_store.specs.Calls.{Keeps}
@@ -24,3 +24,15 @@ pub record Looks {S : Type 0} (g : Ghosts S) (old new : StoreState S) : Type 0 w
 pub record LooksOn {S X F : Type 0} (g : Ghosts S) (old new : StoreState S) (result : Result X F) : Type 0 where
   pub only : Looks g old new
   pub live : HasCleanDisk (shows g new) → OnOk result (IsTrue (shows g old).is_open → IsTrue (shows g new).is_open)
+
+-- the same of a call that is refused for these causes alone
+pub record LooksFor {S X F : Type 0} (g : Ghosts S) (old new : StoreState S) (result : Result X F) (Cause : F → Type 0) : Type 0 where
+  pub only : Looks g old new
+  pub live : HasCleanDisk (shows g new) → OnOk result (IsTrue (shows g old).is_open → IsTrue (shows g new).is_open)
+  pub cause : IfErr result Cause
+
+-- the same of a call that asks the store in any case: its answer says that the store is open
+pub record Asks {S X F : Type 0} (g : Ghosts S) (old new : StoreState S) (result : Result X F) (Cause : F → Type 0) : Type 0 where
+  pub only : Looks g old new
+  pub live : HasCleanDisk (shows g new) → OnOk result (IsTrue (shows g new).is_open)
+  pub cause : IfErr result Cause

@@ -96,6 +96,9 @@ abbrev pub AreSound : Contents → Type 0
 AreSound contents = All (λ (table : ℤ × Table). IsTrue (is_sound table.1.held)) contents
 
 -- the store and memory may refuse any command
+abbrev pub IsOutside : Fault → Type 0
+IsOutside fault = (fault ≡ faults.Store) ⊎ (fault ≡ faults.Memory)
+
 abbrev pub is_outside : Result Reply Fault → Bool
 is_outside (Ok reply) = false
 is_outside (Err faults.Store) = true

@@ -1,12 +1,11 @@
 -- Steps. Commands that write documents of one table anew. All of it is our own choice.
-use Rattle.std.specs.Prelude.{◌≡◌, ◌⊎◌, ℕ, Bool, List, map, Option, Some, None, Result, Ok, Err, ℤ, IsTrue, All, Contains, Vec}
+use Rattle.std.specs.Prelude.{◌≡◌, ◌⊎◌, ℕ, List, map, Option, Some, None, Result, Ok, Err, ℤ, IsTrue, All, Contains, Vec}
 use Rattle.std.specs.declared.alloc.Global.{Global}
 use Rattle.std.specs.List.{AllByRecursion}
-use Rattle.sqlite.specs.State.{HasCleanDisk, Survives}
+use Rattle.sqlite.specs.State.{HasCleanDisk}
 use Rattle.sqlite.specs.Store.{Ghosts}
 use Rattle.ft_values.specs.declared.rows.RowChange.{RowChange}
-use Rattle.ft_rows.specs.Store.{Change, all_applied}
-use Rattle.ft_store.specs.Calls.{IsStored}
+use Rattle.ft_rows.specs.Store.{Change}
 use Rattle.ft_store.specs.Kept.{StoreState, shows, value_in}
 use Rattle.ft_values.specs.declared.fault.Fault.{Fault}
 use Rattle.ft_values.specs.declared.fault.Fault.TheVariants as faults
@@ -20,7 +19,7 @@ use Rattle.ft_documents.specs.Tables.{IsOfDocids}
 use Rattle.ft_index.specs.declared.written.Written.{Written}
 use Rattle.ft_index.specs.Kept.{IsUp, AreHeld, PlansFrom}
 use Rattle.ft_index.specs.Planned.{changes_of}
-use Rattle.ft_index.specs.Changed.{with_tables, Changed}
+use Rattle.ft_index.specs.Changed.{with_tables, MakesRows}
 
 -- The rows and index rows of a table were those of a content with these columns, and the store is up as the call ends.
 pub record HasAll {S : Type 0} (g : Ghosts S) (tab : ℤ) (name : List ℕ) (columns : List Column) (old new : StoreState S) (content : Content) : Type 0 where
@@ -59,9 +58,7 @@ WritesIn g tables old new command (Ok written) = (changes : List Change) → Are
 WritesIn g tables old new command (Err fault) = PlansTo g tables old new command (Err fault)
 
 -- What the writing of documents does: the store holds all of some right changes of its rows, or none.
-pub record MakesWritten {S : Type 0} (g : Ghosts S) (written : Written) (old new : StoreState S) (is_done : Bool) : Type 0 where
+pub record MakesWritten {S X : Type 0} (g : Ghosts S) (written : Written) (old new : StoreState S) (result : Result X Fault) : Type 0 where
   pub changes : List Change
   pub of_written : AreOfWritten written changes
-  pub changed : Changed g old new changes is_done
-  -- a crash leaves what it could leave before, or a store with all changes made
-  pub crash : Survives (shows g old) (shows g new) (λ db. IsTrue (shows g old).is_open → IsStored db (all_applied changes (value_in g old)))
+  pub makes : MakesRows g old new changes result

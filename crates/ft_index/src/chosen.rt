@@ -1,19 +1,18 @@
 //! The documents that a filter chooses, read from a store.
-ghost use Rattle.std.specs.Prelude.{◌≡◌, ◌⊎◌, map, option_map, vec_len, Some, IsTrue, IfOk, IfErr, OnOk};
+ghost use Rattle.std.specs.Prelude.{◌≡◌, map, option_map, vec_len, Some, IfOk};
 ghost use Rattle.std.specs.Ordering.{int_cmp};
 ghost use Rattle.std.specs.FinMap.Entries.{find};
-ghost use Rattle.sqlite.specs.State.{HasCleanDisk};
 ghost use Rattle.ft_query.specs.Trees.{tree_of};
-ghost use Rattle.ft_store.specs.Kept.{shows, more_rows};
-ghost use Rattle.ft_values.specs.declared.fault.Fault.TheVariants as faults;
+ghost use Rattle.ft_store.specs.Kept.{more_rows};
 ghost use Rattle.ft_content.specs.Content.{Content};
 ghost use Rattle.ft_content.specs.Command.{Docid};
 ghost use Rattle.ft_content.specs.Answer.{chosen};
 ghost use Rattle.ft_content.specs.Views.{cells_of, filter_of};
-ghost use Rattle.ft_index.specs.DocumentsRead.{HasRows, Looks, LooksOn};
+ghost use Rattle.ft_index.specs.DocumentsRead.{HasRows, LooksFor, Asks};
 ghost use Rattle.ft_documents.specs.Gathered.{shown_document};
 ghost use Rattle.ft_index.specs.Walked.{IsIndexed};
 ghost use Rattle.ft_documents.specs.Chosen.{ReadsAs, document_at};
+ghost use Rattle.ft_index.specs.Kept.{IsOutside};
 
 use crate::documents::{all_documents, document};
 use crate::matching::matched;
@@ -38,8 +37,7 @@ pub(crate) fn chosen_documents<S: Alter>(
         → IsIndexed S.Store tab store.old store.new content
         → ReadsAs content (filter_of filter.now) (option_map (λ q. tree_of q.now) query.entry)
         → map shown_document found.items ≡ chosen content (filter_of filter.now)) }
-    ensures faults { IfErr result (λ fault. (fault ≡ faults.Store) ⊎ (fault ≡ faults.Memory)) }
-    ensures looks { LooksOn S.Store store.old store.new result }
+    ensures looks { LooksFor S.Store store.old store.new result IsOutside }
 {
     match filter {
         Filter::All => all_documents(alloc, store, tab),
@@ -61,10 +59,7 @@ fn one_document<S: Alter>(
     ensures found { IfOk result (λ found. (content : Content)
         → HasRows S.Store tab store.old store.new content
         → map shown_document found.items ≡ chosen content (Docid docid)) }
-    ensures faults { IfErr result (λ fault. (fault ≡ faults.Store) ⊎ (fault ≡ faults.Memory)) }
-    ensures looks { Looks S.Store store.old store.new }
-    ensures live { HasCleanDisk (shows S.Store store.new)
-        → OnOk result (IsTrue (shows S.Store store.new).is_open) }
+    ensures looks { Asks S.Store store.old store.new result IsOutside }
 {
     let found = document(alloc, store, tab, docid)?;
     let mut documents = Vec::new(alloc);
@@ -84,8 +79,7 @@ fn documents_of_hits<S: Alter>(
     ensures found { IfOk result (λ found. (content : Content)
         → HasRows S.Store tab store.old store.new content
         → map shown_document found.items ≡ map (λ h. document_at content h.docid) hits.now) }
-    ensures faults { IfErr result (λ fault. (fault ≡ faults.Store) ⊎ (fault ≡ faults.Memory)) }
-    ensures looks { LooksOn S.Store store.old store.new result }
+    ensures looks { LooksFor S.Store store.old store.new result IsOutside }
 {
     let mut documents = Vec::new(alloc);
     for hit in hits {
@@ -110,10 +104,7 @@ pub(crate) fn found_cells<S: Alter>(
         → find int_cmp docid content.documents ≡ Some (cells_of cells)) }
     ensures counted { IfOk result (λ cells. store.new.rows_read
         ≡ more_rows (vec_len cells) store.old) }
-    ensures faults { IfErr result (λ fault. (fault ≡ faults.Store) ⊎ (fault ≡ faults.Memory)) }
-    ensures looks { Looks S.Store store.old store.new }
-    ensures live { HasCleanDisk (shows S.Store store.new)
-        → OnOk result (IsTrue (shows S.Store store.new).is_open) }
+    ensures looks { Asks S.Store store.old store.new result IsOutside }
 {
     let Some(cells) = document(alloc, store, tab, docid)? else {
         return Err(Fault::Store);

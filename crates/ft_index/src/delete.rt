@@ -1,16 +1,12 @@
 //! Documents that a Delete removes.
-ghost use Rattle.std.specs.Prelude.{map, string_bytes, OnOk, IsTrue};
-ghost use Rattle.sqlite.specs.State.{HasCleanDisk};
-ghost use Rattle.ft_store.specs.Kept.{shows};
+ghost use Rattle.std.specs.Prelude.{map, string_bytes};
 ghost use Rattle.ft_content.specs.Command as plain;
 ghost use Rattle.ft_content.specs.Content.{Content};
 ghost use Rattle.ft_content.specs.Answer.{chosen};
 ghost use Rattle.ft_content.specs.Deserved.{delete_fault};
 ghost use Rattle.ft_content.specs.Step.{deleted, docids_of};
-ghost use Rattle.ft_content.specs.Views.{column_of, filter_of, shown_info, answer_of};
-ghost use Rattle.ft_index.specs.Kept.{Executes};
-ghost use Rattle.ft_index.specs.Changed.{with_tables};
-ghost use Rattle.ft_index.specs.Crashes.{CommandSurvives};
+ghost use Rattle.ft_content.specs.Views.{column_of, filter_of, shown_info};
+ghost use Rattle.ft_index.specs.Changed.{with_tables, Does};
 ghost use Rattle.ft_index.specs.DocumentsRead.{LooksOn};
 ghost use Rattle.ft_index.specs.Written.{HasAll, Writes, PlansIn, WritesIn};
 
@@ -30,15 +26,9 @@ pub(crate) fn delete_from<S: Alter>(
     table: &str,
     filter: &Filter,
 ) -> Result<Reply, Fault>
-    ensures executes { Executes S.Store (with_tables store.old (map shown_info tables.now))
-        (plain.Delete table.now (filter_of filter.now)) (answer_of result)
-        (with_tables store.new (map shown_info tables.now)) }
-    ensures crash { CommandSurvives S.Store (with_tables store.old (map shown_info tables.now))
-        (plain.Delete table.now (filter_of filter.now))
-        (with_tables store.new (map shown_info tables.now)) }
-    ensures live { HasCleanDisk (shows S.Store store.new)
-        → OnOk result (IsTrue (shows S.Store store.old).is_open
-        → IsTrue (shows S.Store store.new).is_open) }
+    ensures { Does S.Store (with_tables store.old (map shown_info tables.now))
+        (plain.Delete table.now (filter_of filter.now)) result (with_tables store.new
+        (map shown_info tables.now)) }
 {
     let written = delete_written(alloc, store, tables, table, filter)?;
     written.make(alloc, store)?;

@@ -3,16 +3,16 @@ ghost use Rattle.std.specs.Prelude.{◌≡◌, ◌⊎◌, map, option_map, vec_l
 ghost use Rattle.std.specs.Option.{option_map_or};
 ghost use Rattle.std.specs.Ordering.{int_cmp};
 ghost use Rattle.std.specs.FinMap.Entries.{find};
-ghost use Rattle.sqlite.specs.State.{HasCleanDisk, Survives};
-ghost use Rattle.ft_store.specs.Calls.{Keeps};
+ghost use Rattle.sqlite.specs.State.{HasCleanDisk};
 ghost use Rattle.ft_values.specs.Cells.{shown_value};
 ghost use Rattle.ft_store.specs.Kept.{shows, more_rows};
 ghost use Rattle.ft_values.specs.declared.fault.Fault.TheVariants as faults;
 ghost use Rattle.ft_content.specs.Content as content;
 ghost use Rattle.ft_content.specs.Content.{Content};
 ghost use Rattle.ft_content.specs.Views as views;
-ghost use Rattle.ft_index.specs.DocumentsRead.{HasRows};
+ghost use Rattle.ft_index.specs.DocumentsRead.{HasRows, Looks, Asks};
 ghost use Rattle.ft_documents.specs.Gathered.{shown_document, has_given};
+ghost use Rattle.ft_index.specs.Kept.{IsOutside};
 
 use ft_content::{Fault, Value};
 use ft_documents::{Document, gathered};
@@ -25,13 +25,7 @@ pub(crate) fn last_docid<S: Alter>(store: &mut Store<S>, tab: i64) -> Result<Opt
     ensures last { IfOk result (λ last. (content : Content)
         → HasRows S.Store tab store.old store.new content
         → views.last_docid content.documents ≡ last) }
-    ensures faults { IfErr result (λ fault. (fault ≡ faults.Store) ⊎ (fault ≡ faults.Memory)) }
-    ensures kept { HasCleanDisk (shows S.Store store.new)
-        → Keeps (shows S.Store store.old) (shows S.Store store.new) }
-    ensures live { HasCleanDisk (shows S.Store store.new)
-        → OnOk result (IsTrue (shows S.Store store.new).is_open) }
-    ensures survives { Survives (shows S.Store store.old) (shows S.Store store.new)
-        (λ _. IsTrue (shows S.Store store.old).is_open → ⊥) }
+    ensures looks { Asks S.Store store.old store.new result IsOutside }
 {
     let last = store.last_docid(tab)?;
     Ok(last)
@@ -49,13 +43,7 @@ pub(crate) fn document<S: Alter>(
         → option_map views.cells_of found ≡ find int_cmp docid content.documents) }
     ensures counted { IfOk result (λ found. store.new.rows_read
         ≡ more_rows (option_map_or vec_len found 0) store.old) }
-    ensures faults { IfErr result (λ fault. (fault ≡ faults.Store) ⊎ (fault ≡ faults.Memory)) }
-    ensures kept { HasCleanDisk (shows S.Store store.new)
-        → Keeps (shows S.Store store.old) (shows S.Store store.new) }
-    ensures live { HasCleanDisk (shows S.Store store.new)
-        → OnOk result (IsTrue (shows S.Store store.new).is_open) }
-    ensures survives { Survives (shows S.Store store.old) (shows S.Store store.new)
-        (λ _. IsTrue (shows S.Store store.old).is_open → ⊥) }
+    ensures looks { Asks S.Store store.old store.new result IsOutside }
 {
     let rows = store.document(tab, docid)?;
     if rows.is_empty() {
@@ -74,13 +62,7 @@ pub(crate) fn all_documents<S: Alter>(
     ensures found { IfOk result (λ found. (content : Content)
         → HasRows S.Store tab store.old store.new content
         → map shown_document found.items ≡ content.documents) }
-    ensures faults { IfErr result (λ fault. (fault ≡ faults.Store) ⊎ (fault ≡ faults.Memory)) }
-    ensures kept { HasCleanDisk (shows S.Store store.new)
-        → Keeps (shows S.Store store.old) (shows S.Store store.new) }
-    ensures live { HasCleanDisk (shows S.Store store.new)
-        → OnOk result (IsTrue (shows S.Store store.new).is_open) }
-    ensures survives { Survives (shows S.Store store.old) (shows S.Store store.new)
-        (λ _. IsTrue (shows S.Store store.old).is_open → ⊥) }
+    ensures looks { Asks S.Store store.old store.new result IsOutside }
 {
     let rows = store.cells(tab)?;
     let documents = gathered(alloc, rows)?;
@@ -98,13 +80,10 @@ pub(crate) fn has_document<S: Alter>(
         → HasRows S.Store tab store.old store.new content
         → found ≡ has_given content.documents given) }
     ensures faults { IfErr result (λ fault. (fault ≡ faults.Store) ⊎ (fault ≡ faults.Memory)) }
-    ensures kept { HasCleanDisk (shows S.Store store.new)
-        → Keeps (shows S.Store store.old) (shows S.Store store.new) }
     ensures live { (HasCleanDisk (shows S.Store store.old)
         → IsTrue (shows S.Store store.old).is_open) → HasCleanDisk (shows S.Store store.new)
         → OnOk result (IsTrue (shows S.Store store.new).is_open) }
-    ensures survives { Survives (shows S.Store store.old) (shows S.Store store.new)
-        (λ _. IsTrue (shows S.Store store.old).is_open → ⊥) }
+    ensures looks { Looks S.Store store.old store.new }
 {
     match given {
         Some(docid) => {

@@ -1,12 +1,9 @@
 //! Commands over a store.
-ghost use Rattle.ft_store.specs.Kept.{shows};
-ghost use Rattle.sqlite.specs.State.{HasCleanDisk};
-ghost use Rattle.std.specs.Prelude.{◌≡◌, map, option_map, string_bytes, OnOk, IsTrue};
+ghost use Rattle.std.specs.Prelude.{◌≡◌, map, option_map, string_bytes};
 ghost use Rattle.ft_content.specs.Views.{shown_info, names_in, command_of, answer_of};
 ghost use Rattle.ft_index.specs.Kept.{Executes};
-ghost use Rattle.ft_index.specs.Changed.{with_tables};
+ghost use Rattle.ft_index.specs.Changed.{with_tables, Does};
 ghost use Rattle.ft_index.specs.RowsRead.{CountsRows};
-ghost use Rattle.ft_index.specs.Crashes.{CommandSurvives};
 
 use crate::check::check_table;
 use crate::delete::delete_from;
@@ -28,18 +25,11 @@ pub(crate) fn execute_command<S: Alter>(
     tables: &mut Vec<TableInfo>,
     command: &Command,
 ) -> Result<Reply, Fault>
-    ensures executes { Executes S.Store (with_tables store.old (map shown_info tables.old.items))
-        (command_of command.now) (answer_of result)
-        (with_tables store.new (map shown_info tables.new.items)) }
+    ensures does { Does S.Store (with_tables store.old (map shown_info tables.old.items))
+        (command_of command.now) result (with_tables store.new (map shown_info tables.new.items)) }
     ensures counts { CountsRows S.Store (with_tables store.old (map shown_info tables.old.items))
         (command_of command.now) (answer_of result)
         (with_tables store.new (map shown_info tables.new.items)) }
-    ensures crash { CommandSurvives S.Store (with_tables store.old
-        (map shown_info tables.old.items)) (command_of command.now)
-        (with_tables store.new (map shown_info tables.new.items)) }
-    ensures live { HasCleanDisk (shows S.Store store.new)
-        → OnOk result (IsTrue (shows S.Store store.old).is_open
-        → IsTrue (shows S.Store store.new).is_open) }
 {
     match command {
         Command::Create {

@@ -1,18 +1,15 @@
 //! The documents of an Insert.
 ghost use Rattle.std.specs.Prelude.{◌≡◌, false, [], ℕ, List, map, option_map, zip, slice_get, unwrap_or, string_bytes, ◌⊎◌, IfOk, IfErr, OnOk, IsTrue};
 ghost use Rattle.ft_content.specs.Content as content;
-ghost use Rattle.sqlite.specs.State.{HasCleanDisk, Survives};
+ghost use Rattle.sqlite.specs.State.{HasCleanDisk};
 ghost use Rattle.ft_store.specs.Kept.{shows};
 ghost use Rattle.ft_values.specs.declared.fault.Fault.TheVariants as faults;
 ghost use Rattle.ft_content.specs.Content.{Content};
 ghost use Rattle.ft_content.specs.Command as plain;
 ghost use Rattle.ft_content.specs.Deserved.{insert_rows, insert_fault, listed_columns, docids_in};
 ghost use Rattle.ft_content.specs.Step.{inserted, new_docids};
-ghost use Rattle.ft_content.specs.Views as views;
 ghost use Rattle.ft_content.specs.Views.{cells_of, column_of, shown_info};
-ghost use Rattle.ft_index.specs.Kept.{Executes};
-ghost use Rattle.ft_index.specs.Changed.{with_tables};
-ghost use Rattle.ft_index.specs.Crashes.{CommandSurvives};
+ghost use Rattle.ft_index.specs.Changed.{with_tables, Does};
 ghost use Rattle.ft_index.specs.DocumentsRead.{HasRows, Looks, LooksOn};
 ghost use Rattle.ft_documents.specs.Gathered.{has_given};
 ghost use Rattle.ft_documents.specs.Inserted.{Inserts};
@@ -37,16 +34,9 @@ pub(crate) fn insert_into<S: Alter>(
     columns: Option<&[String]>,
     rows: &[Vec<Value>],
 ) -> Result<Reply, Fault>
-    ensures executes { Executes S.Store (with_tables store.old (map shown_info tables.now))
+    ensures { Does S.Store (with_tables store.old (map shown_info tables.now))
         (plain.Insert table.now (option_map (λ n. map string_bytes n.now) columns.entry)
-        (map cells_of rows.now)) (views.answer_of result)
-        (with_tables store.new (map shown_info tables.now)) }
-    ensures crash { CommandSurvives S.Store (with_tables store.old (map shown_info tables.now))
-        (plain.Insert table.now (option_map (λ n. map string_bytes n.now) columns.entry)
-        (map cells_of rows.now)) (with_tables store.new (map shown_info tables.now)) }
-    ensures live { HasCleanDisk (shows S.Store store.new)
-        → OnOk result (IsTrue (shows S.Store store.old).is_open
-        → IsTrue (shows S.Store store.new).is_open) }
+        (map cells_of rows.now)) result (with_tables store.new (map shown_info tables.now)) }
 {
     let written = insert_written(alloc, store, tables, table, columns, rows)?;
     written.make(alloc, store)?;

@@ -1,12 +1,10 @@
 // What a MATCH finds in a table's index.
-ghost use Rattle.std.specs.Prelude.{◌≡◌, ◌^◌, ◌<◌, ◌⊎◌, ℕ, List, map, option_map, Ok, IsTrue, IfOk, IfErr, OnOk};
-ghost use Rattle.sqlite.specs.State.{HasCleanDisk, Survives};
+ghost use Rattle.std.specs.Prelude.{◌≡◌, ◌^◌, ◌<◌, ◌⊎◌, ℕ, List, map, option_map, Ok, IfOk, OnOk};
 ghost use Rattle.ft_query.specs.Trees.{tree_of};
 ghost use Rattle.ft_query.specs.Work.{entry_count};
 ghost use Rattle.ft_query.specs.Occurs.{plain_hit, hits_of};
 ghost use Rattle.ft_query.specs.Walk.{StandsBefore};
-ghost use Rattle.ft_store.specs.Calls.{Keeps};
-ghost use Rattle.ft_store.specs.Kept.{shows, more_rows};
+ghost use Rattle.ft_store.specs.Kept.{more_rows};
 ghost use Rattle.ft_values.specs.declared.fault.Fault.TheVariants as faults;
 ghost use Rattle.ft_content.specs.Content.{Content};
 ghost use Rattle.ft_content.specs.Meaning.{content_documents};
@@ -15,6 +13,8 @@ ghost use Rattle.ft_content.specs.Answer.{reading, query_in, cut};
 ghost use Rattle.ft_index.specs.Walked.{IsIndexed};
 ghost use Rattle.ft_documents.specs.Matched.{chosen_hits, told};
 ghost use Rattle.ft_index.specs.RowsRead.{entries_asked};
+ghost use Rattle.ft_index.specs.DocumentsRead.{LooksOn, LooksFor};
+ghost use Rattle.ft_index.specs.Kept.{IsOutside};
 
 use crate::table_lists::TableLists;
 use ft_content::Fault;
@@ -40,14 +40,7 @@ fn opened<'q, S: Alter>(
         → lists.old.given ≡ 0 → lists.old.store.now.rows_read < 2 ^ 64
         → lists.new.store.now.rows_read ≡ more_rows
         (entry_count (tree_of query.now) (content_documents content)) lists.old.store.now) }
-    ensures live { HasCleanDisk (shows S.Store lists.new.store.now)
-        → OnOk result (IsTrue (shows S.Store lists.old.store.now).is_open
-        → IsTrue (shows S.Store lists.new.store.now).is_open) }
-    ensures kept { HasCleanDisk (shows S.Store lists.new.store.now)
-        → Keeps (shows S.Store lists.old.store.now) (shows S.Store lists.new.store.now) }
-    ensures survives { Survives (shows S.Store lists.old.store.now)
-        (shows S.Store lists.new.store.now) (λ _. IsTrue (shows S.Store lists.old.store.now).is_open
-        → ⊥) }
+    ensures looks { LooksOn S.Store lists.old.store.now lists.new.store.now result }
 {
     Matches::open(alloc, query, lists)
 }
@@ -81,14 +74,7 @@ pub(crate) fn hits<S: Alter>(
         → IsIndexed S.Store tab store.old store.new content
         → store.new.rows_read ≡ more_rows (entry_count (tree_of query.now)
         (content_documents content)) store.old) }
-    ensures faults { IfErr result (λ fault. (fault ≡ faults.Store) ⊎ (fault ≡ faults.Memory)) }
-    ensures live { HasCleanDisk (shows S.Store store.new)
-        → OnOk result (IsTrue (shows S.Store store.old).is_open
-        → IsTrue (shows S.Store store.new).is_open) }
-    ensures kept { HasCleanDisk (shows S.Store store.new)
-        → Keeps (shows S.Store store.old) (shows S.Store store.new) }
-    ensures survives { Survives (shows S.Store store.old) (shows S.Store store.new)
-        (λ _. IsTrue (shows S.Store store.old).is_open → ⊥) }
+    ensures looks { LooksFor S.Store store.old store.new result IsOutside }
 {
     // So the count of rows is known to be of 64 bits.
     let _read = store.rows_read();
@@ -118,14 +104,7 @@ pub(crate) fn matched<S: Alter>(
         → IsIndexed S.Store tab store.old store.new content
         → store.new.rows_read ≡ more_rows (entries_asked content
         (query_in content (Match name text))) store.old) }
-    ensures faults { IfErr result (λ fault. (fault ≡ faults.Store) ⊎ (fault ≡ faults.Memory)) }
-    ensures live { HasCleanDisk (shows S.Store store.new)
-        → OnOk result (IsTrue (shows S.Store store.old).is_open
-        → IsTrue (shows S.Store store.new).is_open) }
-    ensures kept { HasCleanDisk (shows S.Store store.new)
-        → Keeps (shows S.Store store.old) (shows S.Store store.new) }
-    ensures survives { Survives (shows S.Store store.old) (shows S.Store store.new)
-        (λ _. IsTrue (shows S.Store store.old).is_open → ⊥) }
+    ensures looks { LooksFor S.Store store.old store.new result IsOutside }
 {
     // So the count of rows is known to be of 64 bits.
     let _read = store.rows_read();

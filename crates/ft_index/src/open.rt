@@ -1,10 +1,10 @@
 //! The tables of a store, as they are told when it is taken.
-ghost use Rattle.std.specs.Prelude.{◌≡◌, ℤ, ℕ, List, map, IsTrue, IfOk, IfErr, OnOk};
+ghost use Rattle.std.specs.Prelude.{ℤ, ℕ, List, map, IfOk};
 ghost use Rattle.sqlite.specs.State.{HasCleanDisk};
 ghost use Rattle.ft_store.specs.Calls.{IsPlainFault};
 ghost use Rattle.ft_store.specs.Kept.{shows, value_in};
 ghost use Rattle.ft_content.specs.Views.{shown_info};
-ghost use Rattle.ft_index.specs.DocumentsRead.{Looks};
+ghost use Rattle.ft_index.specs.DocumentsRead.{Asks};
 ghost use Rattle.ft_index.specs.Opened.{IsListed, IsMarked, AreMarked};
 
 use crate::standing::read_standing;
@@ -23,10 +23,7 @@ fn opened_table<S: Alter>(
     ensures marked { (named : ℤ × List ℕ) → HasCleanDisk (shows S.Store store.new)
         → IsListed (value_in S.Store store.old) named table
         → IfOk result (λ info. IsMarked (value_in S.Store store.old) named (shown_info info)) }
-    ensures live { HasCleanDisk (shows S.Store store.new)
-        → OnOk result (IsTrue (shows S.Store store.new).is_open) }
-    ensures cause { IfErr result IsPlainFault }
-    ensures looks { Looks S.Store store.old store.new }
+    ensures looks { Asks S.Store store.old store.new result IsPlainFault }
 {
     let columns = listed_columns(alloc, &table)?;
     let standing = read_standing(alloc, store, &table)?;
@@ -47,10 +44,7 @@ pub(crate) fn opened_tables<S: Alter>(
     ensures marked { HasCleanDisk (shows S.Store store.new)
         → IfOk result (λ tables. AreMarked (value_in S.Store store.old)
         (value_in S.Store store.old).tables (map shown_info tables.items)) }
-    ensures live { HasCleanDisk (shows S.Store store.new)
-        → OnOk result (IsTrue (shows S.Store store.new).is_open) }
-    ensures cause { IfErr result IsPlainFault }
-    ensures looks { Looks S.Store store.old store.new }
+    ensures looks { Asks S.Store store.old store.new result IsPlainFault }
 {
     let rows = store.tables()?;
     let mut tables = Vec::new(alloc);

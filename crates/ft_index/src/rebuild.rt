@@ -1,14 +1,13 @@
 //! Making the index of a table again.
-ghost use Rattle.std.specs.Prelude.{ℤ, ℕ, List, IfOk, OnOk, IsTrue, map};
+ghost use Rattle.std.specs.Prelude.{ℤ, ℕ, List, IfOk, map};
 ghost use Rattle.sqlite.specs.State.{HasCleanDisk};
 ghost use Rattle.ft_store.specs.Kept.{shows, value_in};
 ghost use Rattle.ft_content.specs.Command as plain;
-ghost use Rattle.ft_content.specs.Views.{shown_info, answer_of};
+ghost use Rattle.ft_content.specs.Views.{shown_info};
 ghost use Rattle.ft_content.specs.Deserved.{Contents};
-ghost use Rattle.ft_index.specs.Changed.{with_tables};
-ghost use Rattle.ft_index.specs.Crashes.{CommandSurvives};
+ghost use Rattle.ft_index.specs.Changed.{with_tables, Does};
 ghost use Rattle.ft_index.specs.DocumentsRead.{LooksOn};
-ghost use Rattle.ft_index.specs.Kept.{AreHeld, PlansFrom, Executes};
+ghost use Rattle.ft_index.specs.Kept.{AreHeld, PlansFrom};
 ghost use Rattle.ft_index.specs.Opened.{IsListed, IsNamed};
 ghost use Rattle.ft_index.specs.Planned.{changes_of};
 ghost use Rattle.ft_index.specs.Rebuild.{HoldsIfAny};
@@ -107,15 +106,8 @@ pub(crate) fn rebuild_table<S: Alter>(
     tables: &mut Vec<TableInfo>,
     table: &str,
 ) -> Result<Reply, Fault>
-    ensures executes { Executes S.Store (with_tables store.old (map shown_info tables.old.items))
-        (plain.Rebuild table.now) (answer_of result)
-        (with_tables store.new (map shown_info tables.new.items)) }
-    ensures crash { CommandSurvives S.Store (with_tables store.old
-        (map shown_info tables.old.items)) (plain.Rebuild table.now)
-        (with_tables store.new (map shown_info tables.new.items)) }
-    ensures live { HasCleanDisk (shows S.Store store.new)
-        → OnOk result (IsTrue (shows S.Store store.old).is_open
-        → IsTrue (shows S.Store store.new).is_open) }
+    ensures { Does S.Store (with_tables store.old (map shown_info tables.old.items))
+        (plain.Rebuild table.now) result (with_tables store.new (map shown_info tables.new.items)) }
 {
     store.is_in_order();
     let changes = rebuild_changes(alloc, store, tables.as_slice(), table)?;

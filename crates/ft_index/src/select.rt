@@ -2,7 +2,7 @@
 ghost use Rattle.std.specs.Prelude.{◌≡◌, ◌⊎◌, ◌+◌, ◌*◌, ◌<◌, ◌^◌, ℕ, List, [], Option, None, Some, map, option_map, length, pos, true, false, string_bytes, IsTrue, IfOk, IfErr, OnOk};
 ghost use Rattle.std.specs.List.{list_any};
 ghost use Rattle.sqlite.specs.State.{HasCleanDisk};
-ghost use Rattle.ft_query.specs.Trees.{Tree, tree_of};
+ghost use Rattle.ft_query.specs.Trees.{tree_of};
 ghost use Rattle.ft_query.specs.Occurs as occurs;
 ghost use Rattle.ft_query.specs.Occurs.{PlainHit};
 ghost use Rattle.ft_values.specs.Cells.{shown_value};
@@ -15,10 +15,10 @@ ghost use Rattle.ft_content.specs.Answer as answer;
 ghost use Rattle.ft_content.specs.Answer.{chosen, query_in};
 ghost use Rattle.ft_content.specs.Deserved as deserved;
 ghost use Rattle.ft_content.specs.Views.{bare_content, cells_of, rows_of, column_of, item_of, items_of, filter_of, shown_info, grid_of, answer_of};
-ghost use Rattle.ft_index.specs.Kept.{Executes, OnlyLooks};
+ghost use Rattle.ft_index.specs.Kept.{Executes, OnlyLooks, IsOutside};
 ghost use Rattle.ft_index.specs.Changed.{with_tables};
 ghost use Rattle.ft_index.specs.Planned.{PlansOver};
-ghost use Rattle.ft_index.specs.DocumentsRead.{HasRows, LooksOn};
+ghost use Rattle.ft_index.specs.DocumentsRead.{HasRows, LooksFor};
 ghost use Rattle.ft_documents.specs.Gathered.{shown_document};
 ghost use Rattle.ft_index.specs.RowsRead as rows;
 ghost use Rattle.ft_index.specs.RowsRead.{rows_asked, CountsRows};
@@ -142,8 +142,7 @@ fn select_grid<S: Alter>(
         content → IsTrue (deserved.is_match (filter_of filter.now))
         → store.new.rows_read ≡ more_rows (rows_asked content (items_of items.now)
         (filter_of filter.now) limit offset) store.old) }
-    ensures faults { IfErr result (λ fault. (fault ≡ faults.Store) ⊎ (fault ≡ faults.Memory)) }
-    ensures looks { LooksOn S.Store store.old store.new result }
+    ensures looks { LooksFor S.Store store.old store.new result IsOutside }
 {
     let columns = info.columns.as_slice();
     let rows = selected_rows(
@@ -177,8 +176,7 @@ fn selected_rows<S: Alter>(
         content → IsTrue (deserved.is_match (filter_of filter.now))
         → store.new.rows_read ≡ more_rows (rows_asked content (items_of items.now)
         (filter_of filter.now) limit offset) store.old) }
-    ensures faults { IfErr result (λ fault. (fault ≡ faults.Store) ⊎ (fault ≡ faults.Memory)) }
-    ensures looks { LooksOn S.Store store.old store.new result }
+    ensures looks { LooksFor S.Store store.old store.new result IsOutside }
 {
     match items {
         Items::Count => {
@@ -217,8 +215,7 @@ fn chosen_count<S: Alter>(
         → IsTrue (deserved.is_match (filter_of filter.now))
         → store.new.rows_read ≡ more_rows (rows.entries_asked content
         (query_in content (filter_of filter.now))) store.old) }
-    ensures faults { IfErr result (λ fault. (fault ≡ faults.Store) ⊎ (fault ≡ faults.Memory)) }
-    ensures looks { LooksOn S.Store store.old store.new result }
+    ensures looks { LooksFor S.Store store.old store.new result IsOutside }
 {
     match filter {
         Filter::Match { .. } => {
@@ -250,8 +247,7 @@ fn read_rows<S: Alter>(
         → rows_of found ≡ answer.cut limit offset
         (answer.answer_rows content (plain.Listed (map item_of items.now))
         (filter_of filter.now))) }
-    ensures faults { IfErr result (λ fault. (fault ≡ faults.Store) ⊎ (fault ≡ faults.Memory)) }
-    ensures looks { LooksOn S.Store store.old store.new result }
+    ensures looks { LooksFor S.Store store.old store.new result IsOutside }
 {
     let documents = chosen_documents(alloc, store, tab, filter, None)?;
     let answered = cut(documents.as_slice(), limit, offset);
@@ -299,8 +295,7 @@ fn matched_rows<S: Alter>(
         (Match name text) (option_map (λ q. tree_of q.now) query.entry) store.old store.new content
         → store.new.rows_read ≡ more_rows (rows_asked content (plain.Listed (map item_of items.now))
         (Match name text) limit offset) store.old) }
-    ensures faults { IfErr result (λ fault. (fault ≡ faults.Store) ⊎ (fault ≡ faults.Memory)) }
-    ensures looks { LooksOn S.Store store.old store.new result }
+    ensures looks { LooksFor S.Store store.old store.new result IsOutside }
 {
     let most = most_hits(limit, offset);
     let hits = matched(store, alloc, tab, query, any_offsets(items), most)?;
@@ -376,8 +371,7 @@ fn cell_rows<S: Alter>(
     ensures counted { OnOk result ((content : Content)
         → HasRows S.Store tab store.old store.new content
         → store.new.rows_read ≡ more_rows (length content.columns * length hits.now) store.old) }
-    ensures faults { IfErr result (λ fault. (fault ≡ faults.Store) ⊎ (fault ≡ faults.Memory)) }
-    ensures looks { LooksOn S.Store store.old store.new result }
+    ensures looks { LooksFor S.Store store.old store.new result IsOutside }
 {
     // So the count of rows is known to be of 64 bits.
     let _read = store.rows_read();

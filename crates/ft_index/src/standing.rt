@@ -1,5 +1,5 @@
 //! How the rows of a table stand.
-ghost use Rattle.std.specs.Prelude.{◌≡◌, ◌<◌, ◌↔◌, ℤ, ℕ, List, map, length, IsTrue, IfOk, IfErr, OnOk};
+ghost use Rattle.std.specs.Prelude.{◌≡◌, ◌<◌, ◌↔◌, ℤ, ℕ, List, map, length, IsTrue, IfOk};
 ghost use Rattle.std.specs.List.{find};
 ghost use Rattle.std.specs.Ordering.{int_eq};
 ghost use Rattle.sqlite.specs.State.{HasCleanDisk};
@@ -10,7 +10,7 @@ ghost use Rattle.ft_content.specs.Content.{Content};
 ghost use Rattle.ft_content.specs.Index.{index_rows};
 ghost use Rattle.ft_content.specs.Views.{column_of};
 ghost use Rattle.ft_content.specs.Deserved.{TableState};
-ghost use Rattle.ft_index.specs.DocumentsRead.{Looks};
+ghost use Rattle.ft_index.specs.DocumentsRead.{Asks};
 ghost use Rattle.ft_index.specs.Kept.{is_sound};
 ghost use Rattle.ft_index.specs.Opened.{standing_of, StandsSo, IsListed, IsNamed, IsFound};
 ghost use Rattle.ft_documents.specs.Standing as standing;
@@ -56,10 +56,7 @@ pub(crate) fn listed_table<S: Alter>(
     ensures found { (named : ℤ × List ℕ) → HasCleanDisk (shows S.Store store.new)
         → IsNamed (value_in S.Store store.old) id named
         → IfOk result (λ found. IsFound (value_in S.Store store.old) named found) }
-    ensures live { HasCleanDisk (shows S.Store store.new)
-        → OnOk result (IsTrue (shows S.Store store.new).is_open) }
-    ensures cause { IfErr result IsPlainFault }
-    ensures looks { Looks S.Store store.old store.new }
+    ensures looks { Asks S.Store store.old store.new result IsPlainFault }
 {
     let tables = store.tables()?;
     Ok(table_under(tables, id))
@@ -75,10 +72,7 @@ pub(crate) fn read_standing<S: Alter>(
         → IsListed (value_in S.Store store.old) named table.now
         → IfOk result (λ s. StandsSo named.1 (table_rows named.0 (value_in S.Store store.old))
         (table_index named.0 (value_in S.Store store.old)) s) }
-    ensures live { HasCleanDisk (shows S.Store store.new)
-        → OnOk result (IsTrue (shows S.Store store.new).is_open) }
-    ensures cause { IfErr result IsPlainFault }
-    ensures looks { Looks S.Store store.old store.new }
+    ensures looks { Asks S.Store store.old store.new result IsPlainFault }
 {
     let columns = listed_columns(alloc, table)?;
     let cells = store.cells(table.id)?;
@@ -107,10 +101,7 @@ fn has_right_index<S: Alter>(
         content
         → IfOk result (λ b. IsTrue b ↔ (table_index tab (value_in S.Store store.old)
         ≡ index_rows content)) }
-    ensures live { HasCleanDisk (shows S.Store store.new)
-        → OnOk result (IsTrue (shows S.Store store.new).is_open) }
-    ensures cause { IfErr result IsPlainFault }
-    ensures looks { Looks S.Store store.old store.new }
+    ensures looks { Asks S.Store store.old store.new result IsPlainFault }
 {
     let sizes = store.sizes(tab)?;
     match index_lists(alloc, columns, cells, sizes.as_slice())? {

@@ -1,19 +1,13 @@
 // Making and removing tables.
-ghost use Rattle.std.specs.Prelude.{◌≡◌, ◌⊎◌, ◌∷◌, [], if◌then◌else◌, map, string_bytes, is_ok, IfOk, IfErr, IsTrue, OnOk};
-ghost use Rattle.sqlite.specs.State.{Survives, HasCleanDisk};
-ghost use Rattle.ft_store.specs.Calls.{IsStored};
-ghost use Rattle.ft_store.specs.Kept.{shows, value_in};
-ghost use Rattle.ft_rows.specs.Store.{all_applied};
-ghost use Rattle.ft_index.specs.Crashes.{CommandSurvives};
+ghost use Rattle.std.specs.Prelude.{◌≡◌, ◌∷◌, [], if◌then◌else◌, map, string_bytes, is_ok, IfOk};
 ghost use Rattle.ft_rows.specs.Changes.{shown_change};
 ghost use Rattle.ft_content.specs.Command as plain;
-ghost use Rattle.ft_content.specs.Views.{shown_info, option_of, answer_of};
+ghost use Rattle.ft_content.specs.Views.{shown_info, option_of};
 ghost use Rattle.ft_content.specs.Deserved.{Contents};
-ghost use Rattle.ft_index.specs.Kept.{told_table, Executes};
+ghost use Rattle.ft_index.specs.Kept.{told_table};
 ghost use Rattle.ft_index.specs.Planned.{PlansOver, Makes, table_change};
-ghost use Rattle.ft_index.specs.Changed.{Changed, with_tables};
+ghost use Rattle.ft_index.specs.Changed.{with_tables, MakesRows, Does};
 ghost use Rattle.ft_documents.specs.Found.{with_told};
-ghost use Rattle.ft_values.specs.declared.fault.Fault.TheVariants as faults;
 
 use crate::change::change_rows;
 use ft_content::{
@@ -105,17 +99,10 @@ pub(crate) fn create_table<S: Alter>(
     columns: &[String],
     if_new: bool,
 ) -> Result<Reply, Fault>
-    ensures executes { Executes S.Store (with_tables store.old (map shown_info tables.old.items))
+    ensures { Does S.Store (with_tables store.old (map shown_info tables.old.items))
         (plain.Create table.now module_name.now (map option_of options.now)
-        (map string_bytes columns.now) if_new) (answer_of result)
-        (with_tables store.new (map shown_info tables.new.items)) }
-    ensures crash { CommandSurvives S.Store (with_tables store.old
-        (map shown_info tables.old.items)) (plain.Create table.now module_name.now
-        (map option_of options.now) (map string_bytes columns.now) if_new)
-        (with_tables store.new (map shown_info tables.new.items)) }
-    ensures live { HasCleanDisk (shows S.Store store.new)
-        → OnOk result (IsTrue (shows S.Store store.old).is_open
-        → IsTrue (shows S.Store store.new).is_open) }
+        (map string_bytes columns.now) if_new) result (with_tables store.new
+        (map shown_info tables.new.items)) }
 {
     store.is_in_order();
     let made = made_table(
@@ -140,17 +127,10 @@ pub(crate) fn add_table<S: Alter>(
     tables: &mut Vec<TableInfo>,
     made: TableInfo,
 ) -> Result<(), Fault>
-    ensures changed { Changed S.Store store.old store.new (table_change made ∷ []) (is_ok result) }
+    ensures makes { MakesRows S.Store store.old store.new (table_change made ∷ []) result }
     ensures told { map shown_info tables.new.items
         ≡ (if is_ok result then with_told (shown_info made) (map shown_info tables.old.items) else
         map shown_info tables.old.items) }
-    ensures fault { IfErr result (λ fault. (fault ≡ faults.Store) ⊎ (fault ≡ faults.Memory)) }
-    ensures crash { Survives (shows S.Store store.old) (shows S.Store store.new)
-        (λ db. IsTrue (shows S.Store store.old).is_open
-        → IsStored db (all_applied (table_change made ∷ []) (value_in S.Store store.old))) }
-    ensures live { HasCleanDisk (shows S.Store store.new)
-        → OnOk result (IsTrue (shows S.Store store.old).is_open
-        → IsTrue (shows S.Store store.new).is_open) }
 {
     let mut changes = Vec::new(alloc);
     changes.push(adding(alloc, &made)?)?;
@@ -188,15 +168,9 @@ pub(crate) fn drop_table<S: Alter>(
     table: &str,
     if_there: bool,
 ) -> Result<Reply, Fault>
-    ensures executes { Executes S.Store (with_tables store.old (map shown_info tables.old.items))
-        (plain.Drop table.now if_there) (answer_of result)
-        (with_tables store.new (map shown_info tables.new.items)) }
-    ensures crash { CommandSurvives S.Store (with_tables store.old
-        (map shown_info tables.old.items)) (plain.Drop table.now if_there)
-        (with_tables store.new (map shown_info tables.new.items)) }
-    ensures live { HasCleanDisk (shows S.Store store.new)
-        → OnOk result (IsTrue (shows S.Store store.old).is_open
-        → IsTrue (shows S.Store store.new).is_open) }
+    ensures { Does S.Store (with_tables store.old (map shown_info tables.old.items))
+        (plain.Drop table.now if_there) result (with_tables store.new
+        (map shown_info tables.new.items)) }
 {
     store.is_in_order();
     let changes = drop_changes(alloc, tables.as_slice(), table, if_there)?;

@@ -1,17 +1,13 @@
 //! Documents that an Update changes.
-ghost use Rattle.std.specs.Prelude.{◌≡◌, ◌⊎◌, ℕ, List, Option, None, Some, ℤ, map, slice_get, string_bytes, MatchResult, IfOk, OnOk, IsTrue};
-ghost use Rattle.sqlite.specs.State.{HasCleanDisk};
-ghost use Rattle.ft_store.specs.Kept.{shows};
+ghost use Rattle.std.specs.Prelude.{◌≡◌, ◌⊎◌, List, Option, None, Some, ℤ, map, slice_get, string_bytes, MatchResult, IfOk};
 ghost use Rattle.ft_values.specs.declared.fault.Fault.TheVariants as faults;
 ghost use Rattle.ft_content.specs.Command as plain;
 ghost use Rattle.ft_content.specs.Content.{Content};
 ghost use Rattle.ft_content.specs.Answer.{chosen};
 ghost use Rattle.ft_content.specs.Deserved as deserved;
-ghost use Rattle.ft_content.specs.Step.{updated, docids_of};
-ghost use Rattle.ft_content.specs.Views.{column_of, set_of, filter_of, shown_info, answer_of};
-ghost use Rattle.ft_index.specs.Kept.{Executes};
-ghost use Rattle.ft_index.specs.Changed.{with_tables};
-ghost use Rattle.ft_index.specs.Crashes.{CommandSurvives};
+ghost use Rattle.ft_content.specs.Step.{updated};
+ghost use Rattle.ft_content.specs.Views.{column_of, set_of, filter_of, shown_info};
+ghost use Rattle.ft_index.specs.Changed.{with_tables, Does};
 ghost use Rattle.ft_index.specs.DocumentsRead.{HasRows, LooksOn};
 ghost use Rattle.ft_documents.specs.Gathered.{shown_document};
 ghost use Rattle.ft_documents.specs.Updated.{update_touches};
@@ -38,15 +34,9 @@ pub(crate) fn update_documents<S: Alter>(
     sets: &[(String, Value)],
     filter: &Filter,
 ) -> Result<Reply, Fault>
-    ensures executes { Executes S.Store (with_tables store.old (map shown_info tables.now))
-        (plain.Update table.now (map set_of sets.now) (filter_of filter.now)) (answer_of result)
+    ensures { Does S.Store (with_tables store.old (map shown_info tables.now))
+        (plain.Update table.now (map set_of sets.now) (filter_of filter.now)) result
         (with_tables store.new (map shown_info tables.now)) }
-    ensures crash { CommandSurvives S.Store (with_tables store.old (map shown_info tables.now))
-        (plain.Update table.now (map set_of sets.now) (filter_of filter.now))
-        (with_tables store.new (map shown_info tables.now)) }
-    ensures live { HasCleanDisk (shows S.Store store.new)
-        → OnOk result (IsTrue (shows S.Store store.old).is_open
-        → IsTrue (shows S.Store store.new).is_open) }
 {
     let written = update_written(alloc, store, tables, table, sets, filter)?;
     written.make(alloc, store)?;

@@ -21,11 +21,8 @@ pub(crate) struct Written<'t> {
 }
 
 impl Written<'_> {
-    ghost use Rattle.std.specs.Prelude.{◌≡◌, ◌⊎◌, map, is_ok, OnOk, IfOk, IfErr, IsTrue};
-    ghost use Rattle.sqlite.specs.State.{HasCleanDisk};
+    ghost use Rattle.std.specs.Prelude.{map, IfOk};
     ghost use Rattle.ft_rows.specs.Changes.{shown_change};
-    ghost use Rattle.ft_store.specs.Kept.{shows};
-    ghost use Rattle.ft_values.specs.declared.fault.Fault.TheVariants as faults;
     ghost use Rattle.ft_index.specs.Written.{AreOfWritten, MakesWritten};
 
     /// Their row changes.
@@ -43,12 +40,7 @@ impl Written<'_> {
 
     /// Makes all their row changes or none, group by group, so that the changes of one group are in memory at a time.
     pub(crate) fn make<S: Alter>(self, alloc: Global, store: &mut Store<S>) -> Result<(), Fault>
-        ensures made { MakesWritten S.Store self.entry store.old store.new (is_ok result) }
-        ensures fault { IfErr result (λ fault. (fault ≡ faults.Store) ⊎ (fault ≡ faults.Memory)) }
-        ensures unread { store.new.rows_read ≡ store.old.rows_read }
-        ensures live { HasCleanDisk (shows S.Store store.new)
-            → OnOk result (IsTrue (shows S.Store store.old).is_open
-            → IsTrue (shows S.Store store.new).is_open) }
+        ensures { MakesWritten S.Store self.entry store.old store.new result }
     {
         let Written { table, rewrites } = self;
         let groups = in_groups(alloc, rewrites)?;

@@ -1,4 +1,4 @@
-use Rattle.std.proofs.Common.{◌≡◌, ◌∷◌, sym, ap, ◌∙◌}
+use Rattle.std.proofs.Common.{sym, ap, ◌∙◌}
 use Rattle.ft_documents.specs.Terms.{gathered}
 use Rattle.ft_documents.proofs.term_index.by_terms.Goals as goal
 

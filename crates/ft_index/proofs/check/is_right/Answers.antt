@@ -12,8 +12,8 @@ use Rattle.ft_index.proofs.check.is_right.Goals as goal
 pub returns-in_ok-standing-in-Some-clause-right : goal.returns-in_ok-standing-in-Some-clause-right
 returns-in_ok-standing-in-Some-clause-right g c = λ named held clean is stands.
     let v = value_in g.S.Store c.args.store.now in
-    let middle : HasCleanDisk (shows g.S.Store c.listed_table.new.store) = omega (arith, c.in_ok-standing-in-Some.ensures.looks.survives.clean, clean) in
-    let same = looked g.S.Store c.args.store.now c.listed_table.new.store c.in_ok-table.ensures.looks c.in_ok-table.ensures.live middle in
+    let middle : HasCleanDisk (shows g.S.Store c.listed_table.new.store) = omega (arith, c.in_ok-standing-in-Some.ensures.looks.only.survives.clean, clean) in
+    let same = looked g.S.Store c.args.store.now c.listed_table.new.store c.in_ok-table.ensures.looks.only c.in_ok-table.ensures.looks.live middle in
     let here : c.in_ok-table.field-0 ≡ Some c.in-Some.table = search rules in
     let listed : IsListed v named c.in-Some.table = subst (IsFound v named) here ((simp (to_z-of_z, c.ranges.id) at c.in_ok-table.ensures.found) named middle is) in
     let so = c.in_ok-standing-in-Some.ensures.stands named clean (subst (λ w. IsListed w named c.in-Some.table) (sym same) listed) in

@@ -26,7 +26,7 @@ returns-in_ok-hits-in-Match-clause-chosen g c = IfOk-weaker c.documents_of_hits.
     let first = c.args.store.now in
     let middle = c.matched.new.store in
     let last = c.documents_of_hits.new.store in
-    let one : Looks g.S.Store first middle = record { kept = c.matched.ensures.kept; survives = c.matched.ensures.survives } in
+    let one : Looks g.S.Store first middle = c.matched.ensures.looks.only in
     let two = c.documents_of_hits.ensures.looks.only in
     let t = sym (to_z-of_z c.ranges.tab) in
     let tab : ℤ = to_z w64 (of_z w64 c.args.tab) in

@@ -21,15 +21,15 @@ loop-hit-preserved g c =
     let middle = c.loop-hit.store in
     let last = c.found_cells.new.store in
     record {
-      looks = looks_then g.S.Store first middle last so_far.looks read.looks so_far.live;
-      live = λ clean _. read.live clean;
+      looks = looks_then g.S.Store first middle last so_far.looks read.looks.only so_far.live;
+      live = λ clean _. read.looks.live clean;
       found = λ content rows.
           let tab : ℤ = to_z w64 (of_z w64 c.args.tab) in
           let fits : FitsSigned w64 c.hit-item.result.docid = search rules in
           let docid : ℤ = c.hit-item.result.docid in
           let back : to_z w64 (of_z w64 c.hit-item.result.docid) ≡ c.hit-item.result.docid = to_z-of_z fits in
-          let before = so_far.found content (rows_first g.S.Store first middle last so_far.looks read.looks tab content rows) in
-          let here : find int_cmp docid content.documents ≡ Some (cells_of c.in_ok-cells.cells) = ap (λ (k : ℤ). find int_cmp k content.documents) (sym back) ∙ read.found content (rows_then g.S.Store first middle last so_far.looks read.looks tab content rows) in
+          let before = so_far.found content (rows_first g.S.Store first middle last so_far.looks read.looks.only tab content rows) in
+          let here : find int_cmp docid content.documents ≡ Some (cells_of c.in_ok-cells.cells) = ap (λ (k : ℤ). find int_cmp k content.documents) (sym back) ∙ read.found content (rows_then g.S.Store first middle last so_far.looks read.looks.only tab content rows) in
           let f : Hit → ℤ × List Cell = λ h. document_at content h.docid in
           let more = take_more c.args.hits.now c.loop-hit.hit-index c.hit-item.result c.loop-hit-test.true ∙ ap (λ hit. take c.loop-hit.hit-index c.args.hits.now ++ hit ∷ []) (sym c.hit-item.is) in
           ap (map shown_document) c.in_ok-push.ensures.items ∙ map-append shown_document c.loop-hit.documents.items (record { docid = to_z w64 (of_z w64 c.hit-item.result.docid); cells = c.in_ok-cells.cells } ∷ [])
@@ -44,7 +44,7 @@ returns-clause-found g c content rows =
     ∙ ap (map f) (take_all c.loop-hit.hit-index c.args.hits.now c.loop-hit-test.false)
 
 pub returns-in_err-cells-clause-looks : goal.returns-in_err-cells-clause-looks
-returns-in_err-cells-clause-looks g c = record { only = looks_then g.S.Store c.args.store.now c.loop-hit.store c.found_cells.new.store c.loop-hit.invariant.looks c.found_cells.ensures.looks c.loop-hit.invariant.live; live = search rules }
+returns-in_err-cells-clause-looks g c = record { only = looks_then g.S.Store c.args.store.now c.loop-hit.store c.found_cells.new.store c.loop-hit.invariant.looks c.found_cells.ensures.looks.only c.loop-hit.invariant.live; live = search rules; cause = search rules }
 
 pub returns-in_err-push-clause-looks : goal.returns-in_err-push-clause-looks
-returns-in_err-push-clause-looks g c = record { only = looks_then g.S.Store c.args.store.now c.loop-hit.store c.found_cells.new.store c.loop-hit.invariant.looks c.found_cells.ensures.looks c.loop-hit.invariant.live; live = search rules }
+returns-in_err-push-clause-looks g c = record { only = looks_then g.S.Store c.args.store.now c.loop-hit.store c.found_cells.new.store c.loop-hit.invariant.looks c.found_cells.ensures.looks.only c.loop-hit.invariant.live; live = search rules; cause = search rules }

@@ -17,14 +17,14 @@ use Rattle.ft_index.proofs.insert.insert_rewrites.Goals as goal
 
 pub returns-in_err-new-clause-rewrites : goal.returns-in_err-new-clause-rewrites
 returns-in_err-new-clause-rewrites g c content rows =
-    let live = c.in_ok-last.ensures.live in
+    let live = c.in_ok-last.ensures.looks.live in
     let looks = c.in_ok-stored.ensures.looks live in
     let t = to_z-of_z c.ranges.tab in
     let names = map (λ n. n.now) c.args.names.now in
     let values = map (zip names) (map cells_of c.args.rows.now) in
     let clean : HasCleanDisk (shows g.S.Store c.last_docid.new.store) = omega (arith, looks.survives.clean, rows.clean) in
     let is_open = (looks.kept rows.clean rows.is_open).2 in
-    let same : value_in g.S.Store c.last_docid.new.store ≡ value_in g.S.Store c.args.store.now = ap (λ (d : Database). value_of d.trees) (c.in_ok-last.ensures.kept clean is_open).0 in
+    let same : value_in g.S.Store c.last_docid.new.store ≡ value_in g.S.Store c.args.store.now = ap (λ (d : Database). value_of d.trees) (c.in_ok-last.ensures.looks.only.kept clean is_open).0 in
     let held : table_rows (to_z w64 (of_z w64 c.args.tab)) (value_in g.S.Store c.args.store.now) ≡ content_rows content = ap (λ (k : ℤ). table_rows k (value_in g.S.Store c.args.store.now)) t ∙ rows.rows in
     let last = c.in_ok-last.ensures.last content (record { clean = clean; is_open = is_open; name = rows.name; is_content = rows.is_content; rows = held }) in
     let stored = c.in_ok-stored.ensures.found live content (record { clean = rows.clean; is_open = rows.is_open; name = rows.name; is_content = rows.is_content; rows = ap (table_rows (to_z w64 (of_z w64 c.args.tab))) same ∙ held }) in
@@ -36,14 +36,14 @@ returns-in_err-new-clause-rewrites g c content rows =
 
 pub returns-clause-rewrites : goal.returns-clause-rewrites
 returns-clause-rewrites g c content rows =
-    let live = c.in_ok-last.ensures.live in
+    let live = c.in_ok-last.ensures.looks.live in
     let looks = c.in_ok-stored.ensures.looks live in
     let t = to_z-of_z c.ranges.tab in
     let names = map (λ n. n.now) c.args.names.now in
     let values = map (zip names) (map cells_of c.args.rows.now) in
     let clean : HasCleanDisk (shows g.S.Store c.last_docid.new.store) = omega (arith, looks.survives.clean, rows.clean) in
     let is_open = (looks.kept rows.clean rows.is_open).2 in
-    let same : value_in g.S.Store c.last_docid.new.store ≡ value_in g.S.Store c.args.store.now = ap (λ (d : Database). value_of d.trees) (c.in_ok-last.ensures.kept clean is_open).0 in
+    let same : value_in g.S.Store c.last_docid.new.store ≡ value_in g.S.Store c.args.store.now = ap (λ (d : Database). value_of d.trees) (c.in_ok-last.ensures.looks.only.kept clean is_open).0 in
     let held : table_rows (to_z w64 (of_z w64 c.args.tab)) (value_in g.S.Store c.args.store.now) ≡ content_rows content = ap (λ (k : ℤ). table_rows k (value_in g.S.Store c.args.store.now)) t ∙ rows.rows in
     let last = c.in_ok-last.ensures.last content (record { clean = clean; is_open = is_open; name = rows.name; is_content = rows.is_content; rows = held }) in
     let stored = c.in_ok-stored.ensures.found live content (record { clean = rows.clean; is_open = rows.is_open; name = rows.name; is_content = rows.is_content; rows = ap (table_rows (to_z w64 (of_z w64 c.args.tab))) same ∙ held }) in

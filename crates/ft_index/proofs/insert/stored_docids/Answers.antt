@@ -24,13 +24,13 @@ loop-row-preserved g c live =
     let last = shows g.S.Store c.has_document.new.store in
     let read = c.in_ok-has_document.ensures in (
       record {
-        kept = λ clean. kept_then first middle last (so_far.0.kept (omega (arith, read.survives.clean, clean))) (read.kept clean);
-        survives = reads_then first middle last so_far.1 so_far.0.survives read.survives;
+        kept = λ clean. kept_then first middle last (so_far.0.kept (omega (arith, read.looks.survives.clean, clean))) (read.looks.kept clean);
+        survives = reads_then first middle last so_far.1 so_far.0.survives read.looks.survives;
       },
       read.live so_far.1,
       λ content rows.
-          let clean : HasCleanDisk middle = omega (arith, read.survives.clean, rows.clean) in
-          let is_open = (read.kept rows.clean rows.is_open).2 in
+          let clean : HasCleanDisk middle = omega (arith, read.looks.survives.clean, rows.clean) in
+          let is_open = (read.looks.kept rows.clean rows.is_open).2 in
           let same : value_in g.S.Store c.loop-row.store ≡ value_in g.S.Store c.args.store.now = ap (λ (d : Database). value_of d.trees) (so_far.0.kept clean is_open).0 in
           let before = so_far.2 content (record { clean = clean; is_open = is_open; name = rows.name; is_content = rows.is_content; rows = rows.rows }) in
           let here = read.found content (record { clean = rows.clean; is_open = rows.is_open; name = rows.name; is_content = rows.is_content; rows = ap (table_rows (to_z w64 (of_z w64 c.args.tab))) same ∙ rows.rows }) in

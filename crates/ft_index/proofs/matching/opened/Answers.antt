@@ -12,11 +12,13 @@ use Rattle.ft_index.proofs.matching.opened.Goals as goal
 pub returns-clause-same_reference : goal.returns-clause-same_reference
 returns-clause-same_reference g c = all_same g.S.Store _ (λ l. l.store.now) (λ l. l.given) (λ x all y h. h.2) (λ l. l.store.ghost_name) (λ x all y h. h.0) _ _ _ c.open.ensures.becomes
 
-pub returns-clause-survives : goal.returns-clause-survives
-returns-clause-survives g c = (all_read g.S.Store _ (λ l. l.store.now) (λ l. l.given) (λ x all y h. h.2) _ _ _ c.open.ensures.becomes).survives
-
-pub returns-clause-kept : goal.returns-clause-kept
-returns-clause-kept g c = (all_read g.S.Store _ (λ l. l.store.now) (λ l. l.given) (λ x all y h. h.2) _ _ _ c.open.ensures.becomes).kept
+pub returns-clause-looks : goal.returns-clause-looks
+returns-clause-looks g c =
+    let reads = all_read g.S.Store _ (λ l. l.store.now) (λ l. l.given) (λ x all y h. h.2) _ _ _ c.open.ensures.becomes in
+    record {
+      only = record { kept = reads.kept; survives = reads.survives };
+      live = λ clean. on_ok_if c.open.result _ (λ whole is_open. reads.live clean whole is_open);
+    }
 
 pub returns-clause-stands : goal.returns-clause-stands
 returns-clause-stands g c =
@@ -37,6 +39,3 @@ returns-clause-counted g c =
     rows_of_walk rows rows_now c.open.new.lists.given (entry_count (tree_of c.args.query.now) (content_documents content)) fits
     (subst (λ (n : ℕ). Grows rows n rows_now c.open.new.lists.given) none (reads.counted whole))
     (given here.0 (omega (arith, none)) ∙ (λ i. min (none i + entry_count (tree_of c.args.query.now) (here.1 i)) (2 ^ 64 - 1)))) c.open.ensures.given
-
-pub returns-clause-live : goal.returns-clause-live
-returns-clause-live g c = λ clean. on_ok_if c.open.result _ (λ whole is_open. (all_read g.S.Store _ (λ l. l.store.now) (λ l. l.given) (λ x all y h. h.2) _ _ _ c.open.ensures.becomes).live clean whole is_open)

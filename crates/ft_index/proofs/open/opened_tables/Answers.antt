@@ -18,10 +18,10 @@ as_they_are (x ∷ xs) = ap (λ ys. x ∷ ys) (as_they_are xs)
 pub loop-row-preserved : goal.loop-row-preserved
 loop-row-preserved g c =
     let so_far = c.loop-row.invariant in
-    let looks = c.in_ok-opened_table.ensures.looks in
+    let looks = c.in_ok-opened_table.ensures.looks.only in
     let v = value_in g.S.Store c.args.store.now in (
       looks_then g.S.Store c.args.store.now c.loop-row.store so_far.0 so_far.1 c.opened_table.new.store looks,
-      c.in_ok-opened_table.ensures.live,
+      c.in_ok-opened_table.ensures.looks.live,
       λ clean. so_far.2 (omega (arith, looks.survives.clean, clean)),
       λ clean.
           let middle : HasCleanDisk (shows g.S.Store c.loop-row.store) = omega (arith, looks.survives.clean, clean) in

@@ -31,11 +31,11 @@ loop-hit-preserved g c =
     let docid : ℤ = c.hit-item.result.docid in
     let back : to_z w64 (of_z w64 c.hit-item.result.docid) ≡ c.hit-item.result.docid = to_z-of_z fits in
     record {
-      looks = looks_then g.S.Store first middle last so_far.looks read.looks so_far.live;
-      live = λ clean _. read.live clean;
+      looks = looks_then g.S.Store first middle last so_far.looks read.looks.only so_far.live;
+      live = λ clean _. read.looks.live clean;
       found = λ content rows.
-          let before = so_far.found content (rows_first g.S.Store first middle last so_far.looks read.looks tab content rows) in
-          let here : cells_of c.in_ok-cells.cells ≡ cells_at content docid = read_cells content docid (cells_of c.in_ok-cells.cells) (ap (λ (k : ℤ). find int_cmp k content.documents) (sym back) ∙ read.found content (rows_then g.S.Store first middle last so_far.looks read.looks tab content rows)) in
+          let before = so_far.found content (rows_first g.S.Store first middle last so_far.looks read.looks.only tab content rows) in
+          let here : cells_of c.in_ok-cells.cells ≡ cells_at content docid = read_cells content docid (cells_of c.in_ok-cells.cells) (ap (λ (k : ℤ). find int_cmp k content.documents) (sym back) ∙ read.found content (rows_then g.S.Store first middle last so_far.looks read.looks.only tab content rows)) in
           let row : (ℤ → List Cell) → Hit → List Cell = hit_cells (map column_of c.args.columns.now) (map item_of c.args.items.now) in
           let more = take_more c.args.hits.now c.loop-hit.hit-index c.hit-item.result c.loop-hit-test.true ∙ ap (λ hit. take c.loop-hit.hit-index c.args.hits.now ++ hit ∷ []) (sym c.hit-item.is) in
           let made : cells_of c.in_ok-hit_row.field-0 ≡ row (cells_at content) c.hit-item.result =
@@ -44,8 +44,8 @@ loop-hit-preserved g c =
           ∙ (λ i. before i ++ made i ∷ [])
           ∙ sym (ap (map (row (cells_at content))) more ∙ map-append (row (cells_at content)) (take c.loop-hit.hit-index c.args.hits.now) (c.hit-item.result ∷ []));
       counted = λ content rows.
-          let before = so_far.counted content (rows_first g.S.Store first middle last so_far.looks read.looks tab content rows) in
-          let wide = found_wide rows.name content (to_z w64 (of_z w64 c.hit-item.result.docid)) (cells_of c.in_ok-cells.cells) rows.is_content (read.found content (rows_then g.S.Store first middle last so_far.looks read.looks tab content rows)) in
+          let before = so_far.counted content (rows_first g.S.Store first middle last so_far.looks read.looks.only tab content rows) in
+          let wide = found_wide rows.name content (to_z w64 (of_z w64 c.hit-item.result.docid)) (cells_of c.in_ok-cells.cells) rows.is_content (read.found content (rows_then g.S.Store first middle last so_far.looks read.looks.only tab content rows)) in
           counted_more first.rows_read middle.rows_read last.rows_read (length content.columns) c.loop-hit.hit-index c.in_ok-cells.cells.len
           (c.in_ok-cells.cells.ok.0 ∙ sym (length-map c.in_ok-cells.cells.items shown_value) ∙ wide) before read.counted;
     }
@@ -57,4 +57,4 @@ returns-clause-found g c content rows =
     ∙ ap (map row) (take_all c.loop-hit.hit-index c.args.hits.now c.loop-hit-test.false)
 
 pub returns-in_err-cells-clause-looks : goal.returns-in_err-cells-clause-looks
-returns-in_err-cells-clause-looks g c = record { only = looks_then g.S.Store c.args.store.now c.loop-hit.store c.found_cells.new.store c.loop-hit.invariant.looks c.found_cells.ensures.looks c.loop-hit.invariant.live; live = search rules }
+returns-in_err-cells-clause-looks g c = record { only = looks_then g.S.Store c.args.store.now c.loop-hit.store c.found_cells.new.store c.loop-hit.invariant.looks c.found_cells.ensures.looks.only c.loop-hit.invariant.live; live = search rules; cause = search rules }

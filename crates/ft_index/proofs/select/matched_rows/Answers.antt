@@ -19,7 +19,7 @@ returns-then-has_column-clause-found g c = IfOk-weaker c.cell_rows.result _ _ (�
     let first = c.args.store.now in
     let middle = c.matched.new.store in
     let last = c.cell_rows.new.store in
-    let one : Looks g.S.Store first middle = record { kept = c.matched.ensures.kept; survives = c.matched.ensures.survives } in
+    let one : Looks g.S.Store first middle = c.matched.ensures.looks.only in
     let two = c.cell_rows.ensures.looks.only in
     let t = sym (to_z-of_z c.ranges.tab) in
     let tab : ℤ = to_z w64 (of_z w64 c.args.tab) in
@@ -37,7 +37,7 @@ returns-then-has_column-clause-counted g c = on_ok_from c.cell_rows.result _ _ (
     let first = c.args.store.now in
     let middle = c.matched.new.store in
     let last = c.cell_rows.new.store in
-    let one : Looks g.S.Store first middle = record { kept = c.matched.ensures.kept; survives = c.matched.ensures.survives } in
+    let one : Looks g.S.Store first middle = c.matched.ensures.looks.only in
     let two = c.cell_rows.ensures.looks.only in
     let t = sym (to_z-of_z c.ranges.tab) in
     let tab : ℤ = to_z w64 (of_z w64 c.args.tab) in

@@ -35,14 +35,18 @@ has_right_index-requires g c =
 
 pub returns-in_err-has_right_index-clause-looks : goal.returns-in_err-has_right_index-clause-looks
 returns-in_err-has_right_index-clause-looks g c =
-    looks_then g.S.Store c.args.store.now c.cells.new.self (record { kept = c.in_ok-cells.ensures.read.kept; survives = c.in_ok-cells.ensures.read.survives }) c.in_ok-cells.ensures.read.live c.has_right_index.new.store c.in_err-has_right_index.ensures.looks
+    record {
+      only = looks_then g.S.Store c.args.store.now c.cells.new.self (record { kept = c.in_ok-cells.ensures.read.kept; survives = c.in_ok-cells.ensures.read.survives }) c.in_ok-cells.ensures.read.live c.has_right_index.new.store c.in_err-has_right_index.ensures.looks.only;
+      live = search rules;
+      cause = search rules;
+    }
 
 pub returns-then-branch-clause-stands : goal.returns-then-branch-clause-stands
 returns-then-branch-clause-stands g c = λ named clean is.
     let old = value_in g.S.Store c.args.store.now in
     let table = c.args.table.now in
     let cells = c.in_ok-cells.cells.items in
-    let middle : HasCleanDisk (shows g.S.Store c.cells.new.self) = omega (arith, c.in_ok-has_right_index.ensures.looks.survives.clean, clean) in
+    let middle : HasCleanDisk (shows g.S.Store c.cells.new.self) = omega (arith, c.in_ok-has_right_index.ensures.looks.only.survives.clean, clean) in
     let same = looked g.S.Store c.args.store.now c.cells.new.self (record { kept = c.in_ok-cells.ensures.read.kept; survives = c.in_ok-cells.ensures.read.survives }) c.in_ok-cells.ensures.read.live middle in
     let fits : FitsSigned w64 table.id = search rules in
     let l = listed old named table cells is (subst (λ k. CellsRead k old cells) (to_z-of_z fits) (c.in_ok-cells.ensures.rows middle)) in
@@ -58,7 +62,7 @@ returns-clause-stands g c = λ named clean is.
     let old = value_in g.S.Store c.args.store.now in
     let table = c.args.table.now in
     let cells = c.in_ok-cells.cells.items in
-    let middle : HasCleanDisk (shows g.S.Store c.cells.new.self) = omega (arith, c.in_ok-has_right_index.ensures.looks.survives.clean, clean) in
+    let middle : HasCleanDisk (shows g.S.Store c.cells.new.self) = omega (arith, c.in_ok-has_right_index.ensures.looks.only.survives.clean, clean) in
     let same = looked g.S.Store c.args.store.now c.cells.new.self (record { kept = c.in_ok-cells.ensures.read.kept; survives = c.in_ok-cells.ensures.read.survives }) c.in_ok-cells.ensures.read.live middle in
     let fits : FitsSigned w64 table.id = search rules in
     let l = listed old named table cells is (subst (λ k. CellsRead k old cells) (to_z-of_z fits) (c.in_ok-cells.ensures.rows middle)) in
@@ -71,8 +75,16 @@ returns-clause-stands g c = λ named clean is.
 
 pub returns-then-branch-clause-looks : goal.returns-then-branch-clause-looks
 returns-then-branch-clause-looks g c =
-    looks_then g.S.Store c.args.store.now c.cells.new.self (record { kept = c.in_ok-cells.ensures.read.kept; survives = c.in_ok-cells.ensures.read.survives }) c.in_ok-cells.ensures.read.live c.has_right_index.new.store c.in_ok-has_right_index.ensures.looks
+    record {
+      only = looks_then g.S.Store c.args.store.now c.cells.new.self (record { kept = c.in_ok-cells.ensures.read.kept; survives = c.in_ok-cells.ensures.read.survives }) c.in_ok-cells.ensures.read.live c.has_right_index.new.store c.in_ok-has_right_index.ensures.looks.only;
+      live = search rules;
+      cause = search rules;
+    }
 
 pub returns-clause-looks : goal.returns-clause-looks
 returns-clause-looks g c =
-    looks_then g.S.Store c.args.store.now c.cells.new.self (record { kept = c.in_ok-cells.ensures.read.kept; survives = c.in_ok-cells.ensures.read.survives }) c.in_ok-cells.ensures.read.live c.has_right_index.new.store c.in_ok-has_right_index.ensures.looks
+    record {
+      only = looks_then g.S.Store c.args.store.now c.cells.new.self (record { kept = c.in_ok-cells.ensures.read.kept; survives = c.in_ok-cells.ensures.read.survives }) c.in_ok-cells.ensures.read.live c.has_right_index.new.store c.in_ok-has_right_index.ensures.looks.only;
+      live = search rules;
+      cause = search rules;
+    }

@@ -26,91 +26,97 @@ use Rattle.ft_index.proofs.Crashing.{CommitsRows, crash_changed}
 use Rattle.ft_index.proofs.tables.drop_table.Goals as goal
 use Rattle.ft_index.proofs.tables.drop_table.Goals.{in-Some, in_default}
 
-pub returns-in_err-changes-clause-executes : goal.returns-in_err-changes-clause-executes
-returns-in_err-changes-clause-executes g c =
-    let fault : Fault = c.in_err-changes.field-0.0 in
-    let is : c.from_residual.result ≡ Err fault = search rules in
-    let planned : c.drop_changes.result ≡ Err fault = search rules in
-    let tables = map shown_info c.args.tables.now.items in
-    let command = plain.Drop c.args.table.now c.args.if_there in
-    let value = value_in g.S.Store c.args.store.now in
-    subst (λ (a : Result Reply Fault). Executes g.S.Store (with_tables c.args.store.now tables) command (answer_of a) (with_tables c.args.store.now tables)) (sym is)
-    (executes_unplanned g.S.Store c.args.store.now tables command fault
-    (λ contents held. subst (λ (r : Result (Vec RowChange Global) Fault). PlansFrom contents command value (changes_of r)) planned
-    (c.drop_changes.ensures value contents c.is_in_order.ensures.order (subst (λ ts. AreHeld value (map shown_info ts) contents) (sym c.as_slice.ensures.value) held))))
+pub returns-in_err-changes : goal.returns-in_err-changes
+returns-in_err-changes g c = record {
+  executes =
+      let fault : Fault = c.in_err-changes.field-0.0 in
+      let is : c.from_residual.result ≡ Err fault = search rules in
+      let planned : c.drop_changes.result ≡ Err fault = search rules in
+      let tables = map shown_info c.args.tables.now.items in
+      let command = plain.Drop c.args.table.now c.args.if_there in
+      let value = value_in g.S.Store c.args.store.now in
+      subst (λ (a : Result Reply Fault). Executes g.S.Store (with_tables c.args.store.now tables) command (answer_of a) (with_tables c.args.store.now tables)) (sym is)
+      (executes_unplanned g.S.Store c.args.store.now tables command fault
+      (λ contents held. subst (λ (r : Result (Vec RowChange Global) Fault). PlansFrom contents command value (changes_of r)) planned
+      (c.drop_changes.ensures value contents c.is_in_order.ensures.order (subst (λ ts. AreHeld value (map shown_info ts) contents) (sym c.as_slice.ensures.value) held))));
+  crash = search rules;
+  live = search rules;
+}
 
-pub returns-in_err-change_rows-clause-executes : goal.returns-in_err-change_rows-clause-executes
-returns-in_err-change_rows-clause-executes g c =
-    let fault : Fault = c.in_err-change_rows.field-0.0 in
-    let is : c.from_residual-in_err-change_rows.result ≡ Err fault = search rules in
-    let refused : c.change_rows.result ≡ Err fault = search rules in
-    let tables = map shown_info c.args.tables.now.items in
-    let command = plain.Drop c.args.table.now c.args.if_there in
-    let outside : (fault ≡ faults.Store) ⊎ (fault ≡ faults.Memory) = search rules in
-    let changed = subst (λ (r : Result (Unit {0}) Fault). Changed g.S.Store c.args.store.now c.change_rows.new.store (map shown_change c.as_slice-2.result.now) (is_ok r)) refused c.change_rows.ensures.changed in
-    subst (λ (a : Result Reply Fault). Executes g.S.Store (with_tables c.args.store.now tables) command (answer_of a) (with_tables c.change_rows.new.store tables)) (sym is)
-    (executes_refused g.S.Store c.args.store.now c.change_rows.new.store tables (map shown_change c.as_slice-2.result.now) command fault outside changed)
+pub returns-in_err-change_rows : goal.returns-in_err-change_rows
+returns-in_err-change_rows g c = record {
+  executes =
+      let fault : Fault = c.in_err-change_rows.field-0.0 in
+      let is : c.from_residual-in_err-change_rows.result ≡ Err fault = search rules in
+      let refused : c.change_rows.result ≡ Err fault = search rules in
+      let tables = map shown_info c.args.tables.now.items in
+      let command = plain.Drop c.args.table.now c.args.if_there in
+      let outside : (fault ≡ faults.Store) ⊎ (fault ≡ faults.Memory) = search rules in
+      let changed = subst (λ (r : Result (Unit {0}) Fault). Changed g.S.Store c.args.store.now c.change_rows.new.store (map shown_change c.as_slice-2.result.now) (is_ok r)) refused c.change_rows.ensures.changed in
+      subst (λ (a : Result Reply Fault). Executes g.S.Store (with_tables c.args.store.now tables) command (answer_of a) (with_tables c.change_rows.new.store tables)) (sym is)
+      (executes_refused g.S.Store c.args.store.now c.change_rows.new.store tables (map shown_change c.as_slice-2.result.now) command fault outside changed);
+  crash =
+      let tables = map shown_info c.args.tables.now.items in
+      let command = plain.Drop c.args.table.now c.args.if_there in
+      let value = value_in g.S.Store c.args.store.now in
+      let changes = map shown_change c.in_ok-changes.changes.items in
+      let planned : c.drop_changes.result ≡ Ok c.in_ok-changes.changes = search rules in
+      let plans : (contents : Contents) → AreHeld value tables contents → PlansFrom contents command value (Ok changes) =
+      λ contents held. subst (λ (r : Result (Vec RowChange Global) Fault). PlansFrom contents command value (changes_of r)) planned
+      (c.drop_changes.ensures value contents c.is_in_order.ensures.order (subst (λ ts. AreHeld value (map shown_info ts) contents) (sym c.as_slice.ensures.value) held)) in
+      crash_changed g.S.Store c.args.store.now c.change_rows.new.store tables tables command changes (λ up first holds. ((plans first holds).0, (plans first holds).1, (plans first holds).2))
+      (subst (λ (cs : List RowChange). Survives (shows g.S.Store c.args.store.now) (shows g.S.Store c.change_rows.new.store) (CommitsRows g.S.Store c.args.store.now (map shown_change cs))) c.as_slice-2.ensures.value c.change_rows.ensures.crash);
+  live = search rules;
+}
 
-pub returns-clause-executes : goal.returns-clause-executes
-returns-clause-executes g c =
-    let tables = map shown_info c.args.tables.now.items in
-    let command = plain.Drop c.args.table.now c.args.if_there in
-    let value = value_in g.S.Store c.args.store.now in
-    let changes = map shown_change c.in_ok-changes.changes.items in
-    let planned : c.drop_changes.result ≡ Ok c.in_ok-changes.changes = search rules in
-    let done : c.change_rows.result ≡ Ok tt = search rules in
-    let changed : Changed g.S.Store c.args.store.now c.change_rows.new.store changes true =
-    subst (λ (cs : List RowChange). Changed g.S.Store c.args.store.now c.change_rows.new.store (map shown_change cs) true) c.as_slice-2.ensures.value
-    (subst (λ (r : Result (Unit {0}) Fault). Changed g.S.Store c.args.store.now c.change_rows.new.store (map shown_change c.as_slice-2.result.now) (is_ok r)) done c.change_rows.ensures.changed) in
-    let plans : (contents : Contents) → AreHeld value tables contents → PlansFrom contents command value (Ok changes) =
-    λ contents held. subst (λ (r : Result (Vec RowChange Global) Fault). PlansFrom contents command value (changes_of r)) planned
-    (c.drop_changes.ensures value contents c.is_in_order.ensures.order (subst (λ ts. AreHeld value (map shown_info ts) contents) (sym c.as_slice.ensures.value) held)) in
-    elim c.match-table_place.branch [
-      | in-Some w ↦
-          let here : c.as_slice-known.result.now ≡ c.args.tables.now.items = c.as_slice-known.ensures.value in
-          let s = placed shown_info (λ (t : TableInfo). same_name t.name c.args.table.now) c.as_slice-known.result.now w.in-Some.place (sym c.table_place.ensures ∙ w.in-Some.is) in
-          let named = ap (λ ts. info_named (map shown_info ts) c.args.table.now) (sym here) ∙ s.found in
-          let fits : FitsSigned w64 w.index-known-place.result.id = search rules in
-          let told : map shown_info c.match-table_place.tables.items ≡ without_told s.item.id tables =
-          ap (λ (v : Vec RustTableInfo Global). map shown_info v.items) w.tables-is ∙ w.remove_table.ensures
-          ∙ ap (λ (t : RustTableInfo). without_told (to_z w64 (of_z w64 t.id)) tables) (sym w.index-known-place.is)
-          ∙ ap (λ k. without_told k tables) (to_z-of_z fits)
-          ∙ ap (λ (t : RustTableInfo). without_told t.id tables) (same_Some w.index-known-place.result s.item (sym (slice_get_read c.as_slice-known.result.now _ w.in-Some.place w.index-known-place.result refl (slice_get_within c.as_slice-known.result.now w.in-Some.place s.item s.is) w.index-known-place.is) ∙ s.is)) in
-          subst (λ (ts : List TableInfo). Executes g.S.Store (with_tables c.args.store.now tables) command (Ok plain.Done) (with_tables c.change_rows.new.store ts)) (sym told)
-          (executes_planned g.S.Store c.args.store.now c.change_rows.new.store tables (without_told s.item.id tables) changes command plans changed
-          (λ contents held. (told_dropped value tables contents c.args.table.now c.args.if_there (shown_info s.item) c.is_in_order.ensures.order held named, drop_done contents c.args.table.now c.args.if_there)))
-      | in_default w ↦
-          let here : c.as_slice-known.result.now ≡ c.args.tables.now.items = c.as_slice-known.ensures.value in
-          let none : c.table_place.result ≡ None = search rules in
-          let named = ap (λ ts. info_named (map shown_info ts) c.args.table.now) (sym here) ∙ unplaced shown_info (λ (t : TableInfo). same_name t.name c.args.table.now) c.as_slice-known.result.now (sym c.table_place.ensures ∙ none) in
-          let told : map shown_info c.match-table_place.tables.items ≡ tables = ap (λ (v : Vec RustTableInfo Global). map shown_info v.items) w.tables-is in
-          subst (λ (ts : List TableInfo). Executes g.S.Store (with_tables c.args.store.now tables) command (Ok plain.Done) (with_tables c.change_rows.new.store ts)) (sym told)
-          (executes_planned g.S.Store c.args.store.now c.change_rows.new.store tables tables changes command plans changed
-          (λ contents held. (told_spared value tables contents c.args.table.now c.args.if_there held named, drop_done contents c.args.table.now c.args.if_there)))
-    ]
-
-pub returns-in_err-change_rows-clause-crash : goal.returns-in_err-change_rows-clause-crash
-returns-in_err-change_rows-clause-crash g c =
-    let tables = map shown_info c.args.tables.now.items in
-    let command = plain.Drop c.args.table.now c.args.if_there in
-    let value = value_in g.S.Store c.args.store.now in
-    let changes = map shown_change c.in_ok-changes.changes.items in
-    let planned : c.drop_changes.result ≡ Ok c.in_ok-changes.changes = search rules in
-    let plans : (contents : Contents) → AreHeld value tables contents → PlansFrom contents command value (Ok changes) =
-    λ contents held. subst (λ (r : Result (Vec RowChange Global) Fault). PlansFrom contents command value (changes_of r)) planned
-    (c.drop_changes.ensures value contents c.is_in_order.ensures.order (subst (λ ts. AreHeld value (map shown_info ts) contents) (sym c.as_slice.ensures.value) held)) in
-    crash_changed g.S.Store c.args.store.now c.change_rows.new.store tables tables command changes (λ up first holds. ((plans first holds).0, (plans first holds).1, (plans first holds).2))
-    (subst (λ (cs : List RowChange). Survives (shows g.S.Store c.args.store.now) (shows g.S.Store c.change_rows.new.store) (CommitsRows g.S.Store c.args.store.now (map shown_change cs))) c.as_slice-2.ensures.value c.change_rows.ensures.crash)
-
-pub returns-clause-crash : goal.returns-clause-crash
-returns-clause-crash g c =
-    let tables = map shown_info c.args.tables.now.items in
-    let command = plain.Drop c.args.table.now c.args.if_there in
-    let value = value_in g.S.Store c.args.store.now in
-    let changes = map shown_change c.in_ok-changes.changes.items in
-    let planned : c.drop_changes.result ≡ Ok c.in_ok-changes.changes = search rules in
-    let plans : (contents : Contents) → AreHeld value tables contents → PlansFrom contents command value (Ok changes) =
-    λ contents held. subst (λ (r : Result (Vec RowChange Global) Fault). PlansFrom contents command value (changes_of r)) planned
-    (c.drop_changes.ensures value contents c.is_in_order.ensures.order (subst (λ ts. AreHeld value (map shown_info ts) contents) (sym c.as_slice.ensures.value) held)) in
-    crash_changed g.S.Store c.args.store.now c.change_rows.new.store tables tables command changes (λ up first holds. ((plans first holds).0, (plans first holds).1, (plans first holds).2))
-    (subst (λ (cs : List RowChange). Survives (shows g.S.Store c.args.store.now) (shows g.S.Store c.change_rows.new.store) (CommitsRows g.S.Store c.args.store.now (map shown_change cs))) c.as_slice-2.ensures.value c.change_rows.ensures.crash)
+pub returns : goal.returns
+returns g c = record {
+  executes =
+      let tables = map shown_info c.args.tables.now.items in
+      let command = plain.Drop c.args.table.now c.args.if_there in
+      let value = value_in g.S.Store c.args.store.now in
+      let changes = map shown_change c.in_ok-changes.changes.items in
+      let planned : c.drop_changes.result ≡ Ok c.in_ok-changes.changes = search rules in
+      let done : c.change_rows.result ≡ Ok tt = search rules in
+      let changed : Changed g.S.Store c.args.store.now c.change_rows.new.store changes true =
+      subst (λ (cs : List RowChange). Changed g.S.Store c.args.store.now c.change_rows.new.store (map shown_change cs) true) c.as_slice-2.ensures.value
+      (subst (λ (r : Result (Unit {0}) Fault). Changed g.S.Store c.args.store.now c.change_rows.new.store (map shown_change c.as_slice-2.result.now) (is_ok r)) done c.change_rows.ensures.changed) in
+      let plans : (contents : Contents) → AreHeld value tables contents → PlansFrom contents command value (Ok changes) =
+      λ contents held. subst (λ (r : Result (Vec RowChange Global) Fault). PlansFrom contents command value (changes_of r)) planned
+      (c.drop_changes.ensures value contents c.is_in_order.ensures.order (subst (λ ts. AreHeld value (map shown_info ts) contents) (sym c.as_slice.ensures.value) held)) in
+      elim c.match-table_place.branch [
+        | in-Some w ↦
+            let here : c.as_slice-known.result.now ≡ c.args.tables.now.items = c.as_slice-known.ensures.value in
+            let s = placed shown_info (λ (t : TableInfo). same_name t.name c.args.table.now) c.as_slice-known.result.now w.in-Some.place (sym c.table_place.ensures ∙ w.in-Some.is) in
+            let named = ap (λ ts. info_named (map shown_info ts) c.args.table.now) (sym here) ∙ s.found in
+            let fits : FitsSigned w64 w.index-known-place.result.id = search rules in
+            let told : map shown_info c.match-table_place.tables.items ≡ without_told s.item.id tables =
+            ap (λ (v : Vec RustTableInfo Global). map shown_info v.items) w.tables-is ∙ w.remove_table.ensures
+            ∙ ap (λ (t : RustTableInfo). without_told (to_z w64 (of_z w64 t.id)) tables) (sym w.index-known-place.is)
+            ∙ ap (λ k. without_told k tables) (to_z-of_z fits)
+            ∙ ap (λ (t : RustTableInfo). without_told t.id tables) (same_Some w.index-known-place.result s.item (sym (slice_get_read c.as_slice-known.result.now _ w.in-Some.place w.index-known-place.result refl (slice_get_within c.as_slice-known.result.now w.in-Some.place s.item s.is) w.index-known-place.is) ∙ s.is)) in
+            subst (λ (ts : List TableInfo). Executes g.S.Store (with_tables c.args.store.now tables) command (Ok plain.Done) (with_tables c.change_rows.new.store ts)) (sym told)
+            (executes_planned g.S.Store c.args.store.now c.change_rows.new.store tables (without_told s.item.id tables) changes command plans changed
+            (λ contents held. (told_dropped value tables contents c.args.table.now c.args.if_there (shown_info s.item) c.is_in_order.ensures.order held named, drop_done contents c.args.table.now c.args.if_there)))
+        | in_default w ↦
+            let here : c.as_slice-known.result.now ≡ c.args.tables.now.items = c.as_slice-known.ensures.value in
+            let none : c.table_place.result ≡ None = search rules in
+            let named = ap (λ ts. info_named (map shown_info ts) c.args.table.now) (sym here) ∙ unplaced shown_info (λ (t : TableInfo). same_name t.name c.args.table.now) c.as_slice-known.result.now (sym c.table_place.ensures ∙ none) in
+            let told : map shown_info c.match-table_place.tables.items ≡ tables = ap (λ (v : Vec RustTableInfo Global). map shown_info v.items) w.tables-is in
+            subst (λ (ts : List TableInfo). Executes g.S.Store (with_tables c.args.store.now tables) command (Ok plain.Done) (with_tables c.change_rows.new.store ts)) (sym told)
+            (executes_planned g.S.Store c.args.store.now c.change_rows.new.store tables tables changes command plans changed
+            (λ contents held. (told_spared value tables contents c.args.table.now c.args.if_there held named, drop_done contents c.args.table.now c.args.if_there)))
+      ];
+  crash =
+      let tables = map shown_info c.args.tables.now.items in
+      let command = plain.Drop c.args.table.now c.args.if_there in
+      let value = value_in g.S.Store c.args.store.now in
+      let changes = map shown_change c.in_ok-changes.changes.items in
+      let planned : c.drop_changes.result ≡ Ok c.in_ok-changes.changes = search rules in
+      let plans : (contents : Contents) → AreHeld value tables contents → PlansFrom contents command value (Ok changes) =
+      λ contents held. subst (λ (r : Result (Vec RowChange Global) Fault). PlansFrom contents command value (changes_of r)) planned
+      (c.drop_changes.ensures value contents c.is_in_order.ensures.order (subst (λ ts. AreHeld value (map shown_info ts) contents) (sym c.as_slice.ensures.value) held)) in
+      crash_changed g.S.Store c.args.store.now c.change_rows.new.store tables tables command changes (λ up first holds. ((plans first holds).0, (plans first holds).1, (plans first holds).2))
+      (subst (λ (cs : List RowChange). Survives (shows g.S.Store c.args.store.now) (shows g.S.Store c.change_rows.new.store) (CommitsRows g.S.Store c.args.store.now (map shown_change cs))) c.as_slice-2.ensures.value c.change_rows.ensures.crash);
+  live = search rules;
+}

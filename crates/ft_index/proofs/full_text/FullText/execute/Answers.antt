@@ -33,4 +33,4 @@ returns-clause-alone g c =
     let tables = map shown_info c.self.inside.tables.items in
     let new = with_tables c.execute_command-result.new.store (map shown_info c.execute_command-result.new.tables.items) in
     subst (λ (k : FullText g.row.S.Denot). OnOk c.execute_command-result.result (IsUp g.S.Store new → (first : Contents) → Holds g.S.Store k first → (db : Trees) → (shows g.S.Store new.store).may_leave db → HoldsAfter (value_of g.S.Store k) first (command_of c.args.command.now) db)) c.self.view_is
-    (alone_by g.S.Store (with_tables c.self.inside.store tables) new (command_of c.args.command.now) c.execute_command-result.result c.execute_command-result.ensures.executes (λ up. c.is_settled.ensures up.clean up.is_open))
+    (alone_by g.S.Store (with_tables c.self.inside.store tables) new (command_of c.args.command.now) c.execute_command-result.result c.execute_command-result.ensures.does.executes (λ up. c.is_settled.ensures up.clean up.is_open))

@@ -39,7 +39,7 @@ returns g c =
         noted = λ up. changed.value tables up;
         tables = refl;
       });
-      fault = c.change_rows-result.ensures.fault;
+      fault = c.change_rows-result.ensures.cause;
       crash = subst (λ (k : FullText g.row.S.Denot). NoteSurvives g.S.Store k c.args.name.now (with_tables c.change_rows-result.new.store tables)) c.self.view_is
           (survives_as (shows g.S.Store c.self.inside.store) (shows g.S.Store c.change_rows-result.new.store) _ _ (λ clean db commits up.
           subst (λ (cs : List Change). IsStored db (all_applied cs (value_in g.S.Store c.self.inside.store))) same (commits up.is_open)) c.change_rows-result.ensures.crash);
