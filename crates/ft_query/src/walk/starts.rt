@@ -17,9 +17,8 @@ fn seek<'a>(
     j: usize,
     steps: &mut Steps,
 ) -> (bool, Places<'a>)
-    ensures found { result.0 ≡ (seek i place.entry.place.now j places.entry.places.now).0 }
-    ensures rest { result.1.places.now ≡ (seek i place.entry.place.now j
-        places.entry.places.now).1 }
+    ensures found { (result.0, result.1.places.now)
+        ≡ seek i place.entry.place.now j places.entry.places.now }
     ensures steps { TakesOf (length places.entry.places.now + 1) (length result.1.places.now)
         steps.old steps.new }
 {

@@ -6,7 +6,7 @@ ghost use Rattle.ft_query.specs.Documents.{Posting, IsBefore, is_filled};
 ghost use Rattle.ft_query.specs.Occurs.{accepts, offsets_of};
 ghost use Rattle.ft_query.specs.Trees.{plain_term, plain_phrase, plain_link, tree_of, phrase, chain};
 ghost use Rattle.ft_query.specs.Marked.{chain_tree, AreNumbered, IsEmpty, AreLinked, Marks, Evaluates};
-ghost use Rattle.ft_query.specs.Taken.{more_steps, Takes, TakesAtMost, TakesOf, TakesSome};
+ghost use Rattle.ft_query.specs.Taken.{Takes, TakesAtMost, TakesOf, TakesSome, LooksForAll};
 ghost use Rattle.ft_query.specs.Work.{terms_in, width};
 ghost use Rattle.ft_query.specs.Visit.{among, followed, if_wanted, starts_of, marks_from, linked, link_marks, plain_starts, plain_lists, listed_places, precedes, places_in, total, linked_cost, link_cost, visit_cost};
 
@@ -370,8 +370,7 @@ fn lists_of<'a>(
     steps: &mut Steps,
 ) -> Result<Vec<Places<'a>>, AllocError>
     ensures lists { IfOk result (λ v. plain_lists v.items ≡ places_in docid cursors.now) }
-    ensures looked { OnErr result (more_steps 1 steps.old ≤ steps.new.taken) }
-    ensures steps { TakesAtMost (length cursors.now) steps.old steps.new }
+    ensures steps { LooksForAll (length cursors.now) result steps.old steps.new }
 {
     let mut lists = Vec::new(alloc);
     for cursor in cursors {

@@ -29,7 +29,7 @@ returns-clause-offsets c = λ postings ordered same.
 pub returns-in_err-lists-clause-steps : goal.returns-in_err-lists-clause-steps
 returns-in_err-lists-clause-steps c =
     let bound = document_bound (tree_of c.args.query.now) c.args.docid c.args.cursors.now (places_in c.args.docid c.args.cursors.now) c.requires refl in
-    record { at_least = c.in_err-lists.ensures.looked; at_most = omega (arith, bound, c.in_err-lists.ensures.steps.at_most) }
+    record { at_least = c.in_err-lists.ensures.steps.refused; at_most = omega (arith, bound, c.in_err-lists.ensures.steps.at_most) }
 
 pub returns-in_err-visit_part-clause-steps : goal.returns-in_err-visit_part-clause-steps
 returns-in_err-visit_part-clause-steps c =
