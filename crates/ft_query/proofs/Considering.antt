@@ -23,6 +23,8 @@ use Rattle.ft_query.specs.Cursors.{lists_left, places_at, passed, least_of, leas
 use Rattle.ft_query.specs.Visit.{listed_places, if_wanted}
 use Rattle.ft_query.specs.Walk.{Walk, StandsBefore, steps_to_come, Went, hit_at}
 use Rattle.ft_query.specs.Search.{walk_at, Considers}
+use Rattle.ft_query.specs.declared.walk.matches.steps.Steps.{Steps}
+use Rattle.ft_query.specs.Taken.{Takes, TakesSome}
 use Rattle.ft_query.proofs.Nexts.{Next, Nothing, First, next_of, are_more, all_places, all_passed, all_counted, without_it, with_it}
 
 no_documents : AreDocuments []
@@ -125,18 +127,21 @@ one_left wanted q ls s t docid offsets documents stands least given at_most at_l
         }
 
 -- the same, of cursors and the steps of the calls
-pub went_on : (wanted : Wanted) (q : Query) (cursors passed_by : List Cursor) (s a b t : ℕ) (docid : ℤ) (offsets : Option (List Offset)) (documents : List Document) → StandsBefore (walk_at q cursors s) documents → least_from None (map lists_left cursors) ≡ Some docid →
+pub went_on : (wanted : Wanted) (q : Query) (cursors passed_by : List Cursor) (s a b t : Steps) (docid : ℤ) (offsets : Option (List Offset)) (documents : List Document) → StandsBefore (walk_at q cursors s.taken) documents → least_from None (map lists_left cursors) ≡ Some docid →
     ((postings : List Posting) → AllPairs IsBefore postings → map (λ c. places_at docid (lists_left c)) cursors ≡ map (listed_places postings) (terms_in (tree_of q)) → offsets ≡ (if accepts postings (tree_of q) then Some (if_wanted wanted (offsets_of postings (tree_of q))) else None)) →
-    map lists_left passed_by ≡ map (passed docid) (map lists_left cursors) → length cursors ≡ length (terms_in (tree_of q)) → s ≤ a → a ≤ s + length cursors →
-    min (a + 1) (2 ^ 64 - 1) ≤ b → b ≤ a + 12 * sum_by (λ c. length (places_at docid (lists_left c))) cursors + 3 * width (tree_of q) → t ≡ min (b + length cursors) (2 ^ 64 - 1) →
-    Adds wanted (walk_at q cursors s) (walk_at q passed_by t) docid offsets documents
-went_on wanted q cursors passed_by s a b t docid offsets documents stands least given left number first_least first_most visit_least visit_most last =
+    map lists_left passed_by ≡ map (passed docid) (map lists_left cursors) → length cursors ≡ length (terms_in (tree_of q)) → s.taken ≤ a.taken → a.taken ≤ s.taken + length cursors →
+    TakesSome (12 * sum_by (λ c. length (places_at docid (lists_left c))) cursors + 3 * width (tree_of q)) a b → Takes (length cursors) b t →
+    Adds wanted (walk_at q cursors s.taken) (walk_at q passed_by t.taken) docid offsets documents
+went_on wanted q cursors passed_by s a b t docid offsets documents stands least given left number first_least first_most visit last =
+    let visit_least = visit.at_least in
+    let visit_most = visit.at_most in
+    let pass = last.taken in
     let ls = map lists_left cursors in
     let same : map (places_at docid) ls ≡ map (λ c. places_at docid (lists_left c)) cursors = map-map (places_at docid) lists_left cursors in
     let sum : sum_by length (map (places_at docid) ls) ≡ sum_by (λ c. length (places_at docid (lists_left c))) cursors = ap (sum_by length) same ∙ sum_mapped (λ c. places_at docid (lists_left c)) cursors in
     let terms = all_terms (tree_of q) in
-    let went = one_left wanted q ls s t docid offsets documents stands least (λ postings ordered here. given postings ordered (sym same ∙ here)) (omega arith) (omega arith) in
-    subst (λ new. Adds wanted (walk_at q cursors s) (record { query = q; lists = new; steps = t }) docid offsets documents) (sym left) went
+    let went = one_left wanted q ls s.taken t.taken docid offsets documents stands least (λ postings ordered here. given postings ordered (sym same ∙ here)) (omega arith) (omega arith) in
+    subst (λ new. Adds wanted (walk_at q cursors s.taken) (record { query = q; lists = new; steps = t.taken }) docid offsets documents) (sym left) went
   where
     sum_mapped : {X : Type 0} (f : X → List Place) (xs : List X) → sum_by length (map f xs) ≡ sum_by (λ x. length (f x)) xs
     sum_mapped f [] = refl

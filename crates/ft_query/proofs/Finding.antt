@@ -1,12 +1,13 @@
 -- What a search answers, as callers of a walk are told it.
-use Rattle.std.proofs.Common.{◌≡◌, true, false, true≢false, [], ◌∷◌, refl, sym, ap, subst, Option, Some, None, Result, Ok, Err, IfOk}
-use Rattle.std.specs.Prelude.{List, option_map}
+use Rattle.std.proofs.Common.{◌≡◌, ◌<◌, true, false, true≢false, [], ◌∷◌, refl, sym, ap, subst, Option, Some, None, Result, Ok, Err, IfOk}
+use Rattle.std.specs.Prelude.{List, option_map, IfSome}
 use Rattle.std.specs.declared.alloc.AllocError.{AllocError}
 use Rattle.ft_query.specs.declared.walk.Hit.{Hit}
+use Rattle.ft_query.specs.declared.walk.visit.Wanted.{Wanted}
 use Rattle.ft_query.specs.declared.walk.visit.Wanted.TheVariants.{Docids, Offsets}
 use Rattle.ft_query.specs.Documents.{Document}
-use Rattle.ft_query.specs.Walk.{Walk, StandsBefore, Went, Walked, WalkedTo}
-use Rattle.ft_query.specs.Search.{Finds}
+use Rattle.ft_query.specs.Walk.{Walk, StandsBefore, Went, Walked, WalkedTo, lists_to_come}
+use Rattle.ft_query.specs.Search.{Finds, FindsNext}
 
 there_is : {X : Type 0} {x : X} → Some x ≡ None → ⊥
 there_is same = true≢false (ap (λ o. elim o [ Some _ ↦ true | None ↦ false ]) same)
@@ -19,10 +20,14 @@ found_hit old new (Some hit) documents found = record {
   ended = λ never. absurd (there_is never);
 }
 
-pub hits_found : (result : Result (Option Hit) AllocError) (old new : Walk) → IfOk result (λ hit. (documents : List Document) → StandsBefore old documents → Finds Offsets old new hit documents)
+pub hits_found : (result : Result (Option Hit) AllocError) (old new : Walk) → IfOk result (FindsNext Offsets old new)
     → IfOk result (λ hit. (documents : List Document) → StandsBefore old documents → Walked old new hit documents)
-hits_found (Ok hit) old new found = λ documents stands. found_hit old new hit documents (found documents stands)
+hits_found (Ok hit) old new found = λ documents stands. found_hit old new hit documents (found.finds documents stands)
 hits_found (Err error) old new found = tt
+
+pub passes_on : (wanted : Wanted) (result : Result (Option Hit) AllocError) (old new : Walk) → IfOk result (FindsNext wanted old new) → IfOk result (λ hit. IfSome hit (λ _. lists_to_come new < lists_to_come old))
+passes_on wanted (Ok hit) old new found = found.passes
+passes_on wanted (Err error) old new found = tt
 
 -- without
 pub found_docid : (old new : Walk) (hit : Option Hit) (documents : List Document) → Finds Docids old new hit documents → WalkedTo old new (option_map (λ h. h.docid) hit) documents

@@ -15,3 +15,7 @@ pub mod Machine
 pub mod Cursors
 pub mod Search
 pub mod Visit
+pub mod Taken
+pub mod Sought
+pub mod Loaded
+pub mod Marked

@@ -1,5 +1,5 @@
 -- Steps. The search for the next hit of a walk.
-use Rattle.std.specs.Prelude.{◌≡◌, ℕ, List, [], ◌∷◌, map, Option, None, option_map, IfSome}
+use Rattle.std.specs.Prelude.{◌≡◌, ℕ, ◌<◌, List, [], ◌∷◌, map, Option, None, option_map, IfSome}
 use Rattle.ft_query.specs.declared.query.Query.{Query}
 use Rattle.ft_query.specs.declared.walk.cursor.Cursor.{Cursor}
 use Rattle.ft_query.specs.declared.walk.search.Considered.{Considered}
@@ -11,7 +11,7 @@ use Rattle.ft_query.specs.Documents.{Document}
 use Rattle.ft_query.specs.Occurs.{PlainHit}
 use Rattle.ft_query.specs.Visit.{if_wanted}
 use Rattle.ft_query.specs.Cursors.{lists_left, lists_kept}
-use Rattle.ft_query.specs.Walk.{Walk, Went, hit_at}
+use Rattle.ft_query.specs.Walk.{Walk, StandsBefore, Went, hit_at, lists_to_come}
 
 -- the walk where the search is
 abbrev pub walk_at : Query → List Cursor → ℕ → Walk
@@ -51,3 +51,12 @@ pub record Finds (wanted : Wanted) (old new : Walk) (hit : Option Hit) (document
   pub went : Went old new (hit_at (option_map (λ h. h.docid) hit) offsets) documents
   pub told : IfSome hit (λ h. h.offsets.items ≡ if_wanted wanted offsets)
   pub ended : hit ≡ None → went.rest ≡ []
+
+-- the same before whatever documents the walk stands, and fewer are left where there was one
+pub record ConsidersNext (wanted : Wanted) (old new : Walk) (considered : Considered) : Type 0 where
+  pub considers : (documents : List Document) → StandsBefore old documents → Considers wanted old new considered documents
+  pub passes : IsDocument considered → lists_to_come new < lists_to_come old
+
+pub record FindsNext (wanted : Wanted) (old new : Walk) (hit : Option Hit) : Type 0 where
+  pub finds : (documents : List Document) → StandsBefore old documents → Finds wanted old new hit documents
+  pub passes : IfSome hit (λ _. lists_to_come new < lists_to_come old)

@@ -1,10 +1,10 @@
 // The lists of a query's terms.
-ghost use Rattle.std.specs.Prelude.{◌≡◌, ℕ, ◌+◌, ◌-◌, ◌^◌, ◌||◌, ◌++◌, map, min, length, flat_map, vec_len, is_ok, IfOk, OnOk};
+ghost use Rattle.std.specs.Prelude.{◌≡◌, ◌+◌, ◌-◌, ◌^◌, map, min, flat_map, IfOk, OnOk};
 ghost use Rattle.ft_query.specs.Documents.{place_count};
 ghost use Rattle.ft_query.specs.Trees.{plain_term, plain_link, tree_of};
-ghost use Rattle.ft_query.specs.Lists.{is_failed, Reaches};
 ghost use Rattle.ft_query.specs.Work.{terms_in};
-ghost use Rattle.ft_query.specs.Cursors.{lists_kept, places_left, listed_for};
+ghost use Rattle.ft_query.specs.Cursors.{lists_kept, listed_for};
+ghost use Rattle.ft_query.specs.Loaded.{Asks, Loads};
 
 use crate::lists::{ListFault, Lists};
 use crate::query::{Link, Query, QueryTerm};
@@ -16,10 +16,7 @@ use std::alloc::Global;
 fn load_term<L: Lists>(alloc: Global, term: &QueryTerm, lists: &mut L) -> Result<Cursor, ListFault>
     ensures list { IfOk result (λ c. L.is_clean lists.new
         → lists_kept c ≡ listed_for (L.documents lists.new) (plain_term term.now)) }
-    ensures clean { L.is_clean lists.new → L.is_clean lists.old
-        × (L.documents lists.new ≡ L.documents lists.old) }
-    ensures failed { L.has_failed lists.new ≡ (L.has_failed lists.old || is_failed result) }
-    ensures becomes { Reaches L.becomes lists.old (is_ok result) lists.new }
+    ensures asks { Asks L.Lists lists.old lists.new result }
     ensures given { IfOk result (λ c. L.given_so_far lists.new
         ≡ min (L.given_so_far lists.old + place_count (lists_kept c)) (2 ^ 64 - 1)) }
 {
@@ -39,17 +36,9 @@ fn load_terms<L: Lists>(
     lists: &mut L,
     cursors: &mut Vec<Cursor>,
 ) -> Result<(), ListFault>
-    ensures lists { OnOk result (L.is_clean lists.new
-        → map lists_kept cursors.new.items ≡ map lists_kept cursors.old.items ++ map
-        (listed_for (L.documents lists.new)) (map plain_term terms.now)) }
-    ensures number { OnOk result (vec_len cursors.new ≡ vec_len cursors.old + length terms.now) }
-    ensures clean { L.is_clean lists.new → L.is_clean lists.old
-        × (L.documents lists.new ≡ L.documents lists.old) }
-    ensures failed { L.has_failed lists.new ≡ (L.has_failed lists.old || is_failed result) }
-    ensures becomes { Reaches L.becomes lists.old (is_ok result) lists.new }
-    ensures given { OnOk result ((start : ℕ)
-        → L.given_so_far lists.old ≡ min (start + places_left cursors.old.items) (2 ^ 64 - 1)
-        → L.given_so_far lists.new ≡ min (start + places_left cursors.new.items) (2 ^ 64 - 1)) }
+    ensures loads { OnOk result (Loads L.Lists (map plain_term terms.now) lists.old lists.new
+        cursors.old cursors.new) }
+    ensures asks { Asks L.Lists lists.old lists.new result }
 {
     for term in terms {
         let cursor = load_term(alloc, term, lists)?;
@@ -66,20 +55,10 @@ fn load_links<L: Lists>(
     lists: &mut L,
     cursors: &mut Vec<Cursor>,
 ) -> Result<(), ListFault>
-    ensures lists { OnOk result (L.is_clean lists.new
-        → map lists_kept cursors.new.items ≡ map lists_kept cursors.old.items ++ map
-        (listed_for (L.documents lists.new))
-        (flat_map (λ link. link.to.terms) (map plain_link links.now))) }
-    ensures number { OnOk result (vec_len cursors.new
-        ≡ vec_len cursors.old + length (flat_map (λ link. link.to.terms)
-        (map plain_link links.now))) }
-    ensures clean { L.is_clean lists.new → L.is_clean lists.old
-        × (L.documents lists.new ≡ L.documents lists.old) }
-    ensures failed { L.has_failed lists.new ≡ (L.has_failed lists.old || is_failed result) }
-    ensures becomes { Reaches L.becomes lists.old (is_ok result) lists.new }
-    ensures given { OnOk result ((start : ℕ)
-        → L.given_so_far lists.old ≡ min (start + places_left cursors.old.items) (2 ^ 64 - 1)
-        → L.given_so_far lists.new ≡ min (start + places_left cursors.new.items) (2 ^ 64 - 1)) }
+    ensures loads { OnOk result (Loads L.Lists
+        (flat_map (λ link. link.to.terms) (map plain_link links.now)) lists.old lists.new
+        cursors.old cursors.new) }
+    ensures asks { Asks L.Lists lists.old lists.new result }
 {
     for link in links {
         load_terms(alloc, link.to.terms.as_slice(), lists, cursors)?;
@@ -95,18 +74,9 @@ pub(crate) fn load<L: Lists>(
     lists: &mut L,
     cursors: &mut Vec<Cursor>,
 ) -> Result<(), ListFault>
-    ensures lists { OnOk result (L.is_clean lists.new
-        → map lists_kept cursors.new.items ≡ map lists_kept cursors.old.items ++ map
-        (listed_for (L.documents lists.new)) (terms_in (tree_of query.now))) }
-    ensures number { OnOk result (vec_len cursors.new
-        ≡ vec_len cursors.old + length (terms_in (tree_of query.now))) }
-    ensures clean { L.is_clean lists.new → L.is_clean lists.old
-        × (L.documents lists.new ≡ L.documents lists.old) }
-    ensures failed { L.has_failed lists.new ≡ (L.has_failed lists.old || is_failed result) }
-    ensures becomes { Reaches L.becomes lists.old (is_ok result) lists.new }
-    ensures given { OnOk result ((start : ℕ)
-        → L.given_so_far lists.old ≡ min (start + places_left cursors.old.items) (2 ^ 64 - 1)
-        → L.given_so_far lists.new ≡ min (start + places_left cursors.new.items) (2 ^ 64 - 1)) }
+    ensures loads { OnOk result (Loads L.Lists (terms_in (tree_of query.now)) lists.old lists.new
+        cursors.old cursors.new) }
+    ensures asks { Asks L.Lists lists.old lists.new result }
 {
     match query {
         Query::Phrase(phrase) => load_terms(alloc, phrase.terms.as_slice(), lists, cursors),

@@ -1,12 +1,13 @@
 // The documents that a query accepts, one after the other.
-ghost use Rattle.std.specs.Prelude.{◌≡◌, ◌+◌, ◌-◌, ◌^◌, ◌<◌, ◌||◌, List, length, map, min, sum_by, is_ok, IfOk, IfSome, OnOk, OnErr};
+ghost use Rattle.std.specs.Prelude.{◌≡◌, ◌+◌, ◌-◌, ◌^◌, ◌<◌, ◌||◌, List, length, map, min, is_ok, IfOk, IfSome, OnOk, OnErr};
 ghost use Rattle.ft_query.specs.Documents.{Document};
 ghost use Rattle.ft_query.specs.Trees.{tree_of};
 ghost use Rattle.ft_query.specs.Lists.{is_failed, Reaches};
 ghost use Rattle.ft_query.specs.Work.{terms_in, entry_count};
 ghost use Rattle.ft_query.specs.Cursors.{lists_left, lists_kept};
 ghost use Rattle.ft_query.specs.Walk.{lists_to_come, StandsBefore, Walked, WalkedTo};
-ghost use Rattle.ft_query.specs.Search.{stands_at, Finds};
+ghost use Rattle.ft_query.specs.Search.{stands_at, FindsNext};
+ghost use Rattle.ft_query.specs.Sought.{AllSearchOn};
 
 mod steps;
 
@@ -23,8 +24,7 @@ pub(crate) use steps::Steps;
 
 /// Begins a search where the walk stands.
 fn begin(cursors: &mut [Cursor])
-    ensures left { map lists_left cursors.new ≡ map lists_kept cursors.old }
-    ensures kept { map lists_kept cursors.new ≡ map lists_kept cursors.old }
+    ensures { AllSearchOn cursors.old cursors.new (map lists_kept cursors.old) }
 {
     for cursor in cursors.iter_mut() {
         cursor.begin();
@@ -49,13 +49,9 @@ fn advance(
     steps: &mut Steps,
 ) -> Result<Option<Hit>, AllocError>
     requires { length cursors.old ≡ length (terms_in (tree_of query.now)) }
-    ensures finds { IfOk result (λ hit. (documents : List Document)
-        → StandsBefore (stands_at query.now cursors.old steps.old.taken) documents
-        → Finds wanted (stands_at query.now cursors.old steps.old.taken)
-        (stands_at query.now cursors.new steps.new.taken) hit documents) }
-    ensures passes { IfOk result (λ hit. IfSome hit
-        (λ _. sum_by length (map lists_kept cursors.new)
-        < sum_by length (map lists_kept cursors.old))) }
+    ensures finds { IfOk result
+        (FindsNext wanted (stands_at query.now cursors.old steps.old.taken)
+        (stands_at query.now cursors.new steps.new.taken)) }
     ensures err { OnErr result ((map lists_kept cursors.new ≡ map lists_kept cursors.old)
         × (steps.new.taken ≡ steps.old.taken)) }
 {
@@ -126,10 +122,7 @@ impl<'q> Matches<'q> {
 
     // The next hit, without offsets where they aren't wanted.
     fn find(&mut self, wanted: Wanted) -> Result<Option<Hit>, AllocError>
-        ensures finds { IfOk result (λ hit. (documents : List Document)
-            → StandsBefore self.old documents → Finds wanted self.old self.new hit documents) }
-        ensures passes { IfOk result (λ hit. IfSome hit
-            (λ _. lists_to_come self.new < lists_to_come self.old)) }
+        ensures finds { IfOk result (FindsNext wanted self.old self.new) }
         ensures query { self.new.query ≡ self.old.query }
         ensures err { OnErr result (self.new ≡ self.old) }
     {

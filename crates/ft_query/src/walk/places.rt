@@ -1,8 +1,9 @@
 // Places of tokens in one document, whose positions are seen here alone: each look at one is a step.
-ghost use Rattle.std.specs.Prelude.{◌≡◌, ◌≤◌, ◌+◌, ◌-◌, ◌^◌, ◌∷◌, ◌++◌, [], List, length, min, IfNone, IfSome, IfOk, OnOk};
+ghost use Rattle.std.specs.Prelude.{◌≡◌, ◌∷◌, ◌++◌, [], length, MatchOption, IfOk, OnOk};
 ghost use Rattle.ft_query.specs.Documents.{is_filled};
 ghost use Rattle.ft_query.specs.Occurs.{are_near};
 ghost use Rattle.ft_query.specs.Visit.{place_order, is_behind, may_begin, offset_at};
+ghost use Rattle.ft_query.specs.Taken.{Takes};
 
 use crate::lists::Place;
 use crate::walk::Offset;
@@ -44,8 +45,8 @@ impl<'a> Places<'a> {
 
     /// The first one, and those behind it.
     pub(crate) fn split_first(self) -> Option<(Spot<'a>, Places<'a>)>
-        ensures none { IfNone result (self.entry.places.now ≡ []) }
-        ensures some { IfSome result (λ r. self.entry.places.now ≡ r.0.place.now ∷ r.1.places.now) }
+        ensures { MatchOption result (self.entry.places.now ≡ [])
+            (λ r. self.entry.places.now ≡ r.0.place.now ∷ r.1.places.now) }
     {
         match self.places.split_first() {
             None => None,
@@ -58,9 +59,7 @@ impl<'a> Spot<'a> {
     // Looks at the position.
     fn look(self, steps: &mut Steps) -> &'a Place
         ensures place { result.now ≡ self.entry.place.now }
-        ensures step { steps.new.taken ≡ min (steps.old.taken + 1) (2 ^ 64 - 1) }
-        ensures at_least { steps.old.taken ≤ steps.new.taken }
-        ensures at_most { steps.new.taken ≤ steps.old.taken + 1 }
+        ensures step { Takes 1 steps.old steps.new }
     {
         steps.take();
         self.place
@@ -69,9 +68,7 @@ impl<'a> Spot<'a> {
     /// The order of this place, moved by i, and the other one, moved by j: by column and then by position.
     pub(crate) fn order(self, i: usize, other: Spot<'_>, j: usize, steps: &mut Steps) -> Ordering
         ensures order { result ≡ place_order i self.entry.place.now j other.entry.place.now }
-        ensures step { steps.new.taken ≡ min (steps.old.taken + 1) (2 ^ 64 - 1) }
-        ensures at_least { steps.old.taken ≤ steps.new.taken }
-        ensures at_most { steps.new.taken ≤ steps.old.taken + 1 }
+        ensures step { Takes 1 steps.old steps.new }
     {
         let a = self.look(steps);
         let b = other.place;
@@ -83,9 +80,7 @@ impl<'a> Spot<'a> {
     /// This occurrence, of k terms, ends too far before the other one to be near it.
     pub(crate) fn is_behind(self, k: usize, other: Spot<'_>, most: usize, steps: &mut Steps) -> bool
         ensures behind { result ≡ is_behind most k self.entry.place.now other.entry.place.now }
-        ensures step { steps.new.taken ≡ min (steps.old.taken + 1) (2 ^ 64 - 1) }
-        ensures at_least { steps.old.taken ≤ steps.new.taken }
-        ensures at_most { steps.new.taken ≤ steps.old.taken + 1 }
+        ensures step { Takes 1 steps.old steps.new }
     {
         let a = self.look(steps);
         let b = other.place;
@@ -104,9 +99,7 @@ impl<'a> Spot<'a> {
         steps: &mut Steps,
     ) -> bool
         ensures near { result ≡ are_near most k self.entry.place.now m other.entry.place.now }
-        ensures step { steps.new.taken ≡ min (steps.old.taken + 1) (2 ^ 64 - 1) }
-        ensures at_least { steps.old.taken ≤ steps.new.taken }
-        ensures at_most { steps.new.taken ≤ steps.old.taken + 1 }
+        ensures step { Takes 1 steps.old steps.new }
     {
         let a = self.look(steps);
         let b = other.place;
@@ -121,9 +114,7 @@ impl<'a> Spot<'a> {
     /// A phrase with this filter may begin here, where its first term may want position 0.
     pub(crate) fn may_begin(self, only: Option<usize>, first: bool, steps: &mut Steps) -> bool
         ensures begins { result ≡ may_begin only first self.entry.place.now }
-        ensures step { steps.new.taken ≡ min (steps.old.taken + 1) (2 ^ 64 - 1) }
-        ensures at_least { steps.old.taken ≤ steps.new.taken }
-        ensures at_most { steps.new.taken ≤ steps.old.taken + 1 }
+        ensures step { Takes 1 steps.old steps.new }
     {
         let place = self.look(steps);
         let is_within = match only {
@@ -171,10 +162,7 @@ impl Starts {
         steps: &mut Steps,
     ) -> Result<Starts, AllocError>
         ensures starts { IfOk result (λ s. s.places.items ≡ places.entry.places.now) }
-        ensures step { steps.new.taken
-            ≡ min (steps.old.taken + length places.entry.places.now) (2 ^ 64 - 1) }
-        ensures at_least { steps.old.taken ≤ steps.new.taken }
-        ensures at_most { steps.new.taken ≤ steps.old.taken + length places.entry.places.now }
+        ensures steps { Takes (length places.entry.places.now) steps.old steps.new }
     {
         steps.take_all(places.places.len());
         let places = places.places.to_vec(alloc)?;

@@ -1,11 +1,11 @@
 // The search for the next document that a query accepts.
-ghost use Rattle.std.specs.Prelude.{◌≡◌, ◌+◌, ◌-◌, ◌^◌, ◌<◌, ◌≤◌, if◌then◌else◌, None, List, map, min, length, sum_by, IfOk, IfSome};
-ghost use Rattle.ft_query.specs.Documents.{Document, is_filled};
+ghost use Rattle.std.specs.Prelude.{◌≡◌, None, map, length, IfOk};
 ghost use Rattle.ft_query.specs.Trees.{tree_of};
 ghost use Rattle.ft_query.specs.Work.{terms_in};
 ghost use Rattle.ft_query.specs.Cursors.{lists_left, lists_kept, passed, least_of, least_from};
-ghost use Rattle.ft_query.specs.Walk.{StandsBefore};
-ghost use Rattle.ft_query.specs.Search.{walk_at, IsDocument, Considers, Finds};
+ghost use Rattle.ft_query.specs.Search.{walk_at, ConsidersNext, FindsNext};
+ghost use Rattle.ft_query.specs.Sought.{SearchesOn, AllSearchOn};
+ghost use Rattle.ft_query.specs.Taken.{Takes, LooksAt, LooksAtAll};
 
 use crate::query::Query;
 use crate::walk::Hit;
@@ -26,11 +26,7 @@ impl Cursor {
     /// The lesser of this docid and the next one here, which is looked at if there is one.
     fn lesser(&self, docid: Option<i64>, steps: &mut Steps) -> Option<i64>
         ensures docid { result ≡ least_of docid (lists_left self.now) }
-        ensures looks { steps.new.taken ≡ (if is_filled (lists_left self.now) then min
-            (steps.old.taken + 1) (2 ^ 64 - 1) else steps.old.taken) }
-        ensures at_least { steps.old.taken ≤ steps.new.taken }
-        ensures at_most { steps.new.taken ≤ steps.old.taken + 1 }
-        ensures none { result ≡ None → steps.new.taken ≡ steps.old.taken }
+        ensures steps { LooksAt (lists_left self.now) result steps.old steps.new }
     {
         let Some(next) = self.docid(steps) else {
             return docid;
@@ -43,9 +39,8 @@ impl Cursor {
 
     /// Goes on past this document.
     fn pass(&mut self, docid: i64, steps: &mut Steps)
-        ensures left { lists_left self.new ≡ passed docid (lists_left self.old) }
-        ensures kept { lists_kept self.new ≡ lists_kept self.old }
-        ensures step { steps.new.taken ≡ min (steps.old.taken + 1) (2 ^ 64 - 1) }
+        ensures goes { SearchesOn self.old self.new (passed docid (lists_left self.old)) }
+        ensures step { Takes 1 steps.old steps.new }
     {
         if self.is_at(docid, steps) {
             self.go_on();
@@ -56,9 +51,7 @@ impl Cursor {
 /// The least docid that is next in some list.
 fn least(cursors: &[Cursor], steps: &mut Steps) -> Option<i64>
     ensures docid { result ≡ least_from None (map lists_left cursors.now) }
-    ensures at_least { steps.old.taken ≤ steps.new.taken }
-    ensures at_most { steps.new.taken ≤ steps.old.taken + length cursors.now }
-    ensures none { result ≡ None → steps.new.taken ≡ steps.old.taken }
+    ensures steps { LooksAtAll (length cursors.now) result steps.old steps.new }
 {
     let mut docid = None;
     for cursor in cursors {
@@ -69,9 +62,9 @@ fn least(cursors: &[Cursor], steps: &mut Steps) -> Option<i64>
 
 /// Goes on past this document in each list.
 fn pass(cursors: &mut [Cursor], docid: i64, steps: &mut Steps)
-    ensures left { map lists_left cursors.new ≡ map (passed docid) (map lists_left cursors.old) }
-    ensures kept { map lists_kept cursors.new ≡ map lists_kept cursors.old }
-    ensures steps { steps.new.taken ≡ min (steps.old.taken + length cursors.old) (2 ^ 64 - 1) }
+    ensures go { AllSearchOn cursors.old cursors.new
+        (map (passed docid) (map lists_left cursors.old)) }
+    ensures steps { Takes (length cursors.old) steps.old steps.new }
 {
     for cursor in cursors.iter_mut() {
         cursor.pass(docid, steps);
@@ -88,12 +81,9 @@ fn consider(
 ) -> Result<Considered, AllocError>
     requires { length cursors.old ≡ length (terms_in (tree_of query.now)) }
     ensures kept { map lists_kept cursors.new ≡ map lists_kept cursors.old }
-    ensures considers { IfOk result (λ c. (documents : List Document)
-        → StandsBefore (walk_at query.now cursors.old steps.old.taken) documents
-        → Considers wanted (walk_at query.now cursors.old steps.old.taken)
-        (walk_at query.now cursors.new steps.new.taken) c documents) }
-    ensures passes { IfOk result (λ c. IsDocument c
-        → sum_by length (map lists_left cursors.new) < sum_by length (map lists_left cursors.old)) }
+    ensures considers { IfOk result
+        (ConsidersNext wanted (walk_at query.now cursors.old steps.old.taken)
+        (walk_at query.now cursors.new steps.new.taken)) }
 {
     let Some(docid) = least(cursors, steps) else {
         return Ok(Considered::NoDocument);
@@ -116,13 +106,9 @@ pub(crate) fn search(
 ) -> Result<Option<Hit>, AllocError>
     requires { length cursors.old ≡ length (terms_in (tree_of query.now)) }
     ensures kept { map lists_kept cursors.new ≡ map lists_kept cursors.old }
-    ensures finds { IfOk result (λ hit. (documents : List Document)
-        → StandsBefore (walk_at query.now cursors.old steps.old.taken) documents
-        → Finds wanted (walk_at query.now cursors.old steps.old.taken)
-        (walk_at query.now cursors.new steps.new.taken) hit documents) }
-    ensures passes { IfOk result (λ hit. IfSome hit
-        (λ _. sum_by length (map lists_left cursors.new)
-        < sum_by length (map lists_left cursors.old))) }
+    ensures finds { IfOk result
+        (FindsNext wanted (walk_at query.now cursors.old steps.old.taken)
+        (walk_at query.now cursors.new steps.new.taken)) }
 {
     loop {
         match consider(alloc, query, cursors, wanted, steps)? {

@@ -1,6 +1,7 @@
 // Where phrases occur in one document.
-ghost use Rattle.std.specs.Prelude.{◌≡◌, ◌≤◌, ◌+◌, ◌-◌, ◌^◌, min, ◌*◌, ◌++◌, [], length, filter, map, IfOk, OnOk};
+ghost use Rattle.std.specs.Prelude.{◌≡◌, ◌+◌, ◌*◌, ◌++◌, length, filter, map, IfOk, OnOk};
 ghost use Rattle.ft_query.specs.Visit.{seek, among, skip_behind, begin_near, near_those, may_begin, offset_at};
+ghost use Rattle.ft_query.specs.Taken.{TakesAtMost, TakesOf};
 
 use crate::walk::Offset;
 use crate::walk::matches::Steps;
@@ -16,12 +17,10 @@ fn seek<'a>(
     j: usize,
     steps: &mut Steps,
 ) -> (bool, Places<'a>)
-    ensures found { result.0 ≡ (seek i place.entry.place.now j places.entry.places.now).0 }
-    ensures rest { result.1.places.now ≡ (seek i place.entry.place.now j
-        places.entry.places.now).1 }
-    ensures at_least { steps.old.taken ≤ steps.new.taken }
-    ensures at_most { steps.new.taken + length result.1.places.now
-        ≤ steps.old.taken + length places.entry.places.now + 1 }
+    ensures found { (result.0, result.1.places.now)
+        ≡ seek i place.entry.place.now j places.entry.places.now }
+    ensures steps { TakesOf (length places.entry.places.now + 1) (length result.1.places.now)
+        steps.old steps.new }
 {
     let mut left = places;
     loop {
@@ -47,9 +46,8 @@ fn skip_behind<'a>(
 ) -> Places<'a>
     ensures rest { result.places.now ≡ skip_behind most k places.entry.places.now
         place.entry.place.now }
-    ensures at_least { steps.old.taken ≤ steps.new.taken }
-    ensures at_most { steps.new.taken + length result.places.now
-        ≤ steps.old.taken + length places.entry.places.now + 1 }
+    ensures steps { TakesOf (length places.entry.places.now + 1) (length result.places.now)
+        steps.old steps.new }
 {
     let mut left = places;
     loop {
@@ -73,8 +71,7 @@ fn begin_near(
     steps: &mut Steps,
 ) -> bool
     ensures near { result ≡ begin_near most k places.entry.places.now m place.entry.place.now }
-    ensures at_least { steps.old.taken ≤ steps.new.taken }
-    ensures at_most { steps.new.taken ≤ steps.old.taken + 2 }
+    ensures steps { TakesAtMost 2 steps.old steps.new }
 {
     let Some((first, rest)) = places.split_first() else {
         return false;
@@ -100,8 +97,7 @@ impl Starts {
     ) -> Result<Starts, AllocError>
         ensures starts { IfOk result (λ s. s.places.items
             ≡ filter (may_begin only first) places.entry.places.now) }
-        ensures at_least { steps.old.taken ≤ steps.new.taken }
-        ensures at_most { steps.new.taken ≤ steps.old.taken + length places.entry.places.now }
+        ensures steps { TakesAtMost (length places.entry.places.now) steps.old steps.new }
     {
         if only.is_none() && !first {
             return Starts::at_all(alloc, places, steps);
@@ -127,9 +123,8 @@ impl Starts {
     ) -> Result<Starts, AllocError>
         ensures starts { IfOk result (λ s. s.places.items
             ≡ among i 0 self.now.places.items places.entry.places.now) }
-        ensures at_least { steps.old.taken ≤ steps.new.taken }
-        ensures at_most { steps.new.taken
-            ≤ steps.old.taken + length self.now.places.items + length places.entry.places.now }
+        ensures steps { TakesAtMost (length self.now.places.items + length places.entry.places.now)
+            steps.old steps.new }
     {
         let mut kept = Starts::with_room(alloc, self.all())?;
         let mut starts = self.all();
@@ -157,9 +152,9 @@ impl Starts {
     ) -> Result<Starts, AllocError>
         ensures starts { IfOk result (λ s. s.places.items
             ≡ near_those most k self.now.places.items m others.now.places.items) }
-        ensures at_least { steps.old.taken ≤ steps.new.taken }
-        ensures at_most { steps.new.taken ≤ steps.old.taken + length self.now.places.items + 3
-            * length others.now.places.items }
+        ensures steps { TakesAtMost
+            (length self.now.places.items + 3 * length others.now.places.items)
+            steps.old steps.new }
     {
         let mut kept = Starts::with_room(alloc, others.all())?;
         let mut left = self.all();
@@ -186,9 +181,8 @@ impl Starts {
         ensures marked { OnOk result (found.new.items
             ≡ found.old.items ++ map (offset_at number)
             (among 0 i places.entry.places.now self.now.places.items)) }
-        ensures at_least { steps.old.taken ≤ steps.new.taken }
-        ensures at_most { steps.new.taken
-            ≤ steps.old.taken + length places.entry.places.now + length self.now.places.items }
+        ensures steps { TakesAtMost (length places.entry.places.now + length self.now.places.items)
+            steps.old steps.new }
     {
         let mut spots = places;
         let mut left = self.all();

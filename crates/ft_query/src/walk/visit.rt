@@ -1,12 +1,14 @@
 // The evaluation of a query in one document.
-ghost use Rattle.std.specs.Prelude.{◌≡◌, ◌≤◌, ◌<◌, ◌+◌, ◌*◌, ◌-◌, ◌^◌, min, ◌++◌, [], if◌then◌else◌, length, drop, reverse, map, flat_map, vec_len, option_map, sum_by, List, AllPairs, Some, None, IfOk, OnOk, OnErr};
+ghost use Rattle.std.specs.Prelude.{◌≡◌, ◌≤◌, ◌<◌, ◌+◌, ◌*◌, ◌^◌, [], if◌then◌else◌, length, map, flat_map, vec_len, option_map, sum_by, List, AllPairs, Some, None, IfOk, OnErr};
 ghost use Rattle.std.specs.List.Sorted.{IsPermutation, IsSortedBy};
 ghost use Rattle.ft_query.specs.Cursors.{lists_left, places_at};
 ghost use Rattle.ft_query.specs.Documents.{Posting, IsBefore, is_filled};
 ghost use Rattle.ft_query.specs.Occurs.{accepts, offsets_of};
 ghost use Rattle.ft_query.specs.Trees.{plain_term, plain_phrase, plain_link, tree_of, phrase, chain};
+ghost use Rattle.ft_query.specs.Marked.{chain_tree, AreNumbered, IsEmpty, AreLinked, Marks, Evaluates};
+ghost use Rattle.ft_query.specs.Taken.{Takes, TakesAtMost, TakesOf, TakesSome, LooksForAll};
 ghost use Rattle.ft_query.specs.Work.{terms_in, width};
-ghost use Rattle.ft_query.specs.Visit.{among, followed, if_wanted, starts_of, marks_from, head_of, linked, link_marks, is_accepted, marks_of, numbered, plain_starts, plain_lists, listed_places, precedes, places_in, total, linked_cost, link_cost, visit_cost};
+ghost use Rattle.ft_query.specs.Visit.{among, followed, if_wanted, starts_of, marks_from, linked, link_marks, plain_starts, plain_lists, listed_places, precedes, places_in, total, linked_cost, link_cost, visit_cost};
 
 use crate::query::{Chain, Link, Phrase, Query, QueryTerm};
 use crate::walk::Offset;
@@ -27,9 +29,8 @@ fn follow_one(
     ensures starts { IfOk result (λ s. s.places.items
         ≡ (if term.now.first then [] else among i 0 starts.now.places.items
         list.entry.places.now)) }
-    ensures at_least { steps.old.taken ≤ steps.new.taken }
-    ensures at_most { steps.new.taken ≤ steps.old.taken + length starts.now.places.items + length
-        list.entry.places.now }
+    ensures steps { TakesAtMost (length starts.now.places.items + length list.entry.places.now)
+        steps.old steps.new }
 {
     if term.first {
         Ok(Starts::none(alloc))
@@ -49,9 +50,8 @@ fn follow(
     requires { length lists.now ≡ length terms.now }
     ensures starts { IfOk result (λ s. s.places.items
         ≡ followed 1 (map plain_term terms.now) (plain_lists lists.now) first.places.items) }
-    ensures at_least { steps.old.taken ≤ steps.new.taken }
-    ensures at_most { steps.new.taken ≤ steps.old.taken + length first.places.items + 2 * total
-        (plain_lists lists.now) }
+    ensures steps { TakesAtMost (length first.places.items + 2 * total (plain_lists lists.now))
+        steps.old steps.new }
 {
     let mut starts = first;
     for (i, term) in terms.iter().enumerate() {
@@ -71,8 +71,7 @@ fn starts_of(
     requires { length lists.now ≡ vec_len phrase.now.terms }
     ensures starts { IfOk result (λ s. s.places.items
         ≡ starts_of (plain_phrase phrase.now) (plain_lists lists.now)) }
-    ensures at_least { steps.old.taken ≤ steps.new.taken }
-    ensures at_most { steps.new.taken ≤ steps.old.taken + 2 * total (plain_lists lists.now) }
+    ensures steps { TakesAtMost (2 * total (plain_lists lists.now)) steps.old steps.new }
 {
     let Some((term, terms)) = phrase.terms.split_first() else {
         return Ok(Starts::none(alloc));
@@ -96,8 +95,7 @@ fn occurs(
     requires { length lists.now ≡ vec_len phrase.now.terms }
     ensures occurs { IfOk result
         (λ b. b ≡ is_filled (starts_of (plain_phrase phrase.now) (plain_lists lists.now))) }
-    ensures at_least { steps.old.taken ≤ steps.new.taken }
-    ensures at_most { steps.new.taken ≤ steps.old.taken + 2 * total (plain_lists lists.now) }
+    ensures steps { TakesAtMost (2 * total (plain_lists lists.now)) steps.old steps.new }
 {
     if let ([term], [list]) = (phrase.terms.as_slice(), lists) {
         if phrase.filter.is_none() && !term.first {
@@ -127,9 +125,7 @@ struct Found {
 
 // No offsets so far.
 fn no_offsets(alloc: Global, wanted: Wanted) -> Found
-    ensures wanted { result.wanted ≡ wanted }
-    ensures offsets { result.offsets.items ≡ [] }
-    ensures next { result.next ≡ 0 }
+    ensures { IsEmpty result wanted }
 {
     Found {
         alloc,
@@ -147,13 +143,11 @@ fn mark_phrase(
     steps: &mut Steps,
 ) -> Result<(), AllocError>
     requires { found.old.next + length lists.now < 2 ^ 64 }
-    ensures offsets { OnOk result (found.new.offsets.items ≡ found.old.offsets.items
-        ++ numbered found.old.next (marks_from 0 (plain_lists lists.now) starts.now.places.items)) }
-    ensures wanted { found.new.wanted ≡ found.old.wanted }
-    ensures next { OnOk result (found.new.next ≡ found.old.next + length lists.now) }
-    ensures at_least { steps.old.taken ≤ steps.new.taken }
-    ensures at_most { steps.new.taken ≤ steps.old.taken + total (plain_lists lists.now) + length
-        lists.now * length starts.now.places.items }
+    ensures marks { Marks result found.old found.new
+        (marks_from 0 (plain_lists lists.now) starts.now.places.items) (length lists.now) }
+    ensures steps { TakesAtMost
+        (total (plain_lists lists.now) + length lists.now * length starts.now.places.items)
+        steps.old steps.new }
 {
     for (i, list) in lists.iter().enumerate() {
         starts.mark(&mut found.offsets, found.next, i, *list, steps)?;
@@ -173,15 +167,10 @@ fn linked(
 ) -> Result<(Starts, Vec<Starts>), AllocError>
     requires { length lists.now ≡ length (terms_in
         (chain (plain_phrase first.now) (map plain_link links.now))) }
-    ensures first { IfOk result (λ r. r.0.places.items
-        ≡ head_of (linked (plain_phrase first.now) (map plain_link links.now)
-        (plain_lists lists.now))) }
-    ensures rest { IfOk result (λ r. plain_starts r.1.items
-        ≡ reverse (drop 1 (linked (plain_phrase first.now) (map plain_link links.now)
-        (plain_lists lists.now)))) }
-    ensures at_least { steps.old.taken ≤ steps.new.taken }
-    ensures at_most { steps.new.taken ≤ steps.old.taken + linked_cost (plain_phrase first.now)
-        (map plain_link links.now) (plain_lists lists.now) }
+    ensures starts { IfOk result (λ r. AreLinked r.0 r.1.items
+        (linked (plain_phrase first.now) (map plain_link links.now) (plain_lists lists.now))) }
+    ensures steps { TakesAtMost (linked_cost (plain_phrase first.now) (map plain_link links.now)
+        (plain_lists lists.now)) steps.old steps.new }
 {
     let Some((link, links)) = links.split_first() else {
         let starts = starts_of(alloc, first, lists, steps)?;
@@ -207,19 +196,15 @@ fn mark_links(
     all: &[Starts],
     steps: &mut Steps,
 ) -> Result<(), AllocError>
-    requires lists { length lists.now ≡ length
-        (flat_map (λ l. l.to.terms) (map plain_link links.now)) }
+    requires lists { AreNumbered found.old
+        (flat_map (λ l. l.to.terms) (map plain_link links.now)) lists.now }
     requires all { length all.now ≡ length links.now }
-    requires fits { found.old.next + length lists.now < 2 ^ 64 }
-    ensures offsets { OnOk result (found.new.offsets.items
-        ≡ found.old.offsets.items ++ numbered found.old.next
+    ensures marks { Marks result found.old found.new
         (link_marks k starts.now.places.items (map plain_link links.now) (plain_lists lists.now)
-        (plain_starts all.now))) }
-    ensures wanted { found.new.wanted ≡ found.old.wanted }
-    ensures next { OnOk result (found.new.next ≡ found.old.next + length lists.now) }
-    ensures at_least { steps.old.taken ≤ steps.new.taken }
-    ensures at_most { steps.new.taken ≤ steps.old.taken + link_cost k starts.now.places.items
-        (map plain_link links.now) (plain_lists lists.now) (plain_starts all.now) }
+        (plain_starts all.now)) (length lists.now) }
+    ensures steps { TakesAtMost
+        (link_cost k starts.now.places.items (map plain_link links.now) (plain_lists lists.now)
+        (plain_starts all.now)) steps.old steps.new }
 {
     let Some((link, links)) = links.split_first() else {
         return Ok(());
@@ -242,23 +227,12 @@ fn visit_phrase(
     found: &mut Found,
     steps: &mut Steps,
 ) -> Result<bool, AllocError>
-    requires lists { length lists.now ≡ vec_len words.now.terms }
-    requires fits { found.old.next + length lists.now < 2 ^ 64 }
-    ensures accepted { IfOk result (λ b. b ≡ is_filled
-        (starts_of (plain_phrase words.now) (plain_lists lists.now))) }
-    ensures wanted { found.new.wanted ≡ found.old.wanted }
-    ensures offsets { OnOk result (found.new.offsets.items
-        ≡ found.old.offsets.items ++ numbered found.old.next
-        (if_wanted found.old.wanted (marks_from 0 (plain_lists lists.now)
-        (starts_of (plain_phrase words.now) (plain_lists lists.now))))) }
-    ensures next { OnOk result (found.new.next
-        ≡ found.old.next + length (if_wanted found.old.wanted
-        (marks_from 0 (plain_lists lists.now)
-        (starts_of (plain_phrase words.now) (plain_lists lists.now))))) }
-    ensures room { OnOk result (found.new.next ≤ found.old.next + length lists.now) }
-    ensures at_least { steps.old.taken ≤ steps.new.taken }
-    ensures at_most { steps.new.taken + 1 ≤ steps.old.taken + visit_cost
-        (phrase (plain_phrase words.now)) (plain_lists lists.now) }
+    requires { AreNumbered found.old (terms_in (phrase (plain_phrase words.now))) lists.now }
+    ensures evaluates { Evaluates result found.old found.new (phrase (plain_phrase words.now))
+        lists.now }
+    ensures steps { TakesOf
+        (visit_cost (phrase (plain_phrase words.now)) (plain_lists lists.now)) 1
+        steps.old steps.new }
 {
     match found.wanted {
         Wanted::Docids => occurs(found.alloc, words, lists, steps),
@@ -278,27 +252,10 @@ fn visit_chain(
     found: &mut Found,
     steps: &mut Steps,
 ) -> Result<bool, AllocError>
-    requires lists { length lists.now ≡ length
-        (terms_in (chain (plain_phrase near.now.first) (map plain_link near.now.links.items))) }
-    requires fits { found.old.next + length lists.now < 2 ^ 64 }
-    ensures accepted { IfOk result (λ b. b ≡ is_accepted
-        (chain (plain_phrase near.now.first) (map plain_link near.now.links.items))
-        (plain_lists lists.now)) }
-    ensures wanted { found.new.wanted ≡ found.old.wanted }
-    ensures offsets { OnOk result (found.new.offsets.items
-        ≡ found.old.offsets.items ++ numbered found.old.next
-        (if_wanted found.old.wanted (marks_of
-        (chain (plain_phrase near.now.first) (map plain_link near.now.links.items))
-        (plain_lists lists.now)))) }
-    ensures next { OnOk result (found.new.next
-        ≡ found.old.next + length (if_wanted found.old.wanted
-        (marks_of (chain (plain_phrase near.now.first) (map plain_link near.now.links.items))
-        (plain_lists lists.now)))) }
-    ensures room { OnOk result (found.new.next ≤ found.old.next + length lists.now) }
-    ensures at_least { steps.old.taken ≤ steps.new.taken }
-    ensures at_most { steps.new.taken + 1 ≤ steps.old.taken + visit_cost
-        (chain (plain_phrase near.now.first) (map plain_link near.now.links.items))
-        (plain_lists lists.now) }
+    requires { AreNumbered found.old (terms_in (chain_tree near.now)) lists.now }
+    ensures evaluates { Evaluates result found.old found.new (chain_tree near.now) lists.now }
+    ensures steps { TakesOf (visit_cost (chain_tree near.now) (plain_lists lists.now)) 1
+        steps.old steps.new }
 {
     let links = near.links.as_slice();
     let (starts, mut all) = linked(found.alloc, &near.first, links, lists, steps)?;
@@ -318,10 +275,8 @@ fn visit_chain(
 #[tactic(auto, using(crate::proofs::Marks::count_more))]
 // How many terms a chain has.
 fn chain_count(near: &Chain) -> usize
-    requires { length (terms_in (chain (plain_phrase near.now.first)
-        (map plain_link near.now.links.items))) < 2 ^ 64 }
-    ensures { result ≡ length (terms_in (chain (plain_phrase near.now.first)
-        (map plain_link near.now.links.items))) }
+    requires { length (terms_in (chain_tree near.now)) < 2 ^ 64 }
+    ensures { result ≡ length (terms_in (chain_tree near.now)) }
 {
     let mut count = near.first.terms.len();
     for link in &near.links {
@@ -352,21 +307,10 @@ fn visit_part(
     found: &mut Found,
     steps: &mut Steps,
 ) -> Result<bool, AllocError>
-    requires lists { length lists.now ≡ length (terms_in (tree_of query.now)) }
-    requires fits { found.old.next + length lists.now < 2 ^ 64 }
-    ensures accepted { IfOk result (λ b. b ≡ is_accepted (tree_of query.now)
-        (plain_lists lists.now)) }
-    ensures wanted { found.new.wanted ≡ found.old.wanted }
-    ensures offsets { OnOk result (found.new.offsets.items
-        ≡ found.old.offsets.items ++ numbered found.old.next
-        (if_wanted found.old.wanted (marks_of (tree_of query.now) (plain_lists lists.now)))) }
-    ensures next { OnOk result (found.new.next
-        ≡ found.old.next + length (if_wanted found.old.wanted
-        (marks_of (tree_of query.now) (plain_lists lists.now)))) }
-    ensures room { OnOk result (found.new.next ≤ found.old.next + length lists.now) }
-    ensures at_least { min (steps.old.taken + 1) (2 ^ 64 - 1) ≤ steps.new.taken }
-    ensures at_most { steps.new.taken ≤ steps.old.taken + visit_cost (tree_of query.now)
-        (plain_lists lists.now) }
+    requires { AreNumbered found.old (terms_in (tree_of query.now)) lists.now }
+    ensures evaluates { Evaluates result found.old found.new (tree_of query.now) lists.now }
+    ensures steps { TakesSome (visit_cost (tree_of query.now) (plain_lists lists.now))
+        steps.old steps.new }
 {
     steps.take();
     match query {
@@ -408,9 +352,7 @@ impl Cursor {
     // The places in this document, if it is the next one here.
     fn places(&self, docid: i64, steps: &mut Steps) -> Places<'_>
         ensures places { result.places.now ≡ places_at docid (lists_left self.now) }
-        ensures step { steps.new.taken ≡ min (steps.old.taken + 1) (2 ^ 64 - 1) }
-        ensures at_least { steps.old.taken ≤ steps.new.taken }
-        ensures at_most { steps.new.taken ≤ steps.old.taken + 1 }
+        ensures step { Takes 1 steps.old steps.new }
     {
         if self.is_at(docid, steps) {
             self.here()
@@ -428,9 +370,7 @@ fn lists_of<'a>(
     steps: &mut Steps,
 ) -> Result<Vec<Places<'a>>, AllocError>
     ensures lists { IfOk result (λ v. plain_lists v.items ≡ places_in docid cursors.now) }
-    ensures looked { OnErr result (min (steps.old.taken + 1) (2 ^ 64 - 1) ≤ steps.new.taken) }
-    ensures at_least { steps.old.taken ≤ steps.new.taken }
-    ensures at_most { steps.new.taken ≤ steps.old.taken + length cursors.now }
+    ensures steps { LooksForAll (length cursors.now) result steps.old steps.new }
 {
     let mut lists = Vec::new(alloc);
     for cursor in cursors {
@@ -455,10 +395,9 @@ pub(crate) fn visit(
         ≡ map (listed_places postings) (terms_in (tree_of query.now))
         → option_map (λ o. o.items) offsets ≡ (if accepts postings (tree_of query.now) then Some
         (if_wanted wanted (offsets_of postings (tree_of query.now))) else None)) }
-    ensures at_least { min (steps.old.taken + 1) (2 ^ 64 - 1) ≤ steps.new.taken }
-    ensures at_most { steps.new.taken ≤ steps.old.taken + 12
-        * (sum_by (λ c. length (places_at docid (lists_left c))) cursors.now) + 3 * width
-        (tree_of query.now) }
+    ensures steps { TakesSome
+        (12 * (sum_by (λ c. length (places_at docid (lists_left c))) cursors.now)
+        + 3 * width (tree_of query.now)) steps.old steps.new }
 {
     let lists = lists_of(alloc, cursors, docid, steps)?;
     let mut found = no_offsets(alloc, wanted);

@@ -1,5 +1,6 @@
 // How much work a walk has done.
-ghost use Rattle.std.specs.Prelude.{◌≡◌, ◌+◌, ◌-◌, ◌^◌, ◌≤◌, min};
+ghost use Rattle.std.specs.Prelude.{◌≡◌};
+ghost use Rattle.ft_query.specs.Taken.{Takes};
 
 /// The steps so far: the docids and positions that were looked at, and the parts of a query that were visited for a document. The
 /// count stays at its greatest value. A walk alone makes one, and what searches for it can only add to it.
@@ -31,18 +32,14 @@ impl Steps {
 
     /// One step more.
     pub(crate) fn take(&mut self)
-        ensures taken { self.new.taken ≡ min (self.old.taken + 1) (2 ^ 64 - 1) }
-        ensures at_least { self.old.taken ≤ self.new.taken }
-        ensures at_most { self.new.taken ≤ self.old.taken + 1 }
+        ensures { Takes 1 self.old self.new }
     {
         self.taken = self.taken.saturating_add(1);
     }
 
     /// So many steps more.
     pub(crate) fn take_all(&mut self, count: usize)
-        ensures taken { self.new.taken ≡ min (self.old.taken + count) (2 ^ 64 - 1) }
-        ensures at_least { self.old.taken ≤ self.new.taken }
-        ensures at_most { self.new.taken ≤ self.old.taken + count }
+        ensures { Takes count self.old self.new }
     {
         self.taken = self.taken.saturating_add(count as u64);
     }

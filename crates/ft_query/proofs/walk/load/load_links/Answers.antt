@@ -19,7 +19,7 @@ loop-link-preserved g c = record {
   lists = grind (arith, common_steps);
   number = grind (arith, common_steps);
   clean = grind (arith, common_steps);
-  becomes = reaches_on _ _ _ _ _ c.loop-link.invariant.becomes c.in_ok-load_terms.ensures.becomes;
+  becomes = reaches_on _ _ _ _ _ c.loop-link.invariant.becomes c.in_ok-load_terms.ensures.asks.becomes;
   failed = grind (arith, common_steps);
   given = grind (arith, common_steps);
 }

@@ -19,10 +19,14 @@ loop-term-preserved g c = record {
   lists = grind (arith, common_steps);
   number = grind (arith, common_steps);
   clean = grind (arith, common_steps);
-  becomes = reaches_on _ _ _ _ _ c.loop-term.invariant.becomes c.in_ok-cursor.ensures.becomes;
+  becomes = reaches_on _ _ _ _ _ c.loop-term.invariant.becomes c.in_ok-cursor.ensures.asks.becomes;
   failed = grind (arith, common_steps);
   given = grind (arith, common_steps);
 }
 
-pub returns-in_err-push-clause-becomes : goal.returns-in_err-push-clause-becomes
-returns-in_err-push-clause-becomes g c = reaches_on _ _ _ _ _ (reaches_on _ _ _ _ _ c.loop-term.invariant.becomes c.in_ok-cursor.ensures.becomes) (no_call _ _ _)
+pub returns-in_err-push-clause-asks : goal.returns-in_err-push-clause-asks
+returns-in_err-push-clause-asks g c = record {
+  clean = grind (arith, common_steps);
+  failed = grind (arith, common_steps);
+  becomes = reaches_on _ _ _ _ _ (reaches_on _ _ _ _ _ c.loop-term.invariant.becomes c.in_ok-cursor.ensures.asks.becomes) (no_call _ _ _);
+}

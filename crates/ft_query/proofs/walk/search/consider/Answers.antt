@@ -15,37 +15,35 @@ passed_none : Passed ≡ NoDocument → ⊥
 passed_none same = true≢false (ap (λ (o : Considered). elim o [ NoDocument ↦ false | Passed ↦ true | Found _ ↦ true ]) same)
 
 pub returns-in_default-clause-considers : goal.returns-in_default-clause-considers
-returns-in_default-clause-considers c =
-    λ documents stands. nothing_left c.args.wanted c.args.query.now (map lists_left c.args.cursors.now) c.args.steps.now.taken c.least.new.steps.taken documents stands (sym c.least.ensures.docid ∙ c.in_default.is) (c.least.ensures.none c.in_default.is)
+returns-in_default-clause-considers c = record {
+  considers = λ documents stands. nothing_left c.args.wanted c.args.query.now (map lists_left c.args.cursors.now) c.args.steps.now.taken c.least.new.steps.taken documents stands (sym c.least.ensures.docid ∙ c.in_default.is) (c.least.ensures.steps.none c.in_default.is);
+  passes = λ never. absurd never;
+}
 
 pub returns-in-Some-offsets-clause-considers : goal.returns-in-Some-offsets-clause-considers
-returns-in-Some-offsets-clause-considers c = λ documents stands.
+returns-in-Some-offsets-clause-considers c =
     let least = sym c.least.ensures.docid ∙ c.in-Some.is in
     let same : c.in-Some.docid ≡ to_z w64 (of_z w64 c.in-Some.docid) = search rules in
     let one = subst (λ z. least_from None (map lists_left c.args.cursors.now) ≡ Some z) same least in
-    let added = went_on c.args.wanted c.args.query.now c.args.cursors.now c.pass.new.cursors c.args.steps.now.taken c.least.new.steps.taken c.visit.new.steps.taken c.pass.new.steps.taken _ (Some c.in-Some-offsets.offsets.items) documents stands one (λ postings ordered places. sym (ap (option_map (λ (o : Vec Offset Global). o.items)) c.in-Some-offsets.is) ∙ c.in_ok-offsets.ensures.offsets postings ordered places)
-    c.pass.ensures.left c.requires c.least.ensures.at_least c.least.ensures.at_most c.visit.ensures.at_least c.visit.ensures.at_most c.pass.ensures.steps in
-    record { offsets = added.offsets; went = added.went; told = added.told; ended = λ never. absurd (found_some never) }
+    record {
+      considers = λ documents stands.
+          let added = went_on c.args.wanted c.args.query.now c.args.cursors.now c.pass.new.cursors c.args.steps.now c.least.new.steps c.visit.new.steps c.pass.new.steps _ (Some c.in-Some-offsets.offsets.items) documents stands one
+          (λ postings ordered places. sym (ap (option_map (λ (o : Vec Offset Global). o.items)) c.in-Some-offsets.is) ∙ c.in_ok-offsets.ensures.offsets postings ordered places)
+          c.pass.ensures.go.left c.requires c.least.ensures.steps.at_least c.least.ensures.steps.at_most c.in_ok-offsets.ensures.steps c.pass.ensures.steps in
+          record { offsets = added.offsets; went = added.went; told = added.told; ended = λ never. absurd (found_some never) };
+      passes = λ _. fewer_left _ c.args.cursors.now c.pass.new.cursors one c.pass.ensures.go.left;
+    }
 
 pub returns-in-None-clause-considers : goal.returns-in-None-clause-considers
-returns-in-None-clause-considers c = λ documents stands.
+returns-in-None-clause-considers c =
     let least = sym c.least.ensures.docid ∙ c.in-Some.is in
     let same : c.in-Some.docid ≡ to_z w64 (of_z w64 c.in-Some.docid) = search rules in
     let one = subst (λ z. least_from None (map lists_left c.args.cursors.now) ≡ Some z) same least in
-    let added = went_on c.args.wanted c.args.query.now c.args.cursors.now c.pass.new.cursors c.args.steps.now.taken c.least.new.steps.taken c.visit.new.steps.taken c.pass.new.steps.taken _ None documents stands one (λ postings ordered places. sym (ap (option_map (λ (o : Vec Offset Global). o.items)) c.in-None.is) ∙ c.in_ok-offsets.ensures.offsets postings ordered places)
-    c.pass.ensures.left c.requires c.least.ensures.at_least c.least.ensures.at_most c.visit.ensures.at_least c.visit.ensures.at_most c.pass.ensures.steps in
-    record { offsets = added.offsets; went = added.went; told = tt; ended = λ never. absurd (passed_none never) }
-
-pub returns-in-None-clause-passes : goal.returns-in-None-clause-passes
-returns-in-None-clause-passes c = λ _.
-    let least = sym c.least.ensures.docid ∙ c.in-Some.is in
-    let same : c.in-Some.docid ≡ to_z w64 (of_z w64 c.in-Some.docid) = search rules in
-    let one = subst (λ z. least_from None (map lists_left c.args.cursors.now) ≡ Some z) same least in
-    fewer_left _ c.args.cursors.now c.pass.new.cursors one c.pass.ensures.left
-
-pub returns-in-Some-offsets-clause-passes : goal.returns-in-Some-offsets-clause-passes
-returns-in-Some-offsets-clause-passes c = λ _.
-    let least = sym c.least.ensures.docid ∙ c.in-Some.is in
-    let same : c.in-Some.docid ≡ to_z w64 (of_z w64 c.in-Some.docid) = search rules in
-    let one = subst (λ z. least_from None (map lists_left c.args.cursors.now) ≡ Some z) same least in
-    fewer_left _ c.args.cursors.now c.pass.new.cursors one c.pass.ensures.left
+    record {
+      considers = λ documents stands.
+          let added = went_on c.args.wanted c.args.query.now c.args.cursors.now c.pass.new.cursors c.args.steps.now c.least.new.steps c.visit.new.steps c.pass.new.steps _ None documents stands one
+          (λ postings ordered places. sym (ap (option_map (λ (o : Vec Offset Global). o.items)) c.in-None.is) ∙ c.in_ok-offsets.ensures.offsets postings ordered places)
+          c.pass.ensures.go.left c.requires c.least.ensures.steps.at_least c.least.ensures.steps.at_most c.in_ok-offsets.ensures.steps c.pass.ensures.steps in
+          record { offsets = added.offsets; went = added.went; told = tt; ended = λ never. absurd (passed_none never) };
+      passes = λ _. fewer_left _ c.args.cursors.now c.pass.new.cursors one c.pass.ensures.go.left;
+    }

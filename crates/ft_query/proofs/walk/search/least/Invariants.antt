@@ -1,13 +1,12 @@
-use Rattle.std.proofs.Common.{◌≡◌, ◌+◌, ◌≤◌, map}
+use Rattle.std.proofs.Common.{◌≡◌, map}
 use Rattle.std.specs.Prelude.{None, drop}
 use Rattle.ft_query.specs.Cursors.{lists_left, least_from}
+use Rattle.ft_query.specs.Taken.{LooksAtAll}
 use Rattle.ft_query.proofs.walk.search.least.Given as goal
 
 -- the least so far and in the lists that are left is the least of all
 abbrev pub invariant-loop-cursor : goal.invariant-loop-cursor
 invariant-loop-cursor l = record {
   docid : least_from l.docid (map lists_left (drop l.cursor-index l.cursors)) ≡ least_from None (map lists_left l.cursors);
-  at_least : l.fn.steps.taken ≤ l.steps.taken;
-  at_most : l.steps.taken ≤ l.fn.steps.taken + l.cursor-index;
-  none : l.docid ≡ None → l.steps.taken ≡ l.fn.steps.taken;
+  steps : LooksAtAll l.cursor-index l.docid l.fn.steps l.steps;
 }

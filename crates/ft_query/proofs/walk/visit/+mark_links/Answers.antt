@@ -1,12 +1,13 @@
-use Rattle.std.proofs.Common.{◌≡◌, ◌∷◌, ◌++◌, map, length, sym, ap, ◌∙◌, rules}
+use Rattle.std.proofs.Common.{◌≡◌, ◌∷◌, ◌++◌, map, length, sym, ap, ◌∙◌, rules, arith}
+use Rattle.std.proofs.lemmas.Grind.{common_steps}
 use Rattle.std.proofs.lemmas.Result.{IfOk-equal}
 use Rattle.ft_query.specs.Trees.{plain_link}
 use Rattle.ft_query.specs.Visit.{link_marks, numbered, marks_from, plain_lists, plain_starts}
 use Rattle.ft_query.proofs.Passes.{numbered_marks, link_marks_one}
 use Rattle.ft_query.proofs.walk.visit.+mark_links.Goals as goal
 
-pub returns-clause-offsets : goal.returns-clause-offsets
-returns-clause-offsets t c =
+pub returns-clause-marks : goal.returns-clause-marks
+returns-clause-marks t c =
     let link = c.in-Some.link.now in
     let links = c.in-Some.links.now in
     let others = c.in-Some-split_first.others.now in
@@ -21,10 +22,15 @@ returns-clause-offsets t c =
     let more = link_marks c.len-size.result next (map plain_link links) (plain_lists behind) (plain_starts all) in
     let old = c.args.found.now.offsets.items in
     let n = c.args.found.now.next in
-    IfOk-equal c.mark_links.result c.mark_links.new.found.offsets.items _ _ c.mark_links.ensures.offsets
-    (ap (λ os. os ++ numbered c.mark_phrase.new.found.next more) c.in_ok-mark_phrase.ensures.offsets
-    ∙ ap (λ k. old ++ numbered n (marks_from 0 (plain_lists own) next) ++ numbered k more) c.in_ok-mark_phrase.ensures.next
+    let added = IfOk-equal c.mark_links.result c.mark_links.new.found.offsets.items _ _ c.mark_links.ensures.marks.offsets
+    (ap (λ os. os ++ numbered c.mark_phrase.new.found.next more) c.in_ok-mark_phrase.ensures.marks.offsets
+    ∙ ap (λ k. old ++ numbered n (marks_from 0 (plain_lists own) next) ++ numbered k more) c.in_ok-mark_phrase.ensures.marks.next
     ∙ numbered_marks old n own next more
     ∙ ap (λ ms. old ++ numbered n ms) one
     ∙ ap (λ ls. old ++ numbered n (link_marks c.args.k starts (map plain_link ls) (plain_lists lists) (plain_starts (others ∷ all)))) (sym c.in-Some.ensures.cases.0)
-    ∙ ap (λ ss. old ++ numbered n (link_marks c.args.k starts (map plain_link c.args.links.now) (plain_lists lists) (plain_starts ss))) (sym c.in-Some-split_first.ensures.cases.0))
+    ∙ ap (λ ss. old ++ numbered n (link_marks c.args.k starts (map plain_link c.args.links.now) (plain_lists lists) (plain_starts ss))) (sym c.in-Some-split_first.ensures.cases.0)) in
+    record {
+      wanted = search rules;
+      offsets = added;
+      next = grind (arith, common_steps);
+    }

@@ -22,9 +22,12 @@ loop-i-preserved c =
       omega (arith, total_more c.args.lists.now i no_list inside, followed_few c.index-terms-i.result.first (i + 1) starts list, ap length is),
     )
 
-pub returns-in_err-starts-clause-at_most : goal.returns-in_err-starts-clause-at_most
+pub returns-in_err-starts-clause-steps : goal.returns-in_err-starts-clause-steps
 unfolding no_list
-returns-in_err-starts-clause-at_most c =
+returns-in_err-starts-clause-steps c =
     let i = c.loop-i.i in
     let inside : i < length c.args.lists.now = omega arith in
-    omega (arith, total_more c.args.lists.now i no_list inside, c.in_err-starts.ensures.at_most)
+    record {
+      at_least = omega (arith, c.in_err-starts.ensures.steps.at_least);
+      at_most = omega (arith, total_more c.args.lists.now i no_list inside, c.in_err-starts.ensures.steps.at_most);
+    }

@@ -1,6 +1,7 @@
-use Rattle.std.proofs.Common.{◌≡◌, ◌≤◌, ◌+◌, take}
+use Rattle.std.proofs.Common.{◌≡◌, take}
 use Rattle.ft_query.specs.Visit.{plain_lists, places_in}
+use Rattle.ft_query.specs.Taken.{TakesAtMost}
 use Rattle.ft_query.proofs.walk.visit.lists_of.Given as goal
 
 abbrev pub invariant-loop-cursor : goal.invariant-loop-cursor
-invariant-loop-cursor l = (plain_lists l.lists.items ≡ places_in l.docid (take l.cursor-index l.cursors)) × (l.initial.steps.taken ≤ l.steps.taken) × (l.steps.taken ≤ l.initial.steps.taken + l.cursor-index)
+invariant-loop-cursor l = (plain_lists l.lists.items ≡ places_in l.docid (take l.cursor-index l.cursors)) × TakesAtMost l.cursor-index l.initial.steps l.steps

@@ -11,7 +11,7 @@ pub returns-then-not-branch-clause-offsets : goal.returns-then-not-branch-clause
 returns-then-not-branch-clause-offsets c = λ postings ordered same.
     let lists = plain_lists c.deref.result.now in
     let is = ap plain_lists c.deref.ensures.value ∙ c.in_ok-lists.ensures.lists ∙ ap (λ z. places_in z c.args.cursors.now) (to_z-of_z c.ranges.docid) ∙ same in
-    rejected_is c.args.wanted postings (tree_of c.args.query.now) lists c.in_ok-visit_part.field-0 ordered is c.in_ok-visit_part.ensures.accepted c.if-not-branch.true
+    rejected_is c.args.wanted postings (tree_of c.args.query.now) lists c.in_ok-visit_part.field-0 ordered is c.in_ok-visit_part.ensures.evaluates.accepted c.if-not-branch.true
 
 pub returns-clause-offsets : goal.returns-clause-offsets
 returns-clause-offsets c = λ postings ordered same.
@@ -20,31 +20,40 @@ returns-clause-offsets c = λ postings ordered same.
     let is = ap plain_lists c.deref.ensures.value ∙ c.in_ok-lists.ensures.lists ∙ ap (λ z. places_in z c.args.cursors.now) (to_z-of_z c.ranges.docid) ∙ same in
     let told : Wanted → List (List Place) = λ wanted. if_wanted wanted (marks_of tree lists) in
     let marked : c.visit_part.new.found.offsets.items ≡ numbered 0 (told c.args.wanted) =
-    c.in_ok-visit_part.ensures.offsets
+    c.in_ok-visit_part.ensures.evaluates.offsets
     ∙ ap (λ os. os ++ numbered c.no_offsets-found.result.next (told c.no_offsets-found.result.wanted)) c.no_offsets-found.ensures.offsets
     ∙ ap (λ n. numbered n (told c.no_offsets-found.result.wanted)) c.no_offsets-found.ensures.next
     ∙ ap (λ wanted. numbered 0 (told wanted)) c.no_offsets-found.ensures.wanted in
-    found_is c.args.wanted postings tree lists c.in_ok-visit_part.field-0 c.visit_part.new.found.offsets.items c.sort_offsets.new.offsets.items ordered is c.in_ok-visit_part.ensures.accepted c.if-not-branch.false marked c.sort_offsets.ensures.permutation c.sort_offsets.ensures.sorted
+    found_is c.args.wanted postings tree lists c.in_ok-visit_part.field-0 c.visit_part.new.found.offsets.items c.sort_offsets.new.offsets.items ordered is c.in_ok-visit_part.ensures.evaluates.accepted c.if-not-branch.false marked c.sort_offsets.ensures.permutation c.sort_offsets.ensures.sorted
 
-pub returns-in_err-lists-clause-at_most : goal.returns-in_err-lists-clause-at_most
-returns-in_err-lists-clause-at_most c =
+pub returns-in_err-lists-clause-steps : goal.returns-in_err-lists-clause-steps
+returns-in_err-lists-clause-steps c =
     let bound = document_bound (tree_of c.args.query.now) c.args.docid c.args.cursors.now (places_in c.args.docid c.args.cursors.now) c.requires refl in
-    omega (arith, bound, c.in_err-lists.ensures.at_most)
+    record { at_least = c.in_err-lists.ensures.steps.refused; at_most = omega (arith, bound, c.in_err-lists.ensures.steps.at_most) }
 
-pub returns-in_err-visit_part-clause-at_most : goal.returns-in_err-visit_part-clause-at_most
-returns-in_err-visit_part-clause-at_most c =
+pub returns-in_err-visit_part-clause-steps : goal.returns-in_err-visit_part-clause-steps
+returns-in_err-visit_part-clause-steps c =
     let is = ap plain_lists c.deref.ensures.value ∙ c.in_ok-lists.ensures.lists ∙ ap (λ z. places_in z c.args.cursors.now) (to_z-of_z c.ranges.docid) in
     let bound = document_bound (tree_of c.args.query.now) c.args.docid c.args.cursors.now (plain_lists c.deref.result.now) c.requires is in
-    omega (arith, bound, c.in_ok-lists.ensures.at_most, c.in_err-visit_part.ensures.at_most)
+    record {
+      at_least = grind arith;
+      at_most = omega (arith, bound, c.in_ok-lists.ensures.steps.at_most, c.in_err-visit_part.ensures.steps.at_most);
+    }
 
-pub returns-then-not-branch-clause-at_most : goal.returns-then-not-branch-clause-at_most
-returns-then-not-branch-clause-at_most c =
+pub returns-then-not-branch-clause-steps : goal.returns-then-not-branch-clause-steps
+returns-then-not-branch-clause-steps c =
     let is = ap plain_lists c.deref.ensures.value ∙ c.in_ok-lists.ensures.lists ∙ ap (λ z. places_in z c.args.cursors.now) (to_z-of_z c.ranges.docid) in
     let bound = document_bound (tree_of c.args.query.now) c.args.docid c.args.cursors.now (plain_lists c.deref.result.now) c.requires is in
-    omega (arith, bound, c.in_ok-lists.ensures.at_most, c.in_ok-visit_part.ensures.at_most)
+    record {
+      at_least = grind arith;
+      at_most = omega (arith, bound, c.in_ok-lists.ensures.steps.at_most, c.in_ok-visit_part.ensures.steps.at_most);
+    }
 
-pub returns-clause-at_most : goal.returns-clause-at_most
-returns-clause-at_most c =
+pub returns-clause-steps : goal.returns-clause-steps
+returns-clause-steps c =
     let is = ap plain_lists c.deref.ensures.value ∙ c.in_ok-lists.ensures.lists ∙ ap (λ z. places_in z c.args.cursors.now) (to_z-of_z c.ranges.docid) in
     let bound = document_bound (tree_of c.args.query.now) c.args.docid c.args.cursors.now (plain_lists c.deref.result.now) c.requires is in
-    omega (arith, bound, c.in_ok-lists.ensures.at_most, c.in_ok-visit_part.ensures.at_most)
+    record {
+      at_least = grind arith;
+      at_most = omega (arith, bound, c.in_ok-lists.ensures.steps.at_most, c.in_ok-visit_part.ensures.steps.at_most);
+    }

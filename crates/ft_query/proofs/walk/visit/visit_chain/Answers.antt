@@ -1,5 +1,7 @@
 use Rattle.std.proofs.Common.{◌≡◌, ◌++◌, ◌+◌, ◌*◌, drop, map, length, sym, ap, ◌∙◌, refl, rules, arith}
+use Rattle.std.proofs.lemmas.Grind.{common_steps}
 use Rattle.std.proofs.lemmas.List.{length-map}
+use Rattle.ft_query.specs.Marked.{chain_tree}
 use Rattle.ft_query.specs.Trees.{plain_phrase, plain_link, chain}
 use Rattle.ft_query.specs.Visit.{link_cost, visit_cost, linked, link_marks, marks_of, numbered, if_wanted, marks_from, plain_lists, plain_starts}
 use Rattle.ft_query.proofs.Marks.{chain_marks_count}
@@ -11,12 +13,12 @@ mark_links-requires-clause-all c =
     let links = c.as_slice-links.result.now in
     let later = drop 1 (linked (plain_phrase c.args.near.now.first) (map plain_link links) (plain_lists c.args.lists.now)) in
     ap length (c.deref.ensures.value ∙ c.reverse.ensures.items)
-    ∙ starts_many _ later (starts_forward c.in_ok-starts.all.items later c.in_ok-starts.ensures.rest)
+    ∙ starts_many _ later (starts_forward c.in_ok-starts.all.items later c.in_ok-starts.ensures.starts.rest)
     ∙ linked_length (plain_phrase c.args.near.now.first) (map plain_link links) (plain_lists c.args.lists.now)
     ∙ length-map links plain_link
 
-pub returns-clause-offsets : goal.returns-clause-offsets
-returns-clause-offsets c =
+pub returns-clause-evaluates : goal.returns-clause-evaluates
+returns-clause-evaluates c =
     let first = c.args.near.now.first in
     let links = c.as_slice-links.result.now in
     let lists = c.args.lists.now in
@@ -24,29 +26,33 @@ returns-clause-offsets c =
     let behind = c.split_at.result.1.now in
     let later = drop 1 (linked (plain_phrase first) (map plain_link links) (plain_lists lists)) in
     let size : c.len-size.result ≡ length first.terms.items = search rules in
-    let all = ap plain_starts (c.deref.ensures.value ∙ c.reverse.ensures.items) ∙ starts_forward c.in_ok-starts.all.items later c.in_ok-starts.ensures.rest in
+    let all = ap plain_starts (c.deref.ensures.value ∙ c.reverse.ensures.items) ∙ starts_forward c.in_ok-starts.all.items later c.in_ok-starts.ensures.starts.rest in
     let starts = c.in_ok-starts.starts.places.items in
-    let one = chain_marks first links lists own behind starts later c.len-size.result size c.split_at.ensures.front c.split_at.ensures.back c.in_ok-starts.ensures.first refl in
+    let one = chain_marks first links lists own behind starts later c.len-size.result size c.split_at.ensures.front c.split_at.ensures.back c.in_ok-starts.ensures.starts.first refl in
     let old = c.args.found.now.offsets.items in
     let n = c.args.found.now.next in
-    c.in_ok-mark_links-in-Offsets.ensures.offsets
-    ∙ ap (λ os. os ++ numbered c.mark_phrase.new.found.next (link_marks c.len-size.result starts (map plain_link links) (plain_lists behind) (plain_starts c.deref.result.now))) c.in_ok-mark_phrase-in-Offsets.ensures.offsets
-    ∙ ap (λ k. old ++ numbered n (marks_from 0 (plain_lists own) starts) ++ numbered k (link_marks c.len-size.result starts (map plain_link links) (plain_lists behind) (plain_starts c.deref.result.now))) c.in_ok-mark_phrase-in-Offsets.ensures.next
+    let added =
+    c.in_ok-mark_links-in-Offsets.ensures.marks.offsets
+    ∙ ap (λ os. os ++ numbered c.mark_phrase.new.found.next (link_marks c.len-size.result starts (map plain_link links) (plain_lists behind) (plain_starts c.deref.result.now))) c.in_ok-mark_phrase-in-Offsets.ensures.marks.offsets
+    ∙ ap (λ k. old ++ numbered n (marks_from 0 (plain_lists own) starts) ++ numbered k (link_marks c.len-size.result starts (map plain_link links) (plain_lists behind) (plain_starts c.deref.result.now))) c.in_ok-mark_phrase-in-Offsets.ensures.marks.next
     ∙ ap (λ ss. old ++ numbered n (marks_from 0 (plain_lists own) starts) ++ numbered (n + length own) (link_marks c.len-size.result starts (map plain_link links) (plain_lists behind) ss)) all
     ∙ numbered_marks old n own starts (link_marks c.len-size.result starts (map plain_link links) (plain_lists behind) later)
     ∙ ap (λ ms. old ++ numbered n ms) one
     ∙ ap (λ ls. old ++ numbered n (marks_of (chain (plain_phrase first) (map plain_link ls)) (plain_lists lists))) c.as_slice-links.ensures.value
-    ∙ ap (λ wanted. old ++ numbered n (if_wanted wanted (marks_of (chain (plain_phrase first) (map plain_link c.args.near.now.links.items)) (plain_lists lists)))) (sym c.in-Offsets.is)
+    ∙ ap (λ wanted. old ++ numbered n (if_wanted wanted (marks_of (chain (plain_phrase first) (map plain_link c.args.near.now.links.items)) (plain_lists lists)))) (sym c.in-Offsets.is) in
+    let tree = chain_tree c.args.near.now in
+    let told = ap (λ wanted. length (if_wanted wanted (marks_of tree (plain_lists lists)))) c.in-Offsets.is in
+    let count = chain_marks_count (plain_phrase first) (map plain_link c.args.near.now.links.items) lists c.requires.each in
+    record {
+      accepted = grind (arith, common_steps);
+      wanted = search rules;
+      offsets = added;
+      next = omega (arith, told, count, c.in_ok-mark_links-in-Offsets.ensures.marks.next, c.in_ok-mark_phrase-in-Offsets.ensures.marks.next, c.split_at.ensures.front_len, c.split_at.ensures.back_len);
+      room = grind (arith, common_steps);
+    }
 
-pub returns-clause-next : goal.returns-clause-next
-returns-clause-next c =
-    let tree = chain (plain_phrase c.args.near.now.first) (map plain_link c.args.near.now.links.items) in
-    let told = ap (λ wanted. length (if_wanted wanted (marks_of tree (plain_lists c.args.lists.now)))) c.in-Offsets.is in
-    let count = chain_marks_count (plain_phrase c.args.near.now.first) (map plain_link c.args.near.now.links.items) c.args.lists.now c.requires.lists in
-    omega (arith, told, count, c.in_ok-mark_links-in-Offsets.ensures.next, c.in_ok-mark_phrase-in-Offsets.ensures.next, c.split_at.ensures.front_len, c.split_at.ensures.back_len)
-
-pub returns-in_err-mark_links-in-Offsets-clause-at_most : goal.returns-in_err-mark_links-in-Offsets-clause-at_most
-returns-in_err-mark_links-in-Offsets-clause-at_most c =
+pub returns-in_err-mark_links-in-Offsets-clause-steps : goal.returns-in_err-mark_links-in-Offsets-clause-steps
+returns-in_err-mark_links-in-Offsets-clause-steps c =
     let first = c.args.near.now.first in
     let links = c.as_slice-links.result.now in
     let lists = c.args.lists.now in
@@ -54,16 +60,19 @@ returns-in_err-mark_links-in-Offsets-clause-at_most c =
     let behind = c.split_at.result.1.now in
     let later = drop 1 (linked (plain_phrase first) (map plain_link links) (plain_lists lists)) in
     let size : c.len-size.result ≡ length first.terms.items = search rules in
-    let all = ap plain_starts (c.deref.ensures.value ∙ c.reverse.ensures.items) ∙ starts_forward c.in_ok-starts.all.items later c.in_ok-starts.ensures.rest in
+    let all = ap plain_starts (c.deref.ensures.value ∙ c.reverse.ensures.items) ∙ starts_forward c.in_ok-starts.all.items later c.in_ok-starts.ensures.starts.rest in
     let starts = c.in_ok-starts.starts.places.items in
-    let whole = chain_cost first links lists own behind starts later c.len-size.result size c.split_at.ensures.front c.split_at.ensures.back c.in_ok-starts.ensures.first refl in
+    let whole = chain_cost first links lists own behind starts later c.len-size.result size c.split_at.ensures.front c.split_at.ensures.back c.in_ok-starts.ensures.starts.first refl in
     let same = ap (λ ls. visit_cost (chain (plain_phrase first) (map plain_link ls)) (plain_lists lists)) c.as_slice-links.ensures.value in
     let links_too = ap (link_cost c.len-size.result starts (map plain_link links) (plain_lists behind)) all in
     let own_too = ap (λ n. n * length starts) c.split_at.ensures.front_len in
-    omega (arith, whole, same, links_too, own_too, c.in_ok-starts.ensures.at_most, c.in_ok-mark_phrase-in-Offsets.ensures.at_most, c.in_err-mark_links-in-Offsets.ensures.at_most)
+    record {
+      at_least = grind arith;
+      at_most = omega (arith, whole, same, links_too, own_too, c.in_ok-starts.ensures.steps.at_most, c.in_ok-mark_phrase-in-Offsets.ensures.steps.at_most, c.in_err-mark_links-in-Offsets.ensures.steps.at_most);
+    }
 
-pub returns-clause-at_most : goal.returns-clause-at_most
-returns-clause-at_most c =
+pub returns-clause-steps : goal.returns-clause-steps
+returns-clause-steps c =
     let first = c.args.near.now.first in
     let links = c.as_slice-links.result.now in
     let lists = c.args.lists.now in
@@ -71,10 +80,13 @@ returns-clause-at_most c =
     let behind = c.split_at.result.1.now in
     let later = drop 1 (linked (plain_phrase first) (map plain_link links) (plain_lists lists)) in
     let size : c.len-size.result ≡ length first.terms.items = search rules in
-    let all = ap plain_starts (c.deref.ensures.value ∙ c.reverse.ensures.items) ∙ starts_forward c.in_ok-starts.all.items later c.in_ok-starts.ensures.rest in
+    let all = ap plain_starts (c.deref.ensures.value ∙ c.reverse.ensures.items) ∙ starts_forward c.in_ok-starts.all.items later c.in_ok-starts.ensures.starts.rest in
     let starts = c.in_ok-starts.starts.places.items in
-    let whole = chain_cost first links lists own behind starts later c.len-size.result size c.split_at.ensures.front c.split_at.ensures.back c.in_ok-starts.ensures.first refl in
+    let whole = chain_cost first links lists own behind starts later c.len-size.result size c.split_at.ensures.front c.split_at.ensures.back c.in_ok-starts.ensures.starts.first refl in
     let same = ap (λ ls. visit_cost (chain (plain_phrase first) (map plain_link ls)) (plain_lists lists)) c.as_slice-links.ensures.value in
     let links_too = ap (link_cost c.len-size.result starts (map plain_link links) (plain_lists behind)) all in
     let own_too = ap (λ n. n * length starts) c.split_at.ensures.front_len in
-    omega (arith, whole, same, links_too, own_too, c.in_ok-starts.ensures.at_most, c.in_ok-mark_phrase-in-Offsets.ensures.at_most, c.in_ok-mark_links-in-Offsets.ensures.at_most)
+    record {
+      at_least = grind arith;
+      at_most = omega (arith, whole, same, links_too, own_too, c.in_ok-starts.ensures.steps.at_most, c.in_ok-mark_phrase-in-Offsets.ensures.steps.at_most, c.in_ok-mark_links-in-Offsets.ensures.steps.at_most);
+    }

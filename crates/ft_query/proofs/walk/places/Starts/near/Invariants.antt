@@ -1,9 +1,10 @@
-use Rattle.std.proofs.Common.{◌≡◌, ◌≤◌, ◌+◌, ◌*◌, ◌++◌, length}
+use Rattle.std.proofs.Common.{◌≡◌, ◌+◌, ◌*◌, ◌++◌, length}
 use Rattle.ft_query.specs.Visit.{near_those}
+use Rattle.ft_query.specs.Taken.{TakesOf}
 use Rattle.ft_query.proofs.walk.places.Starts.near.Given as goal
 
 abbrev pub invariant-loop-other : goal.invariant-loop-other
-invariant-loop-other l = (l.kept.places.items ++ near_those l.most l.k l.left.places.now l.m l.others.places.now ≡ near_those l.most l.k l.self.places.items l.m l.fn.others.places.items) × (l.initial.steps.taken ≤ l.steps.taken) × (l.steps.taken + length l.left.places.now + 3 * length l.others.places.now ≤ l.initial.steps.taken + 3 * length l.fn.others.places.items + length l.self.places.items)
+invariant-loop-other l = (l.kept.places.items ++ near_those l.most l.k l.left.places.now l.m l.others.places.now ≡ near_those l.most l.k l.self.places.items l.m l.fn.others.places.items) × TakesOf (length l.self.places.items + 3 * length l.fn.others.places.items) (length l.left.places.now + 3 * length l.others.places.now) l.initial.steps l.steps
 
 abbrev pub decreases-loop-other : goal.decreases-loop-other
 decreases-loop-other l = length l.others.places.now

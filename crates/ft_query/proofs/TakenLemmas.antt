@@ -1,0 +1,14 @@
+-- Steps one after the other.
+use Rattle.std.proofs.Common.{ℕ, ◌+◌, arith}
+use Rattle.ft_query.specs.declared.walk.matches.steps.Steps.{Steps}
+use Rattle.ft_query.specs.Taken.{Takes}
+
+pub takes_then : (m n : ℕ) (a b c : Steps) → Takes m a b → Takes n b c → Takes (m + n) a c
+takes_then m n a b c one two =
+    let x = one.taken in
+    let y = two.taken in
+    let low = one.at_least in
+    let high = one.at_most in
+    let least = two.at_least in
+    let most = two.at_most in
+    record { taken = omega arith; at_least = omega arith; at_most = omega arith }
