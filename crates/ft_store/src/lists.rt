@@ -4,8 +4,6 @@ ghost use Rattle.std.specs.Ordering.{int_eq, is_eq};
 ghost use Rattle.std.specs.List.{AllByRecursion, starts_with, flat_map};
 ghost use Rattle.std.specs.FinMap.Entries.{where_key};
 ghost use Rattle.sqlite.specs.State.{HasCleanDisk, Shown};
-ghost use Rattle.sqlite.specs.Given.{IsPlain};
-ghost use Rattle.sqlite.specs.Listing.{understood};
 ghost use Rattle.sqlite.specs.Order as order;
 ghost use Rattle.sqlite.specs.Values.{bound};
 ghost use Rattle.sqlite.specs.Held.{state};
@@ -16,7 +14,8 @@ ghost use Rattle.ft_store.specs.Rows.{value_of};
 ghost use Rattle.ft_store.specs.Range.{after_last};
 ghost use Rattle.ft_store.specs.Found.{found_spots, found_places};
 ghost use Rattle.ft_rows.specs.Shown.{shown_list, shown_entry, entries_with, entries_of, lists_of_term, lists_of_prefix, spot_count, AreWhole, AreRead, SomeDamaged};
-ghost use Rattle.ft_store.specs.Calls.{IsPlainFault, IsReadFault, Reads, IsAtRest};
+ghost use Rattle.ft_store.specs.Calls.{IsReadFault, Reads, IsAtRest};
+ghost use Rattle.ft_store.specs.Settled.{IsSettled, KnowsText, Finds, GivesLists, GivesEntries};
 
 use crate::fault::StoreFault;
 use crate::stream::{Gathered, gather};
@@ -30,9 +29,8 @@ use std::alloc::{AllocError, Global};
 
 /// A list, of its row, in which docid and packed list come first; none where its bytes are damaged.
 fn list_row(alloc: Global, row: &Row) -> Result<Option<ListRow>, StoreFault>
-    ensures found { IfOk result (λ list. MatchOption list ((found_spots row.now).1 ≡ [])
+    ensures { Finds result (λ list. MatchOption list ((found_spots row.now).1 ≡ [])
         (λ l. (shown_list l ≡ found_spots row.now) × ((found_spots row.now).1 ≢ []))) }
-    ensures fault { IfErr result IsPlainFault }
 {
     let docid: i64 = row.get(0)?;
     let ValueRef::Blob(bytes) = row.get_ref(1)? else {
@@ -79,9 +77,7 @@ fn select_lists<S: Alter>(
     sql: &str,
     params: &[ValueRef<'_>],
 ) -> Result<Vec<ListRow>, StoreFault>
-    requires plain { HasCleanDisk (state S.Store conn.old) → IsTrue (state S.Store conn.old).is_open
-        → IsPlain (understood (state S.Store conn.old).now.schema sql.now) }
-    requires settled { (state S.Store conn.old).in_transaction ≡ false }
+    requires { IsSettled (KnowsText sql.now) (state S.Store conn.old) }
     ensures found { HasCleanDisk (state S.Store conn.new)
         → IfOk result (λ lists. (rows : List order.Row)
         × Shown sql.now (bound params.now) (state S.Store conn.old) (state S.Store conn.new) rows
@@ -172,9 +168,7 @@ fn select_entries<S: Alter>(
     sql: &str,
     params: &[ValueRef<'_>],
 ) -> Result<Vec<EntryRow>, StoreFault>
-    requires plain { HasCleanDisk (state S.Store conn.old) → IsTrue (state S.Store conn.old).is_open
-        → IsPlain (understood (state S.Store conn.old).now.schema sql.now) }
-    requires settled { (state S.Store conn.old).in_transaction ≡ false }
+    requires { IsSettled (KnowsText sql.now) (state S.Store conn.old) }
     ensures found { HasCleanDisk (state S.Store conn.new)
         → IfOk result (λ entries. (rows : List order.Row)
         × Shown sql.now (bound params.now) (state S.Store conn.old) (state S.Store conn.new) rows
@@ -221,12 +215,8 @@ pub(crate) fn term_lists<S: Alter>(
     term: &str,
 ) -> Result<Vec<ListRow>, StoreFault>
     requires { IsAtRest (state S.Store conn.old) }
-    ensures rows { HasCleanDisk (state S.Store conn.new)
-        → IfOk result (λ found. AreRead (lists_of_term tab term.now
-        (value_of (state S.Store conn.old).now.trees)) found.items) }
-    ensures damaged { HasCleanDisk (state S.Store conn.new) → result ≡ Err StoreFault.Damaged
-        → SomeDamaged (lists_of_term tab term.now (value_of (state S.Store conn.old).now.trees)) }
-    ensures read { Reads S.Store conn.old conn.new result IsReadFault }
+    ensures { GivesLists S.Store conn.old conn.new result
+        (lists_of_term tab term.now (value_of (state S.Store conn.old).now.trees)) }
 {
     select_lists(
         conn,
@@ -244,15 +234,8 @@ pub(crate) fn term<S: Alter>(
     term: &str,
 ) -> Result<Vec<EntryRow>, StoreFault>
     requires { IsAtRest (state S.Store conn.old) }
-    ensures rows { HasCleanDisk (state S.Store conn.new)
-        → IfOk result (λ found. let asked = where_key list_key_cmp
-        (λ k. int_eq tab k.0 && is_eq (name_cmp term.now k.1))
-        (value_of (state S.Store conn.old).now.trees).lists in
-        (map shown_entry found.items ≡ entries_of asked) × AreWhole asked) }
-    ensures damaged { HasCleanDisk (state S.Store conn.new) → result ≡ Err StoreFault.Damaged
-        → SomeDamaged (where_key list_key_cmp (λ k. int_eq tab k.0 && is_eq (name_cmp term.now k.1))
-        (value_of (state S.Store conn.old).now.trees).lists) }
-    ensures read { Reads S.Store conn.old conn.new result IsReadFault }
+    ensures { GivesEntries S.Store conn.old conn.new result
+        (lists_of_term tab term.now (value_of (state S.Store conn.old).now.trees)) }
 {
     let lists = term_lists(conn, alloc, tab, term)?;
     Ok(term_entries(alloc, term, lists.as_slice())?)
@@ -267,14 +250,9 @@ pub(crate) fn entries<S: Alter>(
     tab: i64,
 ) -> Result<Vec<EntryRow>, StoreFault>
     requires { IsAtRest (state S.Store conn.old) }
-    ensures rows { HasCleanDisk (state S.Store conn.new)
-        → IfOk result (λ found. let asked = where_key list_key_cmp (λ k. int_eq tab k.0)
-        (value_of (state S.Store conn.old).now.trees).lists in
-        (map shown_entry found.items ≡ entries_of asked) × AreWhole asked) }
-    ensures damaged { HasCleanDisk (state S.Store conn.new) → result ≡ Err StoreFault.Damaged
-        → SomeDamaged (where_key list_key_cmp (λ k. int_eq tab k.0)
+    ensures given { GivesEntries S.Store conn.old conn.new result
+        (where_key list_key_cmp (λ k. int_eq tab k.0)
         (value_of (state S.Store conn.old).now.trees).lists) }
-    ensures read { Reads S.Store conn.old conn.new result IsReadFault }
     ensures stays { HasCleanDisk (state S.Store conn.new) → result ≡ Err StoreFault.Damaged
         → IsTrue (state S.Store conn.new).is_open }
 {
@@ -293,13 +271,9 @@ fn table_lists<S: Alter>(
     tab: i64,
 ) -> Result<Vec<ListRow>, StoreFault>
     requires { IsAtRest (state S.Store conn.old) }
-    ensures rows { HasCleanDisk (state S.Store conn.new)
-        → IfOk result (λ found. AreRead (where_key list_key_cmp (λ k. int_eq tab k.0)
-        (value_of (state S.Store conn.old).now.trees).lists) found.items) }
-    ensures damaged { HasCleanDisk (state S.Store conn.new) → result ≡ Err StoreFault.Damaged
-        → SomeDamaged (where_key list_key_cmp (λ k. int_eq tab k.0)
+    ensures { GivesLists S.Store conn.old conn.new result
+        (where_key list_key_cmp (λ k. int_eq tab k.0)
         (value_of (state S.Store conn.old).now.trees).lists) }
-    ensures read { Reads S.Store conn.old conn.new result IsReadFault }
 {
     select_lists(
         conn,
@@ -339,12 +313,8 @@ fn range<'a, S: Alter>(
     requires rest { IsAtRest (state S.Store conn.old) }
     requires some { from.now ≢ [] }
     requires past { end.now ≡ after_last from.now }
-    ensures rows { HasCleanDisk (state S.Store conn.new) → IfOk result (λ found.
-        let asked = lists_of_prefix tab from.now (value_of (state S.Store conn.old).now.trees) in
-        (map shown_entry found.items ≡ entries_of asked) × AreWhole asked) }
-    ensures damaged { HasCleanDisk (state S.Store conn.new) → result ≡ Err StoreFault.Damaged
-        → SomeDamaged (lists_of_prefix tab from.now (value_of (state S.Store conn.old).now.trees)) }
-    ensures read { Reads S.Store conn.old conn.new result IsReadFault }
+    ensures { GivesEntries S.Store conn.old conn.new result
+        (lists_of_prefix tab from.now (value_of (state S.Store conn.old).now.trees)) }
 {
     select_entries(
         conn,
@@ -365,12 +335,8 @@ fn bare_range<'a, S: Alter>(
     requires rest { IsAtRest (state S.Store conn.old) }
     requires some { from.now ≢ [] }
     requires past { end.now ≡ after_last from.now }
-    ensures rows { HasCleanDisk (state S.Store conn.new)
-        → IfOk result (λ found. AreRead (lists_of_prefix tab from.now
-        (value_of (state S.Store conn.old).now.trees)) found.items) }
-    ensures damaged { HasCleanDisk (state S.Store conn.new) → result ≡ Err StoreFault.Damaged
-        → SomeDamaged (lists_of_prefix tab from.now (value_of (state S.Store conn.old).now.trees)) }
-    ensures read { Reads S.Store conn.old conn.new result IsReadFault }
+    ensures { GivesLists S.Store conn.old conn.new result
+        (lists_of_prefix tab from.now (value_of (state S.Store conn.old).now.trees)) }
 {
     select_lists(
         conn,
@@ -388,16 +354,8 @@ pub(crate) fn prefix<S: Alter>(
     begin: &str,
 ) -> Result<Vec<EntryRow>, StoreFault>
     requires { IsAtRest (state S.Store conn.old) }
-    ensures rows { HasCleanDisk (state S.Store conn.new)
-        → IfOk result (λ found. let asked = where_key list_key_cmp
-        (λ k. int_eq tab k.0 && starts_with nat_eq k.1 begin.now)
-        (value_of (state S.Store conn.old).now.trees).lists in
-        (map shown_entry found.items ≡ entries_of asked) × AreWhole asked) }
-    ensures damaged { HasCleanDisk (state S.Store conn.new) → result ≡ Err StoreFault.Damaged
-        → SomeDamaged (where_key list_key_cmp
-        (λ k. int_eq tab k.0 && starts_with nat_eq k.1 begin.now)
-        (value_of (state S.Store conn.old).now.trees).lists) }
-    ensures read { Reads S.Store conn.old conn.new result IsReadFault }
+    ensures { GivesEntries S.Store conn.old conn.new result
+        (lists_of_prefix tab begin.now (value_of (state S.Store conn.old).now.trees)) }
 {
     if begin.is_empty() {
         return entries(conn, alloc, tab);
@@ -414,13 +372,8 @@ pub(crate) fn prefix_lists<S: Alter>(
     begin: &str,
 ) -> Result<Vec<ListRow>, StoreFault>
     requires { IsAtRest (state S.Store conn.old) }
-    ensures rows { HasCleanDisk (state S.Store conn.new)
-        → IfOk result (λ found. AreRead (lists_of_prefix tab begin.now
-        (value_of (state S.Store conn.old).now.trees)) found.items) }
-    ensures damaged { HasCleanDisk (state S.Store conn.new) → result ≡ Err StoreFault.Damaged
-        → SomeDamaged (lists_of_prefix tab begin.now
-        (value_of (state S.Store conn.old).now.trees)) }
-    ensures read { Reads S.Store conn.old conn.new result IsReadFault }
+    ensures { GivesLists S.Store conn.old conn.new result
+        (lists_of_prefix tab begin.now (value_of (state S.Store conn.old).now.trees)) }
 {
     if begin.is_empty() {
         return table_lists(conn, alloc, tab);

@@ -1,13 +1,12 @@
 //! The rows of a query, gathered as they come.
 ghost use Rattle.std.specs.Prelude.{◌≡◌, ◌++◌, ◌∷◌, [], List, Bool, true, false, Err, IsTrue, IfOk, IfErr};
 ghost use Rattle.sqlite.specs.State.{HasCleanDisk, Shown};
-ghost use Rattle.sqlite.specs.Given.{IsPlain};
-ghost use Rattle.sqlite.specs.Listing.{understood};
 ghost use Rattle.sqlite.specs.Order as order;
 ghost use Rattle.sqlite.specs.Values.{bound};
 ghost use Rattle.sqlite.specs.Held.{state};
 ghost use Rattle.ft_rows.specs.declared.terms.TermLists.{TermLists};
 ghost use Rattle.ft_store.specs.Calls.{IsPlainFault, Reads};
+ghost use Rattle.ft_store.specs.Settled.{IsSettled, KnowsText};
 
 use crate::fault::StoreFault;
 use sqlite::types::ValueRef;
@@ -36,9 +35,7 @@ pub(crate) fn gather<S: Alter, G: Gathered>(
     params: &[ValueRef<'_>],
     into: &mut G,
 ) -> Result<bool, StoreFault>
-    requires plain { HasCleanDisk (state S.Store conn.old) → IsTrue (state S.Store conn.old).is_open
-        → IsPlain (understood (state S.Store conn.old).now.schema sql.now) }
-    requires settled { (state S.Store conn.old).in_transaction ≡ false }
+    requires asked { IsSettled (KnowsText sql.now) (state S.Store conn.old) }
     requires none { G.Gathered.is_made_of into.old true [] }
     ensures made { HasCleanDisk (state S.Store conn.new)
         → IfOk result (λ whole. (rows : List order.Row)
@@ -46,7 +43,6 @@ pub(crate) fn gather<S: Alter, G: Gathered>(
         × G.Gathered.is_made_of into.new whole rows) }
     ensures expects { IfOk result (λ _. G.Gathered.expects into.new ≡ G.Gathered.expects into.old) }
     ensures read { Reads S.Store conn.old conn.new result IsPlainFault }
-    ensures whole { ¬ (result ≡ Err StoreFault.Damaged) }
 {
     let _schema = conn.schema();
     let _settled = conn.is_autocommit();

@@ -46,6 +46,6 @@ loop-tx-preserved g c =
             let before = c.loop-tx.invariant.2.3 (omega (arith, c.apply_all.ensures.stays.survives.clean)) in
             part_goes old was now (value_of old.now.trees) done (map shown_change part.items) before
             (subst (λ l. Goes was now (all_applied (map shown_change l) (value_of was.now.trees))) c.as_slice.ensures.value
-            (c.in_ok-apply_all.ensures.goes clean before.inside (λ is_open. (before.going (before.was_open is_open)).1))),
+            (c.in_ok-apply_all.ensures.steps clean before.inside (λ is_open. (before.going (before.was_open is_open)).1))),
       ),
     )
