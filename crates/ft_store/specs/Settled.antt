@@ -4,7 +4,8 @@ use Rattle.std.specs.declared.alloc.Global.{Global}
 use Rattle.sqlite.specs.Effect.{Database}
 use Rattle.sqlite.specs.Given.{IsPlain}
 use Rattle.sqlite.specs.Listing.{understood}
-use Rattle.sqlite.specs.State.{State, HasCleanDisk, Survives}
+use Rattle.sqlite.specs.Order.{Row}
+use Rattle.sqlite.specs.State.{State, HasCleanDisk, Survives, Shown}
 use Rattle.sqlite.specs.Store.{Ghosts}
 use Rattle.sqlite.specs.Held.{Held, state}
 use Rattle.sqlite.specs.Tree.{Trees}
@@ -81,16 +82,21 @@ pub record ReadsFor {S X : Type 0} (g : Ghosts S) (old new : Held S) (result : R
   pub read : Reads g old new result IsPlainFault
 
 -- What a read of lists answers and leaves: where the disk did what it was told, an answer of Ok is such a value, and Damaged means that one
--- of the lists that were asked for is.
-pub record ReadsLists {S X : Type 0} (g : Ghosts S) (old new : Held S) (result : Result X StoreFault) (asked : List (ListKey × List Spot)) (Are : X → Type 0) : Type 0 where
+-- of the lists is, and leaves the connection open.
+pub record ReadsLists {S X : Type 0} (g : Ghosts S) (old new : Held S) (result : Result X StoreFault) (Are : X → Type 0) (IsDamaged : Type 0) : Type 0 where
   pub rows : HasCleanDisk (state g new) → IfOk result Are
-  pub damaged : HasCleanDisk (state g new) → result ≡ Err fault.Damaged → SomeDamaged asked
+  pub damaged : HasCleanDisk (state g new) → result ≡ Err fault.Damaged → IsDamaged
+  pub stays : HasCleanDisk (state g new) → result ≡ Err fault.Damaged → IsTrue (state g new).is_open
   pub read : Reads g old new result IsReadFault
 
--- each list with its places
+-- each list that was asked for, with its places
 abbrev pub GivesLists : {S : Type 0} → Ghosts S → Held S → Held S → Result (Vec ListRow Global) StoreFault → List (ListKey × List Spot) → Type 0
-GivesLists g old new result asked = ReadsLists g old new result asked (λ found. AreRead asked found.items)
+GivesLists g old new result asked = ReadsLists g old new result (λ found. AreRead asked found.items) (SomeDamaged asked)
 
--- each place with its term
+-- each place in them, with its term
 abbrev pub GivesEntries : {S : Type 0} → Ghosts S → Held S → Held S → Result (Vec EntryRow Global) StoreFault → List (ListKey × List Spot) → Type 0
-GivesEntries g old new result asked = ReadsLists g old new result asked (λ found. (map shown_entry found.items ≡ entries_of asked) × AreWhole asked)
+GivesEntries g old new result asked = ReadsLists g old new result (λ found. (map shown_entry found.items ≡ entries_of asked) × AreWhole asked) (SomeDamaged asked)
+
+-- the query gives rows with this property
+abbrev pub GivesRows : {S : Type 0} → Ghosts S → Held S → Held S → List ℕ → Row → (List Row → Type 0) → Type 0
+GivesRows g old new sql params Are = (rows : List Row) × Shown sql params (state g old) (state g new) rows × Are rows

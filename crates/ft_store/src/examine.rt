@@ -1,5 +1,5 @@
 //! Whether a database with the tables of a store is one.
-ghost use Rattle.std.specs.Prelude.{◌≡◌, ◌≢◌, false, ℤ, ◌<◌, [], ◌∷◌, map, length, MatchOption, IfSome, ◌<ℤ◌, Err, Some, None, IsTrue, IfOk, IfErr, OnOk};
+ghost use Rattle.std.specs.Prelude.{◌≡◌, ◌≢◌, false, ℤ, ◌<◌, [], ◌∷◌, map, length, MatchOption, IfSome, ◌<ℤ◌, Err, Some, None, IsTrue, IfErr, OnOk};
 ghost use Rattle.sqlite.specs.State.{HasCleanDisk};
 ghost use Rattle.sqlite.specs.Held.{state};
 ghost use Rattle.sqlite.specs.Order.{column};
@@ -8,7 +8,7 @@ ghost use Rattle.ft_store.specs.declared.same.Layout.{Layout};
 ghost use Rattle.ft_store.specs.Scan.{Scans, tree_at};
 ghost use Rattle.ft_store.specs.Older.{schema_of, tables_of, version_of, IsStoreBy};
 ghost use Rattle.ft_store.specs.Adopted.{IsAdoptFault, IsOtherVersion};
-ghost use Rattle.ft_store.specs.Calls.{HasOwnRowids, AreNumbered, IsPlainFault, Reads};
+ghost use Rattle.ft_store.specs.Calls.{HasOwnRowids, AreNumbered, Reads};
 ghost use Rattle.ft_store.specs.Settled.{IsSettled, IsLaidOut, IsJudged, Finds, ReadsFor};
 
 use crate::fault::StoreFault;

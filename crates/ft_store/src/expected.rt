@@ -1,8 +1,7 @@
 //! Whether the lists of a table are exactly those that are expected.
-ghost use Rattle.std.specs.Prelude.{◌≡◌, ◌↔◌, ℤ, ◌-◌, ◌^◌, min, drop, [], IsTrue, IfOk, IfErr, MatchBool};
+ghost use Rattle.std.specs.Prelude.{◌≡◌, ◌↔◌, ℤ, ◌-◌, ◌^◌, min, drop, [], IsTrue, MatchBool};
 ghost use Rattle.std.specs.Ordering.{int_eq};
 ghost use Rattle.std.specs.FinMap.Entries.{where_key};
-ghost use Rattle.sqlite.specs.State.{HasCleanDisk};
 ghost use Rattle.sqlite.specs.Held.{state};
 ghost use Rattle.ft_rows.specs.Store.{list_key_cmp};
 ghost use Rattle.ft_rows.specs.Terms.{lists_by_terms};

@@ -1,21 +1,21 @@
 //! Queries on the lists of terms.
-ghost use Rattle.std.specs.Prelude.{◌≡◌, ◌≢◌, false, ◌&&◌, ℤ, List, ◌<◌, ◌-◌, ◌^◌, [], ◌++◌, map, min, nat_eq, Err, IsTrue, IfOk, IfErr, OnOk, MatchOption};
-ghost use Rattle.std.specs.Ordering.{int_eq, is_eq};
-ghost use Rattle.std.specs.List.{AllByRecursion, starts_with, flat_map};
+ghost use Rattle.std.specs.Prelude.{◌≡◌, ◌≢◌, false, ℤ, ◌<◌, ◌-◌, ◌^◌, [], ◌++◌, map, min, Err, IfOk, OnOk, MatchOption};
+ghost use Rattle.std.specs.Ordering.{int_eq};
+ghost use Rattle.std.specs.List.{AllByRecursion, flat_map};
 ghost use Rattle.std.specs.FinMap.Entries.{where_key};
-ghost use Rattle.sqlite.specs.State.{HasCleanDisk, Shown};
+ghost use Rattle.sqlite.specs.State.{Shown};
 ghost use Rattle.sqlite.specs.Order as order;
 ghost use Rattle.sqlite.specs.Values.{bound};
 ghost use Rattle.sqlite.specs.Held.{state};
 ghost use Rattle.sqlite_value.specs.Value.{owned};
 ghost use Rattle.sqlite.specs.declared.types.Value.TheVariants.{Int};
-ghost use Rattle.ft_rows.specs.Store.{list_key_cmp, name_cmp};
+ghost use Rattle.ft_rows.specs.Store.{list_key_cmp};
 ghost use Rattle.ft_store.specs.Rows.{value_of};
 ghost use Rattle.ft_store.specs.Range.{after_last};
 ghost use Rattle.ft_store.specs.Found.{found_spots, found_places};
-ghost use Rattle.ft_rows.specs.Shown.{shown_list, shown_entry, entries_with, entries_of, lists_of_term, lists_of_prefix, spot_count, AreWhole, AreRead, SomeDamaged};
-ghost use Rattle.ft_store.specs.Calls.{IsReadFault, Reads, IsAtRest};
-ghost use Rattle.ft_store.specs.Settled.{IsSettled, KnowsText, Finds, GivesLists, GivesEntries};
+ghost use Rattle.ft_rows.specs.Shown.{shown_list, shown_entry, entries_with, entries_of, lists_of_term, lists_of_prefix, spot_count, AreWhole, SomeDamaged};
+ghost use Rattle.ft_store.specs.Calls.{IsAtRest};
+ghost use Rattle.ft_store.specs.Settled.{IsSettled, KnowsText, Finds, ReadsLists, GivesLists, GivesEntries, GivesRows};
 
 use crate::fault::StoreFault;
 use crate::stream::{Gathered, gather};
@@ -78,15 +78,11 @@ fn select_lists<S: Alter>(
     params: &[ValueRef<'_>],
 ) -> Result<Vec<ListRow>, StoreFault>
     requires { IsSettled (KnowsText sql.now) (state S.Store conn.old) }
-    ensures found { HasCleanDisk (state S.Store conn.new)
-        → IfOk result (λ lists. (rows : List order.Row)
-        × Shown sql.now (bound params.now) (state S.Store conn.old) (state S.Store conn.new) rows
-        × (map shown_list lists.items ≡ map found_spots rows) × AreWhole (map found_spots rows)) }
-    ensures damaged { HasCleanDisk (state S.Store conn.new) → result ≡ Err StoreFault.Damaged
-        → (rows : List order.Row)
-        × Shown sql.now (bound params.now) (state S.Store conn.old) (state S.Store conn.new) rows
-        × SomeDamaged (map found_spots rows) }
-    ensures read { Reads S.Store conn.old conn.new result IsReadFault }
+    ensures { ReadsLists S.Store conn.old conn.new result
+        (λ lists. GivesRows S.Store conn.old conn.new sql.now (bound params.now) (λ rows.
+        (map shown_list lists.items ≡ map found_spots rows) × AreWhole (map found_spots rows)))
+        (GivesRows S.Store conn.old conn.new sql.now (bound params.now) (λ rows.
+        SomeDamaged (map found_spots rows))) }
 {
     let mut found = ListsOf {
         alloc,
@@ -169,18 +165,12 @@ fn select_entries<S: Alter>(
     params: &[ValueRef<'_>],
 ) -> Result<Vec<EntryRow>, StoreFault>
     requires { IsSettled (KnowsText sql.now) (state S.Store conn.old) }
-    ensures found { HasCleanDisk (state S.Store conn.new)
-        → IfOk result (λ entries. (rows : List order.Row)
-        × Shown sql.now (bound params.now) (state S.Store conn.old) (state S.Store conn.new) rows
-        × ((tab : ℤ) → (map shown_entry entries.items ≡ entries_of (map (found_places tab) rows))
-        × AreWhole (map (found_places tab) rows))) }
-    ensures damaged { HasCleanDisk (state S.Store conn.new) → result ≡ Err StoreFault.Damaged
-        → (rows : List order.Row)
-        × Shown sql.now (bound params.now) (state S.Store conn.old) (state S.Store conn.new) rows
-        × ((tab : ℤ) → SomeDamaged (map (found_places tab) rows)) }
-    ensures read { Reads S.Store conn.old conn.new result IsReadFault }
-    ensures stays { HasCleanDisk (state S.Store conn.new) → result ≡ Err StoreFault.Damaged
-        → IsTrue (state S.Store conn.new).is_open }
+    ensures { ReadsLists S.Store conn.old conn.new result
+        (λ entries. GivesRows S.Store conn.old conn.new sql.now (bound params.now) (λ rows.
+        (tab : ℤ) → (map shown_entry entries.items ≡ entries_of (map (found_places tab) rows))
+        × AreWhole (map (found_places tab) rows)))
+        (GivesRows S.Store conn.old conn.new sql.now (bound params.now) (λ rows.
+        (tab : ℤ) → SomeDamaged (map (found_places tab) rows))) }
 {
     let mut found = EntriesOf {
         alloc,
@@ -250,11 +240,9 @@ pub(crate) fn entries<S: Alter>(
     tab: i64,
 ) -> Result<Vec<EntryRow>, StoreFault>
     requires { IsAtRest (state S.Store conn.old) }
-    ensures given { GivesEntries S.Store conn.old conn.new result
+    ensures { GivesEntries S.Store conn.old conn.new result
         (where_key list_key_cmp (λ k. int_eq tab k.0)
         (value_of (state S.Store conn.old).now.trees).lists) }
-    ensures stays { HasCleanDisk (state S.Store conn.new) → result ≡ Err StoreFault.Damaged
-        → IsTrue (state S.Store conn.new).is_open }
 {
     select_entries(
         conn,

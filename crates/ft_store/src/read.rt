@@ -1,8 +1,8 @@
 //! Queries, each with the rows of the store's value that it gives.
-ghost use Rattle.std.specs.Prelude.{◌≡◌, ℤ, List, false, ◌&&◌, Err, map, slice_get, option_map, IsTrue, IfOk, IfErr};
+ghost use Rattle.std.specs.Prelude.{◌≡◌, ℤ, ◌&&◌, map, slice_get, option_map, IsTrue};
 ghost use Rattle.std.specs.Ordering.{int_eq};
 ghost use Rattle.std.specs.FinMap.Entries.{where_key};
-ghost use Rattle.sqlite.specs.State.{HasCleanDisk, Shown};
+ghost use Rattle.sqlite.specs.State.{Shown};
 ghost use Rattle.sqlite.specs.Values.{bound};
 ghost use Rattle.sqlite.specs.Held.{state};
 ghost use Rattle.sqlite.specs.Order as order;
@@ -12,8 +12,8 @@ ghost use Rattle.ft_rows.specs.Store.{cell_key_cmp, column_key_cmp};
 ghost use Rattle.ft_store.specs.Rows.{value_of};
 ghost use Rattle.ft_store.specs.Found.{found_table, found_column, found_skip, found_cell, found_size, found_note};
 ghost use Rattle.ft_rows.specs.Shown.{shown_cell, shown_size, shown_name, shown_column, shown_skip, shown_note, last_docid_of};
-ghost use Rattle.ft_store.specs.Calls.{IsPlainFault, Reads, IsAtRest};
-ghost use Rattle.ft_store.specs.Settled.{IsSettled, KnowsText, Finds, ReadsFor};
+ghost use Rattle.ft_store.specs.Calls.{IsAtRest};
+ghost use Rattle.ft_store.specs.Settled.{IsSettled, KnowsText, Finds, ReadsFor, GivesRows};
 
 use crate::fault::StoreFault;
 use crate::stream::{Gathered, gather};
@@ -29,10 +29,9 @@ pub(crate) fn select<S: Alter>(
     params: &[ValueRef<'_>],
 ) -> Result<Vec<Row>, StoreFault>
     requires { IsSettled (KnowsText sql.now) (state S.Store conn.old) }
-    ensures shown { HasCleanDisk (state S.Store conn.new)
-        → IfOk result (λ rows. Shown sql.now (bound params.now) (state S.Store conn.old)
+    ensures { ReadsFor S.Store conn.old conn.new result
+        (λ rows. Shown sql.now (bound params.now) (state S.Store conn.old)
         (state S.Store conn.new) rows.items) }
-    ensures read { Reads S.Store conn.old conn.new result IsPlainFault }
 {
     let _schema = conn.schema();
     let _settled = conn.is_autocommit();
@@ -90,9 +89,8 @@ fn select_cells<S: Alter>(
 ) -> Result<Vec<CellRow>, StoreFault>
     requires { IsSettled (KnowsText sql.now) (state S.Store conn.old) }
     ensures { ReadsFor S.Store conn.old conn.new result
-        (λ cells. (rows : List order.Row)
-        × Shown sql.now (bound params.now) (state S.Store conn.old) (state S.Store conn.new) rows
-        × ((tab : ℤ) → map (shown_cell tab) cells.items ≡ map (found_cell tab) rows)) }
+        (λ cells. GivesRows S.Store conn.old conn.new sql.now (bound params.now) (λ rows.
+        (tab : ℤ) → map (shown_cell tab) cells.items ≡ map (found_cell tab) rows)) }
 {
     let mut found = CellsOf {
         cells: Vec::new(alloc),

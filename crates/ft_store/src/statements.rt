@@ -8,7 +8,7 @@ ghost use Rattle.sqlite_value.specs.Value.{owned};
 ghost use Rattle.sqlite_value.specs.Keys.{without_case};
 ghost use Rattle.sqlite.specs.declared.types.Value.TheVariants.{Int};
 ghost use Rattle.ft_rows.specs.Packed.{spots_in};
-ghost use Rattle.ft_rows.specs.Store.{StoreValue, cell_key_cmp, list_key_cmp, column_key_cmp, name_cmp};
+ghost use Rattle.ft_rows.specs.Store.{cell_key_cmp, list_key_cmp, column_key_cmp, name_cmp};
 ghost use Rattle.ft_values.specs.Cells.{shown_value};
 ghost use Rattle.ft_store.specs.Rows.{num_of, txt_of};
 ghost use Rattle.ft_store.specs.Inside.{DoneInside, StepsInside, AddsInside, RunsOnOk, RunsOrKeeps};

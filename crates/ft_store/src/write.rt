@@ -1,21 +1,18 @@
 //! Row changes, all in one transaction.
-ghost use Rattle.std.specs.Prelude.{◌≡◌, false, ℕ, ◌<◌, ◌≤◌, ℤ, [], ◌++◌, pos, length, map, if◌then◌else◌, unwrap_or, string_bytes, All, IsTrue, IfOk, IfSome, IfErr, OnOk, OnErr};
-ghost use Rattle.std.specs.Ordering.{int_cmp};
+ghost use Rattle.std.specs.Prelude.{◌≡◌, false, ◌<◌, ◌≤◌, [], ◌++◌, length, map, if◌then◌else◌, unwrap_or, string_bytes, All, IsTrue, IfOk, IfSome, OnOk};
 ghost use Rattle.std.specs.Vec.{vec_items};
 ghost use Rattle.std.specs.List.{enumerate_from, flat_map};
-ghost use Rattle.std.specs.FinMap.Entries.{put, find};
-ghost use Rattle.sqlite.specs.State.{HasCleanDisk, Survives};
+ghost use Rattle.std.specs.FinMap.Entries.{put};
 ghost use Rattle.sqlite.specs.Held.{state};
 ghost use Rattle.sqlite.specs.Values.{bound};
 ghost use Rattle.sqlite_value.specs.Keys.{without_case};
 ghost use Rattle.ft_rows.specs.Packed.{CanPack, spots_in};
-ghost use Rattle.ft_rows.specs.Store.{StoreValue, cell_key_cmp, list_key_cmp, column_key_cmp, name_cmp, without_index, without_rows, with_columns, with_skipped, AddTable, applied, all_applied};
-ghost use Rattle.ft_store.specs.Rows.{value_of};
+ghost use Rattle.ft_rows.specs.Store.{cell_key_cmp, list_key_cmp, column_key_cmp, name_cmp, without_index, without_rows, with_columns, with_skipped, AddTable, applied, all_applied};
 ghost use Rattle.ft_values.specs.Cells.{shown_value};
 ghost use Rattle.ft_rows.specs.Changes.{shown_change, CanApply};
-ghost use Rattle.ft_store.specs.Calls.{IsChangeFault, StepsOnOk, MakesAllOrNone, IsAtRest};
+ghost use Rattle.ft_store.specs.Calls.{StepsOnOk, ChangesAllOrNone, IsAtRest};
 ghost use Rattle.ft_store.specs.Inside.{StepsInside, StepsInsideIfOpen, DoneInside, ChangesInside, AppliesInside};
-ghost use Rattle.ft_store.specs.Groups.{entry_values, entry_put, PutsList, GoesOnOk};
+ghost use Rattle.ft_store.specs.Groups.{entry_values, entry_put, PutsList, ArePacked, GoesOnOk};
 ghost use Rattle.ft_store.specs.Parts.{changes_in, CanMake};
 
 use crate::fault::StoreFault;
@@ -263,8 +260,7 @@ fn puts_list(change: &RowChange) -> bool {
 /// How many of the first changes are made together: eight that put lists, or else one.
 fn group_size(changes: &[RowChange]) -> usize
     requires { 0 < length changes.now }
-    ensures some { 0 < result }
-    ensures within { result ≤ length changes.now }
+    ensures { (0 < result) × (result ≤ length changes.now) }
 {
     if changes.len() < GROUP {
         return 1;
@@ -279,9 +275,8 @@ fn group_size(changes: &[RowChange]) -> usize
 
 /// The packed lists of changes, if each puts one that can be packed.
 fn packed_lists(alloc: Global, changes: &[RowChange]) -> Result<Option<Vec<Vec<u8>>>, AllocError>
-    ensures puts { IfOk result (λ o. IfSome o (λ _. All PutsList changes.now)) }
-    ensures packed { IfOk result (λ o. IfSome o
-        (λ lists. map vec_items lists.items ≡ map (λ c. (entry_put c).1) changes.now)) }
+    ensures { IfOk result (λ o. IfSome o
+        (λ lists. ArePacked changes.now (map vec_items lists.items))) }
 {
     let mut lists = Vec::new(alloc);
     for change in changes {
@@ -323,8 +318,7 @@ fn list_values<'a>(
     changes: &'a [RowChange],
     lists: &'a [Vec<u8>],
 ) -> Result<Vec<ValueRef<'a>>, AllocError>
-    requires puts { All PutsList changes.now }
-    requires packed { map vec_items lists.now ≡ map (λ c. (entry_put c).1) changes.now }
+    requires { ArePacked changes.now (map vec_items lists.now) }
     ensures { IfOk result
         (λ values. bound values.items ≡ flat_map entry_values (map entry_put changes.now)) }
 {
@@ -396,11 +390,8 @@ pub(crate) fn change<S: Alter>(
     changes: &[RowChange],
 ) -> Result<(), StoreFault>
     requires { IsAtRest (state S.Store conn.old) }
-    ensures packable { OnOk result (All CanApply changes.now) }
-    ensures fault { IfErr result (IsChangeFault (All CanApply changes.now)) }
-    ensures made { MakesAllOrNone (state S.Store conn.old) (state S.Store conn.new) result
-        (map shown_change changes.now) }
-    ensures mode { (state S.Store conn.new).in_transaction ≡ false }
+    ensures { ChangesAllOrNone (state S.Store conn.old) (state S.Store conn.new) result
+        (All CanApply changes.now) (map shown_change changes.now) }
 {
     let _settled = conn.is_autocommit();
     let mut tx = conn.transaction();
@@ -416,12 +407,9 @@ pub(crate) fn change_parts<S: Alter, P: Parts>(
     parts: &mut P,
 ) -> Result<(), StoreFault>
     requires { IsAtRest (state S.Store conn.old) }
-    ensures packable { OnOk result (All CanMake (changes_in (P.Parts.to_come parts.old))) }
-    ensures fault { IfErr result
-        (IsChangeFault (All CanMake (changes_in (P.Parts.to_come parts.old)))) }
-    ensures made { MakesAllOrNone (state S.Store conn.old) (state S.Store conn.new) result
+    ensures { ChangesAllOrNone (state S.Store conn.old) (state S.Store conn.new) result
+        (All CanMake (changes_in (P.Parts.to_come parts.old)))
         (changes_in (P.Parts.to_come parts.old)) }
-    ensures mode { (state S.Store conn.new).in_transaction ≡ false }
 {
     let _settled = conn.is_autocommit();
     let mut tx = conn.transaction();

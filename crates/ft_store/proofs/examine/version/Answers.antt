@@ -16,7 +16,7 @@ returns g c = record {
   rows = λ clean.
       let old = state g.S.Store c.args.conn.now in
       let new = state g.S.Store c.select.new.conn in
-      let shown = c.in_ok-rows.ensures.shown clean in
+      let shown = c.in_ok-rows.ensures.rows clean in
       let schema = c.requires.shown (omega (arith, c.select.ensures.read.survives.clean)) (shown_open _ _ old new _ shown) in
       let seen = version_seen c.args.layout old new schema c.in_ok-rows.rows.items shown in
       IfOk-weaker c.only_number.result _ _ (λ o h. version_found o c.as_slice.result.now c.in_ok-rows.rows.items (old.now.trees 0) c.as_slice.ensures.value seen h) c.only_number.ensures.found;

@@ -14,12 +14,13 @@ returns-then-is_empty g c = record {
       let lists = (value_of (state g.S.Store c.args.conn.now).now.trees).lists in
       let none : c.args.begin.now ≡ [] = none_of c.args.begin.now (search rules) in
       subst (λ (p : ListKey → Bool). IfOk c.entries.result (λ found. (map shown_entry found.items ≡ entries_of (where_key list_key_cmp p lists)) × AreWhole (where_key list_key_cmp p lists)))
-      (all_begin c.args.tab c.args.begin.now none) (simp (to_z-of_z, c.ranges.tab) at (c.entries.ensures.given.rows clean));
+      (all_begin c.args.tab c.args.begin.now none) (simp (to_z-of_z, c.ranges.tab) at (c.entries.ensures.rows clean));
   damaged = λ clean is.
       let lists = (value_of (state g.S.Store c.args.conn.now).now.trees).lists in
       let none : c.args.begin.now ≡ [] = none_of c.args.begin.now (search rules) in
-      subst (λ (p : ListKey → Bool). SomeDamaged (where_key list_key_cmp p lists)) (all_begin c.args.tab c.args.begin.now none) (simp (to_z-of_z, c.ranges.tab) at (c.entries.ensures.given.damaged clean is));
-  read = c.entries.ensures.given.read;
+      subst (λ (p : ListKey → Bool). SomeDamaged (where_key list_key_cmp p lists)) (all_begin c.args.tab c.args.begin.now none) (simp (to_z-of_z, c.ranges.tab) at (c.entries.ensures.damaged clean is));
+  stays = c.entries.ensures.stays;
+  read = c.entries.ensures.read;
 }
 
 pub after_last-requires : goal.after_last-requires
@@ -29,5 +30,6 @@ pub returns : goal.returns
 returns g c = record {
   rows = λ clean. rw c.as_bytes-2.ensures.value at (simp (to_z-of_z, c.ranges.tab) at (c.range.ensures.rows clean));
   damaged = λ clean is. rw c.as_bytes-2.ensures.value at (simp (to_z-of_z, c.ranges.tab) at (c.range.ensures.damaged clean is));
+  stays = c.range.ensures.stays;
   read = c.range.ensures.read;
 }

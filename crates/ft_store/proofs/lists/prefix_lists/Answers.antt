@@ -19,6 +19,7 @@ returns-then-is_empty g c = record {
       let lists = (value_of (state g.S.Store c.args.conn.now).now.trees).lists in
       let none : c.args.begin.now ≡ [] = none_of c.args.begin.now (search rules) in
       subst (λ (p : ListKey → Bool). SomeDamaged (where_key list_key_cmp p lists)) (all_begin c.args.tab c.args.begin.now none) (simp (to_z-of_z, c.ranges.tab) at (c.table_lists.ensures.damaged clean is));
+  stays = c.table_lists.ensures.stays;
   read = c.table_lists.ensures.read;
 }
 
@@ -29,5 +30,6 @@ pub returns : goal.returns
 returns g c = record {
   rows = λ clean. rw c.as_bytes-2.ensures.value at (simp (to_z-of_z, c.ranges.tab) at (c.bare_range.ensures.rows clean));
   damaged = λ clean is. rw c.as_bytes-2.ensures.value at (simp (to_z-of_z, c.ranges.tab) at (c.bare_range.ensures.damaged clean is));
+  stays = c.bare_range.ensures.stays;
   read = c.bare_range.ensures.read;
 }

@@ -23,7 +23,7 @@ returns g c = record {
       let store = c.requires.rest.store (omega (arith, c.select_entries.ensures.read.survives.clean)) in
       IfOk-weaker c.select_entries.result _ _
       (λ found h. let all = placed old.now.trees c.args.tab (λ k. int_eq c.args.tab k.0 && starts_with nat_eq k.1 c.args.from.now) h.0 (prefix_stored_shown c.args.tab c.args.from.now c.args.end.now old new h.0 c.requires.some c.requires.past store (simp (to_z-of_z, c.ranges.tab) at (rw c.beside.ensures at h.1))) in (subst (λ l. map shown_entry found.items ≡ entries_of l) all (h.2 c.args.tab).0, subst AreWhole all (h.2 c.args.tab).1))
-      (c.select_entries.ensures.found clean);
+      (c.select_entries.ensures.rows clean);
   damaged = λ clean is.
       let old = state g.S.Store c.args.conn.now in
       let new = state g.S.Store c.select_entries.new.conn in
@@ -31,5 +31,6 @@ returns g c = record {
       let h = c.select_entries.ensures.damaged clean is in
       let all = placed old.now.trees c.args.tab (λ k. int_eq c.args.tab k.0 && starts_with nat_eq k.1 c.args.from.now) h.0 (prefix_stored_shown c.args.tab c.args.from.now c.args.end.now old new h.0 c.requires.some c.requires.past store (simp (to_z-of_z, c.ranges.tab) at (rw c.beside.ensures at h.1))) in
       subst SomeDamaged all (h.2 c.args.tab);
+  stays = c.select_entries.ensures.stays;
   read = c.select_entries.ensures.read;
 }

@@ -20,8 +20,8 @@ returns g c = record {
       let new = state g.S.Store c.select_lists.new.conn in
       let store = c.requires.store (omega (arith, c.select_lists.ensures.read.survives.clean)) in
       IfOk-weaker c.select_lists.result _ _
-      (λ found h. let shown = bare_lists_shown c.args.tab old new h.0 store (simp (to_z-of_z, c.ranges.tab) at (rw c.params-to_sql.ensures at h.1)) in (h.2 ∙ shown, bare_whole _ (subst AreWhole shown h.3)))
-      (c.select_lists.ensures.found clean);
+      (λ found h. let shown = bare_lists_shown c.args.tab old new h.0 store (simp (to_z-of_z, c.ranges.tab) at (rw c.params-to_sql.ensures at h.1)) in (h.2.0 ∙ shown, bare_whole _ (subst AreWhole shown h.2.1)))
+      (c.select_lists.ensures.rows clean);
   damaged = λ clean is whole.
       let old = state g.S.Store c.args.conn.now in
       let new = state g.S.Store c.select_lists.new.conn in
@@ -29,5 +29,6 @@ returns g c = record {
       let h = c.select_lists.ensures.damaged clean is in
       let shown = bare_lists_shown c.args.tab old new h.0 store (simp (to_z-of_z, c.ranges.tab) at (rw c.params-to_sql.ensures at h.1)) in
       h.2 (subst AreWhole (sym shown) (whole_bare _ whole));
+  stays = c.select_lists.ensures.stays;
   read = c.select_lists.ensures.read;
 }

@@ -15,5 +15,6 @@ returns g c = record {
         read.1,
       );
   damaged = search rules;
+  stays = search rules;
   read = record { kept = c.in_ok-lists.ensures.read.kept; live = c.in_ok-lists.ensures.read.live; mode = c.in_ok-lists.ensures.read.mode; survives = c.in_ok-lists.ensures.read.survives; fault = search rules };
 }

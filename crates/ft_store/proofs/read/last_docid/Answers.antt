@@ -20,7 +20,7 @@ returns g c = record {
   rows = λ clean.
       let old = state g.S.Store c.args.conn.now in
       let new = state g.S.Store c.select.new.conn in
-      let all = last_shown c.args.tab old new c.in_ok-rows.rows.items (c.requires.store (omega (arith, c.select.ensures.read.survives.clean))) (simp (to_z-of_z, c.ranges.tab) at (rw c.params-to_sql.ensures at (c.in_ok-rows.ensures.shown clean))) in
+      let all = last_shown c.args.tab old new c.in_ok-rows.rows.items (c.requires.store (omega (arith, c.select.ensures.read.survives.clean))) (simp (to_z-of_z, c.ranges.tab) at (rw c.params-to_sql.ensures at (c.in_ok-rows.ensures.rows clean))) in
       IfOk-weaker c.first_docid.result _ _ (λ found h. h ∙ ap (λ rows. option_map (λ (row : Row). id_in (column row 0)) (slice_get rows 0)) c.as_slice.ensures.value ∙ all) c.first_docid.ensures.found;
   read = reads_on g.S.Store _ _ _ c.first_docid.result c.in_ok-rows.ensures.read c.first_docid.ensures.fault;
 }

@@ -19,7 +19,7 @@ returns g c = record {
   rows = λ clean.
       let old = state g.S.Store c.args.conn.now in
       let new = state g.S.Store c.select.new.conn in
-      let all = noted_shown old new c.in_ok-rows.rows.items (c.requires.store (omega (arith, c.select.ensures.read.survives.clean))) (c.in_ok-rows.ensures.shown clean) in
+      let all = noted_shown old new c.in_ok-rows.rows.items (c.requires.store (omega (arith, c.select.ensures.read.survives.clean))) (c.in_ok-rows.ensures.rows clean) in
       IfOk-weaker c.note_rows.result _ _ (λ found h. h ∙ ap (map found_note) c.as_slice.ensures.value ∙ all ∙ all_kept name_cmp _) c.note_rows.ensures.found;
   read = reads_on g.S.Store _ _ _ c.note_rows.result c.in_ok-rows.ensures.read c.note_rows.ensures.fault;
 }

@@ -18,7 +18,7 @@ returns g c = record {
   rows = λ clean.
       let old = state g.S.Store c.args.conn.now in
       let new = state g.S.Store c.select.new.conn in
-      let all = skips_shown c.args.tab old new c.in_ok-rows.rows.items (c.requires.store (omega (arith, c.select.ensures.read.survives.clean))) (simp (to_z-of_z, c.ranges.tab) at (rw c.params-to_sql.ensures at (c.in_ok-rows.ensures.shown clean))) in
+      let all = skips_shown c.args.tab old new c.in_ok-rows.rows.items (c.requires.store (omega (arith, c.select.ensures.read.survives.clean))) (simp (to_z-of_z, c.ranges.tab) at (rw c.params-to_sql.ensures at (c.in_ok-rows.ensures.rows clean))) in
       IfOk-weaker c.skip_rows.result _ _ (λ found h. h c.args.tab ∙ ap (map (found_skip c.args.tab)) c.as_slice.ensures.value ∙ all) c.skip_rows.ensures.found;
   read = reads_on g.S.Store _ _ _ c.skip_rows.result c.in_ok-rows.ensures.read c.skip_rows.ensures.fault;
 }

@@ -13,7 +13,7 @@ returns-clause-goes g c = record {
       let old = state g.S.Store c.args.tx.now.conn.now in
       let new = state g.S.Store c.add_lists.new.tx.conn.now in
       let changes = c.args.changes.now in
-      let puts = rw c.in-Some.is at c.in_ok-lists.ensures.puts in
+      let puts = (rw c.in-Some.is at c.in_ok-lists.ensures).puts in
       let eight : length (map entry_put changes) ≡ 8 = omega (arith, length-map changes entry_put, c.if-changes-ne-GROUP.false) in
       IfOk-weaker c.add_lists.result _ _ (λ added. adds_all old new changes added puts)
       (c.add_lists.ensures.steps (map entry_put changes) eight (ap bound c.as_slice-2.ensures.value ∙ c.in_ok-values.ensures) clean inside kept);
