@@ -29,8 +29,8 @@ pub record IsSettled (Has : Database → Type 0) (s : State) : Type 0 where
   pub shown : HasCleanDisk s → IsTrue s.is_open → Has s.now
 
 -- the text is a plain one under its tables
-abbrev pub KnowsText : List ℕ → Database → Type 0
-KnowsText sql db = IsPlain (understood db.schema sql)
+abbrev pub IsPlainIn : List ℕ → Database → Type 0
+IsPlainIn sql db = IsPlain (understood db.schema sql)
 
 -- it has the tables of a store, of version 2 or of version 3
 abbrev pub IsLaidOut : Layout → Database → Type 0

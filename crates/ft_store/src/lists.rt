@@ -15,7 +15,7 @@ ghost use Rattle.ft_store.specs.Range.{after_last};
 ghost use Rattle.ft_store.specs.Found.{found_spots, found_places};
 ghost use Rattle.ft_rows.specs.Shown.{shown_list, shown_entry, entries_with, entries_of, lists_of_term, lists_of_prefix, spot_count, AreWhole, SomeDamaged};
 ghost use Rattle.ft_store.specs.Calls.{IsAtRest};
-ghost use Rattle.ft_store.specs.Settled.{IsSettled, KnowsText, Finds, ReadsLists, GivesLists, GivesEntries, GivesRows};
+ghost use Rattle.ft_store.specs.Settled.{IsSettled, IsPlainIn, Finds, ReadsLists, GivesLists, GivesEntries, GivesRows};
 
 use crate::fault::StoreFault;
 use crate::stream::{Gathered, gather};
@@ -77,7 +77,7 @@ fn select_lists<S: Alter>(
     sql: &str,
     params: &[ValueRef<'_>],
 ) -> Result<Vec<ListRow>, StoreFault>
-    requires { IsSettled (KnowsText sql.now) (state S.Store conn.old) }
+    requires { IsSettled (IsPlainIn sql.now) (state S.Store conn.old) }
     ensures { ReadsLists S.Store conn.old conn.new result
         (λ lists. GivesRows S.Store conn.old conn.new sql.now (bound params.now) (λ rows.
         (map shown_list lists.items ≡ map found_spots rows) × AreWhole (map found_spots rows)))
@@ -164,7 +164,7 @@ fn select_entries<S: Alter>(
     sql: &str,
     params: &[ValueRef<'_>],
 ) -> Result<Vec<EntryRow>, StoreFault>
-    requires { IsSettled (KnowsText sql.now) (state S.Store conn.old) }
+    requires { IsSettled (IsPlainIn sql.now) (state S.Store conn.old) }
     ensures { ReadsLists S.Store conn.old conn.new result
         (λ entries. GivesRows S.Store conn.old conn.new sql.now (bound params.now) (λ rows.
         (tab : ℤ) → (map shown_entry entries.items ≡ entries_of (map (found_places tab) rows))

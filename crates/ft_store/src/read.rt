@@ -13,7 +13,7 @@ ghost use Rattle.ft_store.specs.Rows.{value_of};
 ghost use Rattle.ft_store.specs.Found.{found_table, found_column, found_skip, found_cell, found_size, found_note};
 ghost use Rattle.ft_rows.specs.Shown.{shown_cell, shown_size, shown_name, shown_column, shown_skip, shown_note, last_docid_of};
 ghost use Rattle.ft_store.specs.Calls.{IsAtRest};
-ghost use Rattle.ft_store.specs.Settled.{IsSettled, KnowsText, Finds, ReadsFor, GivesRows};
+ghost use Rattle.ft_store.specs.Settled.{IsSettled, IsPlainIn, Finds, ReadsFor, GivesRows};
 
 use crate::fault::StoreFault;
 use crate::stream::{Gathered, gather};
@@ -28,7 +28,7 @@ pub(crate) fn select<S: Alter>(
     sql: &str,
     params: &[ValueRef<'_>],
 ) -> Result<Vec<Row>, StoreFault>
-    requires { IsSettled (KnowsText sql.now) (state S.Store conn.old) }
+    requires { IsSettled (IsPlainIn sql.now) (state S.Store conn.old) }
     ensures { ReadsFor S.Store conn.old conn.new result
         (λ rows. Shown sql.now (bound params.now) (state S.Store conn.old)
         (state S.Store conn.new) rows.items) }
@@ -87,7 +87,7 @@ fn select_cells<S: Alter>(
     sql: &str,
     params: &[ValueRef<'_>],
 ) -> Result<Vec<CellRow>, StoreFault>
-    requires { IsSettled (KnowsText sql.now) (state S.Store conn.old) }
+    requires { IsSettled (IsPlainIn sql.now) (state S.Store conn.old) }
     ensures { ReadsFor S.Store conn.old conn.new result
         (λ cells. GivesRows S.Store conn.old conn.new sql.now (bound params.now) (λ rows.
         (tab : ℤ) → map (shown_cell tab) cells.items ≡ map (found_cell tab) rows)) }

@@ -18,8 +18,8 @@ returns g c = record {
       let old = state g.S.Store c.args.conn.now in
       let new = state g.S.Store c.gather.new.conn in
       IfOk-weaker c.gather.result _ _
-      (λ b h rise. let schema = c.requires.rest.shown (omega (arith, c.gather.ensures.read.survives.clean)) (shown_open _ _ old new _ h.1) in
+      (λ b h rise. let schema = c.requires.rest.shown (omega (arith, c.gather.ensures.given.read.survives.clean)) (shown_open _ _ old new _ h.1) in
       scanned (schema_of c.args.layout) c.rowids_query.result.now (tree_at c.args.at) (c.rowids_query.ensures c.args.layout c.requires.within) old new schema h.0 h.1 (all_rise c.gather.new.into.last h.0 (h.2 rise)))
-      (c.gather.ensures.made clean);
-  read = c.gather.ensures.read;
+      (c.gather.ensures.given.rows clean);
+  read = c.gather.ensures.given.read;
 }

@@ -20,8 +20,8 @@ returns g c = record {
   rows = λ clean.
       let old = state g.S.Store c.args.conn.now in
       let new = state g.S.Store c.gather.new.conn in
-      let store = c.requires.store (omega (arith, c.gather.ensures.read.survives.clean)) in
-      let h = c.in_ok-whole.ensures.made clean in
+      let store = c.requires.store (omega (arith, c.gather.ensures.given.read.survives.clean)) in
+      let h = c.in_ok-whole.ensures.given.rows clean in
       let tab = c.args.tab in
       let shown = placed old.now.trees tab (λ k. int_eq tab k.0) h.0 (lists_stored_shown tab old new h.0 store (simp (to_z-of_z, c.ranges.tab) at (rw c.params-to_sql.ensures at h.1))) in
       let terms = ap (lists_by_terms tab) c.in_ok-whole.ensures.expects in
@@ -34,5 +34,5 @@ returns g c = record {
             rw w.result-is (at_end (found_places tab) h.0 _ _ found _ _ _ next.result shown next.ensures.next (some_left tab (drop next.new.self.term next.new.self.terms.items) next.new.self.list) (λ none. none tab))
         | else-whole w ↦ rw (w.result-is, w.if-whole.false) (others_at_end (found_places tab) h.0 _ _ shown (λ more e. (rw w.if-whole.false at made) more (e ∙ sym terms)))
       ];
-  read = record { kept = c.in_ok-whole.ensures.read.kept; live = c.in_ok-whole.ensures.read.live; mode = c.in_ok-whole.ensures.read.mode; survives = c.in_ok-whole.ensures.read.survives; fault = search rules };
+  read = record { kept = c.in_ok-whole.ensures.given.read.kept; live = c.in_ok-whole.ensures.given.read.live; mode = c.in_ok-whole.ensures.given.read.mode; survives = c.in_ok-whole.ensures.given.read.survives; fault = search rules };
 }

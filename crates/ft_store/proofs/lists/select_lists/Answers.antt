@@ -3,9 +3,9 @@ use Rattle.ft_store.proofs.lists.select_lists.Goals as goal
 
 pub returns-then-branch : goal.returns-then-branch
 returns-then-branch g c =
-    let it = c.in_ok-gather.ensures in
+    let it = c.in_ok-gather.ensures.given in
     record {
-      rows = λ clean. rw c.if-branch.true at (it.made clean);
+      rows = λ clean. rw c.if-branch.true at (it.rows clean);
       damaged = search rules;
       stays = search rules;
       read = record { kept = it.read.kept; live = it.read.live; mode = it.read.mode; survives = it.read.survives; fault = search rules };
@@ -13,10 +13,10 @@ returns-then-branch g c =
 
 pub returns-else-branch : goal.returns-else-branch
 returns-else-branch g c =
-    let it = c.in_ok-gather.ensures in
+    let it = c.in_ok-gather.ensures.given in
     record {
       rows = search rules;
-      damaged = λ clean is. rw c.if-branch.false at (it.made clean);
+      damaged = λ clean is. rw c.if-branch.false at (it.rows clean);
       stays = λ clean is. it.read.live clean;
       read = record { kept = it.read.kept; live = search rules; mode = it.read.mode; survives = it.read.survives; fault = search rules };
     }
