@@ -4,7 +4,7 @@ use Rattle.sqlite.specs.State.{State, HasCleanDisk, Survives}
 use Rattle.sqlite.proofs.StateLemmas.{survives_then}
 use Rattle.std.specs.Prelude.{IfErr, OnOk}
 use Rattle.sqlite.specs.Store.{Ghosts}
-use Rattle.sqlite.specs.Held.{Held, state}
+use Rattle.sqlite.specs.Held.{Held}
 use Rattle.ft_store.specs.declared.fault.StoreFault.{StoreFault}
 use Rattle.ft_store.specs.Calls.{IsStore, IsStoreIfOpen, IsPlainFault, Keeps, Reads}
 
