@@ -1,9 +1,15 @@
 -- A query in a transaction that is undone changes nothing; why a database with the tables of a store is not taken.
-use Rattle.std.proofs.Common.{◌≡◌, ◌≢◌, ◌⊎◌, inl, inr, true, false, List, [], ℕ, ℤ, length, Option, Some, None, Result, Ok, Err, sym, ap, ◌∙◌, arith, IsTrue, cond}
-use Rattle.std.specs.Prelude.{Vec, IfOk, IfErr, OnErr}
+use Rattle.std.proofs.Common.{◌≡◌, ◌⊎◌, inl, inr, true, false, List, [], ◌∷◌, ℕ, ℤ, length, Option, Some, None, Result, Ok, Err, refl, sym, ap, ◌∙◌, arith, IsTrue, cond}
+use Rattle.std.specs.Prelude.{Bool, if◌then◌else◌, Vec, IfOk, IfErr, OnErr}
 use Rattle.std.specs.declared.alloc.Global.{Global}
 use Rattle.sqlite.specs.declared.error.Error.{Error}
-use Rattle.sqlite.specs.Order.{Row}
+use Rattle.sqlite.specs.declared.error.Error.TheVariants as error
+use Rattle.sqlite.specs.declared.error.Error.TheVariants.{SqliteFailure}
+use Rattle.sqlite.specs.declared.error.ErrorCode.{ErrorCode}
+use Rattle.sqlite.specs.declared.error.ErrorCode.TheVariants as code
+use Rattle.sqlite.specs.declared.types.Value.{Value}
+use Rattle.sqlite.specs.declared.types.Value.TheVariants as value
+use Rattle.sqlite.specs.Order.{Row, column}
 use Rattle.sqlite_schema.specs.declared.command.Returning.{Returning}
 use Rattle.sqlite.specs.Clock.{timed}
 use Rattle.sqlite.specs.State.{State, Shown, ShowsRows, IsUnchanged, IsRolledBack, KeepsCommit, FailsToQuery, IsTooLate}
@@ -16,7 +22,8 @@ use Rattle.ft_store.specs.declared.fault.StoreFault.{StoreFault}
 use Rattle.ft_store.specs.declared.fault.StoreFault.TheVariants as fault
 use Rattle.ft_store.specs.Tables.{no_schema}
 use Rattle.ft_store.specs.Older.{HasStoreTables}
-use Rattle.ft_store.specs.Adopted.{Gives, version_query, IsAdoptFault, IsOfVersion, IsNotTaken}
+use Rattle.ft_store.specs.Adopted.{Gives, version_query, version_cause, rows_cause, error_cause, told_cause, IsAdoptFault, IsNotTaken}
+use Rattle.ft_store.specs.Settled.{IsJudged}
 use Rattle.ft_store.proofs.CallLemmas.{refused_keeps}
 
 unchanged_keeps : (old new : State) → IsUnchanged old new → KeepsCommit old new
@@ -66,16 +73,76 @@ err_too (Err e) k = k
 
 pub not_taken : {S : Type 0} (g : Ghosts S) (old new : Held S) (result : Result (Unit {0}) StoreFault) → HasStoreTables old.schema
     → (HasCleanDisk (state g new) → OnErr result (Keeps (state g old) (state g new))) → new.in_transaction ≡ false → IfErr result IsAdoptFault
-    → (HasCleanDisk (state g new) → result ≡ Err fault.NotAStore → length ((state g old).now.trees 0) ≢ 1)
-    → (HasCleanDisk (state g new) → (n : ℤ) → result ≡ Err (fault.Version n) → IsOfVersion n (state g old).now.trees) → IfErr result (IsNotTaken g old new)
-not_taken g old new (Ok done) tables kept settled kind unmarked version = tt
-not_taken g old new (Err e) tables kept settled kind unmarked version = record {
+    → (HasCleanDisk (state g new) → IsJudged (state g old).now.trees result) → IfErr result (IsNotTaken g old new)
+not_taken g old new (Ok done) tables kept settled kind judged = tt
+not_taken g old new (Err e) tables kept settled kind judged = record {
   kept = kept;
   settled = settled;
   kind = kind;
   bare = λ none. absurd (not_bare old.schema tables none);
-  unmarked = λ clean ours is. unmarked clean (ap Err is);
-  version = λ clean n ours is. version clean n (ap Err is);
+  unmarked = λ clean ours is. (judged clean).unmarked (ap Err is);
+  version = λ clean n ours is. (judged clean).version n (ap Err is);
   other = λ some others unnamed. absurd (others tables);
   told = λ clean some others named. absurd (others tables);
 }
+
+-- ---- whatever a database tells of its version, it is not taken for one of these causes
+
+cause_or : (b : Bool) (n : ℤ) → IsAdoptFault (if b then fault.Refused else fault.Version n)
+cause_or true n = inl (inr refl)
+cause_or false n = inr (inr (n, refl))
+
+version_kind : (v : Value) → IsAdoptFault (version_cause v)
+version_kind value.Null = inr (inl refl)
+version_kind (value.Int n) = cause_or _ n
+version_kind (value.Real x) = inr (inl refl)
+version_kind (value.Text t) = inr (inl refl)
+version_kind (value.Blob b) = inr (inl refl)
+
+rows_kind : (rows : List Row) → IsAdoptFault (rows_cause rows)
+rows_kind [] = inr (inl refl)
+rows_kind (row ∷ []) = version_kind (column row 0)
+rows_kind (row ∷ second ∷ more) = inr (inl refl)
+
+code_kind : (c : ErrorCode) → IsAdoptFault (error_cause (SqliteFailure c))
+code_kind code.OutOfMemory = inl (inl refl)
+code_kind code.SystemIoFailure = inl (inr refl)
+code_kind code.DatabaseCorrupt = inl (inr refl)
+code_kind code.DiskFull = inl (inr refl)
+code_kind code.Closed = inl (inr refl)
+code_kind (code.ConstraintViolation rule) = inr (inl refl)
+code_kind code.TypeMismatch = inr (inl refl)
+code_kind code.IntegerOverflow = inr (inl refl)
+code_kind code.NoRowid = inr (inl refl)
+code_kind code.ForeignKeyMismatch = inr (inl refl)
+code_kind code.TooDeep = inr (inl refl)
+code_kind code.NoClock = inr (inl refl)
+code_kind code.NameTaken = inr (inl refl)
+code_kind code.BadName = inr (inl refl)
+code_kind code.BadKey = inr (inl refl)
+code_kind code.BadText = inr (inl refl)
+code_kind code.SchemaTooBig = inr (inl refl)
+code_kind code.TransactionState = inr (inl refl)
+code_kind code.NoSuchSavepoint = inr (inl refl)
+code_kind code.OperationInterrupted = inr (inl refl)
+code_kind code.NotADatabase = inr (inl refl)
+code_kind code.CannotOpen = inr (inl refl)
+code_kind code.DatabaseBusy = inr (inl refl)
+code_kind code.TooBig = inr (inl refl)
+
+error_kind : (e : Error) → IsAdoptFault (error_cause e)
+error_kind (error.SqliteFailure c) = code_kind c
+error_kind (error.SqlInputError e) = inr (inl refl)
+error_kind (error.InvalidParameterCount given wanted) = inr (inl refl)
+error_kind error.ExecuteReturnedResults = inr (inl refl)
+error_kind error.InvalidQuery = inr (inl refl)
+error_kind error.MultipleStatement = inr (inl refl)
+error_kind error.QueryReturnedNoRows = inr (inl refl)
+error_kind (error.InvalidColumnIndex i) = inr (inl refl)
+error_kind (error.InvalidColumnType i kind) = inr (inl refl)
+error_kind (error.IntegralValueOutOfRange i) = inr (inl refl)
+error_kind (error.Utf8Error i) = inr (inl refl)
+
+pub told_kind : (found : Result (Vec Row Global) Error) → IsAdoptFault (told_cause found)
+told_kind (Ok rows) = rows_kind rows.items
+told_kind (Err e) = error_kind e

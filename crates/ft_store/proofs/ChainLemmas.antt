@@ -1,8 +1,12 @@
 -- Reads one after another.
-use Rattle.std.proofs.Common.{◌≡◌, false, refl, sym, ◌∙◌, subst, arith, IsTrue, inl}
+use Rattle.std.proofs.Common.{◌≡◌, false, Result, Ok, Err, refl, sym, ◌∙◌, subst, arith, IsTrue, inl}
 use Rattle.sqlite.specs.State.{State, HasCleanDisk, Survives}
 use Rattle.sqlite.proofs.StateLemmas.{survives_then}
-use Rattle.ft_store.specs.Calls.{IsStore, IsStoreIfOpen, Keeps}
+use Rattle.std.specs.Prelude.{IfErr, OnOk}
+use Rattle.sqlite.specs.Store.{Ghosts}
+use Rattle.sqlite.specs.Held.{Held}
+use Rattle.ft_store.specs.declared.fault.StoreFault.{StoreFault}
+use Rattle.ft_store.specs.Calls.{IsStore, IsStoreIfOpen, IsPlainFault, Keeps, Reads}
 
 pub kept_store : (old new : State) (C : _) → (HasCleanDisk new → Keeps old new) → Survives old new C → IsStoreIfOpen old → IsStoreIfOpen new
 kept_store old new C kept s store clean is_open =
@@ -53,3 +57,12 @@ module _ (a b c : State) (one : Looking a b) (kept : HasCleanDisk c → Keeps b 
 
   pub look_on : c.in_transaction ≡ false → (HasCleanDisk c → IsTrue c.is_open) → Looking a c
   look_on mode live = record { mode = mode; kept = look_kept; live = λ clean is_open. live clean; survives = look_survives }
+
+-- ---- a read that was answered, and then what is made of its rows
+
+ok_too : {A E K : Type 0} (r : Result A E) → K → OnOk r K
+ok_too (Ok a) k = k
+ok_too (Err e) k = tt
+
+pub reads_on : {S X Y : Type 0} (g : Ghosts S) (old new : Held S) (x : X) (result : Result Y StoreFault) → Reads g old new (Ok x) IsPlainFault → IfErr result IsPlainFault → Reads g old new result IsPlainFault
+reads_on g old new x result it fault = record { kept = it.kept; live = λ clean. ok_too result (it.live clean); mode = it.mode; survives = it.survives; fault = fault }

@@ -134,6 +134,14 @@ pub record MakesAllOrNone (old new : State) (result : Result (Unit {0}) StoreFau
   pub live : HasCleanDisk new → OnOk result (IsTrue old.is_open × IsTrue new.is_open)
   pub crash : Survives old new (λ db. IsTrue old.is_open → IsStored db (all_applied changes (value_of old.now.trees)))
 
+-- What a call that makes changes in a transaction of its own does: that, where they can be made, and otherwise it may be refused as damaged. It
+-- ends outside a transaction.
+pub record ChangesAllOrNone (old new : State) (result : Result (Unit {0}) StoreFault) (CanBeMade : Type 0) (changes : List Change) : Type 0 where
+  pub packable : OnOk result CanBeMade
+  pub made : MakesAllOrNone old new result changes
+  pub mode : new.in_transaction ≡ false
+  pub fault : IfErr result (IsChangeFault CanBeMade)
+
 -- the fault that an error of the database is: want of memory is Memory, any other is Refused
 abbrev pub fault_of : Error → StoreFault
 fault_of (SqliteFailure code.OutOfMemory) = fault.Memory

@@ -1,5 +1,5 @@
 -- Steps. Posting rows that are written by one statement.
-use Rattle.std.specs.Prelude.{ℕ, pos, List, [], ◌∷◌, map, unwrap_or, string_bytes, Result, IfOk, IsTrue}
+use Rattle.std.specs.Prelude.{◌≡◌, ℕ, pos, List, [], ◌∷◌, map, unwrap_or, string_bytes, Result, All, IfOk, IsTrue}
 use Rattle.std.specs.declared.cmp.Ordering.{Ordering}
 use Rattle.std.specs.FinMap.Entries.{put}
 use Rattle.sqlite.specs.declared.types.Value.TheVariants.{Int, Text, Blob}
@@ -44,6 +44,11 @@ entry_put _ = ((pos 0, [], pos 0), [])
 abbrev pub PutsList : RowChange → Type 0
 PutsList (row.PutEntries tab term docid spots) = CanPack spots.items
 PutsList _ = ⊥
+
+-- the packed lists that changes put, each of which puts one
+pub record ArePacked (changes : List RowChange) (lists : List (List ℕ)) : Type 0 where
+  pub puts : All PutsList changes
+  pub packed : lists ≡ map (λ c. (entry_put c).1) changes
 
 -- What steps in a transaction do: where the disk did what it was told and they are Ok, the value is that of `f`, which reads
 -- what they answer.

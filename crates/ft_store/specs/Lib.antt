@@ -9,10 +9,12 @@ pub mod Tables
 pub mod Expected
 pub mod Found
 pub mod Groups
+pub mod Inside
 pub mod Made
 pub mod Opened
 pub mod Parts
 pub mod Range
 pub mod Same
 pub mod Scan
+pub mod Settled
 pub mod Streamed

@@ -32,3 +32,9 @@ pub record IsNotTakenFrom {D : Type 0} (g : disk.Ghosts D) (image : Image) (caus
 -- an open is refused for a plain fault, or since the database that was found is not taken
 abbrev pub IsRefusedFrom : {D : Type 0} {g : disk.Ghosts D} → Image → Result (StoreState (FileStore D g)) StoreFault → Type 0
 IsRefusedFrom {D} {g} image result = IfErr result (λ cause. IsPlainFault cause ⊎ IsNotTakenFrom g image cause)
+
+-- a connection that was just opened over files that held this image
+pub record IsNewFrom {D : Type 0} {g : disk.Ghosts D} (image : Image) (conn : Held (FileStore D g)) : Type 0 where
+  pub fresh : IsNew conn
+  pub opened : HasCleanDisk (file_state conn) → IsOpened conn
+  pub found : HasCleanDisk (file_state conn) → FindsIn image (file_state conn)

@@ -1,11 +1,12 @@
 //! Whether a database is taken as a store.
 ghost use Rattle.std.specs.Prelude.{◌≡◌, false, IsTrue, IfErr, OnOk};
 ghost use Rattle.std.specs.List.{list_any};
-ghost use Rattle.sqlite.specs.State.{HasCleanDisk, Survives};
+ghost use Rattle.sqlite.specs.State.{HasCleanDisk};
 ghost use Rattle.sqlite.specs.Held.{state};
 ghost use Rattle.sqlite_schema.specs.Names.{same_name};
 ghost use Rattle.ft_store.specs.Adopted.{TellsAs, rows_cause, error_cause, told_cause, our_names, has_our_name, IsAdoptFault, IsTaken, IsNotTaken, LeavesMade};
-ghost use Rattle.ft_store.specs.Calls.{IsStoreIfOpen, Keeps};
+ghost use Rattle.ft_store.specs.Calls.{IsStoreIfOpen};
+ghost use Rattle.ft_store.specs.Settled.{LeavesAlone};
 
 use crate::examine::examine;
 use crate::fault::StoreFault;
@@ -21,10 +22,7 @@ use sqlite_schema::schema::Schema;
 fn version_answer<S: Alter>(conn: &mut Connection<S>) -> Result<Vec<Row>, SqlError>
     requires settled { (state S.Store conn.old).in_transaction ≡ false }
     ensures told { HasCleanDisk (state S.Store conn.new) → TellsAs S.Store conn.old result }
-    ensures kept { HasCleanDisk (state S.Store conn.new)
-        → Keeps (state S.Store conn.old) (state S.Store conn.new) }
-    ensures mode { (state S.Store conn.new).in_transaction ≡ false }
-    ensures survives { Survives (state S.Store conn.old) (state S.Store conn.new) (λ _. ⊥) }
+    ensures alone { LeavesAlone (state S.Store conn.old) (state S.Store conn.new) }
 {
     let _settled = conn.is_autocommit();
     let mut tx = conn.transaction();
@@ -34,8 +32,7 @@ fn version_answer<S: Alter>(conn: &mut Connection<S>) -> Result<Vec<Row>, SqlErr
 }
 
 fn cause_of_rows(rows: &[Row]) -> StoreFault
-    ensures is { result ≡ rows_cause rows.now }
-    ensures cause { IsAdoptFault result }
+    ensures { result ≡ rows_cause rows.now }
 {
     match rows {
         [row] => match row.get_ref(0) {
@@ -48,8 +45,7 @@ fn cause_of_rows(rows: &[Row]) -> StoreFault
 }
 
 fn cause_of_error(error: &SqlError) -> StoreFault
-    ensures is { result ≡ error_cause error.now }
-    ensures cause { IsAdoptFault result }
+    ensures { result ≡ error_cause error.now }
 {
     match error {
         SqlError::SqliteFailure(ErrorCode::OutOfMemory) => StoreFault::Memory,
@@ -64,8 +60,7 @@ fn cause_of_error(error: &SqlError) -> StoreFault
 }
 
 fn cause_told(found: &Result<Vec<Row>, SqlError>) -> StoreFault
-    ensures is { result ≡ told_cause found.now }
-    ensures cause { IsAdoptFault result }
+    ensures { result ≡ told_cause found.now }
 {
     match found {
         Ok(rows) => cause_of_rows(rows.as_slice()),
@@ -107,10 +102,7 @@ fn foreign<S: Alter>(conn: &mut Connection<S>) -> StoreFault
         → IsTrue (has_our_name (state S.Store conn.old).now.schema) → (found : _)
         × TellsAs S.Store conn.old found × (result ≡ told_cause found) }
     ensures cause { IsAdoptFault result }
-    ensures kept { HasCleanDisk (state S.Store conn.new)
-        → Keeps (state S.Store conn.old) (state S.Store conn.new) }
-    ensures mode { (state S.Store conn.new).in_transaction ≡ false }
-    ensures survives { Survives (state S.Store conn.old) (state S.Store conn.new) (λ _. ⊥) }
+    ensures alone { LeavesAlone (state S.Store conn.old) (state S.Store conn.new) }
 {
     if names_ours(conn.schema()) {
         let found = version_answer(conn);

@@ -1,14 +1,15 @@
 //! Whether a database with the tables of a store is one.
-ghost use Rattle.std.specs.Prelude.{◌≡◌, ◌≢◌, false, ℤ, ◌<◌, [], ◌∷◌, map, length, MatchOption, IfSome, ◌<ℤ◌, Err, Some, None, IsTrue, IfOk, IfErr, OnOk};
-ghost use Rattle.sqlite.specs.State.{HasCleanDisk, Survives};
+ghost use Rattle.std.specs.Prelude.{◌≡◌, ◌≢◌, false, ℤ, ◌<◌, [], ◌∷◌, map, length, MatchOption, IfSome, ◌<ℤ◌, Err, Some, None, IsTrue, IfErr, OnOk};
+ghost use Rattle.sqlite.specs.State.{HasCleanDisk};
 ghost use Rattle.sqlite.specs.Held.{state};
 ghost use Rattle.sqlite.specs.Order.{column};
 ghost use Rattle.sqlite.specs.declared.types.Value.TheVariants.{Int};
 ghost use Rattle.ft_store.specs.declared.same.Layout.{Layout};
 ghost use Rattle.ft_store.specs.Scan.{Scans, tree_at};
 ghost use Rattle.ft_store.specs.Older.{schema_of, tables_of, version_of, IsStoreBy};
-ghost use Rattle.ft_store.specs.Adopted.{IsAdoptFault, IsOtherVersion, IsOfVersion};
-ghost use Rattle.ft_store.specs.Calls.{HasOwnRowids, AreNumbered, IsPlainFault, Keeps, Reads};
+ghost use Rattle.ft_store.specs.Adopted.{IsAdoptFault, IsOtherVersion};
+ghost use Rattle.ft_store.specs.Calls.{HasOwnRowids, AreNumbered, Reads};
+ghost use Rattle.ft_store.specs.Settled.{IsSettled, IsLaidOut, IsJudged, Finds, ReadsFor};
 
 use crate::fault::StoreFault;
 use crate::read::select;
@@ -80,14 +81,9 @@ fn is_numbered<S: Alter>(
     at: usize,
 ) -> Result<bool, StoreFault>
     requires within { at < tables_of layout }
-    requires schema { HasCleanDisk (state S.Store conn.old)
-        → IsTrue (state S.Store conn.old).is_open
-        → (state S.Store conn.old).now.schema ≡ schema_of layout }
-    requires settled { (state S.Store conn.old).in_transaction ≡ false }
-    ensures own { HasCleanDisk (state S.Store conn.new)
-        → IfOk result (λ b. IsTrue b
-        → HasOwnRowids ((state S.Store conn.old).now.trees (tree_at at))) }
-    ensures read { Reads S.Store conn.old conn.new result IsPlainFault }
+    requires rest { IsSettled (IsLaidOut layout) (state S.Store conn.old) }
+    ensures { ReadsFor S.Store conn.old conn.new result
+        (λ b. IsTrue b → HasOwnRowids ((state S.Store conn.old).now.trees (tree_at at))) }
 {
     let mut numbers = Rising { last: None };
     gather(conn, rowids_query(at), &[], &mut numbers)
@@ -95,9 +91,8 @@ fn is_numbered<S: Alter>(
 
 /// The version, where `meta` has one row.
 fn only_number(rows: &[Row]) -> Result<Option<i64>, StoreFault>
-    ensures one { IfOk result (λ o. MatchOption o (length rows.now ≢ 1)
+    ensures { Finds result (λ o. MatchOption o (length rows.now ≢ 1)
         (λ n. map (λ r. column r 0) rows.now ≡ Int n ∷ [])) }
-    ensures fault { IfErr result IsPlainFault }
 {
     match rows {
         [row] => Ok(Some(row.get(0)?)),
@@ -107,14 +102,10 @@ fn only_number(rows: &[Row]) -> Result<Option<i64>, StoreFault>
 
 /// The version, where `meta` has one row.
 fn version<S: Alter>(conn: &mut Connection<S>, layout: Layout) -> Result<Option<i64>, StoreFault>
-    requires schema { HasCleanDisk (state S.Store conn.old)
-        → IsTrue (state S.Store conn.old).is_open
-        → (state S.Store conn.old).now.schema ≡ schema_of layout }
-    requires settled { (state S.Store conn.old).in_transaction ≡ false }
-    ensures one { HasCleanDisk (state S.Store conn.new)
-        → IfOk result (λ o. MatchOption o (length ((state S.Store conn.old).now.trees 0) ≢ 1)
+    requires { IsSettled (IsLaidOut layout) (state S.Store conn.old) }
+    ensures { ReadsFor S.Store conn.old conn.new result
+        (λ o. MatchOption o (length ((state S.Store conn.old).now.trees 0) ≢ 1)
         (λ n. map (λ r. column r 2) ((state S.Store conn.old).now.trees 0) ≡ Int n ∷ [])) }
-    ensures read { Reads S.Store conn.old conn.new result IsPlainFault }
 {
     let rows = select(conn, "SELECT version FROM meta", &[])?;
     only_number(rows.as_slice())
@@ -122,21 +113,10 @@ fn version<S: Alter>(conn: &mut Connection<S>, layout: Layout) -> Result<Option<
 
 /// Whether no two rows of any table have one rowid.
 fn are_numbered<S: Alter>(conn: &mut Connection<S>, layout: Layout) -> Result<bool, StoreFault>
-    requires schema { HasCleanDisk (state S.Store conn.old)
-        → IsTrue (state S.Store conn.old).is_open
-        → (state S.Store conn.old).now.schema ≡ schema_of layout }
-    requires settled { (state S.Store conn.old).in_transaction ≡ false }
-    ensures own { HasCleanDisk (state S.Store conn.new)
-        → IfOk result (λ b. IsTrue b
+    requires { IsSettled (IsLaidOut layout) (state S.Store conn.old) }
+    ensures { ReadsFor S.Store conn.old conn.new result
+        (λ b. IsTrue b
         → AreNumbered (schema_of layout).tables (state S.Store conn.old).now.trees) }
-    ensures kept { HasCleanDisk (state S.Store conn.new)
-        → Keeps (state S.Store conn.old) (state S.Store conn.new) }
-    ensures live { HasCleanDisk (state S.Store conn.new) → IsTrue (state S.Store conn.old).is_open
-        → OnOk result (IsTrue (state S.Store conn.new).is_open) }
-    ensures fault { IfErr result IsPlainFault }
-    ensures mode { (state S.Store conn.new).in_transaction ≡ false }
-    ensures survives { Survives (state S.Store conn.old) (state S.Store conn.new)
-        (λ _. IsTrue (state S.Store conn.old).is_open → ⊥) }
 {
     for at in 0..tables_in(layout) {
         if !is_numbered(conn, layout, at)? {
@@ -164,25 +144,12 @@ fn judge(found: Option<i64>, layout: Layout) -> Result<(), StoreFault>
 
 /// Whether a database with the tables of a store is a store. Nothing changes.
 pub(crate) fn examine<S: Alter>(conn: &mut Connection<S>, layout: Layout) -> Result<(), StoreFault>
-    requires schema { HasCleanDisk (state S.Store conn.old)
-        → IsTrue (state S.Store conn.old).is_open
-        → (state S.Store conn.old).now.schema ≡ schema_of layout }
-    requires settled { (state S.Store conn.old).in_transaction ≡ false }
+    requires { IsSettled (IsLaidOut layout) (state S.Store conn.old) }
     ensures store { HasCleanDisk (state S.Store conn.new)
         → OnOk result (IsStoreBy layout (state S.Store conn.new).now) }
-    ensures live { HasCleanDisk (state S.Store conn.new)
-        → OnOk result (IsTrue (state S.Store conn.new).is_open) }
-    ensures unmarked { HasCleanDisk (state S.Store conn.new) → result ≡ Err StoreFault.NotAStore
-        → length ((state S.Store conn.old).now.trees 0) ≢ 1 }
-    ensures version { HasCleanDisk (state S.Store conn.new)
-        → (n : ℤ) → result ≡ Err (StoreFault.Version n)
-        → IsOfVersion n (state S.Store conn.old).now.trees }
-    ensures cause { IfErr result IsAdoptFault }
-    ensures kept { HasCleanDisk (state S.Store conn.new)
-        → Keeps (state S.Store conn.old) (state S.Store conn.new) }
-    ensures mode { (state S.Store conn.new).in_transaction ≡ false }
-    ensures survives { Survives (state S.Store conn.old) (state S.Store conn.new)
-        (λ _. IsTrue (state S.Store conn.old).is_open → ⊥) }
+    ensures judged { HasCleanDisk (state S.Store conn.new)
+        → IsJudged (state S.Store conn.old).now.trees result }
+    ensures read { Reads S.Store conn.old conn.new result IsAdoptFault }
 {
     let _schema = conn.schema();
     judge(version(conn, layout)?, layout)?;

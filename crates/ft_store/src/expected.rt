@@ -1,15 +1,15 @@
 //! Whether the lists of a table are exactly those that are expected.
-ghost use Rattle.std.specs.Prelude.{◌≡◌, ◌↔◌, ℤ, ◌-◌, ◌^◌, min, drop, [], IsTrue, IfOk, IfErr, MatchBool};
+ghost use Rattle.std.specs.Prelude.{◌≡◌, ◌↔◌, ℤ, ◌-◌, ◌^◌, min, drop, [], IsTrue, MatchBool};
 ghost use Rattle.std.specs.Ordering.{int_eq};
 ghost use Rattle.std.specs.FinMap.Entries.{where_key};
-ghost use Rattle.sqlite.specs.State.{HasCleanDisk};
 ghost use Rattle.sqlite.specs.Held.{state};
 ghost use Rattle.ft_rows.specs.Store.{list_key_cmp};
 ghost use Rattle.ft_rows.specs.Terms.{lists_by_terms};
 ghost use Rattle.ft_store.specs.Rows.{value_of};
 ghost use Rattle.ft_store.specs.Found.{found_spots, found_places};
 ghost use Rattle.ft_store.specs.Expected.{left_of, HasMore, place_count};
-ghost use Rattle.ft_store.specs.Calls.{IsPlainFault, Reads, IsAtRest};
+ghost use Rattle.ft_store.specs.Calls.{IsAtRest};
+ghost use Rattle.ft_store.specs.Settled.{Finds, ReadsFor};
 
 use crate::fault::StoreFault;
 use crate::lists::count_spots;
@@ -65,8 +65,7 @@ impl Expected {
 
 /// Whether the second column has these places as a packed list. Damaged bytes have none.
 fn has_spots(alloc: Global, row: &Row, spots: &[Spot]) -> Result<bool, StoreFault>
-    ensures same { IfOk result (λ b. IsTrue b ↔ ((found_spots row.now).1 ≡ spots.now)) }
-    ensures fault { IfErr result IsPlainFault }
+    ensures { Finds result (λ b. IsTrue b ↔ ((found_spots row.now).1 ≡ spots.now)) }
 {
     let ValueRef::Blob(bytes) = row.get_ref(1)? else {
         return Err(StoreFault::Refused);
@@ -79,9 +78,8 @@ fn has_spots(alloc: Global, row: &Row, spots: &[Spot]) -> Result<bool, StoreFaul
 
 /// Whether a row, in which docid and packed list come before the term, is this list of the term.
 fn is_list(alloc: Global, row: &Row, term: &str, list: &ListRow) -> Result<bool, StoreFault>
-    ensures same { IfOk result (λ b. (tab : ℤ) → IsTrue b ↔ (found_places tab row.now
+    ensures { Finds result (λ b. (tab : ℤ) → IsTrue b ↔ (found_places tab row.now
         ≡ ((tab, term.now, list.now.docid), list.now.spots.items))) }
-    ensures fault { IfErr result IsPlainFault }
 {
     let docid: i64 = row.get(0)?;
     let ValueRef::Text(bytes) = row.get_ref(2)? else {
@@ -130,10 +128,9 @@ pub(crate) fn has_lists<S: Alter>(
     terms: Vec<TermLists>,
 ) -> Result<bool, StoreFault>
     requires { IsAtRest (state S.Store conn.old) }
-    ensures same { HasCleanDisk (state S.Store conn.new)
-        → IfOk result (λ b. IsTrue b ↔ (where_key list_key_cmp (λ k. int_eq tab k.0)
+    ensures { ReadsFor S.Store conn.old conn.new result
+        (λ b. IsTrue b ↔ (where_key list_key_cmp (λ k. int_eq tab k.0)
         (value_of (state S.Store conn.old).now.trees).lists ≡ lists_by_terms tab terms.items)) }
-    ensures read { Reads S.Store conn.old conn.new result IsPlainFault }
 {
     let mut expected = Expected {
         alloc,

@@ -8,7 +8,8 @@ ghost use Rattle.sqlite.specs.Start.{FindsIn};
 ghost use Rattle.sqlite.specs.Opening.{is_open_error};
 ghost use Rattle.sqlite.specs.Files.{file_state, IsOpened};
 ghost use Rattle.sqlite.specs.declared.error.Error.{Error};
-ghost use Rattle.ft_store.specs.Calls.{IsPlainFault};
+ghost use Rattle.ft_store.specs.Opened.{IsNewFrom};
+ghost use Rattle.ft_store.specs.Settled.{Finds};
 ghost use Rattle.ft_store.specs.declared.fault.StoreFault.TheVariants as fault;
 
 use crate::fault::StoreFault;
@@ -111,11 +112,7 @@ pub(crate) fn open_for_store<S: Start>(
     start: S,
 ) -> Result<Connection<FileStore<FileFrom<S>>>, StoreFault>
     ensures memory { path.now ≡ codes ":memory:" → result ≡ Err fault.Refused }
-    ensures opened { IfOk result (λ c. HasCleanDisk (file_state c) → IsOpened c) }
-    ensures found { IfOk result (λ c. HasCleanDisk (file_state c)
-        → FindsIn (image_at S.Start) (file_state c)) }
-    ensures fresh { IfOk result IsNew }
-    ensures fault { IfErr result IsPlainFault }
+    ensures given { Finds result (IsNewFrom (image_at S.Start)) }
 {
     match open_database(rt, path, start) {
         Ok(conn) => Ok(conn),

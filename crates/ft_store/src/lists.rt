@@ -1,22 +1,21 @@
 //! Queries on the lists of terms.
-ghost use Rattle.std.specs.Prelude.{◌≡◌, ◌≢◌, false, ◌&&◌, ℤ, List, ◌<◌, ◌-◌, ◌^◌, [], ◌++◌, map, min, nat_eq, Err, IsTrue, IfOk, IfErr, OnOk, MatchOption};
-ghost use Rattle.std.specs.Ordering.{int_eq, is_eq};
-ghost use Rattle.std.specs.List.{AllByRecursion, starts_with, flat_map};
+ghost use Rattle.std.specs.Prelude.{◌≡◌, ◌≢◌, false, ℤ, ◌<◌, ◌-◌, ◌^◌, [], ◌++◌, map, min, Err, IfOk, OnOk, MatchOption};
+ghost use Rattle.std.specs.Ordering.{int_eq};
+ghost use Rattle.std.specs.List.{AllByRecursion, flat_map};
 ghost use Rattle.std.specs.FinMap.Entries.{where_key};
-ghost use Rattle.sqlite.specs.State.{HasCleanDisk, Shown};
-ghost use Rattle.sqlite.specs.Given.{IsPlain};
-ghost use Rattle.sqlite.specs.Listing.{understood};
+ghost use Rattle.sqlite.specs.State.{Shown};
 ghost use Rattle.sqlite.specs.Order as order;
 ghost use Rattle.sqlite.specs.Values.{bound};
 ghost use Rattle.sqlite.specs.Held.{state};
 ghost use Rattle.sqlite_value.specs.Value.{owned};
 ghost use Rattle.sqlite.specs.declared.types.Value.TheVariants.{Int};
-ghost use Rattle.ft_rows.specs.Store.{list_key_cmp, name_cmp};
+ghost use Rattle.ft_rows.specs.Store.{list_key_cmp};
 ghost use Rattle.ft_store.specs.Rows.{value_of};
 ghost use Rattle.ft_store.specs.Range.{after_last};
 ghost use Rattle.ft_store.specs.Found.{found_spots, found_places};
-ghost use Rattle.ft_rows.specs.Shown.{shown_list, shown_entry, entries_with, entries_of, lists_of_term, lists_of_prefix, spot_count, AreWhole, AreRead, SomeDamaged};
-ghost use Rattle.ft_store.specs.Calls.{IsPlainFault, IsReadFault, Reads, IsAtRest};
+ghost use Rattle.ft_rows.specs.Shown.{shown_list, shown_entry, entries_with, entries_of, lists_of_term, lists_of_prefix, spot_count, AreWhole, SomeDamaged};
+ghost use Rattle.ft_store.specs.Calls.{IsAtRest};
+ghost use Rattle.ft_store.specs.Settled.{IsSettled, IsPlainIn, Finds, ReadsLists, GivesLists, GivesEntries, GivesRows};
 
 use crate::fault::StoreFault;
 use crate::stream::{Gathered, gather};
@@ -30,9 +29,8 @@ use std::alloc::{AllocError, Global};
 
 /// A list, of its row, in which docid and packed list come first; none where its bytes are damaged.
 fn list_row(alloc: Global, row: &Row) -> Result<Option<ListRow>, StoreFault>
-    ensures found { IfOk result (λ list. MatchOption list ((found_spots row.now).1 ≡ [])
+    ensures { Finds result (λ list. MatchOption list ((found_spots row.now).1 ≡ [])
         (λ l. (shown_list l ≡ found_spots row.now) × ((found_spots row.now).1 ≢ []))) }
-    ensures fault { IfErr result IsPlainFault }
 {
     let docid: i64 = row.get(0)?;
     let ValueRef::Blob(bytes) = row.get_ref(1)? else {
@@ -79,18 +77,12 @@ fn select_lists<S: Alter>(
     sql: &str,
     params: &[ValueRef<'_>],
 ) -> Result<Vec<ListRow>, StoreFault>
-    requires plain { HasCleanDisk (state S.Store conn.old) → IsTrue (state S.Store conn.old).is_open
-        → IsPlain (understood (state S.Store conn.old).now.schema sql.now) }
-    requires settled { (state S.Store conn.old).in_transaction ≡ false }
-    ensures found { HasCleanDisk (state S.Store conn.new)
-        → IfOk result (λ lists. (rows : List order.Row)
-        × Shown sql.now (bound params.now) (state S.Store conn.old) (state S.Store conn.new) rows
-        × (map shown_list lists.items ≡ map found_spots rows) × AreWhole (map found_spots rows)) }
-    ensures damaged { HasCleanDisk (state S.Store conn.new) → result ≡ Err StoreFault.Damaged
-        → (rows : List order.Row)
-        × Shown sql.now (bound params.now) (state S.Store conn.old) (state S.Store conn.new) rows
-        × SomeDamaged (map found_spots rows) }
-    ensures read { Reads S.Store conn.old conn.new result IsReadFault }
+    requires { IsSettled (IsPlainIn sql.now) (state S.Store conn.old) }
+    ensures { ReadsLists S.Store conn.old conn.new result
+        (λ lists. GivesRows S.Store conn.old conn.new sql.now (bound params.now) (λ rows.
+        (map shown_list lists.items ≡ map found_spots rows) × AreWhole (map found_spots rows)))
+        (GivesRows S.Store conn.old conn.new sql.now (bound params.now) (λ rows.
+        SomeDamaged (map found_spots rows))) }
 {
     let mut found = ListsOf {
         alloc,
@@ -172,21 +164,13 @@ fn select_entries<S: Alter>(
     sql: &str,
     params: &[ValueRef<'_>],
 ) -> Result<Vec<EntryRow>, StoreFault>
-    requires plain { HasCleanDisk (state S.Store conn.old) → IsTrue (state S.Store conn.old).is_open
-        → IsPlain (understood (state S.Store conn.old).now.schema sql.now) }
-    requires settled { (state S.Store conn.old).in_transaction ≡ false }
-    ensures found { HasCleanDisk (state S.Store conn.new)
-        → IfOk result (λ entries. (rows : List order.Row)
-        × Shown sql.now (bound params.now) (state S.Store conn.old) (state S.Store conn.new) rows
-        × ((tab : ℤ) → (map shown_entry entries.items ≡ entries_of (map (found_places tab) rows))
-        × AreWhole (map (found_places tab) rows))) }
-    ensures damaged { HasCleanDisk (state S.Store conn.new) → result ≡ Err StoreFault.Damaged
-        → (rows : List order.Row)
-        × Shown sql.now (bound params.now) (state S.Store conn.old) (state S.Store conn.new) rows
-        × ((tab : ℤ) → SomeDamaged (map (found_places tab) rows)) }
-    ensures read { Reads S.Store conn.old conn.new result IsReadFault }
-    ensures stays { HasCleanDisk (state S.Store conn.new) → result ≡ Err StoreFault.Damaged
-        → IsTrue (state S.Store conn.new).is_open }
+    requires { IsSettled (IsPlainIn sql.now) (state S.Store conn.old) }
+    ensures { ReadsLists S.Store conn.old conn.new result
+        (λ entries. GivesRows S.Store conn.old conn.new sql.now (bound params.now) (λ rows.
+        (tab : ℤ) → (map shown_entry entries.items ≡ entries_of (map (found_places tab) rows))
+        × AreWhole (map (found_places tab) rows)))
+        (GivesRows S.Store conn.old conn.new sql.now (bound params.now) (λ rows.
+        (tab : ℤ) → SomeDamaged (map (found_places tab) rows))) }
 {
     let mut found = EntriesOf {
         alloc,
@@ -221,12 +205,8 @@ pub(crate) fn term_lists<S: Alter>(
     term: &str,
 ) -> Result<Vec<ListRow>, StoreFault>
     requires { IsAtRest (state S.Store conn.old) }
-    ensures rows { HasCleanDisk (state S.Store conn.new)
-        → IfOk result (λ found. AreRead (lists_of_term tab term.now
-        (value_of (state S.Store conn.old).now.trees)) found.items) }
-    ensures damaged { HasCleanDisk (state S.Store conn.new) → result ≡ Err StoreFault.Damaged
-        → SomeDamaged (lists_of_term tab term.now (value_of (state S.Store conn.old).now.trees)) }
-    ensures read { Reads S.Store conn.old conn.new result IsReadFault }
+    ensures { GivesLists S.Store conn.old conn.new result
+        (lists_of_term tab term.now (value_of (state S.Store conn.old).now.trees)) }
 {
     select_lists(
         conn,
@@ -244,15 +224,8 @@ pub(crate) fn term<S: Alter>(
     term: &str,
 ) -> Result<Vec<EntryRow>, StoreFault>
     requires { IsAtRest (state S.Store conn.old) }
-    ensures rows { HasCleanDisk (state S.Store conn.new)
-        → IfOk result (λ found. let asked = where_key list_key_cmp
-        (λ k. int_eq tab k.0 && is_eq (name_cmp term.now k.1))
-        (value_of (state S.Store conn.old).now.trees).lists in
-        (map shown_entry found.items ≡ entries_of asked) × AreWhole asked) }
-    ensures damaged { HasCleanDisk (state S.Store conn.new) → result ≡ Err StoreFault.Damaged
-        → SomeDamaged (where_key list_key_cmp (λ k. int_eq tab k.0 && is_eq (name_cmp term.now k.1))
-        (value_of (state S.Store conn.old).now.trees).lists) }
-    ensures read { Reads S.Store conn.old conn.new result IsReadFault }
+    ensures { GivesEntries S.Store conn.old conn.new result
+        (lists_of_term tab term.now (value_of (state S.Store conn.old).now.trees)) }
 {
     let lists = term_lists(conn, alloc, tab, term)?;
     Ok(term_entries(alloc, term, lists.as_slice())?)
@@ -267,16 +240,9 @@ pub(crate) fn entries<S: Alter>(
     tab: i64,
 ) -> Result<Vec<EntryRow>, StoreFault>
     requires { IsAtRest (state S.Store conn.old) }
-    ensures rows { HasCleanDisk (state S.Store conn.new)
-        → IfOk result (λ found. let asked = where_key list_key_cmp (λ k. int_eq tab k.0)
-        (value_of (state S.Store conn.old).now.trees).lists in
-        (map shown_entry found.items ≡ entries_of asked) × AreWhole asked) }
-    ensures damaged { HasCleanDisk (state S.Store conn.new) → result ≡ Err StoreFault.Damaged
-        → SomeDamaged (where_key list_key_cmp (λ k. int_eq tab k.0)
+    ensures { GivesEntries S.Store conn.old conn.new result
+        (where_key list_key_cmp (λ k. int_eq tab k.0)
         (value_of (state S.Store conn.old).now.trees).lists) }
-    ensures read { Reads S.Store conn.old conn.new result IsReadFault }
-    ensures stays { HasCleanDisk (state S.Store conn.new) → result ≡ Err StoreFault.Damaged
-        → IsTrue (state S.Store conn.new).is_open }
 {
     select_entries(
         conn,
@@ -293,13 +259,9 @@ fn table_lists<S: Alter>(
     tab: i64,
 ) -> Result<Vec<ListRow>, StoreFault>
     requires { IsAtRest (state S.Store conn.old) }
-    ensures rows { HasCleanDisk (state S.Store conn.new)
-        → IfOk result (λ found. AreRead (where_key list_key_cmp (λ k. int_eq tab k.0)
-        (value_of (state S.Store conn.old).now.trees).lists) found.items) }
-    ensures damaged { HasCleanDisk (state S.Store conn.new) → result ≡ Err StoreFault.Damaged
-        → SomeDamaged (where_key list_key_cmp (λ k. int_eq tab k.0)
+    ensures { GivesLists S.Store conn.old conn.new result
+        (where_key list_key_cmp (λ k. int_eq tab k.0)
         (value_of (state S.Store conn.old).now.trees).lists) }
-    ensures read { Reads S.Store conn.old conn.new result IsReadFault }
 {
     select_lists(
         conn,
@@ -339,12 +301,8 @@ fn range<'a, S: Alter>(
     requires rest { IsAtRest (state S.Store conn.old) }
     requires some { from.now ≢ [] }
     requires past { end.now ≡ after_last from.now }
-    ensures rows { HasCleanDisk (state S.Store conn.new) → IfOk result (λ found.
-        let asked = lists_of_prefix tab from.now (value_of (state S.Store conn.old).now.trees) in
-        (map shown_entry found.items ≡ entries_of asked) × AreWhole asked) }
-    ensures damaged { HasCleanDisk (state S.Store conn.new) → result ≡ Err StoreFault.Damaged
-        → SomeDamaged (lists_of_prefix tab from.now (value_of (state S.Store conn.old).now.trees)) }
-    ensures read { Reads S.Store conn.old conn.new result IsReadFault }
+    ensures { GivesEntries S.Store conn.old conn.new result
+        (lists_of_prefix tab from.now (value_of (state S.Store conn.old).now.trees)) }
 {
     select_entries(
         conn,
@@ -365,12 +323,8 @@ fn bare_range<'a, S: Alter>(
     requires rest { IsAtRest (state S.Store conn.old) }
     requires some { from.now ≢ [] }
     requires past { end.now ≡ after_last from.now }
-    ensures rows { HasCleanDisk (state S.Store conn.new)
-        → IfOk result (λ found. AreRead (lists_of_prefix tab from.now
-        (value_of (state S.Store conn.old).now.trees)) found.items) }
-    ensures damaged { HasCleanDisk (state S.Store conn.new) → result ≡ Err StoreFault.Damaged
-        → SomeDamaged (lists_of_prefix tab from.now (value_of (state S.Store conn.old).now.trees)) }
-    ensures read { Reads S.Store conn.old conn.new result IsReadFault }
+    ensures { GivesLists S.Store conn.old conn.new result
+        (lists_of_prefix tab from.now (value_of (state S.Store conn.old).now.trees)) }
 {
     select_lists(
         conn,
@@ -388,16 +342,8 @@ pub(crate) fn prefix<S: Alter>(
     begin: &str,
 ) -> Result<Vec<EntryRow>, StoreFault>
     requires { IsAtRest (state S.Store conn.old) }
-    ensures rows { HasCleanDisk (state S.Store conn.new)
-        → IfOk result (λ found. let asked = where_key list_key_cmp
-        (λ k. int_eq tab k.0 && starts_with nat_eq k.1 begin.now)
-        (value_of (state S.Store conn.old).now.trees).lists in
-        (map shown_entry found.items ≡ entries_of asked) × AreWhole asked) }
-    ensures damaged { HasCleanDisk (state S.Store conn.new) → result ≡ Err StoreFault.Damaged
-        → SomeDamaged (where_key list_key_cmp
-        (λ k. int_eq tab k.0 && starts_with nat_eq k.1 begin.now)
-        (value_of (state S.Store conn.old).now.trees).lists) }
-    ensures read { Reads S.Store conn.old conn.new result IsReadFault }
+    ensures { GivesEntries S.Store conn.old conn.new result
+        (lists_of_prefix tab begin.now (value_of (state S.Store conn.old).now.trees)) }
 {
     if begin.is_empty() {
         return entries(conn, alloc, tab);
@@ -414,13 +360,8 @@ pub(crate) fn prefix_lists<S: Alter>(
     begin: &str,
 ) -> Result<Vec<ListRow>, StoreFault>
     requires { IsAtRest (state S.Store conn.old) }
-    ensures rows { HasCleanDisk (state S.Store conn.new)
-        → IfOk result (λ found. AreRead (lists_of_prefix tab begin.now
-        (value_of (state S.Store conn.old).now.trees)) found.items) }
-    ensures damaged { HasCleanDisk (state S.Store conn.new) → result ≡ Err StoreFault.Damaged
-        → SomeDamaged (lists_of_prefix tab begin.now
-        (value_of (state S.Store conn.old).now.trees)) }
-    ensures read { Reads S.Store conn.old conn.new result IsReadFault }
+    ensures { GivesLists S.Store conn.old conn.new result
+        (lists_of_prefix tab begin.now (value_of (state S.Store conn.old).now.trees)) }
 {
     if begin.is_empty() {
         return table_lists(conn, alloc, tab);

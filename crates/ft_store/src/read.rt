@@ -1,10 +1,8 @@
 //! Queries, each with the rows of the store's value that it gives.
-ghost use Rattle.std.specs.Prelude.{◌≡◌, ℤ, List, false, ◌&&◌, Err, map, slice_get, option_map, IsTrue, IfOk, IfErr};
+ghost use Rattle.std.specs.Prelude.{◌≡◌, ℤ, ◌&&◌, map, slice_get, option_map, IsTrue};
 ghost use Rattle.std.specs.Ordering.{int_eq};
 ghost use Rattle.std.specs.FinMap.Entries.{where_key};
-ghost use Rattle.sqlite.specs.State.{HasCleanDisk, Shown};
-ghost use Rattle.sqlite.specs.Given.{IsPlain};
-ghost use Rattle.sqlite.specs.Listing.{understood};
+ghost use Rattle.sqlite.specs.State.{Shown};
 ghost use Rattle.sqlite.specs.Values.{bound};
 ghost use Rattle.sqlite.specs.Held.{state};
 ghost use Rattle.sqlite.specs.Order as order;
@@ -14,7 +12,8 @@ ghost use Rattle.ft_rows.specs.Store.{cell_key_cmp, column_key_cmp};
 ghost use Rattle.ft_store.specs.Rows.{value_of};
 ghost use Rattle.ft_store.specs.Found.{found_table, found_column, found_skip, found_cell, found_size, found_note};
 ghost use Rattle.ft_rows.specs.Shown.{shown_cell, shown_size, shown_name, shown_column, shown_skip, shown_note, last_docid_of};
-ghost use Rattle.ft_store.specs.Calls.{IsPlainFault, Reads, IsAtRest};
+ghost use Rattle.ft_store.specs.Calls.{IsAtRest};
+ghost use Rattle.ft_store.specs.Settled.{IsSettled, IsPlainIn, Finds, ReadsFor, GivesRows};
 
 use crate::fault::StoreFault;
 use crate::stream::{Gathered, gather};
@@ -29,14 +28,10 @@ pub(crate) fn select<S: Alter>(
     sql: &str,
     params: &[ValueRef<'_>],
 ) -> Result<Vec<Row>, StoreFault>
-    requires plain { HasCleanDisk (state S.Store conn.old) → IsTrue (state S.Store conn.old).is_open
-        → IsPlain (understood (state S.Store conn.old).now.schema sql.now) }
-    requires settled { (state S.Store conn.old).in_transaction ≡ false }
-    ensures shown { HasCleanDisk (state S.Store conn.new)
-        → IfOk result (λ rows. Shown sql.now (bound params.now) (state S.Store conn.old)
+    requires { IsSettled (IsPlainIn sql.now) (state S.Store conn.old) }
+    ensures { ReadsFor S.Store conn.old conn.new result
+        (λ rows. Shown sql.now (bound params.now) (state S.Store conn.old)
         (state S.Store conn.new) rows.items) }
-    ensures read { Reads S.Store conn.old conn.new result IsPlainFault }
-    ensures whole { ¬ (result ≡ Err StoreFault.Damaged) }
 {
     let _schema = conn.schema();
     let _settled = conn.is_autocommit();
@@ -45,8 +40,7 @@ pub(crate) fn select<S: Alter>(
 
 /// A cell, of its row.
 fn cell_row(row: &Row) -> Result<CellRow, StoreFault>
-    ensures found { IfOk result (λ x. (tab : _) → shown_cell tab x ≡ found_cell tab row.now) }
-    ensures fault { IfErr result IsPlainFault }
+    ensures { Finds result (λ x. (tab : _) → shown_cell tab x ≡ found_cell tab row.now) }
 {
     let docid: i64 = row.get(0)?;
     let column: i64 = row.get(1)?;
@@ -93,14 +87,10 @@ fn select_cells<S: Alter>(
     sql: &str,
     params: &[ValueRef<'_>],
 ) -> Result<Vec<CellRow>, StoreFault>
-    requires plain { HasCleanDisk (state S.Store conn.old) → IsTrue (state S.Store conn.old).is_open
-        → IsPlain (understood (state S.Store conn.old).now.schema sql.now) }
-    requires settled { (state S.Store conn.old).in_transaction ≡ false }
-    ensures found { HasCleanDisk (state S.Store conn.new)
-        → IfOk result (λ cells. (rows : List order.Row)
-        × Shown sql.now (bound params.now) (state S.Store conn.old) (state S.Store conn.new) rows
-        × ((tab : ℤ) → map (shown_cell tab) cells.items ≡ map (found_cell tab) rows)) }
-    ensures read { Reads S.Store conn.old conn.new result IsPlainFault }
+    requires { IsSettled (IsPlainIn sql.now) (state S.Store conn.old) }
+    ensures { ReadsFor S.Store conn.old conn.new result
+        (λ cells. GivesRows S.Store conn.old conn.new sql.now (bound params.now) (λ rows.
+        (tab : ℤ) → map (shown_cell tab) cells.items ≡ map (found_cell tab) rows)) }
 {
     let mut found = CellsOf {
         cells: Vec::new(alloc),
@@ -111,8 +101,7 @@ fn select_cells<S: Alter>(
 
 /// The size of a cell, of its row.
 fn size_row(row: &Row) -> Result<SizeRow, StoreFault>
-    ensures found { IfOk result (λ x. (tab : _) → shown_size tab x ≡ found_size tab row.now) }
-    ensures fault { IfErr result IsPlainFault }
+    ensures { Finds result (λ x. (tab : _) → shown_size tab x ≡ found_size tab row.now) }
 {
     let docid: i64 = row.get(0)?;
     let column: i64 = row.get(1)?;
@@ -121,9 +110,8 @@ fn size_row(row: &Row) -> Result<SizeRow, StoreFault>
 }
 
 fn size_rows(alloc: Global, rows: &[Row]) -> Result<Vec<SizeRow>, StoreFault>
-    ensures found { IfOk result (λ xs. (tab : _)
+    ensures { Finds result (λ xs. (tab : _)
         → map (shown_size tab) xs.items ≡ map (found_size tab) rows.now) }
-    ensures fault { IfErr result IsPlainFault }
 {
     let mut found = Vec::new(alloc);
     for row in rows {
@@ -134,8 +122,7 @@ fn size_rows(alloc: Global, rows: &[Row]) -> Result<Vec<SizeRow>, StoreFault>
 
 /// A table's number and name, of its row.
 fn name_row(row: &Row) -> Result<(i64, String), StoreFault>
-    ensures found { IfOk result (λ x. shown_name x ≡ found_table row.now) }
-    ensures fault { IfErr result IsPlainFault }
+    ensures { Finds result (λ x. shown_name x ≡ found_table row.now) }
 {
     let id: i64 = row.get(0)?;
     let name: String = row.get(1)?;
@@ -143,8 +130,7 @@ fn name_row(row: &Row) -> Result<(i64, String), StoreFault>
 }
 
 fn name_rows(alloc: Global, rows: &[Row]) -> Result<Vec<(i64, String)>, StoreFault>
-    ensures found { IfOk result (λ xs. map shown_name xs.items ≡ map found_table rows.now) }
-    ensures fault { IfErr result IsPlainFault }
+    ensures { Finds result (λ xs. map shown_name xs.items ≡ map found_table rows.now) }
 {
     let mut found = Vec::new(alloc);
     for row in rows {
@@ -155,8 +141,7 @@ fn name_rows(alloc: Global, rows: &[Row]) -> Result<Vec<(i64, String)>, StoreFau
 
 /// A column's number and name, of its row.
 fn column_row(row: &Row) -> Result<(i64, String), StoreFault>
-    ensures found { IfOk result (λ x. (tab : _) → shown_column tab x ≡ found_column tab row.now) }
-    ensures fault { IfErr result IsPlainFault }
+    ensures { Finds result (λ x. (tab : _) → shown_column tab x ≡ found_column tab row.now) }
 {
     let column: i64 = row.get(0)?;
     let name: String = row.get(1)?;
@@ -164,9 +149,8 @@ fn column_row(row: &Row) -> Result<(i64, String), StoreFault>
 }
 
 fn column_rows(alloc: Global, rows: &[Row]) -> Result<Vec<(i64, String)>, StoreFault>
-    ensures found { IfOk result (λ xs. (tab : _)
+    ensures { Finds result (λ xs. (tab : _)
         → map (shown_column tab) xs.items ≡ map (found_column tab) rows.now) }
-    ensures fault { IfErr result IsPlainFault }
 {
     let mut found = Vec::new(alloc);
     for row in rows {
@@ -177,16 +161,14 @@ fn column_rows(alloc: Global, rows: &[Row]) -> Result<Vec<(i64, String)>, StoreF
 
 /// A column's number, of its row.
 fn skip_row(row: &Row) -> Result<i64, StoreFault>
-    ensures found { IfOk result (λ x. (tab : _) → shown_skip tab x ≡ found_skip tab row.now) }
-    ensures fault { IfErr result IsPlainFault }
+    ensures { Finds result (λ x. (tab : _) → shown_skip tab x ≡ found_skip tab row.now) }
 {
     Ok(row.get(0)?)
 }
 
 fn skip_rows(alloc: Global, rows: &[Row]) -> Result<Vec<i64>, StoreFault>
-    ensures found { IfOk result (λ xs. (tab : _)
+    ensures { Finds result (λ xs. (tab : _)
         → map (shown_skip tab) xs.items ≡ map (found_skip tab) rows.now) }
-    ensures fault { IfErr result IsPlainFault }
 {
     let mut found = Vec::new(alloc);
     for row in rows {
@@ -197,15 +179,13 @@ fn skip_rows(alloc: Global, rows: &[Row]) -> Result<Vec<i64>, StoreFault>
 
 /// A noted name, of its row.
 fn note_row(row: &Row) -> Result<String, StoreFault>
-    ensures found { IfOk result (λ x. shown_note x ≡ found_note row.now) }
-    ensures fault { IfErr result IsPlainFault }
+    ensures { Finds result (λ x. shown_note x ≡ found_note row.now) }
 {
     Ok(row.get(0)?)
 }
 
 fn note_rows(alloc: Global, rows: &[Row]) -> Result<Vec<String>, StoreFault>
-    ensures found { IfOk result (λ xs. map shown_note xs.items ≡ map found_note rows.now) }
-    ensures fault { IfErr result IsPlainFault }
+    ensures { Finds result (λ xs. map shown_note xs.items ≡ map found_note rows.now) }
 {
     let mut found = Vec::new(alloc);
     for row in rows {
@@ -220,10 +200,9 @@ pub(crate) fn names<S: Alter>(
     alloc: Global,
 ) -> Result<Vec<(i64, String)>, StoreFault>
     requires { IsAtRest (state S.Store conn.old) }
-    ensures rows { HasCleanDisk (state S.Store conn.new)
-        → IfOk result (λ found. map shown_name found.items
+    ensures { ReadsFor S.Store conn.old conn.new result
+        (λ found. map shown_name found.items
         ≡ (value_of (state S.Store conn.old).now.trees).tables) }
-    ensures read { Reads S.Store conn.old conn.new result IsPlainFault }
 {
     let rows = select(
         conn,
@@ -240,11 +219,10 @@ pub(crate) fn columns<S: Alter>(
     tab: i64,
 ) -> Result<Vec<(i64, String)>, StoreFault>
     requires { IsAtRest (state S.Store conn.old) }
-    ensures rows { HasCleanDisk (state S.Store conn.new)
-        → IfOk result (λ found. map (shown_column tab) found.items
+    ensures { ReadsFor S.Store conn.old conn.new result
+        (λ found. map (shown_column tab) found.items
         ≡ where_key column_key_cmp (λ k. int_eq tab k.0)
         (value_of (state S.Store conn.old).now.trees).columns) }
-    ensures read { Reads S.Store conn.old conn.new result IsPlainFault }
 {
     let rows = select(
         conn,
@@ -261,11 +239,10 @@ pub(crate) fn skips<S: Alter>(
     tab: i64,
 ) -> Result<Vec<i64>, StoreFault>
     requires { IsAtRest (state S.Store conn.old) }
-    ensures rows { HasCleanDisk (state S.Store conn.new)
-        → IfOk result (λ found. map (shown_skip tab) found.items
+    ensures { ReadsFor S.Store conn.old conn.new result
+        (λ found. map (shown_skip tab) found.items
         ≡ where_key column_key_cmp (λ k. int_eq tab k.0)
         (value_of (state S.Store conn.old).now.trees).skipped) }
-    ensures read { Reads S.Store conn.old conn.new result IsPlainFault }
 {
     let rows = select(
         conn,
@@ -282,11 +259,10 @@ pub(crate) fn cells<S: Alter>(
     tab: i64,
 ) -> Result<Vec<CellRow>, StoreFault>
     requires { IsAtRest (state S.Store conn.old) }
-    ensures rows { HasCleanDisk (state S.Store conn.new)
-        → IfOk result (λ found. map (shown_cell tab) found.items
+    ensures { ReadsFor S.Store conn.old conn.new result
+        (λ found. map (shown_cell tab) found.items
         ≡ where_key cell_key_cmp (λ k. int_eq tab k.0)
         (value_of (state S.Store conn.old).now.trees).cells) }
-    ensures read { Reads S.Store conn.old conn.new result IsPlainFault }
 {
     select_cells(
         conn,
@@ -304,11 +280,10 @@ pub(crate) fn document<S: Alter>(
     docid: i64,
 ) -> Result<Vec<CellRow>, StoreFault>
     requires { IsAtRest (state S.Store conn.old) }
-    ensures rows { HasCleanDisk (state S.Store conn.new)
-        → IfOk result (λ found. map (shown_cell tab) found.items
+    ensures { ReadsFor S.Store conn.old conn.new result
+        (λ found. map (shown_cell tab) found.items
         ≡ where_key cell_key_cmp (λ k. int_eq tab k.0 && int_eq docid k.1)
         (value_of (state S.Store conn.old).now.trees).cells) }
-    ensures read { Reads S.Store conn.old conn.new result IsPlainFault }
 {
     select_cells(
         conn,
@@ -320,9 +295,8 @@ pub(crate) fn document<S: Alter>(
 
 /// The docid of the first row, where there is one.
 fn first_docid(rows: &[Row]) -> Result<Option<i64>, StoreFault>
-    ensures found { IfOk result (λ docid. docid
+    ensures { Finds result (λ docid. docid
         ≡ option_map (λ row. id_in (column row 0)) (slice_get rows.now 0)) }
-    ensures fault { IfErr result IsPlainFault }
 {
     match rows.first() {
         Some(row) => Ok(Some(row.get(0)?)),
@@ -336,10 +310,9 @@ pub(crate) fn last_docid<S: Alter>(
     tab: i64,
 ) -> Result<Option<i64>, StoreFault>
     requires { IsAtRest (state S.Store conn.old) }
-    ensures last { HasCleanDisk (state S.Store conn.new)
-        → IfOk result (λ last. last ≡ last_docid_of tab
+    ensures { ReadsFor S.Store conn.old conn.new result
+        (λ last. last ≡ last_docid_of tab
         (value_of (state S.Store conn.old).now.trees).cells) }
-    ensures read { Reads S.Store conn.old conn.new result IsPlainFault }
 {
     let rows = select(
         conn,
@@ -356,11 +329,10 @@ pub(crate) fn sizes<S: Alter>(
     tab: i64,
 ) -> Result<Vec<SizeRow>, StoreFault>
     requires { IsAtRest (state S.Store conn.old) }
-    ensures rows { HasCleanDisk (state S.Store conn.new)
-        → IfOk result (λ found. map (shown_size tab) found.items
+    ensures { ReadsFor S.Store conn.old conn.new result
+        (λ found. map (shown_size tab) found.items
         ≡ where_key cell_key_cmp (λ k. int_eq tab k.0)
         (value_of (state S.Store conn.old).now.trees).sizes) }
-    ensures read { Reads S.Store conn.old conn.new result IsPlainFault }
 {
     let rows = select(
         conn,
@@ -376,10 +348,9 @@ pub(crate) fn noted<S: Alter>(
     alloc: Global,
 ) -> Result<Vec<String>, StoreFault>
     requires { IsAtRest (state S.Store conn.old) }
-    ensures rows { HasCleanDisk (state S.Store conn.new)
-        → IfOk result (λ found. map shown_note found.items
+    ensures { ReadsFor S.Store conn.old conn.new result
+        (λ found. map shown_note found.items
         ≡ (value_of (state S.Store conn.old).now.trees).noted) }
-    ensures read { Reads S.Store conn.old conn.new result IsPlainFault }
 {
     let rows = select(
         conn,

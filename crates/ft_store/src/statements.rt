@@ -1,19 +1,17 @@
 //! The statements that change rows, each with what it makes of the store's value.
-ghost use Rattle.std.specs.Prelude.{◌≡◌, ℕ, List, [], length, not, ◌&&◌, if◌then◌else◌, unwrap_or, MatchBool, IsTrue, IfOk, IfErr, OnOk, Ok, None};
+ghost use Rattle.std.specs.Prelude.{◌≡◌, List, [], length, not, ◌&&◌, if◌then◌else◌, unwrap_or, None};
 ghost use Rattle.std.specs.List.{flat_map};
 ghost use Rattle.std.specs.Ordering.{int_cmp, int_eq, eq_by_cmp};
 ghost use Rattle.std.specs.FinMap.Entries.{put, where_key, find};
-ghost use Rattle.sqlite.specs.State.{HasCleanDisk, Survives, ExecutesInside, IsUnchanged, KeepsCommit};
-ghost use Rattle.sqlite.specs.Held.{state};
 ghost use Rattle.sqlite.specs.Values.{bound};
 ghost use Rattle.sqlite_value.specs.Value.{owned};
 ghost use Rattle.sqlite_value.specs.Keys.{without_case};
 ghost use Rattle.sqlite.specs.declared.types.Value.TheVariants.{Int};
 ghost use Rattle.ft_rows.specs.Packed.{spots_in};
-ghost use Rattle.ft_rows.specs.Store.{StoreValue, cell_key_cmp, list_key_cmp, column_key_cmp, name_cmp};
+ghost use Rattle.ft_rows.specs.Store.{cell_key_cmp, list_key_cmp, column_key_cmp, name_cmp};
 ghost use Rattle.ft_values.specs.Cells.{shown_value};
 ghost use Rattle.ft_store.specs.Rows.{num_of, txt_of};
-ghost use Rattle.ft_store.specs.Calls.{IsPlainFault, StepsOnOk, AddsOnOk, KeepsLast, LeavesNothing, StaysUncommitted};
+ghost use Rattle.ft_store.specs.Inside.{DoneInside, StepsInside, AddsInside, RunsOnOk, RunsOrKeeps};
 ghost use Rattle.ft_store.specs.Groups.{Entry, entry_values, with_entries, GoesOnOk};
 
 use crate::fault::StoreFault;
@@ -27,12 +25,8 @@ pub(crate) fn run<S: Alter>(
     sql: &str,
     params: &[ValueRef<'_>],
 ) -> Result<(), StoreFault>
-    ensures ran { HasCleanDisk (state S.Store tx.new.conn.now)
-        → IsTrue (state S.Store tx.old.conn.now).in_transaction
-        → OnOk result ((count : ℕ)
-        × ExecutesInside 0 sql.now (bound params.now) (state S.Store tx.old.conn.now)
-        (state S.Store tx.new.conn.now) (Ok count)) }
-    ensures stays { StaysUncommitted S.Store tx.old.conn tx.new.conn result }
+    ensures { DoneInside S.Store tx.old.conn tx.new.conn result
+        (RunsOnOk S.Store tx.old.conn.now tx.new.conn.now result sql.now (bound params.now)) }
 {
     let _count = tx.execute(sql, params)?;
     Ok(())
@@ -45,13 +39,8 @@ fn add<S: Alter>(
     sql: &str,
     params: &[ValueRef<'_>],
 ) -> Result<bool, StoreFault>
-    ensures ran { HasCleanDisk (state S.Store tx.new.conn.now)
-        → IsTrue (state S.Store tx.old.conn.now).in_transaction
-        → IfOk result (λ added. MatchBool added
-        ((count : ℕ) × ExecutesInside 0 sql.now (bound params.now)
-        (state S.Store tx.old.conn.now) (state S.Store tx.new.conn.now) (Ok count))
-        (IsUnchanged (state S.Store tx.old.conn.now) (state S.Store tx.new.conn.now))) }
-    ensures stays { StaysUncommitted S.Store tx.old.conn tx.new.conn result }
+    ensures { DoneInside S.Store tx.old.conn tx.new.conn result
+        (RunsOrKeeps S.Store tx.old.conn.now tx.new.conn.now result sql.now (bound params.now)) }
 {
     match tx.execute(sql, params) {
         Ok(_) => Ok(true),
@@ -94,9 +83,8 @@ fn text_of(value: &Value) -> ValueRef<'_>
 
 /// Takes a table's name out.
 pub(crate) fn drop_name<S: Alter>(tx: &mut Transaction<'_, S>, tab: i64) -> Result<(), StoreFault>
-    ensures steps { StepsOnOk S.Store tx.old.conn.now tx.new.conn.now result
+    ensures { StepsInside S.Store tx.old.conn tx.new.conn result
         (λ v. record v { tables = where_key int_cmp (λ k. not (int_eq tab k)) v.tables }) }
-    ensures stays { StaysUncommitted S.Store tx.old.conn tx.new.conn result }
 {
     run(tx, "DELETE FROM tab WHERE id = ?1", &[tab.to_sql()])
 }
@@ -106,11 +94,10 @@ pub(crate) fn drop_columns<S: Alter>(
     tx: &mut Transaction<'_, S>,
     tab: i64,
 ) -> Result<(), StoreFault>
-    ensures steps { StepsOnOk S.Store tx.old.conn.now tx.new.conn.now result
+    ensures { StepsInside S.Store tx.old.conn tx.new.conn result
         (λ v. record v {
           columns = where_key column_key_cmp (λ k. not (int_eq tab k.0)) v.columns;
         }) }
-    ensures stays { StaysUncommitted S.Store tx.old.conn tx.new.conn result }
 {
     run(tx, "DELETE FROM col WHERE tab = ?1", &[tab.to_sql()])
 }
@@ -121,12 +108,11 @@ pub(crate) fn drop_column<S: Alter>(
     tab: i64,
     column: i64,
 ) -> Result<(), StoreFault>
-    ensures steps { StepsOnOk S.Store tx.old.conn.now tx.new.conn.now result
+    ensures { StepsInside S.Store tx.old.conn tx.new.conn result
         (λ v. record v {
           columns = where_key column_key_cmp
               (λ k. not (eq_by_cmp column_key_cmp (tab, column) k)) v.columns;
         }) }
-    ensures stays { StaysUncommitted S.Store tx.old.conn tx.new.conn result }
 {
     run(
         tx,
@@ -137,11 +123,10 @@ pub(crate) fn drop_column<S: Alter>(
 
 /// Takes out which columns of a table aren't indexed.
 pub(crate) fn drop_skips<S: Alter>(tx: &mut Transaction<'_, S>, tab: i64) -> Result<(), StoreFault>
-    ensures steps { StepsOnOk S.Store tx.old.conn.now tx.new.conn.now result
+    ensures { StepsInside S.Store tx.old.conn tx.new.conn result
         (λ v. record v {
           skipped = where_key column_key_cmp (λ k. not (int_eq tab k.0)) v.skipped;
         }) }
-    ensures stays { StaysUncommitted S.Store tx.old.conn tx.new.conn result }
 {
     run(tx, "DELETE FROM skip WHERE tab = ?1", &[tab.to_sql()])
 }
@@ -152,12 +137,11 @@ pub(crate) fn drop_skip<S: Alter>(
     tab: i64,
     column: i64,
 ) -> Result<(), StoreFault>
-    ensures steps { StepsOnOk S.Store tx.old.conn.now tx.new.conn.now result
+    ensures { StepsInside S.Store tx.old.conn tx.new.conn result
         (λ v. record v {
           skipped = where_key column_key_cmp
               (λ k. not (eq_by_cmp column_key_cmp (tab, column) k)) v.skipped;
         }) }
-    ensures stays { StaysUncommitted S.Store tx.old.conn tx.new.conn result }
 {
     run(
         tx,
@@ -171,9 +155,8 @@ pub(crate) fn drop_contents<S: Alter>(
     tx: &mut Transaction<'_, S>,
     tab: i64,
 ) -> Result<(), StoreFault>
-    ensures steps { StepsOnOk S.Store tx.old.conn.now tx.new.conn.now result
+    ensures { StepsInside S.Store tx.old.conn tx.new.conn result
         (λ v. record v { cells = where_key cell_key_cmp (λ k. not (int_eq tab k.0)) v.cells }) }
-    ensures stays { StaysUncommitted S.Store tx.old.conn tx.new.conn result }
 {
     run(tx, "DELETE FROM cell WHERE tab = ?1", &[tab.to_sql()])
 }
@@ -184,12 +167,11 @@ pub(crate) fn drop_cells<S: Alter>(
     tab: i64,
     docid: i64,
 ) -> Result<(), StoreFault>
-    ensures steps { StepsOnOk S.Store tx.old.conn.now tx.new.conn.now result
+    ensures { StepsInside S.Store tx.old.conn tx.new.conn result
         (λ v. record v {
           cells = where_key cell_key_cmp
               (λ k. not (int_eq tab k.0 && int_eq docid k.1)) v.cells;
         }) }
-    ensures stays { StaysUncommitted S.Store tx.old.conn tx.new.conn result }
 {
     run(
         tx,
@@ -205,12 +187,11 @@ pub(crate) fn drop_cell<S: Alter>(
     docid: i64,
     column: i64,
 ) -> Result<(), StoreFault>
-    ensures steps { StepsOnOk S.Store tx.old.conn.now tx.new.conn.now result
+    ensures { StepsInside S.Store tx.old.conn tx.new.conn result
         (λ v. record v {
           cells = where_key cell_key_cmp
               (λ k. not (eq_by_cmp cell_key_cmp (tab, docid, column) k)) v.cells;
         }) }
-    ensures stays { StaysUncommitted S.Store tx.old.conn tx.new.conn result }
 {
     run(
         tx,
@@ -221,9 +202,8 @@ pub(crate) fn drop_cell<S: Alter>(
 
 /// Takes all lists of a table out.
 pub(crate) fn drop_lists<S: Alter>(tx: &mut Transaction<'_, S>, tab: i64) -> Result<(), StoreFault>
-    ensures steps { StepsOnOk S.Store tx.old.conn.now tx.new.conn.now result
+    ensures { StepsInside S.Store tx.old.conn tx.new.conn result
         (λ v. record v { lists = where_key list_key_cmp (λ k. not (int_eq tab k.0)) v.lists }) }
-    ensures stays { StaysUncommitted S.Store tx.old.conn tx.new.conn result }
 {
     run(tx, "DELETE FROM posting WHERE tab = ?1", &[tab.to_sql()])
 }
@@ -235,12 +215,11 @@ pub(crate) fn drop_list<S: Alter>(
     term: &str,
     docid: i64,
 ) -> Result<(), StoreFault>
-    ensures steps { StepsOnOk S.Store tx.old.conn.now tx.new.conn.now result
+    ensures { StepsInside S.Store tx.old.conn tx.new.conn result
         (λ v. record v {
           lists = where_key list_key_cmp
               (λ k. not (eq_by_cmp list_key_cmp (tab, term.now, docid) k)) v.lists;
         }) }
-    ensures stays { StaysUncommitted S.Store tx.old.conn tx.new.conn result }
 {
     run(
         tx,
@@ -251,9 +230,8 @@ pub(crate) fn drop_list<S: Alter>(
 
 /// Takes all sizes of a table out.
 pub(crate) fn drop_sizes<S: Alter>(tx: &mut Transaction<'_, S>, tab: i64) -> Result<(), StoreFault>
-    ensures steps { StepsOnOk S.Store tx.old.conn.now tx.new.conn.now result
+    ensures { StepsInside S.Store tx.old.conn tx.new.conn result
         (λ v. record v { sizes = where_key cell_key_cmp (λ k. not (int_eq tab k.0)) v.sizes }) }
-    ensures stays { StaysUncommitted S.Store tx.old.conn tx.new.conn result }
 {
     run(tx, "DELETE FROM sizes WHERE tab = ?1", &[tab.to_sql()])
 }
@@ -265,12 +243,11 @@ pub(crate) fn drop_size<S: Alter>(
     docid: i64,
     column: i64,
 ) -> Result<(), StoreFault>
-    ensures steps { StepsOnOk S.Store tx.old.conn.now tx.new.conn.now result
+    ensures { StepsInside S.Store tx.old.conn tx.new.conn result
         (λ v. record v {
           sizes = where_key cell_key_cmp
               (λ k. not (eq_by_cmp cell_key_cmp (tab, docid, column) k)) v.sizes;
         }) }
-    ensures stays { StaysUncommitted S.Store tx.old.conn tx.new.conn result }
 {
     run(
         tx,
@@ -281,12 +258,11 @@ pub(crate) fn drop_size<S: Alter>(
 
 /// Takes a noted name out.
 pub(crate) fn drop_note<S: Alter>(tx: &mut Transaction<'_, S>, name: &str) -> Result<(), StoreFault>
-    ensures steps { StepsOnOk S.Store tx.old.conn.now tx.new.conn.now result
+    ensures { StepsInside S.Store tx.old.conn tx.new.conn result
         (λ v. record v {
           noted = where_key name_cmp
               (λ k. not (eq_by_cmp name_cmp (without_case name.now) k)) v.noted;
         }) }
-    ensures stays { StaysUncommitted S.Store tx.old.conn tx.new.conn result }
 {
     run(tx, "DELETE FROM noted WHERE name = ?1", &[name.to_sql()])
 }
@@ -297,10 +273,9 @@ pub(crate) fn add_name<S: Alter>(
     tab: i64,
     name: &str,
 ) -> Result<(), StoreFault>
-    ensures steps { AddsOnOk S.Store tx.old.conn.now tx.new.conn.now result
+    ensures { AddsInside S.Store tx.old.conn tx.new.conn result
         (λ v. find int_cmp tab v.tables ≡ None)
         (λ v. record v { tables = put int_cmp tab name.now v.tables }) }
-    ensures stays { StaysUncommitted S.Store tx.old.conn tx.new.conn result }
 {
     run(
         tx,
@@ -316,10 +291,9 @@ pub(crate) fn add_column<S: Alter>(
     column: i64,
     name: &str,
 ) -> Result<(), StoreFault>
-    ensures steps { AddsOnOk S.Store tx.old.conn.now tx.new.conn.now result
+    ensures { AddsInside S.Store tx.old.conn tx.new.conn result
         (λ v. find column_key_cmp (tab, column) v.columns ≡ None)
         (λ v. record v { columns = put column_key_cmp (tab, column) name.now v.columns }) }
-    ensures stays { StaysUncommitted S.Store tx.old.conn tx.new.conn result }
 {
     run(
         tx,
@@ -334,10 +308,9 @@ pub(crate) fn add_skip<S: Alter>(
     tab: i64,
     column: i64,
 ) -> Result<(), StoreFault>
-    ensures steps { AddsOnOk S.Store tx.old.conn.now tx.new.conn.now result
+    ensures { AddsInside S.Store tx.old.conn tx.new.conn result
         (λ v. find column_key_cmp (tab, column) v.skipped ≡ None)
         (λ v. record v { skipped = put column_key_cmp (tab, column) tt v.skipped }) }
-    ensures stays { StaysUncommitted S.Store tx.old.conn tx.new.conn result }
 {
     run(
         tx,
@@ -354,13 +327,12 @@ pub(crate) fn add_cell<S: Alter>(
     column: i64,
     value: &Value,
 ) -> Result<(), StoreFault>
-    ensures steps { AddsOnOk S.Store tx.old.conn.now tx.new.conn.now result
+    ensures { AddsInside S.Store tx.old.conn tx.new.conn result
         (λ v. find cell_key_cmp (tab, docid, column) v.cells ≡ None)
         (λ v. record v {
           cells = put cell_key_cmp (tab, docid, column) (shown_value value.now)
               v.cells;
         }) }
-    ensures stays { StaysUncommitted S.Store tx.old.conn tx.new.conn result }
 {
     run(
         tx,
@@ -383,13 +355,12 @@ pub(crate) fn add_list<'a, S: Alter>(
     docid: i64,
     list: &'a [u8],
 ) -> Result<(), StoreFault>
-    ensures steps { AddsOnOk S.Store tx.old.conn.now tx.new.conn.now result
+    ensures { AddsInside S.Store tx.old.conn tx.new.conn result
         (λ v. find list_key_cmp (tab, term.now, docid) v.lists ≡ None)
         (λ v. record v {
           lists = put list_key_cmp (tab, term.now, docid)
               (unwrap_or (spots_in list.now) []) v.lists;
         }) }
-    ensures stays { StaysUncommitted S.Store tx.old.conn tx.new.conn result }
 {
     run(
         tx,
@@ -409,11 +380,11 @@ pub(crate) fn add_lists<S: Alter>(
     tx: &mut Transaction<'_, S>,
     values: &[ValueRef<'_>],
 ) -> Result<bool, StoreFault>
-    ensures goes { (entries : List Entry) → length entries ≡ 8
+    ensures { DoneInside S.Store tx.old.conn tx.new.conn result
+        ((entries : List Entry) → length entries ≡ 8
         → bound values.now ≡ flat_map entry_values entries
         → GoesOnOk S.Store tx.old.conn.now tx.new.conn.now result
-        (λ added v. if added then with_entries entries v else v) }
-    ensures stays { StaysUncommitted S.Store tx.old.conn tx.new.conn result }
+        (λ added v. if added then with_entries entries v else v)) }
 {
     add(
         tx,
@@ -430,10 +401,9 @@ pub(crate) fn add_size<S: Alter>(
     column: i64,
     n: i64,
 ) -> Result<(), StoreFault>
-    ensures steps { AddsOnOk S.Store tx.old.conn.now tx.new.conn.now result
+    ensures { AddsInside S.Store tx.old.conn tx.new.conn result
         (λ v. find cell_key_cmp (tab, docid, column) v.sizes ≡ None)
         (λ v. record v { sizes = put cell_key_cmp (tab, docid, column) n v.sizes }) }
-    ensures stays { StaysUncommitted S.Store tx.old.conn tx.new.conn result }
 {
     run(
         tx,
@@ -444,10 +414,9 @@ pub(crate) fn add_size<S: Alter>(
 
 /// Adds a noted name.
 pub(crate) fn add_note<S: Alter>(tx: &mut Transaction<'_, S>, name: &str) -> Result<(), StoreFault>
-    ensures steps { AddsOnOk S.Store tx.old.conn.now tx.new.conn.now result
+    ensures { AddsInside S.Store tx.old.conn tx.new.conn result
         (λ v. find name_cmp (without_case name.now) v.noted ≡ None)
         (λ v. record v { noted = put name_cmp (without_case name.now) name.now v.noted }) }
-    ensures stays { StaysUncommitted S.Store tx.old.conn tx.new.conn result }
 {
     run(tx, "INSERT INTO noted (name) VALUES (?1)", &[name.to_sql()])
 }

@@ -1,13 +1,11 @@
 //! The rows of a query, gathered as they come.
-ghost use Rattle.std.specs.Prelude.{◌≡◌, ◌++◌, ◌∷◌, [], List, Bool, true, false, Err, IsTrue, IfOk, IfErr};
-ghost use Rattle.sqlite.specs.State.{HasCleanDisk, Shown};
-ghost use Rattle.sqlite.specs.Given.{IsPlain};
-ghost use Rattle.sqlite.specs.Listing.{understood};
+ghost use Rattle.std.specs.Prelude.{◌≡◌, ◌++◌, ◌∷◌, [], List, Bool, true, Err, IfOk, IfErr};
 ghost use Rattle.sqlite.specs.Order as order;
 ghost use Rattle.sqlite.specs.Values.{bound};
 ghost use Rattle.sqlite.specs.Held.{state};
 ghost use Rattle.ft_rows.specs.declared.terms.TermLists.{TermLists};
-ghost use Rattle.ft_store.specs.Calls.{IsPlainFault, Reads};
+ghost use Rattle.ft_store.specs.Calls.{IsPlainFault};
+ghost use Rattle.ft_store.specs.Settled.{IsSettled, IsPlainIn, ReadsFor, GivesRows};
 
 use crate::fault::StoreFault;
 use sqlite::types::ValueRef;
@@ -36,17 +34,12 @@ pub(crate) fn gather<S: Alter, G: Gathered>(
     params: &[ValueRef<'_>],
     into: &mut G,
 ) -> Result<bool, StoreFault>
-    requires plain { HasCleanDisk (state S.Store conn.old) → IsTrue (state S.Store conn.old).is_open
-        → IsPlain (understood (state S.Store conn.old).now.schema sql.now) }
-    requires settled { (state S.Store conn.old).in_transaction ≡ false }
+    requires asked { IsSettled (IsPlainIn sql.now) (state S.Store conn.old) }
     requires none { G.Gathered.is_made_of into.old true [] }
-    ensures made { HasCleanDisk (state S.Store conn.new)
-        → IfOk result (λ whole. (rows : List order.Row)
-        × Shown sql.now (bound params.now) (state S.Store conn.old) (state S.Store conn.new) rows
-        × G.Gathered.is_made_of into.new whole rows) }
+    ensures given { ReadsFor S.Store conn.old conn.new result
+        (λ whole. GivesRows S.Store conn.old conn.new sql.now (bound params.now)
+        (G.Gathered.is_made_of into.new whole)) }
     ensures expects { IfOk result (λ _. G.Gathered.expects into.new ≡ G.Gathered.expects into.old) }
-    ensures read { Reads S.Store conn.old conn.new result IsPlainFault }
-    ensures whole { ¬ (result ≡ Err StoreFault.Damaged) }
 {
     let _schema = conn.schema();
     let _settled = conn.is_autocommit();

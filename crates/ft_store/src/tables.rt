@@ -1,10 +1,10 @@
 //! The tables of a store, each with its columns.
-ghost use Rattle.std.specs.Prelude.{◌≡◌, false, map, string_bytes, IfOk, IfErr};
-ghost use Rattle.sqlite.specs.State.{HasCleanDisk};
+ghost use Rattle.std.specs.Prelude.{◌≡◌, map, string_bytes};
 ghost use Rattle.sqlite.specs.Held.{state};
 ghost use Rattle.ft_store.specs.Rows.{value_of};
 ghost use Rattle.ft_rows.specs.Shown.{shown_table, table_listed, tables_listed};
-ghost use Rattle.ft_store.specs.Calls.{IsPlainFault, Reads, IsAtRest};
+ghost use Rattle.ft_store.specs.Calls.{IsAtRest};
+ghost use Rattle.ft_store.specs.Settled.{ReadsFor};
 
 use crate::fault::StoreFault;
 use crate::read::{columns, names, skips};
@@ -20,10 +20,9 @@ fn table<S: Alter>(
     name: String,
 ) -> Result<TabRow, StoreFault>
     requires { IsAtRest (state S.Store conn.old) }
-    ensures rows { HasCleanDisk (state S.Store conn.new)
-        → IfOk result (λ found. shown_table found
+    ensures { ReadsFor S.Store conn.old conn.new result
+        (λ found. shown_table found
         ≡ table_listed (value_of (state S.Store conn.old).now.trees) (id, string_bytes name)) }
-    ensures read { Reads S.Store conn.old conn.new result IsPlainFault }
 {
     let columns = columns(conn, alloc, id)?;
     let skipped = skips(conn, alloc, id)?;
@@ -41,10 +40,9 @@ pub(crate) fn tables<S: Alter>(
     alloc: Global,
 ) -> Result<Vec<TabRow>, StoreFault>
     requires { IsAtRest (state S.Store conn.old) }
-    ensures rows { HasCleanDisk (state S.Store conn.new)
-        → IfOk result (λ found. map shown_table found.items
+    ensures { ReadsFor S.Store conn.old conn.new result
+        (λ found. map shown_table found.items
         ≡ tables_listed (value_of (state S.Store conn.old).now.trees)) }
-    ensures read { Reads S.Store conn.old conn.new result IsPlainFault }
 {
     let names = names(conn, alloc)?;
     let mut found = Vec::new(alloc);

@@ -1,20 +1,18 @@
 //! Row changes, all in one transaction.
-ghost use Rattle.std.specs.Prelude.{◌≡◌, false, ℕ, ◌<◌, ◌≤◌, ℤ, [], ◌++◌, pos, length, map, if◌then◌else◌, unwrap_or, string_bytes, All, IsTrue, IfOk, IfSome, IfErr, OnOk, OnErr};
-ghost use Rattle.std.specs.Ordering.{int_cmp};
+ghost use Rattle.std.specs.Prelude.{◌≡◌, false, ◌<◌, ◌≤◌, [], ◌++◌, length, map, if◌then◌else◌, unwrap_or, string_bytes, All, IsTrue, IfOk, IfSome, OnOk};
 ghost use Rattle.std.specs.Vec.{vec_items};
 ghost use Rattle.std.specs.List.{enumerate_from, flat_map};
-ghost use Rattle.std.specs.FinMap.Entries.{put, find};
-ghost use Rattle.sqlite.specs.State.{HasCleanDisk, Survives};
+ghost use Rattle.std.specs.FinMap.Entries.{put};
 ghost use Rattle.sqlite.specs.Held.{state};
 ghost use Rattle.sqlite.specs.Values.{bound};
 ghost use Rattle.sqlite_value.specs.Keys.{without_case};
 ghost use Rattle.ft_rows.specs.Packed.{CanPack, spots_in};
-ghost use Rattle.ft_rows.specs.Store.{StoreValue, cell_key_cmp, list_key_cmp, column_key_cmp, name_cmp, without_index, without_rows, with_columns, with_skipped, AddTable, applied, all_applied};
-ghost use Rattle.ft_store.specs.Rows.{value_of};
+ghost use Rattle.ft_rows.specs.Store.{cell_key_cmp, list_key_cmp, column_key_cmp, name_cmp, without_index, without_rows, with_columns, with_skipped, AddTable, applied, all_applied};
 ghost use Rattle.ft_values.specs.Cells.{shown_value};
 ghost use Rattle.ft_rows.specs.Changes.{shown_change, CanApply};
-ghost use Rattle.ft_store.specs.Calls.{IsChangeFault, StepsOnOk, StepsIfOpen, StaysUncommitted, MakesAllOrNone, IsAtRest, StaysInside};
-ghost use Rattle.ft_store.specs.Groups.{entry_values, entry_put, PutsList, GoesOnOk};
+ghost use Rattle.ft_store.specs.Calls.{StepsOnOk, ChangesAllOrNone, IsAtRest};
+ghost use Rattle.ft_store.specs.Inside.{StepsInside, StepsInsideIfOpen, DoneInside, ChangesInside, AppliesInside};
+ghost use Rattle.ft_store.specs.Groups.{entry_values, entry_put, PutsList, ArePacked, GoesOnOk};
 ghost use Rattle.ft_store.specs.Parts.{changes_in, CanMake};
 
 use crate::fault::StoreFault;
@@ -37,9 +35,8 @@ fn put_column<S: Alter>(
     column: i64,
     name: &str,
 ) -> Result<(), StoreFault>
-    ensures steps { StepsOnOk S.Store tx.old.conn.now tx.new.conn.now result
+    ensures { StepsInside S.Store tx.old.conn tx.new.conn result
         (λ v. record v { columns = put column_key_cmp (tab, column) name.now v.columns }) }
-    ensures stays { StaysUncommitted S.Store tx.old.conn tx.new.conn result }
 {
     drop_column(tx, tab, column)?;
     add_column(tx, tab, column, name)
@@ -47,9 +44,8 @@ fn put_column<S: Alter>(
 
 /// Puts that a column isn't indexed.
 fn put_skip<S: Alter>(tx: &mut Transaction<'_, S>, tab: i64, column: i64) -> Result<(), StoreFault>
-    ensures steps { StepsOnOk S.Store tx.old.conn.now tx.new.conn.now result
+    ensures { StepsInside S.Store tx.old.conn tx.new.conn result
         (λ v. record v { skipped = put column_key_cmp (tab, column) tt v.skipped }) }
-    ensures stays { StaysUncommitted S.Store tx.old.conn tx.new.conn result }
 {
     drop_skip(tx, tab, column)?;
     add_skip(tx, tab, column)
@@ -63,12 +59,11 @@ fn put_cell<S: Alter>(
     column: i64,
     value: &Value,
 ) -> Result<(), StoreFault>
-    ensures steps { StepsOnOk S.Store tx.old.conn.now tx.new.conn.now result
+    ensures { StepsInside S.Store tx.old.conn tx.new.conn result
         (λ v. record v {
           cells = put cell_key_cmp (tab, docid, column) (shown_value value.now)
               v.cells;
         }) }
-    ensures stays { StaysUncommitted S.Store tx.old.conn tx.new.conn result }
 {
     drop_cell(tx, tab, docid, column)?;
     add_cell(tx, tab, docid, column, value)
@@ -82,12 +77,11 @@ fn put_list<'a, S: Alter>(
     docid: i64,
     list: &'a [u8],
 ) -> Result<(), StoreFault>
-    ensures steps { StepsOnOk S.Store tx.old.conn.now tx.new.conn.now result
+    ensures { StepsInside S.Store tx.old.conn tx.new.conn result
         (λ v. record v {
           lists = put list_key_cmp (tab, term.now, docid)
               (unwrap_or (spots_in list.now) []) v.lists;
         }) }
-    ensures stays { StaysUncommitted S.Store tx.old.conn tx.new.conn result }
 {
     drop_list(tx, tab, term, docid)?;
     add_list(tx, tab, term, docid, list)
@@ -101,9 +95,8 @@ fn put_size<S: Alter>(
     column: i64,
     n: i64,
 ) -> Result<(), StoreFault>
-    ensures steps { StepsOnOk S.Store tx.old.conn.now tx.new.conn.now result
+    ensures { StepsInside S.Store tx.old.conn tx.new.conn result
         (λ v. record v { sizes = put cell_key_cmp (tab, docid, column) n v.sizes }) }
-    ensures stays { StaysUncommitted S.Store tx.old.conn tx.new.conn result }
 {
     drop_size(tx, tab, docid, column)?;
     add_size(tx, tab, docid, column, n)
@@ -111,9 +104,8 @@ fn put_size<S: Alter>(
 
 /// Puts a noted name.
 fn put_note<S: Alter>(tx: &mut Transaction<'_, S>, name: &str) -> Result<(), StoreFault>
-    ensures steps { StepsOnOk S.Store tx.old.conn.now tx.new.conn.now result
+    ensures { StepsInside S.Store tx.old.conn tx.new.conn result
         (λ v. record v { noted = put name_cmp (without_case name.now) name.now v.noted }) }
-    ensures stays { StaysUncommitted S.Store tx.old.conn tx.new.conn result }
 {
     drop_note(tx, name)?;
     add_note(tx, name)
@@ -128,11 +120,9 @@ fn put_entries<S: Alter>(
     docid: i64,
     spots: &[Spot],
 ) -> Result<(), StoreFault>
-    ensures packable { OnOk result (CanPack spots.now) }
-    ensures steps { StepsOnOk S.Store tx.old.conn.now tx.new.conn.now result
-        (λ v. record v { lists = put list_key_cmp (tab, term.now, docid) spots.now v.lists }) }
-    ensures stays { StaysInside S.Store tx.old.conn tx.new.conn result
-        (IsChangeFault (CanPack spots.now)) }
+    ensures { ChangesInside S.Store tx.old.conn tx.new.conn result (CanPack spots.now)
+        (StepsOnOk S.Store tx.old.conn.now tx.new.conn.now result
+        (λ v. record v { lists = put list_key_cmp (tab, term.now, docid) spots.now v.lists })) }
 {
     if !can_pack(spots) {
         return Err(StoreFault::Damaged);
@@ -143,9 +133,8 @@ fn put_entries<S: Alter>(
 
 /// Takes all index rows of a table out.
 fn clear_index<S: Alter>(tx: &mut Transaction<'_, S>, tab: i64) -> Result<(), StoreFault>
-    ensures steps { StepsOnOk S.Store tx.old.conn.now tx.new.conn.now result
+    ensures { StepsInside S.Store tx.old.conn tx.new.conn result
         (λ v. without_index tab v) }
-    ensures stays { StaysUncommitted S.Store tx.old.conn tx.new.conn result }
 {
     drop_lists(tx, tab)?;
     drop_sizes(tx, tab)
@@ -153,9 +142,8 @@ fn clear_index<S: Alter>(tx: &mut Transaction<'_, S>, tab: i64) -> Result<(), St
 
 /// Takes all rows of a table out.
 fn clear_rows<S: Alter>(tx: &mut Transaction<'_, S>, tab: i64) -> Result<(), StoreFault>
-    ensures steps { StepsOnOk S.Store tx.old.conn.now tx.new.conn.now result
+    ensures { StepsInside S.Store tx.old.conn tx.new.conn result
         (λ v. without_rows tab v) }
-    ensures stays { StaysUncommitted S.Store tx.old.conn tx.new.conn result }
 {
     clear_index(tx, tab)?;
     drop_contents(tx, tab)?;
@@ -170,12 +158,11 @@ fn put_columns<S: Alter>(
     tab: i64,
     columns: &[String],
 ) -> Result<(), StoreFault>
-    ensures steps { StepsIfOpen S.Store tx.old.conn.now tx.new.conn.now result
+    ensures { StepsInsideIfOpen S.Store tx.old.conn tx.new.conn result
         (λ v. record v {
           columns = with_columns tab
               (enumerate_from 0 (map string_bytes columns.now)) v.columns;
         }) }
-    ensures stays { StaysUncommitted S.Store tx.old.conn tx.new.conn result }
 {
     for (at, name) in columns.iter().enumerate() {
         put_column(tx, tab, at as i64, name.as_str())?;
@@ -189,9 +176,8 @@ fn put_skips<S: Alter>(
     tab: i64,
     skipped: &[i64],
 ) -> Result<(), StoreFault>
-    ensures steps { StepsIfOpen S.Store tx.old.conn.now tx.new.conn.now result
+    ensures { StepsInsideIfOpen S.Store tx.old.conn tx.new.conn result
         (λ v. record v { skipped = with_skipped tab skipped.now v.skipped }) }
-    ensures stays { StaysUncommitted S.Store tx.old.conn tx.new.conn result }
 {
     for column in skipped {
         put_skip(tx, tab, *column)?;
@@ -207,9 +193,8 @@ fn add_table<S: Alter>(
     columns: &[String],
     skipped: &[i64],
 ) -> Result<(), StoreFault>
-    ensures steps { StepsOnOk S.Store tx.old.conn.now tx.new.conn.now result
+    ensures { StepsInside S.Store tx.old.conn tx.new.conn result
         (λ v. applied (AddTable tab name.now (map string_bytes columns.now) skipped.now) v) }
-    ensures stays { StaysUncommitted S.Store tx.old.conn tx.new.conn result }
 {
     clear_rows(tx, tab)?;
     add_name(tx, tab, name)?;
@@ -223,11 +208,9 @@ fn apply<S: Alter>(
     alloc: Global,
     change: &RowChange,
 ) -> Result<(), StoreFault>
-    ensures packable { OnOk result (CanApply change.now) }
-    ensures steps { StepsOnOk S.Store tx.old.conn.now tx.new.conn.now result
-        (λ v. applied (shown_change change.now) v) }
-    ensures stays { StaysInside S.Store tx.old.conn tx.new.conn result
-        (IsChangeFault (CanApply change.now)) }
+    ensures { ChangesInside S.Store tx.old.conn tx.new.conn result (CanApply change.now)
+        (StepsOnOk S.Store tx.old.conn.now tx.new.conn.now result
+        (λ v. applied (shown_change change.now) v)) }
 {
     match change {
         RowChange::AddTable(tab, name, columns, skipped) => add_table(
@@ -257,11 +240,7 @@ fn apply_each<S: Alter>(
     alloc: Global,
     changes: &[RowChange],
 ) -> Result<(), StoreFault>
-    ensures packable { OnOk result (All CanApply changes.now) }
-    ensures goes { GoesOnOk S.Store tx.old.conn.now tx.new.conn.now result
-        (λ _ v. all_applied (map shown_change changes.now) v) }
-    ensures stays { StaysInside S.Store tx.old.conn tx.new.conn result
-        (IsChangeFault (All CanApply changes.now)) }
+    ensures { AppliesInside S.Store tx.old.conn tx.new.conn result changes.now }
 {
     for change in changes {
         apply(tx, alloc, change)?;
@@ -281,8 +260,7 @@ fn puts_list(change: &RowChange) -> bool {
 /// How many of the first changes are made together: eight that put lists, or else one.
 fn group_size(changes: &[RowChange]) -> usize
     requires { 0 < length changes.now }
-    ensures some { 0 < result }
-    ensures within { result ≤ length changes.now }
+    ensures { (0 < result) × (result ≤ length changes.now) }
 {
     if changes.len() < GROUP {
         return 1;
@@ -297,9 +275,8 @@ fn group_size(changes: &[RowChange]) -> usize
 
 /// The packed lists of changes, if each puts one that can be packed.
 fn packed_lists(alloc: Global, changes: &[RowChange]) -> Result<Option<Vec<Vec<u8>>>, AllocError>
-    ensures puts { IfOk result (λ o. IfSome o (λ _. All PutsList changes.now)) }
-    ensures packed { IfOk result (λ o. IfSome o
-        (λ lists. map vec_items lists.items ≡ map (λ c. (entry_put c).1) changes.now)) }
+    ensures { IfOk result (λ o. IfSome o
+        (λ lists. ArePacked changes.now (map vec_items lists.items))) }
 {
     let mut lists = Vec::new(alloc);
     for change in changes {
@@ -341,8 +318,7 @@ fn list_values<'a>(
     changes: &'a [RowChange],
     lists: &'a [Vec<u8>],
 ) -> Result<Vec<ValueRef<'a>>, AllocError>
-    requires puts { All PutsList changes.now }
-    requires packed { map vec_items lists.now ≡ map (λ c. (entry_put c).1) changes.now }
+    requires { ArePacked changes.now (map vec_items lists.now) }
     ensures { IfOk result
         (λ values. bound values.items ≡ flat_map entry_values (map entry_put changes.now)) }
 {
@@ -361,9 +337,9 @@ fn add_group<S: Alter>(
     changes: &[RowChange],
 ) -> Result<bool, StoreFault>
     ensures packable { IfOk result (λ added. IsTrue added → All CanApply changes.now) }
-    ensures goes { GoesOnOk S.Store tx.old.conn.now tx.new.conn.now result
-        (λ added v. if added then all_applied (map shown_change changes.now) v else v) }
-    ensures stays { StaysUncommitted S.Store tx.old.conn tx.new.conn result }
+    ensures goes { DoneInside S.Store tx.old.conn tx.new.conn result
+        (GoesOnOk S.Store tx.old.conn.now tx.new.conn.now result
+        (λ added v. if added then all_applied (map shown_change changes.now) v else v)) }
 {
     if changes.len() != GROUP {
         return Ok(false);
@@ -381,11 +357,7 @@ fn apply_group<S: Alter>(
     alloc: Global,
     changes: &[RowChange],
 ) -> Result<(), StoreFault>
-    ensures packable { OnOk result (All CanApply changes.now) }
-    ensures goes { GoesOnOk S.Store tx.old.conn.now tx.new.conn.now result
-        (λ _ v. all_applied (map shown_change changes.now) v) }
-    ensures stays { StaysInside S.Store tx.old.conn tx.new.conn result
-        (IsChangeFault (All CanApply changes.now)) }
+    ensures { AppliesInside S.Store tx.old.conn tx.new.conn result changes.now }
 {
     let added = add_group(tx, alloc, changes)?;
     if added {
@@ -400,11 +372,7 @@ fn apply_all<S: Alter>(
     alloc: Global,
     changes: &[RowChange],
 ) -> Result<(), StoreFault>
-    ensures packable { OnOk result (All CanApply changes.now) }
-    ensures goes { GoesOnOk S.Store tx.old.conn.now tx.new.conn.now result
-        (λ _ v. all_applied (map shown_change changes.now) v) }
-    ensures stays { StaysInside S.Store tx.old.conn tx.new.conn result
-        (IsChangeFault (All CanApply changes.now)) }
+    ensures { AppliesInside S.Store tx.old.conn tx.new.conn result changes.now }
 {
     let mut at = 0;
     while at < changes.len() {
@@ -422,11 +390,8 @@ pub(crate) fn change<S: Alter>(
     changes: &[RowChange],
 ) -> Result<(), StoreFault>
     requires { IsAtRest (state S.Store conn.old) }
-    ensures packable { OnOk result (All CanApply changes.now) }
-    ensures fault { IfErr result (IsChangeFault (All CanApply changes.now)) }
-    ensures made { MakesAllOrNone (state S.Store conn.old) (state S.Store conn.new) result
-        (map shown_change changes.now) }
-    ensures mode { (state S.Store conn.new).in_transaction ≡ false }
+    ensures { ChangesAllOrNone (state S.Store conn.old) (state S.Store conn.new) result
+        (All CanApply changes.now) (map shown_change changes.now) }
 {
     let _settled = conn.is_autocommit();
     let mut tx = conn.transaction();
@@ -442,12 +407,9 @@ pub(crate) fn change_parts<S: Alter, P: Parts>(
     parts: &mut P,
 ) -> Result<(), StoreFault>
     requires { IsAtRest (state S.Store conn.old) }
-    ensures packable { OnOk result (All CanMake (changes_in (P.Parts.to_come parts.old))) }
-    ensures fault { IfErr result
-        (IsChangeFault (All CanMake (changes_in (P.Parts.to_come parts.old)))) }
-    ensures made { MakesAllOrNone (state S.Store conn.old) (state S.Store conn.new) result
+    ensures { ChangesAllOrNone (state S.Store conn.old) (state S.Store conn.new) result
+        (All CanMake (changes_in (P.Parts.to_come parts.old)))
         (changes_in (P.Parts.to_come parts.old)) }
-    ensures mode { (state S.Store conn.new).in_transaction ≡ false }
 {
     let _settled = conn.is_autocommit();
     let mut tx = conn.transaction();

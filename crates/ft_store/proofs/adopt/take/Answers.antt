@@ -8,10 +8,10 @@ pub returns-in-Some-Present-clause-refused : goal.returns-in-Some-Present-clause
 returns-in-Some-Present-clause-refused g c =
     let schema : c.args.conn.now.schema ≡ store_schema = search rules in
     let it = c.examine.ensures in
-    not_taken g.S.Store c.args.conn.now c.examine.new.conn c.examine.result (inl schema) (λ clean. err_too c.examine.result (it.kept clean)) it.mode it.cause it.unmarked it.version
+    not_taken g.S.Store c.args.conn.now c.examine.new.conn c.examine.result (inl schema) (λ clean. err_too c.examine.result (it.read.kept clean)) it.read.mode it.read.fault it.judged
 
 pub returns-in-Some-Older-clause-refused : goal.returns-in-Some-Older-clause-refused
 returns-in-Some-Older-clause-refused g c =
     let schema : c.args.conn.now.schema ≡ older_schema = search rules in
     let it = c.take_older.ensures in
-    not_taken g.S.Store c.args.conn.now c.take_older.new.conn c.take_older.result (inr schema) it.none it.mode it.cause it.unmarked it.version
+    not_taken g.S.Store c.args.conn.now c.take_older.new.conn c.take_older.result (inr schema) it.made.none it.made.mode it.made.fault it.judged

@@ -16,15 +16,20 @@ returns-clause-told g c =
     let gives = gives_of (state g.S.Store c.transaction-tx.result.conn.now) mid c.query_all-found.result (c.query_all-found.ensures.ok before) (c.query_all-found.ensures.err before) in
     (c.query_all-found.new.self.conn.now, subst (λ h. Gives (state g.S.Store h) mid c.query_all-found.result) c.transaction-tx.ensures.begun gives))
 
-pub returns-clause-kept : goal.returns-clause-kept
-returns-clause-kept g c =
+pub returns-clause-alone : goal.returns-clause-alone
+returns-clause-alone g c =
     let same : c.rollback.new.self.0 ≡ c.conn-1.given.0 = search rules in
     let old = state g.S.Store c.args.conn.now in
     let mid = state g.S.Store c.query_all-found.new.self.conn.now in
     let settled = c.is_autocommit-settled.ensures.settled (c.is_autocommit-settled.ensures.value ∙ ap not c.requires.settled) in
-    subst (λ h. HasCleanDisk (state g.S.Store h) → Keeps old (state g.S.Store h)) same
-    (λ clean.
-    let before : HasCleanDisk mid = omega (arith, c.rollback.ensures.survives.clean, clean) in
-    let gives = gives_of (state g.S.Store c.transaction-tx.result.conn.now) mid c.query_all-found.result (c.query_all-found.ensures.ok before) (c.query_all-found.ensures.err before) in
-    undone_keeps old (state g.S.Store (record c.args.conn.now { in_transaction = Rattle.std.proofs.Common.true })) mid (state g.S.Store c.rollback.new.self.0) c.query_all-found.result settled (λ o. o) refl refl
-    (subst (λ h. Gives (state g.S.Store h) mid c.query_all-found.result) c.transaction-tx.ensures.begun gives) (c.rollback.ensures.undone clean))
+    record {
+      kept =
+          subst (λ h. HasCleanDisk (state g.S.Store h) → Keeps old (state g.S.Store h)) same
+          (λ clean.
+          let before : HasCleanDisk mid = omega (arith, c.rollback.ensures.survives.clean, clean) in
+          let gives = gives_of (state g.S.Store c.transaction-tx.result.conn.now) mid c.query_all-found.result (c.query_all-found.ensures.ok before) (c.query_all-found.ensures.err before) in
+          undone_keeps old (state g.S.Store (record c.args.conn.now { in_transaction = Rattle.std.proofs.Common.true })) mid (state g.S.Store c.rollback.new.self.0) c.query_all-found.result settled (λ o. o) refl refl
+          (subst (λ h. Gives (state g.S.Store h) mid c.query_all-found.result) c.transaction-tx.ensures.begun gives) (c.rollback.ensures.undone clean));
+      mode = search rules;
+      survives = search rules;
+    }

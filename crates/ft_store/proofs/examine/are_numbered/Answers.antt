@@ -1,4 +1,7 @@
-use Rattle.std.proofs.Common.{ap, subst, ◌∙◌, arith, below_more}
+use Rattle.std.proofs.Common.{◌<◌, ap, subst, ◌∙◌, arith, below_more, rules}
+use Rattle.ft_store.specs.declared.same.Layout.{Layout}
+use Rattle.ft_store.specs.declared.same.Layout.TheVariants.{Older, Present}
+use Rattle.ft_store.specs.Older.{tables_of}
 use Rattle.sqlite.specs.Effect.{Database}
 use Rattle.sqlite.specs.Held.{state}
 use Rattle.sqlite.specs.State.{HasCleanDisk}
@@ -8,11 +11,14 @@ use Rattle.ft_store.proofs.ChainLemmas.{look_on}
 use Rattle.ft_store.proofs.ScanLemmas.{each_numbered}
 use Rattle.ft_store.proofs.examine.are_numbered.Goals as goal
 
-pub is_numbered-requires-clause-schema : goal.is_numbered-requires-clause-schema
-is_numbered-requires-clause-schema g c clean is_open =
+pub is_numbered-requires-clause-rest : goal.is_numbered-requires-clause-rest
+is_numbered-requires-clause-rest g c =
     let before = c.loop-at.invariant.0 in
-    let kept = before.kept clean is_open in
-    ap (λ (d : Database). d.schema) kept.0 ∙ c.requires.schema (omega (arith, before.survives.clean, clean)) kept.2
+    record { settled = before.mode; shown = λ clean is_open. let kept = before.kept clean is_open in ap (λ (d : Database). d.schema) kept.0 ∙ c.requires.shown (omega (arith, before.survives.clean, clean)) kept.2 }
+
+some_tables : (layout : Layout) → 0 < tables_of layout
+some_tables Older = omega arith
+some_tables Present = omega arith
 
 pub loop-at-preserved : goal.loop-at-preserved
 loop-at-preserved g c =
@@ -21,12 +27,24 @@ loop-at-preserved g c =
     let now = state g.S.Store c.is_numbered.new.conn in
     let before = c.loop-at.invariant in (
       look_on old was now before.0 c.is_numbered.ensures.read.kept c.is_numbered.ensures.read.survives c.is_numbered.ensures.read.mode c.in_ok-is_numbered.ensures.read.live,
+      λ clean some. c.in_ok-is_numbered.ensures.read.live clean,
       λ clean.
           let clean_was : HasCleanDisk was = omega (arith, c.is_numbered.ensures.read.survives.clean, clean) in
           let is_open = (c.is_numbered.ensures.read.kept clean (c.in_ok-is_numbered.ensures.read.live clean)).2 in
           let same = (before.0.kept clean_was is_open).0 in
-          below_more (λ i. HasOwnRowids (old.now.trees (tree_at i))) c.loop-at.at (before.1 clean_was) (subst (λ (d : Database). HasOwnRowids (d.trees (tree_at c.loop-at.at))) same (c.in_ok-is_numbered.ensures.own clean c.if-not-branch.false)),
+          below_more (λ i. HasOwnRowids (old.now.trees (tree_at i))) c.loop-at.at (before.2 clean_was) (subst (λ (d : Database). HasOwnRowids (d.trees (tree_at c.loop-at.at))) same (c.in_ok-is_numbered.ensures.rows clean c.if-not-branch.false)),
     )
 
-pub returns-clause-own : goal.returns-clause-own
-returns-clause-own g c clean holds = each_numbered c.args.layout (state g.S.Store c.args.conn.now).now.trees (λ i below. c.loop-at.invariant.1 clean i (omega (arith, c.loop-at-test.false, below)))
+pub returns : goal.returns
+returns g c =
+    let looked = c.loop-at.invariant.0 in
+    record {
+      rows = λ clean holds. each_numbered c.args.layout (state g.S.Store c.args.conn.now).now.trees (λ i below. c.loop-at.invariant.2 clean i (omega (arith, c.loop-at-test.false, below)));
+      read = record {
+        kept = looked.kept;
+        live = λ clean. c.loop-at.invariant.1 clean (omega (arith, c.loop-at-test.false, some_tables c.args.layout, c.tables_in-at-end.ensures));
+        mode = looked.mode;
+        survives = looked.survives;
+        fault = search rules;
+      };
+    }

@@ -1,4 +1,4 @@
-use Rattle.std.proofs.Common.{ℕ, ◌<◌}
+use Rattle.std.proofs.Common.{ℕ, ◌<◌, IsTrue}
 use Rattle.sqlite.specs.Held.{state}
 use Rattle.sqlite.specs.State.{HasCleanDisk}
 use Rattle.ft_store.specs.Scan.{tree_at}
@@ -10,4 +10,4 @@ abbrev pub invariant-loop-at : goal.invariant-loop-at
 invariant-loop-at g l =
     let old = state g.S.Store l.fn.conn in
     let now = state g.S.Store l.conn in
-    Looking old now × (HasCleanDisk now → (i : ℕ) → i < l.at → HasOwnRowids (old.now.trees (tree_at i)))
+    Looking old now × (HasCleanDisk now → 0 < l.at → IsTrue now.is_open) × (HasCleanDisk now → (i : ℕ) → i < l.at → HasOwnRowids (old.now.trees (tree_at i)))

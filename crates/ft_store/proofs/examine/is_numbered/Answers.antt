@@ -9,14 +9,17 @@ use Rattle.ft_store.proofs.CallLemmas.{shown_open}
 use Rattle.ft_store.proofs.ScanLemmas.{scanned, all_rise}
 use Rattle.ft_store.proofs.examine.is_numbered.Goals as goal
 
-pub gather-requires-clause-plain : goal.gather-requires-clause-plain
-gather-requires-clause-plain g c clean is_open = subst (λ s. IsPlain (understood s c.rowids_query.result.now)) (sym (c.requires.schema clean is_open)) (c.rowids_query.ensures c.args.layout c.requires.within).plain
+pub gather-requires-clause-asked : goal.gather-requires-clause-asked
+gather-requires-clause-asked g c = record { settled = c.requires.rest.settled; shown = λ clean is_open. subst (λ s. IsPlain (understood s c.rowids_query.result.now)) (sym (c.requires.rest.shown clean is_open)) (c.rowids_query.ensures c.args.layout c.requires.within).plain }
 
-pub returns-clause-own : goal.returns-clause-own
-returns-clause-own g c clean =
-    let old = state g.S.Store c.args.conn.now in
-    let new = state g.S.Store c.gather.new.conn in
-    IfOk-weaker c.gather.result _ _
-    (λ b h rise. let schema = c.requires.schema (omega (arith, c.gather.ensures.read.survives.clean)) (shown_open _ _ old new _ h.1) in
-    scanned (schema_of c.args.layout) c.rowids_query.result.now (tree_at c.args.at) (c.rowids_query.ensures c.args.layout c.requires.within) old new schema h.0 h.1 (all_rise c.gather.new.into.last h.0 (h.2 rise)))
-    (c.gather.ensures.made clean)
+pub returns : goal.returns
+returns g c = record {
+  rows = λ clean.
+      let old = state g.S.Store c.args.conn.now in
+      let new = state g.S.Store c.gather.new.conn in
+      IfOk-weaker c.gather.result _ _
+      (λ b h rise. let schema = c.requires.rest.shown (omega (arith, c.gather.ensures.given.read.survives.clean)) (shown_open _ _ old new _ h.1) in
+      scanned (schema_of c.args.layout) c.rowids_query.result.now (tree_at c.args.at) (c.rowids_query.ensures c.args.layout c.requires.within) old new schema h.0 h.1 (all_rise c.gather.new.into.last h.0 (h.2 rise)))
+      (c.gather.ensures.given.rows clean);
+  read = c.gather.ensures.given.read;
+}

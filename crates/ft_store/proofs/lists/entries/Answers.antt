@@ -10,23 +10,25 @@ use Rattle.ft_store.proofs.TextLemmas.{lists_plain}
 use Rattle.ft_store.proofs.AnswerLemmas.{lists_stored_shown, placed}
 use Rattle.ft_store.proofs.lists.entries.Goals as goal
 
-pub select_entries-requires-clause-plain : goal.select_entries-requires-clause-plain
-select_entries-requires-clause-plain g c clean is_open = subst (λ s. IsPlain (understood s lists_text)) (sym (c.requires.store clean is_open).schema) lists_plain
+pub select_entries-requires : goal.select_entries-requires
+select_entries-requires g c = record { settled = c.requires.settled; shown = λ clean is_open. subst (λ s. IsPlain (understood s lists_text)) (sym (c.requires.store clean is_open).schema) lists_plain }
 
-pub returns-clause-rows : goal.returns-clause-rows
-returns-clause-rows g c clean =
-    let old = state g.S.Store c.args.conn.now in
-    let new = state g.S.Store c.select_entries.new.conn in
-    let store = c.requires.store (omega (arith, c.select_entries.ensures.read.survives.clean)) in
-    IfOk-weaker c.select_entries.result _ _
-    (λ found h. let all = placed old.now.trees c.args.tab (λ k. int_eq c.args.tab k.0) h.0 (lists_stored_shown c.args.tab old new h.0 store (simp (to_z-of_z, c.ranges.tab) at (rw c.params-to_sql.ensures at h.1))) in (subst (λ l. map shown_entry found.items ≡ entries_of l) all (h.2 c.args.tab).0, subst AreWhole all (h.2 c.args.tab).1))
-    (c.select_entries.ensures.found clean)
-
-pub returns-clause-damaged : goal.returns-clause-damaged
-returns-clause-damaged g c clean is =
-    let old = state g.S.Store c.args.conn.now in
-    let new = state g.S.Store c.select_entries.new.conn in
-    let store = c.requires.store (omega (arith, c.select_entries.ensures.read.survives.clean)) in
-    let h = c.select_entries.ensures.damaged clean is in
-    let all = placed old.now.trees c.args.tab (λ k. int_eq c.args.tab k.0) h.0 (lists_stored_shown c.args.tab old new h.0 store (simp (to_z-of_z, c.ranges.tab) at (rw c.params-to_sql.ensures at h.1))) in
-    subst SomeDamaged all (h.2 c.args.tab)
+pub returns : goal.returns
+returns g c = record {
+  rows = λ clean.
+      let old = state g.S.Store c.args.conn.now in
+      let new = state g.S.Store c.select_entries.new.conn in
+      let store = c.requires.store (omega (arith, c.select_entries.ensures.read.survives.clean)) in
+      IfOk-weaker c.select_entries.result _ _
+      (λ found h. let all = placed old.now.trees c.args.tab (λ k. int_eq c.args.tab k.0) h.0 (lists_stored_shown c.args.tab old new h.0 store (simp (to_z-of_z, c.ranges.tab) at (rw c.params-to_sql.ensures at h.1))) in (subst (λ l. map shown_entry found.items ≡ entries_of l) all (h.2 c.args.tab).0, subst AreWhole all (h.2 c.args.tab).1))
+      (c.select_entries.ensures.rows clean);
+  damaged = λ clean is.
+      let old = state g.S.Store c.args.conn.now in
+      let new = state g.S.Store c.select_entries.new.conn in
+      let store = c.requires.store (omega (arith, c.select_entries.ensures.read.survives.clean)) in
+      let h = c.select_entries.ensures.damaged clean is in
+      let all = placed old.now.trees c.args.tab (λ k. int_eq c.args.tab k.0) h.0 (lists_stored_shown c.args.tab old new h.0 store (simp (to_z-of_z, c.ranges.tab) at (rw c.params-to_sql.ensures at h.1))) in
+      subst SomeDamaged all (h.2 c.args.tab);
+  stays = c.select_entries.ensures.stays;
+  read = c.select_entries.ensures.read;
+}

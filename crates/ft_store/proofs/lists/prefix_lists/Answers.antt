@@ -8,24 +8,28 @@ use Rattle.ft_rows.specs.Shown.{AreRead, SomeDamaged}
 use Rattle.ft_store.proofs.RangeLemmas.{below_255, all_begin, none_of}
 use Rattle.ft_store.proofs.lists.prefix_lists.Goals as goal
 
-pub returns-then-is_empty-clause-rows : goal.returns-then-is_empty-clause-rows
-returns-then-is_empty-clause-rows g c clean =
-    let lists = (value_of (state g.S.Store c.args.conn.now).now.trees).lists in
-    let none : c.args.begin.now ≡ [] = none_of c.args.begin.now (search rules) in
-    subst (λ (p : ListKey → Bool). IfOk c.table_lists.result (λ found. AreRead (where_key list_key_cmp p lists) found.items))
-    (all_begin c.args.tab c.args.begin.now none) (simp (to_z-of_z, c.ranges.tab) at (c.table_lists.ensures.rows clean))
-
-pub returns-then-is_empty-clause-damaged : goal.returns-then-is_empty-clause-damaged
-returns-then-is_empty-clause-damaged g c clean is =
-    let lists = (value_of (state g.S.Store c.args.conn.now).now.trees).lists in
-    let none : c.args.begin.now ≡ [] = none_of c.args.begin.now (search rules) in
-    subst (λ (p : ListKey → Bool). SomeDamaged (where_key list_key_cmp p lists)) (all_begin c.args.tab c.args.begin.now none) (simp (to_z-of_z, c.ranges.tab) at (c.table_lists.ensures.damaged clean is))
+pub returns-then-is_empty : goal.returns-then-is_empty
+returns-then-is_empty g c = record {
+  rows = λ clean.
+      let lists = (value_of (state g.S.Store c.args.conn.now).now.trees).lists in
+      let none : c.args.begin.now ≡ [] = none_of c.args.begin.now (search rules) in
+      subst (λ (p : ListKey → Bool). IfOk c.table_lists.result (λ found. AreRead (where_key list_key_cmp p lists) found.items))
+      (all_begin c.args.tab c.args.begin.now none) (simp (to_z-of_z, c.ranges.tab) at (c.table_lists.ensures.rows clean));
+  damaged = λ clean is.
+      let lists = (value_of (state g.S.Store c.args.conn.now).now.trees).lists in
+      let none : c.args.begin.now ≡ [] = none_of c.args.begin.now (search rules) in
+      subst (λ (p : ListKey → Bool). SomeDamaged (where_key list_key_cmp p lists)) (all_begin c.args.tab c.args.begin.now none) (simp (to_z-of_z, c.ranges.tab) at (c.table_lists.ensures.damaged clean is));
+  stays = c.table_lists.ensures.stays;
+  read = c.table_lists.ensures.read;
+}
 
 pub after_last-requires : goal.after_last-requires
 after_last-requires g c = below_255 c.as_bytes.result.now c.as_bytes.ensures.utf8
 
-pub returns-clause-rows : goal.returns-clause-rows
-returns-clause-rows g c clean = rw c.as_bytes-2.ensures.value at (simp (to_z-of_z, c.ranges.tab) at (c.bare_range.ensures.rows clean))
-
-pub returns-clause-damaged : goal.returns-clause-damaged
-returns-clause-damaged g c clean is = rw c.as_bytes-2.ensures.value at (simp (to_z-of_z, c.ranges.tab) at (c.bare_range.ensures.damaged clean is))
+pub returns : goal.returns
+returns g c = record {
+  rows = λ clean. rw c.as_bytes-2.ensures.value at (simp (to_z-of_z, c.ranges.tab) at (c.bare_range.ensures.rows clean));
+  damaged = λ clean is. rw c.as_bytes-2.ensures.value at (simp (to_z-of_z, c.ranges.tab) at (c.bare_range.ensures.damaged clean is));
+  stays = c.bare_range.ensures.stays;
+  read = c.bare_range.ensures.read;
+}

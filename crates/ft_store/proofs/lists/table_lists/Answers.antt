@@ -10,23 +10,25 @@ use Rattle.ft_store.proofs.AnswerLemmas.{bare_lists_shown}
 use Rattle.ft_store.proofs.EntryLemmas.{whole_bare, bare_whole}
 use Rattle.ft_store.proofs.lists.table_lists.Goals as goal
 
-pub select_lists-requires-clause-plain : goal.select_lists-requires-clause-plain
-select_lists-requires-clause-plain g c clean is_open = subst (λ s. IsPlain (understood s bare_lists_text)) (sym (c.requires.store clean is_open).schema) bare_lists_plain
+pub select_lists-requires : goal.select_lists-requires
+select_lists-requires g c = record { settled = c.requires.settled; shown = λ clean is_open. subst (λ s. IsPlain (understood s bare_lists_text)) (sym (c.requires.store clean is_open).schema) bare_lists_plain }
 
-pub returns-clause-rows : goal.returns-clause-rows
-returns-clause-rows g c clean =
-    let old = state g.S.Store c.args.conn.now in
-    let new = state g.S.Store c.select_lists.new.conn in
-    let store = c.requires.store (omega (arith, c.select_lists.ensures.read.survives.clean)) in
-    IfOk-weaker c.select_lists.result _ _
-    (λ found h. let shown = bare_lists_shown c.args.tab old new h.0 store (simp (to_z-of_z, c.ranges.tab) at (rw c.params-to_sql.ensures at h.1)) in (h.2 ∙ shown, bare_whole _ (subst AreWhole shown h.3)))
-    (c.select_lists.ensures.found clean)
-
-pub returns-clause-damaged : goal.returns-clause-damaged
-returns-clause-damaged g c clean is whole =
-    let old = state g.S.Store c.args.conn.now in
-    let new = state g.S.Store c.select_lists.new.conn in
-    let store = c.requires.store (omega (arith, c.select_lists.ensures.read.survives.clean)) in
-    let h = c.select_lists.ensures.damaged clean is in
-    let shown = bare_lists_shown c.args.tab old new h.0 store (simp (to_z-of_z, c.ranges.tab) at (rw c.params-to_sql.ensures at h.1)) in
-    h.2 (subst AreWhole (sym shown) (whole_bare _ whole))
+pub returns : goal.returns
+returns g c = record {
+  rows = λ clean.
+      let old = state g.S.Store c.args.conn.now in
+      let new = state g.S.Store c.select_lists.new.conn in
+      let store = c.requires.store (omega (arith, c.select_lists.ensures.read.survives.clean)) in
+      IfOk-weaker c.select_lists.result _ _
+      (λ found h. let shown = bare_lists_shown c.args.tab old new h.0 store (simp (to_z-of_z, c.ranges.tab) at (rw c.params-to_sql.ensures at h.1)) in (h.2.0 ∙ shown, bare_whole _ (subst AreWhole shown h.2.1)))
+      (c.select_lists.ensures.rows clean);
+  damaged = λ clean is whole.
+      let old = state g.S.Store c.args.conn.now in
+      let new = state g.S.Store c.select_lists.new.conn in
+      let store = c.requires.store (omega (arith, c.select_lists.ensures.read.survives.clean)) in
+      let h = c.select_lists.ensures.damaged clean is in
+      let shown = bare_lists_shown c.args.tab old new h.0 store (simp (to_z-of_z, c.ranges.tab) at (rw c.params-to_sql.ensures at h.1)) in
+      h.2 (subst AreWhole (sym shown) (whole_bare _ whole));
+  stays = c.select_lists.ensures.stays;
+  read = c.select_lists.ensures.read;
+}

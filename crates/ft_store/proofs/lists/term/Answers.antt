@@ -1,4 +1,4 @@
-use Rattle.std.proofs.Common.{map, ap, ◌∙◌, to_z-of_z}
+use Rattle.std.proofs.Common.{rules, map, ap, ◌∙◌, to_z-of_z}
 use Rattle.std.specs.List.{flat_map}
 use Rattle.sqlite.specs.Held.{state}
 use Rattle.ft_store.specs.Rows.{value_of}
@@ -6,10 +6,15 @@ use Rattle.ft_rows.specs.Shown.{shown_list, entries_with}
 use Rattle.ft_store.proofs.EntryLemmas.{term_entries}
 use Rattle.ft_store.proofs.lists.term.Goals as goal
 
-pub returns-clause-rows : goal.returns-clause-rows
-returns-clause-rows g c clean =
-    let lists = (value_of (state g.S.Store c.args.conn.now).now.trees).lists in
-    let read = simp (to_z-of_z, c.ranges.tab) at (c.in_ok-lists.ensures.rows clean) in (
-      c.in_ok-term_entries.ensures ∙ ap (λ ls. flat_map (entries_with c.args.term.now) (map shown_list ls)) c.as_slice.ensures.value ∙ ap (flat_map (entries_with c.args.term.now)) read.0 ∙ term_entries c.args.tab c.args.term.now lists,
-      read.1,
-    )
+pub returns : goal.returns
+returns g c = record {
+  rows = λ clean.
+      let lists = (value_of (state g.S.Store c.args.conn.now).now.trees).lists in
+      let read = simp (to_z-of_z, c.ranges.tab) at (c.in_ok-lists.ensures.rows clean) in (
+        c.in_ok-term_entries.ensures ∙ ap (λ ls. flat_map (entries_with c.args.term.now) (map shown_list ls)) c.as_slice.ensures.value ∙ ap (flat_map (entries_with c.args.term.now)) read.0 ∙ term_entries c.args.tab c.args.term.now lists,
+        read.1,
+      );
+  damaged = search rules;
+  stays = search rules;
+  read = record { kept = c.in_ok-lists.ensures.read.kept; live = c.in_ok-lists.ensures.read.live; mode = c.in_ok-lists.ensures.read.mode; survives = c.in_ok-lists.ensures.read.survives; fault = search rules };
+}

@@ -6,8 +6,11 @@ use Rattle.ft_store.proofs.Texts.{make_skip_text}
 use Rattle.ft_store.proofs.MigrateLemmas.{adds}
 use Rattle.ft_store.proofs.migrate.add_table.Goals as goal
 
-pub returns-clause-steps : goal.returns-clause-steps
-returns-clause-steps g c clean inside was =
-    let old = state g.S.Store c.args.tx.now.conn.now in
-    let new = state g.S.Store c.run.new.tx.conn.now in
-    on_ok_weaker c.run.result (λ (ran : (count : ℕ) × ExecutesInside 0 make_skip_text [] old new (Ok count)). (adds old new ran.0 (was ran.1.1.was_open) ran.1.0, ran.1.1)) (c.run.ensures.ran clean inside)
+pub returns : goal.returns
+returns g c = record {
+  steps = λ clean inside was.
+      let old = state g.S.Store c.args.tx.now.conn.now in
+      let new = state g.S.Store c.run.new.tx.conn.now in
+      on_ok_weaker c.run.result (λ (ran : (count : ℕ) × ExecutesInside 0 make_skip_text [] old new (Ok count)). (adds old new ran.0 (was ran.1.1.was_open) ran.1.0, ran.1.1)) (c.run.ensures.steps clean inside);
+  stays = c.run.ensures.stays;
+}

@@ -7,14 +7,18 @@ use Rattle.ft_store.specs.Found.{found_column}
 use Rattle.ft_store.proofs.Texts.{columns_text}
 use Rattle.ft_store.proofs.TextLemmas.{columns_plain}
 use Rattle.ft_store.proofs.AnswerLemmas.{columns_shown}
+use Rattle.ft_store.proofs.ChainLemmas.{reads_on}
 use Rattle.ft_store.proofs.read.columns.Goals as goal
 
-pub select-requires-clause-plain : goal.select-requires-clause-plain
-select-requires-clause-plain g c clean is_open = subst (λ s. IsPlain (understood s columns_text)) (sym (c.requires.store clean is_open).schema) columns_plain
+pub select-requires : goal.select-requires
+select-requires g c = record { settled = c.requires.settled; shown = λ clean is_open. subst (λ s. IsPlain (understood s columns_text)) (sym (c.requires.store clean is_open).schema) columns_plain }
 
-pub returns-clause-rows : goal.returns-clause-rows
-returns-clause-rows g c clean =
-    let old = state g.S.Store c.args.conn.now in
-    let new = state g.S.Store c.select.new.conn in
-    let all = columns_shown c.args.tab old new c.in_ok-rows.rows.items (c.requires.store (omega (arith, c.select.ensures.read.survives.clean))) (simp (to_z-of_z, c.ranges.tab) at (rw c.params-to_sql.ensures at (c.in_ok-rows.ensures.shown clean))) in
-    IfOk-weaker c.column_rows.result _ _ (λ found h. h c.args.tab ∙ ap (map (found_column c.args.tab)) c.as_slice.ensures.value ∙ all) c.column_rows.ensures.found
+pub returns : goal.returns
+returns g c = record {
+  rows = λ clean.
+      let old = state g.S.Store c.args.conn.now in
+      let new = state g.S.Store c.select.new.conn in
+      let all = columns_shown c.args.tab old new c.in_ok-rows.rows.items (c.requires.store (omega (arith, c.select.ensures.read.survives.clean))) (simp (to_z-of_z, c.ranges.tab) at (rw c.params-to_sql.ensures at (c.in_ok-rows.ensures.rows clean))) in
+      IfOk-weaker c.column_rows.result _ _ (λ found h. h c.args.tab ∙ ap (map (found_column c.args.tab)) c.as_slice.ensures.value ∙ all) c.column_rows.ensures.found;
+  read = reads_on g.S.Store _ _ _ c.column_rows.result c.in_ok-rows.ensures.read c.column_rows.ensures.fault;
+}

@@ -7,9 +7,12 @@ use Rattle.ft_store.proofs.Texts.{drop_sizes_text}
 use Rattle.ft_store.proofs.WriteLemmas.{does_drop_sizes}
 use Rattle.ft_store.proofs.statements.drop_sizes.Goals as goal
 
-pub returns-clause-steps : goal.returns-clause-steps
-returns-clause-steps g c clean inside kept =
-    let old = state g.S.Store c.args.tx.now.conn.now in
-    let new = state g.S.Store c.run.new.tx.conn.now in
-    on_ok_weaker c.run.result (λ (ran : (count : ℕ) × ExecutesInside 0 drop_sizes_text (Int c.args.tab ∷ []) old new (Ok count)). does_drop_sizes old new (kept ran.1.1.was_open) ran.1.1 c.args.tab ran.0 ran.1.0)
-    ((simp (to_z-of_z, c.ranges.tab) at (rw c.to_sql.ensures at c.run.ensures.ran)) clean inside)
+pub returns : goal.returns
+returns g c = record {
+  steps = λ clean inside kept.
+      let old = state g.S.Store c.args.tx.now.conn.now in
+      let new = state g.S.Store c.run.new.tx.conn.now in
+      on_ok_weaker c.run.result (λ (ran : (count : ℕ) × ExecutesInside 0 drop_sizes_text (Int c.args.tab ∷ []) old new (Ok count)). does_drop_sizes old new (kept ran.1.1.was_open) ran.1.1 c.args.tab ran.0 ran.1.0)
+      ((simp (to_z-of_z, c.ranges.tab) at (rw c.to_sql.ensures at c.run.ensures.steps)) clean inside);
+  stays = c.run.ensures.stays;
+}

@@ -7,9 +7,12 @@ use Rattle.ft_store.proofs.Texts.{drop_skip_text}
 use Rattle.ft_store.proofs.WriteLemmas.{does_drop_skip}
 use Rattle.ft_store.proofs.statements.drop_skip.Goals as goal
 
-pub returns-clause-steps : goal.returns-clause-steps
-returns-clause-steps g c clean inside kept =
-    let old = state g.S.Store c.args.tx.now.conn.now in
-    let new = state g.S.Store c.run.new.tx.conn.now in
-    on_ok_weaker c.run.result (λ (ran : (count : ℕ) × ExecutesInside 0 drop_skip_text (Int c.args.tab ∷ Int c.args.column ∷ []) old new (Ok count)). does_drop_skip old new (kept ran.1.1.was_open) ran.1.1 c.args.tab c.args.column ran.0 ran.1.0)
-    ((simp (to_z-of_z, c.ranges.tab, c.ranges.column) at (rw (c.to_sql.ensures, c.to_sql-2.ensures) at c.run.ensures.ran)) clean inside)
+pub returns : goal.returns
+returns g c = record {
+  steps = λ clean inside kept.
+      let old = state g.S.Store c.args.tx.now.conn.now in
+      let new = state g.S.Store c.run.new.tx.conn.now in
+      on_ok_weaker c.run.result (λ (ran : (count : ℕ) × ExecutesInside 0 drop_skip_text (Int c.args.tab ∷ Int c.args.column ∷ []) old new (Ok count)). does_drop_skip old new (kept ran.1.1.was_open) ran.1.1 c.args.tab c.args.column ran.0 ran.1.0)
+      ((simp (to_z-of_z, c.ranges.tab, c.ranges.column) at (rw (c.to_sql.ensures, c.to_sql-2.ensures) at c.run.ensures.steps)) clean inside);
+  stays = c.run.ensures.stays;
+}

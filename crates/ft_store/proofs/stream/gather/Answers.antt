@@ -8,80 +8,90 @@ use Rattle.ft_store.proofs.CallLemmas.{refused_keeps, kept_either, commits_nothi
 use Rattle.ft_store.proofs.StreamLemmas.{begun, one_row, rows_shown, moved_unchanged, moved_survives, stopped_keeps, keeps_unchanged}
 use Rattle.ft_store.proofs.stream.gather.Goals as goal
 
-pub returns-in_err-rows-clause-read : goal.returns-in_err-rows-clause-read
-returns-in_err-rows-clause-read g c =
-    let settled = c.is_autocommit-settled.ensures.settled (c.is_autocommit-settled.ensures.value ∙ ap not c.requires.settled) in
+pub returns-in_err-rows-clause-given : goal.returns-in_err-rows-clause-given
+returns-in_err-rows-clause-given g c =
+    let settled = c.is_autocommit-settled.ensures.settled (c.is_autocommit-settled.ensures.value ∙ ap not c.requires.asked.settled) in
     let refused = rw c.in_err-rows.was at c.query.follows.holds-at-none in
     record {
-      kept = λ clean. kept_either _ _ settled (refused_keeps _ _ _ _ _ (refused.err clean));
-      live = search rules;
-      mode = refused.mode c.requires.settled;
-      survives = commits_nothing _ _ _ _ c.requires.plain refused.survives;
-      fault = search rules;
+      rows = search rules;
+      read = record {
+        kept = λ clean. kept_either _ _ settled (refused_keeps _ _ _ _ _ (refused.err clean));
+        live = search rules;
+        mode = refused.mode c.requires.asked.settled;
+        survives = commits_nothing _ _ _ _ c.requires.asked.shown refused.survives;
+        fault = search rules;
+      };
     }
 
 pub rows-init : goal.rows-init
 rows-init g c =
-    (begun g.S.Store c.args.sql.now (bound c.args.params.now) c.args.conn.now c.requires.plain c.in_ok-rows.rows.conn.now _ (c.in_ok-rows.ensures.mode c.requires.settled) c.in_ok-rows.ensures.survives c.in_ok-rows.ensures.begun c.requires.none, refl, refl)
+    (begun g.S.Store c.args.sql.now (bound c.args.params.now) c.args.conn.now c.requires.asked.shown c.in_ok-rows.rows.conn.now _ (c.in_ok-rows.ensures.mode c.requires.asked.settled) c.in_ok-rows.ensures.survives c.in_ok-rows.ensures.begun c.requires.none, refl, refl)
 
 pub rows-preserved : goal.rows-preserved
 rows-preserved g c =
     let moved = c.next.follows.holds-at-none in (
-      one_row g.S.Store c.args.sql.now (bound c.args.params.now) c.args.conn.now c.requires.plain c.rows.rows c.next.follows.lender-at-none c.next.result moved _ c.rows.invariant.0 c.in-Some.row (c.in_ok-row.was ∙ ap Ok c.in-Some.is) _ c.in_ok-whole-in-Some.ensures.added,
+      one_row g.S.Store c.args.sql.now (bound c.args.params.now) c.args.conn.now c.requires.asked.shown c.rows.rows c.next.follows.lender-at-none c.next.result moved _ c.rows.invariant.0 c.in-Some.row (c.in_ok-row.was ∙ ap Ok c.in-Some.is) _ c.in_ok-whole-in-Some.ensures.added,
       moved.same_reference ∙ c.rows.invariant.1,
       c.in_ok-whole-in-Some.ensures.expects ∙ c.rows.invariant.2,
     )
 
-pub returns-in_err-row-clause-read : goal.returns-in_err-row-clause-read
-returns-in_err-row-clause-read g c =
+pub returns-in_err-row-clause-given : goal.returns-in_err-row-clause-given
+returns-in_err-row-clause-given g c =
     let moved = c.next.follows.holds-at-none in
     let ended = c.conn-in_err-row-1.given.1 (sym (moved.same_reference ∙ c.rows.invariant.1 ∙ c.in_ok-rows.ensures.same_reference)) ∙ c.drop-rows.ensures in
     record {
-      kept = subst (λ (now : Held g.row.S.Denot). HasCleanDisk (state g.S.Store now) → Keeps (state g.S.Store c.args.conn.now) (state g.S.Store now)) (sym ended) (stopped_keeps g.S.Store c.args.sql.now (bound c.args.params.now) c.args.conn.now c.requires.plain c.rows.rows c.next.follows.lender-at-none c.next.result moved _ c.rows.invariant.0 _ c.in_err-row.was (c.is_autocommit-settled.ensures.settled (c.is_autocommit-settled.ensures.value ∙ ap not c.requires.settled)));
-      live = search rules;
-      mode = subst (λ (now : Held g.row.S.Denot). now.in_transaction ≡ false) (sym ended) (moved.mode c.rows.invariant.0.mode);
-      survives = subst (λ (now : Held g.row.S.Denot). Survives (state g.S.Store c.args.conn.now) (state g.S.Store now) (λ _. IsTrue (state g.S.Store c.args.conn.now).is_open → ⊥)) (sym ended) (moved_survives g.S.Store c.args.sql.now (bound c.args.params.now) c.args.conn.now c.requires.plain c.rows.rows c.next.follows.lender-at-none c.next.result moved _ c.rows.invariant.0);
-      fault = search rules;
+      rows = search rules;
+      read = record {
+        kept = subst (λ (now : Held g.row.S.Denot). HasCleanDisk (state g.S.Store now) → Keeps (state g.S.Store c.args.conn.now) (state g.S.Store now)) (sym ended) (stopped_keeps g.S.Store c.args.sql.now (bound c.args.params.now) c.args.conn.now c.requires.asked.shown c.rows.rows c.next.follows.lender-at-none c.next.result moved _ c.rows.invariant.0 _ c.in_err-row.was (c.is_autocommit-settled.ensures.settled (c.is_autocommit-settled.ensures.value ∙ ap not c.requires.asked.settled)));
+        live = search rules;
+        mode = subst (λ (now : Held g.row.S.Denot). now.in_transaction ≡ false) (sym ended) (moved.mode c.rows.invariant.0.mode);
+        survives = subst (λ (now : Held g.row.S.Denot). Survives (state g.S.Store c.args.conn.now) (state g.S.Store now) (λ _. IsTrue (state g.S.Store c.args.conn.now).is_open → ⊥)) (sym ended) (moved_survives g.S.Store c.args.sql.now (bound c.args.params.now) c.args.conn.now c.requires.asked.shown c.rows.rows c.next.follows.lender-at-none c.next.result moved _ c.rows.invariant.0);
+        fault = search rules;
+      };
     }
 
-pub returns-in_err-whole-in-Some-clause-read : goal.returns-in_err-whole-in-Some-clause-read
-returns-in_err-whole-in-Some-clause-read g c =
+pub returns-in_err-whole-in-Some-clause-given : goal.returns-in_err-whole-in-Some-clause-given
+returns-in_err-whole-in-Some-clause-given g c =
     let moved = c.next.follows.holds-at-none in
     let ended = c.conn-in_err-whole-in-Some-1.given.1 (sym (moved.same_reference ∙ c.rows.invariant.1 ∙ c.in_ok-rows.ensures.same_reference)) ∙ c.drop-rows-in_err-whole-in-Some.ensures in
     record {
-      kept = subst (λ (now : Held g.row.S.Denot). HasCleanDisk (state g.S.Store now) → Keeps (state g.S.Store c.args.conn.now) (state g.S.Store now)) (sym ended) (λ clean. keeps_unchanged _ _ (moved_unchanged g.S.Store c.args.sql.now (bound c.args.params.now) c.args.conn.now c.requires.plain c.rows.rows c.next.follows.lender-at-none c.next.result moved _ c.rows.invariant.0 (Some c.in-Some.row) (c.in_ok-row.was ∙ ap Ok c.in-Some.is) clean));
-      live = search rules;
-      mode = subst (λ (now : Held g.row.S.Denot). now.in_transaction ≡ false) (sym ended) (moved.mode c.rows.invariant.0.mode);
-      survives = subst (λ (now : Held g.row.S.Denot). Survives (state g.S.Store c.args.conn.now) (state g.S.Store now) (λ _. IsTrue (state g.S.Store c.args.conn.now).is_open → ⊥)) (sym ended) (moved_survives g.S.Store c.args.sql.now (bound c.args.params.now) c.args.conn.now c.requires.plain c.rows.rows c.next.follows.lender-at-none c.next.result moved _ c.rows.invariant.0);
-      fault = search rules;
+      rows = search rules;
+      read = record {
+        kept = subst (λ (now : Held g.row.S.Denot). HasCleanDisk (state g.S.Store now) → Keeps (state g.S.Store c.args.conn.now) (state g.S.Store now)) (sym ended) (λ clean. keeps_unchanged _ _ (moved_unchanged g.S.Store c.args.sql.now (bound c.args.params.now) c.args.conn.now c.requires.asked.shown c.rows.rows c.next.follows.lender-at-none c.next.result moved _ c.rows.invariant.0 (Some c.in-Some.row) (c.in_ok-row.was ∙ ap Ok c.in-Some.is) clean));
+        live = search rules;
+        mode = subst (λ (now : Held g.row.S.Denot). now.in_transaction ≡ false) (sym ended) (moved.mode c.rows.invariant.0.mode);
+        survives = subst (λ (now : Held g.row.S.Denot). Survives (state g.S.Store c.args.conn.now) (state g.S.Store now) (λ _. IsTrue (state g.S.Store c.args.conn.now).is_open → ⊥)) (sym ended) (moved_survives g.S.Store c.args.sql.now (bound c.args.params.now) c.args.conn.now c.requires.asked.shown c.rows.rows c.next.follows.lender-at-none c.next.result moved _ c.rows.invariant.0);
+        fault = search rules;
+      };
     }
 
-pub returns-in-None-clause-made : goal.returns-in-None-clause-made
-returns-in-None-clause-made g c =
-    let moved = c.next.follows.holds-at-none in
-    let ended = c.conn-in-None-1.given.1 (sym (moved.same_reference ∙ c.rows.invariant.1 ∙ c.in_ok-rows.ensures.same_reference)) ∙ c.drop-rows-in-None.ensures in
-    subst (λ (now : Held g.row.S.Denot). HasCleanDisk (state g.S.Store now) → (rows : List Row) × Shown c.args.sql.now (bound c.args.params.now) (state g.S.Store c.args.conn.now) (state g.S.Store now) rows × g.G.Gathered.is_made_of c.rows.into c.rows.whole rows) (sym ended)
-    (rows_shown g.S.Store c.args.sql.now (bound c.args.params.now) c.args.conn.now c.requires.plain c.rows.rows c.next.follows.lender-at-none c.next.result moved _ c.rows.invariant.0 (c.in_ok-row.was ∙ ap Ok c.in-None.is))
-
-pub returns-in-None-clause-read : goal.returns-in-None-clause-read
-returns-in-None-clause-read g c =
+pub returns-in-None-clause-given : goal.returns-in-None-clause-given
+returns-in-None-clause-given g c =
     let moved = c.next.follows.holds-at-none in
     let ended = c.conn-in-None-1.given.1 (sym (moved.same_reference ∙ c.rows.invariant.1 ∙ c.in_ok-rows.ensures.same_reference)) ∙ c.drop-rows-in-None.ensures in
     record {
-      kept = subst (λ (now : Held g.row.S.Denot). HasCleanDisk (state g.S.Store now) → Keeps (state g.S.Store c.args.conn.now) (state g.S.Store now)) (sym ended) (λ clean. keeps_unchanged _ _ (moved_unchanged g.S.Store c.args.sql.now (bound c.args.params.now) c.args.conn.now c.requires.plain c.rows.rows c.next.follows.lender-at-none c.next.result moved _ c.rows.invariant.0 None (c.in_ok-row.was ∙ ap Ok c.in-None.is) clean));
-      live = subst (λ (now : Held g.row.S.Denot). HasCleanDisk (state g.S.Store now) → IsTrue (state g.S.Store now).is_open) (sym ended) (λ clean. (moved_unchanged g.S.Store c.args.sql.now (bound c.args.params.now) c.args.conn.now c.requires.plain c.rows.rows c.next.follows.lender-at-none c.next.result moved _ c.rows.invariant.0 None (c.in_ok-row.was ∙ ap Ok c.in-None.is) clean).0.is_open);
-      mode = subst (λ (now : Held g.row.S.Denot). now.in_transaction ≡ false) (sym ended) (moved.mode c.rows.invariant.0.mode);
-      survives = subst (λ (now : Held g.row.S.Denot). Survives (state g.S.Store c.args.conn.now) (state g.S.Store now) (λ _. IsTrue (state g.S.Store c.args.conn.now).is_open → ⊥)) (sym ended) (moved_survives g.S.Store c.args.sql.now (bound c.args.params.now) c.args.conn.now c.requires.plain c.rows.rows c.next.follows.lender-at-none c.next.result moved _ c.rows.invariant.0);
-      fault = search rules;
+      rows =
+          subst (λ (now : Held g.row.S.Denot). HasCleanDisk (state g.S.Store now) → (rows : List Row) × Shown c.args.sql.now (bound c.args.params.now) (state g.S.Store c.args.conn.now) (state g.S.Store now) rows × g.G.Gathered.is_made_of c.rows.into c.rows.whole rows) (sym ended)
+          (rows_shown g.S.Store c.args.sql.now (bound c.args.params.now) c.args.conn.now c.requires.asked.shown c.rows.rows c.next.follows.lender-at-none c.next.result moved _ c.rows.invariant.0 (c.in_ok-row.was ∙ ap Ok c.in-None.is));
+      read = record {
+        kept = subst (λ (now : Held g.row.S.Denot). HasCleanDisk (state g.S.Store now) → Keeps (state g.S.Store c.args.conn.now) (state g.S.Store now)) (sym ended) (λ clean. keeps_unchanged _ _ (moved_unchanged g.S.Store c.args.sql.now (bound c.args.params.now) c.args.conn.now c.requires.asked.shown c.rows.rows c.next.follows.lender-at-none c.next.result moved _ c.rows.invariant.0 None (c.in_ok-row.was ∙ ap Ok c.in-None.is) clean));
+        live = subst (λ (now : Held g.row.S.Denot). HasCleanDisk (state g.S.Store now) → IsTrue (state g.S.Store now).is_open) (sym ended) (λ clean. (moved_unchanged g.S.Store c.args.sql.now (bound c.args.params.now) c.args.conn.now c.requires.asked.shown c.rows.rows c.next.follows.lender-at-none c.next.result moved _ c.rows.invariant.0 None (c.in_ok-row.was ∙ ap Ok c.in-None.is) clean).0.is_open);
+        mode = subst (λ (now : Held g.row.S.Denot). now.in_transaction ≡ false) (sym ended) (moved.mode c.rows.invariant.0.mode);
+        survives = subst (λ (now : Held g.row.S.Denot). Survives (state g.S.Store c.args.conn.now) (state g.S.Store now) (λ _. IsTrue (state g.S.Store c.args.conn.now).is_open → ⊥)) (sym ended) (moved_survives g.S.Store c.args.sql.now (bound c.args.params.now) c.args.conn.now c.requires.asked.shown c.rows.rows c.next.follows.lender-at-none c.next.result moved _ c.rows.invariant.0);
+        fault = search rules;
+      };
     }
 
-pub returns-clause-read : goal.returns-clause-read
-returns-clause-read g c =
+pub returns-clause-given : goal.returns-clause-given
+returns-clause-given g c =
     let ended = c.conn-2-1.given.1 (sym (c.rows.invariant.1 ∙ c.in_ok-rows.ensures.same_reference)) ∙ c.drop-rows-2.ensures in
     record {
-      kept = subst (λ (now : Held g.row.S.Denot). HasCleanDisk (state g.S.Store now) → Keeps (state g.S.Store c.args.conn.now) (state g.S.Store now)) (sym ended) (λ clean. keeps_unchanged _ _ (c.rows.invariant.0.given clean).2);
-      live = search rules;
-      mode = subst (λ (now : Held g.row.S.Denot). now.in_transaction ≡ false) (sym ended) (c.rows.invariant.0.mode);
-      survives = subst (λ (now : Held g.row.S.Denot). Survives (state g.S.Store c.args.conn.now) (state g.S.Store now) (λ _. IsTrue (state g.S.Store c.args.conn.now).is_open → ⊥)) (sym ended) (c.rows.invariant.0.survives);
-      fault = search rules;
+      rows = search rules;
+      read = record {
+        kept = subst (λ (now : Held g.row.S.Denot). HasCleanDisk (state g.S.Store now) → Keeps (state g.S.Store c.args.conn.now) (state g.S.Store now)) (sym ended) (λ clean. keeps_unchanged _ _ (c.rows.invariant.0.given clean).2);
+        live = search rules;
+        mode = subst (λ (now : Held g.row.S.Denot). now.in_transaction ≡ false) (sym ended) (c.rows.invariant.0.mode);
+        survives = subst (λ (now : Held g.row.S.Denot). Survives (state g.S.Store c.args.conn.now) (state g.S.Store now) (λ _. IsTrue (state g.S.Store c.args.conn.now).is_open → ⊥)) (sym ended) (c.rows.invariant.0.survives);
+        fault = search rules;
+      };
     }

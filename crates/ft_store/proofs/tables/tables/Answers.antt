@@ -30,20 +30,23 @@ loop-named-preserved g c =
           (rw (to_z-of_z fits) at (c.in_ok-table.ensures.rows clean) ∙ ap (λ (d : Database). table_listed (value_of d.trees) (c.named-item.result.0, string_bytes c.in_ok-name.name)) same ∙ ap (λ name. table_listed (value_of old.now.trees) (c.named-item.result.0, name)) copied)),
     )
 
-pub returns-clause-rows : goal.returns-clause-rows
-returns-clause-rows g c clean =
-    let old = state g.S.Store c.args.conn.now in
-    let read = c.loop-named.invariant.0 in
-    let begun : HasCleanDisk (state g.S.Store c.names.new.conn) = c.loop-named.invariant.1 clean in
-    c.loop-named.invariant.2 clean
-    ∙ ap (map (λ n. table_listed (value_of old.now.trees) (shown_name n))) (take_all c.loop-named.named-index c.deref-named-items.result.now c.loop-named-test.false ∙ c.deref-named-items.ensures.value)
-    ∙ sym (map-map (table_listed (value_of old.now.trees)) shown_name c.in_ok-names.names.items) ∙ ap (map (table_listed (value_of old.now.trees))) (c.in_ok-names.ensures.rows begun)
+pub returns : goal.returns
+returns g c = record {
+  rows = λ clean.
+      let old = state g.S.Store c.args.conn.now in
+      let read = c.loop-named.invariant.0 in
+      let begun : HasCleanDisk (state g.S.Store c.names.new.conn) = c.loop-named.invariant.1 clean in
+      c.loop-named.invariant.2 clean
+      ∙ ap (map (λ n. table_listed (value_of old.now.trees) (shown_name n))) (take_all c.loop-named.named-index c.deref-named-items.result.now c.loop-named-test.false ∙ c.deref-named-items.ensures.value)
+      ∙ sym (map-map (table_listed (value_of old.now.trees)) shown_name c.in_ok-names.names.items) ∙ ap (map (table_listed (value_of old.now.trees))) (c.in_ok-names.ensures.rows begun);
+  read = record { kept = c.loop-named.invariant.0.kept; live = c.loop-named.invariant.0.live; mode = c.loop-named.invariant.0.mode; survives = c.loop-named.invariant.0.survives; fault = search rules };
+}
 
 -- the last table was read, and there is no room for it
-pub returns-in_err-push-clause-read : goal.returns-in_err-push-clause-read
-returns-in_err-push-clause-read g c =
+pub returns-in_err-push : goal.returns-in_err-push
+returns-in_err-push g c =
     let was = state g.S.Store c.loop-named.conn in
     let now = state g.S.Store c.table.new.conn in
     let read : Reading was now = record { mode = c.table.ensures.read.mode; kept = c.table.ensures.read.kept; live = c.in_ok-table.ensures.read.live; survives = c.table.ensures.read.survives } in
     let all = reading_then (state g.S.Store c.args.conn.now) was now c.loop-named.invariant.0 read in
-    record { kept = all.kept; live = search rules; mode = all.mode; survives = all.survives; fault = search rules }
+    record { rows = search rules; read = record { kept = all.kept; live = search rules; mode = all.mode; survives = all.survives; fault = search rules } }

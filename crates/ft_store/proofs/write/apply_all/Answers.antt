@@ -26,14 +26,15 @@ loop-at-preserved g c =
       λ clean inside kept.
           let before = c.loop-at.invariant.3 (omega (arith, c.apply_group.ensures.stays.survives.clean)) inside kept in
           group_goes changes at end le old was now (value_of old.now.trees) before
-          (c.in_ok-apply_group.ensures.goes clean before.inside (λ is_open. (before.going (before.was_open is_open)).1)),
+          (c.in_ok-apply_group.ensures.steps clean before.inside (λ is_open. (before.going (before.was_open is_open)).1)),
     )
 
-pub returns-clause-packable : goal.returns-clause-packable
-returns-clause-packable g c = subst (All CanApply) (take_all c.loop-at.at c.args.changes.now c.loop-at-test.false) c.loop-at.invariant.0.2
-
-pub returns-clause-goes : goal.returns-clause-goes
-returns-clause-goes g c clean inside kept =
-    let old = state g.S.Store c.args.tx.now.conn.now in
-    subst (λ (l : List RowChange). Goes old (state g.S.Store c.loop-at.tx.conn.now) (all_applied (map shown_change l) (value_of old.now.trees)))
-    (take_all c.loop-at.at c.args.changes.now c.loop-at-test.false) (c.loop-at.invariant.3 clean inside kept)
+pub returns : goal.returns
+returns g c = record {
+  packable = subst (All CanApply) (take_all c.loop-at.at c.args.changes.now c.loop-at-test.false) c.loop-at.invariant.0.2;
+  steps = λ clean inside kept.
+      let old = state g.S.Store c.args.tx.now.conn.now in
+      subst (λ (l : List RowChange). Goes old (state g.S.Store c.loop-at.tx.conn.now) (all_applied (map shown_change l) (value_of old.now.trees)))
+      (take_all c.loop-at.at c.args.changes.now c.loop-at-test.false) (c.loop-at.invariant.3 clean inside kept);
+  stays = record { same_reference = c.loop-at.invariant.0.0; kept = c.loop-at.invariant.2; survives = c.loop-at.invariant.1; fault = search rules };
+}

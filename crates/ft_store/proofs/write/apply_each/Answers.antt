@@ -1,4 +1,4 @@
-use Rattle.std.proofs.Common.{List, map, All, subst, ◌∙◌, arith}
+use Rattle.std.proofs.Common.{rules, List, map, All, subst, ◌∙◌, arith}
 use Rattle.std.proofs.lemmas.List.{take_all}
 use Rattle.std.proofs.lemmas.List.Elements.{All-more}
 use Rattle.sqlite.specs.Held.{state}
@@ -30,11 +30,12 @@ loop-change-preserved g c =
           (c.in_ok-apply.ensures.steps clean before.inside (λ is_open. (before.going (before.was_open is_open)).1)),
     )
 
-pub returns-clause-packable : goal.returns-clause-packable
-returns-clause-packable g c = subst (All CanApply) (take_all c.loop-change.change-index c.args.changes.now c.loop-change-test.false) c.loop-change.invariant.0.1
-
-pub returns-clause-goes : goal.returns-clause-goes
-returns-clause-goes g c clean inside kept =
-    let old = state g.S.Store c.args.tx.now.conn.now in
-    subst (λ (l : List RowChange). Goes old (state g.S.Store c.loop-change.tx.conn.now) (all_applied (map shown_change l) (value_of old.now.trees)))
-    (take_all c.loop-change.change-index c.args.changes.now c.loop-change-test.false) (c.loop-change.invariant.3 clean inside kept)
+pub returns : goal.returns
+returns g c = record {
+  packable = subst (All CanApply) (take_all c.loop-change.change-index c.args.changes.now c.loop-change-test.false) c.loop-change.invariant.0.1;
+  steps = λ clean inside kept.
+      let old = state g.S.Store c.args.tx.now.conn.now in
+      subst (λ (l : List RowChange). Goes old (state g.S.Store c.loop-change.tx.conn.now) (all_applied (map shown_change l) (value_of old.now.trees)))
+      (take_all c.loop-change.change-index c.args.changes.now c.loop-change-test.false) (c.loop-change.invariant.3 clean inside kept);
+  stays = record { same_reference = c.loop-change.invariant.0.0; kept = c.loop-change.invariant.2; survives = c.loop-change.invariant.1; fault = search rules };
+}

@@ -1,22 +1,27 @@
-use Rattle.std.proofs.Common.{arith, subst, map}
+use Rattle.std.proofs.Common.{arith, subst, map, All, rules}
 use Rattle.std.specs.Prelude.{Bool, if◌then◌else◌}
 use Rattle.std.proofs.lemmas.Result.{IfOk-weaker}
 use Rattle.sqlite.specs.State.{HasCleanDisk}
 use Rattle.sqlite.specs.Held.{state}
 use Rattle.ft_rows.specs.Store.{all_applied}
 use Rattle.ft_store.specs.Rows.{value_of}
-use Rattle.ft_rows.specs.Changes.{shown_change}
-use Rattle.ft_store.specs.Calls.{Goes}
+use Rattle.ft_rows.specs.Changes.{shown_change, CanApply}
+use Rattle.ft_store.specs.Calls.{Goes, IsChangeFault}
 use Rattle.ft_store.proofs.GroupLemmas.{goes_then}
+use Rattle.ft_store.proofs.InsideLemmas.{stays_then, changed_only}
 use Rattle.ft_store.proofs.write.apply_group.Goals as goal
 
-pub returns-clause-goes : goal.returns-clause-goes
-returns-clause-goes g c clean inside kept =
-    let old = state g.S.Store c.args.tx.now.conn.now in
-    let mid = state g.S.Store c.add_group.new.tx.conn.now in
-    let new = state g.S.Store c.apply_each.new.tx.conn.now in
-    let v = value_of old.now.trees in
-    let clean_mid : HasCleanDisk mid = omega (arith, c.apply_each.ensures.stays.survives.clean) in
-    let one = subst (λ (b : Bool). Goes old mid (if b then all_applied (map shown_change c.args.changes.now) v else v)) c.if-added.false (c.in_ok-added.ensures.goes clean_mid inside kept) in
-    IfOk-weaker c.apply_each.result _ _ (λ _. goes_then old mid new v (all_applied (map shown_change c.args.changes.now)) one)
-    (c.apply_each.ensures.goes clean one.inside (λ is_open. (one.going (one.was_open is_open)).1))
+pub returns : goal.returns
+returns g c = record {
+  packable = search rules;
+  steps = λ clean inside kept.
+      let old = state g.S.Store c.args.tx.now.conn.now in
+      let mid = state g.S.Store c.add_group.new.tx.conn.now in
+      let new = state g.S.Store c.apply_each.new.tx.conn.now in
+      let v = value_of old.now.trees in
+      let clean_mid : HasCleanDisk mid = omega (arith, c.apply_each.ensures.stays.survives.clean) in
+      let one = subst (λ (b : Bool). Goes old mid (if b then all_applied (map shown_change c.args.changes.now) v else v)) c.if-added.false (c.in_ok-added.ensures.goes.steps clean_mid inside kept) in
+      IfOk-weaker c.apply_each.result _ _ (λ _. goes_then old mid new v (all_applied (map shown_change c.args.changes.now)) one)
+      (c.apply_each.ensures.steps clean one.inside (λ is_open. (one.going (one.was_open is_open)).1));
+  stays = stays_then g.S.Store (IsChangeFault (All CanApply c.args.changes.now)) c.args.tx.now.conn c.add_group.new.tx.conn c.apply_each.new.tx.conn c.add_group.result c.apply_each.result (changed_only _ _ _ _ _ c.add_group.ensures.goes.stays) c.apply_each.ensures.stays;
+}

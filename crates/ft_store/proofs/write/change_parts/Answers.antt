@@ -11,8 +11,8 @@ use Rattle.ft_store.specs.Parts.{changes_in, IsNext, CanMake}
 use Rattle.ft_store.proofs.PartLemmas.{one_part, part_fault, parts_can, part_goes}
 use Rattle.ft_store.proofs.write.change_parts.Goals as goal
 
-pub returns-in_err-apply_all-clause-fault : goal.returns-in_err-apply_all-clause-fault
-returns-in_err-apply_all-clause-fault g c =
+pub returns-in_err-apply_all : goal.returns-in_err-apply_all
+returns-in_err-apply_all g c =
     let left = g.P.Parts.to_come c.loop-tx.parts in
     let rest = g.P.Parts.to_come c.next.new.self in
     let whole = changes_in (g.P.Parts.to_come c.args.parts.now) in
@@ -20,9 +20,15 @@ returns-in_err-apply_all-clause-fault g c =
     let next : left ≡ map shown_change part.items ∷ rest = subst (λ r. IsNext left r rest) (c.in_ok-changes.was ∙ ap Ok c.in-Some.is) c.next.ensures in
     let fault : StoreFault = c.in_err-apply_all.field-0.0 in
     let is : c.from_residual-in_err-apply_all.result ≡ Err fault = search rules in
-    subst (λ r. IfErr r (IsChangeFault (All CanMake whole))) (sym is)
-    (part_fault whole c.loop-tx.invariant.2.0 left rest part.items c.loop-tx.invariant.2.1 next fault
-    (subst (λ l. IsChangeFault (All CanApply l) fault) c.as_slice.ensures.value c.in_err-apply_all.ensures.stays.fault))
+    record {
+      packable = search rules;
+      made = record { all = search rules; none = search rules; live = search rules; crash = search rules };
+      mode = search rules;
+      fault =
+          subst (λ r. IfErr r (IsChangeFault (All CanMake whole))) (sym is)
+          (part_fault whole c.loop-tx.invariant.2.0 left rest part.items c.loop-tx.invariant.2.1 next fault
+          (subst (λ l. IsChangeFault (All CanApply l) fault) c.as_slice.ensures.value c.in_err-apply_all.ensures.stays.fault));
+    }
 
 pub loop-tx-preserved : goal.loop-tx-preserved
 loop-tx-preserved g c =
@@ -46,6 +52,6 @@ loop-tx-preserved g c =
             let before = c.loop-tx.invariant.2.3 (omega (arith, c.apply_all.ensures.stays.survives.clean)) in
             part_goes old was now (value_of old.now.trees) done (map shown_change part.items) before
             (subst (λ l. Goes was now (all_applied (map shown_change l) (value_of was.now.trees))) c.as_slice.ensures.value
-            (c.in_ok-apply_all.ensures.goes clean before.inside (λ is_open. (before.going (before.was_open is_open)).1))),
+            (c.in_ok-apply_all.ensures.steps clean before.inside (λ is_open. (before.going (before.was_open is_open)).1))),
       ),
     )

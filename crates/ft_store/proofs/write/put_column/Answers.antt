@@ -3,14 +3,19 @@ use Rattle.std.proofs.lemmas.Result.{on_ok_weaker}
 use Rattle.sqlite.specs.Held.{state}
 use Rattle.sqlite.specs.State.{HasCleanDisk}
 use Rattle.ft_store.proofs.PutLemmas.{puts_columns}
+use Rattle.ft_store.specs.Calls.{IsPlainFault}
+use Rattle.ft_store.proofs.InsideLemmas.{stays_then}
 use Rattle.ft_store.proofs.write.put_column.Goals as goal
 
-pub returns-clause-steps : goal.returns-clause-steps
-returns-clause-steps g c clean inside kept =
-    let old = state g.S.Store c.args.tx.now.conn.now in
-    let mid = state g.S.Store c.drop_column.new.tx.conn.now in
-    let new = state g.S.Store c.add_column.new.tx.conn.now in
-    let clean_1 : HasCleanDisk mid = omega (arith, c.add_column.ensures.stays.survives.clean) in
-    let one = (simp (to_z-of_z, c.ranges.tab, c.ranges.column) at c.in_ok-drop_column.ensures.steps) clean_1 inside kept in
-    on_ok_weaker c.add_column.result (λ two. puts_columns old mid new (c.args.tab, c.args.column) c.args.name.now one two)
-    ((simp (to_z-of_z, c.ranges.tab, c.ranges.column) at c.add_column.ensures.steps) clean one.shown.mode (λ _. one.store))
+pub returns : goal.returns
+returns g c = record {
+  steps = λ clean inside kept.
+      let old = state g.S.Store c.args.tx.now.conn.now in
+      let mid = state g.S.Store c.drop_column.new.tx.conn.now in
+      let new = state g.S.Store c.add_column.new.tx.conn.now in
+      let clean_1 : HasCleanDisk mid = omega (arith, c.add_column.ensures.stays.survives.clean) in
+      let one = (simp (to_z-of_z, c.ranges.tab, c.ranges.column) at c.in_ok-drop_column.ensures.steps) clean_1 inside kept in
+      on_ok_weaker c.add_column.result (λ two. puts_columns old mid new (c.args.tab, c.args.column) c.args.name.now one two)
+      ((simp (to_z-of_z, c.ranges.tab, c.ranges.column) at c.add_column.ensures.steps) clean one.shown.mode (λ _. one.store));
+  stays = stays_then g.S.Store IsPlainFault c.args.tx.now.conn c.drop_column.new.tx.conn c.add_column.new.tx.conn c.drop_column.result c.add_column.result c.drop_column.ensures.stays c.add_column.ensures.stays;
+}

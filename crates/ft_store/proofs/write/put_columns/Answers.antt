@@ -1,4 +1,4 @@
-use Rattle.std.proofs.Common.{ℤ, List, subst, map, take, ◌∙◌, arith, to_z-of_z}
+use Rattle.std.proofs.Common.{rules, ℤ, List, subst, map, take, ◌∙◌, arith, to_z-of_z}
 use Rattle.std.specs.Prelude.{string_bytes, String}
 use Rattle.std.specs.declared.alloc.Global.{Global}
 use Rattle.std.specs.List.{enumerate_from}
@@ -27,8 +27,11 @@ loop-at-preserved g c =
           ((rw c.as_str.ensures.value at c.in_ok-put_column.ensures.steps) clean before.shown.mode (λ _. before.store)),
     )
 
-pub returns-clause-steps : goal.returns-clause-steps
-returns-clause-steps g c clean inside is_open store =
-    let old = state g.S.Store c.args.tx.now.conn.now in
-    let gone = λ (n : ℤ) (names : List (String Global)). Steps old (state g.S.Store c.loop-at.tx.conn.now) (record (value_of old.now.trees) { columns = with_columns n (enumerate_from 0 (map string_bytes names)) (value_of old.now.trees).columns }) in
-    subst (gone c.args.tab) (take_all c.loop-at.at c.args.columns.now c.loop-at-test.false) (subst (λ n. gone n (take c.loop-at.at c.args.columns.now)) (to_z-of_z c.ranges.tab) (c.loop-at.invariant.3 clean inside is_open store))
+pub returns : goal.returns
+returns g c = record {
+  steps = λ clean inside is_open store.
+      let old = state g.S.Store c.args.tx.now.conn.now in
+      let gone = λ (n : ℤ) (names : List (String Global)). Steps old (state g.S.Store c.loop-at.tx.conn.now) (record (value_of old.now.trees) { columns = with_columns n (enumerate_from 0 (map string_bytes names)) (value_of old.now.trees).columns }) in
+      subst (gone c.args.tab) (take_all c.loop-at.at c.args.columns.now c.loop-at-test.false) (subst (λ n. gone n (take c.loop-at.at c.args.columns.now)) (to_z-of_z c.ranges.tab) (c.loop-at.invariant.3 clean inside is_open store));
+  stays = record { same_reference = c.loop-at.invariant.0; kept = c.loop-at.invariant.2; survives = c.loop-at.invariant.1; fault = search rules };
+}

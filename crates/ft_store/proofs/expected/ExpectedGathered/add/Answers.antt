@@ -12,4 +12,4 @@ returns-clause-added c = λ rows h tab.
     let so_far = ap (λ ls. map (found_places tab) rows ++ ls) (next.left tab) ∙ before ∙ ap (λ ts. lists_by_terms tab ts.items) (sym next.terms) in
     row_found (found_places tab) rows _ _ so_far c.args.row.now _ _ c.in_ok-same.same
     (next_list tab left.terms.items left.term left.list c.index-term.result.now c.index.result.now next.next c.index-term.ensures c.index.ensures)
-    (rw c.as_str.ensures.value at (c.in_ok-same.ensures.same tab))
+    (rw c.as_str.ensures.value at (c.in_ok-same.ensures.found tab))

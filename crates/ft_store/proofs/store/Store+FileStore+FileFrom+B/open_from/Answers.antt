@@ -5,12 +5,12 @@ use Rattle.ft_store.proofs.store.Store+FileStore+FileFrom+B.open_from.Goals as g
 
 pub returns-clause-opened : goal.returns-clause-opened
 returns-clause-opened g c =
-    let new = c.in_ok-conn.ensures.fresh in
-    IfOk-weaker c.taken.result _ _ (λ store taken. record { conn = c.in_ok-conn.conn; fresh = new; opened = c.in_ok-conn.ensures.opened; found = c.in_ok-conn.ensures.found; taken = taken.0 })
+    let new = c.in_ok-conn.ensures.given.found.fresh in
+    IfOk-weaker c.taken.result _ _ (λ store taken. record { conn = c.in_ok-conn.conn; fresh = new; opened = c.in_ok-conn.ensures.given.found.opened; found = c.in_ok-conn.ensures.given.found.found; taken = taken.0 })
     (c.taken.ensures.taken new.autocommit)
 
 pub returns-clause-refused : goal.returns-clause-refused
 returns-clause-refused g c =
-    let new = c.in_ok-conn.ensures.fresh in
-    IfErr-weaker c.taken.result _ _ (λ cause left. inr (record { conn = c.in_ok-conn.conn; fresh = new; opened = c.in_ok-conn.ensures.opened; found = c.in_ok-conn.ensures.found; after = left.new; refused = left.refused }))
+    let new = c.in_ok-conn.ensures.given.found.fresh in
+    IfErr-weaker c.taken.result _ _ (λ cause left. inr (record { conn = c.in_ok-conn.conn; fresh = new; opened = c.in_ok-conn.ensures.given.found.opened; found = c.in_ok-conn.ensures.given.found.found; after = left.new; refused = left.refused }))
     (c.taken.ensures.refused new.autocommit)

@@ -1,0 +1,68 @@
+-- Steps. What the functions of a transaction do, each as one relation: what it made, and the frame of all of them.
+use Rattle.std.specs.Prelude.{ℕ, Bool, true, MatchBool, Result, Ok, All, List, map, IsTrue, IfOk, OnOk}
+use Rattle.std.specs.Borrow.{MutBor}
+use Rattle.sqlite.specs.Order.{Row}
+use Rattle.sqlite.specs.Schema.{Schema}
+use Rattle.sqlite.specs.Table.{Table}
+use Rattle.sqlite.specs.Change.{created}
+use Rattle.sqlite.specs.Effect.{Database}
+use Rattle.sqlite.specs.State.{HasCleanDisk, Shows, ExecutesInside, IsUnchanged}
+use Rattle.sqlite.specs.Store.{Ghosts}
+use Rattle.sqlite.specs.Held.{Held, state}
+use Rattle.ft_values.specs.declared.rows.RowChange.{RowChange}
+use Rattle.ft_rows.specs.Store.{StoreValue, all_applied}
+use Rattle.ft_rows.specs.Changes.{shown_change, CanApply}
+use Rattle.ft_store.specs.declared.fault.StoreFault.{StoreFault}
+use Rattle.ft_store.specs.Calls.{StepsOnOk, AddsOnOk, StepsIfOpen, StaysInside, StaysUncommitted, IsChangeFault}
+use Rattle.ft_store.specs.Groups.{GoesOnOk}
+use Rattle.ft_store.specs.Made.{IsEmptyOf, Makes, MakesOnOk}
+
+-- What a function of a transaction does: what it made where it is answered Ok, and what it leaves whatever it is answered.
+pub record DoneInside {S X : Type 0} (g : Ghosts S) (old new : MutBor (Held S)) (result : Result X StoreFault) (Made : Type 0) : Type 0 where
+  pub steps : Made
+  pub stays : StaysUncommitted g old new result
+
+-- the value becomes that of `f`
+abbrev pub StepsInside : {S : Type 0} → Ghosts S → MutBor (Held S) → MutBor (Held S) → Result (Unit {0}) StoreFault → (StoreValue → StoreValue) → Type 0
+StepsInside g old new result f = DoneInside g old new result (StepsOnOk g old.now new.now result f)
+
+-- the same, in an open database
+abbrev pub StepsInsideIfOpen : {S : Type 0} → Ghosts S → MutBor (Held S) → MutBor (Held S) → Result (Unit {0}) StoreFault → (StoreValue → StoreValue) → Type 0
+StepsInsideIfOpen g old new result f = DoneInside g old new result (StepsIfOpen g old.now new.now result f)
+
+-- the same, where no row has the new one's key
+abbrev pub AddsInside : {S : Type 0} → Ghosts S → MutBor (Held S) → MutBor (Held S) → Result (Unit {0}) StoreFault → (StoreValue → Type 0) → (StoreValue → StoreValue) → Type 0
+AddsInside g old new result IsFree f = DoneInside g old new result (AddsOnOk g old.now new.now result IsFree f)
+
+-- of a database with the one property one with the other is made
+abbrev pub MakesInside : {S : Type 0} → Ghosts S → MutBor (Held S) → MutBor (Held S) → Result (Unit {0}) StoreFault → (Database → Type 0) → (Database → Database → Type 0) → Type 0
+MakesInside g old new result Before After = DoneInside g old new result (MakesOnOk g old.now new.now result Before After)
+
+-- the statement is run
+abbrev pub RunsOnOk : {S : Type 0} → Ghosts S → Held S → Held S → Result (Unit {0}) StoreFault → List ℕ → Row → Type 0
+RunsOnOk g old new result sql params =
+    HasCleanDisk (state g new) → IsTrue (state g old).in_transaction → OnOk result ((count : ℕ) × ExecutesInside 0 sql params (state g old) (state g new) (Ok count))
+
+-- the statement is run, or it breaks a rule of a table and changes nothing
+abbrev pub RunsOrKeeps : {S : Type 0} → Ghosts S → Held S → Held S → Result Bool StoreFault → List ℕ → Row → Type 0
+RunsOrKeeps g old new result sql params =
+    HasCleanDisk (state g new) → IsTrue (state g old).in_transaction
+    → IfOk result (λ added. MatchBool added ((count : ℕ) × ExecutesInside 0 sql params (state g old) (state g new) (Ok count)) (IsUnchanged (state g old) (state g new)))
+
+-- the statement makes the table of its text, in a database without rows
+abbrev pub CreatesOnOk : {S : Type 0} → Ghosts S → Held S → Held S → Result (Unit {0}) StoreFault → List ℕ → Type 0
+CreatesOnOk g old new result sql =
+    HasCleanDisk (state g new) → IsTrue (state g old).in_transaction
+    → OnOk result ((s : Schema) (table : Table) → Makes s sql table → (IsTrue (state g old).is_open → IsEmptyOf s (state g old).now)
+    → IsEmptyOf (created s table) (state g new).now × Shows (state g old) (state g new) (state g new).now (state g old).committed true)
+
+-- What a function that makes row changes does in a transaction: the same, where they can be made, and otherwise it may be refused as damaged.
+pub record ChangesInside {S X : Type 0} (g : Ghosts S) (old new : MutBor (Held S)) (result : Result X StoreFault) (CanBeMade Made : Type 0) : Type 0 where
+  pub packable : OnOk result CanBeMade
+  pub steps : Made
+  pub stays : StaysInside g old new result (IsChangeFault CanBeMade)
+
+-- several changes are made in their order
+abbrev pub AppliesInside : {S : Type 0} → Ghosts S → MutBor (Held S) → MutBor (Held S) → Result (Unit {0}) StoreFault → List RowChange → Type 0
+AppliesInside g old new result changes =
+    ChangesInside g old new result (All CanApply changes) (GoesOnOk g old.now new.now result (λ _ v. all_applied (map shown_change changes) v))
