@@ -21,6 +21,7 @@ pub mod InsertOf
 pub mod InsertRows
 pub mod JoinedLists
 pub mod KeyedRows
+pub mod MadeIndexes
 pub mod MapSteps
 pub mod MatchedLemmas
 pub mod NearLemmas

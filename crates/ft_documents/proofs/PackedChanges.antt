@@ -16,7 +16,8 @@ use Rattle.ft_content.specs.Content.{Column, Documents, is_cell, is_document}
 use Rattle.ft_content.specs.Index.{Key, key_cmp, StoredSpot}
 use Rattle.ft_content.proofs.IndexLemmas.{key_cmp_total}
 use Rattle.ft_documents.specs.Rewrite.{Rewrite, befores, afters, document_if, by_docid, FitIfAny, IsPackable}
-use Rattle.ft_documents.specs.RewriteRows.{same_cell, same_spots, gone, changed, numbered, goes, dropped_documents, put_cells, put_documents, dropped_lists, put_lists, dropped_sizes, put_sizes, lists_of, sizes_of, list_changes, rewrite_changes, AreShortNumbers, HasShortNumbers}
+use Rattle.ft_documents.specs.RewriteRows.{same_cell, same_spots, gone, changed, numbered, goes, dropped_documents, put_cells, put_documents, dropped_lists, put_lists, dropped_sizes, put_sizes, lists_of, sizes_of, list_changes, rewrite_changes, AreShortNumbers}
+use Rattle.ft_documents.specs.MadeIndex.{HaveShortNumbers}
 use Rattle.ft_documents.proofs.NearLemmas.{All-flat_map}
 use Rattle.ft_documents.proofs.NewLemmas.{all_found}
 use Rattle.ft_documents.proofs.RewriteLemmas.{sorted_held}
@@ -42,15 +43,19 @@ module _ (columns : List Column) where
   pub document_short : (d : ℤ × List Cell) → is_document (length columns) d ≡ true → AreShortNumbers columns d.1 → ShortDocument d
   document_short d is numbers = short_texts columns d.1 (and_parts (length d.1 == length columns) (list_all is_cell d.1) is).1 numbers
 
-  short_if : (docid : ℤ) (before after : Option (List Cell)) → FitIfAny (length columns) (record { docid = docid; before = before; after = after }) → IfSome after (AreShortNumbers columns) → All ShortDocument (document_if docid after)
-  short_if docid before None fits numbers = All-nil ShortDocument
-  short_if docid before (Some cells) fits numbers = All-cons ShortDocument (docid, cells) [] (document_short (docid, cells) fits numbers) (All-nil ShortDocument)
+  abbrev IsOfTable : ℤ × List Cell → Type 0
+  IsOfTable d = is_document (length columns) d ≡ true
 
-  afters_short : (rewrites : List Rewrite) → All (FitIfAny (length columns)) rewrites → All (HasShortNumbers columns) rewrites → All ShortDocument (afters rewrites)
-  afters_short rewrites fits numbers = All-flat_map ShortDocument (λ (r : Rewrite). document_if r.docid r.after) rewrites
-      (All-weaker (λ (r : Rewrite). FitIfAny (length columns) r × HasShortNumbers columns r) (λ r. All ShortDocument (document_if r.docid r.after)) (λ r is. short_if r.docid r.before r.after is.0 is.1) rewrites (λ k d within. (fits k d within, numbers k d within)))
+  fits_if : (docid : ℤ) (before after : Option (List Cell)) → FitIfAny (length columns) (record { docid = docid; before = before; after = after }) → All IsOfTable (document_if docid after)
+  fits_if docid before None fits = All-nil IsOfTable
+  fits_if docid before (Some cells) fits = All-cons IsOfTable (docid, cells) [] fits (All-nil IsOfTable)
 
-all_packable : (tab : ℤ) (columns : List Column) (rewrites : List Rewrite) → length columns ≤ 100 → is_sorted int_cmp (by_docid rewrites) ≡ true → All (FitIfAny (length columns)) rewrites → All (HasShortNumbers columns) rewrites → All IsPackable (rewrite_changes tab columns rewrites)
+  afters_short : (rewrites : List Rewrite) → All (FitIfAny (length columns)) rewrites → HaveShortNumbers columns (afters rewrites) → All ShortDocument (afters rewrites)
+  afters_short rewrites fits numbers =
+      let fit = All-flat_map IsOfTable (λ (r : Rewrite). document_if r.docid r.after) rewrites (All-weaker (FitIfAny (length columns)) (λ r. All IsOfTable (document_if r.docid r.after)) (λ r is. fits_if r.docid r.before r.after is) rewrites fits) in
+      All-weaker (λ (d : ℤ × List Cell). IsOfTable d × AreShortNumbers columns d.1) ShortDocument (λ d is. document_short d is.0 is.1) (afters rewrites) (λ k d within. (fit k d within, numbers k d within))
+
+all_packable : (tab : ℤ) (columns : List Column) (rewrites : List Rewrite) → length columns ≤ 100 → is_sorted int_cmp (by_docid rewrites) ≡ true → All (FitIfAny (length columns)) rewrites → HaveShortNumbers columns (afters rewrites) → All IsPackable (rewrite_changes tab columns rewrites)
 unfolding rewrite_changes
 all_packable tab columns rewrites few rising fits numbers =
     let old = lists_of columns (befores rewrites) in
@@ -89,5 +94,5 @@ pub all_apply : (changes : List RowChange) → All IsPackable (map shown_change 
 all_apply [] h = All-nil CanApply
 all_apply (c ∷ cs) h = All-cons CanApply c cs (can_apply c (All-head IsPackable (shown_change c) (map shown_change cs) h)) (all_apply cs (All-tail IsPackable (shown_change c) (map shown_change cs) h))
 
-pub are_packable : (tab : ℤ) (columns : List Column) (rewrites : List Rewrite) (changes : List RowChange) → map shown_change changes ≡ rewrite_changes tab columns rewrites → length columns ≤ 100 → is_sorted int_cmp (by_docid rewrites) ≡ true → All (FitIfAny (length columns)) rewrites → All (HasShortNumbers columns) rewrites → All CanApply changes
+pub are_packable : (tab : ℤ) (columns : List Column) (rewrites : List Rewrite) (changes : List RowChange) → map shown_change changes ≡ rewrite_changes tab columns rewrites → length columns ≤ 100 → is_sorted int_cmp (by_docid rewrites) ≡ true → All (FitIfAny (length columns)) rewrites → HaveShortNumbers columns (afters rewrites) → All CanApply changes
 are_packable tab columns rewrites changes is few rising fits numbers = all_apply changes (subst (All IsPackable) (sym is) (all_packable tab columns rewrites few rising fits numbers))

@@ -1,8 +1,7 @@
 //! The index of some documents, made from scratch, and the row changes from one to another.
-ghost use Rattle.std.specs.Prelude.{◌≡◌, ◌<◌, ◌≤◌, ◌^◌, pos, length, map, drop, option_map, string_bytes, IfSome};
+ghost use Rattle.std.specs.Prelude.{◌≡◌, ◌<◌, ◌^◌, map, drop};
 ghost use Rattle.ft_values.specs.Cells.{shown_value};
-ghost use Rattle.ft_content.specs.Content as content;
-ghost use Rattle.ft_documents.specs.RewriteRows.{IsShortNumber};
+ghost use Rattle.ft_documents.specs.MadeIndex.{IsTextOf};
 ghost use Rattle.ft_documents.specs.Standing as standing;
 
 use ft_content::{Column, Value};
@@ -27,19 +26,19 @@ pub(crate) struct DocumentIndex {
 }
 
 impl DocumentIndex {
-    ghost use Rattle.std.specs.Prelude.{◌++◌, ◌∷◌, [], map, option_map, unwrap_or, string_bytes, IfSome, OnOk};
+    ghost use Rattle.std.specs.Prelude.{◌<◌, ◌^◌, ◌++◌, ◌∷◌, [], map, option_map, unwrap_or, string_bytes, OnOk};
     ghost use Rattle.std.specs.FinMap.Entries.{put, find};
-    ghost use Rattle.ft_query.specs.Tokens.{plain_token, tokens_of};
+    ghost use Rattle.ft_query.specs.Tokens.{plain_token};
     ghost use Rattle.ft_rows.specs.Store.{column_key_cmp};
     ghost use Rattle.ft_content.specs.Index as index;
     ghost use Rattle.ft_content.specs.Views.{cells_of, column_of};
+    ghost use Rattle.ft_documents.specs.MadeIndex.{Shows, Adds, AddsCell, FitsSize, FitsSpot};
     ghost use Rattle.ft_documents.specs.Rewrite.{document_if};
     ghost use Rattle.ft_documents.specs.RewriteRows as rows;
 
     /// The index of no document.
     pub(crate) fn new(alloc: Global) -> DocumentIndex
-        ensures lists { rows.lists_in result ≡ [] }
-        ensures sizes { rows.sizes_in result ≡ [] }
+        ensures { Shows result [] [] }
     {
         DocumentIndex {
             alloc,
@@ -55,14 +54,8 @@ impl DocumentIndex {
         docid: i64,
         cells: &[Value],
     ) -> Result<(), AllocError>
-        ensures lists { OnOk result (rows.lists_in self.new
-            ≡ rows.lists_with (map column_of columns.now) ((docid, map shown_value cells.now) ∷ [])
-            (rows.lists_in self.old)) }
-        ensures sizes { OnOk result (rows.sizes_in self.new
-            ≡ rows.sizes_with (map column_of columns.now) ((docid, map shown_value cells.now) ∷ [])
-            (rows.sizes_in self.old)) }
-        ensures numbers { OnOk result (rows.AreShortNumbers (map column_of columns.now)
-            (map shown_value cells.now)) }
+        ensures { OnOk result (Adds (map column_of columns.now)
+            ((docid, map shown_value cells.now) ∷ []) self.old self.new) }
     {
         for place in 0..columns.len().min(cells.len()) {
             let value = &cells[place];
@@ -80,12 +73,8 @@ impl DocumentIndex {
         docid: i64,
         cells: &[CellRow],
     ) -> Result<(), AllocError>
-        ensures lists { OnOk result (rows.lists_in self.new
-            ≡ rows.lists_with (map column_of columns.now)
-            ((docid, map standing.cell_in cells.now) ∷ []) (rows.lists_in self.old)) }
-        ensures sizes { OnOk result (rows.sizes_in self.new
-            ≡ rows.sizes_with (map column_of columns.now)
-            ((docid, map standing.cell_in cells.now) ∷ []) (rows.sizes_in self.old)) }
+        ensures { OnOk result (Adds (map column_of columns.now)
+            ((docid, map standing.cell_in cells.now) ∷ []) self.old self.new) }
     {
         for place in 0..columns.len().min(cells.len()) {
             let value = &cells[place].value;
@@ -103,14 +92,8 @@ impl DocumentIndex {
         docid: i64,
         cells: &Option<Vec<Value>>,
     ) -> Result<(), AllocError>
-        ensures lists { OnOk result (rows.lists_in self.new
-            ≡ rows.lists_with (map column_of columns.now)
-            (document_if docid (option_map cells_of cells.now)) (rows.lists_in self.old)) }
-        ensures sizes { OnOk result (rows.sizes_in self.new
-            ≡ rows.sizes_with (map column_of columns.now)
-            (document_if docid (option_map cells_of cells.now)) (rows.sizes_in self.old)) }
-        ensures numbers { OnOk result (IfSome (option_map cells_of cells.now)
-            (rows.AreShortNumbers (map column_of columns.now))) }
+        ensures { OnOk result (Adds (map column_of columns.now)
+            (document_if docid (option_map cells_of cells.now)) self.old self.new) }
     {
         match cells {
             Some(cells) => self.add(columns, docid, cells.as_slice()),
@@ -121,14 +104,7 @@ impl DocumentIndex {
     // Adds the tokens of a cell that is indexed.
     fn add_cell(&mut self, docid: i64, place: usize, value: &Value) -> Result<(), AllocError>
         requires { place < 2 ^ 63 }
-        ensures lists { OnOk result (rows.lists_in self.new
-            ≡ rows.with_entries (rows.cell_entries docid place
-            (tokens_of (content.cell_text (shown_value value.now)))) (rows.lists_in self.old)) }
-        ensures sizes { OnOk result (rows.sizes_in self.new
-            ≡ rows.all_put column_key_cmp (rows.sized
-            (rows.cell_sizes docid place (length
-            (tokens_of (content.cell_text (shown_value value.now)))))) (rows.sizes_in self.old)) }
-        ensures number { OnOk result (IsShortNumber (shown_value value.now)) }
+        ensures { OnOk result (AddsCell docid place (shown_value value.now) self.old self.new) }
     {
         let mut buffer = Buffer::new();
         let text = text_of(value, &mut buffer);
@@ -142,12 +118,10 @@ impl DocumentIndex {
 
     // Adds the size of a cell, if it has tokens.
     fn add_size(&mut self, docid: i64, place: usize, n: usize) -> Result<(), AllocError>
-        requires place { place < 2 ^ 63 }
-        requires n { n < 2 ^ 63 }
-        ensures lists { OnOk result (rows.lists_in self.new ≡ rows.lists_in self.old) }
-        ensures sizes { OnOk result (rows.sizes_in self.new
-            ≡ rows.all_put column_key_cmp (rows.sized (rows.cell_sizes docid place n))
-            (rows.sizes_in self.old)) }
+        requires { FitsSize place n }
+        ensures { OnOk result (Shows self.new (rows.lists_in self.old)
+            (rows.all_put column_key_cmp (rows.sized (rows.cell_sizes docid place n))
+            (rows.sizes_in self.old))) }
     {
         if n > 0 {
             self.sizes.insert((docid, place as i64), n as i64)?;
@@ -157,14 +131,10 @@ impl DocumentIndex {
 
     // Adds a token of a cell.
     fn add_token(&mut self, docid: i64, place: usize, token: Token) -> Result<(), AllocError>
-        requires place { place < 2 ^ 63 }
-        requires pos { token.pos < 2 ^ 63 }
-        requires start { token.start < 2 ^ 63 }
-        requires size { token.size < 2 ^ 63 }
-        ensures lists { OnOk result (rows.lists_in self.new
-            ≡ rows.with_entries (rows.cell_entries docid place (plain_token token ∷ []))
-            (rows.lists_in self.old)) }
-        ensures sizes { OnOk result (rows.sizes_in self.new ≡ rows.sizes_in self.old) }
+        requires { FitsSpot place token }
+        ensures { OnOk result (Shows self.new
+            (rows.with_entries (rows.cell_entries docid place (plain_token token ∷ []))
+            (rows.lists_in self.old)) (rows.sizes_in self.old)) }
     {
         let spot = Spot {
             column: place as i64,
@@ -177,11 +147,9 @@ impl DocumentIndex {
 
     // Adds a spot to a list.
     fn add_spot(&mut self, key: (String, i64), spot: Spot) -> Result<(), AllocError>
-        ensures lists { OnOk result (rows.lists_in self.new
-            ≡ put index.key_cmp (string_bytes key.0, key.1)
+        ensures { OnOk result (Shows self.new (put index.key_cmp (string_bytes key.0, key.1)
             (unwrap_or (find index.key_cmp (string_bytes key.0, key.1) (rows.lists_in self.old)) []
-            ++ spot ∷ []) (rows.lists_in self.old)) }
-        ensures sizes { OnOk result (rows.sizes_in self.new ≡ rows.sizes_in self.old) }
+            ++ spot ∷ []) (rows.lists_in self.old)) (rows.sizes_in self.old)) }
     {
         if let Some(spots) = self.lists.get_mut(&key) {
             spots.push(spot)?;
@@ -197,9 +165,7 @@ impl DocumentIndex {
 
 // The text of a cell.
 fn text_of<'a>(value: &'a Value, buffer: &'a mut Buffer) -> &'a str
-    ensures text { result.now ≡ content.cell_text (shown_value value.now) }
-    ensures short { length result.now < 2 ^ 63 }
-    ensures number { IsShortNumber (shown_value value.now) }
+    ensures { IsTextOf (shown_value value.now) result.now }
 {
     match value {
         Value::Null => "",
@@ -209,12 +175,13 @@ fn text_of<'a>(value: &'a Value, buffer: &'a mut Buffer) -> &'a str
 }
 
 impl DocumentIndex {
-    ghost use Rattle.std.specs.Prelude.{◌≡◌, ◌++◌, [], map, string_bytes, OnOk};
+    ghost use Rattle.std.specs.Prelude.{◌≡◌, ◌++◌, map, string_bytes, OnOk};
     ghost use Rattle.std.specs.Ordering.{int_eq};
     ghost use Rattle.std.specs.FinMap.Entries.{find};
     ghost use Rattle.ft_rows.specs.Store.{column_key_cmp};
     ghost use Rattle.ft_rows.specs.Changes.{shown_change};
     ghost use Rattle.ft_content.specs.Index.{key_cmp};
+    ghost use Rattle.ft_documents.specs.MadeIndex.{GivesLists};
     ghost use Rattle.ft_documents.specs.RewriteRows as rows;
 
     /// Its lists and its sizes.
@@ -227,9 +194,7 @@ impl DocumentIndex {
 
     /// Takes its lists out of it. Its sizes stay.
     pub(crate) fn take_lists(&mut self) -> PostingLists
-        ensures taken { map rows.shown_list result.entries ≡ rows.lists_in self.old }
-        ensures none { rows.lists_in self.new ≡ [] }
-        ensures sizes { rows.sizes_in self.new ≡ rows.sizes_in self.old }
+        ensures { GivesLists self.old self.new (map rows.shown_list result.entries) }
     {
         std::mem::replace(&mut self.lists, BTreeMap::new(self.alloc))
     }
@@ -340,14 +305,11 @@ impl DocumentIndex {
 }
 
 impl DocumentIndex {
-    ghost use Rattle.ft_documents.specs.RewriteRows as rows;
+    ghost use Rattle.ft_documents.specs.MadeIndex.{CountsSizes};
 
     /// How many sizes it has, where they are the first of these.
     pub(crate) fn count_sizes(&self, sizes: &[SizeRow]) -> Option<usize>
-        ensures rest { option_map (λ n. map standing.shown_size (drop n sizes.now)) result
-            ≡ standing.after_first standing.same_size (rows.sizes_in self.now)
-            (map standing.shown_size sizes.now) }
-        ensures within { IfSome result (λ n. n ≤ length sizes.now) }
+        ensures { CountsSizes self.now sizes.now result }
     {
         let mut place = 0;
         for (key, n) in self.sizes.iter() {

@@ -1,11 +1,12 @@
 //! Making the index of a table again.
-ghost use Rattle.std.specs.Prelude.{◌≡◌, ◌≤◌, All, IfOk, OnOk, IsTrue, length, map};
+ghost use Rattle.std.specs.Prelude.{◌≡◌, ◌≤◌, All, IfOk, IsTrue, length, map};
 ghost use Rattle.std.specs.Ordering.{int_cmp};
 ghost use Rattle.std.specs.FinMap.Entries.{is_sorted};
 ghost use Rattle.ft_rows.specs.Changes.{shown_change, CanApply};
 ghost use Rattle.ft_content.specs.Content.{is_document};
 ghost use Rattle.ft_content.specs.Views.{column_of};
 ghost use Rattle.ft_documents.specs.Rebuild.{shown_document, MakesIndex, LeavesOthers, LeavesNames};
+ghost use Rattle.ft_documents.specs.MadeIndex.{AreIndexOf};
 ghost use Rattle.ft_documents.specs.RewriteRows as rows;
 ghost use Rattle.ft_documents.specs.Terms.{lists_in_terms};
 
@@ -43,13 +44,8 @@ fn index_of(
     columns: &[Column],
     documents: &[Document],
 ) -> Result<(TermIndex, Sizes), AllocError>
-    ensures lists { IsTrue (is_sorted int_cmp (map shown_document documents.now))
-        → IfOk result (λ made. lists_in_terms made.0
-        ≡ rows.lists_of (map column_of columns.now) (map shown_document documents.now)) }
-    ensures sizes { IfOk result (λ made. made.1.entries
-        ≡ rows.sizes_of (map column_of columns.now) (map shown_document documents.now)) }
-    ensures numbers { OnOk result (All (λ d. rows.AreShortNumbers (map column_of columns.now) d.1)
-        (map shown_document documents.now)) }
+    ensures { IfOk result (λ made. AreIndexOf (map column_of columns.now)
+        (map shown_document documents.now) (lists_in_terms made.0) made.1.entries) }
 {
     let mut lists = TermIndex::new(alloc);
     let mut index = DocumentIndex::new(alloc);

@@ -6,6 +6,7 @@ ghost use Rattle.ft_values.specs.Cells.{shown_value};
 ghost use Rattle.ft_rows.specs.Changes.{shown_change, CanApply};
 ghost use Rattle.ft_content.specs.Views.{cells_of, column_of};
 ghost use Rattle.ft_documents.specs.Tables.{IsOfDocids};
+ghost use Rattle.ft_documents.specs.MadeIndex.{IsIndexOf, Plans};
 ghost use Rattle.ft_documents.specs.Rewrite.{shown_rewrite, docids_of, befores, afters, by_docid, AreRight, AreNew, FitIfAny};
 ghost use Rattle.ft_documents.specs.RewriteRows as rows;
 
@@ -67,10 +68,8 @@ fn planned_changes(
     columns: &[Column],
     rewrites: &[Rewrite],
 ) -> Result<Vec<RowChange>, AllocError>
-    ensures plan { IfOk result (λ changes. map shown_change changes.items
-        ≡ rows.rewrite_changes tab (map column_of columns.now) (map shown_rewrite rewrites.now)) }
-    ensures numbers { OnOk result (All (rows.HasShortNumbers (map column_of columns.now))
-        (map shown_rewrite rewrites.now)) }
+    ensures { IfOk result (λ changes. Plans tab (map column_of columns.now)
+        (map shown_rewrite rewrites.now) (map shown_change changes.items)) }
 {
     let mut changes = Vec::new(alloc);
     drop_documents(&mut changes, tab, rewrites)?;
@@ -197,16 +196,9 @@ fn indexes(
     columns: &[Column],
     rewrites: &[Rewrite],
 ) -> Result<(DocumentIndex, DocumentIndex), AllocError>
-    ensures old_lists { IfOk result (λ made. rows.lists_in made.0
-        ≡ rows.lists_of (map column_of columns.now) (befores (map shown_rewrite rewrites.now))) }
-    ensures old_sizes { IfOk result (λ made. rows.sizes_in made.0
-        ≡ rows.sizes_of (map column_of columns.now) (befores (map shown_rewrite rewrites.now))) }
-    ensures new_lists { IfOk result (λ made. rows.lists_in made.1
-        ≡ rows.lists_of (map column_of columns.now) (afters (map shown_rewrite rewrites.now))) }
-    ensures new_sizes { IfOk result (λ made. rows.sizes_in made.1
-        ≡ rows.sizes_of (map column_of columns.now) (afters (map shown_rewrite rewrites.now))) }
-    ensures numbers { OnOk result (All (rows.HasShortNumbers (map column_of columns.now))
-        (map shown_rewrite rewrites.now)) }
+    ensures { IfOk result (λ made.
+        IsIndexOf (map column_of columns.now) (befores (map shown_rewrite rewrites.now)) made.0
+        × IsIndexOf (map column_of columns.now) (afters (map shown_rewrite rewrites.now)) made.1) }
 {
     let mut old = DocumentIndex::new(alloc);
     let mut new = DocumentIndex::new(alloc);

@@ -4,6 +4,7 @@ ghost use Rattle.std.specs.Ordering.{int_cmp};
 ghost use Rattle.std.specs.FinMap.Entries.{is_sorted};
 ghost use Rattle.ft_content.specs.Content.{Content, Documents};
 ghost use Rattle.ft_content.specs.Views.{column_of};
+ghost use Rattle.ft_documents.specs.MadeIndex.{IsIndexOf};
 ghost use Rattle.ft_documents.specs.RewriteRows as rows;
 ghost use Rattle.ft_documents.specs.Standing as standing;
 ghost use Rattle.ft_documents.specs.Terms.{lists_in_terms};
@@ -22,12 +23,8 @@ fn index_of(
     docid: i64,
     cells: &[CellRow],
 ) -> Result<DocumentIndex, AllocError>
-    ensures lists { IfOk result (λ index. rows.lists_in index
-        ≡ rows.lists_of (map column_of columns.now)
-        ((docid, map standing.cell_in cells.now) ∷ [])) }
-    ensures sizes { IfOk result (λ index. rows.sizes_in index
-        ≡ rows.sizes_of (map column_of columns.now)
-        ((docid, map standing.cell_in cells.now) ∷ [])) }
+    ensures { IfOk result
+        (IsIndexOf (map column_of columns.now) ((docid, map standing.cell_in cells.now) ∷ [])) }
 {
     let mut index = DocumentIndex::new(alloc);
     index.add_rows(columns, docid, cells)?;

@@ -1,7 +1,7 @@
 use Rattle.std.proofs.Common.{◌≡◌, ◌+◌, [], ◌∷◌, ◌++◌, List, ℤ, map, take, drop, subst, sym, ap, ◌∙◌, to_z, of_z, w64, rules}
 use Rattle.std.specs.Prelude.{All}
 use Rattle.std.proofs.lemmas.List.{drop_all, map-append, map_more, take_all, take-append-drop}
-use Rattle.std.proofs.lemmas.List.Elements.{All-nil, All-cons}
+use Rattle.std.proofs.lemmas.List.Elements.{All-nil, All-cons, All-head}
 use Rattle.ft_values.specs.Cells.{Cell, shown_value}
 use Rattle.ft_content.specs.Index.{key_cmp}
 use Rattle.ft_content.specs.Views.{column_of}
@@ -47,7 +47,7 @@ loop-document-preserved c =
           c.in_ok-add-2.ensures document.docid (subst (HaveDocid document.docid) (sym own) (own_docid columns shown)) (all_lower columns before shown rest all old are rising lists)
           ∙ ap (λ ls. all_put key_cmp ls old) own ∙ one_more columns before shown rest all old are rising lists ∙ ap (lists_of columns) (sym next)),
       ap (sizes_with columns rest) (c.take_lists.ensures.sizes ∙ added.sizes ∙ (λ i. sizes_with columns ((d i, map shown_value (cells i)) ∷ []) (sizes_in c.loop-document.index))) ∙ sym (sizes_with-append columns first rest (sizes_in c.loop-document.index)) ∙ ap (λ xs. sizes_with columns xs (sizes_in c.loop-document.index)) (sym left) ∙ so_far.2,
-      (λ more. so_far.3 (subst (All P) (sym left) (All-cons P shown rest (subst (λ vs. AreShortNumbers columns (map shown_value vs)) cells added.numbers) more))),
+      (λ more. so_far.3 (subst (All P) (sym left) (All-cons P shown rest (subst (λ vs. AreShortNumbers columns (map shown_value vs)) cells (All-head P _ [] added.numbers)) more))),
     )
 
 pub returns : goal.returns

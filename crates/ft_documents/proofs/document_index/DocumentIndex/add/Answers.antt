@@ -1,5 +1,6 @@
 use Rattle.std.proofs.Common.{◌≡◌, ◌<◌, ◌≤◌, ◌+◌, ◌∷◌, [], true, false, cond, subst, map, drop, length, min, sym, ap, ◌∙◌, to_z-of_z, arith}
 use Rattle.std.proofs.lemmas.List.{length-map}
+use Rattle.std.proofs.lemmas.List.Elements.{All-nil, All-cons}
 use Rattle.ft_query.specs.Tokens.{tokens_of}
 use Rattle.ft_values.specs.Cells.{shown_value}
 use Rattle.ft_rows.specs.Store.{column_key_cmp}
@@ -65,5 +66,5 @@ returns c =
     record {
       lists = ap (λ left. with_entries (entries_from c.args.docid c.loop-place.place left) (lists_in c.loop-place.self)) (sym none) ∙ so_far.0;
       sizes = ap (λ left. all_put column_key_cmp (sizes_from c.args.docid c.loop-place.place left) (sizes_in c.loop-place.self)) (sym none) ∙ so_far.1;
-      numbers = c.loop-place.invariant.2 (no_numbers c.loop-place.place columns cells past);
+      numbers = All-cons (λ d. AreShortNumbers columns d.1) (c.args.docid, cells) [] (c.loop-place.invariant.2 (no_numbers c.loop-place.place columns cells past)) (All-nil (λ d. AreShortNumbers columns d.1));
     }

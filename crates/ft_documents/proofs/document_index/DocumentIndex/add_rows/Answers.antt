@@ -1,15 +1,17 @@
-use Rattle.std.proofs.Common.{◌≡◌, ◌<◌, ◌+◌, ◌∷◌, [], cond, map, drop, length, sym, ap, ◌∙◌, to_z-of_z, arith}
+use Rattle.std.proofs.Common.{◌≡◌, ◌<◌, ◌≤◌, ◌+◌, ◌∷◌, [], true, false, cond, subst, map, drop, length, min, sym, ap, ◌∙◌, to_z-of_z, arith}
 use Rattle.std.proofs.lemmas.List.{length-map}
+use Rattle.std.proofs.lemmas.List.Elements.{All-nil, All-cons}
+use Rattle.ft_values.specs.declared.rows.CellRow.{CellRow}
 use Rattle.ft_query.specs.Tokens.{tokens_of}
 use Rattle.ft_values.specs.Cells.{shown_value}
 use Rattle.ft_rows.specs.Store.{column_key_cmp}
 use Rattle.ft_content.specs.Content.{cell_text}
 use Rattle.ft_content.specs.Index.{cell_tokens, document_tokens}
 use Rattle.ft_content.specs.Views.{column_of}
-use Rattle.ft_documents.specs.RewriteRows.{lists_in, sizes_in, with_entries, cell_entries, cell_sizes, sized, all_put}
+use Rattle.ft_documents.specs.RewriteRows.{lists_in, sizes_in, with_entries, cell_entries, cell_sizes, sized, all_put, IsShortNumber, AreShortNumbers}
 use Rattle.ft_documents.specs.Standing.{cell_in}
 use Rattle.ft_documents.proofs.Steps.{mapped_more}
-use Rattle.ft_documents.proofs.DocumentSteps.{entries_from, sizes_from, lists_more, sizes_more, none_left}
+use Rattle.ft_documents.proofs.DocumentSteps.{entries_from, sizes_from, lists_more, sizes_more, none_left, no_numbers}
 use Rattle.ft_documents.proofs.document_index.DocumentIndex.add_rows.Goals as goal
 use Rattle.ft_documents.proofs.document_index.DocumentIndex.add_rows.Goals.{then-columns-place+in_ok-add_cell, else-columns-place}
 
@@ -42,10 +44,18 @@ loop-place-preserved c =
       | then-columns-place+in_ok-add_cell w ↦ ap sizes_in w.self-is ∙ w.in_ok-add_cell.ensures.sizes ∙ (λ i. all_put column_key_cmp (sized (cell_sizes (t i) place (length (tokens_of (cond (sym (same ∙ w.if-columns-place.true) i) (cell_text (shown_value (sym c.index-cells-place.is i).value)) []))))) (sizes_in old))
       | else-columns-place w ↦ ap sizes_in w.self-is ∙ (λ i. all_put column_key_cmp (sized (cell_sizes c.args.docid place (length (tokens_of (cond (sym (same ∙ w.if-columns-place.false) i) (cell_text (shown_value value)) []))))) (sizes_in old))
     ] in
+    let first_column = mapped_more (λ cs. cs) column_of c.args.columns.now place column one c.index-columns-place.is in
+    let first_cell = mapped_more (λ vs. vs) cell_in c.args.cells.now place row other c.index-cells-place.is in
+    let number : column.indexed ≡ true → IsShortNumber (shown_value value) =
+    elim c.if-columns-place.branch [
+      | then-columns-place+in_ok-add_cell w ↦ λ _. subst (λ (r : CellRow). IsShortNumber (shown_value r.value)) (sym c.index-cells-place.is) w.in_ok-add_cell.ensures.number
+      | else-columns-place w ↦ λ is. absurd (let no : false ≡ true = sym w.if-columns-place.false ∙ sym same ∙ is in cc)
+    ] in
     let so_far = rw t at c.loop-place.invariant in
     rw t (
       lists_more c.args.docid place tokens rest (lists_in old) (lists_in new) _ lists (ap (λ ts. with_entries (entries_from c.args.docid place ts) (lists_in old)) (sym left) ∙ so_far.0),
       sizes_more c.args.docid place tokens rest (sizes_in old) (sizes_in new) _ sizes (ap (λ ts. all_put column_key_cmp (sizes_from c.args.docid place ts) (sizes_in old)) (sym left) ∙ so_far.1),
+      (λ rest. c.loop-place.invariant.2 (subst (λ cs. AreShortNumbers cs (drop place cells)) (sym first_column) (subst (λ vs. AreShortNumbers (column_of column ∷ drop (place + 1) columns) vs) (sym first_cell) (number, rest)))),
     )
 
 pub returns : goal.returns
@@ -53,10 +63,11 @@ returns c =
     let t = to_z-of_z c.ranges.docid in
     let columns = map column_of c.args.columns.now in
     let cells = map cell_in c.args.cells.now in
-    let past = c.loop-place-test.false in
-    let none = none_left c.loop-place.place columns cells (rw (length-map c.args.columns.now column_of, length-map c.args.cells.now cell_in) (omega (arith, past, c.min-place-end.ensures))) in
+    let past : min (length columns) (length cells) ≤ c.loop-place.place = rw (length-map c.args.columns.now column_of, length-map c.args.cells.now cell_in) (omega (arith, c.loop-place-test.false, c.min-place-end.ensures)) in
+    let none = none_left c.loop-place.place columns cells past in
     let so_far = rw t at c.loop-place.invariant in
     record {
       lists = ap (λ left. with_entries (entries_from c.args.docid c.loop-place.place left) (lists_in c.loop-place.self)) (sym none) ∙ so_far.0;
       sizes = ap (λ left. all_put column_key_cmp (sizes_from c.args.docid c.loop-place.place left) (sizes_in c.loop-place.self)) (sym none) ∙ so_far.1;
+      numbers = All-cons (λ d. AreShortNumbers columns d.1) (c.args.docid, cells) [] (c.loop-place.invariant.2 (no_numbers c.loop-place.place columns cells past)) (All-nil (λ d. AreShortNumbers columns d.1));
     }

@@ -2,7 +2,7 @@ use Rattle.std.proofs.Common.{◌≡◌, [], ◌∷◌, map, drop}
 use Rattle.ft_rows.specs.Store.{column_key_cmp}
 use Rattle.ft_content.specs.Index.{document_tokens}
 use Rattle.ft_content.specs.Views.{column_of}
-use Rattle.ft_documents.specs.RewriteRows.{lists_in, sizes_in, with_entries, all_put, lists_with, sizes_with}
+use Rattle.ft_documents.specs.RewriteRows.{lists_in, sizes_in, with_entries, all_put, lists_with, sizes_with, AreShortNumbers}
 use Rattle.ft_documents.specs.Standing.{cell_in}
 use Rattle.ft_documents.proofs.DocumentSteps.{entries_from, sizes_from}
 use Rattle.ft_documents.proofs.document_index.DocumentIndex.add_rows.Given as goal
@@ -13,3 +13,4 @@ invariant-loop-place l =
     let left = document_tokens (drop l.place (map column_of l.columns)) (drop l.place (map cell_in l.cells)) in
     (with_entries (entries_from l.docid l.place left) (lists_in l.self) ≡ lists_with (map column_of l.columns) ((l.docid, map cell_in l.cells) ∷ []) (lists_in l.fn.self))
     × (all_put column_key_cmp (sizes_from l.docid l.place left) (sizes_in l.self) ≡ sizes_with (map column_of l.columns) ((l.docid, map cell_in l.cells) ∷ []) (sizes_in l.fn.self))
+    × (AreShortNumbers (drop l.place (map column_of l.columns)) (drop l.place (map cell_in l.cells)) → AreShortNumbers (map column_of l.columns) (map cell_in l.cells))

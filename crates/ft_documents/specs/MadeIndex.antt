@@ -1,0 +1,82 @@
+-- Steps. What calls make of an index that is kept in memory, its lists and its sizes together. All of it is our own choice.
+use Rattle.std.specs.Prelude.{◌≡◌, ◌<◌, ◌≤◌, ◌^◌, ℕ, ℤ, List, [], map, drop, length, Option, option_map, All, IfSome, IsTrue}
+use Rattle.std.specs.Ordering.{int_cmp}
+use Rattle.std.specs.FinMap.Entries.{is_sorted}
+use Rattle.ft_values.specs.Cells.{Cell}
+use Rattle.ft_values.specs.declared.rows.SizeRow.{SizeRow}
+use Rattle.ft_query.specs.declared.text.Token.{Token}
+use Rattle.ft_query.specs.Tokens.{tokens_of}
+use Rattle.ft_rows.specs.Store.{column_key_cmp, Change}
+use Rattle.ft_content.specs.Content.{Column, Documents, cell_text}
+use Rattle.ft_content.specs.Index.{Key, StoredSpot}
+use Rattle.ft_documents.specs.declared.document_index.DocumentIndex.{DocumentIndex}
+use Rattle.ft_documents.specs.Rewrite.{Rewrite, afters}
+use Rattle.ft_documents.specs.RewriteRows.{rewrite_changes, lists_in, sizes_in, lists_with, sizes_with, lists_of, sizes_of, with_entries, cell_entries, cell_sizes, sized, all_put, IsShortNumber, AreShortNumbers}
+use Rattle.ft_documents.specs.Standing.{shown_size, same_size, after_first}
+
+-- an index has these lists and these sizes
+pub record Shows (index : DocumentIndex) (its_lists : List (Key × List StoredSpot)) (its_sizes : List ((ℤ × ℤ) × ℤ)) : Type 0 where
+  pub lists : lists_in index ≡ its_lists
+  pub sizes : sizes_in index ≡ its_sizes
+
+-- the numbers of documents are short, where their columns are indexed
+abbrev pub HaveShortNumbers : List Column → Documents → Type 0
+HaveShortNumbers columns documents = All (λ (d : ℤ × List Cell). AreShortNumbers columns d.1) documents
+
+-- the lists and sizes of documents join those of an index
+pub record Adds (columns : List Column) (documents : Documents) (old new : DocumentIndex) : Type 0 where
+  pub lists : lists_in new ≡ lists_with columns documents (lists_in old)
+  pub sizes : sizes_in new ≡ sizes_with columns documents (sizes_in old)
+  pub numbers : HaveShortNumbers columns documents
+
+-- an index is that of documents
+pub record IsIndexOf (columns : List Column) (documents : Documents) (index : DocumentIndex) : Type 0 where
+  pub lists : lists_in index ≡ lists_of columns documents
+  pub sizes : sizes_in index ≡ sizes_of columns documents
+  pub numbers : HaveShortNumbers columns documents
+
+-- Row changes are those of rewrites, and the numbers of the documents that they make are short.
+pub record Plans (tab : ℤ) (columns : List Column) (rewrites : List Rewrite) (changes : List Change) : Type 0 where
+  pub plan : changes ≡ rewrite_changes tab columns rewrites
+  pub numbers : HaveShortNumbers columns (afters rewrites)
+
+-- lists and sizes are those of documents: the lists, where the documents stand by rising docid
+pub record AreIndexOf (columns : List Column) (documents : Documents) (its_lists : List (Key × List StoredSpot)) (its_sizes : List ((ℤ × ℤ) × ℤ)) : Type 0 where
+  pub lists : IsTrue (is_sorted int_cmp documents) → its_lists ≡ lists_of columns documents
+  pub sizes : its_sizes ≡ sizes_of columns documents
+  pub numbers : HaveShortNumbers columns documents
+
+-- the tokens of an indexed cell join an index, with the cell's size
+pub record AddsCell (docid : ℤ) (place : ℕ) (cell : Cell) (old new : DocumentIndex) : Type 0 where
+  pub lists : lists_in new ≡ with_entries (cell_entries docid place (tokens_of (cell_text cell))) (lists_in old)
+  pub sizes : sizes_in new ≡ all_put column_key_cmp (sized (cell_sizes docid place (length (tokens_of (cell_text cell))))) (sizes_in old)
+  pub number : IsShortNumber cell
+
+-- a size's numbers are of 63 bits
+pub record FitsSize (column count : ℕ) : Type 0 where
+  pub place : column < 2 ^ 63
+  pub n : count < 2 ^ 63
+
+-- a token's numbers are
+pub record FitsSpot (column : ℕ) (token : Token) : Type 0 where
+  pub place : column < 2 ^ 63
+  pub pos : token.pos < 2 ^ 63
+  pub start : token.start < 2 ^ 63
+  pub size : token.size < 2 ^ 63
+
+-- bytes are the text of a cell, and no more than memory has
+pub record IsTextOf (cell : Cell) (bytes : List ℕ) : Type 0 where
+  pub text : bytes ≡ cell_text cell
+  pub short : length bytes < 2 ^ 63
+  pub number : IsShortNumber cell
+
+-- an index gives its lists away, and keeps its sizes
+pub record GivesLists (old new : DocumentIndex) (its_lists : List (Key × List StoredSpot)) : Type 0 where
+  pub taken : its_lists ≡ lists_in old
+  pub none : lists_in new ≡ []
+  pub sizes : sizes_in new ≡ sizes_in old
+
+-- how many sizes an index has, where they are the first of these
+pub record CountsSizes (index : DocumentIndex) (found : List SizeRow) (count : Option ℕ) : Type 0 where
+  pub rest : option_map (λ n. map shown_size (drop n found)) count ≡ after_first same_size (sizes_in index) (map shown_size found)
+  pub within : IfSome count (λ n. n ≤ length found)
