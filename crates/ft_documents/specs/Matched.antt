@@ -1,11 +1,12 @@
 -- Steps. What a filter chooses, as hits ("The Offsets Function").
-use Rattle.std.specs.Prelude.{◌≡◌, ℤ, Bool, if◌then◌else◌, List, [], ◌++◌, map, Option, None}
+use Rattle.std.specs.Prelude.{◌≡◌, ◌<◌, ℤ, Bool, if◌then◌else◌, List, [], ◌++◌, map, Option, None, Result, IfOk, IfSome}
+use Rattle.std.specs.declared.alloc.AllocError.{AllocError}
 use Rattle.std.specs.Option.{option_map_or}
 use Rattle.ft_query.specs.declared.walk.Hit.{Hit}
 use Rattle.ft_query.specs.Documents.{Document}
 use Rattle.ft_query.specs.Trees.{Tree, tree_of}
 use Rattle.ft_query.specs.Occurs.{PlainHit, offsets_of, hits_of}
-use Rattle.ft_query.specs.Walk.{Walk, StandsBefore, hit_list}
+use Rattle.ft_query.specs.Walk.{Walk, StandsBefore, lists_to_come, hit_list}
 use Rattle.ft_values.specs.Cells.{Cell}
 use Rattle.ft_content.specs.Content.{Content}
 use Rattle.ft_content.specs.Index.{document_postings}
@@ -30,3 +31,9 @@ pub record Tells (wanted : Bool) (old new : Walk) (hit : Option Hit) (documents 
   pub stands : StandsBefore new rest
   pub hits_are : map (told wanted) (hits_of (tree_of old.query) documents) ≡ hit_list hit ++ map (told wanted) (hits_of (tree_of old.query) rest)
   pub ended : hit ≡ None → rest ≡ []
+
+-- what a look for the next hit makes of a walk, which passes a list at least where it finds one
+pub record TellsNext (wanted : Bool) (old new : Walk) (result : Result (Option Hit) AllocError) : Type 0 where
+  pub told : IfOk result (λ hit. (documents : List Document) → StandsBefore old documents → Tells wanted old new hit documents)
+  pub passes : IfOk result (λ hit. IfSome hit (λ _. lists_to_come new < lists_to_come old))
+  pub query : new.query ≡ old.query

@@ -1,5 +1,5 @@
 -- Steps. The row changes that follow from documents which are written anew. All of it is our own choice.
-use Rattle.std.specs.Prelude.{◌≡◌, ◌≤◌, length, ℕ, zero, suc, Bool, true, false, not, ◌&&◌, List, [], ◌∷◌, ◌++◌, map, filter, Option, Some, None, ℤ, pos, is_some, unwrap_or, IfSome, bytes_eq, string_bytes, String, Vec}
+use Rattle.std.specs.Prelude.{◌≡◌, ◌≤◌, length, ℕ, zero, suc, Bool, true, false, not, ◌&&◌, List, [], ◌∷◌, ◌++◌, map, filter, Option, Some, None, ℤ, pos, is_some, unwrap_or, bytes_eq, string_bytes, String, Vec}
 use Rattle.std.specs.List.{flat_map, enumerate_from}
 use Rattle.std.specs.declared.cmp.Ordering.{Ordering}
 use Rattle.std.specs.Fmt.{signed_decimal}
@@ -93,9 +93,6 @@ abbrev pub AreShortNumbers : List Column → List Cell → Type 0
 AreShortNumbers [] cells = Unit {0}
 AreShortNumbers (column ∷ columns) [] = Unit {0}
 AreShortNumbers (column ∷ columns) (cell ∷ cells) = (column.indexed ≡ true → IsShortNumber cell) × AreShortNumbers columns cells
-
-abbrev pub HasShortNumbers : List Column → Rewrite → Type 0
-HasShortNumbers columns r = IfSome r.after (AreShortNumbers columns)
 
 -- Lists with entries that join them one after another, and rows that are put one after another.
 abbrev pub with_entries : List Entry → List (Key × List StoredSpot) → List (Key × List StoredSpot)

@@ -24,6 +24,11 @@ coming r docid = record { docid = docid; before = None; after = r.after }
 abbrev pub moved_from : Rewrite → ℤ → List Rewrite
 moved_from r docid = if int_eq r.docid docid then (r ∷ []) else (if is_lt (int_cmp r.docid docid) then (leaving r ∷ coming r docid ∷ []) else (coming r docid ∷ leaving r ∷ []))
 
+-- Where one rewrite alone is there, its document gets this docid.
+pub record MovesOnly (docid : ℤ) (old new : List Rewrite) : Type 0 where
+  pub none : old ≡ [] → new ≡ []
+  pub only : (r : Rewrite) → old ≡ r ∷ [] → new ≡ moved_from r docid
+
 -- The rewrites after at most one document got the docid that may be given.
 abbrev pub MayMove : Option ℤ → List Rewrite → List Rewrite → Type 0
 MayMove None changed rewrites = rewrites ≡ changed

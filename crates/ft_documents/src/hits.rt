@@ -1,11 +1,11 @@
 //! The hits of a walk.
-ghost use Rattle.std.specs.Prelude.{◌≡◌, ◌<◌, List, [], map, IsTrue, IfOk, IfSome, MatchOption, ⊤, ◌↔◌};
+ghost use Rattle.std.specs.Prelude.{◌≡◌, ◌<◌, List, [], map, IsTrue, IfOk, MatchOption, ⊤, ◌↔◌};
 ghost use Rattle.ft_query.specs.Documents.{Document};
 ghost use Rattle.ft_query.specs.Trees.{tree_of};
 ghost use Rattle.ft_query.specs.Occurs.{plain_hit, hits_of};
-ghost use Rattle.ft_query.specs.Walk.{StandsBefore, lists_to_come, hit_list, hit_at};
+ghost use Rattle.ft_query.specs.Walk.{StandsBefore, hit_list, hit_at};
 ghost use Rattle.ft_content.specs.Answer.{cut};
-ghost use Rattle.ft_documents.specs.Matched.{told, Tells};
+ghost use Rattle.ft_documents.specs.Matched.{told, TellsNext};
 
 use ft_query::{Hit, Matches};
 use std::alloc::{AllocError, Global};
@@ -35,11 +35,7 @@ fn next_hit(
     walk: &mut Matches<'_>,
     wants_offsets: bool,
 ) -> Result<Option<Hit>, AllocError>
-    ensures told { IfOk result (λ hit. (documents : List Document) → StandsBefore walk.old documents
-        → Tells wants_offsets walk.old walk.new hit documents) }
-    ensures passes { IfOk result (λ hit. IfSome hit
-        (λ _. lists_to_come walk.new < lists_to_come walk.old)) }
-    ensures query { walk.new.query ≡ walk.old.query }
+    ensures { TellsNext wants_offsets walk.old walk.new result }
 {
     if wants_offsets {
         walk.next()

@@ -167,8 +167,8 @@ fn places_of(alloc: Global, rows: &[ListRow]) -> Result<Vec<Placed>, AllocError>
 #[tactic(auto, using(crate::proofs::PlacedLemmas::same_places))]
 /// Puts places in order.
 fn put_in_order(places: &mut Vec<Placed>) -> Result<(), AllocError>
-    ensures same { IsPermutation places.old.items places.new.items }
-    ensures sorted { OnOk result (IsSorted placed_cmp places.new.items) }
+    ensures { IsPermutation places.old.items places.new.items
+        × OnOk result (IsSorted placed_cmp places.new.items) }
 {
     if !places.is_sorted() {
         places.sort()?;

@@ -29,14 +29,12 @@ impl NewDocuments {
     ghost use Rattle.ft_content.specs.Content.{Documents};
     ghost use Rattle.ft_content.specs.Deserved as deserved;
     ghost use Rattle.ft_content.specs.Views.{last_docid, cells_of, column_of};
-    ghost use Rattle.ft_documents.specs.NewDocuments.{documents_in, with_new, new_rewrite, AreBeside, Places};
+    ghost use Rattle.ft_documents.specs.NewDocuments.{documents_in, with_new, new_rewrite, AreBeside, Places, BeginsAfter};
     ghost use Rattle.ft_documents.specs.Rewrite.{shown_rewrite};
 
     /// None yet, for a table with this last docid.
     pub(crate) fn new(alloc: Global, last: Option<i64>) -> NewDocuments
-        ensures none { documents_in result ≡ [] }
-        ensures beside { (documents : Documents) → IsTrue (is_sorted int_cmp documents)
-            → last_docid documents ≡ last → AreBeside documents result }
+        ensures { BeginsAfter last result }
     {
         NewDocuments {
             alloc,

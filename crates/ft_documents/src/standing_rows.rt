@@ -39,8 +39,7 @@ fn follows(place: usize, last: Option<i64>, cell: &CellRow) -> bool
 
 /// Whether cells are those of documents with so many columns, by rising docid.
 fn are_documents(width: usize, cells: &[CellRow]) -> bool
-    requires some { 0 < width }
-    requires few { width ≤ 100 }
+    requires { (0 < width) × (width ≤ 100) }
     ensures { IsTrue result ↔ standing.AreDocuments width (map standing.shown_row cells.now) }
 {
     let mut place = 0;

@@ -1,9 +1,7 @@
 // The list of tables that is kept beside a store.
-ghost use Rattle.std.specs.Prelude.{◌≡◌, ◌<◌, ◌≤◌, map, length, is_ok, if◌then◌else◌, vec_len, IfOk, remove, OnErr};
-ghost use Rattle.std.specs.List.{insert};
-ghost use Rattle.ft_content.specs.Views as views;
+ghost use Rattle.std.specs.Prelude.{◌≡◌, ◌<◌, map, vec_len, IfOk, remove, OnErr};
 ghost use Rattle.ft_content.specs.Views.{shown_info};
-ghost use Rattle.ft_documents.specs.Found.{with_told, without_told};
+ghost use Rattle.ft_documents.specs.Found.{with_told, without_told, IsPlaceFor};
 ghost use Rattle.ft_documents.specs.Rebuild.{sound_if, with_sound};
 
 use ft_content::TableInfo;
@@ -11,10 +9,7 @@ use std::alloc::AllocError;
 
 // Where a table of this id stands among the others.
 fn place_for(tables: &[TableInfo], id: i64) -> usize
-    ensures within { result ≤ length tables.now }
-    ensures place { (table : views.TableInfo) → table.id ≡ id
-        → with_told table (map shown_info tables.now)
-        ≡ insert (map shown_info tables.now) result table }
+    ensures { IsPlaceFor id tables.now result }
 {
     for (place, table) in tables.iter().enumerate() {
         if id < table.id {

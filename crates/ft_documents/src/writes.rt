@@ -1,9 +1,9 @@
 //! The rewrites that a Delete and an Update make of documents.
-ghost use Rattle.std.specs.Prelude.{◌≡◌, ◌∷◌, [], map, IfOk, OnOk};
+ghost use Rattle.std.specs.Prelude.{◌≡◌, map, IfOk, OnOk};
 ghost use Rattle.ft_content.specs.Views.{column_of, set_of};
 ghost use Rattle.ft_documents.specs.Gathered.{shown_document};
-ghost use Rattle.ft_documents.specs.Rewrite.{Rewrite as Shown, shown_rewrite, removal};
-ghost use Rattle.ft_documents.specs.Updated.{changing, leaving, coming, moved_from, MayMove};
+ghost use Rattle.ft_documents.specs.Rewrite.{shown_rewrite, removal};
+ghost use Rattle.ft_documents.specs.Updated.{changing, leaving, coming, MovesOnly, MayMove};
 
 use crate::document::Document;
 use crate::rewrite::Rewrite;
@@ -72,10 +72,8 @@ fn change_rewrites(
 
 // Where this is the only rewrite, its document gets this docid.
 fn move_only(rewrites: &mut Vec<Rewrite>, docid: i64) -> Result<(), AllocError>
-    ensures none { map shown_rewrite rewrites.old.items ≡ []
-        → OnOk result (map shown_rewrite rewrites.new.items ≡ []) }
-    ensures only { (r : Shown) → map shown_rewrite rewrites.old.items ≡ r ∷ []
-        → OnOk result (map shown_rewrite rewrites.new.items ≡ moved_from r docid) }
+    ensures { OnOk result (MovesOnly docid (map shown_rewrite rewrites.old.items)
+        (map shown_rewrite rewrites.new.items)) }
 {
     let Some(only) = rewrites.pop() else {
         return Ok(());
@@ -98,8 +96,8 @@ fn move_only(rewrites: &mut Vec<Rewrite>, docid: i64) -> Result<(), AllocError>
 
 // What leaves the docid that a document had, and what comes under this one.
 fn parted(only: Rewrite, docid: i64) -> (Rewrite, Rewrite)
-    ensures leaves { shown_rewrite result.0 ≡ leaving (shown_rewrite only) }
-    ensures comes { shown_rewrite result.1 ≡ coming (shown_rewrite only) docid }
+    ensures { (shown_rewrite result.0 ≡ leaving (shown_rewrite only))
+        × (shown_rewrite result.1 ≡ coming (shown_rewrite only) docid) }
 {
     let Rewrite {
         docid: old,

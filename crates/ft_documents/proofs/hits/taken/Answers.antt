@@ -2,6 +2,7 @@
 use Rattle.std.proofs.Common.{◌≡◌, ◌<◌, ◌≤◌, ◌++◌, List, None, map, length, sym, ap, subst, ◌∙◌, append-nil, rules}
 use Rattle.std.specs.Prelude.{MatchOption, ⊤, vec_len}
 use Rattle.std.proofs.lemmas.List.{length-map}
+use Rattle.std.proofs.lemmas.Result.{IfOk-at_ok}
 use Rattle.ft_query.specs.Trees.{tree_of}
 use Rattle.ft_query.specs.Occurs.{PlainHit, plain_hit, hits_of}
 use Rattle.ft_content.specs.Answer.{cut}
@@ -24,7 +25,7 @@ returns c documents stands =
           ∙ ap (cut c.args.most 0) (sym so_far.2)
       | then-loop-alloc-test+in_ok-hit+in_default w ↦
           let none : w.in_ok-hit.field-0 ≡ None = w.in_default.is in
-          let tells = w.in_ok-hit.ensures.told so_far.0 so_far.1 in
+          let tells = IfOk-at_ok _ w.in_ok-hit.was w.next_hit.ensures.told so_far.0 so_far.1 in
           let end = ended c.args.wants_offsets c.loop-alloc.walk w.next_hit.new.walk w.in_ok-hit.field-0 so_far.0 none tells in
           let all : as_told (hits_of tree documents) ≡ hits = so_far.2 ∙ ap (λ hs. hits ++ hs) (ap (λ q. as_told (hits_of (tree_of q) so_far.0)) (sym c.loop-alloc.invariant.query) ∙ end) ∙ append-nil hits in
           whole c.args.most hits (subst (λ n. MatchOption c.args.most ⊤ (λ m. n ≤ m)) (sym many) c.loop-alloc.invariant.room)

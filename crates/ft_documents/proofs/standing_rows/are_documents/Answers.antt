@@ -12,7 +12,7 @@ returns-then-not-follows c =
     let i = c.loop-cell.cell-index in
     let cell = shown_row c.cell-item.result in
     let left = sym (taken_more (λ xs. follow c.args.width c.loop-cell.place c.loop-cell.last (map shown_row xs)) cells i c.cell-item.result c.loop-cell-test.true c.cell-item.is) ∙ c.loop-cell.invariant.1 in
-    told c.args.width (map shown_row cells) false c.requires.some (no_step c.args.width c.loop-cell.place c.loop-cell.last cell (map shown_row (drop (i + 1) cells)) _ (sym c.follows.ensures ∙ c.if-not-follows.true) left)
+    told c.args.width (map shown_row cells) false c.requires.0 (no_step c.args.width c.loop-cell.place c.loop-cell.last cell (map shown_row (drop (i + 1) cells)) _ (sym c.follows.ensures ∙ c.if-not-follows.true) left)
 
 pub loop-cell-preserved : goal.loop-cell-preserved
 loop-cell-preserved c =
@@ -28,7 +28,7 @@ loop-cell-preserved c =
       | else-place-width w ↦ w.place-is ∙ ap (λ t. cond t 0 (place + 1)) (sym (apart (place + 1) width w.if-place-width.false))
     ] in
     let within : c.if-place-width.place < width = elim c.if-place-width.branch [
-      | then-place-width w ↦ omega (arith, w.place-is, c.requires.some)
+      | then-place-width w ↦ omega (arith, w.place-is, c.requires.0)
       | else-place-width w ↦ omega (arith, w.place-is, w.if-place-width.false, c.loop-cell.invariant.0)
     ] in (
       within,
@@ -39,5 +39,5 @@ loop-cell-preserved c =
 pub returns : goal.returns
 returns c =
     let cells = c.args.cells.now in
-    told c.args.width (map shown_row cells) (c.loop-cell.place == 0) c.requires.some
+    told c.args.width (map shown_row cells) (c.loop-cell.place == 0) c.requires.0
     (sym c.loop-cell.invariant.1 ∙ ap (λ xs. follow c.args.width c.loop-cell.place c.loop-cell.last (map shown_row xs)) (drop_all c.loop-cell.cell-index cells c.loop-cell-test.false))
