@@ -1,5 +1,5 @@
 //! The index of some documents, made from scratch, and the row changes from one to another.
-ghost use Rattle.std.specs.Prelude.{◌≡◌, ◌<◌, ◌^◌, map, drop};
+ghost use Rattle.std.specs.Prelude.{◌≡◌, map, drop};
 ghost use Rattle.ft_values.specs.Cells.{shown_value};
 ghost use Rattle.ft_documents.specs.MadeIndex.{IsTextOf};
 ghost use Rattle.ft_documents.specs.Standing as standing;

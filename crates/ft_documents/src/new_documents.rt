@@ -22,13 +22,13 @@ pub struct NewDocuments {
 }
 
 impl NewDocuments {
-    ghost use Rattle.std.specs.Prelude.{None, [], map, zip, slice_get, is_some, IfSome, IfOk, IsTrue};
+    ghost use Rattle.std.specs.Prelude.{None, map, zip, slice_get, is_some, IfSome, IfOk};
     ghost use Rattle.std.specs.Ordering.{int_cmp};
-    ghost use Rattle.std.specs.FinMap.Entries.{find, is_sorted};
+    ghost use Rattle.std.specs.FinMap.Entries.{find};
     ghost use Rattle.ft_values.specs.Cells.{shown_value};
     ghost use Rattle.ft_content.specs.Content.{Documents};
     ghost use Rattle.ft_content.specs.Deserved as deserved;
-    ghost use Rattle.ft_content.specs.Views.{last_docid, cells_of, column_of};
+    ghost use Rattle.ft_content.specs.Views.{cells_of, column_of};
     ghost use Rattle.ft_documents.specs.NewDocuments.{documents_in, with_new, new_rewrite, AreBeside, Places, BeginsAfter};
     ghost use Rattle.ft_documents.specs.Rewrite.{shown_rewrite};
 
