@@ -1,4 +1,4 @@
--- Meaning. Calls that change all or nothing.
+-- Steps. Calls that change all or nothing.
 use Rattle.std.specs.Prelude.{◌≡◌, Result, OnOk, OnErr}
 
 -- what was there becomes what is told; after a fault it is as it was
