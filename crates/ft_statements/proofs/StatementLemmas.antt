@@ -1,7 +1,6 @@
 -- The end of a statement, and the tables that it names.
-use Rattle.std.proofs.Common.{◌≡◌, ℕ, ◌-◌, ◌≤◌, Bool, true, false, cond, ◌||◌, List, [], ◌∷◌, map, length, drop, take, get_or, refl, sym, ap, ◌∙◌, arith, codes}
+use Rattle.std.proofs.Common.{◌≡◌, ℕ, ◌-◌, ◌≤◌, Bool, true, false, cond, List, [], ◌∷◌, length, drop, take, get_or, refl, sym, ap, ◌∙◌, arith, codes}
 use Rattle.std.proofs.lemmas.List.{length-drop}
-use Rattle.std.specs.List.{list_any}
 use Rattle.ft_statements.specs.Words.{Token, is_symbol}
 use Rattle.ft_statements.specs.declared.words.Piece.{Piece}
 use Rattle.ft_statements.specs.Views.{seen, plain}

@@ -1,11 +1,12 @@
 -- Steps. Dot-commands as the code holds them.
-use Rattle.std.specs.Prelude.{ℕ, Bool, List, map, Option, option_map, string_bytes, String}
+use Rattle.std.specs.Prelude.{ℕ, ◌≡◌, Bool, List, map, Option, option_map, string_bytes, String}
 use Rattle.std.specs.declared.alloc.Global.{Global}
 use Rattle.std.specs.Borrow.{Bor}
 use Rattle.ft_statements.specs.declared.dots.DotCommand.{DotCommand}
 use Rattle.ft_statements.specs.declared.dots.DotCommand.TheVariants as commands
 use Rattle.ft_statements.specs.declared.dots.Import.{Import}
 use Rattle.ft_statements.specs.Dots as forms
+use Rattle.ft_statements.specs.DotGrammar.{Says}
 
 abbrev pub import_as : Import → forms.Import
 import_as what = record { csv = what.csv; skip = what.skip; file = string_bytes what.file; table = string_bytes what.table }
@@ -33,3 +34,8 @@ csv_words s = (s.0, words_left s.1)
 
 abbrev pub skip_words : Option (Option ℕ × Bor (List (String Global))) → Option (Option ℕ × List (List ℕ))
 skip_words read = option_map (λ r. (r.0, words_left r.1)) read
+
+-- the command that a line's words make, as it is read and as the grammar says
+pub record IsSaid (words : List (List ℕ)) (result : DotCommand) : Type 0 where
+  pub command : command_as result ≡ forms.dot_command_of words
+  pub says : Says words (command_as result)

@@ -18,3 +18,4 @@ pub mod DotGrammar
 pub mod Views
 pub mod Classes
 pub mod DotViews
+pub mod PlainViews

@@ -1,7 +1,9 @@
 -- Meaning. What dot-commands set and print ("Changing Output Formats" of "Command Line Shell For SQLite").
-use Rattle.std.specs.Prelude.{ℕ, Bool, true, List, [], ◌∷◌, ◌++◌, Some}
+use Rattle.std.specs.Prelude.{ℕ, ◌≡◌, Bool, true, false, List, [], ◌∷◌, ◌++◌, Some, Result, OnOk, OnErr, IsErrOf}
 use Rattle.std.specs.List.{join_with_byte}
 use Rattle.shell_text.specs.Print.{Settings, may_separate, with_mode}
+use Rattle.shell_text.specs.declared.settings.SetFault.{SetFault}
+use Rattle.shell_text.specs.declared.settings.SetFault.TheVariants as fault
 use Rattle.ft_statements.specs.Dots.{DotCommand, SetMode, SetHeaders, SetSeparator, SetNull, SetEcho, SetBail}
 
 -- the settings behind a command; a command that sets nothing leaves them
@@ -18,6 +20,13 @@ settings_after _ settings = settings
 abbrev pub may_set : DotCommand → Settings → Bool
 may_set (SetSeparator text) settings = may_separate settings text
 may_set _ settings = true
+
+-- a command sets what it may set, and after a fault all is as it was
+pub record Applies {X : Type 0} (command : DotCommand) (old new : Settings) (result : Result X SetFault) : Type 0 where
+  pub ok : OnOk result (new ≡ settings_after command old)
+  pub good : OnOk result (may_set command old ≡ true)
+  pub bad : IsErrOf result fault.BadSeparator → may_set command old ≡ false
+  pub err : OnErr result (new ≡ old)
 
 -- what `.print` writes: its words with a space between each two, and a line feed
 abbrev pub print_text : List (List ℕ) → List ℕ

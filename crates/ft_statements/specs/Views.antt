@@ -1,5 +1,5 @@
 -- Steps. Words, and what was read of them, as the code holds them.
-use Rattle.std.specs.Prelude.{ℕ, Bool, List, map, Option, option_map, string_bytes, String, Vec}
+use Rattle.std.specs.Prelude.{ℕ, ◌≡◌, ◌≤◌, ◌+◌, Bool, List, [], ◌∷◌, ◌++◌, map, Option, option_map, string_bytes, String, Vec}
 use Rattle.std.specs.declared.alloc.Global.{Global}
 use Rattle.std.specs.Borrow.{Bor}
 use Rattle.ft_statements.specs.declared.words.Piece.{Piece}
@@ -12,7 +12,7 @@ use Rattle.ft_content.specs.Content.{Cell}
 use Rattle.ft_content.specs.Views.{set_of, filter_of, item_of}
 use Rattle.ft_values.specs.declared.rows.Value.{Value}
 use Rattle.ft_statements.specs.Words.{Token}
-use Rattle.ft_statements.specs.Reading.{Reads}
+use Rattle.ft_statements.specs.Reading.{Reads, depth_after}
 use Rattle.ft_statements.specs.Create as forms
 
 abbrev pub seen : Piece → Token
@@ -53,6 +53,21 @@ settings_as settings = map (λ s. (string_bytes s.0, string_bytes s.1)) settings
 
 abbrev pub texts_of : {A : Type 0} → Vec (String Global) A → List (List ℕ)
 texts_of texts = map string_bytes texts.items
+
+-- options and columns, as those among arguments
+pub record AreSortedOf {A B : Type 0} (all : List forms.Argument) (options : Vec (String Global × String Global) A) (names : Vec (String Global) B) : Type 0 where
+  pub settings : settings_as options ≡ forms.settings_in all
+  pub columns : texts_of names ≡ forms.columns_in all
+
+-- an argument is put behind the options or behind the columns
+pub record AddsArgument {A B : Type 0} (argument : forms.Argument) (options new_options : Vec (String Global × String Global) A) (names new_names : Vec (String Global) B) : Type 0 where
+  pub settings : settings_as new_options ≡ settings_as options ++ forms.settings_in (argument ∷ [])
+  pub columns : texts_of new_names ≡ texts_of names ++ forms.columns_in (argument ∷ [])
+
+-- so many parentheses are open behind a word, at most one more than before it
+pub record IsDepthAfter (before : ℕ) (word : Token) (now : ℕ) : Type 0 where
+  pub depth : now ≡ depth_after before word
+  pub most : now ≤ before + 1
 
 -- a list of names, if there is one
 abbrev pub listed : {A : Type 0} → Option (Vec (String Global) A) → Option (List (List ℕ))

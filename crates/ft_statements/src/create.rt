@@ -1,9 +1,9 @@
 // CREATE VIRTUAL TABLE and DROP TABLE.
-ghost use Rattle.std.specs.Prelude.{◌≡◌, ◌∷◌, ◌++◌, [], codes, OnOk, map, string_bytes, option_map, IfOk};
+ghost use Rattle.std.specs.Prelude.{◌≡◌, ◌∷◌, [], codes, OnOk, map, string_bytes, option_map, IfOk};
 ghost use Rattle.ft_content.specs.Views as views;
 ghost use Rattle.ft_statements.specs.Create as forms;
 ghost use Rattle.ft_statements.specs.Reading as reading;
-ghost use Rattle.ft_statements.specs.Views.{plain, left, runs, optional_words, argument_as, settings_as, texts_of};
+ghost use Rattle.ft_statements.specs.Views.{plain, left, runs, optional_words, argument_as, AddsArgument, AreSortedOf};
 
 use crate::reading::{keyword_at, name_at, parenthesized, parts, symbol_at};
 use crate::words::{Piece, bare, literal_of, name_of};
@@ -157,10 +157,8 @@ fn push_argument(
     columns: &mut Vec<String>,
     argument: Argument,
 ) -> Result<(), AllocError>
-    ensures settings { OnOk result (settings_as options.new
-        ≡ settings_as options.old ++ forms.settings_in (argument_as argument ∷ [])) }
-    ensures columns { OnOk result (texts_of columns.new
-        ≡ texts_of columns.old ++ forms.columns_in (argument_as argument ∷ [])) }
+    ensures { OnOk result (AddsArgument (argument_as argument) options.old options.new columns.old
+        columns.new) }
 {
     match argument {
         Argument::Setting { name, value } => options.push((name, value))?,
@@ -174,10 +172,8 @@ fn sorted(
     alloc: Global,
     arguments: Vec<Argument>,
 ) -> Result<(Vec<(String, String)>, Vec<String>), AllocError>
-    ensures settings { IfOk result (λ sorted. settings_as sorted.0
-        ≡ forms.settings_in (map argument_as arguments.items)) }
-    ensures columns { IfOk result (λ sorted. texts_of sorted.1
-        ≡ forms.columns_in (map argument_as arguments.items)) }
+    ensures { IfOk result (λ sorted. AreSortedOf (map argument_as arguments.items) sorted.0
+        sorted.1) }
 {
     let mut options = Vec::new(alloc);
     let mut columns = Vec::new(alloc);

@@ -3,8 +3,7 @@ ghost use Rattle.std.specs.Prelude.{◌≡◌, codes, map, string_bytes, option_
 ghost use Rattle.std.specs.Char.{is_ascii_digit};
 ghost use Rattle.std.specs.List.{list_all};
 ghost use Rattle.ft_statements.specs.Dots as forms;
-ghost use Rattle.ft_statements.specs.DotGrammar.{Says};
-ghost use Rattle.ft_statements.specs.DotViews.{command_as, import_as, words_left, csv_words, skip_words};
+ghost use Rattle.ft_statements.specs.DotViews.{command_as, import_as, words_left, csv_words, skip_words, IsSaid};
 
 use crate::values::digits_value;
 use shell_text::Mode;
@@ -43,9 +42,7 @@ pub enum DotCommand {
 /// The command that a dot line's words make, as their grammar says. A line without words is none; a known name with a wrong
 /// number or form of words is told how it is used; any other name is unknown.
 pub fn dot_command(alloc: Global, words: &[String]) -> Result<DotCommand, AllocError>
-    ensures command { IfOk result (λ command. command_as command
-        ≡ forms.dot_command_of (map string_bytes words.now)) }
-    ensures says { IfOk result (λ command. Says (map string_bytes words.now) (command_as command)) }
+    ensures { IfOk result (IsSaid (map string_bytes words.now)) }
 {
     line_command(alloc, words)
 }

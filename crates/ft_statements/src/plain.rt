@@ -4,6 +4,7 @@ ghost use Rattle.std.specs.List.{list_any};
 ghost use Rattle.shell_text.specs.Words.{words_of};
 ghost use Rattle.ft_statements.specs.Words as tokens;
 ghost use Rattle.ft_statements.specs.Plain as forms;
+ghost use Rattle.ft_statements.specs.PlainViews.{IsRunAs};
 ghost use Rattle.ft_statements.specs.Views.{seen, plain, left};
 
 use crate::create::{if_not_exists, optional};
@@ -95,10 +96,7 @@ pub fn read_plain(
     words: &[SqlWord],
 ) -> Result<PlainStatement, AllocError>
     requires { words.now ≡ words_of text.now }
-    ensures asks { IfOk result (λ statement. statement.asks
-        ≡ forms.asks (tokens.tokens_of text.now)) }
-    ensures made { IfOk result (λ statement. option_map string_bytes statement.made
-        ≡ forms.made_name (tokens.tokens_of text.now)) }
+    ensures { IfOk result (IsRunAs (tokens.tokens_of text.now)) }
 {
     let pieces = pieces_of(alloc, text, words)?;
     let asks = asks(pieces.as_slice());

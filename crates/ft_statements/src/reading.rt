@@ -3,7 +3,7 @@ ghost use Rattle.std.specs.Prelude.{◌≡◌, ◌≤◌, ◌+◌, ◌==◌, ◌
 ghost use Rattle.ft_statements.specs.Words.{is_symbol};
 ghost use Rattle.ft_statements.specs.Reading as forms;
 ghost use Rattle.ft_statements.specs.Insert as inserts;
-ghost use Rattle.ft_statements.specs.Views.{seen, plain, left, read_as, two_runs, runs, split_parts};
+ghost use Rattle.ft_statements.specs.Views.{seen, plain, left, read_as, two_runs, runs, split_parts, IsDepthAfter};
 
 use crate::words::{Piece, is_keyword, is_symbol, literal_of, name_of};
 use std::alloc::{AllocError, Global};
@@ -77,8 +77,7 @@ fn closed<'a>(words: &'a [Piece<'a>]) -> Option<(&'a [Piece<'a>], &'a [Piece<'a>
 // How many parentheses are open behind a word.
 fn depth_after(depth: usize, word: &Piece<'_>) -> usize
     requires { depth < 2 ^ 64 - 1 }
-    ensures depth { result ≡ forms.depth_after depth (seen word.now) }
-    ensures most { result ≤ depth + 1 }
+    ensures { IsDepthAfter depth (seen word.now) result }
 {
     if is_symbol(word, "(") {
         depth + 1

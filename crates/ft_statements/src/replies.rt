@@ -1,8 +1,7 @@
 // What is printed for a reply, and the names of tables.
-ghost use Rattle.std.specs.Prelude.{◌≡◌, map, IfOk, OnOk, IsErrOf};
-ghost use Rattle.std.specs.Io.KnownBytes.{Appends};
+ghost use Rattle.std.specs.Prelude.{◌≡◌, map, IfOk};
 ghost use Rattle.shell_text.specs.Print as print;
-ghost use Rattle.shell_text.specs.Print.{AppendsFront};
+ghost use Rattle.shell_text.specs.Print.{Prints};
 ghost use Rattle.ft_values.specs.Cells.{shown_value};
 ghost use Rattle.ft_content.specs.Views as views;
 ghost use Rattle.ft_statements.specs.Replies as forms;
@@ -64,12 +63,8 @@ pub fn write_reply<W: Write>(
     reply: Reply,
     out: &mut W,
 ) -> Result<(), PrintFault>
-    ensures ok { OnOk result (Appends (W.contents out.old) (W.contents out.new)
-        (forms.reply_text settings.now (views.reply_of reply))) }
-    ensures write { IsErrOf result PrintFault.Write
-        → AppendsFront (W.contents out.old) (W.contents out.new)
-        (forms.reply_text settings.now (views.reply_of reply)) }
-    ensures memory { IsErrOf result PrintFault.Memory → W.contents out.new ≡ W.contents out.old }
+    ensures { Prints (forms.reply_text settings.now (views.reply_of reply)) (W.contents out.old)
+        (W.contents out.new) result }
 {
     match reply {
         Reply::Done => Ok(()),

@@ -1,5 +1,5 @@
 // What dot-commands set and print.
-ghost use Rattle.std.specs.Prelude.{◌≡◌, map, string_bytes, true, false, IfOk, OnOk, OnErr, IsErrOf};
+ghost use Rattle.std.specs.Prelude.{◌≡◌, map, string_bytes, IfOk};
 ghost use Rattle.std.specs.List.{join_with_byte};
 ghost use Rattle.ft_statements.specs.DotViews.{command_as};
 ghost use Rattle.ft_statements.specs.Settings as forms;
@@ -10,12 +10,7 @@ use std::alloc::{AllocError, Global};
 
 /// Sets what the command sets, if it sets anything. After a fault all is as it was.
 pub fn apply(settings: &mut Settings, command: &DotCommand) -> Result<(), SetFault>
-    ensures ok { OnOk result (settings.new ≡ forms.settings_after (command_as command.now)
-        settings.old) }
-    ensures good { OnOk result (forms.may_set (command_as command.now) settings.old ≡ true) }
-    ensures bad { IsErrOf result SetFault.BadSeparator
-        → forms.may_set (command_as command.now) settings.old ≡ false }
-    ensures err { OnErr result (settings.new ≡ settings.old) }
+    ensures { forms.Applies (command_as command.now) settings.old settings.new result }
 {
     match command {
         DotCommand::Mode(mode) => settings.set_mode(*mode),

@@ -1,15 +1,14 @@
 // Which class a statement is of.
-ghost use Rattle.std.specs.Prelude.{◌≡◌, ◌∷◌, [], ◌||◌, None, Some, codes, map, string_bytes, option_map, is_some, IfOk, IsErrOf};
+ghost use Rattle.std.specs.Prelude.{◌≡◌, ◌∷◌, [], ◌||◌, codes, map, string_bytes, option_map, is_some, IfOk};
 ghost use Rattle.std.specs.List.{list_any};
 ghost use Rattle.shell_text.specs.Words.{words_of};
 ghost use Rattle.ft_content.specs.Views as views;
-ghost use Rattle.ft_statements.specs.declared.statement.StatementFault.TheVariants.{Syntax, Memory};
+ghost use Rattle.ft_statements.specs.declared.statement.StatementFault.TheVariants.{Memory};
 ghost use Rattle.ft_statements.specs.Words as tokens;
 ghost use Rattle.ft_statements.specs.Reading as reading;
 ghost use Rattle.ft_statements.specs.Statements as forms;
-ghost use Rattle.ft_statements.specs.Grammar.{HasClass};
 ghost use Rattle.ft_statements.specs.Views.{seen, plain};
-ghost use Rattle.ft_statements.specs.Classes.{class_as};
+ghost use Rattle.ft_statements.specs.Classes.{ReadsClass};
 
 use crate::change::{delete, update};
 use crate::create::{create, drop_table};
@@ -170,14 +169,7 @@ pub fn read_statement(
     tables: &[TableInfo],
 ) -> Result<Class, StatementFault>
     requires { words.now ≡ words_of text.now }
-    ensures class { IfOk result (λ class. forms.class_of (views.info_names tables.now)
-        (tokens.tokens_of text.now) ≡ Some (class_as class)) }
-    ensures syntax { IsErrOf result StatementFault.Syntax
-        → forms.class_of (views.info_names tables.now) (tokens.tokens_of text.now) ≡ None }
-    ensures spelled { IfOk result (λ class.
-        HasClass (views.info_names tables.now) (tokens.tokens_of text.now) (class_as class)) }
-    ensures unspelled { IsErrOf result StatementFault.Syntax → (class : forms.Class) →
-        ¬ HasClass (views.info_names tables.now) (tokens.tokens_of text.now) class }
+    ensures { ReadsClass (views.info_names tables.now) (tokens.tokens_of text.now) result }
 {
     let pieces = pieces_of(alloc, text, words)?;
     let pieces = pieces.as_slice();

@@ -4,10 +4,13 @@
 -- three ways (page "SQLite Keywords"), comments (page "SQL Comment Syntax"), words, runs of digits, and
 -- single characters. That a number is a run of digits alone, and that a dollar sign may stand in a word, is
 -- our own choice. So is how a text is read: in pieces, byte by byte, each by its place and the byte after it.
-use Rattle.std.specs.Prelude.{⊤, ◌<◌, ◌≤◌, is_some, option_map, option_to_list, ℕ, ◌+◌, Bool, true, false, ◌==◌, ◌&&◌, ◌||◌, nat_le, List, [], ◌∷◌, ◌++◌, length, Option, Some, None, if◌then◌else◌}
+use Rattle.std.specs.Prelude.{⊤, ◌<◌, ◌≤◌, is_some, option_map, option_to_list, ℕ, ◌+◌, Bool, true, false, ◌==◌, ◌&&◌, ◌||◌, nat_le, List, [], ◌∷◌, ◌++◌, length, Option, Some, None, if◌then◌else◌, ◌≡◌, Result, IfOk, OnOk, IsErrOf}
 use Rattle.std.specs.Char.{is_ascii_alphabetic, is_ascii_digit}
 use Rattle.std.specs.List.{flat_map, list_any}
 use Rattle.std.specs.Option.{option_map_or}
+use Rattle.std.proofs.Common.{Vec, Global}
+use Rattle.shell_text.specs.declared.words.LexFault.{LexFault}
+use Rattle.shell_text.specs.declared.words.LexFault.TheVariants as fault
 use Rattle.shell_text.specs.declared.words.SqlKind.{SqlKind}
 use Rattle.shell_text.specs.declared.words.SqlKind.TheVariants as kinds
 use Rattle.shell_text.specs.declared.words.SqlWord.{SqlWord}
@@ -178,6 +181,12 @@ words_of text = words_at 0 (pieces_of text)
 -- a literal, a quoted name or a block comment is not closed
 abbrev pub is_unclosed : List ℕ → Bool
 is_unclosed text = list_any is_open (pieces_of text)
+
+-- the words of a text are found, where nothing in it is left open
+pub record FindsWords (text : List ℕ) (result : Result (Vec SqlWord Global) LexFault) : Type 0 where
+  pub words : IfOk result (λ found. found.items ≡ words_of text)
+  pub closed : OnOk result (is_unclosed text ≡ false)
+  pub «open» : IsErrOf result fault.Open → is_unclosed text ≡ true
 
 -- each word begins at or behind the end of the one before it, from a place on
 abbrev pub IsRising : ℕ → List SqlWord → Type 0

@@ -1,8 +1,8 @@
 //! Names in columns.
 
-ghost use Rattle.std.specs.Prelude.{◌≡◌, ◌+◌, ◌-◌, ◌*◌, ◌/◌, ◌<◌, ◌≤◌, ◌++◌, ◌∷◌, [], map, max, length, drop, replicate, string_bytes, OnOk, OnErr, IfOk, IsErrOf};
-ghost use Rattle.std.specs.Io.KnownBytes.{Appends};
-ghost use Rattle.shell_text.specs.Print.{AppendsFront, bytes_of, listed, names_across, names_down, names_line, names_on, widest};
+ghost use Rattle.std.specs.Prelude.{◌≡◌, ◌+◌, ◌-◌, ◌/◌, ◌<◌, map, max, string_bytes, IfOk};
+ghost use Rattle.shell_text.specs.Print.{bytes_of, listed, names_on, widest, Prints};
+ghost use Rattle.shell_text.specs.Calls.{StandAcross};
 
 use crate::print::{PrintFault, push_columns, write_out};
 use std::alloc::{AllocError, Global};
@@ -24,8 +24,7 @@ fn widest(names: &[String]) -> usize
 
 // How many names stand on a line.
 fn across(width: usize) -> usize
-    ensures across { result ≡ max 1 (80 / (width + 2)) }
-    ensures few { (0 < result) × (result ≤ 80) }
+    ensures { StandAcross width result }
 {
     if width < LINE_WIDTH {
         (LINE_WIDTH / (width + 2)).max(1)
@@ -79,12 +78,8 @@ fn listed(alloc: Global, names: &[String]) -> Result<Vec<u8>, AllocError>
 /// as 80 have room for, with two spaces between. The text is made whole before the first byte goes
 /// out: after `Memory` nothing was written, after `Write` a front of it and not the whole.
 pub fn write_names<W: Write>(alloc: Global, names: &[String], out: &mut W) -> Result<(), PrintFault>
-    ensures ok { OnOk result (Appends (W.contents out.old) (W.contents out.new)
-        (listed (map string_bytes names.now))) }
-    ensures write { IsErrOf result PrintFault.Write
-        → AppendsFront (W.contents out.old) (W.contents out.new)
-        (listed (map string_bytes names.now)) }
-    ensures memory { IsErrOf result PrintFault.Memory → W.contents out.new ≡ W.contents out.old }
+    ensures { Prints (listed (map string_bytes names.now)) (W.contents out.old)
+        (W.contents out.new) result }
 {
     let text = listed(alloc, names)?;
     write_out(out, text.as_slice())

@@ -1,14 +1,15 @@
 //! Records of CSV.
 
-ghost use Rattle.std.specs.Prelude.{◌≡◌, ◌∷◌, [], true, false, map, string_bytes, IfOk, IfErr, OnOk, IsErrOf, IsUtf8};
+ghost use Rattle.std.specs.Prelude.{◌≡◌, ◌∷◌, [], true, false, map, IfOk};
 ghost use Rattle.std.specs.Str.{is_utf8};
 ghost use Rattle.std.specs.List.{list_all};
 ghost use Rattle.shell_text.specs.Print.{bytes_of, is_csv_separator};
-ghost use Rattle.shell_text.specs.Records.{IsNoText, csv_reader};
+ghost use Rattle.shell_text.specs.Records.{csv_reader, ReadsRecords};
 ghost use Rattle.csv.specs.Reading.{AreRecords, strip_bom};
 ghost use Rattle.csv.specs.Records.{fields_of};
 ghost use Rattle.csv.specs.declared.parser.State.TheVariants as st;
 ghost use Rattle.shell_text.specs.declared.records.RecordFault.TheVariants.{Memory};
+ghost use Rattle.shell_text.specs.Calls.{Answers};
 
 use csv::{ByteRecord, ReaderBuilder};
 use std::alloc::{AllocError, AllocFailed, Global};
@@ -61,9 +62,8 @@ fn byte_records(alloc: Global, bytes: &[u8], delimiter: u8) -> Result<Vec<ByteRe
 
 // The texts of a record's fields.
 fn field_texts(alloc: Global, row: &ByteRecord) -> Result<Vec<String>, RecordFault>
-    ensures ok { IfOk result (λ texts. bytes_of texts ≡ fields_of row.now) }
-    ensures bad { IfErr result (λ e. e ≡ RecordFault.NotUtf8
-        → list_all is_utf8 (fields_of row.now) ≡ false) }
+    ensures { Answers result (λ texts. bytes_of texts ≡ fields_of row.now)
+        (λ e. e ≡ RecordFault.NotUtf8 → list_all is_utf8 (fields_of row.now) ≡ false) }
 {
     let mut texts = Vec::new(alloc);
     for i in 0..row.len() {
@@ -87,10 +87,7 @@ pub fn read_records(
     delimiter: u8,
 ) -> Result<Vec<Vec<String>>, RecordFault>
     requires { is_csv_separator (delimiter ∷ []) ≡ true }
-    ensures text { OnOk result (is_utf8 bytes.now ≡ true) }
-    ensures records { IfOk result (λ rows. AreRecords (csv_reader delimiter) st.StartRecord
-        (strip_bom bytes.now) (map bytes_of rows.items)) }
-    ensures bad { IsErrOf result RecordFault.NotUtf8 → IsNoText (csv_reader delimiter) bytes.now }
+    ensures { ReadsRecords (csv_reader delimiter) bytes.now result }
 {
     let Ok(_) = str::from_utf8(bytes) else {
         return Err(RecordFault::NotUtf8);

@@ -1,8 +1,9 @@
 //! How answers are printed, and what the shell does beside.
 
-ghost use Rattle.std.specs.Prelude.{◌≡◌, ◌∷◌, None, Some, true, false, OnOk, OnErr, IsErrOf};
-ghost use Rattle.shell_text.specs.Print.{first_settings, is_csv_separator, may_separate, separator_of, shows_headers, with_mode};
+ghost use Rattle.std.specs.Prelude.{◌≡◌, None, Some, false};
+ghost use Rattle.shell_text.specs.Print.{first_settings, is_csv_separator, separator_of, shows_headers, with_mode, SetsSeparator};
 ghost use Rattle.shell_text.specs.declared.settings.SetFault.TheVariants.{Memory};
+ghost use Rattle.shell_text.specs.AllOrNothing.{Becomes};
 
 use std::alloc::{AllocError, Global};
 use std::marker::Model;
@@ -136,11 +137,7 @@ impl Settings {
     /// and LF, or else it is refused: that is our own choice, since RFC 4180 has the comma alone.
     /// After a fault all is as it was.
     pub fn set_separator(&mut self, separator: &str) -> Result<(), SetFault>
-        ensures ok { OnOk result (self.new ≡ record self.old { separator = separator.now }) }
-        ensures good { OnOk result (may_separate self.old separator.now ≡ true) }
-        ensures bad { IsErrOf result SetFault.BadSeparator
-            → may_separate self.old separator.now ≡ false }
-        ensures err { OnErr result (self.new ≡ self.old) }
+        ensures { SetsSeparator separator.now self.old self.new result }
     {
         if let Mode::Csv = self.mode {
             if !is_csv_separator(separator) {
@@ -156,8 +153,7 @@ impl Settings {
     /// mode prints `NULL` whatever is set. It is `.nullvalue` of "Command Line Shell For SQLite".
     /// After a fault all is as it was.
     pub fn set_null(&mut self, null: &str) -> Result<(), AllocError>
-        ensures ok { OnOk result (self.new ≡ record self.old { null = null.now }) }
-        ensures err { OnErr result (self.new ≡ self.old) }
+        ensures { Becomes (record self.old { null = null.now }) self.old self.new result }
     {
         let text = String::from_str(self.alloc, null)?;
         self.null = text;

@@ -1,9 +1,9 @@
 //! Words of SQL.
 
-ghost use Rattle.std.specs.Prelude.{◌≡◌, ◌==◌, ◌+◌, List, ℕ, false, true, slice_get, All, IsCharBoundary, IfOk, OnOk, IsErrOf};
+ghost use Rattle.std.specs.Prelude.{◌≡◌, ◌==◌, ◌+◌, List, ℕ, false, true, slice_get, All, IsCharBoundary};
 ghost use Rattle.std.specs.Str.{IsUtf8};
 ghost use Rattle.shell_text.specs.declared.words.LexFault.TheVariants.{Memory};
-ghost use Rattle.shell_text.specs.Words.{IsRising, begins_word, begun, ends_line, goes_on_word, in_comment, in_marks, in_number, in_word, is_space, is_unclosed, next_is, turn, words_of};
+ghost use Rattle.shell_text.specs.Words.{IsRising, begins_word, begun, ends_line, goes_on_word, in_comment, in_marks, in_number, in_word, is_space, next_is, turn, words_of, FindsWords};
 
 use std::alloc::{AllocFailed, Global};
 use thiserror::Error;
@@ -217,9 +217,7 @@ pub(crate) fn byte_at(text: &[u8], i: usize) -> Option<u8>
 /// The words of a text, in order. Where a literal, a quoted name or a block comment is not
 /// closed the text has none: `Open`.
 pub fn sql_words(alloc: Global, text: &str) -> Result<Vec<SqlWord>, LexFault>
-    ensures words { IfOk result (λ found. found.items ≡ words_of text.now) }
-    ensures closed { OnOk result (is_unclosed text.now ≡ false) }
-    ensures open { IsErrOf result LexFault.Open → is_unclosed text.now ≡ true }
+    ensures { FindsWords text.now result }
 {
     let bytes = text.as_bytes();
     let mut words = Vec::new(alloc);

@@ -7,9 +7,11 @@ use Rattle.shell_text.proofs.Splitters.{not_utf8}
 use Rattle.shell_text.proofs.records.field_texts.Goals as goal
 use Rattle.shell_text.proofs.records.field_texts.Goals.{in-Some+in-Ok+in_ok-from_str+in_ok-push, in_default}
 
-pub returns-in_default-from_utf8-clause-bad : goal.returns-in_default-from_utf8-clause-bad
-returns-in_default-from_utf8-clause-bad c _ =
-    bad_field (fields_of c.args.row.now) c.loop-i.i c.in-Some.field.now (sym c.in-Some.ensures.value) (not_utf8 c.in-Some.field.now c.in_default-from_utf8.ensures.cases.0)
+pub returns-in_default-from_utf8 : goal.returns-in_default-from_utf8
+returns-in_default-from_utf8 c = record {
+  ok = tt;
+  err = λ _. bad_field (fields_of c.args.row.now) c.loop-i.i c.in-Some.field.now (sym c.in-Some.ensures.value) (not_utf8 c.in-Some.field.now c.in_default-from_utf8.ensures.cases.0);
+}
 
 pub loop-i-preserved : goal.loop-i-preserved
 loop-i-preserved c =

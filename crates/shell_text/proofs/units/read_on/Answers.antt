@@ -74,9 +74,12 @@ loop-i-preserved c =
           })
     ]
 
-pub returns-clause-ok : goal.returns-clause-ok
-returns-clause-ok c =
+pub returns : goal.returns
+returns c =
     let bytes = c.as_bytes-bytes.result.now in
     let within = c.loop-i.auto.i-end in
-    subst (λ t. Splits c.args.pending.first t (map member_of_unit c.args.waiting.now.items) (map member_of_unit c.loop-i.waiting.items) c.loop-i.cut c.loop-i.p) c.as_bytes-bytes.ensures.value
-    (read_all c.loop-i-test.false (within (subst (λ t. c.args.from ≤ length t) (sym c.as_bytes-bytes.ensures.value) c.requires.within)) c.loop-i.invariant.read)
+    record {
+      ok = subst (λ t. Splits c.args.pending.first t (map member_of_unit c.args.waiting.now.items) (map member_of_unit c.loop-i.waiting.items) c.loop-i.cut c.loop-i.p) c.as_bytes-bytes.ensures.value
+          (read_all c.loop-i-test.false (within (subst (λ t. c.args.from ≤ length t) (sym c.as_bytes-bytes.ensures.value) c.requires.within)) c.loop-i.invariant.read);
+      kept = c.loop-i.invariant.waited;
+    }

@@ -1,4 +1,5 @@
-use Rattle.std.proofs.Common.{◌≡◌, ◌∙◌, refl, sym, ap, subst, get_or, ◌+◌}
+use Rattle.std.proofs.Common.{◌≡◌, ◌∙◌, refl, sym, ap, subst, get_or, ◌+◌, arith}
+use Rattle.std.proofs.lemmas.Grind.{common_steps}
 use Rattle.std.specs.Prelude.{slice_get}
 use Rattle.shell_text.specs.Words.{is_unclosed, turn, words_of}
 use Rattle.shell_text.specs.declared.words.Turn.TheVariants.{Ends}
@@ -21,15 +22,14 @@ loop-i-preserved c =
       | in-Ends-Gap w ↦ rw (w.words-is, w.place-is, w.start-is) (words_gap at (turned ∙ w.in-Ends-Gap.is ∙ ap Ends w.in-Ends-Gap.field-0-is) c.loop-i.invariant)
     ]
 
-pub returns-in-Between-clause-words : goal.returns-in-Between-clause-words
-returns-in-Between-clause-words c =
-    words_all c.loop-i-test.false (subst (λ place. WordsTo c.as_bytes-bytes.result.now c.loop-i.i c.loop-i.start place c.loop-i.words.items) c.in-Between.is c.loop-i.invariant)
-    ∙ ap words_of c.as_bytes-bytes.ensures.value
-
-pub returns-in-Between-clause-closed : goal.returns-in-Between-clause-closed
-returns-in-Between-clause-closed c =
-    ap is_unclosed (sym c.as_bytes-bytes.ensures.value)
-    ∙ words_closed c.loop-i-test.false (subst (λ place. WordsTo c.as_bytes-bytes.result.now c.loop-i.i c.loop-i.start place c.loop-i.words.items) c.in-Between.is c.loop-i.invariant)
+pub returns-in-Between : goal.returns-in-Between
+returns-in-Between c =
+    let read = subst (λ place. WordsTo c.as_bytes-bytes.result.now c.loop-i.i c.loop-i.start place c.loop-i.words.items) c.in-Between.is c.loop-i.invariant in
+    record {
+      words = words_all c.loop-i-test.false read ∙ ap words_of c.as_bytes-bytes.ensures.value;
+      closed = ap is_unclosed (sym c.as_bytes-bytes.ensures.value) ∙ words_closed c.loop-i-test.false read;
+      «open» = grind (arith, common_steps);
+    }
 
 pub returns-in_default : goal.returns-in_default
 returns-in_default c = record {
