@@ -3,6 +3,7 @@ ghost use Rattle.std.specs.Prelude.{◌≡◌, ◌-◌, ◌^◌, ◌<◌, ◌≤
 ghost use Rattle.std.specs.List.{list_any};
 ghost use Rattle.std.specs.Ordering.{int_cmp, int_eq};
 ghost use Rattle.std.specs.FinMap.Entries.{put, is_sorted};
+ghost use Rattle.ft_content.specs.Calls.{IsFreeId};
 ghost use Rattle.ft_content.specs.Content as content;
 ghost use Rattle.ft_content.specs.Deserved as deserved;
 ghost use Rattle.ft_content.specs.Deserved.{Contents, Table};
@@ -171,11 +172,7 @@ pub fn create_fault(
 /// The least positive id that none of these tables has, which stand by rising id.
 pub fn free_id(tables: &[TableInfo]) -> i64
     requires { length tables.now < 2 ^ 63 - 1 }
-    ensures id { (contents : Contents) → table_ids contents ≡ info_ids tables.now
-        → result ≡ pos (step.free_id_from 1 contents) }
-    ensures free { (contents : Contents) → table_ids contents ≡ info_ids tables.now
-        → IsTrue (is_sorted int_cmp contents)
-        → list_any (int_eq result) (info_ids tables.now) ≡ false }
+    ensures { IsFreeId (info_ids tables.now) result }
 {
     let mut id = 1;
     for table in tables {
