@@ -1,14 +1,12 @@
 // What a Create makes, and the tests that refuse it.
-ghost use Rattle.std.specs.Prelude.{◌≡◌, ◌-◌, ◌^◌, ◌<◌, ◌≤◌, ◌&&◌, ◌||◌, false, not, pos, map, length, insert, codes, string_bytes, IfOk, IsTrue};
+ghost use Rattle.std.specs.Prelude.{◌≡◌, ◌-◌, ◌^◌, ◌<◌, ◌&&◌, ◌||◌, not, map, length, codes, string_bytes, IfOk};
 ghost use Rattle.std.specs.List.{list_any};
-ghost use Rattle.std.specs.Ordering.{int_cmp, int_eq};
-ghost use Rattle.std.specs.FinMap.Entries.{put, is_sorted};
 ghost use Rattle.ft_content.specs.Calls.{IsFreeId};
 ghost use Rattle.ft_content.specs.Content as content;
 ghost use Rattle.ft_content.specs.Deserved as deserved;
-ghost use Rattle.ft_content.specs.Deserved.{Contents, Table};
+ghost use Rattle.ft_content.specs.Deserved.{Contents};
 ghost use Rattle.ft_content.specs.Step as step;
-ghost use Rattle.ft_content.specs.Views.{option_of, column_of, table_names, table_ids, info_names, info_ids};
+ghost use Rattle.ft_content.specs.Views.{option_of, column_of, table_names, info_names, info_ids};
 
 use crate::names::{are_names, has_name, is_name, names_clash};
 use ft_values::{Column, Fault, TableInfo, has_table, same_name};
