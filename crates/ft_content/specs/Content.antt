@@ -125,3 +125,7 @@ RowsAreRead = (table : List ℕ) (content : Content) → IsContent table content
 -- Two contents with the same rows are one.
 abbrev pub ContentsAreOne : Type 0
 ContentsAreOne = (table : List ℕ) (one other : Content) → IsContent table one → IsContent table other → content_rows one ≡ content_rows other → one ≡ other
+
+pub record RowsHoldContent : Type 0 where
+  pub read : RowsAreRead
+  pub one : ContentsAreOne

@@ -96,6 +96,16 @@ DropPlanIsRight = (columns : List Column) (documents : Documents) (docid : ℤ) 
     drop_lists (document_lists columns docid (find int_cmp docid documents)) (spot_lists (entries (content_with columns documents)))
     ≡ spot_lists (entries (content_with columns (without_docid docid documents)))
 
+-- one document at a time: its entries and sizes, its lists, and what a plan makes of the lists
+pub record IndexGoesByDocument : Type 0 where
+  pub puts : PutsDocuments
+  pub drops : DropsDocuments
+  pub lists : ListsAreEntries
+  pub puts_lists : PutsLists
+  pub drops_lists : DropsLists
+  pub plan : PlanIsRight
+  pub drop_plan : DropPlanIsRight
+
 -- ---- what a command makes of a content is a content
 
 abbrev pub InsertKeepsContent : Type 0
@@ -113,6 +123,12 @@ abbrev pub CreateMakesContent : Type 0
 CreateMakesContent = (contents : Contents) (table module_name : List ℕ) (options : List (List ℕ × List ℕ)) (names : List (List ℕ)) (if_new : Bool) →
     IsTrue (nat_lt 0 (length names)) → create_fault contents table module_name options names if_new ≡ None → IsContent table (content_with (map (made_column options) names) [])
 
+pub record CommandsKeepContent : Type 0 where
+  pub create : CreateMakesContent
+  pub insert : InsertKeepsContent
+  pub update : UpdateKeepsContent
+  pub delete : DeleteKeepsContent
+
 -- ---- a command in pieces
 
 -- After a document is put its docid is taken, and so is each that was.
@@ -122,3 +138,7 @@ DocidIsTaken = (documents : Documents) (docid other : ℤ) (cells : List Cell) �
 -- Documents may be cut off before their rows are made.
 abbrev pub RowsAreCutFirst : Type 0
 RowsAreCutFirst = (row : ℤ × List Cell → List Cell) (limit : Option ℕ) (offset : ℕ) (documents : Documents) → cut limit offset (map row documents) ≡ map row (cut limit offset documents)
+
+pub record GoInPieces : Type 0 where
+  pub taken : DocidIsTaken
+  pub cut : RowsAreCutFirst

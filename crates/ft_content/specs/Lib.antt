@@ -8,3 +8,5 @@ pub mod Deserved
 pub mod Step
 pub mod Laws
 pub mod Meaning
+-- Steps
+pub mod Calls

@@ -90,3 +90,11 @@ DocumentsAreInOrder = (table : List ℕ) (content : Content) → IsContent table
 abbrev pub TermsAreCounted : Type 0
 TermsAreCounted = (table : List ℕ) (content : Content) (test : List ℕ → Bool) → IsContent table content →
     place_count (lists_with test (content_documents content)) ≡ length (entries_in (lists_of_terms test (index_rows content).lists))
+
+-- what lists mean, and a query over them
+pub record ListsMeanContent : Type 0 where
+  pub documents : ListsMeanDocuments
+  pub hits : HitsAreChosen
+  pub terms : TermsAreTheirLists
+  pub counted : TermsAreCounted
+  pub order : DocumentsAreInOrder

@@ -1,13 +1,12 @@
 // What a Create makes, and the tests that refuse it.
-ghost use Rattle.std.specs.Prelude.{◌≡◌, ◌-◌, ◌^◌, ◌<◌, ◌≤◌, ◌&&◌, ◌||◌, false, not, pos, map, length, insert, codes, string_bytes, IfOk, IsTrue};
+ghost use Rattle.std.specs.Prelude.{◌≡◌, ◌-◌, ◌^◌, ◌<◌, ◌&&◌, ◌||◌, not, map, length, codes, string_bytes, IfOk};
 ghost use Rattle.std.specs.List.{list_any};
-ghost use Rattle.std.specs.Ordering.{int_cmp, int_eq};
-ghost use Rattle.std.specs.FinMap.Entries.{put, is_sorted};
+ghost use Rattle.ft_content.specs.Calls.{IsFreeId};
 ghost use Rattle.ft_content.specs.Content as content;
 ghost use Rattle.ft_content.specs.Deserved as deserved;
-ghost use Rattle.ft_content.specs.Deserved.{Contents, Table};
+ghost use Rattle.ft_content.specs.Deserved.{Contents};
 ghost use Rattle.ft_content.specs.Step as step;
-ghost use Rattle.ft_content.specs.Views.{option_of, column_of, table_names, table_ids, info_names, info_ids};
+ghost use Rattle.ft_content.specs.Views.{option_of, column_of, table_names, info_names, info_ids};
 
 use crate::names::{are_names, has_name, is_name, names_clash};
 use ft_values::{Column, Fault, TableInfo, has_table, same_name};
@@ -171,11 +170,7 @@ pub fn create_fault(
 /// The least positive id that none of these tables has, which stand by rising id.
 pub fn free_id(tables: &[TableInfo]) -> i64
     requires { length tables.now < 2 ^ 63 - 1 }
-    ensures id { (contents : Contents) → table_ids contents ≡ info_ids tables.now
-        → result ≡ pos (step.free_id_from 1 contents) }
-    ensures free { (contents : Contents) → table_ids contents ≡ info_ids tables.now
-        → IsTrue (is_sorted int_cmp contents)
-        → list_any (int_eq result) (info_ids tables.now) ≡ false }
+    ensures { IsFreeId (info_ids tables.now) result }
 {
     let mut id = 1;
     for table in tables {

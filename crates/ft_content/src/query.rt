@@ -1,10 +1,8 @@
 // MATCH texts as queries over a table's columns.
-ghost use Rattle.std.specs.Prelude.{◌≡◌, ◌≢◌, map, option_map, string_bytes, Ok, Err, IfOk, IfErr, OnOk, None, Some};
-ghost use Rattle.ft_query.specs.Trees.{tree_of};
+ghost use Rattle.std.specs.Prelude.{◌≡◌, map, string_bytes, Err, IfOk, Some};
 ghost use Rattle.ft_content.specs.Content.{names_of};
-ghost use Rattle.ft_content.specs.Command.{Match};
-ghost use Rattle.ft_content.specs.Answer.{reading};
-ghost use Rattle.ft_content.specs.Deserved.{query_fault, reading_fault};
+ghost use Rattle.ft_content.specs.Deserved.{reading_fault};
+ghost use Rattle.ft_content.specs.Calls.{ReadsQuery};
 ghost use Rattle.ft_content.specs.Views.{bare_content};
 
 use crate::columns::{column_place, push_names};
@@ -44,12 +42,7 @@ pub fn read_query(
     name: &str,
     text: &str,
 ) -> Result<Option<Query>, Fault>
-    ensures query { IfOk result (λ query. reading (bare_content columns.now) name.now text.now
-        ≡ Ok (option_map tree_of query)) }
-    ensures fine { OnOk result (query_fault (bare_content columns.now) (Match name.now text.now)
-        ≡ None) }
-    ensures fault { IfErr result (λ fault. fault ≢ Fault.Memory
-        → query_fault (bare_content columns.now) (Match name.now text.now) ≡ Some fault) }
+    ensures { ReadsQuery (bare_content columns.now) name.now text.now result }
 {
     let names = named_columns(alloc, columns)?;
     let default = column_place(columns, name);

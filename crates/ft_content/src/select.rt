@@ -1,11 +1,11 @@
 // What a Select answers, and the tests of its names.
 ghost use Rattle.std.specs.Prelude.{◌≡◌, ◌∷◌, ◌++◌, ◌&&◌, ◌||◌, [], false, not, Option, map, codes, slice_get, unwrap_or, string_bytes, IfOk, OnOk};
 ghost use Rattle.std.specs.List.{list_any, flat_map};
-ghost use Rattle.ft_query.specs.Trees.{Tree};
 ghost use Rattle.ft_values.specs.Cells as stored;
 ghost use Rattle.ft_values.specs.Cells.{shown_value};
 ghost use Rattle.ft_content.specs.Content.{names_of};
 ghost use Rattle.ft_content.specs.Answer as answer;
+ghost use Rattle.ft_content.specs.Calls.{IsItemRow};
 ghost use Rattle.ft_content.specs.Deserved as deserved;
 ghost use Rattle.ft_content.specs.Views.{bare_content, cells_of, names_in, rows_of, item_of, items_of, filter_of};
 
@@ -270,20 +270,8 @@ pub fn item_row(
     cells: &[Value],
     offsets: &str,
 ) -> Result<Vec<Value>, AllocError>
-    ensures asked { (query : Option Tree)
-        → answer.offsets_cell query (bare_content columns.now) (docid, map shown_value cells.now)
-        ≡ stored.Text offsets.now
-        → IfOk result (λ row. cells_of row ≡ flat_map
-        (answer.item_cells query (bare_content columns.now) (docid, map shown_value cells.now))
-        (map item_of items.now)) }
-    ensures unasked { (query : Option Tree)
-        → list_any deserved.is_offsets (map item_of items.now) ≡ false
-        → IfOk result (λ row. cells_of row ≡ flat_map
-        (answer.item_cells query (bare_content columns.now) (docid, map shown_value cells.now))
-        (map item_of items.now)) }
-    ensures given { IfOk result (λ row. cells_of row
-        ≡ flat_map (answer.cells_with (stored.Text offsets.now) (bare_content columns.now)
-        (docid, map shown_value cells.now)) (map item_of items.now)) }
+    ensures { IfOk result (λ row. IsItemRow (bare_content columns.now) (map item_of items.now)
+        (docid, map shown_value cells.now) offsets.now (cells_of row)) }
 {
     let mut row = Vec::new(alloc);
     for item in items {

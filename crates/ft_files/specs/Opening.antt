@@ -1,7 +1,13 @@
 -- Steps. The two databases of a command line (own choice).
-use Rattle.std.specs.Prelude.{ℕ, List, ◌++◌, codes}
+use Rattle.std.specs.Prelude.{◌≡◌, ◌⊎◌, ℕ, List, ◌++◌, codes, Result, IfOk, IfErr}
+use Rattle.sqlite.specs.Held.{Held, IsNew, state}
+use Rattle.sqlite.specs.State.{HasCleanDisk}
+use Rattle.sqlite.specs.Steps.{IsEmpty}
+use Rattle.sqlite.specs.Store.{Ghosts}
+use Rattle.ft_rows.specs.Store.{nothing_held}
 use Rattle.ft_store.specs.declared.fault.StoreFault.{StoreFault}
 use Rattle.ft_store.specs.declared.fault.StoreFault.TheVariants as store
+use Rattle.ft_store.specs.Kept.{StoreState, shows, value_in}
 use Rattle.ft_files.specs.declared.databases.OpenFault.{OpenFault}
 use Rattle.ft_files.specs.declared.databases.OpenFault.TheVariants as fault
 
@@ -14,3 +20,37 @@ fault_of _ = fault.Store
 -- the file of the full-text store, beside that of the plain tables
 abbrev pub store_path : List ℕ → List ℕ
 store_path path = path ++ codes "-fts4"
+
+-- what a call opens, and why it opens nothing
+pub record Opens {X : Type 0} (result : Result X OpenFault) (Is : X → Type 0) (IsCause : OpenFault → Type 0) : Type 0 where
+  pub opened : IfOk result Is
+  pub refused : IfErr result IsCause
+
+-- a new connection to the plain tables of a file
+pub record IsPlain {P : Type 0} (g : Ghosts P) (IsOpened : Held P → Type 0) (conn : Held P) : Type 0 where
+  pub opened : HasCleanDisk (state g conn) → IsOpened conn
+  pub fresh : IsNew conn
+
+-- a new connection to no plain tables
+pub record IsNoPlain {P : Type 0} (g : Ghosts P) (conn : Held P) : Type 0 where
+  pub empty : IsEmpty (state g conn)
+  pub clean : HasCleanDisk (state g conn)
+  pub fresh : IsNew conn
+
+-- an empty store, of which no row was read
+pub record IsNoStore {S : Type 0} (h : Ghosts S) (store : StoreState S) : Type 0 where
+  pub empty : value_in h store ≡ nothing_held
+  pub clean : HasCleanDisk (shows h store)
+  pub unread : store.rows_read ≡ 0
+
+-- both databases, in files
+pub record OpensFiles {P S : Type 0} (g : Ghosts P) (IsOpened : Held P → Type 0) (result : Result (Held P × StoreState S) OpenFault) : Type 0 where
+  pub opened : IfOk result (λ both. HasCleanDisk (state g both.0) → IsOpened both.0)
+  pub unread : IfOk result (λ both. both.1.rows_read ≡ 0)
+
+-- both databases, empty and in memory
+pub record OpensMemory {P S : Type 0} (g : Ghosts P) (h : Ghosts S) (result : Result (Held P × StoreState S) OpenFault) : Type 0 where
+  pub plain : IfOk result (λ both. IsEmpty (state g both.0))
+  pub store : IfOk result (λ both. value_in h both.1 ≡ nothing_held)
+  pub clean : IfOk result (λ both. HasCleanDisk (state g both.0) × HasCleanDisk (shows h both.1))
+  pub refused : IfErr result (λ f. (f ≡ fault.Database) ⊎ (f ≡ fault.Store))

@@ -1,5 +1,5 @@
 -- Meaning. The bytes of a file that is imported (own choice).
-use Rattle.std.specs.Prelude.{ℕ, ◌≡◌, ◌⊎◌, ◌<◌, ◌≤◌, ◌^◌, true, List, length, Option, None, IfSome}
+use Rattle.std.specs.Prelude.{ℕ, ◌≡◌, ◌⊎◌, ◌<◌, ◌≤◌, ◌^◌, true, List, length, Option, None, Result, Vec, IfSome, IfOk, IfErr}
 use Rattle.std.specs.declared.io.ErrorKind.{ErrorKind}
 use Rattle.std.specs.declared.io.ErrorKind.TheVariants as kind
 use Rattle.plain_shell.specs.declared.source.SourceFault.{SourceFault}
@@ -23,3 +23,8 @@ AreAll known bytes = (length bytes ≤ 2 ^ 26) × IfSome known (λ all. bytes �
 -- It is too big only where the reader had more; any other fault is one of its own.
 abbrev pub IsRefused : Option (List ℕ) → SourceFault → Type 0
 IsRefused known why = ((why ≡ fault.TooBig) × IfSome known (λ all. 2 ^ 26 < length all)) ⊎ ((own : ErrorKind) × (why ≡ fault_of own))
+
+-- the bytes of a reader that had these, where they are known, or why they are refused
+pub record ReadsAll {A : Type 0} (known : Option (List ℕ)) (result : Result (Vec ℕ A) SourceFault) : Type 0 where
+  pub whole : IfOk result (λ bytes. AreAll known bytes.items)
+  pub refused : IfErr result (IsRefused known)

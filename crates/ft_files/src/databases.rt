@@ -1,12 +1,8 @@
 //! The two databases: the plain tables and the full-text store.
 
-ghost use Rattle.std.specs.Prelude.{◌≡◌, ◌⊎◌, string_bytes, IfOk, IfErr};
-ghost use Rattle.sqlite.specs.Files.{IsOpened, file_state, over_files};
-ghost use Rattle.sqlite.specs.Held.{IsNew};
-ghost use Rattle.sqlite.specs.State.{HasCleanDisk};
-ghost use Rattle.sqlite.specs.Steps.{IsEmpty};
-ghost use Rattle.ft_store.specs.Kept.{shows, value_in};
-ghost use Rattle.ft_rows.specs.Store.{nothing_held};
+ghost use Rattle.std.specs.Prelude.{◌≡◌, string_bytes, IfOk};
+ghost use Rattle.sqlite.specs.Files.{IsOpened, over_files};
+ghost use Rattle.ft_files.specs.Opening.{Opens, OpensFiles, OpensMemory, IsPlain, IsNoPlain, IsNoStore};
 ghost use Rattle.ft_files.specs.Opening as forms;
 ghost use Rattle.ft_files.specs.declared.databases.OpenFault.TheVariants as fault;
 
@@ -45,9 +41,7 @@ fn store_path(alloc: Global, path: &str) -> Result<String, AllocError>
 
 // The plain tables in a file, which is made where it isn't there.
 fn open_plain(rt: &HostRuntime, path: &str) -> Result<Connection<FileStore<File>>, OpenFault>
-    ensures opened { IfOk result (λ conn. HasCleanDisk (file_state conn) → IsOpened conn) }
-    ensures fresh { IfOk result IsNew }
-    ensures refused { IfErr result (λ f. f ≡ fault.Database) }
+    ensures { Opens result (IsPlain over_files IsOpened) (λ f. f ≡ fault.Database) }
 {
     match open_database(rt, path, Unknown) {
         Ok(conn) => Ok(conn),
@@ -58,8 +52,8 @@ fn open_plain(rt: &HostRuntime, path: &str) -> Result<Connection<FileStore<File>
 // The full-text store in the file beside that of the plain tables, which is made where it isn't there, with the access that
 // the other has.
 fn open_store(rt: &HostRuntime, path: &str) -> Result<Store<FileStore<File>>, OpenFault>
-    ensures unread { IfOk result (λ store. store.rows_read ≡ 0) }
-    ensures refused { IfErr result (λ f. (cause : StoreFault) × (f ≡ forms.fault_of cause)) }
+    ensures { Opens result (λ store. store.rows_read ≡ 0)
+        (λ f. (cause : StoreFault) × (f ≡ forms.fault_of cause)) }
 {
     let Ok(beside) = store_path(rt.alloc(), path) else {
         return Err(store_fault(StoreFault::Memory));
@@ -75,10 +69,7 @@ fn open_store(rt: &HostRuntime, path: &str) -> Result<Store<FileStore<File>>, Op
 
 // No plain tables, in memory. The statements know the time.
 fn plain_in_memory(rt: &HostRuntime) -> Result<Connection<FileStore<Ram>>, OpenFault>
-    ensures empty { IfOk result (λ conn. IsEmpty (file_state conn)) }
-    ensures clean { IfOk result (λ conn. HasCleanDisk (file_state conn)) }
-    ensures fresh { IfOk result IsNew }
-    ensures refused { IfErr result (λ f. f ≡ fault.Database) }
+    ensures { Opens result (IsNoPlain over_files) (λ f. f ≡ fault.Database) }
 {
     match open_ram(rt.alloc()) {
         Ok(mut conn) => {
@@ -91,10 +82,7 @@ fn plain_in_memory(rt: &HostRuntime) -> Result<Connection<FileStore<Ram>>, OpenF
 
 // An empty full-text store in memory.
 fn store_in_memory(alloc: Global) -> Result<Store<FileStore<Ram>>, OpenFault>
-    ensures empty { IfOk result (λ store. value_in over_files store ≡ nothing_held) }
-    ensures clean { IfOk result (λ store. HasCleanDisk (shows over_files store)) }
-    ensures unread { IfOk result (λ store. store.rows_read ≡ 0) }
-    ensures refused { IfErr result (λ f. f ≡ fault.Store) }
+    ensures { Opens result (IsNoStore over_files) (λ f. f ≡ fault.Store) }
 {
     match Store::open_memory(alloc) {
         Ok(store) => Ok(store),
@@ -107,8 +95,7 @@ pub fn open_files(
     rt: &HostRuntime,
     path: &str,
 ) -> Result<(Connection<FileStore<File>>, Store<FileStore<File>>), OpenFault>
-    ensures opened { IfOk result (λ both. HasCleanDisk (file_state both.0) → IsOpened both.0) }
-    ensures unread { IfOk result (λ both. both.1.rows_read ≡ 0) }
+    ensures { OpensFiles over_files IsOpened result }
 {
     let plain = open_plain(rt, path)?;
     let store = open_store(rt, path)?;
@@ -119,11 +106,7 @@ pub fn open_files(
 pub fn open_in_memory(
     rt: &HostRuntime,
 ) -> Result<(Connection<FileStore<Ram>>, Store<FileStore<Ram>>), OpenFault>
-    ensures plain { IfOk result (λ both. IsEmpty (file_state both.0)) }
-    ensures store { IfOk result (λ both. value_in over_files both.1 ≡ nothing_held) }
-    ensures clean { IfOk result (λ both. HasCleanDisk (file_state both.0)
-        × HasCleanDisk (shows over_files both.1)) }
-    ensures refused { IfErr result (λ f. (f ≡ fault.Database) ⊎ (f ≡ fault.Store)) }
+    ensures { OpensMemory over_files over_files result }
 {
     let plain = plain_in_memory(rt)?;
     let store = store_in_memory(rt.alloc())?;

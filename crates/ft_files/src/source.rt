@@ -1,8 +1,8 @@
 //! The files of the system, as an import reads them.
 
-ghost use Rattle.ft_files.specs.Reading.{unknown_files, AreAll, IsRefused};
+ghost use Rattle.ft_files.specs.Reading.{unknown_files, ReadsAll};
 ghost use Rattle.ft_files.specs.Reading as forms;
-ghost use Rattle.std.specs.Prelude.{◌≡◌, IfOk, IfErr};
+ghost use Rattle.std.specs.Prelude.{◌≡◌};
 ghost use Rattle.std.specs.IoError.{error_kind};
 
 use plain_shell::{Source, SourceFault};
@@ -32,8 +32,7 @@ fn fault_of(error: io::Error) -> SourceFault
 
 // The bytes of a reader, to its end. At most 64 MiB and one byte are read.
 fn read_all<R: Read + Drop>(alloc: Global, reader: R) -> Result<Vec<u8>, SourceFault>
-    ensures whole { IfOk result (λ bytes. AreAll (R.remaining reader) bytes.items) }
-    ensures refused { IfErr result (IsRefused (R.remaining reader)) }
+    ensures { ReadsAll (R.remaining reader) result }
 {
     let mut bytes = Vec::new(alloc);
     match reader.take(MOST_BYTES + 1).read_to_end(&mut bytes) {

@@ -12,22 +12,21 @@ use Rattle.ft_content.specs.Deserved.{reading_fault}
 use Rattle.ft_content.specs.Views.{bare_content}
 use Rattle.ft_content.proofs.query.read_query.Goals as goal
 
-pub returns-in-Ok-clause-query : goal.returns-in-Ok-clause-query
+pub returns-in-Ok : goal.returns-in-Ok
 unfolding reading
-returns-in-Ok-clause-query c =
-    sym (λ i. query_of ((ap (map string_bytes) c.as_slice.ensures.value ∙ c.in_ok-names.ensures) i) (c.column_place-default.ensures i) c.args.text.now) ∙ c.in-Ok.ensures.ok
-
-pub returns-in-Ok-clause-fine : goal.returns-in-Ok-clause-fine
-returns-in-Ok-clause-fine c = ap reading_fault (returns-in-Ok-clause-query c)
+returns-in-Ok c =
+    let read = sym (λ i. query_of ((ap (map string_bytes) c.as_slice.ensures.value ∙ c.in_ok-names.ensures) i) (c.column_place-default.ensures i) c.args.text.now) ∙ c.in-Ok.ensures.ok in
+    record { query = read; fine = ap reading_fault read; fault = tt }
 
 -- a fault of the parser that isn't want of memory is what the text deserves
 deserved_fault : (fault : Fault) (q : QueryFault) (read : Result (Option Tree) QueryFault) → reading_fault (Err q) ≡ Some fault → (q ≢ query.Memory → read ≡ Err q) →
     fault ≢ faults.Memory → reading_fault read ≡ Some fault
 deserved_fault fault q read gives known other = ap reading_fault (known (λ e. let same : Some faults.Memory ≡ Some fault = sym (ap (λ k. reading_fault (Err k)) e) ∙ gives in other (cc))) ∙ gives
 
-pub returns-clause-fault : goal.returns-clause-fault
+pub returns : goal.returns
 unfolding reading
-returns-clause-fault c =
+returns c =
     let content = bare_content c.args.columns.now in
-    deserved_fault c.fault_of.result c.in-Err.fault (reading content c.args.name.now c.args.text.now) c.fault_of.ensures
-    (λ other. sym (λ i. query_of ((ap (map string_bytes) c.as_slice.ensures.value ∙ c.in_ok-names.ensures) i) (c.column_place-default.ensures i) c.args.text.now) ∙ c.in-Err.ensures.fault other)
+    let fault = deserved_fault c.fault_of.result c.in-Err.fault (reading content c.args.name.now c.args.text.now) c.fault_of.ensures
+    (λ other. sym (λ i. query_of ((ap (map string_bytes) c.as_slice.ensures.value ∙ c.in_ok-names.ensures) i) (c.column_place-default.ensures i) c.args.text.now) ∙ c.in-Err.ensures.fault other) in
+    record { query = tt; fine = tt; fault = fault }

@@ -20,17 +20,14 @@ whole c =
     ∙ ap (λ (items : List Item). flat_map (cells (to_z w64 (of_z w64 c.args.docid))) (map item_of items)) (take_all c.loop-item.item-index c.args.items.now c.loop-item-test.false)
     ∙ ap (λ (docid : ℤ). flat_map (cells docid) (map item_of c.args.items.now)) back
 
-pub returns-clause-given : goal.returns-clause-given
-returns-clause-given c = whole c
-
-pub returns-clause-asked : goal.returns-clause-asked
-returns-clause-asked c = λ query same.
+pub returns : goal.returns
+returns c =
     let content = bare_content c.args.columns.now in
+    let items = map item_of c.args.items.now in
     let document : ℤ × List Cell = (c.args.docid, map shown_value c.args.cells.now) in
-    whole c ∙ ap (λ (cell : Cell). flat_map (cells_with cell content document) (map item_of c.args.items.now)) (sym same) ∙ sym (item_cells_are query content document (map item_of c.args.items.now))
-
-pub returns-clause-unasked : goal.returns-clause-unasked
-returns-clause-unasked c = λ query none.
-    let content = bare_content c.args.columns.now in
-    let document : ℤ × List Cell = (c.args.docid, map shown_value c.args.cells.now) in
-    whole c ∙ offsets_unasked (Text c.args.offsets.now) (offsets_cell query content document) content document (map item_of c.args.items.now) none ∙ sym (item_cells_are query content document (map item_of c.args.items.now))
+    record {
+      asked = λ query same. whole c ∙ ap (λ (cell : Cell). flat_map (cells_with cell content document) items) (sym same) ∙ sym (item_cells_are query content document items);
+      unasked = λ query none.
+          whole c ∙ offsets_unasked (Text c.args.offsets.now) (offsets_cell query content document) content document items none ∙ sym (item_cells_are query content document items);
+      given = whole c;
+    }
