@@ -131,7 +131,6 @@ impl<P: Alter, S: Alter> Session<P, S> {
             (O.contents out.old) (E.contents err.old))
             (console_of (lent self.new (F.holds source.new)) (R.remaining reader.new)
             (O.contents out.new) (E.contents err.new))) }
-        ensures source { (name : List ℕ) → F.holds source.new name ≡ F.holds source.old name }
     {
         blocks_read_whole();
         let mut feed = Feed::new(self.alloc)?;
@@ -193,7 +192,6 @@ impl<P: Alter, S: Alter> Session<P, S> {
             (O.contents out.new) (E.contents err.new))) }
         ensures waiting { IfOk result (λ n. 0 < n → status.new.quit ≡ false
             → feed.new.splitting.waiting ≡ []) }
-        ensures source { (name : List ℕ) → F.holds source.new name ≡ F.holds source.old name }
     {
         let read = read_chunk(reader, chunk)?;
         if read == 0 {
@@ -224,7 +222,6 @@ impl<P: Alter, S: Alter> Session<P, S> {
             (moment_of (lent self.new (F.holds source.new)) status.new
             (O.contents out.new) (E.contents err.new)) }
         ensures waiting { OnOk result (status.new.quit ≡ false → feed.new.splitting.waiting ≡ []) }
-        ensures source { (name : List ℕ) → F.holds source.new name ≡ F.holds source.old name }
     {
         for byte in bytes {
             if status.quit {
@@ -254,7 +251,6 @@ impl<P: Alter, S: Alter> Session<P, S> {
             (moment_of (lent self.new (F.holds source.new)) status.new
             (O.contents out.new) (E.contents err.new)) }
         ensures waiting { OnOk result (status.new.quit ≡ false → feed.new.splitting.waiting ≡ []) }
-        ensures source { (name : List ℕ) → F.holds source.new name ≡ F.holds source.old name }
     {
         if byte == b'\n' {
             return self.end_line(feed, status, source, out, err);
@@ -283,7 +279,6 @@ impl<P: Alter, S: Alter> Session<P, S> {
             (O.contents out.new) (E.contents err.new)) }
         ensures waiting { OnOk result (status.new.quit ≡ false → feed.new.splitting.waiting ≡ []) }
         ensures line { OnOk result (feed.new.line ≡ []) }
-        ensures source { (name : List ℕ) → F.holds source.new name ≡ F.holds source.old name }
     {
         let refused = feed.end_line()?;
         self.refuse_some(&refused, status, out, err)?;
@@ -310,7 +305,6 @@ impl<P: Alter, S: Alter> Session<P, S> {
             (O.contents out.new) (E.contents err.new)) }
         ensures waiting { OnOk result (status.new.quit ≡ false → feed.new.splitting.waiting ≡ []) }
         ensures line { feed.new.line ≡ feed.old.line }
-        ensures source { (name : List ℕ) → F.holds source.new name ≡ F.holds source.old name }
     {
         while !status.quit {
             let Some(unit) = feed.next() else {
@@ -329,13 +323,12 @@ impl<P: Alter, S: Alter> Session<P, S> {
         out: &mut O,
         err: &mut E,
     ) -> Result<(), RunFault>
-        ensures runs { Runs P.Store S.Store result
+        ensures { Runs P.Store S.Store result
             (λ (rest : List Member). member_of_unit unit.now ∷ rest) (λ (rest : List Member). rest)
             (moment_of (lent self.old (F.holds source.old)) status.old
             (O.contents out.old) (E.contents err.old))
             (moment_of (lent self.new (F.holds source.new)) status.new
             (O.contents out.new) (E.contents err.new)) }
-        ensures source { (name : List ℕ) → F.holds source.new name ≡ F.holds source.old name }
     {
         echo_text(self.settings.echo(), unit.text.as_str(), out)?;
         let told = unit_turn(
@@ -406,7 +399,6 @@ impl<P: Alter, S: Alter> Session<P, S> {
             (O.contents out.new) (E.contents err.new)) }
         ensures waiting { OnOk result (status.new.quit ≡ false → feed.new.splitting.waiting ≡ []) }
         ensures line { OnOk result (feed.new.line ≡ []) }
-        ensures source { (name : List ℕ) → F.holds source.new name ≡ F.holds source.old name }
     {
         if feed.is_between_lines() {
             return Ok(());
@@ -425,13 +417,12 @@ impl<P: Alter, S: Alter> Session<P, S> {
     ) -> Result<(), RunFault>
         requires waiting { feed.old.splitting.waiting ≡ [] }
         requires quit { status.old.quit ≡ false }
-        ensures runs { Runs P.Store S.Store result (λ (_ : ⊤). members_left feed.old [])
+        ensures { Runs P.Store S.Store result (λ (_ : ⊤). members_left feed.old [])
             (λ (_ : ⊤). [])
             (moment_of (lent self.old (F.holds source.old)) status.old
             (O.contents out.old) (E.contents err.old))
             (moment_of (lent self.new (F.holds source.new)) status.new
             (O.contents out.new) (E.contents err.new)) }
-        ensures source { (name : List ℕ) → F.holds source.new name ≡ F.holds source.old name }
     {
         self.finish_line(feed, status, source, out, err)?;
         if status.quit {
@@ -451,13 +442,12 @@ impl<P: Alter, S: Alter> Session<P, S> {
     ) -> Result<(), RunFault>
         requires waiting { feed.old.splitting.waiting ≡ [] }
         requires between { feed.old.line ≡ [] }
-        ensures runs { Runs P.Store S.Store result (λ (_ : ⊤). members_left feed.old [])
+        ensures { Runs P.Store S.Store result (λ (_ : ⊤). members_left feed.old [])
             (λ (_ : ⊤). [])
             (moment_of (lent self.old (F.holds source.old)) status.old
             (O.contents out.old) (E.contents err.old))
             (moment_of (lent self.new (F.holds source.new)) status.new
             (O.contents out.new) (E.contents err.new)) }
-        ensures source { (name : List ℕ) → F.holds source.new name ≡ F.holds source.old name }
     {
         match feed.finish() {
             Ok(Some(unit)) => self.run_unit(&unit, status, source, out, err),

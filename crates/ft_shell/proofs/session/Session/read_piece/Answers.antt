@@ -15,7 +15,7 @@ returns-in_err-finish-clause-err g c =
     let none : c.in_ok-read.read ≡ 0 = search rules in
     let consumed : Consumes (g.R.Read.remaining c.args.reader.now) (g.R.Read.remaining c.read_chunk.new.reader) [] = subst (λ n. Consumes (g.R.Read.remaining c.args.reader.now) (g.R.Read.remaining c.read_chunk.new.reader) (take n c.read_chunk.new.chunk)) none c.in_ok-read.ensures.bytes in
     interrupted_at_end g.P.Store g.S.Store c.from_residual-in_err-finish.result c.in_err-finish.field-0.0 _ _ _ _ _ _ is consumed
-    (c.in_ok-read.ensures.end none (omega (arith, c.requires.chunk, c.read_chunk.auto.chunk))) c.in_err-finish.ensures.runs
+    (c.in_ok-read.ensures.end none (omega (arith, c.requires.chunk, c.read_chunk.auto.chunk))) c.in_err-finish.ensures
 
 pub returns-in_err-take-clause-err : goal.returns-in_err-take-clause-err
 returns-in_err-take-clause-err g c =

@@ -22,7 +22,6 @@ loop-total-init g c = record {
   size = omega (arith, c.in_ok-chunk.chunk.ok.0, c.in_ok-chunk.ensures.len);
   waits = ap (λ (f : Fed). f.splitting.waiting) c.in_ok-feed.ensures;
   goes = refl;
-  source = λ name. refl;
 }
 
 pub returns-in_err-flush-clause-err : goal.returns-in_err-flush-clause-err
@@ -38,9 +37,6 @@ returns-in_err-read-clause-err g c =
     if_err_at _ c.from_residual-in_err-read.result c.in_err-read.field-0.0 is
     (stops_in_piece g.P.Store g.S.Store c.in_err-read.field-0.0 (2 ^ 30) c.loop-total.total _ _ _ _ _ _ _ _ _ _ refl (so_far_kept g.P.Store g.S.Store (2 ^ 30) c.loop-total.total _ _ _ _ _ _ c.loop-total.invariant.run c.flush.ensures.bytes) c.loop-total.invariant.goes c.loop-total-test.true refl c.in_err-read.ensures.err)
 
-pub returns-in_err-read-clause-source : goal.returns-in_err-read-clause-source
-returns-in_err-read-clause-source g c = λ name. c.read_piece.ensures.source name ∙ c.loop-total.invariant.source name
-
 pub returns-in_err-flush-2-clause-err : goal.returns-in_err-flush-2-clause-err
 returns-in_err-flush-2-clause-err g c =
     let is : c.from_residual-in_err-flush-2.result ≡ Err c.in_err-flush-2.field-0.0 = search (rules, c.from_residual-in_err-flush-2.ensures) in
@@ -49,16 +45,10 @@ returns-in_err-flush-2-clause-err g c =
     (stops_at_flush g.P.Store g.S.Store c.in_err-flush-2.field-0.0 (2 ^ 30) c.loop-total.total _ c.in_ok-read.read _ _ _ _ _ _ _ _ _ _ _ refl (so_far_kept g.P.Store g.S.Store (2 ^ 30) c.loop-total.total _ _ _ _ _ _ c.loop-total.invariant.run c.flush.ensures.bytes) c.loop-total.invariant.goes c.loop-total-test.true refl c.in_ok-read.ensures.ok
     (some_or_none c.in_ok-read.read) c.flush-then-is_over.ensures.bytes cause)
 
-pub returns-in_err-flush-2-clause-source : goal.returns-in_err-flush-2-clause-source
-returns-in_err-flush-2-clause-source g c = λ name. c.read_piece.ensures.source name ∙ c.loop-total.invariant.source name
-
 pub returns-then-is_over-clause-ok : goal.returns-then-is_over-clause-ok
 returns-then-is_over-clause-ok g c =
     completes g.P.Store g.S.Store (2 ^ 30) c.loop-total.total _ c.in_ok-read.read _ _ _ _ _ _ _ _ _ _ _ refl (so_far_kept g.P.Store g.S.Store (2 ^ 30) c.loop-total.total _ _ _ _ _ _ c.loop-total.invariant.run c.flush.ensures.bytes) c.loop-total.invariant.goes c.loop-total-test.true refl c.in_ok-read.ensures.ok
     (c.is_over.ensures.over c.if-is_over.true) c.flush-then-is_over.ensures.bytes c.is_over.ensures.fits
-
-pub returns-then-is_over-clause-source : goal.returns-then-is_over-clause-source
-returns-then-is_over-clause-source g c = λ name. c.read_piece.ensures.source name ∙ c.loop-total.invariant.source name
 
 pub loop-total-preserved : goal.loop-total-preserved
 loop-total-preserved g c =
@@ -71,7 +61,6 @@ loop-total-preserved g c =
           omega (arith, whole, c.loop-total.invariant.size, c.loop-total.chunk.ok.0);
       waits = c.in_ok-read.ensures.waiting goes.0 goes.1;
       goes = goes.1;
-      source = λ name. c.read_piece.ensures.source name ∙ c.loop-total.invariant.source name;
     }
 
 pub returns-clause-err : goal.returns-clause-err

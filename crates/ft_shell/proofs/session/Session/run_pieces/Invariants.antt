@@ -4,12 +4,11 @@ use Rattle.ft_shell.specs.Shell.{lent}
 use Rattle.ft_shell.proofs.RunLemmas.{SoFar, opening}
 use Rattle.ft_shell.proofs.session.Session.run_pieces.Given as goal
 
-pub record Kept (run_far has_size is_waiting goes_on has_source : Type 0) : Type 0 where
+pub record Kept (run_far has_size is_waiting goes_on : Type 0) : Type 0 where
   pub run : run_far
   pub size : has_size
   pub waits : is_waiting
   pub goes : goes_on
-  pub source : has_source
 
 abbrev pub invariant-loop-total : goal.invariant-loop-total
 invariant-loop-total g l = Kept
@@ -17,7 +16,6 @@ invariant-loop-total g l = Kept
     (opening (lent l.fn.self (g.F.Source.holds l.fn.source)) (g.O.Write.contents l.fn.out) (g.E.Write.contents l.fn.err))
     (record { shell = lent l.self (g.F.Source.holds l.source); status = l.status; out = g.O.Write.contents l.out; err = g.E.Write.contents l.err }))
     (0 < length l.chunk.items) (l.feed.splitting.waiting ≡ []) (l.status.quit ≡ false)
-    ((name : List ℕ) → g.F.Source.holds l.source name ≡ g.F.Source.holds l.fn.source name)
 
 abbrev pub decreases-loop-total : goal.decreases-loop-total
 decreases-loop-total g l = 2 ^ 30 + 1 - l.total

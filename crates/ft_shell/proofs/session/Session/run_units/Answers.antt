@@ -10,7 +10,6 @@ pub loop-status-init : goal.loop-status-init
 loop-status-init g c = record {
   run = passes_none g.P.Store g.S.Store _ _ _ (λ rest. refl);
   line = refl;
-  source = λ name. refl;
 }
 
 pub returns-in_err-run_unit-clause-runs : goal.returns-in_err-run_unit-clause-runs
@@ -21,7 +20,7 @@ returns-in_err-run_unit-clause-runs g c =
     runs_err g.P.Store g.S.Store c.from_residual.result c.in_err-run_unit.field-0.0 _ _ _ _ is
     (runs_then {T = Unit {0}} g.P.Store g.S.Store (Err c.in_err-run_unit.field-0.0) _ _ (λ (rest : List ℕ). members_left c.next.new.self rest) _ _ _ c.loop-status.invariant.run goes
     (runs_as {T = Unit {0}} g.P.Store g.S.Store (Err c.in_err-run_unit.field-0.0) (λ (rest : List Member). unit ∷ rest) (λ (rest : List Member). rest) (λ (rest : List ℕ). members_left c.loop-status.feed rest) (λ rest. members_left c.next.new.self rest) (λ rest. members_left c.next.new.self rest) _ _
-    (λ rest. c.in-Some.ensures.some.0 rest) (λ rest goes. refl) c.in_err-run_unit.ensures.runs))
+    (λ rest. c.in-Some.ensures.some.0 rest) (λ rest goes. refl) c.in_err-run_unit.ensures))
 
 pub loop-status-preserved : goal.loop-status-preserved
 loop-status-preserved g c =
@@ -30,9 +29,8 @@ loop-status-preserved g c =
     record {
       run = passes_then g.P.Store g.S.Store _ _ _ _ _ _ c.loop-status.invariant.run goes
           (passes_as g.P.Store g.S.Store (λ (rest : List Member). unit ∷ rest) (λ (rest : List Member). rest) (λ (rest : List ℕ). members_left c.loop-status.feed rest) (λ rest. members_left c.next.new.self rest) (λ rest. members_left c.next.new.self rest) _ _
-          (λ rest. c.in-Some.ensures.some.0 rest) (λ rest goes. refl) c.in_ok-run_unit.ensures.runs);
+          (λ rest. c.in-Some.ensures.some.0 rest) (λ rest goes. refl) c.in_ok-run_unit.ensures);
       line = c.in-Some.ensures.some.2 ∙ c.loop-status.invariant.line;
-      source = λ name. c.run_unit.ensures.source name ∙ c.loop-status.invariant.source name;
     }
 
 pub returns-in_default-clause-runs : goal.returns-in_default-clause-runs

@@ -5,10 +5,9 @@ use Rattle.ft_shell.specs.Shell.{lent}
 use Rattle.ft_shell.specs.Ran.{Passes}
 use Rattle.ft_shell.proofs.session.Session.run_units.Given as goal
 
-pub record Kept (run_far has_line has_source : Type 0) : Type 0 where
+pub record Kept (run_far has_line : Type 0) : Type 0 where
   pub run : run_far
   pub line : has_line
-  pub source : has_source
 
 abbrev pub invariant-loop-status : goal.invariant-loop-status
 invariant-loop-status g l = Kept
@@ -16,7 +15,6 @@ invariant-loop-status g l = Kept
     (record { shell = lent l.fn.self (g.F.Source.holds l.fn.source); status = l.fn.status; out = g.O.Write.contents l.fn.out; err = g.E.Write.contents l.fn.err })
     (record { shell = lent l.self (g.F.Source.holds l.source); status = l.status; out = g.O.Write.contents l.out; err = g.E.Write.contents l.err }))
     (l.feed.line ≡ l.fn.feed.line)
-    ((name : List ℕ) → g.F.Source.holds l.source name ≡ g.F.Source.holds l.fn.source name)
 
 abbrev pub decreases-loop-status : goal.decreases-loop-status
 decreases-loop-status g l = length l.feed.splitting.waiting

@@ -9,7 +9,6 @@ pub loop-byte-init : goal.loop-byte-init
 loop-byte-init g c = record {
   run = passes_none g.P.Store g.S.Store _ _ _ (λ rest. refl);
   waits = c.requires;
-  source = λ name. refl;
 }
 
 pub returns-then-status-clause-runs : goal.returns-then-status-clause-runs
@@ -40,7 +39,6 @@ loop-byte-preserved g c =
           (passes_as g.P.Store g.S.Store (λ (rest : List ℕ). members_left c.loop-byte.feed (byte ∷ rest)) (λ (rest : List ℕ). members_left c.take_byte.new.feed rest) (λ (rest : List ℕ). members_left c.loop-byte.feed (drop i bytes ++ rest)) (λ (rest : List ℕ). members_left c.take_byte.new.feed (drop (i + 1) bytes ++ rest)) (λ rest. drop (i + 1) bytes ++ rest) _ _
           (λ rest. ap (λ xs. members_left c.loop-byte.feed (xs ++ rest)) (drop_more bytes i 0 c.loop-byte-test.true)) (λ rest goes. refl) c.in_ok-take_byte.ensures.runs);
       waits = c.in_ok-take_byte.ensures.waiting;
-      source = λ name. c.take_byte.ensures.source name ∙ c.loop-byte.invariant.source name;
     }
 
 pub returns-clause-runs : goal.returns-clause-runs

@@ -5,10 +5,9 @@ use Rattle.ft_shell.specs.Shell.{lent}
 use Rattle.ft_shell.specs.Ran.{Passes}
 use Rattle.ft_shell.proofs.session.Session.take.Given as goal
 
-pub record Kept (run_far is_waiting has_source : Type 0) : Type 0 where
+pub record Kept (run_far is_waiting : Type 0) : Type 0 where
   pub run : run_far
   pub waits : is_waiting
-  pub source : has_source
 
 abbrev pub invariant-loop-byte : goal.invariant-loop-byte
 invariant-loop-byte g l = Kept
@@ -16,4 +15,3 @@ invariant-loop-byte g l = Kept
     (record { shell = lent l.fn.self (g.F.Source.holds l.fn.source); status = l.fn.status; out = g.O.Write.contents l.fn.out; err = g.E.Write.contents l.fn.err })
     (record { shell = lent l.self (g.F.Source.holds l.source); status = l.status; out = g.O.Write.contents l.out; err = g.E.Write.contents l.err }))
     (l.status.quit ≡ false → l.feed.splitting.waiting ≡ [])
-    ((name : List ℕ) → g.F.Source.holds l.source name ≡ g.F.Source.holds l.fn.source name)
