@@ -9,12 +9,12 @@ returns-in_err-finish_line g c =
     let is : c.from_residual.result ≡ Err c.in_err-finish_line.field-0.0 = search rules in
     runs_err g.P.Store g.S.Store c.from_residual.result c.in_err-finish_line.field-0.0 (λ (_ : Unit {0}). members_left c.args.feed.now []) (λ _. []) _ _ is c.in_err-finish_line.ensures.runs
 
-pub returns-then-status : goal.returns-then-status
-returns-then-status g c =
-    let ended : c.finish_line.new.status.quit ≡ true = search rules in
+pub returns-then-outputs : goal.returns-then-outputs
+returns-then-outputs g c =
+    let ended : c.finish_line.new.outputs.status.quit ≡ true = search rules in
     passes_as g.P.Store g.S.Store _ _ _ _ (λ (u : Unit {0}). u) _ _ (λ _. refl) (λ _ goes. absurd (let wrong : true ≡ false = sym ended ∙ goes in cc)) c.in_ok-finish_line.ensures.runs
 
 pub returns : goal.returns
 returns g c =
-    let goes : c.finish_line.new.status.quit ≡ false = search rules in
+    let goes : c.finish_line.new.outputs.status.quit ≡ false = search rules in
     runs_then g.P.Store g.S.Store c.finish_last.result _ _ _ _ _ _ c.in_ok-finish_line.ensures.runs goes c.finish_last.ensures
