@@ -6,6 +6,7 @@ use Rattle.shell_text.specs.Print.{Settings}
 use Rattle.ft_store.specs.Kept.{StoreState, value_in}
 use Rattle.ft_index.specs.Kept.{FullText, Holds, IsUp, StoreHolds}
 use Rattle.ft_index.specs.Opened.{Opens}
+use Rattle.plain_shell.specs.declared.run.Outputs.{Outputs as RustOutputs}
 use Rattle.plain_shell.specs.declared.run.Status.{Status}
 use Rattle.plain_shell.specs.declared.run.RunFault.{RunFault}
 use Rattle.plain_shell.specs.declared.run.RunFault.TheVariants as causes
@@ -30,18 +31,18 @@ pub record Outputs : Type 0 where
   pub out : Option (List ℕ)
   pub err : Option (List ℕ)
 
--- such outputs, of both parts
-abbrev pub outputs_of : Option (List ℕ) → Option (List ℕ) → Outputs
-outputs_of out err = record { out = out; err = err }
+-- those of the outputs of a run, whose writers hold what these functions read
+abbrev pub outputs_of : {O E : Type 0} → (O → Option (List ℕ)) → (E → Option (List ℕ)) → RustOutputs O E → Outputs
+outputs_of out_of err_of outputs = record { out = out_of outputs.out; err = err_of outputs.err }
 
 -- a session between two inputs
 pub record Stage (P S : Type 0) : Type 0 where
   pub parts : Parts P S
   pub on : Outputs
 
--- such a stage, of its parts and both outputs
-abbrev pub stage_of : {P S : Type 0} → Parts P S → Option (List ℕ) → Option (List ℕ) → Stage P S
-stage_of parts out err = record { parts = parts; on = outputs_of out err }
+-- such a stage, of its parts and the outputs of a run
+abbrev pub stage_of : {P S O E : Type 0} → (O → Option (List ℕ)) → (E → Option (List ℕ)) → Parts P S → RustOutputs O E → Stage P S
+stage_of out_of err_of parts outputs = record { parts = parts; on = outputs_of out_of err_of outputs }
 
 -- as a run has it, with what is left of its input
 abbrev pub console : {P S : Type 0} → Stage P S → Option (List ℕ) → Console P S

@@ -3,6 +3,7 @@
 
 mod start;
 
+use ft_shell::Outputs;
 use start::start;
 use std::env;
 use std::io::{self, BufWriter, ErrorKind, Write};
@@ -19,14 +20,9 @@ fn words_fault(kind: ErrorKind) -> &'static str {
 fn run(rt: &HostRuntime) -> io::Result<u8> {
     let texts: Vec<String> = env::args(rt)?.skip(1).collect(rt.alloc())?;
     let words: Vec<&str> = texts.iter().map(|text| text.as_str()).collect(rt.alloc())?;
-    let mut out = BufWriter::new(rt.alloc(), rt.stdout())?;
-    Ok(start(
-        rt,
-        words.as_slice(),
-        &mut rt.stdin(),
-        &mut out,
-        &mut rt.stderr(),
-    ))
+    let out = BufWriter::new(rt.alloc(), rt.stdout())?;
+    let mut outputs = Outputs::new(out, rt.stderr());
+    Ok(start(rt, words.as_slice(), &mut rt.stdin(), &mut outputs))
 }
 
 fn main(rt: HostRuntime) -> ExitCode {

@@ -10,7 +10,7 @@ ghost use Rattle.ft_main.specs.Memory.{RefusesLine, RunsInMemory, RunsLine, Star
 use ft_files::{OpenFault, SystemFiles, open_files, open_in_memory};
 use ft_index::FullText;
 use ft_line::{Line, LineFault, read_line};
-use ft_shell::{RunFault, Session, Status};
+use ft_shell::{Outputs, RunFault, Session, Status};
 use ft_store::Store;
 use shell_text::{Settings, write_out};
 use sqlite::{Alter, Connection, FileStore};
@@ -31,37 +31,36 @@ pub fn start<R: Read, O: Write, E: Write>(
     rt: &HostRuntime,
     words: &[&str],
     input: &mut R,
-    out: &mut O,
-    err: &mut E,
+    outputs: &mut Outputs<O, E>,
 ) -> u8
     ensures { Starts (map (λ word. word.now) words.now) (R.remaining input.old)
-        (outputs_of (O.contents out.old) (E.contents err.old))
-        (outputs_of (O.contents out.new) (E.contents err.new)) result }
+        (outputs_of O.contents E.contents outputs.old)
+        (outputs_of O.contents E.contents outputs.new) result }
 {
     match read_line(rt.alloc(), words) {
-        Ok(line) => run_line(rt, line, input, out, err),
-        Err(fault) => refuse_line(&fault, out, err),
+        Ok(line) => run_line(rt, line, input, outputs),
+        Err(fault) => refuse_line(&fault, outputs),
     }
 }
 
 // Tells why the words say nothing; the help goes to the output.
-fn refuse_line<O: Write, E: Write>(fault: &LineFault, out: &mut O, err: &mut E) -> u8
+fn refuse_line<O: Write, E: Write>(fault: &LineFault, outputs: &mut Outputs<O, E>) -> u8
     ensures { RefusesLine fault.now
-        (outputs_of (O.contents out.old) (E.contents err.old))
-        (outputs_of (O.contents out.new) (E.contents err.new)) result }
+        (outputs_of O.contents E.contents outputs.old)
+        (outputs_of O.contents E.contents outputs.new) result }
 {
     match fault {
         LineFault::Words(help) if !help.use_stderr() => {
-            let _ = write!(out, "{help}");
-            let _ = out.flush();
+            let _ = write!(outputs.out, "{help}");
+            let _ = outputs.out.flush();
             FINE
         }
         LineFault::Words(error) => {
-            let _ = write!(err, "{error}");
+            let _ = write!(outputs.err, "{error}");
             NOT_UNDERSTOOD
         }
         fault => {
-            let _ = writeln!(err, "{fault}");
+            let _ = writeln!(outputs.err, "{fault}");
             NOT_UNDERSTOOD
         }
     }
@@ -72,12 +71,11 @@ fn run_line<R: Read, O: Write, E: Write>(
     rt: &HostRuntime,
     line: Line,
     input: &mut R,
-    out: &mut O,
-    err: &mut E,
+    outputs: &mut Outputs<O, E>,
 ) -> u8
     ensures { RunsLine line (R.remaining input.old)
-        (outputs_of (O.contents out.old) (E.contents err.old))
-        (outputs_of (O.contents out.new) (E.contents err.new)) result }
+        (outputs_of O.contents E.contents outputs.old)
+        (outputs_of O.contents E.contents outputs.new) result }
 {
     let Line {
         settings,
@@ -85,15 +83,14 @@ fn run_line<R: Read, O: Write, E: Write>(
         inputs,
     } = line;
     match file {
-        None => in_memory(rt, settings, inputs.as_slice(), input, out, err),
+        None => in_memory(rt, settings, inputs.as_slice(), input, outputs),
         Some(path) => on_databases(
             rt,
             open_files(rt, path.as_str()),
             settings,
             inputs.as_slice(),
             input,
-            out,
-            err,
+            outputs,
         ),
     }
 }
@@ -104,14 +101,13 @@ fn in_memory<R: Read, O: Write, E: Write>(
     settings: Settings,
     inputs: &[String],
     input: &mut R,
-    out: &mut O,
-    err: &mut E,
+    outputs: &mut Outputs<O, E>,
 ) -> u8
     ensures { RunsInMemory settings (due (map string_bytes inputs.now) (R.remaining input.old))
-        (outputs_of (O.contents out.old) (E.contents err.old))
-        (outputs_of (O.contents out.new) (E.contents err.new)) result }
+        (outputs_of O.contents E.contents outputs.old)
+        (outputs_of O.contents E.contents outputs.new) result }
 {
-    on_databases(rt, open_in_memory(rt), settings, inputs, input, out, err)
+    on_databases(rt, open_in_memory(rt), settings, inputs, input, outputs)
 }
 
 // Runs the inputs over two databases, if they are opened.
@@ -121,17 +117,16 @@ fn on_databases<D: Disk + Drop, R: Read, O: Write, E: Write>(
     settings: Settings,
     inputs: &[String],
     input: &mut R,
-    out: &mut O,
-    err: &mut E,
+    outputs: &mut Outputs<O, E>,
 ) -> u8
     ensures { RunsOn over_files over_files settings opened
         (due (map string_bytes inputs.now) (R.remaining input.old))
-        (outputs_of (O.contents out.old) (E.contents err.old))
-        (outputs_of (O.contents out.new) (E.contents err.new)) result }
+        (outputs_of O.contents E.contents outputs.old)
+        (outputs_of O.contents E.contents outputs.new) result }
 {
     match opened {
-        Ok((plain, store)) => over(rt, plain, store, settings, inputs, input, out, err),
-        Err(fault) => tell(err, fault),
+        Ok((plain, store)) => over(rt, plain, store, settings, inputs, input, outputs),
+        Err(fault) => tell(&mut outputs.err, fault),
     }
 }
 
@@ -143,22 +138,21 @@ fn over<D: Disk + Drop, R: Read, O: Write, E: Write>(
     settings: Settings,
     inputs: &[String],
     input: &mut R,
-    out: &mut O,
-    err: &mut E,
+    outputs: &mut Outputs<O, E>,
 ) -> u8
     ensures { OpensAndRuns over_files over_files settings plain store
         (due (map string_bytes inputs.now) (R.remaining input.old))
-        (outputs_of (O.contents out.old) (E.contents err.old))
-        (outputs_of (O.contents out.new) (E.contents err.new)) result }
+        (outputs_of O.contents E.contents outputs.old)
+        (outputs_of O.contents E.contents outputs.new) result }
 {
     let Ok(full_text) = FullText::new(rt.alloc(), store) else {
-        return tell(err, OpenFault::Store);
+        return tell(&mut outputs.err, OpenFault::Store);
     };
     let mut session = session_over(rt.alloc(), plain, full_text, settings);
     let mut files = SystemFiles { rt };
-    let ended = run_all_on(&mut session, inputs, input, out, err, &mut files);
+    let ended = run_all_on(&mut session, inputs, input, &mut files, outputs);
     close(session);
-    status_of(ended, err)
+    status_of(ended, &mut outputs.err)
 }
 
 fn session_over<D: Disk + Drop>(
@@ -218,16 +212,15 @@ fn run_all_on<S: Alter, D: Disk + Drop, R: Read, O: Write, E: Write>(
     session: &mut Session<FileStore<D>, S>,
     inputs: &[String],
     input: &mut R,
-    out: &mut O,
-    err: &mut E,
     files: &mut SystemFiles<'_>,
+    outputs: &mut Outputs<O, E>,
 ) -> Result<Status, RunFault>
     ensures { RunsAndKeeps over_files S.Store
         (due (map string_bytes inputs.now) (R.remaining input.old)) result
-        (stage_of session.old (O.contents out.old) (E.contents err.old))
-        (stage_of session.new (O.contents out.new) (E.contents err.new)) }
+        (stage_of O.contents E.contents session.old outputs.old)
+        (stage_of O.contents E.contents session.new outputs.new) }
 {
-    run_all(session, inputs, input, out, err, files)
+    run_all(session, inputs, input, files, outputs)
 }
 
 // Runs the texts that were given, or else the input.
@@ -235,20 +228,19 @@ fn run_all<P: Alter, S: Alter, R: Read, O: Write, E: Write>(
     session: &mut Session<P, S>,
     inputs: &[String],
     input: &mut R,
-    out: &mut O,
-    err: &mut E,
     files: &mut SystemFiles<'_>,
+    outputs: &mut Outputs<O, E>,
 ) -> Result<Status, RunFault>
     ensures { RunsAndKeeps P.Store S.Store (due (map string_bytes inputs.now)
         (R.remaining input.old)) result
-        (stage_of session.old (O.contents out.old) (E.contents err.old))
-        (stage_of session.new (O.contents out.new) (E.contents err.new)) }
+        (stage_of O.contents E.contents session.old outputs.old)
+        (stage_of O.contents E.contents session.new outputs.new) }
 {
     Session::<P, S>::kept_by_runs();
     if inputs.is_empty() {
-        session.run(input, out, err, files)
+        session.run(input, files, outputs)
     } else {
-        run_texts(session, inputs, out, err, files)
+        run_texts(session, inputs, files, outputs)
     }
 }
 
@@ -256,18 +248,17 @@ fn run_all<P: Alter, S: Alter, R: Read, O: Write, E: Write>(
 fn run_texts<P: Alter, S: Alter, O: Write, E: Write>(
     session: &mut Session<P, S>,
     inputs: &[String],
-    out: &mut O,
-    err: &mut E,
     files: &mut SystemFiles<'_>,
+    outputs: &mut Outputs<O, E>,
 ) -> Result<Status, RunFault>
     ensures { RunsInTurn P.Store S.Store (map Some (map string_bytes inputs.now)) result
-        (stage_of session.old (O.contents out.old) (E.contents err.old))
-        (stage_of session.new (O.contents out.new) (E.contents err.new)) }
+        (stage_of O.contents E.contents session.old outputs.old)
+        (stage_of O.contents E.contents session.new outputs.new) }
 {
     let mut faults: u64 = 0;
     for text in inputs {
         let mut bytes = text.as_bytes();
-        let status = session.run(&mut bytes, out, err, files)?;
+        let status = session.run(&mut bytes, files, outputs)?;
         faults = faults.saturating_add(status.faults);
         if status.quit {
             return Ok(Status { faults, quit: true });

@@ -8,3 +8,4 @@ pub mod Spelled
 pub mod PromiseLemmas
 pub mod TurnsLemmas
 pub mod ImportTurnLemmas
+pub mod HoldsLemmas

@@ -1,61 +1,67 @@
 -- Pieces of an input that are read.
-use Rattle.std.proofs.Common.{◌≡◌, ◌≢◌, ◌⊎◌, ℕ, ◌-◌, ◌<◌, ◌≤◌, min, List, [], ◌++◌, length, take, Option, Result, Err, refl, ap, ◌∙◌, arith, inl, inr}
-use Rattle.std.specs.Prelude.{IfErr}
+use Rattle.std.proofs.Common.{◌≡◌, ◌≢◌, ◌⊎◌, ℕ, ◌-◌, ◌<◌, min, List, [], ◌++◌, length, take, drop, Option, Result, Ok, Err, refl, sym, ap, ◌∙◌, arith, length-append, inl, inr}
 use Rattle.std.specs.Io.KnownBytes.{Consumes, IsAtEnd, Keeps}
-use Rattle.std.proofs.lemmas.List.{length-take, length-take-le, take-take, take_all}
+use Rattle.std.proofs.lemmas.List.{length-drop, length-take-le, take_all}
 use Rattle.sqlite.specs.Store.{Ghosts}
 use Rattle.plain_shell.specs.declared.run.RunFault.{RunFault}
 use Rattle.plain_shell.specs.declared.run.RunFault.TheVariants as causes
 use Rattle.plain_shell.specs.Feeds.{Fed, members_left}
-use Rattle.ft_shell.specs.Ran.{Moment, Passes, Breaks, HasRead, Interrupted, IsInside}
-use Rattle.ft_shell.proofs.RanLemmas.{breaks_as, breaks_none, passes_as}
-use Rattle.ft_shell.proofs.RunLemmas.{consumes_none, if_err_at, some_or_none}
+use Rattle.ft_shell.specs.Ran.{Moment, Runs, TakesRead}
+use Rattle.ft_shell.proofs.RanLemmas.{breaks_none, runs_as}
+use Rattle.ft_shell.proofs.RunLemmas.{HasRead, Interrupted, consumes_none, nil_of, some_or_none}
 
--- the reader failed
-pub interrupted_unread : {P S T : Type 0} (g : Ghosts P) (h : Ghosts S) (r : Result T RunFault) (fault : RunFault) (room : ℕ) (before after : Option (List ℕ)) (fed : Fed) (a : Moment P S) → r ≡ Err fault → fault ≡ causes.Read → Keeps before after →
-    IfErr r (λ fault. Interrupted g h fault room before after fed a a)
-interrupted_unread g h r fault room before after fed a is cause kept = if_err_at (λ fault. Interrupted g h fault room before after fed a a) r fault is (record {
-  bytes = [];
-  consumed = consumes_none before after kept;
-  cause = inr (cause, refl);
-  breaks = inl (breaks_none g h fault _ a);
-})
-
--- the end of the input was cut short
-pub interrupted_at_end : {P S T : Type 0} (g : Ghosts P) (h : Ghosts S) (r : Result T RunFault) (fault : RunFault) (room : ℕ) (before after : Option (List ℕ)) (fed : Fed) (a b : Moment P S) → r ≡ Err fault → Consumes before after [] → IsAtEnd after →
-    Breaks g h fault (λ (_ : Unit {0}). members_left fed []) a b × IsInside g h fault → IfErr r (λ fault. Interrupted g h fault room before after fed a b)
-interrupted_at_end g h r fault room before after fed a b is consumed at_end broken = if_err_at (λ fault. Interrupted g h fault room before after fed a b) r fault is (record {
-  bytes = [];
-  consumed = consumed;
-  cause = inl broken.1;
-  breaks = inr (refl, at_end, broken.0);
-})
-
--- as many bytes of a piece as there is room for
-piece_front : (n room k : ℕ) (chunk : List ℕ) → k ≡ min n room → take room (take n chunk) ≡ take k chunk
-piece_front n room k chunk is = go (some_or_none (n - room))
+-- as many bytes as there is room for
+front_within : (room k : ℕ) (bytes : List ℕ) → k ≡ min (length bytes) room → take room bytes ≡ take k bytes
+front_within room k bytes is = go (some_or_none (length bytes - room))
   where
-    go : (n - room ≡ 0) ⊎ (0 < n - room) → take room (take n chunk) ≡ take k chunk
-    go (inl all) = take_all room (take n chunk) (omega (arith, all, length-take n chunk)) ∙ ap (λ m. take m chunk) (let same : n ≡ k = omega (arith, is, all) in same)
-    go (inr part) = take-take room n chunk (omega (arith, part)) ∙ ap (λ m. take m chunk) (let same : room ≡ k = omega (arith, is, part) in same)
+    go : (length bytes - room ≡ 0) ⊎ (0 < length bytes - room) → take room bytes ≡ take k bytes
+    go (inl all) = take_all room bytes (omega (arith, all)) ∙ sym (take_all k bytes (omega (arith, is, all)))
+    go (inr part) = ap (λ m. take m bytes) (let same : room ≡ k = omega (arith, is, part) in same)
 
--- a piece was cut short
-pub interrupted_within : {P S T : Type 0} (g : Ghosts P) (h : Ghosts S) (r : Result T RunFault) (fault : RunFault) (room n k : ℕ) (chunk : List ℕ) (before after : Option (List ℕ)) (fed : Fed) (a b : Moment P S) → r ≡ Err fault → Consumes before after (take n chunk) → k ≡ min n room →
-    Breaks g h fault (λ (rest : List ℕ). members_left fed (take k chunk ++ rest)) a b × IsInside g h fault → IfErr r (λ fault. Interrupted g h fault room before after fed a b)
-interrupted_within g h r fault room n k chunk before after fed a b is consumed size broken = if_err_at (λ fault. Interrupted g h fault room before after fed a b) r fault is (record {
-  bytes = take n chunk;
-  consumed = consumed;
-  cause = inl broken.1;
-  breaks = inl (breaks_as g h fault _ _ (λ rest. rest) a b (λ rest. ap (λ xs. members_left fed (xs ++ rest)) (piece_front n room k chunk size)) broken.0);
-})
+-- a chunk whose front was written over is as long as before
+pub chunk_kept : (size : ℕ) (given items : List ℕ) → length items ≡ size → 0 < size → 0 < length (take size (given ++ drop (length given) items))
+chunk_kept size given items full some =
+    let whole = length-take-le size (given ++ drop (length given) items) (omega (arith, full, length-append given (drop (length given) items), length-drop (length given) items)) in
+    omega (arith, whole, some)
 
--- a piece was taken
-pub has_read : {P S : Type 0} (g : Ghosts P) (h : Ghosts S) (room n k : ℕ) (chunk : List ℕ) (before after : Option (List ℕ)) (fed left : Fed) (a b : Moment P S) → n ≢ 0 → n ≤ length chunk → Consumes before after (take n chunk) → k ≡ min n room →
-    Passes g h (λ (rest : List ℕ). members_left fed (take k chunk ++ rest)) (λ (rest : List ℕ). members_left left rest) a b → HasRead g h room n before after fed left a b
-has_read g h room n k chunk before after fed left a b some bound consumed size passes = record {
-  bytes = take n chunk;
-  consumed = consumed;
-  size = length-take-le n chunk bound;
-  goes = λ _. passes_as g h _ _ _ _ (λ rest. rest) a b (λ rest. ap (λ xs. members_left fed (xs ++ rest)) (piece_front n room k chunk size)) (λ rest goes. refl) passes;
-  ends = λ none. absurd (some none);
-}
+module _ {P S : Type 0} (g : Ghosts P) (h : Ghosts S) where
+  -- what was read is taken
+  pub takes_some : {T : Type 0} (r : Result T RunFault) (room k : ℕ) (bytes : List ℕ) (fed left : Fed) (a b : Moment P S) → length bytes ≢ 0 → k ≡ min (length bytes) room →
+      Runs g h r (λ (rest : List ℕ). members_left fed (take k bytes ++ rest)) (λ (rest : List ℕ). members_left left rest) a b → TakesRead g h r room bytes fed left a b
+  takes_some r room k bytes fed left a b some size runs = record {
+    goes = λ _. runs_as g h r _ _ _ _ (λ (rest : List ℕ). rest) a b (λ rest. ap (λ xs. members_left fed (xs ++ rest)) (front_within room k bytes size)) (λ rest goes. refl) runs;
+    ends = λ none. absurd (some none);
+  }
+
+  -- nothing was read, so that what is left is done
+  pub takes_none : {T : Type 0} (r : Result T RunFault) (room : ℕ) (bytes : List ℕ) (fed left : Fed) (a b : Moment P S) → length bytes ≡ 0 → Runs g h r (λ (_ : Unit {0}). members_left fed []) (λ _. []) a b → TakesRead g h r room bytes fed left a b
+  takes_none r room bytes fed left a b none runs = record { goes = λ some. absurd (omega (arith, some, none)); ends = λ _. runs }
+
+  -- a piece was taken
+  pub has_read : {T : Type 0} (x : T) (room n : ℕ) (bytes : List ℕ) (before after : Option (List ℕ)) (fed left : Fed) (a b : Moment P S) → Consumes before after bytes → n ≡ length bytes → (bytes ≡ [] → IsAtEnd after) →
+      TakesRead g h (Ok x) room bytes fed left a b → HasRead g h room n before after fed left a b
+  has_read x room n bytes before after fed left a b consumed is at_end takes = record {
+    bytes = bytes;
+    consumed = consumed;
+    size = sym is;
+    goes = λ some. takes.goes (omega (arith, some, is));
+    ends = λ none. let no_bytes : length bytes ≡ 0 = omega (arith, none, is) in (at_end (nil_of bytes no_bytes), takes.ends no_bytes);
+  }
+
+  -- the reader failed
+  pub interrupted_unread : (fault : RunFault) (room : ℕ) (before after : Option (List ℕ)) (fed : Fed) (a : Moment P S) → fault ≡ causes.Read → Keeps before after → Interrupted g h fault room before after fed a a
+  interrupted_unread fault room before after fed a cause kept = record {
+    bytes = [];
+    consumed = consumes_none before after kept;
+    cause = inr (cause, refl);
+    breaks = inl (breaks_none g h fault _ a);
+  }
+
+  -- what is done with a piece was cut short, or what is done at the end
+  pub interrupted_taking : {T : Type 0} (fault : RunFault) (room : ℕ) (bytes : List ℕ) (before after : Option (List ℕ)) (fed left : Fed) (a b : Moment P S) → Consumes before after bytes → (bytes ≡ [] → IsAtEnd after) →
+      TakesRead g h {T = T} (Err fault) room bytes fed left a b → Interrupted g h fault room before after fed a b
+  interrupted_taking fault room bytes before after fed left a b consumed at_end takes = go (some_or_none (length bytes))
+    where
+      go : (length bytes ≡ 0) ⊎ (0 < length bytes) → Interrupted g h fault room before after fed a b
+      go (inl none) = let broken = takes.ends none in record { bytes = bytes; consumed = consumed; cause = inl broken.1; breaks = inr (nil_of bytes none, at_end (nil_of bytes none), broken.0) }
+      go (inr some) = let broken = takes.goes some in record { bytes = bytes; consumed = consumed; cause = inl broken.1; breaks = inl broken.0 }

@@ -29,6 +29,7 @@ use Rattle.ft_shell.specs.Deeds.{Deeds, idle, and_then, told_by}
 use Rattle.plain_shell.specs.DotParts.{behind_stop}
 use Rattle.ft_shell.proofs.Spelled.{MayNote, MayRead, CallsOf, CallsOfClass, CallsOfDot, CallsOfImport}
 use Rattle.ft_shell.specs.Turns.{Turn, Turns}
+use Rattle.ft_shell.specs.Ran.{Ends}
 use Rattle.ft_shell.specs.Runs.{Completes, Console, IsFront, IsWhole, Stops}
 use Rattle.ft_shell.specs.Promise.{Ran, AllRan, none_ran, last_ran, first_ran, Reached, Lists, KeptByRuns, RanAndKept, parts_of}
 use Rattle.ft_shell.proofs.CallsLemmas.{runs_join, turn_spelled, turns_made}
@@ -423,6 +424,6 @@ kept_by_runs g h law sound first old new all held ran up =
     }
 
 -- one run, however it ends
-pub ran_and_kept : {P S : Type 0} (g : Ghosts P) (h : Ghosts S) (ended : Result Status RunFault) (old new : Console P S) → IfOk ended (λ status. Completes g h status old new) → IfErr ended (λ fault. Stops g h fault old new) → KeptByRuns g h (IsUp h) → RanAndKept g h ended old new
-ran_and_kept g h (Ok status) old new ran cut law = (ran.deeds, (ran, refl), λ first held up. law first (parts_of old.shell) (parts_of new.shell) ran.deeds held (last_ran (Ok status) old new ran.deeds (ran, refl)) up)
-ran_and_kept g h (Err fault) old new ran cut law = (cut.deeds, (cut, refl), λ first held up. law first (parts_of old.shell) (parts_of new.shell) cut.deeds held (last_ran (Err fault) old new cut.deeds (cut, refl)) up)
+pub ran_and_kept : {P S : Type 0} (g : Ghosts P) (h : Ghosts S) (ended : Result Status RunFault) (old new : Console P S) → Ends g h ended old new → KeptByRuns g h (IsUp h) → RanAndKept g h ended old new
+ran_and_kept g h (Ok status) old new ran law = (ran.deeds, (ran, refl), λ first held up. law first (parts_of old.shell) (parts_of new.shell) ran.deeds held (last_ran (Ok status) old new ran.deeds (ran, refl)) up)
+ran_and_kept g h (Err fault) old new cut law = (cut.deeds, (cut, refl), λ first held up. law first (parts_of old.shell) (parts_of new.shell) cut.deeds held (last_ran (Err fault) old new cut.deeds (cut, refl)) up)

@@ -1,5 +1,4 @@
 -- From the pieces of an input to a whole run.
-use Rattle.std.specs.Prelude.{IfErr}
 use Rattle.std.proofs.Common.{◌≡◌, ◌≢◌, ◌⊎◌, ℕ, zero, suc, ◌+◌, ◌-◌, ◌^◌, ◌<◌, ◌≤◌, Bool, true, false, ◌||◌, List, [], ◌∷◌, ◌++◌, length, take, drop, Option, Some, None, Result, Err, refl, sym, ap, subst, ◌∙◌, arith, append-nil, append_assoc, length-append, inl, inr}
 use Rattle.std.specs.Io.KnownBytes.{Consumes, IsAtEnd, Keeps}
 use Rattle.std.proofs.lemmas.List.{take_all, take-append-drop}
@@ -7,21 +6,22 @@ use Rattle.std.proofs.Math.Seq.{take-append-add, take-append_seam, drop-append_s
 use Rattle.sqlite.specs.Store.{Ghosts}
 use Rattle.shell_text.specs.Units.{Member, members_of, start, lines_of}
 use Rattle.shell_text.specs.Splitting.{given_by}
+use Rattle.plain_shell.specs.declared.run.Status.{Status}
 use Rattle.plain_shell.specs.declared.run.RunFault.{RunFault}
 use Rattle.plain_shell.specs.declared.run.RunFault.TheVariants as causes
 use Rattle.ft_shell.specs.Shell.{Shell}
 use Rattle.ft_shell.specs.Deeds.{Deeds}
 use Rattle.ft_shell.specs.Turns.{Turns, Session, Begins}
 use Rattle.plain_shell.specs.Feeds.{Fed, members_left}
-use Rattle.ft_shell.specs.Ran.{Moment, Did, Passes, Breaks, HasRead, Interrupted, IsInside}
-use Rattle.ft_shell.specs.Runs.{IsWhole, IsFront, Completes, Stops}
+use Rattle.ft_shell.specs.Ran.{Moment, Did, Passes, Breaks, Ends, IsInside, TakesRead}
+use Rattle.ft_shell.specs.Runs.{Console, IsWhole, IsFront, Completes, Stops}
 use Rattle.plain_shell.proofs.WriteLemmas.{appends_kept}
 use Rattle.ft_shell.proofs.TurnsLemmas.{turns_ended}
 use Rattle.ft_shell.proofs.RanLemmas.{breaks_after, breaks_none, breaks_then, passes_as, passes_none, passes_then}
 
 -- ---- lists and readers
 
-nil_of : {X : Type 0} (xs : List X) → length xs ≡ 0 → xs ≡ []
+pub nil_of : {X : Type 0} (xs : List X) → length xs ≡ 0 → xs ≡ []
 nil_of [] e = refl
 nil_of (x ∷ xs) e = absurd (omega (arith, e))
 
@@ -45,6 +45,24 @@ consumes_none (Some p) (Some q) kept = sym kept
 keeps_same : (a : Option (List ℕ)) → Keeps a a
 keeps_same None = tt
 keeps_same (Some p) = refl
+
+-- ---- pieces
+
+module _ {P S : Type 0} (g : Ghosts P) (h : Ghosts S) where
+  -- So many bytes were read. They are taken, as far as there is room; without any the input is at its end, and what was left of it is done.
+  pub record HasRead (room n : ℕ) (before after : Option (List ℕ)) (fed left : Fed) (old new : Moment P S) : Type 0 where
+    pub bytes : List ℕ
+    pub consumed : Consumes before after bytes
+    pub size : length bytes ≡ n
+    pub goes : 0 < n → Passes g h (λ (rest : List ℕ). members_left fed (take room bytes ++ rest)) (λ rest. members_left left rest) old new
+    pub ends : n ≡ 0 → IsAtEnd after × Passes g h (λ (_ : Unit {0}). members_left fed []) (λ _. []) old new
+
+  -- Bytes were read, and the run is cut short: in the part of them that there is room for, or at the end of the input.
+  pub record Interrupted (fault : RunFault) (room : ℕ) (before after : Option (List ℕ)) (fed : Fed) (old new : Moment P S) : Type 0 where
+    pub bytes : List ℕ
+    pub consumed : Consumes before after bytes
+    pub cause : IsInside g h fault ⊎ ((fault ≡ causes.Read) × (bytes ≡ []))
+    pub breaks : Breaks g h fault (λ (rest : List ℕ). members_left fed (take room bytes ++ rest)) old new ⊎ ((bytes ≡ []) × IsAtEnd after × Breaks g h fault (λ (_ : Unit {0}). members_left fed []) old new)
 
 -- ---- a run so far
 
@@ -291,8 +309,8 @@ stops_at_flush g h fault most total room n before mid after left left' shell out
 
 -- ---- exits
 
-pub if_err_at : {T E : Type 0} (Q : E → Type 0) (r : Result T E) (e : E) → r ≡ Err e → Q e → IfErr r Q
-if_err_at {T} {E} Q r e is q = subst (λ (x : Result T E). IfErr x Q) (sym is) q
+pub ends_err : {P S : Type 0} (g : Ghosts P) (h : Ghosts S) (r : Result Status RunFault) (fault : RunFault) (old new : Console P S) → r ≡ Err fault → Stops g h fault old new → Ends g h r old new
+ends_err g h r fault old new is stops = subst (λ (x : Result Status RunFault). Ends g h x old new) (sym is) stops
 
 pub some_or_none : (n : ℕ) → (n ≡ 0) ⊎ (0 < n)
 some_or_none zero = inl refl

@@ -1,8 +1,9 @@
 -- Steps. What a session does with members of its input, and what is written for them (own choice).
 use Rattle.std.specs.Prelude.{ℕ, ◌≡◌, ◌⊎◌, ◌<◌, false, ◌+◌, ◌-◌, ◌^◌, min, ◌||◌, List, [], ◌++◌, length, take, Option, Result, Ok, Err}
-use Rattle.std.specs.Io.KnownBytes.{Appends, Consumes, IsAtEnd}
+use Rattle.std.specs.Io.KnownBytes.{Appends}
 use Rattle.sqlite.specs.Store.{Ghosts}
 use Rattle.shell_text.specs.Units.{Member}
+use Rattle.plain_shell.specs.declared.run.Outputs.{Outputs}
 use Rattle.plain_shell.specs.declared.run.Status.{Status}
 use Rattle.plain_shell.specs.declared.run.RunFault.{RunFault}
 use Rattle.plain_shell.specs.declared.run.RunFault.TheVariants as causes
@@ -10,6 +11,7 @@ use Rattle.ft_shell.specs.Shell.{Shell}
 use Rattle.ft_shell.specs.Deeds.{Deeds}
 use Rattle.ft_shell.specs.Turns.{Turns}
 use Rattle.ft_shell.specs.Broken.{Broken}
+use Rattle.ft_shell.specs.Runs.{Console, Completes, Stops}
 use Rattle.plain_shell.specs.Feeds.{Fed, members_left}
 
 -- a shell with the status of its run, and what the two writers hold where that is known
@@ -19,9 +21,17 @@ pub record Moment (P S : Type 0) : Type 0 where
   pub out : Option (List ℕ)
   pub err : Option (List ℕ)
 
--- such a moment, of its four parts
-abbrev pub moment_of : {P S : Type 0} → Shell P S → Status → Option (List ℕ) → Option (List ℕ) → Moment P S
-moment_of shell status out err = record { shell = shell; status = status; out = out; err = err }
+-- such a moment, of a shell and the outputs of its run, whose writers hold what these functions read
+abbrev pub moment : {P S O E : Type 0} → (O → Option (List ℕ)) → (E → Option (List ℕ)) → Shell P S → Outputs O E → Moment P S
+moment out_of err_of shell outputs = record { shell = shell; status = outputs.status; out = out_of outputs.out; err = err_of outputs.err }
+
+-- no unit waits where the session goes on
+abbrev pub NoneWaits : Status → Fed → Type 0
+NoneWaits status fed = status.quit ≡ false → fed.splitting.waiting ≡ []
+
+-- the session goes on, and no unit waits
+abbrev pub GoesOn : Status → Fed → Type 0
+GoesOn status fed = (status.quit ≡ false) × (fed.splitting.waiting ≡ [])
 
 module _ {P S : Type 0} (g : Ghosts P) (h : Ghosts S) where
   -- The members' turns were done one after the other, and what they tell was written and counted. The count of fault lines stays at
@@ -63,17 +73,12 @@ module _ {P S : Type 0} (g : Ghosts P) (h : Ghosts S) where
   Runs (Ok _) due left old new = Passes due left old new
   Runs (Err fault) due left old new = Breaks fault due old new × IsInside fault
 
-  -- So many bytes were read. They are taken, as far as there is room; without any the input is at its end, and what was left of it is done.
-  pub record HasRead (room n : ℕ) (before after : Option (List ℕ)) (fed left : Fed) (old new : Moment P S) : Type 0 where
-    pub bytes : List ℕ
-    pub consumed : Consumes before after bytes
-    pub size : length bytes ≡ n
-    pub goes : 0 < n → Passes (λ (rest : List ℕ). members_left fed (take room bytes ++ rest)) (λ rest. members_left left rest) old new
-    pub ends : n ≡ 0 → IsAtEnd after × Passes (λ (_ : Unit {0}). members_left fed []) (λ _. []) old new
+  -- The bytes that were read are taken, as far as there is room. Without any the input is at its end, and what is left of it is done.
+  pub record TakesRead {T : Type 0} (result : Result T RunFault) (room : ℕ) (bytes : List ℕ) (fed left : Fed) (old new : Moment P S) : Type 0 where
+    pub goes : 0 < length bytes → Runs result (λ (rest : List ℕ). members_left fed (take room bytes ++ rest)) (λ rest. members_left left rest) old new
+    pub ends : length bytes ≡ 0 → Runs result (λ (_ : Unit {0}). members_left fed []) (λ _. []) old new
 
-  -- Bytes were read, and the run is cut short: in the part of them that there is room for, or at the end of the input.
-  pub record Interrupted (fault : RunFault) (room : ℕ) (before after : Option (List ℕ)) (fed : Fed) (old new : Moment P S) : Type 0 where
-    pub bytes : List ℕ
-    pub consumed : Consumes before after bytes
-    pub cause : IsInside fault ⊎ ((fault ≡ causes.Read) × (bytes ≡ []))
-    pub breaks : Breaks fault (λ (rest : List ℕ). members_left fed (take room bytes ++ rest)) old new ⊎ ((bytes ≡ []) × IsAtEnd after × Breaks fault (λ (_ : Unit {0}). members_left fed []) old new)
+  -- a run, however it ended
+  abbrev pub Ends : Result Status RunFault → Console P S → Console P S → Type 0
+  Ends (Ok status) old new = Completes g h status old new
+  Ends (Err fault) old new = Stops g h fault old new

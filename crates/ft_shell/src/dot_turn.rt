@@ -1,5 +1,4 @@
 // What a dot-command does in a session.
-ghost use Rattle.std.specs.Prelude.{◌≡◌, ℕ, List};
 ghost use Rattle.shell_text.specs.Dot.{dot_words_of};
 ghost use Rattle.plain_shell.specs.ToldViews.{told_as};
 ghost use Rattle.ft_statements.specs.DotViews.{command_as};
@@ -27,11 +26,10 @@ pub(crate) fn dot_turn<P: Alter, S: Alter, F: Source>(
     line: u64,
     command: &DotCommand,
 ) -> Told
-    ensures turn { DotOrLacks P.Store S.Store line
+    ensures { DotOrLacks P.Store S.Store line
         (shell_of settings.old plain.old full_text.old (F.holds source.old))
         (shell_of settings.new plain.new full_text.new (F.holds source.new)) (told_as result)
         (command_as command.now) }
-    ensures source { (name : List ℕ) → F.holds source.new name ≡ F.holds source.old name }
 {
     match command {
         DotCommand::Print(words) => print_turn(alloc, settings, line, words.as_slice()),
@@ -56,11 +54,10 @@ pub(crate) fn dot_line_turn<P: Alter, S: Alter, F: Source>(
     line: u64,
     text: &str,
 ) -> Told
-    ensures turn { DotOrLacks P.Store S.Store line
+    ensures { DotOrLacks P.Store S.Store line
         (shell_of settings.old plain.old full_text.old (F.holds source.old))
         (shell_of settings.new plain.new full_text.new (F.holds source.new)) (told_as result)
         (dot_command_of (dot_words_of (behind_stop text.now))) }
-    ensures source { (name : List ℕ) → F.holds source.new name ≡ F.holds source.old name }
 {
     let Ok(words) = dot_words(alloc, behind_stop(text)) else {
         return Told::lacks_memory(alloc, settings, line);

@@ -5,7 +5,10 @@ ghost use Rattle.shell_text.specs.Print.{is_csv_separator};
 ghost use Rattle.ft_content.specs.Views as views;
 ghost use Rattle.ft_content.specs.Views.{shown_info};
 ghost use Rattle.ft_statements.specs.DotViews.{import_as};
-ghost use Rattle.ft_shell.specs.ImportTurns.{columns_in, InsertTurn, TextImport, NotesAfter, IntoNew, PlainImport, RecordsTurn, BytesTurn, FileTurn, ImportTurn};
+ghost use Rattle.ft_shell.specs.ImportTurns.{columns_in, InsertTurn, TextImport, NotesAfter, IntoNew, PlainImport, RecordsTurn, BytesTurn, FileTurn};
+ghost use Rattle.ft_shell.specs.DotTurns.{DotTurn};
+ghost use Rattle.ft_shell.specs.Shell.{shell_of};
+ghost use Rattle.ft_statements.specs.Dots.{Importing};
 ghost use Rattle.plain_shell.specs.ToldViews.{told_as};
 ghost use Rattle.ft_statements.specs.Views.{texts_of};
 
@@ -31,9 +34,10 @@ pub(crate) fn import_turn<P: Alter, S: Alter, F: Source>(
     what: &Import,
     line: u64,
 ) -> Told
-    ensures turn { ImportTurn P.Store S.Store settings.now line (import_as what.now) plain.old
-        plain.new full_text.old full_text.new (told_as result) (F.holds source.old) }
-    ensures source { (name : List ℕ) → F.holds source.new name ≡ F.holds source.old name }
+    ensures { DotTurn P.Store S.Store line
+        (shell_of settings.now plain.old full_text.old (F.holds source.old))
+        (shell_of settings.now plain.new full_text.new (F.holds source.new)) (told_as result)
+        (Importing (import_as what.now)) }
 {
     match delimiter_of(what.csv, settings) {
         Some(delimiter) => file_turn(

@@ -11,4 +11,4 @@ mod statement_turn;
 mod unit_turn;
 
 pub use crate::session::Session;
-pub use plain_shell::{RunFault, Source, SourceFault, Status};
+pub use plain_shell::{Outputs, RunFault, Source, SourceFault, Status};

@@ -1,10 +1,10 @@
 // A session: the units of an input in turn, and what is written for them.
-ghost use Rattle.std.specs.Prelude.{◌≡◌, ◌≤◌, ◌<◌, ◌+◌, ◌∷◌, ◌++◌, ℕ, List, [], ⊤, false, length, IfOk, IfErr, OnOk};
+ghost use Rattle.std.specs.Prelude.{◌≡◌, ◌<◌, ◌∷◌, ◌++◌, ℕ, List, [], ⊤, length, OnOk};
 ghost use Rattle.shell_text.specs.Units.{Fault, Member};
 ghost use Rattle.shell_text.specs.Splitting.{member_of_unit};
 ghost use Rattle.plain_shell.specs.Feeds.{members_left, refused_as};
-ghost use Rattle.ft_shell.specs.Ran.{moment_of, HasRead, Interrupted, Runs};
-ghost use Rattle.ft_shell.specs.Runs.{console_of, Completes, Stops};
+ghost use Rattle.ft_shell.specs.Ran.{moment, Ends, GoesOn, NoneWaits, Runs, TakesRead};
+ghost use Rattle.ft_shell.specs.Runs.{console_of};
 ghost use Rattle.ft_shell.specs.Promise.{IsOpen, KeptByRuns, RanAndKept};
 ghost use Rattle.ft_index.specs.Kept.{IsUp};
 ghost use Rattle.ft_shell.specs.Shell.{lent};
@@ -14,8 +14,8 @@ use crate::unit_turn::unit_turn;
 use ft_index::FullText;
 use ft_statements::split_text;
 use plain_shell::{
-    Feed, Refusal, RunFault, Source, Status, Told, echo_text, end_refusal, flush, is_memory,
-    is_over, read_chunk, tell,
+    Feed, Outputs, Refusal, RunFault, Source, Status, Told, echo_text, end_refusal, flush,
+    is_memory, is_over, read_chunk, tell,
 };
 use ram_disk::Honest;
 use shell_text::{Settings, Unit, blocks_read_whole};
@@ -82,6 +82,7 @@ impl<P: Alter, S: Alter> Session<P, S> {
     /// Runs the units of an input in turn, up to one that ends the session. Whatever a unit is refused for, the run goes
     /// on. However the run ends, the full-text tables are what the accepted commands make of them. The output is flushed
     /// before each read of the input, so that whoever waits for an answer has it, before each fault line, and at the end.
+    /// The status of the outputs begins anew.
     ///
     /// # Errors
     ///
@@ -90,19 +91,18 @@ impl<P: Alter, S: Alter> Session<P, S> {
     pub fn run<R: Read, O: Write, E: Write, F: Source>(
         &mut self,
         reader: &mut R,
-        out: &mut O,
-        err: &mut E,
         source: &mut F,
+        outputs: &mut Outputs<O, E>,
     ) -> Result<Status, RunFault>
         ensures ran { RanAndKept P.Store S.Store result
             (console_of (lent self.old (F.holds source.old)) (R.remaining reader.old)
-            (O.contents out.old) (E.contents err.old))
+            (O.contents outputs.old.out) (E.contents outputs.old.err))
             (console_of (lent self.new (F.holds source.new)) (R.remaining reader.new)
-            (O.contents out.new) (E.contents err.new)) }
+            (O.contents outputs.new.out) (E.contents outputs.new.err)) }
         ensures source { (name : List ℕ) → F.holds source.new name ≡ F.holds source.old name }
     {
         Session::<P, S>::kept_by_runs();
-        self.run_pieces(reader, out, err, source)
+        self.run_pieces(reader, source, outputs)
     }
 
     /// After any runs, however each ended, each full-text table's content is that of the accepted commands, and the index
@@ -117,92 +117,59 @@ impl<P: Alter, S: Alter> Session<P, S> {
     fn run_pieces<R: Read, O: Write, E: Write, F: Source>(
         &mut self,
         reader: &mut R,
-        out: &mut O,
-        err: &mut E,
         source: &mut F,
+        outputs: &mut Outputs<O, E>,
     ) -> Result<Status, RunFault>
-        ensures ok { IfOk result (λ status. Completes P.Store S.Store status
+        ensures { Ends P.Store S.Store result
             (console_of (lent self.old (F.holds source.old)) (R.remaining reader.old)
-            (O.contents out.old) (E.contents err.old))
+            (O.contents outputs.old.out) (E.contents outputs.old.err))
             (console_of (lent self.new (F.holds source.new)) (R.remaining reader.new)
-            (O.contents out.new) (E.contents err.new))) }
-        ensures err { IfErr result (λ fault. Stops P.Store S.Store fault
-            (console_of (lent self.old (F.holds source.old)) (R.remaining reader.old)
-            (O.contents out.old) (E.contents err.old))
-            (console_of (lent self.new (F.holds source.new)) (R.remaining reader.new)
-            (O.contents out.new) (E.contents err.new))) }
-        ensures source { (name : List ℕ) → F.holds source.new name ≡ F.holds source.old name }
+            (O.contents outputs.new.out) (E.contents outputs.new.err)) }
     {
         blocks_read_whole();
         let mut feed = Feed::new(self.alloc)?;
         let mut chunk = vec![in self.alloc; 0; CHUNK]?;
-        let mut status = Status {
+        outputs.status = Status {
             faults: 0,
             quit: false,
         };
         let mut total: usize = 0;
         while total <= MOST_INPUT {
-            flush(out)?;
-            let read = self.read_piece(
-                reader,
-                chunk.as_mut_slice(),
-                MOST_INPUT - total,
-                &mut feed,
-                &mut status,
-                source,
-                out,
-                err,
-            )?;
-            if is_over(read, status) {
-                flush(out)?;
-                return Ok(status);
+            flush(&mut outputs.out)?;
+            let bytes = read_chunk(reader, chunk.as_mut_slice())?;
+            let read = bytes.len();
+            self.take_read(&mut feed, bytes, MOST_INPUT - total, source, outputs)?;
+            if is_over(read, outputs.status) {
+                flush(&mut outputs.out)?;
+                return Ok(outputs.status);
             }
             total += read;
         }
         Err(RunFault::TooMuch)
     }
 
-    // Reads a piece of the input, and takes of it as many bytes as there is room for. It has none only at the end, and then
-    // what is left of the input is run.
-    fn read_piece<R: Read, O: Write, E: Write, F: Source>(
+    // Takes of the bytes that were read as many as there is room for. There are none only at the end of the input, and then
+    // what is left of it is run.
+    fn take_read<O: Write, E: Write, F: Source>(
         &mut self,
-        reader: &mut R,
-        chunk: &mut [u8],
-        room: usize,
         feed: &mut Feed,
-        status: &mut Status,
+        read: &[u8],
+        room: usize,
         source: &mut F,
-        out: &mut O,
-        err: &mut E,
-    ) -> Result<usize, RunFault>
-        requires waiting { feed.old.splitting.waiting ≡ [] }
-        requires quit { status.old.quit ≡ false }
-        requires chunk { 0 < length chunk.old }
-        ensures bound { IfOk result (λ n. n ≤ length chunk.new) }
-        ensures ok { IfOk result (λ n. HasRead P.Store S.Store room n (R.remaining reader.old)
-            (R.remaining reader.new) feed.old feed.new
-            (moment_of (lent self.old (F.holds source.old)) status.old
-            (O.contents out.old) (E.contents err.old))
-            (moment_of (lent self.new (F.holds source.new)) status.new
-            (O.contents out.new) (E.contents err.new))) }
-        ensures err { IfErr result (λ fault. Interrupted P.Store S.Store fault room
-            (R.remaining reader.old) (R.remaining reader.new) feed.old
-            (moment_of (lent self.old (F.holds source.old)) status.old
-            (O.contents out.old) (E.contents err.old))
-            (moment_of (lent self.new (F.holds source.new)) status.new
-            (O.contents out.new) (E.contents err.new))) }
-        ensures waiting { IfOk result (λ n. 0 < n → status.new.quit ≡ false
-            → feed.new.splitting.waiting ≡ []) }
-        ensures source { (name : List ℕ) → F.holds source.new name ≡ F.holds source.old name }
+        outputs: &mut Outputs<O, E>,
+    ) -> Result<(), RunFault>
+        requires goes { GoesOn outputs.old.status feed.old }
+        ensures takes { TakesRead P.Store S.Store result room read.now feed.old feed.new
+            (moment O.contents E.contents (lent self.old (F.holds source.old)) outputs.old)
+            (moment O.contents E.contents (lent self.new (F.holds source.new)) outputs.new) }
+        ensures waiting { OnOk result (0 < length read.now
+            → NoneWaits outputs.new.status feed.new) }
     {
-        let read = read_chunk(reader, chunk)?;
-        if read == 0 {
-            self.finish(feed, status, source, out, err)?;
-            return Ok(0);
+        if read.is_empty() {
+            return self.finish(feed, source, outputs);
         }
-        let bytes = &chunk[..read.min(room)];
-        self.take(feed, bytes, status, source, out, err)?;
-        Ok(read)
+        let bytes = &read[..read.len().min(room)];
+        self.take(feed, bytes, source, outputs)
     }
 
     // Takes a piece of the input, up to a unit that ends the session.
@@ -210,27 +177,22 @@ impl<P: Alter, S: Alter> Session<P, S> {
         &mut self,
         feed: &mut Feed,
         bytes: &[u8],
-        status: &mut Status,
         source: &mut F,
-        out: &mut O,
-        err: &mut E,
+        outputs: &mut Outputs<O, E>,
     ) -> Result<(), RunFault>
-        requires { status.old.quit ≡ false → feed.old.splitting.waiting ≡ [] }
+        requires waiting { NoneWaits outputs.old.status feed.old }
         ensures runs { Runs P.Store S.Store result
             (λ (rest : List ℕ). members_left feed.old (bytes.now ++ rest))
             (λ (rest : List ℕ). members_left feed.new rest)
-            (moment_of (lent self.old (F.holds source.old)) status.old
-            (O.contents out.old) (E.contents err.old))
-            (moment_of (lent self.new (F.holds source.new)) status.new
-            (O.contents out.new) (E.contents err.new)) }
-        ensures waiting { OnOk result (status.new.quit ≡ false → feed.new.splitting.waiting ≡ []) }
-        ensures source { (name : List ℕ) → F.holds source.new name ≡ F.holds source.old name }
+            (moment O.contents E.contents (lent self.old (F.holds source.old)) outputs.old)
+            (moment O.contents E.contents (lent self.new (F.holds source.new)) outputs.new) }
+        ensures waiting { OnOk result (NoneWaits outputs.new.status feed.new) }
     {
         for byte in bytes {
-            if status.quit {
+            if outputs.status.quit {
                 return Ok(());
             }
-            self.take_byte(feed, *byte, status, source, out, err)?;
+            self.take_byte(feed, *byte, source, outputs)?;
         }
         Ok(())
     }
@@ -239,25 +201,19 @@ impl<P: Alter, S: Alter> Session<P, S> {
         &mut self,
         feed: &mut Feed,
         byte: u8,
-        status: &mut Status,
         source: &mut F,
-        out: &mut O,
-        err: &mut E,
+        outputs: &mut Outputs<O, E>,
     ) -> Result<(), RunFault>
-        requires waiting { feed.old.splitting.waiting ≡ [] }
-        requires quit { status.old.quit ≡ false }
+        requires goes { GoesOn outputs.old.status feed.old }
         ensures runs { Runs P.Store S.Store result
             (λ (rest : List ℕ). members_left feed.old (byte ∷ rest))
             (λ (rest : List ℕ). members_left feed.new rest)
-            (moment_of (lent self.old (F.holds source.old)) status.old
-            (O.contents out.old) (E.contents err.old))
-            (moment_of (lent self.new (F.holds source.new)) status.new
-            (O.contents out.new) (E.contents err.new)) }
-        ensures waiting { OnOk result (status.new.quit ≡ false → feed.new.splitting.waiting ≡ []) }
-        ensures source { (name : List ℕ) → F.holds source.new name ≡ F.holds source.old name }
+            (moment O.contents E.contents (lent self.old (F.holds source.old)) outputs.old)
+            (moment O.contents E.contents (lent self.new (F.holds source.new)) outputs.new) }
+        ensures waiting { OnOk result (NoneWaits outputs.new.status feed.new) }
     {
         if byte == b'\n' {
-            return self.end_line(feed, status, source, out, err);
+            return self.end_line(feed, source, outputs);
         }
         feed.keep(byte)?;
         Ok(())
@@ -267,56 +223,45 @@ impl<P: Alter, S: Alter> Session<P, S> {
     fn end_line<O: Write, E: Write, F: Source>(
         &mut self,
         feed: &mut Feed,
-        status: &mut Status,
         source: &mut F,
-        out: &mut O,
-        err: &mut E,
+        outputs: &mut Outputs<O, E>,
     ) -> Result<(), RunFault>
-        requires waiting { feed.old.splitting.waiting ≡ [] }
-        requires quit { status.old.quit ≡ false }
+        requires goes { GoesOn outputs.old.status feed.old }
         ensures runs { Runs P.Store S.Store result
             (λ (rest : List ℕ). members_left feed.old (10 ∷ rest))
             (λ (rest : List ℕ). members_left feed.new rest)
-            (moment_of (lent self.old (F.holds source.old)) status.old
-            (O.contents out.old) (E.contents err.old))
-            (moment_of (lent self.new (F.holds source.new)) status.new
-            (O.contents out.new) (E.contents err.new)) }
-        ensures waiting { OnOk result (status.new.quit ≡ false → feed.new.splitting.waiting ≡ []) }
+            (moment O.contents E.contents (lent self.old (F.holds source.old)) outputs.old)
+            (moment O.contents E.contents (lent self.new (F.holds source.new)) outputs.new) }
+        ensures waiting { OnOk result (NoneWaits outputs.new.status feed.new) }
         ensures line { OnOk result (feed.new.line ≡ []) }
-        ensures source { (name : List ℕ) → F.holds source.new name ≡ F.holds source.old name }
     {
         let refused = feed.end_line()?;
-        self.refuse_some(&refused, status, out, err)?;
-        if status.quit {
+        self.refuse_some(&refused, outputs)?;
+        if outputs.status.quit {
             return Ok(());
         }
-        self.run_units(feed, status, source, out, err)
+        self.run_units(feed, source, outputs)
     }
 
     // Runs the units that wait, up to one that ends the session.
     fn run_units<O: Write, E: Write, F: Source>(
         &mut self,
         feed: &mut Feed,
-        status: &mut Status,
         source: &mut F,
-        out: &mut O,
-        err: &mut E,
+        outputs: &mut Outputs<O, E>,
     ) -> Result<(), RunFault>
         ensures runs { Runs P.Store S.Store result (λ (rest : List ℕ). members_left feed.old rest)
             (λ (rest : List ℕ). members_left feed.new rest)
-            (moment_of (lent self.old (F.holds source.old)) status.old
-            (O.contents out.old) (E.contents err.old))
-            (moment_of (lent self.new (F.holds source.new)) status.new
-            (O.contents out.new) (E.contents err.new)) }
-        ensures waiting { OnOk result (status.new.quit ≡ false → feed.new.splitting.waiting ≡ []) }
+            (moment O.contents E.contents (lent self.old (F.holds source.old)) outputs.old)
+            (moment O.contents E.contents (lent self.new (F.holds source.new)) outputs.new) }
+        ensures waiting { OnOk result (NoneWaits outputs.new.status feed.new) }
         ensures line { feed.new.line ≡ feed.old.line }
-        ensures source { (name : List ℕ) → F.holds source.new name ≡ F.holds source.old name }
     {
-        while !status.quit {
+        while !outputs.status.quit {
             let Some(unit) = feed.next() else {
                 break;
             };
-            self.run_unit(&unit, status, source, out, err)?;
+            self.run_unit(&unit, source, outputs)?;
         }
         Ok(())
     }
@@ -324,20 +269,15 @@ impl<P: Alter, S: Alter> Session<P, S> {
     fn run_unit<O: Write, E: Write, F: Source>(
         &mut self,
         unit: &Unit,
-        status: &mut Status,
         source: &mut F,
-        out: &mut O,
-        err: &mut E,
+        outputs: &mut Outputs<O, E>,
     ) -> Result<(), RunFault>
-        ensures runs { Runs P.Store S.Store result
+        ensures { Runs P.Store S.Store result
             (λ (rest : List Member). member_of_unit unit.now ∷ rest) (λ (rest : List Member). rest)
-            (moment_of (lent self.old (F.holds source.old)) status.old
-            (O.contents out.old) (E.contents err.old))
-            (moment_of (lent self.new (F.holds source.new)) status.new
-            (O.contents out.new) (E.contents err.new)) }
-        ensures source { (name : List ℕ) → F.holds source.new name ≡ F.holds source.old name }
+            (moment O.contents E.contents (lent self.old (F.holds source.old)) outputs.old)
+            (moment O.contents E.contents (lent self.new (F.holds source.new)) outputs.new) }
     {
-        echo_text(self.settings.echo(), unit.text.as_str(), out)?;
+        echo_text(self.settings.echo(), unit.text.as_str(), &mut outputs.out)?;
         let told = unit_turn(
             self.alloc,
             &mut self.settings,
@@ -346,43 +286,39 @@ impl<P: Alter, S: Alter> Session<P, S> {
             source,
             unit,
         );
-        tell(&told, status, out, err)
+        tell(&told, outputs)
     }
 
     // The fault line of a line that is refused, or of the end of the input.
     fn refuse<O: Write, E: Write>(
         &mut self,
         refusal: &Refusal,
-        status: &mut Status,
-        out: &mut O,
-        err: &mut E,
+        outputs: &mut Outputs<O, E>,
     ) -> Result<(), RunFault>
         ensures { (holds : Files)
             → Runs P.Store S.Store result (λ (rest : List Member).
             Fault refusal.now.line refusal.now.fault ∷ rest) (λ (rest : List Member). rest)
-            (moment_of (lent self.old holds) status.old (O.contents out.old) (E.contents err.old))
-            (moment_of (lent self.new holds) status.new (O.contents out.new) (E.contents err.new)) }
+            (moment O.contents E.contents (lent self.old holds) outputs.old)
+            (moment O.contents E.contents (lent self.new holds) outputs.new) }
     {
         let text = split_text(&refusal.fault);
         let told = Told::blames(self.alloc, &self.settings, refusal.line, text);
-        tell(&told, status, out, err)
+        tell(&told, outputs)
     }
 
     fn refuse_some<O: Write, E: Write>(
         &mut self,
         refused: &Option<Refusal>,
-        status: &mut Status,
-        out: &mut O,
-        err: &mut E,
+        outputs: &mut Outputs<O, E>,
     ) -> Result<(), RunFault>
         ensures { (holds : Files)
             → Runs P.Store S.Store result (λ (rest : List Member). refused_as refused.now ++ rest)
             (λ (rest : List Member). rest)
-            (moment_of (lent self.old holds) status.old (O.contents out.old) (E.contents err.old))
-            (moment_of (lent self.new holds) status.new (O.contents out.new) (E.contents err.new)) }
+            (moment O.contents E.contents (lent self.old holds) outputs.old)
+            (moment O.contents E.contents (lent self.new holds) outputs.new) }
     {
         match refused {
-            Some(refusal) => self.refuse(refusal, status, out, err),
+            Some(refusal) => self.refuse(refusal, outputs),
             None => Ok(()),
         }
     }
@@ -391,82 +327,65 @@ impl<P: Alter, S: Alter> Session<P, S> {
     fn finish_line<O: Write, E: Write, F: Source>(
         &mut self,
         feed: &mut Feed,
-        status: &mut Status,
         source: &mut F,
-        out: &mut O,
-        err: &mut E,
+        outputs: &mut Outputs<O, E>,
     ) -> Result<(), RunFault>
-        requires waiting { feed.old.splitting.waiting ≡ [] }
-        requires quit { status.old.quit ≡ false }
+        requires goes { GoesOn outputs.old.status feed.old }
         ensures runs { Runs P.Store S.Store result (λ (_ : ⊤). members_left feed.old [])
             (λ (_ : ⊤). members_left feed.new [])
-            (moment_of (lent self.old (F.holds source.old)) status.old
-            (O.contents out.old) (E.contents err.old))
-            (moment_of (lent self.new (F.holds source.new)) status.new
-            (O.contents out.new) (E.contents err.new)) }
-        ensures waiting { OnOk result (status.new.quit ≡ false → feed.new.splitting.waiting ≡ []) }
+            (moment O.contents E.contents (lent self.old (F.holds source.old)) outputs.old)
+            (moment O.contents E.contents (lent self.new (F.holds source.new)) outputs.new) }
+        ensures waiting { OnOk result (NoneWaits outputs.new.status feed.new) }
         ensures line { OnOk result (feed.new.line ≡ []) }
-        ensures source { (name : List ℕ) → F.holds source.new name ≡ F.holds source.old name }
     {
         if feed.is_between_lines() {
             return Ok(());
         }
-        self.end_line(feed, status, source, out, err)
+        self.end_line(feed, source, outputs)
     }
 
     // The input ends: what is pending is a unit, or it is refused.
     fn finish<O: Write, E: Write, F: Source>(
         &mut self,
         feed: &mut Feed,
-        status: &mut Status,
         source: &mut F,
-        out: &mut O,
-        err: &mut E,
+        outputs: &mut Outputs<O, E>,
     ) -> Result<(), RunFault>
-        requires waiting { feed.old.splitting.waiting ≡ [] }
-        requires quit { status.old.quit ≡ false }
-        ensures runs { Runs P.Store S.Store result (λ (_ : ⊤). members_left feed.old [])
+        requires goes { GoesOn outputs.old.status feed.old }
+        ensures { Runs P.Store S.Store result (λ (_ : ⊤). members_left feed.old [])
             (λ (_ : ⊤). [])
-            (moment_of (lent self.old (F.holds source.old)) status.old
-            (O.contents out.old) (E.contents err.old))
-            (moment_of (lent self.new (F.holds source.new)) status.new
-            (O.contents out.new) (E.contents err.new)) }
-        ensures source { (name : List ℕ) → F.holds source.new name ≡ F.holds source.old name }
+            (moment O.contents E.contents (lent self.old (F.holds source.old)) outputs.old)
+            (moment O.contents E.contents (lent self.new (F.holds source.new)) outputs.new) }
     {
-        self.finish_line(feed, status, source, out, err)?;
-        if status.quit {
+        self.finish_line(feed, source, outputs)?;
+        if outputs.status.quit {
             return Ok(());
         }
-        self.finish_last(feed, status, source, out, err)
+        self.finish_last(feed, source, outputs)
     }
 
     // What is pending behind the last line is a unit, or it is refused.
     fn finish_last<O: Write, E: Write, F: Source>(
         &mut self,
         feed: &mut Feed,
-        status: &mut Status,
         source: &mut F,
-        out: &mut O,
-        err: &mut E,
+        outputs: &mut Outputs<O, E>,
     ) -> Result<(), RunFault>
         requires waiting { feed.old.splitting.waiting ≡ [] }
         requires between { feed.old.line ≡ [] }
-        ensures runs { Runs P.Store S.Store result (λ (_ : ⊤). members_left feed.old [])
+        ensures { Runs P.Store S.Store result (λ (_ : ⊤). members_left feed.old [])
             (λ (_ : ⊤). [])
-            (moment_of (lent self.old (F.holds source.old)) status.old
-            (O.contents out.old) (E.contents err.old))
-            (moment_of (lent self.new (F.holds source.new)) status.new
-            (O.contents out.new) (E.contents err.new)) }
-        ensures source { (name : List ℕ) → F.holds source.new name ≡ F.holds source.old name }
+            (moment O.contents E.contents (lent self.old (F.holds source.old)) outputs.old)
+            (moment O.contents E.contents (lent self.new (F.holds source.new)) outputs.new) }
     {
         match feed.finish() {
-            Ok(Some(unit)) => self.run_unit(&unit, status, source, out, err),
+            Ok(Some(unit)) => self.run_unit(&unit, source, outputs),
             Ok(None) => Ok(()),
             Err(fault) => {
                 if is_memory(&fault) {
                     return Err(RunFault::Memory);
                 }
-                self.refuse(&end_refusal(fault), status, out, err)
+                self.refuse(&end_refusal(fault), outputs)
             }
         }
     }

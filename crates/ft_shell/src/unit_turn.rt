@@ -1,5 +1,4 @@
 // What a unit of the input does in a session.
-ghost use Rattle.std.specs.Prelude.{◌≡◌, ℕ, List};
 ghost use Rattle.shell_text.specs.Splitting.{member_of_unit};
 ghost use Rattle.plain_shell.specs.ToldViews.{told_as};
 ghost use Rattle.ft_shell.specs.Turns.{Body};
@@ -22,10 +21,9 @@ pub(crate) fn unit_turn<P: Alter, S: Alter, F: Source>(
     source: &mut F,
     unit: &Unit,
 ) -> Told
-    ensures body { Body P.Store S.Store (member_of_unit unit.now)
+    ensures { Body P.Store S.Store (member_of_unit unit.now)
         (shell_of settings.old plain.old full_text.old (F.holds source.old))
         (shell_of settings.new plain.new full_text.new (F.holds source.new)) (told_as result) }
-    ensures source { (name : List ℕ) → F.holds source.new name ≡ F.holds source.old name }
 {
     let text = unit.text.as_str();
     match unit.kind {

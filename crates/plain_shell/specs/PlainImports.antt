@@ -1,7 +1,8 @@
 -- Meaning. What an import does to the plain database: one transaction, whole or not at all ("Importing files as CSV or other formats" of
 -- "Command Line Shell For SQLite"; that an import is one command is an own choice). All that is said of a step has the premise that the
 -- disk is clean as the step ends; then it was clean as the step began.
-use Rattle.std.specs.Prelude.{ℕ, Bool, ◌≡◌, ◌⊎◌, ◌<◌, ◌≤◌, List, [], ◌∷◌, ◌++◌, map, true, false, Option, Some, None, Ok, Err, is_ok, IsTrue}
+use Rattle.std.specs.Prelude.{ℕ, Bool, ◌≡◌, ◌⊎◌, ◌<◌, ◌≤◌, List, [], ◌∷◌, ◌++◌, map, true, false, Option, Some, None, Result, Ok, Err, IfOk, OnOk, IsErrOf, is_ok, IsTrue}
+use Rattle.std.specs.Borrow.{MutBor}
 use Rattle.sqlite_value.specs.Order.{Row}
 use Rattle.sqlite_value.specs.declared.value.Value.{Value}
 use Rattle.sqlite_value.specs.declared.value.Value.TheVariants as value
@@ -13,6 +14,8 @@ use Rattle.sqlite.specs.State.{State, HasCleanDisk, ExecutesInside, IsNotRun, Is
 use Rattle.sqlite.specs.State as states
 use Rattle.sqlite.specs.Steps.{FailsToCommit}
 use Rattle.sqlite.specs.declared.error.Error.{Error}
+use Rattle.plain_shell.specs.declared.plain_import.ImportFault.{ImportFault}
+use Rattle.plain_shell.specs.declared.plain_import.ImportFault.TheVariants.{Refused}
 use Rattle.plain_shell.specs.Imports.{creation_of, insertion_of}
 use Rattle.plain_shell.specs.PlainStatements.{IfClean, is_memory_error}
 use Rattle.plain_shell.specs.Records.{fitted}
@@ -129,6 +132,16 @@ module _ {P : Type 0} (g : Ghosts P) where
     not_one : IfClean g old new (Stays (state g old) (state g new) × ((n : ℕ) → HasColumns (state g old).now.schema name n → ⊥)) → Uncounted name old new
     untold : (n : ℕ) (mid : Held P) → IfClean g old mid (Stays (state g old) (state g mid)) → IsRefused (Prepare (insertion_of name n)) mid new → Uncounted name old new
 
+  -- It is tried whether so many values may be put into a table: that is told, and the database is as before; or `sqlite` refuses to say.
+  pub record TriesCount (name : List ℕ) (n : ℕ) (old new : Held P) (result : Result Bool ImportFault) : Type 0 where
+    pub told : IfOk result (λ takes. IfClean g old new (Stays (state g old) (state g new) × (takes ≡ takes_values (state g old).now.schema name n)))
+    pub refused : IsErrOf result Refused → IsRefused (Prepare (insertion_of name n)) old new
+
+  -- The columns of a table are counted, and the database is as before; or it has no number of them. Want of memory says nothing of it.
+  pub record CountsColumns (name : List ℕ) (old new : Held P) (result : Result ℕ ImportFault) : Type 0 where
+    pub counted : IfOk result (λ n. IfClean g old new (Stays (state g old) (state g new) × HasColumns (state g old).now.schema name n))
+    pub uncounted : IsErrOf result Refused → Uncounted name old new
+
   -- where the disk is clean a transaction is open
   abbrev pub IsInside : Held P → Type 0
   IsInside h = HasCleanDisk (state g h) → IsTrue (state g h).in_transaction
@@ -136,3 +149,20 @@ module _ {P : Type 0} (g : Ghosts P) where
   -- nothing of what was committed is changed
   abbrev pub KeepsLast : Held P → Held P → Type 0
   KeepsLast old new = IfClean g old new (KeepsCommit (state g old) (state g new))
+
+  -- What is done in a transaction leaves, whatever it is answered: the transaction is of the same connection, nothing of what was committed is
+  -- changed, and behind an Ok the transaction is still open.
+  pub record StaysInside {X : Type 0} (old new : MutBor (Held P)) (result : Result X ImportFault) : Type 0 where
+    pub same_reference : new.ghost_name ≡ old.ghost_name
+    pub kept : KeepsLast old.now new.now
+    pub inside : OnOk result (IsInside new.now)
+
+  -- what is made of a step: it is done, or `sqlite` refuses it; want of memory says nothing of it
+  pub record TriesStep {X : Type 0} (step : Step) (old new : Held P) (result : Result X ImportFault) : Type 0 where
+    pub done : OnOk result (Does step old new)
+    pub refused : IsErrOf result Refused → IsRefused step old new
+
+  -- so of steps, one after the other, up to one that is refused
+  pub record TriesSteps {X : Type 0} (steps : List Step) (old new : Held P) (result : Result X ImportFault) : Type 0 where
+    pub done : OnOk result (DoesAll steps old new)
+    pub refused : IsErrOf result Refused → StopsAtStep steps old new

@@ -28,6 +28,6 @@ pub use crate::queries::{query_turn, refusal};
 pub use crate::readable::reads_table;
 pub use crate::records::{left_records, skipped, warnings};
 pub use crate::replies::{fault_told, reply_told};
-pub use crate::run::{RunFault, Status, echo_text, flush, is_over, read_chunk, tell};
+pub use crate::run::{Outputs, RunFault, Status, echo_text, flush, is_over, read_chunk, tell};
 pub use crate::source::{Source, SourceFault, unfetched};
 pub use crate::told::{FaultText, Told};

@@ -1,5 +1,5 @@
 // Records into a table of the plain database, in one transaction.
-ghost use Rattle.std.specs.Prelude.{ℕ, List, ◌≡◌, ◌+◌, ◌≤◌, [], ◌∷◌, map, if◌then◌else◌, option_map, string_bytes, IfOk, OnOk, OnErr, IsErrOf};
+ghost use Rattle.std.specs.Prelude.{ℕ, List, ◌≡◌, ◌+◌, ◌≤◌, [], ◌∷◌, map, if◌then◌else◌, option_map, string_bytes, IfOk, OnOk, OnErr, IsErrOf, MatchResult};
 ghost use Rattle.sqlite_value.specs.Value.{owned};
 ghost use Rattle.sqlite.specs.Values.{bound};
 ghost use Rattle.sqlite.specs.Schema.{Schema};
@@ -7,7 +7,7 @@ ghost use Rattle.sqlite.specs.Held.{state};
 ghost use Rattle.sqlite.specs.State.{HasCleanDisk};
 ghost use Rattle.plain_shell.specs.declared.plain_import.ImportFault.TheVariants.{Refused, Memory};
 ghost use Rattle.plain_shell.specs.Imports.{creation_of, insertion_of};
-ghost use Rattle.plain_shell.specs.PlainImports.{HasColumns, IsOnlyBelow, Stays, CommitsNothing, Prepare, Run, runs_of, insertions, import_steps, Does, IsRefused, DoesAll, StopsAtStep, CommitsAll, Declines, Uncounted, IsInside, KeepsLast};
+ghost use Rattle.plain_shell.specs.PlainImports.{HasColumns, IsOnlyBelow, CommitsNothing, Prepare, Run, runs_of, insertions, import_steps, CommitsAll, CountsColumns, Declines, IsInside, StaysInside, TriesCount, TriesStep, TriesSteps};
 ghost use Rattle.plain_shell.specs.PlainStatements.{IfClean};
 ghost use Rattle.plain_shell.specs.PlainStatements as turns;
 ghost use Rattle.plain_shell.specs.PlainImports as forms;
@@ -93,15 +93,10 @@ fn fill<P: Alter>(
     records: &[Vec<String>],
 ) -> Result<(), ImportFault>
     requires inside { IsInside P.Store tx.old.conn.now }
-    ensures same_reference { tx.new.conn.ghost_name ≡ tx.old.conn.ghost_name }
-    ensures done { OnOk result (DoesAll P.Store
+    ensures steps { TriesSteps P.Store
         (import_steps (option_map (λ n. map string_bytes n.now) names.entry) table.now columns
-        (map texts_of records.now)) tx.old.conn.now tx.new.conn.now) }
-    ensures refused { IsErrOf result ImportFault.Refused
-        → StopsAtStep P.Store (import_steps (option_map (λ n. map string_bytes n.now) names.entry)
-        table.now columns (map texts_of records.now)) tx.old.conn.now tx.new.conn.now }
-    ensures kept { KeepsLast P.Store tx.old.conn.now tx.new.conn.now }
-    ensures inside { OnOk result (IsInside P.Store tx.new.conn.now) }
+        (map texts_of records.now)) tx.old.conn.now tx.new.conn.now result }
+    ensures stays { StaysInside P.Store tx.old.conn tx.new.conn result }
 {
     match names {
         Some(names) => make_and_insert(alloc, tx, table, names, columns, records),
@@ -119,15 +114,10 @@ fn make_and_insert<P: Alter>(
     records: &[Vec<String>],
 ) -> Result<(), ImportFault>
     requires inside { IsInside P.Store tx.old.conn.now }
-    ensures same_reference { tx.new.conn.ghost_name ≡ tx.old.conn.ghost_name }
-    ensures done { OnOk result (DoesAll P.Store
+    ensures steps { TriesSteps P.Store
         (Run (creation_of table.now (map string_bytes names.now)) [] ∷ insertions table.now columns
-        (map texts_of records.now)) tx.old.conn.now tx.new.conn.now) }
-    ensures refused { IsErrOf result ImportFault.Refused
-        → StopsAtStep P.Store (Run (creation_of table.now (map string_bytes names.now)) []
-        ∷ insertions table.now columns (map texts_of records.now)) tx.old.conn.now tx.new.conn.now }
-    ensures kept { KeepsLast P.Store tx.old.conn.now tx.new.conn.now }
-    ensures inside { OnOk result (IsInside P.Store tx.new.conn.now) }
+        (map texts_of records.now)) tx.old.conn.now tx.new.conn.now result }
+    ensures stays { StaysInside P.Store tx.old.conn tx.new.conn result }
 {
     create_table(alloc, tx, table, names)?;
     insert_records(alloc, tx, table, columns, records)
@@ -141,14 +131,9 @@ fn create_table<P: Alter>(
     names: &[String],
 ) -> Result<(), ImportFault>
     requires inside { IsInside P.Store tx.old.conn.now }
-    ensures same_reference { tx.new.conn.ghost_name ≡ tx.old.conn.ghost_name }
-    ensures done { OnOk result (Does P.Store (Run
-        (creation_of table.now (map string_bytes names.now)) []) tx.old.conn.now tx.new.conn.now) }
-    ensures refused { IsErrOf result ImportFault.Refused
-        → IsRefused P.Store (Run (creation_of table.now (map string_bytes names.now)) [])
-        tx.old.conn.now tx.new.conn.now }
-    ensures kept { KeepsLast P.Store tx.old.conn.now tx.new.conn.now }
-    ensures inside { OnOk result (IsInside P.Store tx.new.conn.now) }
+    ensures step { TriesStep P.Store (Run (creation_of table.now (map string_bytes names.now)) [])
+        tx.old.conn.now tx.new.conn.now result }
+    ensures stays { StaysInside P.Store tx.old.conn tx.new.conn result }
 {
     let text = creation_text(alloc, table, names)?;
     let _count = tx.execute(text.as_str(), &[])?;
@@ -164,14 +149,9 @@ fn insert_records<P: Alter>(
     records: &[Vec<String>],
 ) -> Result<(), ImportFault>
     requires inside { IsInside P.Store tx.old.conn.now }
-    ensures same_reference { tx.new.conn.ghost_name ≡ tx.old.conn.ghost_name }
-    ensures done { OnOk result (DoesAll P.Store
-        (insertions table.now columns (map texts_of records.now)) tx.old.conn.now tx.new.conn.now) }
-    ensures refused { IsErrOf result ImportFault.Refused
-        → StopsAtStep P.Store (insertions table.now columns (map texts_of records.now))
-        tx.old.conn.now tx.new.conn.now }
-    ensures kept { KeepsLast P.Store tx.old.conn.now tx.new.conn.now }
-    ensures inside { OnOk result (IsInside P.Store tx.new.conn.now) }
+    ensures steps { TriesSteps P.Store (insertions table.now columns (map texts_of records.now))
+        tx.old.conn.now tx.new.conn.now result }
+    ensures stays { StaysInside P.Store tx.old.conn tx.new.conn result }
 {
     let statement = prepared_insertion(alloc, tx, table, columns)?;
     insert_all(alloc, tx, &statement, columns, records)
@@ -185,16 +165,11 @@ fn prepared_insertion<P: Alter>(
     columns: usize,
 ) -> Result<Statement, ImportFault>
     requires inside { IsInside P.Store tx.old.conn.now }
-    ensures same_reference { tx.new.conn.ghost_name ≡ tx.old.conn.ghost_name }
-    ensures done { OnOk result (Does P.Store (Prepare (insertion_of table.now columns))
-        tx.old.conn.now tx.new.conn.now) }
+    ensures step { TriesStep P.Store (Prepare (insertion_of table.now columns)) tx.old.conn.now
+        tx.new.conn.now result }
     ensures text { IfOk result (λ statement. HasCleanDisk (state P.Store tx.new.conn.now)
         → statement.text ≡ insertion_of table.now columns) }
-    ensures refused { IsErrOf result ImportFault.Refused
-        → IsRefused P.Store (Prepare (insertion_of table.now columns)) tx.old.conn.now
-        tx.new.conn.now }
-    ensures kept { KeepsLast P.Store tx.old.conn.now tx.new.conn.now }
-    ensures inside { OnOk result (IsInside P.Store tx.new.conn.now) }
+    ensures stays { StaysInside P.Store tx.old.conn tx.new.conn result }
 {
     let text = insertion_text(alloc, table, columns)?;
     let statement = tx.prepare(text.as_str())?;
@@ -210,17 +185,11 @@ fn insert_all<P: Alter>(
     records: &[Vec<String>],
 ) -> Result<(), ImportFault>
     requires inside { IsInside P.Store tx.old.conn.now }
-    ensures same_reference { tx.new.conn.ghost_name ≡ tx.old.conn.ghost_name }
-    ensures done { OnOk result ((text : List ℕ)
+    ensures steps { (text : List ℕ)
         → (HasCleanDisk (state P.Store tx.old.conn.now) → statement.now.text ≡ text)
-        → DoesAll P.Store (runs_of text columns (map texts_of records.now)) tx.old.conn.now
-        tx.new.conn.now) }
-    ensures refused { IsErrOf result ImportFault.Refused → (text : List ℕ)
-        → (HasCleanDisk (state P.Store tx.old.conn.now) → statement.now.text ≡ text)
-        → StopsAtStep P.Store (runs_of text columns (map texts_of records.now)) tx.old.conn.now
-        tx.new.conn.now }
-    ensures kept { KeepsLast P.Store tx.old.conn.now tx.new.conn.now }
-    ensures inside { OnOk result (IsInside P.Store tx.new.conn.now) }
+        → TriesSteps P.Store (runs_of text columns (map texts_of records.now)) tx.old.conn.now
+        tx.new.conn.now result }
+    ensures stays { StaysInside P.Store tx.old.conn tx.new.conn result }
 {
     for fields in records {
         insert_record(alloc, tx, statement, fields.as_slice(), columns)?;
@@ -237,17 +206,11 @@ fn insert_record<P: Alter>(
     columns: usize,
 ) -> Result<(), ImportFault>
     requires inside { IsInside P.Store tx.old.conn.now }
-    ensures same_reference { tx.new.conn.ghost_name ≡ tx.old.conn.ghost_name }
-    ensures done { OnOk result ((text : List ℕ)
+    ensures step { (text : List ℕ)
         → (HasCleanDisk (state P.Store tx.old.conn.now) → statement.now.text ≡ text)
-        → Does P.Store (Run text (forms.row_values columns (map string_bytes fields.now)))
-        tx.old.conn.now tx.new.conn.now) }
-    ensures refused { IsErrOf result ImportFault.Refused → (text : List ℕ)
-        → (HasCleanDisk (state P.Store tx.old.conn.now) → statement.now.text ≡ text)
-        → IsRefused P.Store (Run text (forms.row_values columns (map string_bytes fields.now)))
-        tx.old.conn.now tx.new.conn.now }
-    ensures kept { KeepsLast P.Store tx.old.conn.now tx.new.conn.now }
-    ensures inside { OnOk result (IsInside P.Store tx.new.conn.now) }
+        → TriesStep P.Store (Run text (forms.row_values columns (map string_bytes fields.now)))
+        tx.old.conn.now tx.new.conn.now result }
+    ensures stays { StaysInside P.Store tx.old.conn tx.new.conn result }
 {
     let row = row_values(alloc, fields, columns)?;
     let _count = tx.execute_prepared(statement, row.as_slice())?;
@@ -286,11 +249,7 @@ pub(crate) fn column_count<P: Alter>(
     plain: &mut Connection<P>,
     table: &str,
 ) -> Result<usize, ImportFault>
-    ensures counted { IfOk result (λ n. IfClean P.Store plain.old plain.new
-        (Stays (state P.Store plain.old) (state P.Store plain.new)
-        × HasColumns (state P.Store plain.old).now.schema table.now n)) }
-    ensures uncounted { IsErrOf result ImportFault.Refused
-        → Uncounted P.Store table.now plain.old plain.new }
+    ensures counts { CountsColumns P.Store table.now plain.old plain.new result }
     ensures kept { OnErr result (IfClean P.Store plain.old plain.new
         (CommitsNothing (state P.Store plain.old) (state P.Store plain.new))) }
 {
@@ -312,11 +271,7 @@ fn takes_values<P: Alter>(
     table: &str,
     count: usize,
 ) -> Result<bool, ImportFault>
-    ensures told { IfOk result (λ takes. IfClean P.Store plain.old plain.new
-        (Stays (state P.Store plain.old) (state P.Store plain.new)
-        × (takes ≡ forms.takes_values (state P.Store plain.old).now.schema table.now count))) }
-    ensures refused { IsErrOf result ImportFault.Refused
-        → IsRefused P.Store (Prepare (insertion_of table.now count)) plain.old plain.new }
+    ensures tries { TriesCount P.Store table.now count plain.old plain.new result }
     ensures kept { IfClean P.Store plain.old plain.new
         (CommitsNothing (state P.Store plain.old) (state P.Store plain.new)) }
 {
@@ -331,12 +286,10 @@ fn takes_values<P: Alter>(
 // The one number so far of values that a table takes, with a number more that was tried.
 fn with_count(found: Option<usize>, takes: bool, count: usize) -> Result<Option<usize>, ImportFault>
     requires { 1 ≤ count }
-    ensures only { IfOk result (λ next. (schema : Schema) (name : List ℕ)
+    ensures { (schema : Schema) (name : List ℕ)
         → takes ≡ forms.takes_values schema name count → IsOnlyBelow schema name count found
-        → IsOnlyBelow schema name (count + 1) next) }
-    ensures two { OnErr result ((schema : Schema) (name : List ℕ)
-        → takes ≡ forms.takes_values schema name count → IsOnlyBelow schema name count found
-        → count ≤ 100 → (n : ℕ) → HasColumns schema name n → ⊥) }
+        → MatchResult result (λ next. IsOnlyBelow schema name (count + 1) next)
+        (λ _. count ≤ 100 → (n : ℕ) → HasColumns schema name n → ⊥) }
 {
     if !takes {
         return Ok(found);

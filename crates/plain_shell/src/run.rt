@@ -1,10 +1,10 @@
 // How a run goes on from turn to turn, and how it ends.
-ghost use Rattle.std.specs.Prelude.{◌≡◌, ◌⊎◌, ◌≤◌, ◌<◌, ◌+◌, ◌-◌, ◌^◌, ◌||◌, min, true, false, length, take, IfOk, IfErr, OnOk, OnErr};
+ghost use Rattle.std.specs.Prelude.{◌≡◌, ◌⊎◌, ◌≤◌, ◌<◌, ◌+◌, ◌-◌, ◌^◌, [], min, true, false, length, IfOk, IfErr, OnErr};
 ghost use Rattle.std.specs.Io.KnownBytes.{Consumes, IsAtEnd, Keeps};
 ghost use Rattle.plain_shell.specs.declared.run.RunFault.TheVariants.{Memory, Write};
 ghost use Rattle.plain_shell.specs.Told as forms;
 ghost use Rattle.plain_shell.specs.ToldViews.{told_as};
-ghost use Rattle.plain_shell.specs.Writing.{Sends};
+ghost use Rattle.plain_shell.specs.Writing.{Sends, Writes};
 
 use crate::told::Told;
 use crate::written::{Refused, write_echo, write_told};
@@ -19,6 +19,31 @@ pub struct Status {
     pub faults: u64,
     /// Whether a command, or a fault line where bail is on, ended the session.
     pub quit: bool,
+}
+
+/// The two outputs of a run, with its status so far.
+#[derive(Drop)]
+pub struct Outputs<O, E> {
+    pub status: Status,
+    pub out: O,
+    pub err: E,
+}
+
+impl<O, E> Outputs<O, E> {
+    /// Outputs before a run.
+    pub fn new(out: O, err: E) -> Outputs<O, E>
+        ensures { result
+            ≡ record { status = record { faults = 0; quit = false }; out = out; err = err } }
+    {
+        Outputs {
+            status: Status {
+                faults: 0,
+                quit: false,
+            },
+            out,
+            err,
+        }
+    }
 }
 
 /// Why a run ended before the end of its input.
@@ -81,21 +106,12 @@ fn faults_with(faults: u64, told: &Told) -> u64
 }
 
 /// Writes what a turn tells, and counts its fault line.
-pub fn tell<O: Write, E: Write>(
-    told: &Told,
-    status: &mut Status,
-    out: &mut O,
-    err: &mut E,
-) -> Result<(), RunFault>
-    ensures out { Sends result (O.contents out.old) (O.contents out.new) (told_as told.now).out }
-    ensures err { Sends result (E.contents err.old) (E.contents err.new) (told_as told.now).err }
-    ensures fault { IfErr result (λ fault. fault ≡ RunFault.Write) }
-    ensures faults { OnOk result (status.new.faults
-        ≡ min (status.old.faults + (told_as told.now).faults) (2 ^ 64 - 1)) }
-    ensures quit { OnOk result (status.new.quit ≡ (status.old.quit || (told_as told.now).ends)) }
+pub fn tell<O: Write, E: Write>(told: &Told, outputs: &mut Outputs<O, E>) -> Result<(), RunFault>
+    ensures { Writes O.contents E.contents result outputs.old outputs.new (told_as told.now) }
 {
-    write_told(told, out, err)?;
-    *status = Status {
+    write_told(told, &mut outputs.out, &mut outputs.err)?;
+    let status = outputs.status;
+    outputs.status = Status {
         faults: faults_with(status.faults, told),
         quit: status.quit || told.ends,
     };
@@ -114,18 +130,18 @@ pub fn echo_text<O: Write>(echo: bool, text: &str, out: &mut O) -> Result<(), Ru
     Ok(())
 }
 
-/// Reads a piece of the input.
-pub fn read_chunk<R: Read>(reader: &mut R, chunk: &mut [u8]) -> Result<usize, RunFault>
-    ensures bound { IfOk result (λ n. n ≤ length chunk.new) }
-    ensures bytes { IfOk result (λ n. Consumes (R.remaining reader.old) (R.remaining reader.new)
-        (take n chunk.new)) }
-    ensures end { IfOk result (λ n. n ≡ 0 → 0 < length chunk.new
+/// Reads a piece of the input, and gives the bytes of it.
+pub fn read_chunk<'c, R: Read>(reader: &mut R, chunk: &'c mut [u8]) -> Result<&'c [u8], RunFault>
+    ensures bound { IfOk result (λ bytes. length bytes.now ≤ length chunk.old) }
+    ensures bytes { IfOk result (λ bytes. Consumes (R.remaining reader.old) (R.remaining reader.new)
+        bytes.now) }
+    ensures end { IfOk result (λ bytes. bytes.now ≡ [] → 0 < length chunk.old
         → IsAtEnd (R.remaining reader.new)) }
     ensures kept { OnErr result (Keeps (R.remaining reader.old) (R.remaining reader.new)) }
     ensures fault { IfErr result (λ fault. fault ≡ RunFault.Read) }
 {
     match reader.read(chunk) {
-        Ok(n) => Ok(n),
+        Ok(n) => Ok(&chunk[..n]),
         Err(_) => Err(RunFault::Read),
     }
 }

@@ -15,9 +15,9 @@ returns-in_err-status g c =
     let bytes = c.as_bytes-bytes.result.now in
     let inputs = map Some (map string_bytes texts) in
     let left = map Some (map string_bytes (drop (i + 1) texts)) in
-    let old : Stage g.row.P.Denot g.row.S.Denot = record { parts = c.args.session.now; on = record { out = g.O.Write.contents c.args.out.now; err = g.E.Write.contents c.args.err.now } } in
-    let mid : Stage g.row.P.Denot g.row.S.Denot = record { parts = c.loop-text.session; on = record { out = g.O.Write.contents c.loop-text.out; err = g.E.Write.contents c.loop-text.err } } in
-    let new : Stage g.row.P.Denot g.row.S.Denot = record { parts = c.run.new.self; on = record { out = g.O.Write.contents c.run.new.out; err = g.E.Write.contents c.run.new.err } } in
+    let old : Stage g.row.P.Denot g.row.S.Denot = record { parts = c.args.session.now; on = record { out = g.O.Write.contents c.args.outputs.now.out; err = g.E.Write.contents c.args.outputs.now.err } } in
+    let mid : Stage g.row.P.Denot g.row.S.Denot = record { parts = c.loop-text.session; on = record { out = g.O.Write.contents c.loop-text.outputs.out; err = g.E.Write.contents c.loop-text.outputs.err } } in
+    let new : Stage g.row.P.Denot g.row.S.Denot = record { parts = c.run.new.self; on = record { out = g.O.Write.contents c.run.new.outputs.out; err = g.E.Write.contents c.run.new.outputs.err } } in
     let far = subst (λ rest. SoFar g.P.Store g.S.Store inputs rest old mid c.loop-text.faults) (next_text texts i c.text-item.result bytes c.loop-text-test.true c.text-item.is c.as_bytes-bytes.ensures.value) c.loop-text.invariant in
     let ran = c.in_err-status.ensures.ran in
     ends_by_fault g.P.Store g.S.Store inputs left (Some bytes) old mid new c.loop-text.faults c.in_err-status.field-0.0 ran.0 c.from_residual.result is far (Some c.run.new.reader.now, ran.1)
@@ -31,9 +31,9 @@ returns-then-status g c =
     let bytes = c.as_bytes-bytes.result.now in
     let inputs = map Some (map string_bytes texts) in
     let left = map Some (map string_bytes (drop (i + 1) texts)) in
-    let old : Stage g.row.P.Denot g.row.S.Denot = record { parts = c.args.session.now; on = record { out = g.O.Write.contents c.args.out.now; err = g.E.Write.contents c.args.err.now } } in
-    let mid : Stage g.row.P.Denot g.row.S.Denot = record { parts = c.loop-text.session; on = record { out = g.O.Write.contents c.loop-text.out; err = g.E.Write.contents c.loop-text.err } } in
-    let new : Stage g.row.P.Denot g.row.S.Denot = record { parts = c.run.new.self; on = record { out = g.O.Write.contents c.run.new.out; err = g.E.Write.contents c.run.new.err } } in
+    let old : Stage g.row.P.Denot g.row.S.Denot = record { parts = c.args.session.now; on = record { out = g.O.Write.contents c.args.outputs.now.out; err = g.E.Write.contents c.args.outputs.now.err } } in
+    let mid : Stage g.row.P.Denot g.row.S.Denot = record { parts = c.loop-text.session; on = record { out = g.O.Write.contents c.loop-text.outputs.out; err = g.E.Write.contents c.loop-text.outputs.err } } in
+    let new : Stage g.row.P.Denot g.row.S.Denot = record { parts = c.run.new.self; on = record { out = g.O.Write.contents c.run.new.outputs.out; err = g.E.Write.contents c.run.new.outputs.err } } in
     let far = subst (λ rest. SoFar g.P.Store g.S.Store inputs rest old mid c.loop-text.faults) (next_text texts i c.text-item.result bytes c.loop-text-test.true c.text-item.is c.as_bytes-bytes.ensures.value) c.loop-text.invariant in
     let ran = c.in_ok-status.ensures.ran in
     ends_by_quit g.P.Store g.S.Store inputs left (Some bytes) old mid new c.loop-text.faults c.saturating_add-faults.result c.in_ok-status.status ran.0 far (Some c.run.new.reader.now, ran.1) quits sum
@@ -47,9 +47,9 @@ loop-text-preserved g c =
     let bytes = c.as_bytes-bytes.result.now in
     let inputs = map Some (map string_bytes texts) in
     let left = map Some (map string_bytes (drop (i + 1) texts)) in
-    let old : Stage g.row.P.Denot g.row.S.Denot = record { parts = c.args.session.now; on = record { out = g.O.Write.contents c.args.out.now; err = g.E.Write.contents c.args.err.now } } in
-    let mid : Stage g.row.P.Denot g.row.S.Denot = record { parts = c.loop-text.session; on = record { out = g.O.Write.contents c.loop-text.out; err = g.E.Write.contents c.loop-text.err } } in
-    let new : Stage g.row.P.Denot g.row.S.Denot = record { parts = c.run.new.self; on = record { out = g.O.Write.contents c.run.new.out; err = g.E.Write.contents c.run.new.err } } in
+    let old : Stage g.row.P.Denot g.row.S.Denot = record { parts = c.args.session.now; on = record { out = g.O.Write.contents c.args.outputs.now.out; err = g.E.Write.contents c.args.outputs.now.err } } in
+    let mid : Stage g.row.P.Denot g.row.S.Denot = record { parts = c.loop-text.session; on = record { out = g.O.Write.contents c.loop-text.outputs.out; err = g.E.Write.contents c.loop-text.outputs.err } } in
+    let new : Stage g.row.P.Denot g.row.S.Denot = record { parts = c.run.new.self; on = record { out = g.O.Write.contents c.run.new.outputs.out; err = g.E.Write.contents c.run.new.outputs.err } } in
     let far = subst (λ rest. SoFar g.P.Store g.S.Store inputs rest old mid c.loop-text.faults) (next_text texts i c.text-item.result bytes c.loop-text-test.true c.text-item.is c.as_bytes-bytes.ensures.value) c.loop-text.invariant in
     let ran = c.in_ok-status.ensures.ran in
     so_far_more g.P.Store g.S.Store inputs left (Some bytes) old mid new c.loop-text.faults c.saturating_add-faults.result c.in_ok-status.status ran.0 far (Some c.run.new.reader.now, ran.1) goes sum
@@ -58,6 +58,6 @@ pub returns : goal.returns
 returns g c =
     let texts = c.args.inputs.now in
     let inputs = map Some (map string_bytes texts) in
-    let old : Stage g.row.P.Denot g.row.S.Denot = record { parts = c.args.session.now; on = record { out = g.O.Write.contents c.args.out.now; err = g.E.Write.contents c.args.err.now } } in
-    let new : Stage g.row.P.Denot g.row.S.Denot = record { parts = c.loop-text.session; on = record { out = g.O.Write.contents c.loop-text.out; err = g.E.Write.contents c.loop-text.err } } in
+    let old : Stage g.row.P.Denot g.row.S.Denot = record { parts = c.args.session.now; on = record { out = g.O.Write.contents c.args.outputs.now.out; err = g.E.Write.contents c.args.outputs.now.err } } in
+    let new : Stage g.row.P.Denot g.row.S.Denot = record { parts = c.loop-text.session; on = record { out = g.O.Write.contents c.loop-text.outputs.out; err = g.E.Write.contents c.loop-text.outputs.err } } in
     ends_at_end g.P.Store g.S.Store inputs old new c.loop-text.faults (subst (λ rest. SoFar g.P.Store g.S.Store inputs rest old new c.loop-text.faults) (no_text texts c.loop-text.text-index c.loop-text-test.false) c.loop-text.invariant)

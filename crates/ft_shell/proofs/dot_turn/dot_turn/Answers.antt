@@ -6,8 +6,8 @@ use Rattle.ft_shell.specs.DotTurns.{DotTurn}
 use Rattle.plain_shell.specs.ToldViews.{told_as}
 use Rattle.ft_shell.proofs.dot_turn.dot_turn.Goals as goal
 
-pub returns-in-Tables-clause-turn : goal.returns-in-Tables-clause-turn
-returns-in-Tables-clause-turn g c =
+pub returns-in-Tables : goal.returns-in-Tables
+returns-in-Tables g c =
     let is : command_as c.args.command.now ≡ Tables = search rules in
     inl (subst (DotTurn g.P.Store g.S.Store c.args.line
     (record { settings = c.args.settings.now; plain = c.args.plain.now; full_text = c.args.full_text.now; holds = g.F.Source.holds c.args.source.now })

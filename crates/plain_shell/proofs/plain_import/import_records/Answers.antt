@@ -18,7 +18,7 @@ returns-in_err-fill-clause-declined g c =
     let settled : c.args.plain.now.in_transaction ≡ false = search rules in
     let same : c.drop-tx.new.self.0 ≡ c.plain-1.given.0 = search rules in
     λ refused. subst (λ h. Declines g.P.Store steps c.args.plain.now h) same
-    (stopped c.fill.new.tx.conn.now settled (subst (λ h. StopsAtStep g.P.Store steps h c.fill.new.tx.conn.now) c.transaction-tx.ensures.begun (c.in_err-fill.ensures.refused (sym is ∙ refused)))
+    (stopped c.fill.new.tx.conn.now settled (subst (λ h. StopsAtStep g.P.Store steps h c.fill.new.tx.conn.now) c.transaction-tx.ensures.begun (c.in_err-fill.ensures.steps.refused (sym is ∙ refused)))
     (λ clean. (clean_before c.drop-tx.ensures.survives clean, c.drop-tx.ensures.undone clean)))
 
 pub returns-in_err-commit-clause-declined : goal.returns-in_err-commit-clause-declined
@@ -29,7 +29,7 @@ returns-in_err-commit-clause-declined g c =
     let settled : c.args.plain.now.in_transaction ≡ false = search rules in
     let same : c.commit.new.self.0 ≡ c.plain-2-1.given.0 = search rules in
     λ refused. subst (λ h. Declines g.P.Store steps c.args.plain.now h) same
-    (uncommitted c.fill.new.tx.conn.now e settled (subst (λ h. DoesAll g.P.Store steps h c.fill.new.tx.conn.now) c.transaction-tx.ensures.begun c.in_ok-fill.ensures.done)
+    (uncommitted c.fill.new.tx.conn.now e settled (subst (λ h. DoesAll g.P.Store steps h c.fill.new.tx.conn.now) c.transaction-tx.ensures.begun c.in_ok-fill.ensures.steps.done)
     (other_cause e c.from_residual-in_err-commit.result is refused)
     (λ clean. (clean_before c.commit.ensures.survives clean, c.in_err-commit.ensures.err clean)))
 
@@ -38,9 +38,9 @@ returns-in_err-commit-clause-kept g c =
     let e = c.in_err-commit.field-0.0 in
     let is : c.from_residual-in_err-commit.result ≡ Err (if is_memory_error e then Memory else Refused) = search rules in
     let same : c.commit.new.self.0 ≡ c.plain-2-1.given.0 = search rules in
-    let begins = subst (λ h. KeepsLast g.P.Store h c.fill.new.tx.conn.now) c.transaction-tx.ensures.begun c.fill.ensures.kept in
+    let begins = subst (λ h. KeepsLast g.P.Store h c.fill.new.tx.conn.now) c.transaction-tx.ensures.begun c.fill.ensures.stays.kept in
     let kept : IfClean g.P.Store c.args.plain.now c.plain-2-1.given.0 (CommitsNothing (state g.P.Store c.args.plain.now) (state g.P.Store c.plain-2-1.given.0)) = subst (λ h. IfClean g.P.Store c.args.plain.now h (CommitsNothing (state g.P.Store c.args.plain.now) (state g.P.Store h))) same
-    (uncommitted_all_kept g.P.Store c.args.plain.now c.fill.new.tx.conn.now c.commit.new.self.0 e begins c.in_ok-fill.ensures.inside (λ clean. (clean_before c.commit.ensures.survives clean, c.in_err-commit.ensures.err clean))) in
+    (uncommitted_all_kept g.P.Store c.args.plain.now c.fill.new.tx.conn.now c.commit.new.self.0 e begins c.in_ok-fill.ensures.stays.inside (λ clean. (clean_before c.commit.ensures.survives clean, c.in_err-commit.ensures.err clean))) in
     search (rules, kept, is)
 
 pub returns-clause-done : goal.returns-clause-done
@@ -51,6 +51,6 @@ returns-clause-done g c =
     subst (λ h. CommitsAll g.P.Store steps c.args.plain.now h) same (record {
       settled = settled;
       last = c.fill.new.tx.conn.now;
-      done = subst (λ h. DoesAll g.P.Store steps h c.fill.new.tx.conn.now) c.transaction-tx.ensures.begun c.in_ok-fill.ensures.done;
+      done = subst (λ h. DoesAll g.P.Store steps h c.fill.new.tx.conn.now) c.transaction-tx.ensures.begun c.in_ok-fill.ensures.steps.done;
       committed = λ clean. (clean_before c.commit.ensures.survives clean, let all = c.in_ok-commit.ensures.ok clean in (all.1, all.2, all.3));
     })

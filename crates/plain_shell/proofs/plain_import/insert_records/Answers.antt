@@ -1,30 +1,31 @@
 -- the insertion is prepared, and then run
-use Rattle.std.proofs.Common.{rules, ◌≡◌, [], ℕ, List, map, Err, refl}
+use Rattle.std.proofs.Common.{rules, ◌≡◌, [], map, Err, refl}
 use Rattle.std.proofs.lemmas.Result.{on_ok_weaker}
-use Rattle.sqlite.specs.State.{HasCleanDisk}
-use Rattle.sqlite.specs.Held.{state}
 use Rattle.plain_shell.specs.Imports.{insertion_of}
 use Rattle.ft_statements.specs.Views.{texts_of}
 use Rattle.plain_shell.specs.PlainImports.{Prepare, runs_of, DoesAll}
 use Rattle.plain_shell.proofs.PlainImportLemmas.{passed_on, stops_at, stops_later}
 use Rattle.plain_shell.proofs.plain_import.insert_records.Goals as goal
 
-pub returns-in_err-statement-clause-refused : goal.returns-in_err-statement-clause-refused
-returns-in_err-statement-clause-refused g c =
+pub returns-in_err-statement-clause-steps : goal.returns-in_err-statement-clause-steps
+returns-in_err-statement-clause-steps g c =
     let is : c.from_residual.result ≡ Err c.in_err-statement.field-0.0 = search rules in
-    λ refused.
-    stops_at g.P.Store [] (Prepare (insertion_of c.args.table.now c.args.columns)) (runs_of (insertion_of c.args.table.now c.args.columns) c.args.columns (map texts_of c.args.records.now))
-    c.args.tx.now.conn.now c.args.tx.now.conn.now c.prepared_insertion.new.tx.conn.now refl (c.in_err-statement.ensures.refused (passed_on c.in_err-statement.field-0.0 c.from_residual.result is refused))
+    record {
+      done = search (rules, is);
+      refused = λ refused.
+          stops_at g.P.Store [] (Prepare (insertion_of c.args.table.now c.args.columns)) (runs_of (insertion_of c.args.table.now c.args.columns) c.args.columns (map texts_of c.args.records.now))
+          c.args.tx.now.conn.now c.args.tx.now.conn.now c.prepared_insertion.new.tx.conn.now refl (c.in_err-statement.ensures.step.refused (passed_on c.in_err-statement.field-0.0 c.from_residual.result is refused));
+    }
 
-pub returns-clause-done : goal.returns-clause-done
-returns-clause-done g c =
-    on_ok_weaker c.insert_all.result
-    (λ (all : (text : List ℕ) → (HasCleanDisk (state g.P.Store c.prepared_insertion.new.tx.conn.now) → c.in_ok-statement.statement.text ≡ text) → DoesAll g.P.Store (runs_of text c.args.columns (map texts_of c.args.records.now)) c.prepared_insertion.new.tx.conn.now c.insert_all.new.tx.conn.now).
-    (c.prepared_insertion.new.tx.conn.now, c.in_ok-statement.ensures.done, all (insertion_of c.args.table.now c.args.columns) c.in_ok-statement.ensures.text))
-    c.insert_all.ensures.done
-
-pub returns-clause-refused : goal.returns-clause-refused
-returns-clause-refused g c refused =
-    stops_later g.P.Store (Prepare (insertion_of c.args.table.now c.args.columns)) (runs_of (insertion_of c.args.table.now c.args.columns) c.args.columns (map texts_of c.args.records.now))
-    c.args.tx.now.conn.now c.prepared_insertion.new.tx.conn.now c.insert_all.new.tx.conn.now c.in_ok-statement.ensures.done
-    (c.insert_all.ensures.refused refused (insertion_of c.args.table.now c.args.columns) c.in_ok-statement.ensures.text)
+pub returns-clause-steps : goal.returns-clause-steps
+returns-clause-steps g c =
+    let runs = c.insert_all.ensures.steps (insertion_of c.args.table.now c.args.columns) c.in_ok-statement.ensures.text in
+    record {
+      done = on_ok_weaker c.insert_all.result
+          (λ (all : DoesAll g.P.Store (runs_of (insertion_of c.args.table.now c.args.columns) c.args.columns (map texts_of c.args.records.now)) c.prepared_insertion.new.tx.conn.now c.insert_all.new.tx.conn.now).
+          (c.prepared_insertion.new.tx.conn.now, c.in_ok-statement.ensures.step.done, all))
+          runs.done;
+      refused = λ refused.
+          stops_later g.P.Store (Prepare (insertion_of c.args.table.now c.args.columns)) (runs_of (insertion_of c.args.table.now c.args.columns) c.args.columns (map texts_of c.args.records.now))
+          c.args.tx.now.conn.now c.prepared_insertion.new.tx.conn.now c.insert_all.new.tx.conn.now c.in_ok-statement.ensures.step.done (runs.refused refused);
+    }

@@ -7,21 +7,23 @@ use Rattle.plain_shell.specs.PlainImports.{Run, insertions, DoesAll}
 use Rattle.plain_shell.proofs.PlainImportLemmas.{stops_at, stops_later}
 use Rattle.plain_shell.proofs.plain_import.make_and_insert.Goals as goal
 
-pub returns-in_err-create_table-clause-refused : goal.returns-in_err-create_table-clause-refused
-returns-in_err-create_table-clause-refused g c =
+pub returns-in_err-create_table-clause-steps : goal.returns-in_err-create_table-clause-steps
+returns-in_err-create_table-clause-steps g c =
     let is : c.from_residual.result ≡ Err c.in_err-create_table.field-0.0 = search rules in
-    λ refused.
-    stops_at g.P.Store [] (Run (creation_of c.args.table.now (map string_bytes c.args.names.now)) []) (insertions c.args.table.now c.args.columns (map texts_of c.args.records.now))
-    c.args.tx.now.conn.now c.args.tx.now.conn.now c.create_table.new.tx.conn.now refl (c.in_err-create_table.ensures.refused (sym is ∙ refused))
+    record {
+      done = search (rules, is);
+      refused = λ refused.
+          stops_at g.P.Store [] (Run (creation_of c.args.table.now (map string_bytes c.args.names.now)) []) (insertions c.args.table.now c.args.columns (map texts_of c.args.records.now))
+          c.args.tx.now.conn.now c.args.tx.now.conn.now c.create_table.new.tx.conn.now refl (c.in_err-create_table.ensures.step.refused (sym is ∙ refused));
+    }
 
-pub returns-clause-done : goal.returns-clause-done
-returns-clause-done g c =
-    on_ok_weaker c.insert_records.result
-    (λ (all : DoesAll g.P.Store (insertions c.args.table.now c.args.columns (map texts_of c.args.records.now)) c.create_table.new.tx.conn.now c.insert_records.new.tx.conn.now).
-    (c.create_table.new.tx.conn.now, c.in_ok-create_table.ensures.done, all))
-    c.insert_records.ensures.done
-
-pub returns-clause-refused : goal.returns-clause-refused
-returns-clause-refused g c refused =
-    stops_later g.P.Store (Run (creation_of c.args.table.now (map string_bytes c.args.names.now)) []) (insertions c.args.table.now c.args.columns (map texts_of c.args.records.now))
-    c.args.tx.now.conn.now c.create_table.new.tx.conn.now c.insert_records.new.tx.conn.now c.in_ok-create_table.ensures.done (c.insert_records.ensures.refused refused)
+pub returns-clause-steps : goal.returns-clause-steps
+returns-clause-steps g c = record {
+  done = on_ok_weaker c.insert_records.result
+      (λ (all : DoesAll g.P.Store (insertions c.args.table.now c.args.columns (map texts_of c.args.records.now)) c.create_table.new.tx.conn.now c.insert_records.new.tx.conn.now).
+      (c.create_table.new.tx.conn.now, c.in_ok-create_table.ensures.step.done, all))
+      c.insert_records.ensures.steps.done;
+  refused = λ refused.
+      stops_later g.P.Store (Run (creation_of c.args.table.now (map string_bytes c.args.names.now)) []) (insertions c.args.table.now c.args.columns (map texts_of c.args.records.now))
+      c.args.tx.now.conn.now c.create_table.new.tx.conn.now c.insert_records.new.tx.conn.now c.in_ok-create_table.ensures.step.done (c.insert_records.ensures.steps.refused refused);
+}

@@ -8,15 +8,24 @@ use Rattle.plain_shell.specs.PlainImports.{Prepare, IsRefused}
 use Rattle.plain_shell.proofs.PlainImportLemmas.{other_cause, prepare_refused, unprepared_kept}
 use Rattle.plain_shell.proofs.plain_import.prepared_insertion.Goals as goal
 
-pub returns-in_err-statement-clause-refused : goal.returns-in_err-statement-clause-refused
-returns-in_err-statement-clause-refused g c =
+pub returns-in_err-statement-clause-step : goal.returns-in_err-statement-clause-step
+returns-in_err-statement-clause-step g c =
     let e = c.in_err-statement.field-0.0 in
     let is : c.from_residual-in_err-statement.result ≡ Err (if is_memory_error e then Memory else Refused) = search rules in
     let text : c.as_str.result.now ≡ insertion_of c.args.table.now c.args.columns = search rules in
-    λ refused. subst (λ t. IsRefused g.P.Store (Prepare t) c.args.tx.now.conn.now c.prepare.new.self.conn.now) text
-    (prepare_refused g.P.Store c.as_str.result.now c.args.tx.now.conn.now c.prepare.new.self.conn.now e c.prepare.ensures.survives
-    (other_cause e c.from_residual-in_err-statement.result is refused) c.in_err-statement.ensures.err)
+    record {
+      done = search (rules, is);
+      refused = λ refused. subst (λ t. IsRefused g.P.Store (Prepare t) c.args.tx.now.conn.now c.prepare.new.self.conn.now) text
+          (prepare_refused g.P.Store c.as_str.result.now c.args.tx.now.conn.now c.prepare.new.self.conn.now e c.prepare.ensures.survives
+          (other_cause e c.from_residual-in_err-statement.result is refused) c.in_err-statement.ensures.err);
+    }
 
-pub returns-in_err-statement-clause-kept : goal.returns-in_err-statement-clause-kept
-returns-in_err-statement-clause-kept g c =
-    unprepared_kept g.P.Store c.as_str.result.now c.args.tx.now.conn.now c.prepare.new.self.conn.now c.in_err-statement.field-0.0 c.prepare.ensures.survives c.in_err-statement.ensures.err
+pub returns-in_err-statement-clause-stays : goal.returns-in_err-statement-clause-stays
+returns-in_err-statement-clause-stays g c =
+    let e = c.in_err-statement.field-0.0 in
+    let is : c.from_residual-in_err-statement.result ≡ Err (if is_memory_error e then Memory else Refused) = search rules in
+    record {
+      same_reference = search rules;
+      kept = unprepared_kept g.P.Store c.as_str.result.now c.args.tx.now.conn.now c.prepare.new.self.conn.now e c.prepare.ensures.survives c.in_err-statement.ensures.err;
+      inside = search (rules, is);
+    }

@@ -6,7 +6,7 @@ use Rattle.plain_shell.specs.Told.{blames}
 use Rattle.ft_shell.specs.Deeds.{deeds_of}
 use Rattle.ft_statements.specs.Texts.{split_text}
 use Rattle.plain_shell.specs.ToldViews.{told_as}
-use Rattle.ft_shell.specs.Ran.{Runs}
+use Rattle.ft_shell.specs.Ran.{Runs, moment}
 use Rattle.plain_shell.proofs.WriteLemmas.{appends_same}
 use Rattle.ft_shell.proofs.RanLemmas.{runs_turn}
 use Rattle.ft_shell.proofs.session.Session.refuse.Goals as goal
@@ -17,9 +17,9 @@ returns g c = λ holds.
     let old : Shell g.row.P.Denot g.row.S.Denot = lent parts holds in
     let told = told_as c.blames-told.result in
     let due : told ≡ blames old.settings c.args.refusal.now.line (split_text c.args.refusal.now.fault) = c.blames-told.ensures ∙ ap (blames c.self.inside.settings c.args.refusal.now.line) c.split_text-text.ensures in
-    let a = g.O.Write.contents c.args.out.now in
-    let e = g.E.Write.contents c.args.err.now in
-    subst (λ s. Runs g.P.Store g.S.Store c.tell.result (λ (rest : List Member). Fault c.args.refusal.now.line c.args.refusal.now.fault ∷ rest) (λ rest. rest) (record { shell = lent s holds; status = c.args.status.now; out = a; err = e }) (record { shell = lent s holds; status = c.tell.new.status; out = g.O.Write.contents c.tell.new.out; err = g.E.Write.contents c.tell.new.err })) c.self.view_is
-    (runs_turn g.P.Store g.S.Store c.tell.result (Fault c.args.refusal.now.line c.args.refusal.now.fault) (record { shell = old; status = c.args.status.now; out = a; err = e }) (record { shell = old; status = c.tell.new.status; out = g.O.Write.contents c.tell.new.out; err = g.E.Write.contents c.tell.new.err }) (deeds_of told []) a told.out
+    let a = g.O.Write.contents c.args.outputs.now.out in
+    let e = g.E.Write.contents c.args.outputs.now.err in
+    subst (λ s. Runs g.P.Store g.S.Store c.tell.result (λ (rest : List Member). Fault c.args.refusal.now.line c.args.refusal.now.fault ∷ rest) (λ rest. rest) (moment g.O.Write.contents g.E.Write.contents (lent s holds) c.args.outputs.now) (moment g.O.Write.contents g.E.Write.contents (lent s holds) c.tell.new.outputs)) c.self.view_is
+    (runs_turn g.P.Store g.S.Store c.tell.result (Fault c.args.refusal.now.line c.args.refusal.now.fault) (moment g.O.Write.contents g.E.Write.contents old c.args.outputs.now) (moment g.O.Write.contents g.E.Write.contents old c.tell.new.outputs) (deeds_of told []) a told.out
     (record { body = told; done = (refl, due); tells = refl; calls = refl })
     refl (appends_same a) c.tell.ensures.out c.tell.ensures.err c.tell.ensures.fault c.tell.ensures.faults c.tell.ensures.quit)

@@ -4,15 +4,15 @@ use Rattle.shell_text.specs.Units.{Member}
 use Rattle.plain_shell.specs.declared.feed.Refusal.{Refusal}
 use Rattle.plain_shell.specs.Feeds.{refused_as}
 use Rattle.ft_shell.specs.Shell.{lent}
-use Rattle.ft_shell.specs.Ran.{Runs}
+use Rattle.ft_shell.specs.Ran.{Runs, moment}
 use Rattle.ft_shell.proofs.RanLemmas.{passes_none}
 use Rattle.ft_shell.proofs.session.Session.refuse_some.Goals as goal
 
 pub returns-in-Some : goal.returns-in-Some
 returns-in-Some g c = λ holds.
     subst (λ (refused : Option Refusal). Runs g.P.Store g.S.Store c.refuse.result (λ (rest : List Member). refused_as refused ++ rest) (λ (rest : List Member). rest)
-    (record { shell = lent c.args.self.now holds; status = c.args.status.now; out = g.O.Write.contents c.args.out.now; err = g.E.Write.contents c.args.err.now })
-    (record { shell = lent c.refuse.new.self holds; status = c.refuse.new.status; out = g.O.Write.contents c.refuse.new.out; err = g.E.Write.contents c.refuse.new.err }))
+    (moment g.O.Write.contents g.E.Write.contents (lent c.args.self.now holds) c.args.outputs.now)
+    (moment g.O.Write.contents g.E.Write.contents (lent c.refuse.new.self holds) c.refuse.new.outputs))
     (sym c.in-Some.is) (c.refuse.ensures holds)
 
 pub returns-in-None : goal.returns-in-None

@@ -1,20 +1,20 @@
 -- piece by piece, up to the end of the input
-use Rattle.std.proofs.Common.{rules, ◌≡◌, ◌^◌, ◌++◌, ◌∙◌, Err, length, drop, ap, refl, arith, length-append}
-use Rattle.std.proofs.lemmas.List.{length-take-le}
+use Rattle.std.proofs.Common.{rules, ◌≡◌, ◌<◌, ◌^◌, Err, length, ap, refl, arith}
 use Rattle.plain_shell.specs.declared.run.RunFault.TheVariants as causes
 use Rattle.plain_shell.specs.Feeds.{Fed}
-use Rattle.ft_shell.proofs.RunLemmas.{completes, if_err_at, so_far_kept, so_far_more, so_far_none, some_or_none, stops_at_flush, stops_first, stops_in_piece, stops_too_much, stops_unflushed}
+use Rattle.ft_shell.proofs.PieceLemmas.{chunk_kept, has_read, interrupted_taking, interrupted_unread}
+use Rattle.ft_shell.proofs.RunLemmas.{completes, ends_err, so_far_kept, so_far_more, so_far_none, some_or_none, stops_at_flush, stops_first, stops_in_piece, stops_too_much, stops_unflushed}
 use Rattle.ft_shell.proofs.session.Session.run_pieces.Goals as goal
 
-pub returns-in_err-feed-clause-err : goal.returns-in_err-feed-clause-err
-returns-in_err-feed-clause-err g c =
+pub returns-in_err-feed : goal.returns-in_err-feed
+returns-in_err-feed g c =
     let is : c.from_residual.result ≡ Err causes.Memory = search (rules, c.from_residual.ensures) in
-    if_err_at _ c.from_residual.result causes.Memory is (stops_first g.P.Store g.S.Store causes.Memory _ _ _ _ (λ much. absurd (let wrong = much in cc)))
+    ends_err g.P.Store g.S.Store c.from_residual.result causes.Memory _ _ is (stops_first g.P.Store g.S.Store causes.Memory _ _ _ _ (λ much. absurd (let wrong = much in cc)))
 
-pub returns-in_err-chunk-clause-err : goal.returns-in_err-chunk-clause-err
-returns-in_err-chunk-clause-err g c =
+pub returns-in_err-chunk : goal.returns-in_err-chunk
+returns-in_err-chunk g c =
     let is : c.from_residual-in_err-chunk.result ≡ Err causes.Memory = search (rules, c.from_residual-in_err-chunk.ensures) in
-    if_err_at _ c.from_residual-in_err-chunk.result causes.Memory is (stops_first g.P.Store g.S.Store causes.Memory _ _ _ _ (λ much. absurd (let wrong = much in cc)))
+    ends_err g.P.Store g.S.Store c.from_residual-in_err-chunk.result causes.Memory _ _ is (stops_first g.P.Store g.S.Store causes.Memory _ _ _ _ (λ much. absurd (let wrong = much in cc)))
 
 pub loop-total-init : goal.loop-total-init
 loop-total-init g c = record {
@@ -22,57 +22,57 @@ loop-total-init g c = record {
   size = omega (arith, c.in_ok-chunk.chunk.ok.0, c.in_ok-chunk.ensures.len);
   waits = ap (λ (f : Fed). f.splitting.waiting) c.in_ok-feed.ensures;
   goes = refl;
-  source = λ name. refl;
 }
 
-pub returns-in_err-flush-clause-err : goal.returns-in_err-flush-clause-err
-returns-in_err-flush-clause-err g c =
+pub returns-in_err-flush : goal.returns-in_err-flush
+returns-in_err-flush g c =
     let is : c.from_residual-in_err-flush.result ≡ Err c.in_err-flush.field-0.0 = search (rules, c.from_residual-in_err-flush.ensures) in
     let cause : c.in_err-flush.field-0.0 ≡ causes.Write = c.in_err-flush.ensures.fault in
-    if_err_at _ c.from_residual-in_err-flush.result c.in_err-flush.field-0.0 is
+    ends_err g.P.Store g.S.Store c.from_residual-in_err-flush.result c.in_err-flush.field-0.0 _ _ is
     (stops_unflushed g.P.Store g.S.Store c.in_err-flush.field-0.0 (2 ^ 30) c.loop-total.total _ _ _ _ _ _ _ _ refl c.loop-total.invariant.run c.flush.ensures.bytes cause)
 
-pub returns-in_err-read-clause-err : goal.returns-in_err-read-clause-err
-returns-in_err-read-clause-err g c =
-    let is : c.from_residual-in_err-read.result ≡ Err c.in_err-read.field-0.0 = search (rules, c.from_residual-in_err-read.ensures) in
-    if_err_at _ c.from_residual-in_err-read.result c.in_err-read.field-0.0 is
-    (stops_in_piece g.P.Store g.S.Store c.in_err-read.field-0.0 (2 ^ 30) c.loop-total.total _ _ _ _ _ _ _ _ _ _ refl (so_far_kept g.P.Store g.S.Store (2 ^ 30) c.loop-total.total _ _ _ _ _ _ c.loop-total.invariant.run c.flush.ensures.bytes) c.loop-total.invariant.goes c.loop-total-test.true refl c.in_err-read.ensures.err)
+pub returns-in_err-bytes : goal.returns-in_err-bytes
+returns-in_err-bytes g c =
+    let is : c.from_residual-in_err-bytes.result ≡ Err c.in_err-bytes.field-0.0 = search (rules, c.from_residual-in_err-bytes.ensures) in
+    ends_err g.P.Store g.S.Store c.from_residual-in_err-bytes.result c.in_err-bytes.field-0.0 _ _ is
+    (stops_in_piece g.P.Store g.S.Store c.in_err-bytes.field-0.0 (2 ^ 30) c.loop-total.total _ _ _ _ _ _ _ _ _ _ refl (so_far_kept g.P.Store g.S.Store (2 ^ 30) c.loop-total.total _ _ _ _ _ _ c.loop-total.invariant.run c.flush.ensures.bytes) c.loop-total.invariant.goes c.loop-total-test.true refl
+    (interrupted_unread g.P.Store g.S.Store c.in_err-bytes.field-0.0 _ _ _ _ _ c.in_err-bytes.ensures.fault c.in_err-bytes.ensures.kept))
 
-pub returns-in_err-read-clause-source : goal.returns-in_err-read-clause-source
-returns-in_err-read-clause-source g c = λ name. c.read_piece.ensures.source name ∙ c.loop-total.invariant.source name
+pub returns-in_err-take_read : goal.returns-in_err-take_read
+returns-in_err-take_read g c =
+    let is : c.from_residual-in_err-take_read.result ≡ Err c.in_err-take_read.field-0.0 = search (rules, c.from_residual-in_err-take_read.ensures) in
+    ends_err g.P.Store g.S.Store c.from_residual-in_err-take_read.result c.in_err-take_read.field-0.0 _ _ is
+    (stops_in_piece g.P.Store g.S.Store c.in_err-take_read.field-0.0 (2 ^ 30) c.loop-total.total _ _ _ _ _ _ _ _ _ _ refl (so_far_kept g.P.Store g.S.Store (2 ^ 30) c.loop-total.total _ _ _ _ _ _ c.loop-total.invariant.run c.flush.ensures.bytes) c.loop-total.invariant.goes c.loop-total-test.true refl
+    (interrupted_taking g.P.Store g.S.Store {T = Unit {0}} c.in_err-take_read.field-0.0 _ c.in_ok-bytes.bytes.now _ _ _ _ _ _ c.in_ok-bytes.ensures.bytes (λ none. c.in_ok-bytes.ensures.end none (omega (arith, c.loop-total.invariant.size, c.loop-total.chunk.ok.0, c.as_mut_slice.ensures.len))) c.in_err-take_read.ensures.takes))
 
-pub returns-in_err-flush-2-clause-err : goal.returns-in_err-flush-2-clause-err
-returns-in_err-flush-2-clause-err g c =
+pub returns-in_err-flush-2 : goal.returns-in_err-flush-2
+returns-in_err-flush-2 g c =
     let is : c.from_residual-in_err-flush-2.result ≡ Err c.in_err-flush-2.field-0.0 = search (rules, c.from_residual-in_err-flush-2.ensures) in
     let cause : c.in_err-flush-2.field-0.0 ≡ causes.Write = c.in_err-flush-2.ensures.fault in
-    if_err_at _ c.from_residual-in_err-flush-2.result c.in_err-flush-2.field-0.0 is
-    (stops_at_flush g.P.Store g.S.Store c.in_err-flush-2.field-0.0 (2 ^ 30) c.loop-total.total _ c.in_ok-read.read _ _ _ _ _ _ _ _ _ _ _ refl (so_far_kept g.P.Store g.S.Store (2 ^ 30) c.loop-total.total _ _ _ _ _ _ c.loop-total.invariant.run c.flush.ensures.bytes) c.loop-total.invariant.goes c.loop-total-test.true refl c.in_ok-read.ensures.ok
-    (some_or_none c.in_ok-read.read) c.flush-then-is_over.ensures.bytes cause)
+    ends_err g.P.Store g.S.Store c.from_residual-in_err-flush-2.result c.in_err-flush-2.field-0.0 _ _ is
+    (stops_at_flush g.P.Store g.S.Store c.in_err-flush-2.field-0.0 (2 ^ 30) c.loop-total.total _ _ _ _ _ _ _ _ _ _ _ _ _ refl (so_far_kept g.P.Store g.S.Store (2 ^ 30) c.loop-total.total _ _ _ _ _ _ c.loop-total.invariant.run c.flush.ensures.bytes) c.loop-total.invariant.goes c.loop-total-test.true refl
+    (has_read g.P.Store g.S.Store tt _ _ c.in_ok-bytes.bytes.now _ _ _ _ _ _ c.in_ok-bytes.ensures.bytes refl (λ none. c.in_ok-bytes.ensures.end none (omega (arith, c.loop-total.invariant.size, c.loop-total.chunk.ok.0, c.as_mut_slice.ensures.len))) c.in_ok-take_read.ensures.takes)
+    (some_or_none _) c.flush-then-is_over.ensures.bytes cause)
 
-pub returns-in_err-flush-2-clause-source : goal.returns-in_err-flush-2-clause-source
-returns-in_err-flush-2-clause-source g c = λ name. c.read_piece.ensures.source name ∙ c.loop-total.invariant.source name
-
-pub returns-then-is_over-clause-ok : goal.returns-then-is_over-clause-ok
-returns-then-is_over-clause-ok g c =
-    completes g.P.Store g.S.Store (2 ^ 30) c.loop-total.total _ c.in_ok-read.read _ _ _ _ _ _ _ _ _ _ _ refl (so_far_kept g.P.Store g.S.Store (2 ^ 30) c.loop-total.total _ _ _ _ _ _ c.loop-total.invariant.run c.flush.ensures.bytes) c.loop-total.invariant.goes c.loop-total-test.true refl c.in_ok-read.ensures.ok
+pub returns-then-is_over : goal.returns-then-is_over
+returns-then-is_over g c =
+    completes g.P.Store g.S.Store (2 ^ 30) c.loop-total.total _ _ _ _ _ _ _ _ _ _ _ _ _ refl (so_far_kept g.P.Store g.S.Store (2 ^ 30) c.loop-total.total _ _ _ _ _ _ c.loop-total.invariant.run c.flush.ensures.bytes) c.loop-total.invariant.goes c.loop-total-test.true refl
+    (has_read g.P.Store g.S.Store tt _ _ c.in_ok-bytes.bytes.now _ _ _ _ _ _ c.in_ok-bytes.ensures.bytes refl (λ none. c.in_ok-bytes.ensures.end none (omega (arith, c.loop-total.invariant.size, c.loop-total.chunk.ok.0, c.as_mut_slice.ensures.len))) c.in_ok-take_read.ensures.takes)
     (c.is_over.ensures.over c.if-is_over.true) c.flush-then-is_over.ensures.bytes c.is_over.ensures.fits
-
-pub returns-then-is_over-clause-source : goal.returns-then-is_over-clause-source
-returns-then-is_over-clause-source g c = λ name. c.read_piece.ensures.source name ∙ c.loop-total.invariant.source name
 
 pub loop-total-preserved : goal.loop-total-preserved
 loop-total-preserved g c =
     let goes = c.is_over.ensures.goes c.if-is_over.false in
     record {
-      run = so_far_more g.P.Store g.S.Store (2 ^ 30) c.loop-total.total _ c.in_ok-read.read _ _ _ _ _ _ _ _ (so_far_kept g.P.Store g.S.Store (2 ^ 30) c.loop-total.total _ _ _ _ _ _ c.loop-total.invariant.run c.flush.ensures.bytes) c.loop-total.invariant.goes c.loop-total-test.true refl c.in_ok-read.ensures.ok goes.0;
+      run = so_far_more g.P.Store g.S.Store (2 ^ 30) c.loop-total.total _ _ _ _ _ _ _ _ _ _ (so_far_kept g.P.Store g.S.Store (2 ^ 30) c.loop-total.total _ _ _ _ _ _ c.loop-total.invariant.run c.flush.ensures.bytes) c.loop-total.invariant.goes c.loop-total-test.true refl
+          (has_read g.P.Store g.S.Store tt _ _ c.in_ok-bytes.bytes.now _ _ _ _ _ _ c.in_ok-bytes.ensures.bytes refl (λ none. c.in_ok-bytes.ensures.end none (omega (arith, c.loop-total.invariant.size, c.loop-total.chunk.ok.0, c.as_mut_slice.ensures.len))) c.in_ok-take_read.ensures.takes) goes.0;
       size =
-          let same : length c.read_piece.new.chunk ≡ c.loop-total.chunk.len = omega (arith, c.as_mut_slice.ensures.len, c.read_piece.auto.chunk) in
-          let whole = length-take-le c.loop-total.chunk.len (c.read_piece.new.chunk ++ drop (length c.read_piece.new.chunk) c.loop-total.chunk.items) (omega (arith, same, length-append c.read_piece.new.chunk (drop (length c.read_piece.new.chunk) c.loop-total.chunk.items))) in
-          omega (arith, whole, c.loop-total.invariant.size, c.loop-total.chunk.ok.0);
-      waits = c.in_ok-read.ensures.waiting goes.0 goes.1;
+          let full : length c.loop-total.chunk.items ≡ c.loop-total.chunk.len = omega (arith, c.loop-total.chunk.ok.0) in
+          let some : 0 < c.loop-total.chunk.len = omega (arith, full, c.loop-total.invariant.size) in
+          chunk_kept c.loop-total.chunk.len _ c.loop-total.chunk.items full some;
+      waits = c.in_ok-take_read.ensures.waiting goes.0 goes.1;
       goes = goes.1;
-      source = λ name. c.read_piece.ensures.source name ∙ c.loop-total.invariant.source name;
     }
 
-pub returns-clause-err : goal.returns-clause-err
-returns-clause-err g c = stops_too_much g.P.Store g.S.Store (2 ^ 30) c.loop-total.total _ _ _ _ _ _ _ refl c.loop-total.invariant.run c.loop-total-test.false
+pub returns : goal.returns
+returns g c = ends_err g.P.Store g.S.Store _ causes.TooMuch _ _ refl (stops_too_much g.P.Store g.S.Store (2 ^ 30) c.loop-total.total _ _ _ _ _ _ _ refl c.loop-total.invariant.run c.loop-total-test.false)

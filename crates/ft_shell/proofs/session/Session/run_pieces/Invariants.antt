@@ -1,23 +1,22 @@
 -- what was read so far was run, and no unit waits before the next piece
 use Rattle.std.proofs.Common.{◌≡◌, ◌+◌, ◌-◌, ◌^◌, ◌<◌, ℕ, List, length, [], false}
 use Rattle.ft_shell.specs.Shell.{lent}
+use Rattle.ft_shell.specs.Ran.{moment}
 use Rattle.ft_shell.proofs.RunLemmas.{SoFar, opening}
 use Rattle.ft_shell.proofs.session.Session.run_pieces.Given as goal
 
-pub record Kept (run_far has_size is_waiting goes_on has_source : Type 0) : Type 0 where
+pub record Kept (run_far has_size is_waiting goes_on : Type 0) : Type 0 where
   pub run : run_far
   pub size : has_size
   pub waits : is_waiting
   pub goes : goes_on
-  pub source : has_source
 
 abbrev pub invariant-loop-total : goal.invariant-loop-total
 invariant-loop-total g l = Kept
     (SoFar g.P.Store g.S.Store (2 ^ 30) l.total (g.R.Read.remaining l.fn.reader) (g.R.Read.remaining l.reader) l.feed
-    (opening (lent l.fn.self (g.F.Source.holds l.fn.source)) (g.O.Write.contents l.fn.out) (g.E.Write.contents l.fn.err))
-    (record { shell = lent l.self (g.F.Source.holds l.source); status = l.status; out = g.O.Write.contents l.out; err = g.E.Write.contents l.err }))
-    (0 < length l.chunk.items) (l.feed.splitting.waiting ≡ []) (l.status.quit ≡ false)
-    ((name : List ℕ) → g.F.Source.holds l.source name ≡ g.F.Source.holds l.fn.source name)
+    (opening (lent l.fn.self (g.F.Source.holds l.fn.source)) (g.O.Write.contents l.fn.outputs.out) (g.E.Write.contents l.fn.outputs.err))
+    (moment g.O.Write.contents g.E.Write.contents (lent l.self (g.F.Source.holds l.source)) l.outputs))
+    (0 < length l.chunk.items) (l.feed.splitting.waiting ≡ []) (l.outputs.status.quit ≡ false)
 
 abbrev pub decreases-loop-total : goal.decreases-loop-total
 decreases-loop-total g l = 2 ^ 30 + 1 - l.total

@@ -9,15 +9,15 @@ use Rattle.plain_shell.specs.Told.{echo_text, echoed}
 use Rattle.ft_shell.specs.Turns.{calls_in, echo_of}
 use Rattle.plain_shell.specs.ToldViews.{told_as}
 use Rattle.plain_shell.specs.Writing.{AppendsUpTo}
-use Rattle.ft_shell.specs.Ran.{Runs}
+use Rattle.ft_shell.specs.Ran.{Runs, moment}
 use Rattle.ft_shell.proofs.RanLemmas.{breaks_echo, runs_err, runs_turn, unit_echo, unit_turned}
 use Rattle.ft_shell.proofs.session.Session.run_unit.Goals as goal
 
-pub returns-in_err-echo_text-clause-runs : goal.returns-in_err-echo_text-clause-runs
-returns-in_err-echo_text-clause-runs g c =
-    let a = g.O.Write.contents c.args.out.now in
+pub returns-in_err-echo_text : goal.returns-in_err-echo_text
+returns-in_err-echo_text g c =
+    let a = g.O.Write.contents c.args.outputs.now.out in
     let b = g.O.Write.contents c.echo_text.new.out in
-    let e = g.E.Write.contents c.args.err.now in
+    let e = g.E.Write.contents c.args.outputs.now.err in
     let text = string_bytes c.args.unit.now.text in
     let held = g.F.Source.holds c.args.source.now in
     let old : Shell g.row.P.Denot g.row.S.Denot = record { settings = c.self.inside.settings; plain = c.self.inside.plain; full_text = c.self.inside.full_text; holds = held } in
@@ -26,27 +26,27 @@ returns-in_err-echo_text-clause-runs g c =
     let spoken : AppendsUpTo a b (echo_text c.echo.result text) = subst (λ t. AppendsUpTo a b (echo_text c.echo.result t)) c.as_str.ensures.value c.in_err-echo_text.ensures.out in
     let first : AppendsUpTo a b (echo_text old.settings.echo text) = subst (λ on. AppendsUpTo a b (echo_text on text)) c.echo.ensures spoken in
     let part : AppendsUpTo a b (echo_of old.settings unit) = subst (AppendsUpTo a b) (sym (unit_echo old.settings c.args.unit.now.kind c.args.unit.now.line text)) first in
-    subst (λ s. Runs g.P.Store g.S.Store c.from_residual.result (λ (rest : List Member). unit ∷ rest) (λ rest. rest) (record { shell = lent s held; status = c.args.status.now; out = a; err = e }) (record { shell = lent s held; status = c.args.status.now; out = b; err = e })) c.self.view_is
+    subst (λ s. Runs g.P.Store g.S.Store c.from_residual.result (λ (rest : List Member). unit ∷ rest) (λ rest. rest) (moment g.O.Write.contents g.E.Write.contents (lent s held) c.args.outputs.now) (record { shell = lent s held; status = c.args.outputs.now.status; out = b; err = g.E.Write.contents c.args.outputs.now.err })) c.self.view_is
     (runs_err g.P.Store g.S.Store c.from_residual.result c.in_err-echo_text.field-0.0 (λ (rest : List Member). unit ∷ rest) (λ rest. rest) _ _ is
-    (breaks_echo g.P.Store g.S.Store c.in_err-echo_text.field-0.0 unit (record { shell = old; status = c.args.status.now; out = a; err = e }) b part c.in_err-echo_text.ensures.fault, inl c.in_err-echo_text.ensures.fault))
+    (breaks_echo g.P.Store g.S.Store c.in_err-echo_text.field-0.0 unit (moment g.O.Write.contents g.E.Write.contents old c.args.outputs.now) b part c.in_err-echo_text.ensures.fault, inl c.in_err-echo_text.ensures.fault))
 
-pub returns-clause-runs : goal.returns-clause-runs
-returns-clause-runs g c =
-    let a = g.O.Write.contents c.args.out.now in
+pub returns : goal.returns
+returns g c =
+    let a = g.O.Write.contents c.args.outputs.now.out in
     let b = g.O.Write.contents c.echo_text.new.out in
-    let d = g.O.Write.contents c.tell.new.out in
-    let e = g.E.Write.contents c.args.err.now in
-    let f = g.E.Write.contents c.tell.new.err in
+    let d = g.O.Write.contents c.tell.new.outputs.out in
+    let e = g.E.Write.contents c.args.outputs.now.err in
+    let f = g.E.Write.contents c.tell.new.outputs.err in
     let text = string_bytes c.args.unit.now.text in
     let held = g.F.Source.holds c.args.source.now in
     let old : Shell g.row.P.Denot g.row.S.Denot = record { settings = c.self.inside.settings; plain = c.self.inside.plain; full_text = c.self.inside.full_text; holds = held } in
     let new : Shell g.row.P.Denot g.row.S.Denot = record { settings = c.unit_turn-told.new.settings; plain = c.unit_turn-told.new.plain; full_text = c.unit_turn-told.new.full_text; holds = g.F.Source.holds c.unit_turn-told.new.source } in
     let body = told_as c.unit_turn-told.result in
-    let calls = calls_in g.P.Store g.S.Store (member_of_unit c.args.unit.now) old new body c.unit_turn-told.ensures.body in
+    let calls = calls_in g.P.Store g.S.Store (member_of_unit c.args.unit.now) old new body c.unit_turn-told.ensures in
     let spoken : Appends a b (echo_text c.echo.result text) = subst (λ t. Appends a b (echo_text c.echo.result t)) c.as_str.ensures.value c.in_ok-echo_text.ensures.out in
     let spells = unit_echo old.settings c.args.unit.now.kind c.args.unit.now.line text in
     let first : Appends a b (echo_text old.settings.echo text) = subst (λ on. Appends a b (echo_text on text)) c.echo.ensures spoken in
-    subst (λ s. Runs g.P.Store g.S.Store c.tell.result (λ (rest : List Member). member_of_unit c.args.unit.now ∷ rest) (λ rest. rest) (record { shell = lent s held; status = c.args.status.now; out = a; err = e }) (record { shell = new; status = c.tell.new.status; out = d; err = f })) c.self.view_is
-    (runs_turn g.P.Store g.S.Store c.tell.result (member_of_unit c.args.unit.now) (record { shell = old; status = c.args.status.now; out = a; err = e }) (record { shell = new; status = c.tell.new.status; out = d; err = f }) (deeds_of (echoed old.settings text body) calls) b body.out
-    (unit_turned g.P.Store g.S.Store c.args.unit.now.kind c.args.unit.now.line text old new body c.unit_turn-told.ensures.body)
+    subst (λ s. Runs g.P.Store g.S.Store c.tell.result (λ (rest : List Member). member_of_unit c.args.unit.now ∷ rest) (λ rest. rest) (moment g.O.Write.contents g.E.Write.contents (lent s held) c.args.outputs.now) (moment g.O.Write.contents g.E.Write.contents new c.tell.new.outputs)) c.self.view_is
+    (runs_turn g.P.Store g.S.Store c.tell.result (member_of_unit c.args.unit.now) (moment g.O.Write.contents g.E.Write.contents old c.args.outputs.now) (moment g.O.Write.contents g.E.Write.contents new c.tell.new.outputs) (deeds_of (echoed old.settings text body) calls) b body.out
+    (unit_turned g.P.Store g.S.Store c.args.unit.now.kind c.args.unit.now.line text old new body c.unit_turn-told.ensures)
     (ap (λ e. e ++ body.out) (sym spells)) (subst (Appends a b) (sym spells) first) c.tell.ensures.out c.tell.ensures.err c.tell.ensures.fault c.tell.ensures.faults c.tell.ensures.quit)

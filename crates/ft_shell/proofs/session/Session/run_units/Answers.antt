@@ -6,35 +6,33 @@ use Rattle.plain_shell.specs.Feeds.{Fed, members_left}
 use Rattle.ft_shell.proofs.RanLemmas.{passes_as, passes_none, passes_then, runs_as, runs_err, runs_then}
 use Rattle.ft_shell.proofs.session.Session.run_units.Goals as goal
 
-pub loop-status-init : goal.loop-status-init
-loop-status-init g c = record {
+pub loop-outputs-init : goal.loop-outputs-init
+loop-outputs-init g c = record {
   run = passes_none g.P.Store g.S.Store _ _ _ (λ rest. refl);
   line = refl;
-  source = λ name. refl;
 }
 
 pub returns-in_err-run_unit-clause-runs : goal.returns-in_err-run_unit-clause-runs
 returns-in_err-run_unit-clause-runs g c =
-    let goes : c.loop-status.status.quit ≡ false = search rules in
+    let goes : c.loop-outputs.outputs.status.quit ≡ false = search rules in
     let is : c.from_residual.result ≡ Err c.in_err-run_unit.field-0.0 = search rules in
     let unit = member_of_unit c.in-Some.unit in
     runs_err g.P.Store g.S.Store c.from_residual.result c.in_err-run_unit.field-0.0 _ _ _ _ is
-    (runs_then {T = Unit {0}} g.P.Store g.S.Store (Err c.in_err-run_unit.field-0.0) _ _ (λ (rest : List ℕ). members_left c.next.new.self rest) _ _ _ c.loop-status.invariant.run goes
-    (runs_as {T = Unit {0}} g.P.Store g.S.Store (Err c.in_err-run_unit.field-0.0) (λ (rest : List Member). unit ∷ rest) (λ (rest : List Member). rest) (λ (rest : List ℕ). members_left c.loop-status.feed rest) (λ rest. members_left c.next.new.self rest) (λ rest. members_left c.next.new.self rest) _ _
-    (λ rest. c.in-Some.ensures.some.0 rest) (λ rest goes. refl) c.in_err-run_unit.ensures.runs))
+    (runs_then {T = Unit {0}} g.P.Store g.S.Store (Err c.in_err-run_unit.field-0.0) _ _ (λ (rest : List ℕ). members_left c.next.new.self rest) _ _ _ c.loop-outputs.invariant.run goes
+    (runs_as {T = Unit {0}} g.P.Store g.S.Store (Err c.in_err-run_unit.field-0.0) (λ (rest : List Member). unit ∷ rest) (λ (rest : List Member). rest) (λ (rest : List ℕ). members_left c.loop-outputs.feed rest) (λ rest. members_left c.next.new.self rest) (λ rest. members_left c.next.new.self rest) _ _
+    (λ rest. c.in-Some.ensures.some.0 rest) (λ rest goes. refl) c.in_err-run_unit.ensures))
 
-pub loop-status-preserved : goal.loop-status-preserved
-loop-status-preserved g c =
-    let goes : c.loop-status.status.quit ≡ false = search rules in
+pub loop-outputs-preserved : goal.loop-outputs-preserved
+loop-outputs-preserved g c =
+    let goes : c.loop-outputs.outputs.status.quit ≡ false = search rules in
     let unit = member_of_unit c.in-Some.unit in
     record {
-      run = passes_then g.P.Store g.S.Store _ _ _ _ _ _ c.loop-status.invariant.run goes
-          (passes_as g.P.Store g.S.Store (λ (rest : List Member). unit ∷ rest) (λ (rest : List Member). rest) (λ (rest : List ℕ). members_left c.loop-status.feed rest) (λ rest. members_left c.next.new.self rest) (λ rest. members_left c.next.new.self rest) _ _
-          (λ rest. c.in-Some.ensures.some.0 rest) (λ rest goes. refl) c.in_ok-run_unit.ensures.runs);
-      line = c.in-Some.ensures.some.2 ∙ c.loop-status.invariant.line;
-      source = λ name. c.run_unit.ensures.source name ∙ c.loop-status.invariant.source name;
+      run = passes_then g.P.Store g.S.Store _ _ _ _ _ _ c.loop-outputs.invariant.run goes
+          (passes_as g.P.Store g.S.Store (λ (rest : List Member). unit ∷ rest) (λ (rest : List Member). rest) (λ (rest : List ℕ). members_left c.loop-outputs.feed rest) (λ rest. members_left c.next.new.self rest) (λ rest. members_left c.next.new.self rest) _ _
+          (λ rest. c.in-Some.ensures.some.0 rest) (λ rest goes. refl) c.in_ok-run_unit.ensures);
+      line = c.in-Some.ensures.some.2 ∙ c.loop-outputs.invariant.line;
     }
 
 pub returns-in_default-clause-runs : goal.returns-in_default-clause-runs
 returns-in_default-clause-runs g c =
-    passes_as g.P.Store g.S.Store _ _ _ _ (λ (rest : List ℕ). rest) _ _ (λ rest. refl) (λ rest goes. ap (λ (f : Fed). members_left f rest) (sym c.in_default.ensures.none.1)) c.loop-status.invariant.run
+    passes_as g.P.Store g.S.Store _ _ _ _ (λ (rest : List ℕ). rest) _ _ (λ rest. refl) (λ rest goes. ap (λ (f : Fed). members_left f rest) (sym c.in_default.ensures.none.1)) c.loop-outputs.invariant.run

@@ -2,21 +2,19 @@
 use Rattle.std.proofs.Common.{◌≡◌, ℕ, List, length}
 use Rattle.plain_shell.specs.Feeds.{members_left}
 use Rattle.ft_shell.specs.Shell.{lent}
-use Rattle.ft_shell.specs.Ran.{Passes}
+use Rattle.ft_shell.specs.Ran.{Passes, moment}
 use Rattle.ft_shell.proofs.session.Session.run_units.Given as goal
 
-pub record Kept (run_far has_line has_source : Type 0) : Type 0 where
+pub record Kept (run_far has_line : Type 0) : Type 0 where
   pub run : run_far
   pub line : has_line
-  pub source : has_source
 
-abbrev pub invariant-loop-status : goal.invariant-loop-status
-invariant-loop-status g l = Kept
+abbrev pub invariant-loop-outputs : goal.invariant-loop-outputs
+invariant-loop-outputs g l = Kept
     (Passes g.P.Store g.S.Store (λ (rest : List ℕ). members_left l.fn.feed rest) (λ rest. members_left l.feed rest)
-    (record { shell = lent l.fn.self (g.F.Source.holds l.fn.source); status = l.fn.status; out = g.O.Write.contents l.fn.out; err = g.E.Write.contents l.fn.err })
-    (record { shell = lent l.self (g.F.Source.holds l.source); status = l.status; out = g.O.Write.contents l.out; err = g.E.Write.contents l.err }))
+    (moment g.O.Write.contents g.E.Write.contents (lent l.fn.self (g.F.Source.holds l.fn.source)) l.fn.outputs)
+    (moment g.O.Write.contents g.E.Write.contents (lent l.self (g.F.Source.holds l.source)) l.outputs))
     (l.feed.line ≡ l.fn.feed.line)
-    ((name : List ℕ) → g.F.Source.holds l.source name ≡ g.F.Source.holds l.fn.source name)
 
-abbrev pub decreases-loop-status : goal.decreases-loop-status
-decreases-loop-status g l = length l.feed.splitting.waiting
+abbrev pub decreases-loop-outputs : goal.decreases-loop-outputs
+decreases-loop-outputs g l = length l.feed.splitting.waiting

@@ -8,18 +8,17 @@ use Rattle.ft_shell.proofs.session.Session.take.Goals as goal
 pub loop-byte-init : goal.loop-byte-init
 loop-byte-init g c = record {
   run = passes_none g.P.Store g.S.Store _ _ _ (λ rest. refl);
-  waits = c.requires;
-  source = λ name. refl;
+  waits = c.requires.waiting;
 }
 
-pub returns-then-status-clause-runs : goal.returns-then-status-clause-runs
-returns-then-status-clause-runs g c =
-    let ended : c.loop-byte.status.quit ≡ true = search rules in
+pub returns-then-outputs-clause-runs : goal.returns-then-outputs-clause-runs
+returns-then-outputs-clause-runs g c =
+    let ended : c.loop-byte.outputs.status.quit ≡ true = search rules in
     passes_as g.P.Store g.S.Store _ _ _ _ (λ (rest : List ℕ). rest) _ _ (λ rest. refl) (λ rest goes. absurd (let wrong : true ≡ false = sym ended ∙ goes in cc)) c.loop-byte.invariant.run
 
 pub returns-in_err-take_byte-clause-runs : goal.returns-in_err-take_byte-clause-runs
 returns-in_err-take_byte-clause-runs g c =
-    let goes : c.loop-byte.status.quit ≡ false = search rules in
+    let goes : c.loop-byte.outputs.status.quit ≡ false = search rules in
     let is : c.from_residual.result ≡ Err c.in_err-take_byte.field-0.0 = search rules in
     let i = c.loop-byte.byte-index in
     let bytes = c.args.bytes.now in
@@ -31,7 +30,7 @@ returns-in_err-take_byte-clause-runs g c =
 
 pub loop-byte-preserved : goal.loop-byte-preserved
 loop-byte-preserved g c =
-    let goes : c.loop-byte.status.quit ≡ false = search rules in
+    let goes : c.loop-byte.outputs.status.quit ≡ false = search rules in
     let i = c.loop-byte.byte-index in
     let bytes = c.args.bytes.now in
     let byte = get_or bytes i 0 in
@@ -40,7 +39,6 @@ loop-byte-preserved g c =
           (passes_as g.P.Store g.S.Store (λ (rest : List ℕ). members_left c.loop-byte.feed (byte ∷ rest)) (λ (rest : List ℕ). members_left c.take_byte.new.feed rest) (λ (rest : List ℕ). members_left c.loop-byte.feed (drop i bytes ++ rest)) (λ (rest : List ℕ). members_left c.take_byte.new.feed (drop (i + 1) bytes ++ rest)) (λ rest. drop (i + 1) bytes ++ rest) _ _
           (λ rest. ap (λ xs. members_left c.loop-byte.feed (xs ++ rest)) (drop_more bytes i 0 c.loop-byte-test.true)) (λ rest goes. refl) c.in_ok-take_byte.ensures.runs);
       waits = c.in_ok-take_byte.ensures.waiting;
-      source = λ name. c.take_byte.ensures.source name ∙ c.loop-byte.invariant.source name;
     }
 
 pub returns-clause-runs : goal.returns-clause-runs

@@ -2,18 +2,16 @@
 use Rattle.std.proofs.Common.{◌≡◌, ℕ, List, [], ◌++◌, drop, false}
 use Rattle.plain_shell.specs.Feeds.{members_left}
 use Rattle.ft_shell.specs.Shell.{lent}
-use Rattle.ft_shell.specs.Ran.{Passes}
+use Rattle.ft_shell.specs.Ran.{Passes, moment}
 use Rattle.ft_shell.proofs.session.Session.take.Given as goal
 
-pub record Kept (run_far is_waiting has_source : Type 0) : Type 0 where
+pub record Kept (run_far is_waiting : Type 0) : Type 0 where
   pub run : run_far
   pub waits : is_waiting
-  pub source : has_source
 
 abbrev pub invariant-loop-byte : goal.invariant-loop-byte
 invariant-loop-byte g l = Kept
     (Passes g.P.Store g.S.Store (λ (rest : List ℕ). members_left l.fn.feed (l.bytes ++ rest)) (λ rest. members_left l.feed (drop l.byte-index l.bytes ++ rest))
-    (record { shell = lent l.fn.self (g.F.Source.holds l.fn.source); status = l.fn.status; out = g.O.Write.contents l.fn.out; err = g.E.Write.contents l.fn.err })
-    (record { shell = lent l.self (g.F.Source.holds l.source); status = l.status; out = g.O.Write.contents l.out; err = g.E.Write.contents l.err }))
-    (l.status.quit ≡ false → l.feed.splitting.waiting ≡ [])
-    ((name : List ℕ) → g.F.Source.holds l.source name ≡ g.F.Source.holds l.fn.source name)
+    (moment g.O.Write.contents g.E.Write.contents (lent l.fn.self (g.F.Source.holds l.fn.source)) l.fn.outputs)
+    (moment g.O.Write.contents g.E.Write.contents (lent l.self (g.F.Source.holds l.source)) l.outputs))
+    (l.outputs.status.quit ≡ false → l.feed.splitting.waiting ≡ [])
