@@ -8,7 +8,7 @@ ghost use Rattle.ft_content.specs.Command as plain;
 ghost use Rattle.ft_content.specs.Views.{shown_info, answer_of};
 ghost use Rattle.ft_content.specs.Deserved.{TableState, Contents};
 ghost use Rattle.ft_index.specs.Changed.{with_tables};
-ghost use Rattle.ft_index.specs.DocumentsRead.{Looks, LooksOn};
+ghost use Rattle.ft_index.specs.DocumentsRead.{Looks, LooksTo};
 ghost use Rattle.ft_index.specs.Kept.{Stands, StoreHolds, AreSound, Executes, is_sound};
 ghost use Rattle.ft_index.specs.Opened.{IsNamed};
 ghost use Rattle.ft_documents.specs.Tables.{table_rows, table_index};
@@ -24,12 +24,11 @@ use std::alloc::Global;
 // Whether the rows of the table of an id are documents with exactly the index rows made from scratch. The store is only read, whatever
 // is answered.
 fn is_right<S: Alter>(alloc: Global, store: &mut Store<S>, id: i64) -> Result<bool, StoreFault>
-    ensures right { (named : ℤ × List ℕ) (held : TableState)
-        → HasCleanDisk (shows S.Store store.new) → IsNamed (value_in S.Store store.old) id named
-        → Stands named.1 (table_rows named.0 (value_in S.Store store.old))
-        (table_index named.0 (value_in S.Store store.old)) held
-        → IfOk result (λ b. b ≡ is_sound held) }
-    ensures looks { LooksOn S.Store store.old store.new result }
+    ensures { LooksTo S.Store store.old store.new result
+        ((named : ℤ × List ℕ) (held : TableState) → HasCleanDisk (shows S.Store store.new)
+        → IsNamed (value_in S.Store store.old) id named → Stands named.1 (table_rows named.0
+        (value_in S.Store store.old)) (table_index named.0 (value_in S.Store store.old)) held
+        → IfOk result (λ b. b ≡ is_sound held)) }
 {
     match listed_table(store, id)? {
         Some(table) => {
@@ -47,10 +46,10 @@ pub(crate) fn check_table<S: Alter>(
     tables: &[TableInfo],
     table: &str,
 ) -> Result<Reply, Fault>
-    ensures checks { Executes S.Store (with_tables store.old (map shown_info tables.now))
-        (plain.Check table.now) (answer_of result)
-        (with_tables store.new (map shown_info tables.now)) }
-    ensures looks { LooksOn S.Store store.old store.new result }
+    ensures { LooksTo S.Store store.old store.new result
+        (Executes S.Store (with_tables store.old (map shown_info tables.now))
+        (plain.Check table.now) (answer_of result) (with_tables store.new
+        (map shown_info tables.now))) }
 {
     store.is_in_order();
     let Some(place) = table_place(tables, table) else {

@@ -32,12 +32,12 @@ pub(crate) fn chosen_documents<S: Alter>(
     filter: &Filter,
     query: Option<&Query>,
 ) -> Result<Vec<Document>, Fault>
-    ensures chosen { IfOk result (λ found. (content : Content)
+    ensures { LooksFor S.Store store.old store.new result IsOutside
+        (IfOk result (λ found. (content : Content)
         → HasRows S.Store tab store.old store.new content
         → IsIndexed S.Store tab store.old store.new content
         → ReadsAs content (filter_of filter.now) (option_map (λ q. tree_of q.now) query.entry)
-        → map shown_document found.items ≡ chosen content (filter_of filter.now)) }
-    ensures looks { LooksFor S.Store store.old store.new result IsOutside }
+        → map shown_document found.items ≡ chosen content (filter_of filter.now))) }
 {
     match filter {
         Filter::All => all_documents(alloc, store, tab),
@@ -56,10 +56,10 @@ fn one_document<S: Alter>(
     tab: i64,
     docid: i64,
 ) -> Result<Vec<Document>, Fault>
-    ensures found { IfOk result (λ found. (content : Content)
-        → HasRows S.Store tab store.old store.new content
-        → map shown_document found.items ≡ chosen content (Docid docid)) }
-    ensures looks { Asks S.Store store.old store.new result IsOutside }
+    ensures { Asks S.Store store.old store.new result IsOutside
+        (IfOk result (λ found. (content : Content)
+        → HasRows S.Store tab store.old store.new content → map shown_document found.items
+        ≡ chosen content (Docid docid))) }
 {
     let found = document(alloc, store, tab, docid)?;
     let mut documents = Vec::new(alloc);
@@ -76,10 +76,10 @@ fn documents_of_hits<S: Alter>(
     tab: i64,
     hits: &[Hit],
 ) -> Result<Vec<Document>, Fault>
-    ensures found { IfOk result (λ found. (content : Content)
-        → HasRows S.Store tab store.old store.new content
-        → map shown_document found.items ≡ map (λ h. document_at content h.docid) hits.now) }
-    ensures looks { LooksFor S.Store store.old store.new result IsOutside }
+    ensures { LooksFor S.Store store.old store.new result IsOutside
+        (IfOk result (λ found. (content : Content)
+        → HasRows S.Store tab store.old store.new content → map shown_document found.items
+        ≡ map (λ h. document_at content h.docid) hits.now)) }
 {
     let mut documents = Vec::new(alloc);
     for hit in hits {
@@ -99,12 +99,12 @@ pub(crate) fn found_cells<S: Alter>(
     tab: i64,
     docid: i64,
 ) -> Result<Vec<Value>, Fault>
-    ensures found { IfOk result (λ cells. (content : Content)
-        → HasRows S.Store tab store.old store.new content
-        → find int_cmp docid content.documents ≡ Some (cells_of cells)) }
+    ensures looks { Asks S.Store store.old store.new result IsOutside
+        (IfOk result (λ cells. (content : Content)
+        → HasRows S.Store tab store.old store.new content → find int_cmp docid content.documents
+        ≡ Some (cells_of cells))) }
     ensures counted { IfOk result (λ cells. store.new.rows_read
         ≡ more_rows (vec_len cells) store.old) }
-    ensures looks { Asks S.Store store.old store.new result IsOutside }
 {
     let Some(cells) = document(alloc, store, tab, docid)? else {
         return Err(Fault::Store);

@@ -7,7 +7,7 @@ ghost use Rattle.ft_content.specs.Deserved.{delete_fault};
 ghost use Rattle.ft_content.specs.Step.{deleted, docids_of};
 ghost use Rattle.ft_content.specs.Views.{column_of, filter_of, shown_info};
 ghost use Rattle.ft_index.specs.Changed.{with_tables, Does};
-ghost use Rattle.ft_index.specs.DocumentsRead.{LooksOn};
+ghost use Rattle.ft_index.specs.DocumentsRead.{LooksTo};
 ghost use Rattle.ft_index.specs.Written.{HasAll, Writes, PlansIn, WritesIn};
 
 use crate::chosen::chosen_documents;
@@ -43,9 +43,9 @@ pub(crate) fn delete_changes<S: Alter>(
     table: &str,
     filter: &Filter,
 ) -> Result<Vec<RowChange>, Fault>
-    ensures plans { PlansIn S.Store (map shown_info tables.now) store.old store.new
-        (plain.Delete table.now (filter_of filter.now)) result }
-    ensures looks { LooksOn S.Store store.old store.new result }
+    ensures { LooksTo S.Store store.old store.new result
+        (PlansIn S.Store (map shown_info tables.now) store.old store.new (plain.Delete table.now
+        (filter_of filter.now)) result) }
 {
     let written = delete_written(alloc, store, tables, table, filter)?;
     let changes = written.changes(alloc)?;
@@ -60,9 +60,9 @@ fn delete_written<'t, S: Alter>(
     table: &str,
     filter: &Filter,
 ) -> Result<Written<'t>, Fault>
-    ensures writes { WritesIn S.Store (map shown_info tables.now) store.old store.new
-        (plain.Delete table.now (filter_of filter.now)) result }
-    ensures looks { LooksOn S.Store store.old store.new result }
+    ensures { LooksTo S.Store store.old store.new result
+        (WritesIn S.Store (map shown_info tables.now) store.old store.new (plain.Delete table.now
+        (filter_of filter.now)) result) }
 {
     store.is_in_order();
     let known = sound_table(tables, table)?;
@@ -80,13 +80,12 @@ fn written_by_delete<S: Alter>(
     known: &TableInfo,
     filter: &Filter,
 ) -> Result<Vec<Rewrite>, Fault>
-    ensures written { (content : Content)
-        → HasAll S.Store known.now.id (string_bytes known.now.name)
+    ensures { LooksTo S.Store store.old store.new result
+        ((content : Content) → HasAll S.Store known.now.id (string_bytes known.now.name)
         (map column_of known.now.columns.items) store.old store.new content
-        → Writes content (delete_fault (string_bytes known.now.name) content (filter_of filter.now))
-        (deleted content (filter_of filter.now)) (docids_of (chosen content (filter_of filter.now)))
-        result }
-    ensures looks { LooksOn S.Store store.old store.new result }
+        → Writes content (delete_fault (string_bytes known.now.name) content
+        (filter_of filter.now)) (deleted content (filter_of filter.now)) (docids_of (chosen content
+        (filter_of filter.now))) result) }
 {
     if let Some(fault) = delete_tests(known.name.as_str(), known.columns.as_slice(), filter) {
         return Err(fault);

@@ -22,10 +22,10 @@ use std::alloc::{AllocError, Global};
 
 /// The docid of a table's last document. The store is only read, whatever is answered.
 pub(crate) fn last_docid<S: Alter>(store: &mut Store<S>, tab: i64) -> Result<Option<i64>, Fault>
-    ensures last { IfOk result (λ last. (content : Content)
-        → HasRows S.Store tab store.old store.new content
-        → views.last_docid content.documents ≡ last) }
-    ensures looks { Asks S.Store store.old store.new result IsOutside }
+    ensures { Asks S.Store store.old store.new result IsOutside
+        (IfOk result (λ last. (content : Content)
+        → HasRows S.Store tab store.old store.new content → views.last_docid content.documents
+        ≡ last)) }
 {
     let last = store.last_docid(tab)?;
     Ok(last)
@@ -38,12 +38,12 @@ pub(crate) fn document<S: Alter>(
     tab: i64,
     docid: i64,
 ) -> Result<Option<Vec<Value>>, Fault>
-    ensures found { IfOk result (λ found. (content : Content)
-        → HasRows S.Store tab store.old store.new content
-        → option_map views.cells_of found ≡ find int_cmp docid content.documents) }
+    ensures looks { Asks S.Store store.old store.new result IsOutside
+        (IfOk result (λ found. (content : Content)
+        → HasRows S.Store tab store.old store.new content → option_map views.cells_of found
+        ≡ find int_cmp docid content.documents)) }
     ensures counted { IfOk result (λ found. store.new.rows_read
         ≡ more_rows (option_map_or vec_len found 0) store.old) }
-    ensures looks { Asks S.Store store.old store.new result IsOutside }
 {
     let rows = store.document(tab, docid)?;
     if rows.is_empty() {
@@ -59,10 +59,10 @@ pub(crate) fn all_documents<S: Alter>(
     store: &mut Store<S>,
     tab: i64,
 ) -> Result<Vec<Document>, Fault>
-    ensures found { IfOk result (λ found. (content : Content)
-        → HasRows S.Store tab store.old store.new content
-        → map shown_document found.items ≡ content.documents) }
-    ensures looks { Asks S.Store store.old store.new result IsOutside }
+    ensures { Asks S.Store store.old store.new result IsOutside
+        (IfOk result (λ found. (content : Content)
+        → HasRows S.Store tab store.old store.new content → map shown_document found.items
+        ≡ content.documents)) }
 {
     let rows = store.cells(tab)?;
     let documents = gathered(alloc, rows)?;

@@ -10,7 +10,7 @@ ghost use Rattle.ft_content.specs.Deserved.{insert_rows, insert_fault, listed_co
 ghost use Rattle.ft_content.specs.Step.{inserted, new_docids};
 ghost use Rattle.ft_content.specs.Views.{cells_of, column_of, shown_info};
 ghost use Rattle.ft_index.specs.Changed.{with_tables, Does};
-ghost use Rattle.ft_index.specs.DocumentsRead.{HasRows, Looks, LooksOn};
+ghost use Rattle.ft_index.specs.DocumentsRead.{HasRows, Looks, LooksTo};
 ghost use Rattle.ft_documents.specs.Gathered.{has_given};
 ghost use Rattle.ft_documents.specs.Inserted.{Inserts};
 ghost use Rattle.ft_index.specs.Written.{HasAll, Writes, PlansIn, WritesIn};
@@ -52,10 +52,9 @@ pub(crate) fn insert_changes<S: Alter>(
     columns: Option<&[String]>,
     rows: &[Vec<Value>],
 ) -> Result<Vec<RowChange>, Fault>
-    ensures plans { PlansIn S.Store (map shown_info tables.now) store.old store.new
-        (plain.Insert table.now (option_map (λ n. map string_bytes n.now) columns.entry)
-        (map cells_of rows.now)) result }
-    ensures looks { LooksOn S.Store store.old store.new result }
+    ensures { LooksTo S.Store store.old store.new result
+        (PlansIn S.Store (map shown_info tables.now) store.old store.new (plain.Insert table.now
+        (option_map (λ n. map string_bytes n.now) columns.entry) (map cells_of rows.now)) result) }
 {
     let written = insert_written(alloc, store, tables, table, columns, rows)?;
     let changes = written.changes(alloc)?;
@@ -71,10 +70,9 @@ fn insert_written<'t, S: Alter>(
     columns: Option<&[String]>,
     rows: &[Vec<Value>],
 ) -> Result<Written<'t>, Fault>
-    ensures writes { WritesIn S.Store (map shown_info tables.now) store.old store.new
-        (plain.Insert table.now (option_map (λ n. map string_bytes n.now) columns.entry)
-        (map cells_of rows.now)) result }
-    ensures looks { LooksOn S.Store store.old store.new result }
+    ensures { LooksTo S.Store store.old store.new result
+        (WritesIn S.Store (map shown_info tables.now) store.old store.new (plain.Insert table.now
+        (option_map (λ n. map string_bytes n.now) columns.entry) (map cells_of rows.now)) result) }
 {
     store.is_in_order();
     if lists_twice(columns) {
@@ -107,16 +105,14 @@ fn written_by_insert<S: Alter>(
     columns: Option<&[String]>,
     rows: &[Vec<Value>],
 ) -> Result<Vec<Rewrite>, Fault>
-    ensures written { (name : List ℕ) (content : Content)
-        → HasAll S.Store known.now.id name (map column_of known.now.columns.items) store.old
-        store.new content
-        → Writes content (insert_fault content
-        (listed_columns content (option_map (λ n. map string_bytes n.now) columns.entry))
-        (map cells_of rows.now)) (inserted content
+    ensures { LooksTo S.Store store.old store.new result
+        ((name : List ℕ) (content : Content) → HasAll S.Store known.now.id name
+        (map column_of known.now.columns.items) store.old store.new content
+        → Writes content (insert_fault content (listed_columns content (option_map
+        (λ n. map string_bytes n.now) columns.entry)) (map cells_of rows.now)) (inserted content
         (option_map (λ n. map string_bytes n.now) columns.entry) (map cells_of rows.now))
-        (new_docids content.documents (inserted content
-        (option_map (λ n. map string_bytes n.now) columns.entry) (map cells_of rows.now))) result }
-    ensures looks { LooksOn S.Store store.old store.new result }
+        (new_docids content.documents (inserted content (option_map
+        (λ n. map string_bytes n.now) columns.entry) (map cells_of rows.now))) result) }
 {
     let names = listed_names(alloc, known.columns.as_slice(), columns)?;
     if let Some(fault) = insert_tests(known.columns.as_slice(), names.as_slice(), rows) {
@@ -143,10 +139,10 @@ pub(crate) fn insert_rewrites<S: Alter>(
     names: &[&str],
     rows: &[Vec<Value>],
 ) -> Result<Vec<Rewrite>, Fault>
-    ensures rewrites { (content : Content) → HasRows S.Store tab store.old store.new content
-        → Inserts content.documents (insert_rows (map column_of columns.now)
-        (map (zip (map (λ n. n.now) names.now)) (map cells_of rows.now)) content.documents) result }
-    ensures looks { LooksOn S.Store store.old store.new result }
+    ensures { LooksTo S.Store store.old store.new result
+        ((content : Content) → HasRows S.Store tab store.old store.new content
+        → Inserts content.documents (insert_rows (map column_of columns.now) (map (zip (map
+        (λ n. n.now) names.now)) (map cells_of rows.now)) content.documents) result) }
 {
     let last = last_docid(store, tab)?;
     let stored = stored_docids(alloc, store, tab, names, rows)?;

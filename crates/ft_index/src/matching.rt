@@ -66,15 +66,15 @@ pub(crate) fn hits<S: Alter>(
     wants_offsets: bool,
     most: Option<u64>,
 ) -> Result<Vec<Hit>, Fault>
-    ensures found { IfOk result (λ hits. (content : Content)
-        → IsIndexed S.Store tab store.old store.new content
-        → map plain_hit hits.items ≡ cut most 0
-        (map (told wants_offsets) (hits_of (tree_of query.now) (content_documents content)))) }
+    ensures looks { LooksFor S.Store store.old store.new result IsOutside
+        (IfOk result (λ hits. (content : Content)
+        → IsIndexed S.Store tab store.old store.new content → map plain_hit hits.items
+        ≡ cut most 0 (map (told wants_offsets) (hits_of (tree_of query.now)
+        (content_documents content))))) }
     ensures counted { OnOk result ((content : Content)
         → IsIndexed S.Store tab store.old store.new content
         → store.new.rows_read ≡ more_rows (entry_count (tree_of query.now)
         (content_documents content)) store.old) }
-    ensures looks { LooksFor S.Store store.old store.new result IsOutside }
 {
     // So the count of rows is known to be of 64 bits.
     let _read = store.rows_read();
@@ -94,17 +94,16 @@ pub(crate) fn matched<S: Alter>(
     wants_offsets: bool,
     most: Option<u64>,
 ) -> Result<Vec<Hit>, Fault>
-    ensures found { IfOk result (λ hits. (content : Content) (name text : List ℕ)
-        → reading content name text ≡ Ok (option_map (λ q. tree_of q.now) query.entry)
-        → IsIndexed S.Store tab store.old store.new content
-        → map plain_hit hits.items ≡ cut most 0
-        (map (told wants_offsets) (chosen_hits content (Match name text)))) }
+    ensures looks { LooksFor S.Store store.old store.new result IsOutside
+        (IfOk result (λ hits. (content : Content) (name text : List ℕ) → reading content name text
+        ≡ Ok (option_map (λ q. tree_of q.now) query.entry)
+        → IsIndexed S.Store tab store.old store.new content → map plain_hit hits.items
+        ≡ cut most 0 (map (told wants_offsets) (chosen_hits content (Match name text))))) }
     ensures counted { OnOk result ((content : Content) (name text : List ℕ)
         → reading content name text ≡ Ok (option_map (λ q. tree_of q.now) query.entry)
         → IsIndexed S.Store tab store.old store.new content
         → store.new.rows_read ≡ more_rows (entries_asked content
         (query_in content (Match name text))) store.old) }
-    ensures looks { LooksFor S.Store store.old store.new result IsOutside }
 {
     // So the count of rows is known to be of 64 bits.
     let _read = store.rows_read();

@@ -20,10 +20,10 @@ fn opened_table<S: Alter>(
     store: &mut Store<S>,
     table: TabRow,
 ) -> Result<TableInfo, StoreFault>
-    ensures marked { (named : ℤ × List ℕ) → HasCleanDisk (shows S.Store store.new)
+    ensures { Asks S.Store store.old store.new result IsPlainFault
+        ((named : ℤ × List ℕ) → HasCleanDisk (shows S.Store store.new)
         → IsListed (value_in S.Store store.old) named table
-        → IfOk result (λ info. IsMarked (value_in S.Store store.old) named (shown_info info)) }
-    ensures looks { Asks S.Store store.old store.new result IsPlainFault }
+        → IfOk result (λ info. IsMarked (value_in S.Store store.old) named (shown_info info))) }
 {
     let columns = listed_columns(alloc, &table)?;
     let standing = read_standing(alloc, store, &table)?;
@@ -41,10 +41,10 @@ pub(crate) fn opened_tables<S: Alter>(
     alloc: Global,
     store: &mut Store<S>,
 ) -> Result<Vec<TableInfo>, StoreFault>
-    ensures marked { HasCleanDisk (shows S.Store store.new)
-        → IfOk result (λ tables. AreMarked (value_in S.Store store.old)
-        (value_in S.Store store.old).tables (map shown_info tables.items)) }
-    ensures looks { Asks S.Store store.old store.new result IsPlainFault }
+    ensures { Asks S.Store store.old store.new result IsPlainFault
+        (HasCleanDisk (shows S.Store store.new) → IfOk result (λ tables. AreMarked
+        (value_in S.Store store.old) (value_in S.Store store.old).tables
+        (map shown_info tables.items))) }
 {
     let rows = store.tables()?;
     let mut tables = Vec::new(alloc);

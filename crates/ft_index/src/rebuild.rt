@@ -6,7 +6,7 @@ ghost use Rattle.ft_content.specs.Command as plain;
 ghost use Rattle.ft_content.specs.Views.{shown_info};
 ghost use Rattle.ft_content.specs.Deserved.{Contents};
 ghost use Rattle.ft_index.specs.Changed.{with_tables, Does};
-ghost use Rattle.ft_index.specs.DocumentsRead.{LooksOn};
+ghost use Rattle.ft_index.specs.DocumentsRead.{LooksTo};
 ghost use Rattle.ft_index.specs.Kept.{AreHeld, PlansFrom};
 ghost use Rattle.ft_index.specs.Opened.{IsListed, IsNamed};
 ghost use Rattle.ft_index.specs.Planned.{changes_of};
@@ -36,11 +36,11 @@ fn read_content<S: Alter>(
     store: &mut Store<S>,
     table: &TabRow,
 ) -> Result<Option<TableContent>, StoreFault>
-    ensures held { (named : ℤ × List ℕ) → HasCleanDisk (shows S.Store store.new)
+    ensures { LooksTo S.Store store.old store.new result
+        ((named : ℤ × List ℕ) → HasCleanDisk (shows S.Store store.new)
         → IsListed (value_in S.Store store.old) named table.now
-        → IfOk result (λ found. HoldsIfAny named.1 (table_rows named.0 (value_in S.Store store.old))
-        found) }
-    ensures looks { LooksOn S.Store store.old store.new result }
+        → IfOk result (λ found. HoldsIfAny named.1 (table_rows named.0
+        (value_in S.Store store.old)) found)) }
 {
     let columns = listed_columns(alloc, table)?;
     let cells = store.cells(table.id)?;
@@ -57,11 +57,10 @@ fn content_under<S: Alter>(
     store: &mut Store<S>,
     id: i64,
 ) -> Result<Option<TableContent>, StoreFault>
-    ensures held { (named : ℤ × List ℕ) → HasCleanDisk (shows S.Store store.new)
-        → IsNamed (value_in S.Store store.old) id named
-        → IfOk result (λ found. HoldsIfAny named.1 (table_rows named.0 (value_in S.Store store.old))
-        found) }
-    ensures looks { LooksOn S.Store store.old store.new result }
+    ensures { LooksTo S.Store store.old store.new result
+        ((named : ℤ × List ℕ) → HasCleanDisk (shows S.Store store.new)
+        → IsNamed (value_in S.Store store.old) id named → IfOk result (λ found. HoldsIfAny named.1
+        (table_rows named.0 (value_in S.Store store.old)) found)) }
 {
     match listed_table(store, id)? {
         Some(table) => read_content(alloc, store, &table),
@@ -76,11 +75,11 @@ pub(crate) fn rebuild_changes<S: Alter>(
     tables: &[TableInfo],
     table: &str,
 ) -> Result<Vec<RowChange>, Fault>
-    ensures plan { HasCleanDisk (shows S.Store store.new) → (contents : Contents)
+    ensures { LooksTo S.Store store.old store.new result
+        (HasCleanDisk (shows S.Store store.new) → (contents : Contents)
         → AreHeld (value_in S.Store store.old) (map shown_info tables.now) contents
         → PlansFrom contents (plain.Rebuild table.now) (value_in S.Store store.old)
-        (changes_of result) }
-    ensures looks { LooksOn S.Store store.old store.new result }
+        (changes_of result)) }
 {
     store.is_in_order();
     let Some(place) = table_place(tables, table) else {

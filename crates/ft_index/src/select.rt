@@ -130,19 +130,18 @@ fn select_grid<S: Alter>(
     limit: Option<u64>,
     offset: u64,
 ) -> Result<Grid, Fault>
-    ensures answer { IfOk result (λ grid. (content : Content)
-        → IsAsked S.Store info.now.id (map column_of info.now.columns.items) (items_of items.now)
-        (filter_of filter.now) (option_map (λ q. tree_of q.now) query.entry) store.old store.new
-        content
-        → grid_of grid ≡ answer.answer (string_bytes info.now.name) content (items_of items.now)
-        (filter_of filter.now) limit offset) }
+    ensures looks { LooksFor S.Store store.old store.new result IsOutside
+        (IfOk result (λ grid. (content : Content) → IsAsked S.Store info.now.id
+        (map column_of info.now.columns.items) (items_of items.now) (filter_of filter.now)
+        (option_map (λ q. tree_of q.now) query.entry) store.old store.new content → grid_of grid
+        ≡ answer.answer (string_bytes info.now.name) content (items_of items.now)
+        (filter_of filter.now) limit offset)) }
     ensures counted { OnOk result ((content : Content)
         → IsAsked S.Store info.now.id (map column_of info.now.columns.items) (items_of items.now)
         (filter_of filter.now) (option_map (λ q. tree_of q.now) query.entry) store.old store.new
         content → IsTrue (deserved.is_match (filter_of filter.now))
         → store.new.rows_read ≡ more_rows (rows_asked content (items_of items.now)
         (filter_of filter.now) limit offset) store.old) }
-    ensures looks { LooksFor S.Store store.old store.new result IsOutside }
 {
     let columns = info.columns.as_slice();
     let rows = selected_rows(
@@ -164,19 +163,18 @@ fn selected_rows<S: Alter>(
     limit: Option<u64>,
     offset: u64,
 ) -> Result<Vec<Vec<Value>>, Fault>
-    ensures found { IfOk result (λ found. (content : Content)
-        → IsAsked S.Store tab (map column_of columns.now) (items_of items.now)
-        (filter_of filter.now) (option_map (λ q. tree_of q.now) query.entry) store.old store.new
-        content
-        → rows_of found ≡ answer.cut limit offset
-        (answer.answer_rows content (items_of items.now) (filter_of filter.now))) }
+    ensures looks { LooksFor S.Store store.old store.new result IsOutside
+        (IfOk result (λ found. (content : Content) → IsAsked S.Store tab
+        (map column_of columns.now) (items_of items.now) (filter_of filter.now) (option_map
+        (λ q. tree_of q.now) query.entry) store.old store.new content → rows_of found
+        ≡ answer.cut limit offset (answer.answer_rows content (items_of items.now)
+        (filter_of filter.now)))) }
     ensures counted { OnOk result ((content : Content)
         → IsAsked S.Store tab (map column_of columns.now) (items_of items.now)
         (filter_of filter.now) (option_map (λ q. tree_of q.now) query.entry) store.old store.new
         content → IsTrue (deserved.is_match (filter_of filter.now))
         → store.new.rows_read ≡ more_rows (rows_asked content (items_of items.now)
         (filter_of filter.now) limit offset) store.old) }
-    ensures looks { LooksFor S.Store store.old store.new result IsOutside }
 {
     match items {
         Items::Count => {
@@ -205,17 +203,16 @@ fn chosen_count<S: Alter>(
     filter: &Filter,
     query: Option<&Query>,
 ) -> Result<i64, Fault>
-    ensures count { IfOk result (λ count. (content : Content)
-        → IsOf S.Store tab store.old store.new content
+    ensures looks { LooksFor S.Store store.old store.new result IsOutside
+        (IfOk result (λ count. (content : Content) → IsOf S.Store tab store.old store.new content
         → ReadsAs content (filter_of filter.now) (option_map (λ q. tree_of q.now) query.entry)
-        → count ≡ pos (length (chosen content (filter_of filter.now)))) }
+        → count ≡ pos (length (chosen content (filter_of filter.now))))) }
     ensures counted { OnOk result ((content : Content)
         → IsOf S.Store tab store.old store.new content
         → ReadsAs content (filter_of filter.now) (option_map (λ q. tree_of q.now) query.entry)
         → IsTrue (deserved.is_match (filter_of filter.now))
         → store.new.rows_read ≡ more_rows (rows.entries_asked content
         (query_in content (filter_of filter.now))) store.old) }
-    ensures looks { LooksFor S.Store store.old store.new result IsOutside }
 {
     match filter {
         Filter::Match { .. } => {
@@ -240,14 +237,13 @@ fn read_rows<S: Alter>(
     limit: Option<u64>,
     offset: u64,
 ) -> Result<Vec<Vec<Value>>, Fault>
-    ensures found { IfOk result (λ found. (content : Content)
-        → IsAsked S.Store tab (map column_of columns.now) (plain.Listed (map item_of items.now))
+    ensures { LooksFor S.Store store.old store.new result IsOutside
+        (IfOk result (λ found. (content : Content) → IsAsked S.Store tab
+        (map column_of columns.now) (plain.Listed (map item_of items.now))
         (filter_of filter.now) None store.old store.new content
-        → deserved.is_match (filter_of filter.now) ≡ false
-        → rows_of found ≡ answer.cut limit offset
-        (answer.answer_rows content (plain.Listed (map item_of items.now))
-        (filter_of filter.now))) }
-    ensures looks { LooksFor S.Store store.old store.new result IsOutside }
+        → deserved.is_match (filter_of filter.now) ≡ false → rows_of found
+        ≡ answer.cut limit offset (answer.answer_rows content (plain.Listed
+        (map item_of items.now)) (filter_of filter.now)))) }
 {
     let documents = chosen_documents(alloc, store, tab, filter, None)?;
     let answered = cut(documents.as_slice(), limit, offset);
@@ -285,17 +281,18 @@ fn matched_rows<S: Alter>(
     limit: Option<u64>,
     offset: u64,
 ) -> Result<Vec<Vec<Value>>, Fault>
-    ensures found { IfOk result (λ found. (content : Content) (name text : List ℕ)
+    ensures looks { LooksFor S.Store store.old store.new result IsOutside
+        (IfOk result (λ found. (content : Content) (name text : List ℕ)
         → IsAsked S.Store tab (map column_of columns.now) (plain.Listed (map item_of items.now))
-        (Match name text) (option_map (λ q. tree_of q.now) query.entry) store.old store.new content
-        → rows_of found ≡ answer.cut limit offset
-        (answer.answer_rows content (plain.Listed (map item_of items.now)) (Match name text))) }
+        (Match name text) (option_map
+        (λ q. tree_of q.now) query.entry) store.old store.new content → rows_of found
+        ≡ answer.cut limit offset (answer.answer_rows content (plain.Listed
+        (map item_of items.now)) (Match name text)))) }
     ensures counted { OnOk result ((content : Content) (name text : List ℕ)
         → IsAsked S.Store tab (map column_of columns.now) (plain.Listed (map item_of items.now))
         (Match name text) (option_map (λ q. tree_of q.now) query.entry) store.old store.new content
         → store.new.rows_read ≡ more_rows (rows_asked content (plain.Listed (map item_of items.now))
         (Match name text) limit offset) store.old) }
-    ensures looks { LooksFor S.Store store.old store.new result IsOutside }
 {
     let most = most_hits(limit, offset);
     let hits = matched(store, alloc, tab, query, any_offsets(items), most)?;
@@ -364,14 +361,14 @@ fn cell_rows<S: Alter>(
     items: &[Item],
     hits: &[Hit],
 ) -> Result<Vec<Vec<Value>>, Fault>
-    ensures found { IfOk result (λ found. (content : Content)
-        → HasRows S.Store tab store.old store.new content
-        → rows_of found ≡ map (hit_cells (map column_of columns.now) (map item_of items.now)
-        (cells_at content)) hits.now) }
+    ensures looks { LooksFor S.Store store.old store.new result IsOutside
+        (IfOk result (λ found. (content : Content)
+        → HasRows S.Store tab store.old store.new content → rows_of found
+        ≡ map (hit_cells (map column_of columns.now) (map item_of items.now)
+        (cells_at content)) hits.now)) }
     ensures counted { OnOk result ((content : Content)
         → HasRows S.Store tab store.old store.new content
         → store.new.rows_read ≡ more_rows (length content.columns * length hits.now) store.old) }
-    ensures looks { LooksFor S.Store store.old store.new result IsOutside }
 {
     // So the count of rows is known to be of 64 bits.
     let _read = store.rows_read();

@@ -53,10 +53,10 @@ pub(crate) fn listed_table<S: Alter>(
     store: &mut Store<S>,
     id: i64,
 ) -> Result<Option<TabRow>, StoreFault>
-    ensures found { (named : ℤ × List ℕ) → HasCleanDisk (shows S.Store store.new)
-        → IsNamed (value_in S.Store store.old) id named
-        → IfOk result (λ found. IsFound (value_in S.Store store.old) named found) }
-    ensures looks { Asks S.Store store.old store.new result IsPlainFault }
+    ensures { Asks S.Store store.old store.new result IsPlainFault
+        ((named : ℤ × List ℕ) → HasCleanDisk (shows S.Store store.new)
+        → IsNamed (value_in S.Store store.old) id named → IfOk result (λ found. IsFound
+        (value_in S.Store store.old) named found)) }
 {
     let tables = store.tables()?;
     Ok(table_under(tables, id))
@@ -68,11 +68,11 @@ pub(crate) fn read_standing<S: Alter>(
     store: &mut Store<S>,
     table: &TabRow,
 ) -> Result<Standing, StoreFault>
-    ensures stands { (named : ℤ × List ℕ) → HasCleanDisk (shows S.Store store.new)
+    ensures { Asks S.Store store.old store.new result IsPlainFault
+        ((named : ℤ × List ℕ) → HasCleanDisk (shows S.Store store.new)
         → IsListed (value_in S.Store store.old) named table.now
         → IfOk result (λ s. StandsSo named.1 (table_rows named.0 (value_in S.Store store.old))
-        (table_index named.0 (value_in S.Store store.old)) s) }
-    ensures looks { Asks S.Store store.old store.new result IsPlainFault }
+        (table_index named.0 (value_in S.Store store.old)) s)) }
 {
     let columns = listed_columns(alloc, table)?;
     let cells = store.cells(table.id)?;
@@ -96,12 +96,11 @@ fn has_right_index<S: Alter>(
     cells: &[CellRow],
 ) -> Result<bool, StoreFault>
     requires { 0 < length columns.now }
-    ensures right { (content : Content) → HasCleanDisk (shows S.Store store.new)
-        → standing.HaveContent (map column_of columns.now) (map standing.shown_row cells.now)
-        content
-        → IfOk result (λ b. IsTrue b ↔ (table_index tab (value_in S.Store store.old)
-        ≡ index_rows content)) }
-    ensures looks { Asks S.Store store.old store.new result IsPlainFault }
+    ensures { Asks S.Store store.old store.new result IsPlainFault
+        ((content : Content) → HasCleanDisk (shows S.Store store.new)
+        → standing.HaveContent (map column_of columns.now)
+        (map standing.shown_row cells.now) content → IfOk result (λ b. IsTrue b ↔ (table_index tab
+        (value_in S.Store store.old) ≡ index_rows content))) }
 {
     let sizes = store.sizes(tab)?;
     match index_lists(alloc, columns, cells, sizes.as_slice())? {

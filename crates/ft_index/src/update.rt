@@ -8,7 +8,7 @@ ghost use Rattle.ft_content.specs.Deserved as deserved;
 ghost use Rattle.ft_content.specs.Step.{updated};
 ghost use Rattle.ft_content.specs.Views.{column_of, set_of, filter_of, shown_info};
 ghost use Rattle.ft_index.specs.Changed.{with_tables, Does};
-ghost use Rattle.ft_index.specs.DocumentsRead.{HasRows, LooksOn};
+ghost use Rattle.ft_index.specs.DocumentsRead.{HasRows, LooksTo};
 ghost use Rattle.ft_documents.specs.Gathered.{shown_document};
 ghost use Rattle.ft_documents.specs.Updated.{update_touches};
 ghost use Rattle.ft_index.specs.Written.{HasAll, Writes, PlansIn, WritesIn};
@@ -52,9 +52,9 @@ pub(crate) fn update_changes<S: Alter>(
     sets: &[(String, Value)],
     filter: &Filter,
 ) -> Result<Vec<RowChange>, Fault>
-    ensures plans { PlansIn S.Store (map shown_info tables.now) store.old store.new
-        (plain.Update table.now (map set_of sets.now) (filter_of filter.now)) result }
-    ensures looks { LooksOn S.Store store.old store.new result }
+    ensures { LooksTo S.Store store.old store.new result
+        (PlansIn S.Store (map shown_info tables.now) store.old store.new (plain.Update table.now
+        (map set_of sets.now) (filter_of filter.now)) result) }
 {
     let written = update_written(alloc, store, tables, table, sets, filter)?;
     let changes = written.changes(alloc)?;
@@ -70,9 +70,9 @@ fn update_written<'t, S: Alter>(
     sets: &[(String, Value)],
     filter: &Filter,
 ) -> Result<Written<'t>, Fault>
-    ensures writes { WritesIn S.Store (map shown_info tables.now) store.old store.new
-        (plain.Update table.now (map set_of sets.now) (filter_of filter.now)) result }
-    ensures looks { LooksOn S.Store store.old store.new result }
+    ensures { LooksTo S.Store store.old store.new result
+        (WritesIn S.Store (map shown_info tables.now) store.old store.new (plain.Update table.now
+        (map set_of sets.now) (filter_of filter.now)) result) }
 {
     store.is_in_order();
     if repeats_set(sets) {
@@ -94,14 +94,13 @@ fn written_by_update<S: Alter>(
     sets: &[(String, Value)],
     filter: &Filter,
 ) -> Result<Vec<Rewrite>, Fault>
-    ensures written { (content : Content)
-        → HasAll S.Store known.now.id (string_bytes known.now.name)
+    ensures { LooksTo S.Store store.old store.new result
+        ((content : Content) → HasAll S.Store known.now.id (string_bytes known.now.name)
         (map column_of known.now.columns.items) store.old store.new content
         → Writes content (deserved.update_fault (string_bytes known.now.name) content
-        (map set_of sets.now) (filter_of filter.now))
-        (updated content (map set_of sets.now) (filter_of filter.now))
-        (update_touches content (map set_of sets.now) (filter_of filter.now)) result }
-    ensures looks { LooksOn S.Store store.old store.new result }
+        (map set_of sets.now) (filter_of filter.now)) (updated content (map set_of sets.now)
+        (filter_of filter.now)) (update_touches content (map set_of sets.now)
+        (filter_of filter.now)) result) }
 {
     let columns = known.columns.as_slice();
     if let Some(fault) = update_tests(known.name.as_str(), columns, sets, filter) {
@@ -123,14 +122,13 @@ fn test_move<S: Alter>(
     documents: &[Document],
     given: Option<i64>,
 ) -> Result<(), Fault>
-    ensures moves { (content : Content) (docids : List ℤ)
-        → HasRows S.Store tab store.old store.new content → slice_get docids 0 ≡ given
-        → MatchResult result (λ _. deserved.moves_fault content.documents
-        (map shown_document documents.now) docids ≡ None)
-        (λ fault. ((fault ≡ faults.Store) ⊎ (fault ≡ faults.Memory))
-        ⊎ (deserved.moves_fault content.documents (map shown_document documents.now) docids
-        ≡ Some fault)) }
-    ensures looks { LooksOn S.Store store.old store.new result }
+    ensures { LooksTo S.Store store.old store.new result
+        ((content : Content) (docids : List ℤ) → HasRows S.Store tab store.old store.new content
+        → slice_get docids 0 ≡ given → MatchResult result
+        (λ _. deserved.moves_fault content.documents (map shown_document documents.now) docids
+        ≡ None) (λ fault. ((fault ≡ faults.Store) ⊎ (fault
+        ≡ faults.Memory)) ⊎ (deserved.moves_fault content.documents
+        (map shown_document documents.now) docids ≡ Some fault))) }
 {
     let docids = numbers(alloc, documents)?;
     let is_taken = has_document(alloc, store, tab, given)?;

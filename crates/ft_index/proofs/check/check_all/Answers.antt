@@ -8,4 +8,4 @@ use Rattle.ft_index.proofs.check.check_all.Goals as goal
 
 pub returns-clause-all : goal.returns-clause-all
 returns-clause-all g c = λ clean contents held.
-    all_are_sound (value_in g.S.Store c.args.store.now) c.in_ok-tables.tables.items contents c.are_sound.result (c.in_ok-tables.ensures.marked clean) held (c.are_sound.ensures ∙ ap (list_all (λ (t : TableInfo). t.sound)) c.as_slice.ensures.value)
+    all_are_sound (value_in g.S.Store c.args.store.now) c.in_ok-tables.tables.items contents c.are_sound.result (c.in_ok-tables.ensures.told clean) held (c.are_sound.ensures ∙ ap (list_all (λ (t : TableInfo). t.sound)) c.as_slice.ensures.value)

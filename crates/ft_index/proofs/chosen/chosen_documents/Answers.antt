@@ -1,5 +1,5 @@
 -- by the kind of the filter
-use Rattle.std.proofs.Common.{◌≡◌, ◌∙◌, ℤ, false, Option, map, option_map, string_bytes, Bor, refl, sym, ap, subst, to_z-of_z, to_z, of_z, w64}
+use Rattle.std.proofs.Common.{rules, ◌≡◌, ◌∙◌, ℤ, false, Option, map, option_map, string_bytes, Bor, refl, sym, ap, subst, to_z-of_z, to_z, of_z, w64}
 use Rattle.std.proofs.lemmas.Result.{IfOk-weaker}
 use Rattle.ft_query.specs.declared.walk.Hit.{Hit}
 use Rattle.ft_query.specs.Trees.{Tree, tree_of}
@@ -16,29 +16,41 @@ use Rattle.ft_documents.proofs.ChosenLemmas.{chosen_all, of_hits}
 use Rattle.ft_index.proofs.LookLemmas.{rows_then, index_first}
 use Rattle.ft_index.proofs.chosen.chosen_documents.Goals as goal
 
-pub returns-in-All-clause-chosen : goal.returns-in-All-clause-chosen
-returns-in-All-clause-chosen g c = IfOk-weaker c.all_documents.result _ _ (λ found read content rows indexed reads.
-    read content (subst (λ (k : ℤ). HasRows g.S.Store k c.args.store.now c.all_documents.new.store content) (sym (to_z-of_z c.ranges.tab)) rows)
-    ∙ sym (ap (λ (f : Filter). chosen content (filter_of f)) c.in-All.is ∙ chosen_all content)) c.all_documents.ensures.found
+pub returns-in-All : goal.returns-in-All
+returns-in-All g c = record {
+  told =
+      IfOk-weaker c.all_documents.result _ _ (λ found read content rows indexed reads.
+      read content (subst (λ (k : ℤ). HasRows g.S.Store k c.args.store.now c.all_documents.new.store content) (sym (to_z-of_z c.ranges.tab)) rows)
+      ∙ sym (ap (λ (f : Filter). chosen content (filter_of f)) c.in-All.is ∙ chosen_all content)) c.all_documents.ensures.told;
+  only = search rules;
+  live = search rules;
+  cause = search rules;
+}
 
-pub returns-in_ok-hits-in-Match-clause-chosen : goal.returns-in_ok-hits-in-Match-clause-chosen
-returns-in_ok-hits-in-Match-clause-chosen g c = IfOk-weaker c.documents_of_hits.result _ _ (λ found read content rows indexed reads.
-    let first = c.args.store.now in
-    let middle = c.matched.new.store in
-    let last = c.documents_of_hits.new.store in
-    let one : Looks g.S.Store first middle = c.matched.ensures.looks.only in
-    let two = c.documents_of_hits.ensures.looks.only in
-    let t = sym (to_z-of_z c.ranges.tab) in
-    let tab : ℤ = to_z w64 (of_z w64 c.args.tab) in
-    let name = string_bytes c.in-Match.name in
-    let text = string_bytes c.in-Match.query in
-    let here = subst (λ (k : ℤ). HasRows g.S.Store k first last content) t rows in
-    let at = subst (λ (k : ℤ). IsIndexed g.S.Store k first last content) t indexed in
-    let query : Option Tree = option_map {T = Bor _} (λ q. tree_of q.now) c.args.query in
-    let as_read = subst (λ (f : Filter). ReadsAs content (filter_of f) query) c.in-Match.is reads in
-    let hits : map plain_hit c.in_ok-hits-in-Match.hits.items ≡ map (told false) (chosen_hits content (Match name text)) =
-    c.in_ok-hits-in-Match.ensures.found content name text as_read (index_first g.S.Store first middle last one two tab content at) in
-    read content (rows_then g.S.Store first middle last one two tab content here)
-    ∙ ap (map (λ (h : Hit). document_at content h.docid)) c.as_slice.ensures.value
-    ∙ of_hits (λ (h : Hit). h.docid) plain_hit (λ h. refl) rows.name content (Match name text) false c.in_ok-hits-in-Match.hits.items rows.is_content hits
-    ∙ sym (ap (λ (f : Filter). chosen content (filter_of f)) c.in-Match.is)) c.documents_of_hits.ensures.found
+pub returns-in_ok-hits-in-Match : goal.returns-in_ok-hits-in-Match
+returns-in_ok-hits-in-Match g c = record {
+  told =
+      IfOk-weaker c.documents_of_hits.result _ _ (λ found read content rows indexed reads.
+      let first = c.args.store.now in
+      let middle = c.matched.new.store in
+      let last = c.documents_of_hits.new.store in
+      let one : Looks g.S.Store first middle = c.matched.ensures.looks.only in
+      let two = c.documents_of_hits.ensures.only in
+      let t = sym (to_z-of_z c.ranges.tab) in
+      let tab : ℤ = to_z w64 (of_z w64 c.args.tab) in
+      let name = string_bytes c.in-Match.name in
+      let text = string_bytes c.in-Match.query in
+      let here = subst (λ (k : ℤ). HasRows g.S.Store k first last content) t rows in
+      let at = subst (λ (k : ℤ). IsIndexed g.S.Store k first last content) t indexed in
+      let query : Option Tree = option_map {T = Bor _} (λ q. tree_of q.now) c.args.query in
+      let as_read = subst (λ (f : Filter). ReadsAs content (filter_of f) query) c.in-Match.is reads in
+      let hits : map plain_hit c.in_ok-hits-in-Match.hits.items ≡ map (told false) (chosen_hits content (Match name text)) =
+      c.in_ok-hits-in-Match.ensures.looks.told content name text as_read (index_first g.S.Store first middle last one two tab content at) in
+      read content (rows_then g.S.Store first middle last one two tab content here)
+      ∙ ap (map (λ (h : Hit). document_at content h.docid)) c.as_slice.ensures.value
+      ∙ of_hits (λ (h : Hit). h.docid) plain_hit (λ h. refl) rows.name content (Match name text) false c.in_ok-hits-in-Match.hits.items rows.is_content hits
+      ∙ sym (ap (λ (f : Filter). chosen content (filter_of f)) c.in-Match.is)) c.documents_of_hits.ensures.told;
+  only = search rules;
+  live = search rules;
+  cause = search rules;
+}

@@ -29,7 +29,7 @@ loop-hit-preserved g c =
           let docid : ℤ = c.hit-item.result.docid in
           let back : to_z w64 (of_z w64 c.hit-item.result.docid) ≡ c.hit-item.result.docid = to_z-of_z fits in
           let before = so_far.found content (rows_first g.S.Store first middle last so_far.looks read.looks.only tab content rows) in
-          let here : find int_cmp docid content.documents ≡ Some (cells_of c.in_ok-cells.cells) = ap (λ (k : ℤ). find int_cmp k content.documents) (sym back) ∙ read.found content (rows_then g.S.Store first middle last so_far.looks read.looks.only tab content rows) in
+          let here : find int_cmp docid content.documents ≡ Some (cells_of c.in_ok-cells.cells) = ap (λ (k : ℤ). find int_cmp k content.documents) (sym back) ∙ read.looks.told content (rows_then g.S.Store first middle last so_far.looks read.looks.only tab content rows) in
           let f : Hit → ℤ × List Cell = λ h. document_at content h.docid in
           let more = take_more c.args.hits.now c.loop-hit.hit-index c.hit-item.result c.loop-hit-test.true ∙ ap (λ hit. take c.loop-hit.hit-index c.args.hits.now ++ hit ∷ []) (sym c.hit-item.is) in
           ap (map shown_document) c.in_ok-push.ensures.items ∙ map-append shown_document c.loop-hit.documents.items (record { docid = to_z w64 (of_z w64 c.hit-item.result.docid); cells = c.in_ok-cells.cells } ∷ [])
@@ -37,14 +37,29 @@ loop-hit-preserved g c =
           ∙ sym (ap (map f) more ∙ map-append f (take c.loop-hit.hit-index c.args.hits.now) (c.hit-item.result ∷ []));
     }
 
-pub returns-clause-found : goal.returns-clause-found
-returns-clause-found g c content rows =
-    let f : Hit → ℤ × List Cell = λ h. document_at content h.docid in
-    c.loop-hit.invariant.found content (subst (λ (k : ℤ). HasRows g.S.Store k c.args.store.now c.loop-hit.store content) (sym (to_z-of_z c.ranges.tab)) rows)
-    ∙ ap (map f) (take_all c.loop-hit.hit-index c.args.hits.now c.loop-hit-test.false)
+pub returns : goal.returns
+returns g c = record {
+  told = λ content rows.
+      let f : Hit → ℤ × List Cell = λ h. document_at content h.docid in
+      c.loop-hit.invariant.found content (subst (λ (k : ℤ). HasRows g.S.Store k c.args.store.now c.loop-hit.store content) (sym (to_z-of_z c.ranges.tab)) rows)
+      ∙ ap (map f) (take_all c.loop-hit.hit-index c.args.hits.now c.loop-hit-test.false);
+  only = search rules;
+  live = search rules;
+  cause = search rules;
+}
 
-pub returns-in_err-cells-clause-looks : goal.returns-in_err-cells-clause-looks
-returns-in_err-cells-clause-looks g c = record { only = looks_then g.S.Store c.args.store.now c.loop-hit.store c.found_cells.new.store c.loop-hit.invariant.looks c.found_cells.ensures.looks.only c.loop-hit.invariant.live; live = search rules; cause = search rules }
+pub returns-in_err-cells : goal.returns-in_err-cells
+returns-in_err-cells g c = record {
+  told = search rules;
+  only = looks_then g.S.Store c.args.store.now c.loop-hit.store c.found_cells.new.store c.loop-hit.invariant.looks c.found_cells.ensures.looks.only c.loop-hit.invariant.live;
+  live = search rules;
+  cause = search rules;
+}
 
-pub returns-in_err-push-clause-looks : goal.returns-in_err-push-clause-looks
-returns-in_err-push-clause-looks g c = record { only = looks_then g.S.Store c.args.store.now c.loop-hit.store c.found_cells.new.store c.loop-hit.invariant.looks c.found_cells.ensures.looks.only c.loop-hit.invariant.live; live = search rules; cause = search rules }
+pub returns-in_err-push : goal.returns-in_err-push
+returns-in_err-push g c = record {
+  told = search rules;
+  only = looks_then g.S.Store c.args.store.now c.loop-hit.store c.found_cells.new.store c.loop-hit.invariant.looks c.found_cells.ensures.looks.only c.loop-hit.invariant.live;
+  live = search rules;
+  cause = search rules;
+}

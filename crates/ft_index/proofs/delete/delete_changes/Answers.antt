@@ -9,23 +9,31 @@ use Rattle.ft_index.specs.declared.written.Written.{Written}
 use Rattle.ft_index.specs.Written.{PlansIn, WritesIn}
 use Rattle.ft_index.proofs.delete.delete_changes.Goals as goal
 
-pub returns-in_err-written-clause-plans : goal.returns-in_err-written-clause-plans
-returns-in_err-written-clause-plans g c =
-    let f = filter_of c.args.filter.now in
-    let tables = map shown_info c.args.tables.now in
-    let command = plain.Delete c.args.table.now f in
-    let fault : Fault = c.in_err-written.field-0.0 in
-    let is : c.from_residual.result ≡ Err fault = search rules in
-    let failed : c.delete_written.result ≡ Err fault = search rules in
-    subst (λ (r : Result (Vec RowChange Global) Fault). PlansIn g.S.Store tables c.args.store.now c.delete_written.new.store command r) (sym is)
-    (subst (λ (r : Result Written Fault). WritesIn g.S.Store tables c.args.store.now c.delete_written.new.store command r) failed c.delete_written.ensures.writes)
+pub returns-in_err-written : goal.returns-in_err-written
+returns-in_err-written g c = record {
+  told =
+      let f = filter_of c.args.filter.now in
+      let tables = map shown_info c.args.tables.now in
+      let command = plain.Delete c.args.table.now f in
+      let fault : Fault = c.in_err-written.field-0.0 in
+      let is : c.from_residual.result ≡ Err fault = search rules in
+      let failed : c.delete_written.result ≡ Err fault = search rules in
+      subst (λ (r : Result (Vec RowChange Global) Fault). PlansIn g.S.Store tables c.args.store.now c.delete_written.new.store command r) (sym is)
+      (subst (λ (r : Result Written Fault). WritesIn g.S.Store tables c.args.store.now c.delete_written.new.store command r) failed c.delete_written.ensures.told);
+  only = search rules;
+  live = search rules;
+}
 
-pub returns-clause-plans : goal.returns-clause-plans
-returns-clause-plans g c =
-    let f = filter_of c.args.filter.now in
-    let tables = map shown_info c.args.tables.now in
-    let command = plain.Delete c.args.table.now f in
-    let written = c.in_ok-written.written in
-    let done : c.delete_written.result ≡ Ok written = search rules in
-    let writes = subst (λ (r : Result Written Fault). WritesIn g.S.Store tables c.args.store.now c.delete_written.new.store command r) done c.delete_written.ensures.writes in
-    writes (map shown_change c.in_ok-changes.changes.items) c.in_ok-changes.ensures
+pub returns : goal.returns
+returns g c = record {
+  told =
+      let f = filter_of c.args.filter.now in
+      let tables = map shown_info c.args.tables.now in
+      let command = plain.Delete c.args.table.now f in
+      let written = c.in_ok-written.written in
+      let done : c.delete_written.result ≡ Ok written = search rules in
+      let writes = subst (λ (r : Result Written Fault). WritesIn g.S.Store tables c.args.store.now c.delete_written.new.store command r) done c.delete_written.ensures.told in
+      writes (map shown_change c.in_ok-changes.changes.items) c.in_ok-changes.ensures;
+  only = search rules;
+  live = search rules;
+}

@@ -25,13 +25,13 @@ returns-in_err-written g c = record {
       let is : c.from_residual.result ≡ Err fault = search rules in
       let failed : c.delete_written.result ≡ Err fault = search rules in
       subst (λ (a : Result Reply Fault). Executes g.S.Store (with_tables c.args.store.now tables) command (answer_of a) (with_tables c.delete_written.new.store tables)) (sym is)
-      (executes_failed g.S.Store c.args.store.now c.delete_written.new.store tables command fault c.delete_written.ensures.looks.only
-      (subst (λ (r : Result Written Fault). WritesIn g.S.Store tables c.args.store.now c.delete_written.new.store command r) failed c.delete_written.ensures.writes));
+      (executes_failed g.S.Store c.args.store.now c.delete_written.new.store tables command fault c.delete_written.ensures.only
+      (subst (λ (r : Result Written Fault). WritesIn g.S.Store tables c.args.store.now c.delete_written.new.store command r) failed c.delete_written.ensures.told));
   crash =
       let f = filter_of c.args.filter.now in
       let command = plain.Delete c.args.table.now f in
       let tables = map shown_info c.args.tables.now in
-      crash_read g.S.Store c.args.store.now c.delete_written.new.store tables tables command c.delete_written.ensures.looks.only;
+      crash_read g.S.Store c.args.store.now c.delete_written.new.store tables tables command c.delete_written.ensures.only;
   live = search rules;
 }
 
@@ -48,15 +48,15 @@ returns-in_err-make g c = record {
       let did = c.make.ensures in
       let changed = subst (λ (r : Result (Unit {0}) Fault). Changed g.S.Store c.delete_written.new.store c.make.new.store did.changes (is_ok r)) refused did.makes.changed in
       subst (λ (a : Result Reply Fault). Executes g.S.Store (with_tables c.args.store.now tables) command (answer_of a) (with_tables c.make.new.store tables)) (sym is)
-      (executes_undone g.S.Store c.args.store.now c.delete_written.new.store c.make.new.store tables did.changes command fault outside c.delete_written.ensures.looks.only changed);
+      (executes_undone g.S.Store c.args.store.now c.delete_written.new.store c.make.new.store tables did.changes command fault outside c.delete_written.ensures.only changed);
   crash =
       let f = filter_of c.args.filter.now in
       let command = plain.Delete c.args.table.now f in
       let tables = map shown_info c.args.tables.now in
       let written : c.delete_written.result ≡ Ok c.in_ok-written.written = search rules in
       let did = c.make.ensures in
-      crash_written g.S.Store c.args.store.now c.delete_written.new.store c.make.new.store tables tables command did.changes c.delete_written.ensures.looks.only c.in_ok-written.ensures.looks.live
-      (subst (λ (r : Result Written Fault). WritesIn g.S.Store tables c.args.store.now c.delete_written.new.store command r) written c.delete_written.ensures.writes did.changes did.of_written) did.makes.crash;
+      crash_written g.S.Store c.args.store.now c.delete_written.new.store c.make.new.store tables tables command did.changes c.delete_written.ensures.only c.in_ok-written.ensures.live
+      (subst (λ (r : Result Written Fault). WritesIn g.S.Store tables c.args.store.now c.delete_written.new.store command r) written c.delete_written.ensures.told did.changes did.of_written) did.makes.crash;
   live = search rules;
 }
 
@@ -70,15 +70,15 @@ returns g c = record {
       let done : c.make.result ≡ Ok tt = search rules in
       let did = c.make.ensures in
       let changed : Changed g.S.Store c.delete_written.new.store c.make.new.store did.changes true = subst (λ (r : Result (Unit {0}) Fault). Changed g.S.Store c.delete_written.new.store c.make.new.store did.changes (is_ok r)) done did.makes.changed in
-      executes_written g.S.Store c.args.store.now c.delete_written.new.store c.make.new.store tables did.changes command c.args.table.now (made f) (leaves f c.args.table.now) (replies f c.args.table.now) c.delete_written.ensures.looks.only
-      (subst (λ (r : Result Written Fault). WritesIn g.S.Store tables c.args.store.now c.delete_written.new.store command r) written c.delete_written.ensures.writes did.changes did.of_written) changed;
+      executes_written g.S.Store c.args.store.now c.delete_written.new.store c.make.new.store tables did.changes command c.args.table.now (made f) (leaves f c.args.table.now) (replies f c.args.table.now) c.delete_written.ensures.only
+      (subst (λ (r : Result Written Fault). WritesIn g.S.Store tables c.args.store.now c.delete_written.new.store command r) written c.delete_written.ensures.told did.changes did.of_written) changed;
   crash =
       let f = filter_of c.args.filter.now in
       let command = plain.Delete c.args.table.now f in
       let tables = map shown_info c.args.tables.now in
       let written : c.delete_written.result ≡ Ok c.in_ok-written.written = search rules in
       let did = c.make.ensures in
-      crash_written g.S.Store c.args.store.now c.delete_written.new.store c.make.new.store tables tables command did.changes c.delete_written.ensures.looks.only c.in_ok-written.ensures.looks.live
-      (subst (λ (r : Result Written Fault). WritesIn g.S.Store tables c.args.store.now c.delete_written.new.store command r) written c.delete_written.ensures.writes did.changes did.of_written) did.makes.crash;
+      crash_written g.S.Store c.args.store.now c.delete_written.new.store c.make.new.store tables tables command did.changes c.delete_written.ensures.only c.in_ok-written.ensures.live
+      (subst (λ (r : Result Written Fault). WritesIn g.S.Store tables c.args.store.now c.delete_written.new.store command r) written c.delete_written.ensures.told did.changes did.of_written) did.makes.crash;
   live = search rules;
 }

@@ -11,41 +11,53 @@ use Rattle.ft_index.proofs.DeleteWrites.{due, made, gone, is_write}
 use Rattle.ft_index.proofs.Planning.{plans_unfit, plans_fail, plans_do}
 use Rattle.ft_index.proofs.delete.delete_written.Goals as goal
 
-pub returns-in_err-known-clause-writes : goal.returns-in_err-known-clause-writes
-returns-in_err-known-clause-writes g c =
-    let f = filter_of c.args.filter.now in
-    let tables = map shown_info c.args.tables.now in
-    let fault : Fault = c.in_err-known.field-0.0 in
-    let is : c.from_residual.result ≡ Err fault = search rules in
-    let unfit : IsUnfit tables c.args.table.now fault = c.in_err-known.ensures in
-    let command = plain.Delete c.args.table.now f in
-    subst (λ (r : Result Written Fault). WritesIn g.S.Store tables c.args.store.now c.args.store.now command r) (sym is)
-    (plans_unfit g.S.Store command c.args.table.now (due f) (made f) (gone f) (is_write f c.args.table.now) c.args.store.now c.args.store.now tables fault unfit)
+pub returns-in_err-known : goal.returns-in_err-known
+returns-in_err-known g c = record {
+  told =
+      let f = filter_of c.args.filter.now in
+      let tables = map shown_info c.args.tables.now in
+      let fault : Fault = c.in_err-known.field-0.0 in
+      let is : c.from_residual.result ≡ Err fault = search rules in
+      let unfit : IsUnfit tables c.args.table.now fault = c.in_err-known.ensures in
+      let command = plain.Delete c.args.table.now f in
+      subst (λ (r : Result Written Fault). WritesIn g.S.Store tables c.args.store.now c.args.store.now command r) (sym is)
+      (plans_unfit g.S.Store command c.args.table.now (due f) (made f) (gone f) (is_write f c.args.table.now) c.args.store.now c.args.store.now tables fault unfit);
+  only = search rules;
+  live = search rules;
+}
 
-pub returns-in_err-rewrites-clause-writes : goal.returns-in_err-rewrites-clause-writes
-returns-in_err-rewrites-clause-writes g c =
-    let f = filter_of c.args.filter.now in
-    let tables = map shown_info c.args.tables.now in
-    let fault : Fault = c.in_err-rewrites.field-0.0 in
-    let is : c.from_residual-in_err-rewrites.result ≡ Err fault = search rules in
-    let failed : c.written_by_delete.result ≡ Err fault = search rules in
-    let command = plain.Delete c.args.table.now f in
-    let known = shown_info c.in_ok-known.known.now in
-    let named : IsSoundNamed tables c.args.table.now known = c.in_ok-known.ensures in
-    subst (λ (r : Result Written Fault). WritesIn g.S.Store tables c.args.store.now c.written_by_delete.new.store command r) (sym is)
-    (plans_fail g.S.Store command c.args.table.now (due f) (made f) (gone f) (is_write f c.args.table.now) c.args.store.now c.written_by_delete.new.store tables known c.is_in_order.ensures.order named fault
-    (λ content has. subst (λ (r : Result (Vec Rewrite Global) Fault). Writes content (due f known.name content) (made f content) (gone f content) r) failed (c.written_by_delete.ensures.written content has)))
+pub returns-in_err-rewrites : goal.returns-in_err-rewrites
+returns-in_err-rewrites g c = record {
+  told =
+      let f = filter_of c.args.filter.now in
+      let tables = map shown_info c.args.tables.now in
+      let fault : Fault = c.in_err-rewrites.field-0.0 in
+      let is : c.from_residual-in_err-rewrites.result ≡ Err fault = search rules in
+      let failed : c.written_by_delete.result ≡ Err fault = search rules in
+      let command = plain.Delete c.args.table.now f in
+      let known = shown_info c.in_ok-known.known.now in
+      let named : IsSoundNamed tables c.args.table.now known = c.in_ok-known.ensures in
+      subst (λ (r : Result Written Fault). WritesIn g.S.Store tables c.args.store.now c.written_by_delete.new.store command r) (sym is)
+      (plans_fail g.S.Store command c.args.table.now (due f) (made f) (gone f) (is_write f c.args.table.now) c.args.store.now c.written_by_delete.new.store tables known c.is_in_order.ensures.order named fault
+      (λ content has. subst (λ (r : Result (Vec Rewrite Global) Fault). Writes content (due f known.name content) (made f content) (gone f content) r) failed (c.written_by_delete.ensures.told content has)));
+  only = search rules;
+  live = search rules;
+}
 
-pub returns-clause-writes : goal.returns-clause-writes
-returns-clause-writes g c changes of_written =
-    let f = filter_of c.args.filter.now in
-    let tables = map shown_info c.args.tables.now in
-    let command = plain.Delete c.args.table.now f in
-    let known = shown_info c.in_ok-known.known.now in
-    let named : IsSoundNamed tables c.args.table.now known = c.in_ok-known.ensures in
-    let rewrites = c.in_ok-rewrites.rewrites in
-    let done : c.written_by_delete.result ≡ Ok rewrites = search rules in
-    plans_do g.S.Store command c.args.table.now (due f) (made f) (gone f) (is_write f c.args.table.now) c.args.store.now c.written_by_delete.new.store tables known c.is_in_order.ensures.order named rewrites changes
-    (λ content has. subst (λ (r : Result (Vec Rewrite Global) Fault). Writes content (due f known.name content) (made f content) (gone f content) r) done (c.written_by_delete.ensures.written content has))
-    of_written.0
-    of_written.1
+pub returns : goal.returns
+returns g c = record {
+  told = λ changes of_written.
+      let f = filter_of c.args.filter.now in
+      let tables = map shown_info c.args.tables.now in
+      let command = plain.Delete c.args.table.now f in
+      let known = shown_info c.in_ok-known.known.now in
+      let named : IsSoundNamed tables c.args.table.now known = c.in_ok-known.ensures in
+      let rewrites = c.in_ok-rewrites.rewrites in
+      let done : c.written_by_delete.result ≡ Ok rewrites = search rules in
+      plans_do g.S.Store command c.args.table.now (due f) (made f) (gone f) (is_write f c.args.table.now) c.args.store.now c.written_by_delete.new.store tables known c.is_in_order.ensures.order named rewrites changes
+      (λ content has. subst (λ (r : Result (Vec Rewrite Global) Fault). Writes content (due f known.name content) (made f content) (gone f content) r) done (c.written_by_delete.ensures.told content has))
+      of_written.0
+      of_written.1;
+  only = search rules;
+  live = search rules;
+}

@@ -26,14 +26,14 @@ returns-in_err-written g c = record {
       let is : c.from_residual.result ≡ Err fault = search rules in
       let failed : c.insert_written.result ≡ Err fault = search rules in
       subst (λ (a : Result Reply Fault). Executes g.S.Store (with_tables c.args.store.now tables) command (answer_of a) (with_tables c.insert_written.new.store tables)) (sym is)
-      (executes_failed g.S.Store c.args.store.now c.insert_written.new.store tables command fault c.insert_written.ensures.looks.only
-      (subst (λ (r : Result Written Fault). WritesIn g.S.Store tables c.args.store.now c.insert_written.new.store command r) failed c.insert_written.ensures.writes));
+      (executes_failed g.S.Store c.args.store.now c.insert_written.new.store tables command fault c.insert_written.ensures.only
+      (subst (λ (r : Result Written Fault). WritesIn g.S.Store tables c.args.store.now c.insert_written.new.store command r) failed c.insert_written.ensures.told));
   crash =
       let columns = option_map (λ n. map string_bytes n.now) c.args.columns in
       let rows = map cells_of c.args.rows.now in
       let command = plain.Insert c.args.table.now columns rows in
       let tables = map shown_info c.args.tables.now in
-      crash_read g.S.Store c.args.store.now c.insert_written.new.store tables tables command c.insert_written.ensures.looks.only;
+      crash_read g.S.Store c.args.store.now c.insert_written.new.store tables tables command c.insert_written.ensures.only;
   live = search rules;
 }
 
@@ -51,7 +51,7 @@ returns-in_err-make g c = record {
       let did = c.make.ensures in
       let changed = subst (λ (r : Result (Unit {0}) Fault). Changed g.S.Store c.insert_written.new.store c.make.new.store did.changes (is_ok r)) refused did.makes.changed in
       subst (λ (a : Result Reply Fault). Executes g.S.Store (with_tables c.args.store.now tables) command (answer_of a) (with_tables c.make.new.store tables)) (sym is)
-      (executes_undone g.S.Store c.args.store.now c.insert_written.new.store c.make.new.store tables did.changes command fault outside c.insert_written.ensures.looks.only changed);
+      (executes_undone g.S.Store c.args.store.now c.insert_written.new.store c.make.new.store tables did.changes command fault outside c.insert_written.ensures.only changed);
   crash =
       let columns = option_map (λ n. map string_bytes n.now) c.args.columns in
       let rows = map cells_of c.args.rows.now in
@@ -59,8 +59,8 @@ returns-in_err-make g c = record {
       let tables = map shown_info c.args.tables.now in
       let written : c.insert_written.result ≡ Ok c.in_ok-written.written = search rules in
       let did = c.make.ensures in
-      crash_written g.S.Store c.args.store.now c.insert_written.new.store c.make.new.store tables tables command did.changes c.insert_written.ensures.looks.only c.in_ok-written.ensures.looks.live
-      (subst (λ (r : Result Written Fault). WritesIn g.S.Store tables c.args.store.now c.insert_written.new.store command r) written c.insert_written.ensures.writes did.changes did.of_written) did.makes.crash;
+      crash_written g.S.Store c.args.store.now c.insert_written.new.store c.make.new.store tables tables command did.changes c.insert_written.ensures.only c.in_ok-written.ensures.live
+      (subst (λ (r : Result Written Fault). WritesIn g.S.Store tables c.args.store.now c.insert_written.new.store command r) written c.insert_written.ensures.told did.changes did.of_written) did.makes.crash;
   live = search rules;
 }
 
@@ -75,8 +75,8 @@ returns g c = record {
       let done : c.make.result ≡ Ok tt = search rules in
       let did = c.make.ensures in
       let changed : Changed g.S.Store c.insert_written.new.store c.make.new.store did.changes true = subst (λ (r : Result (Unit {0}) Fault). Changed g.S.Store c.insert_written.new.store c.make.new.store did.changes (is_ok r)) done did.makes.changed in
-      executes_written g.S.Store c.args.store.now c.insert_written.new.store c.make.new.store tables did.changes command c.args.table.now (made columns rows) (leaves columns rows c.args.table.now) (replies columns rows c.args.table.now) c.insert_written.ensures.looks.only
-      (subst (λ (r : Result Written Fault). WritesIn g.S.Store tables c.args.store.now c.insert_written.new.store command r) written c.insert_written.ensures.writes did.changes did.of_written) changed;
+      executes_written g.S.Store c.args.store.now c.insert_written.new.store c.make.new.store tables did.changes command c.args.table.now (made columns rows) (leaves columns rows c.args.table.now) (replies columns rows c.args.table.now) c.insert_written.ensures.only
+      (subst (λ (r : Result Written Fault). WritesIn g.S.Store tables c.args.store.now c.insert_written.new.store command r) written c.insert_written.ensures.told did.changes did.of_written) changed;
   crash =
       let columns = option_map (λ n. map string_bytes n.now) c.args.columns in
       let rows = map cells_of c.args.rows.now in
@@ -84,7 +84,7 @@ returns g c = record {
       let tables = map shown_info c.args.tables.now in
       let written : c.insert_written.result ≡ Ok c.in_ok-written.written = search rules in
       let did = c.make.ensures in
-      crash_written g.S.Store c.args.store.now c.insert_written.new.store c.make.new.store tables tables command did.changes c.insert_written.ensures.looks.only c.in_ok-written.ensures.looks.live
-      (subst (λ (r : Result Written Fault). WritesIn g.S.Store tables c.args.store.now c.insert_written.new.store command r) written c.insert_written.ensures.writes did.changes did.of_written) did.makes.crash;
+      crash_written g.S.Store c.args.store.now c.insert_written.new.store c.make.new.store tables tables command did.changes c.insert_written.ensures.only c.in_ok-written.ensures.live
+      (subst (λ (r : Result Written Fault). WritesIn g.S.Store tables c.args.store.now c.insert_written.new.store command r) written c.insert_written.ensures.told did.changes did.of_written) did.makes.crash;
   live = search rules;
 }

@@ -11,12 +11,17 @@ use Rattle.ft_documents.specs.Matched.{told}
 use Rattle.ft_index.proofs.WalkedLemmas.{indexed_at, rows_at}
 use Rattle.ft_index.proofs.matching.hits.Goals as goal
 
-pub returns-in_ok-taken-in-Ok-clause-found : goal.returns-in_ok-taken-in-Ok-clause-found
-returns-in_ok-taken-in-Ok-clause-found g c content indexed =
-    let tab : c.new-lists.result.tab ≡ c.args.tab = search rules in
-    let at : IsIndexed g.S.Store c.new-lists.result.tab c.new-lists.result.store.now c.opened.new.lists.store.now content = indexed_at _ _ _ indexed tab c.new-lists.ensures.same_store (search rules) in
-    c.in_ok-taken-in-Ok.ensures (content_documents content) (c.in-Ok.ensures.stands content at)
-    ∙ ap (λ q. cut c.args.most 0 (map (told c.args.wants_offsets) (hits_of (tree_of q) (content_documents content)))) c.in-Ok.ensures.query
+pub returns-in_ok-taken-in-Ok-clause-looks : goal.returns-in_ok-taken-in-Ok-clause-looks
+returns-in_ok-taken-in-Ok-clause-looks g c = record {
+  told = λ content indexed.
+      let tab : c.new-lists.result.tab ≡ c.args.tab = search rules in
+      let at : IsIndexed g.S.Store c.new-lists.result.tab c.new-lists.result.store.now c.opened.new.lists.store.now content = indexed_at _ _ _ indexed tab c.new-lists.ensures.same_store (search rules) in
+      c.in_ok-taken-in-Ok.ensures (content_documents content) (c.in-Ok.ensures.stands content at)
+      ∙ ap (λ q. cut c.args.most 0 (map (told c.args.wants_offsets) (hits_of (tree_of q) (content_documents content)))) c.in-Ok.ensures.query;
+  only = search rules;
+  live = search rules;
+  cause = search rules;
+}
 
 pub returns-in_ok-taken-in-Ok-clause-counted : goal.returns-in_ok-taken-in-Ok-clause-counted
 returns-in_ok-taken-in-Ok-clause-counted g c content indexed =

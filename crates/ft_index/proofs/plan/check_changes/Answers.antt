@@ -19,7 +19,7 @@ returns-in_err-check_table-clause-plans g c =
     let is : c.from_residual.result ≡ Err fault = search rules in
     let failed : c.check_table.result ≡ Err fault = search rules in
     λ up contents held.
-    let answered = c.check_table.ensures.checks.steps up contents held in
+    let answered = c.check_table.ensures.told.steps up contents held in
     subst (λ (r : Result (Vec RowChange Global) Fault). PlansFrom contents (plain.Check c.args.table.now) (value_in g.S.Store c.args.store.now) (changes_of r)) (sym is)
     (answered_fault contents answered.0 (plain.Check c.args.table.now) fault (subst (λ (r : Result Reply Fault). Answers contents (plain.Check c.args.table.now) (answer_of r) answered.0) failed answered.2))
 
@@ -28,7 +28,7 @@ returns-clause-plans g c up contents held =
     let command = plain.Check c.args.table.now in
     let reply : Reply = c.in_ok-check_table.field-0 in
     let done : c.check_table.result ≡ Ok reply = search rules in
-    let answered = c.check_table.ensures.checks.steps up contents held in
+    let answered = c.check_table.ensures.told.steps up contents held in
     let same : map shown_change c.new.result.items ≡ [] = ap (map shown_change) c.new.ensures.items in
     subst (λ (cs : List Change). PlansFrom contents command (value_in g.S.Store c.args.store.now) (Ok cs)) (sym same)
     (check_plans contents c.args.table.now (value_in g.S.Store c.args.store.now) (map shown_info c.args.tables.now) held

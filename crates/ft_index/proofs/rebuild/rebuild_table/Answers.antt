@@ -37,12 +37,12 @@ returns-in_err-changes g c = record {
       let command = plain.Rebuild c.args.table.now in
       let value = value_in g.S.Store c.args.store.now in
       subst (λ (a : Result Reply Fault). Executes g.S.Store (with_tables c.args.store.now tables) command (answer_of a) (with_tables c.rebuild_changes.new.store tables)) (sym is)
-      (refused_plan g.S.Store c.args.store.now c.rebuild_changes.new.store tables command fault c.rebuild_changes.ensures.looks.only
+      (refused_plan g.S.Store c.args.store.now c.rebuild_changes.new.store tables command fault c.rebuild_changes.ensures.only
       (λ clean contents held. subst (λ (r : Result (Vec RowChange Global) Fault). PlansFrom contents command value (changes_of r)) planned
-      (c.rebuild_changes.ensures.plan clean contents (subst (λ ts. AreHeld value (map shown_info ts) contents) (sym c.as_slice.ensures.value) held))));
+      (c.rebuild_changes.ensures.told clean contents (subst (λ ts. AreHeld value (map shown_info ts) contents) (sym c.as_slice.ensures.value) held))));
   crash =
       let tables = map shown_info c.args.tables.now.items in
-      crash_read g.S.Store c.args.store.now c.rebuild_changes.new.store tables tables (plain.Rebuild c.args.table.now) c.rebuild_changes.ensures.looks.only;
+      crash_read g.S.Store c.args.store.now c.rebuild_changes.new.store tables tables (plain.Rebuild c.args.table.now) c.rebuild_changes.ensures.only;
   live = search rules;
 }
 
@@ -58,7 +58,7 @@ returns-in_err-change_rows g c = record {
       let mid = c.rebuild_changes.new.store in
       let changed = subst (λ (r : Result (Unit {0}) Fault). Changed g.S.Store mid c.change_rows.new.store (map shown_change c.as_slice-2.result.now) (is_ok r)) refused c.change_rows.ensures.changed in
       subst (λ (a : Result Reply Fault). Executes g.S.Store (with_tables c.args.store.now tables) command (answer_of a) (with_tables c.change_rows.new.store tables)) (sym is)
-      (refused_after g.S.Store c.args.store.now mid c.change_rows.new.store tables (map shown_change c.as_slice-2.result.now) command c.rebuild_changes.ensures.looks.only fault outside changed);
+      (refused_after g.S.Store c.args.store.now mid c.change_rows.new.store tables (map shown_change c.as_slice-2.result.now) command c.rebuild_changes.ensures.only fault outside changed);
   crash =
       let tables = map shown_info c.args.tables.now.items in
       let after = tables in
@@ -69,8 +69,8 @@ returns-in_err-change_rows g c = record {
       let planned : c.rebuild_changes.result ≡ Ok changes = search rules in
       let plans : PlansIn g.S.Store tables c.args.store.now mid command (Ok changes) =
       λ up contents held. subst (λ (r : Result (Vec RowChange Global) Fault). PlansFrom contents command value (changes_of r)) planned
-      (c.rebuild_changes.ensures.plan up.clean contents (subst (λ ts. AreHeld value (map shown_info ts) contents) (sym c.as_slice.ensures.value) held)) in
-      crash_written g.S.Store c.args.store.now mid c.change_rows.new.store tables after command (map shown_change changes.items) c.rebuild_changes.ensures.looks.only c.in_ok-changes.ensures.looks.live plans
+      (c.rebuild_changes.ensures.told up.clean contents (subst (λ ts. AreHeld value (map shown_info ts) contents) (sym c.as_slice.ensures.value) held)) in
+      crash_written g.S.Store c.args.store.now mid c.change_rows.new.store tables after command (map shown_change changes.items) c.rebuild_changes.ensures.only c.in_ok-changes.ensures.live plans
       (subst (λ (cs : List RowChange). Survives (shows g.S.Store mid) (shows g.S.Store c.change_rows.new.store) (CommitsRows g.S.Store mid (map shown_change cs))) c.as_slice-2.ensures.value c.change_rows.ensures.crash);
   live = search rules;
 }
@@ -90,7 +90,7 @@ returns g c = record {
       (subst (λ (r : Result (Unit {0}) Fault). Changed g.S.Store mid c.change_rows.new.store (map shown_change c.as_slice-2.result.now) (is_ok r)) done c.change_rows.ensures.changed) in
       let plans : HasCleanDisk (shows g.S.Store mid) → (contents : Contents) → AreHeld value tables contents → PlansFrom contents command value (Ok changes) =
       λ clean contents held. subst (λ (r : Result (Vec RowChange Global) Fault). PlansFrom contents command value (changes_of r)) planned
-      (c.rebuild_changes.ensures.plan clean contents (subst (λ ts. AreHeld value (map shown_info ts) contents) (sym c.as_slice.ensures.value) held)) in
+      (c.rebuild_changes.ensures.told clean contents (subst (λ ts. AreHeld value (map shown_info ts) contents) (sym c.as_slice.ensures.value) held)) in
       elim c.match-table_place.branch [
         | in-Some w ↦
             let here : c.as_slice-known.result.now ≡ c.args.tables.now.items = c.as_slice-known.ensures.value in
@@ -105,7 +105,7 @@ returns g c = record {
             ∙ ap (λ k. with_sound k tables) (to_z-of_z fits)
             ∙ ap (λ (t : RustTableInfo). with_sound t.id tables) same in
             subst (λ (ts : List TableInfo). Executes g.S.Store (with_tables c.args.store.now tables) command (Ok plain.Done) (with_tables c.change_rows.new.store ts)) (sym told)
-            (executes_after g.S.Store c.args.store.now mid c.change_rows.new.store tables changes command c.rebuild_changes.ensures.looks.only (with_sound s.item.id tables) plans changed
+            (executes_after g.S.Store c.args.store.now mid c.change_rows.new.store tables changes command c.rebuild_changes.ensures.only (with_sound s.item.id tables) plans changed
             (λ contents held fine. told_after value tables contents c.args.table.now (shown_info s.item) (told_here value tables contents c.args.table.now (shown_info s.item) c.is_in_order.ensures.order held named) held.told fine)
             (λ contents. rebuild_reply contents c.args.table.now))
         | in_default w ↦
@@ -114,7 +114,7 @@ returns g c = record {
             let named = ap (λ ts. info_named (map shown_info ts) c.args.table.now) (sym here) ∙ unplaced shown_info (λ (t : TableInfo). same_name t.name c.args.table.now) c.as_slice-known.result.now (sym c.table_place.ensures ∙ none) in
             let told : map shown_info c.match-table_place.tables.items ≡ tables = ap (λ (v : Vec RustTableInfo Global). map shown_info v.items) w.tables-is in
             subst (λ (ts : List TableInfo). Executes g.S.Store (with_tables c.args.store.now tables) command (Ok plain.Done) (with_tables c.change_rows.new.store ts)) (sym told)
-            (executes_after g.S.Store c.args.store.now mid c.change_rows.new.store tables changes command c.rebuild_changes.ensures.looks.only tables plans changed
+            (executes_after g.S.Store c.args.store.now mid c.change_rows.new.store tables changes command c.rebuild_changes.ensures.only tables plans changed
             (λ contents held fine. absurd (let no = sym fine ∙ rebuild_missing contents tables c.args.table.now held.told named in cc))
             (λ contents. rebuild_reply contents c.args.table.now))
       ];
@@ -128,8 +128,8 @@ returns g c = record {
       let planned : c.rebuild_changes.result ≡ Ok changes = search rules in
       let plans : PlansIn g.S.Store tables c.args.store.now mid command (Ok changes) =
       λ up contents held. subst (λ (r : Result (Vec RowChange Global) Fault). PlansFrom contents command value (changes_of r)) planned
-      (c.rebuild_changes.ensures.plan up.clean contents (subst (λ ts. AreHeld value (map shown_info ts) contents) (sym c.as_slice.ensures.value) held)) in
-      crash_written g.S.Store c.args.store.now mid c.change_rows.new.store tables after command (map shown_change changes.items) c.rebuild_changes.ensures.looks.only c.in_ok-changes.ensures.looks.live plans
+      (c.rebuild_changes.ensures.told up.clean contents (subst (λ ts. AreHeld value (map shown_info ts) contents) (sym c.as_slice.ensures.value) held)) in
+      crash_written g.S.Store c.args.store.now mid c.change_rows.new.store tables after command (map shown_change changes.items) c.rebuild_changes.ensures.only c.in_ok-changes.ensures.live plans
       (subst (λ (cs : List RowChange). Survives (shows g.S.Store mid) (shows g.S.Store c.change_rows.new.store) (CommitsRows g.S.Store mid (map shown_change cs))) c.as_slice-2.ensures.value c.change_rows.ensures.crash);
   live = search rules;
 }

@@ -35,7 +35,7 @@ loop-hit-preserved g c =
       live = λ clean _. read.looks.live clean;
       found = λ content rows.
           let before = so_far.found content (rows_first g.S.Store first middle last so_far.looks read.looks.only tab content rows) in
-          let here : cells_of c.in_ok-cells.cells ≡ cells_at content docid = read_cells content docid (cells_of c.in_ok-cells.cells) (ap (λ (k : ℤ). find int_cmp k content.documents) (sym back) ∙ read.found content (rows_then g.S.Store first middle last so_far.looks read.looks.only tab content rows)) in
+          let here : cells_of c.in_ok-cells.cells ≡ cells_at content docid = read_cells content docid (cells_of c.in_ok-cells.cells) (ap (λ (k : ℤ). find int_cmp k content.documents) (sym back) ∙ read.looks.told content (rows_then g.S.Store first middle last so_far.looks read.looks.only tab content rows)) in
           let row : (ℤ → List Cell) → Hit → List Cell = hit_cells (map column_of c.args.columns.now) (map item_of c.args.items.now) in
           let more = take_more c.args.hits.now c.loop-hit.hit-index c.hit-item.result c.loop-hit-test.true ∙ ap (λ hit. take c.loop-hit.hit-index c.args.hits.now ++ hit ∷ []) (sym c.hit-item.is) in
           let made : cells_of c.in_ok-hit_row.field-0 ≡ row (cells_at content) c.hit-item.result =
@@ -45,16 +45,26 @@ loop-hit-preserved g c =
           ∙ sym (ap (map (row (cells_at content))) more ∙ map-append (row (cells_at content)) (take c.loop-hit.hit-index c.args.hits.now) (c.hit-item.result ∷ []));
       counted = λ content rows.
           let before = so_far.counted content (rows_first g.S.Store first middle last so_far.looks read.looks.only tab content rows) in
-          let wide = found_wide rows.name content (to_z w64 (of_z w64 c.hit-item.result.docid)) (cells_of c.in_ok-cells.cells) rows.is_content (read.found content (rows_then g.S.Store first middle last so_far.looks read.looks.only tab content rows)) in
+          let wide = found_wide rows.name content (to_z w64 (of_z w64 c.hit-item.result.docid)) (cells_of c.in_ok-cells.cells) rows.is_content (read.looks.told content (rows_then g.S.Store first middle last so_far.looks read.looks.only tab content rows)) in
           counted_more first.rows_read middle.rows_read last.rows_read (length content.columns) c.loop-hit.hit-index c.in_ok-cells.cells.len
           (c.in_ok-cells.cells.ok.0 ∙ sym (length-map c.in_ok-cells.cells.items shown_value) ∙ wide) before read.counted;
     }
 
-pub returns-clause-found : goal.returns-clause-found
-returns-clause-found g c content rows =
-    let row : Hit → List Cell = hit_cells (map column_of c.args.columns.now) (map item_of c.args.items.now) (cells_at content) in
-    c.loop-hit.invariant.found content (subst (λ (k : ℤ). HasRows g.S.Store k c.args.store.now c.loop-hit.store content) (sym (to_z-of_z c.ranges.tab)) rows)
-    ∙ ap (map row) (take_all c.loop-hit.hit-index c.args.hits.now c.loop-hit-test.false)
+pub returns-clause-looks : goal.returns-clause-looks
+returns-clause-looks g c = record {
+  told = λ content rows.
+      let row : Hit → List Cell = hit_cells (map column_of c.args.columns.now) (map item_of c.args.items.now) (cells_at content) in
+      c.loop-hit.invariant.found content (subst (λ (k : ℤ). HasRows g.S.Store k c.args.store.now c.loop-hit.store content) (sym (to_z-of_z c.ranges.tab)) rows)
+      ∙ ap (map row) (take_all c.loop-hit.hit-index c.args.hits.now c.loop-hit-test.false);
+  only = search rules;
+  live = search rules;
+  cause = search rules;
+}
 
 pub returns-in_err-cells-clause-looks : goal.returns-in_err-cells-clause-looks
-returns-in_err-cells-clause-looks g c = record { only = looks_then g.S.Store c.args.store.now c.loop-hit.store c.found_cells.new.store c.loop-hit.invariant.looks c.found_cells.ensures.looks.only c.loop-hit.invariant.live; live = search rules; cause = search rules }
+returns-in_err-cells-clause-looks g c = record {
+  told = search rules;
+  only = looks_then g.S.Store c.args.store.now c.loop-hit.store c.found_cells.new.store c.loop-hit.invariant.looks c.found_cells.ensures.looks.only c.loop-hit.invariant.live;
+  live = search rules;
+  cause = search rules;
+}

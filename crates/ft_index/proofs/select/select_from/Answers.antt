@@ -62,7 +62,7 @@ returns-clause-executes g c =
     let query_is : option_map {T = Bor _} (λ q. tree_of q.now) c.as_ref.result ≡ query = passed tree_of c.as_ref.result c.in_ok-query.query c.as_ref.ensures.value in
     select_done g.S.Store c.args.store.now c.select_grid.new.store tables c.args.table.now items f c.args.limit c.args.offset c.in_ok-grid.ensures.looks.only
     (shown_info info) (found.named ∙ ap Some (sym same)) (ap (λ (k : TableInfo). k.sound) same ∙ found.sound) c.is_in_order.ensures.order query (grid_of c.in_ok-grid.grid) c.in_ok-query.ensures.fine c.in_ok-query.ensures.query
-    (λ content asked. c.in_ok-grid.ensures.answer content (subst (λ (q : Option Tree). IsAsked g.S.Store info.id (map column_of info.columns.items) items f q c.args.store.now c.select_grid.new.store content) (sym query_is) asked))
+    (λ content asked. c.in_ok-grid.ensures.looks.told content (subst (λ (q : Option Tree). IsAsked g.S.Store info.id (map column_of info.columns.items) items f q c.args.store.now c.select_grid.new.store content) (sym query_is) asked))
 
 pub returns-clause-counts : goal.returns-clause-counts
 returns-clause-counts g c =

@@ -26,14 +26,14 @@ returns-in_err-written g c = record {
       let is : c.from_residual.result ≡ Err fault = search rules in
       let failed : c.update_written.result ≡ Err fault = search rules in
       subst (λ (a : Result Reply Fault). Executes g.S.Store (with_tables c.args.store.now tables) command (answer_of a) (with_tables c.update_written.new.store tables)) (sym is)
-      (executes_failed g.S.Store c.args.store.now c.update_written.new.store tables command fault c.update_written.ensures.looks.only
-      (subst (λ (r : Result Written Fault). WritesIn g.S.Store tables c.args.store.now c.update_written.new.store command r) failed c.update_written.ensures.writes));
+      (executes_failed g.S.Store c.args.store.now c.update_written.new.store tables command fault c.update_written.ensures.only
+      (subst (λ (r : Result Written Fault). WritesIn g.S.Store tables c.args.store.now c.update_written.new.store command r) failed c.update_written.ensures.told));
   crash =
       let sets = map set_of c.args.sets.now in
       let f = filter_of c.args.filter.now in
       let command = plain.Update c.args.table.now sets f in
       let tables = map shown_info c.args.tables.now in
-      crash_read g.S.Store c.args.store.now c.update_written.new.store tables tables command c.update_written.ensures.looks.only;
+      crash_read g.S.Store c.args.store.now c.update_written.new.store tables tables command c.update_written.ensures.only;
   live = search rules;
 }
 
@@ -51,7 +51,7 @@ returns-in_err-make g c = record {
       let did = c.make.ensures in
       let changed = subst (λ (r : Result (Unit {0}) Fault). Changed g.S.Store c.update_written.new.store c.make.new.store did.changes (is_ok r)) refused did.makes.changed in
       subst (λ (a : Result Reply Fault). Executes g.S.Store (with_tables c.args.store.now tables) command (answer_of a) (with_tables c.make.new.store tables)) (sym is)
-      (executes_undone g.S.Store c.args.store.now c.update_written.new.store c.make.new.store tables did.changes command fault outside c.update_written.ensures.looks.only changed);
+      (executes_undone g.S.Store c.args.store.now c.update_written.new.store c.make.new.store tables did.changes command fault outside c.update_written.ensures.only changed);
   crash =
       let sets = map set_of c.args.sets.now in
       let f = filter_of c.args.filter.now in
@@ -59,8 +59,8 @@ returns-in_err-make g c = record {
       let tables = map shown_info c.args.tables.now in
       let written : c.update_written.result ≡ Ok c.in_ok-written.written = search rules in
       let did = c.make.ensures in
-      crash_written g.S.Store c.args.store.now c.update_written.new.store c.make.new.store tables tables command did.changes c.update_written.ensures.looks.only c.in_ok-written.ensures.looks.live
-      (subst (λ (r : Result Written Fault). WritesIn g.S.Store tables c.args.store.now c.update_written.new.store command r) written c.update_written.ensures.writes did.changes did.of_written) did.makes.crash;
+      crash_written g.S.Store c.args.store.now c.update_written.new.store c.make.new.store tables tables command did.changes c.update_written.ensures.only c.in_ok-written.ensures.live
+      (subst (λ (r : Result Written Fault). WritesIn g.S.Store tables c.args.store.now c.update_written.new.store command r) written c.update_written.ensures.told did.changes did.of_written) did.makes.crash;
   live = search rules;
 }
 
@@ -75,8 +75,8 @@ returns g c = record {
       let done : c.make.result ≡ Ok tt = search rules in
       let did = c.make.ensures in
       let changed : Changed g.S.Store c.update_written.new.store c.make.new.store did.changes true = subst (λ (r : Result (Unit {0}) Fault). Changed g.S.Store c.update_written.new.store c.make.new.store did.changes (is_ok r)) done did.makes.changed in
-      executes_written g.S.Store c.args.store.now c.update_written.new.store c.make.new.store tables did.changes command c.args.table.now (made sets f) (leaves sets f c.args.table.now) (replies sets f c.args.table.now) c.update_written.ensures.looks.only
-      (subst (λ (r : Result Written Fault). WritesIn g.S.Store tables c.args.store.now c.update_written.new.store command r) written c.update_written.ensures.writes did.changes did.of_written) changed;
+      executes_written g.S.Store c.args.store.now c.update_written.new.store c.make.new.store tables did.changes command c.args.table.now (made sets f) (leaves sets f c.args.table.now) (replies sets f c.args.table.now) c.update_written.ensures.only
+      (subst (λ (r : Result Written Fault). WritesIn g.S.Store tables c.args.store.now c.update_written.new.store command r) written c.update_written.ensures.told did.changes did.of_written) changed;
   crash =
       let sets = map set_of c.args.sets.now in
       let f = filter_of c.args.filter.now in
@@ -84,7 +84,7 @@ returns g c = record {
       let tables = map shown_info c.args.tables.now in
       let written : c.update_written.result ≡ Ok c.in_ok-written.written = search rules in
       let did = c.make.ensures in
-      crash_written g.S.Store c.args.store.now c.update_written.new.store c.make.new.store tables tables command did.changes c.update_written.ensures.looks.only c.in_ok-written.ensures.looks.live
-      (subst (λ (r : Result Written Fault). WritesIn g.S.Store tables c.args.store.now c.update_written.new.store command r) written c.update_written.ensures.writes did.changes did.of_written) did.makes.crash;
+      crash_written g.S.Store c.args.store.now c.update_written.new.store c.make.new.store tables tables command did.changes c.update_written.ensures.only c.in_ok-written.ensures.live
+      (subst (λ (r : Result Written Fault). WritesIn g.S.Store tables c.args.store.now c.update_written.new.store command r) written c.update_written.ensures.told did.changes did.of_written) did.makes.crash;
   live = search rules;
 }

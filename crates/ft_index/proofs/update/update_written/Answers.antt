@@ -11,53 +11,69 @@ use Rattle.ft_index.proofs.UpdateDue.{due, made, touches, repeats_due, is_write}
 use Rattle.ft_index.proofs.Planning.{plans_unfit, plans_fail, plans_do}
 use Rattle.ft_index.proofs.update.update_written.Goals as goal
 
-pub returns-then-repeats_set-clause-writes : goal.returns-then-repeats_set-clause-writes
-returns-then-repeats_set-clause-writes g c up contents held =
-    let sets = map set_of c.args.sets.now in
-    let f = filter_of c.args.filter.now in
-    inr (repeats_due sets f c.args.table.now contents (sym c.repeats_set.ensures ∙ c.if-repeats_set.true))
+pub returns-then-repeats_set : goal.returns-then-repeats_set
+returns-then-repeats_set g c = record {
+  told = λ up contents held.
+      let sets = map set_of c.args.sets.now in
+      let f = filter_of c.args.filter.now in
+      inr (repeats_due sets f c.args.table.now contents (sym c.repeats_set.ensures ∙ c.if-repeats_set.true));
+  only = search rules;
+  live = search rules;
+}
 
-pub returns-in_err-known-clause-writes : goal.returns-in_err-known-clause-writes
-returns-in_err-known-clause-writes g c =
-    let sets = map set_of c.args.sets.now in
-    let f = filter_of c.args.filter.now in
-    let tables = map shown_info c.args.tables.now in
-    let fault : Fault = c.in_err-known.field-0.0 in
-    let is : c.from_residual.result ≡ Err fault = search rules in
-    let unfit : IsUnfit tables c.args.table.now fault = c.in_err-known.ensures in
-    let apart = sym c.repeats_set.ensures ∙ c.if-repeats_set.false in
-    let command = plain.Update c.args.table.now sets f in
-    subst (λ (r : Result Written Fault). WritesIn g.S.Store tables c.args.store.now c.args.store.now command r) (sym is)
-    (plans_unfit g.S.Store command c.args.table.now (due sets f) (made sets f) (touches sets f) (is_write sets f c.args.table.now apart) c.args.store.now c.args.store.now tables fault unfit)
+pub returns-in_err-known : goal.returns-in_err-known
+returns-in_err-known g c = record {
+  told =
+      let sets = map set_of c.args.sets.now in
+      let f = filter_of c.args.filter.now in
+      let tables = map shown_info c.args.tables.now in
+      let fault : Fault = c.in_err-known.field-0.0 in
+      let is : c.from_residual.result ≡ Err fault = search rules in
+      let unfit : IsUnfit tables c.args.table.now fault = c.in_err-known.ensures in
+      let apart = sym c.repeats_set.ensures ∙ c.if-repeats_set.false in
+      let command = plain.Update c.args.table.now sets f in
+      subst (λ (r : Result Written Fault). WritesIn g.S.Store tables c.args.store.now c.args.store.now command r) (sym is)
+      (plans_unfit g.S.Store command c.args.table.now (due sets f) (made sets f) (touches sets f) (is_write sets f c.args.table.now apart) c.args.store.now c.args.store.now tables fault unfit);
+  only = search rules;
+  live = search rules;
+}
 
-pub returns-in_err-rewrites-clause-writes : goal.returns-in_err-rewrites-clause-writes
-returns-in_err-rewrites-clause-writes g c =
-    let sets = map set_of c.args.sets.now in
-    let f = filter_of c.args.filter.now in
-    let tables = map shown_info c.args.tables.now in
-    let fault : Fault = c.in_err-rewrites.field-0.0 in
-    let is : c.from_residual-in_err-rewrites.result ≡ Err fault = search rules in
-    let failed : c.written_by_update.result ≡ Err fault = search rules in
-    let apart = sym c.repeats_set.ensures ∙ c.if-repeats_set.false in
-    let command = plain.Update c.args.table.now sets f in
-    let known = shown_info c.in_ok-known.known.now in
-    let named : IsSoundNamed tables c.args.table.now known = c.in_ok-known.ensures in
-    subst (λ (r : Result Written Fault). WritesIn g.S.Store tables c.args.store.now c.written_by_update.new.store command r) (sym is)
-    (plans_fail g.S.Store command c.args.table.now (due sets f) (made sets f) (touches sets f) (is_write sets f c.args.table.now apart) c.args.store.now c.written_by_update.new.store tables known c.is_in_order.ensures.order named fault
-    (λ content has. subst (λ (r : Result (Vec Rewrite Global) Fault). Writes content (due sets f known.name content) (made sets f content) (touches sets f content) r) failed (c.written_by_update.ensures.written content has)))
+pub returns-in_err-rewrites : goal.returns-in_err-rewrites
+returns-in_err-rewrites g c = record {
+  told =
+      let sets = map set_of c.args.sets.now in
+      let f = filter_of c.args.filter.now in
+      let tables = map shown_info c.args.tables.now in
+      let fault : Fault = c.in_err-rewrites.field-0.0 in
+      let is : c.from_residual-in_err-rewrites.result ≡ Err fault = search rules in
+      let failed : c.written_by_update.result ≡ Err fault = search rules in
+      let apart = sym c.repeats_set.ensures ∙ c.if-repeats_set.false in
+      let command = plain.Update c.args.table.now sets f in
+      let known = shown_info c.in_ok-known.known.now in
+      let named : IsSoundNamed tables c.args.table.now known = c.in_ok-known.ensures in
+      subst (λ (r : Result Written Fault). WritesIn g.S.Store tables c.args.store.now c.written_by_update.new.store command r) (sym is)
+      (plans_fail g.S.Store command c.args.table.now (due sets f) (made sets f) (touches sets f) (is_write sets f c.args.table.now apart) c.args.store.now c.written_by_update.new.store tables known c.is_in_order.ensures.order named fault
+      (λ content has. subst (λ (r : Result (Vec Rewrite Global) Fault). Writes content (due sets f known.name content) (made sets f content) (touches sets f content) r) failed (c.written_by_update.ensures.told content has)));
+  only = search rules;
+  live = search rules;
+}
 
-pub returns-clause-writes : goal.returns-clause-writes
-returns-clause-writes g c changes of_written =
-    let sets = map set_of c.args.sets.now in
-    let f = filter_of c.args.filter.now in
-    let tables = map shown_info c.args.tables.now in
-    let apart = sym c.repeats_set.ensures ∙ c.if-repeats_set.false in
-    let command = plain.Update c.args.table.now sets f in
-    let known = shown_info c.in_ok-known.known.now in
-    let named : IsSoundNamed tables c.args.table.now known = c.in_ok-known.ensures in
-    let rewrites = c.in_ok-rewrites.rewrites in
-    let done : c.written_by_update.result ≡ Ok rewrites = search rules in
-    plans_do g.S.Store command c.args.table.now (due sets f) (made sets f) (touches sets f) (is_write sets f c.args.table.now apart) c.args.store.now c.written_by_update.new.store tables known c.is_in_order.ensures.order named rewrites changes
-    (λ content has. subst (λ (r : Result (Vec Rewrite Global) Fault). Writes content (due sets f known.name content) (made sets f content) (touches sets f content) r) done (c.written_by_update.ensures.written content has))
-    of_written.0
-    of_written.1
+pub returns : goal.returns
+returns g c = record {
+  told = λ changes of_written.
+      let sets = map set_of c.args.sets.now in
+      let f = filter_of c.args.filter.now in
+      let tables = map shown_info c.args.tables.now in
+      let apart = sym c.repeats_set.ensures ∙ c.if-repeats_set.false in
+      let command = plain.Update c.args.table.now sets f in
+      let known = shown_info c.in_ok-known.known.now in
+      let named : IsSoundNamed tables c.args.table.now known = c.in_ok-known.ensures in
+      let rewrites = c.in_ok-rewrites.rewrites in
+      let done : c.written_by_update.result ≡ Ok rewrites = search rules in
+      plans_do g.S.Store command c.args.table.now (due sets f) (made sets f) (touches sets f) (is_write sets f c.args.table.now apart) c.args.store.now c.written_by_update.new.store tables known c.is_in_order.ensures.order named rewrites changes
+      (λ content has. subst (λ (r : Result (Vec Rewrite Global) Fault). Writes content (due sets f known.name content) (made sets f content) (touches sets f content) r) done (c.written_by_update.ensures.told content has))
+      of_written.0
+      of_written.1;
+  only = search rules;
+  live = search rules;
+}

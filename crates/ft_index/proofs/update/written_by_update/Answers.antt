@@ -22,92 +22,108 @@ use Rattle.ft_index.proofs.UpdateDue.{due, made, touches, tested_due, text_due, 
 use Rattle.ft_index.proofs.UpdateWrites.{leads}
 use Rattle.ft_index.proofs.update.written_by_update.Goals as goal
 
-pub returns-in-Some-clause-written : goal.returns-in-Some-clause-written
-returns-in-Some-clause-written g c content has =
-    let f = filter_of c.args.filter.now in
-    let sets = map set_of c.args.sets.now in
-    let cols = c.args.known.now.columns.items in
-    let table = string_bytes c.args.known.now.name in
-    inr (tested_due sets f content cols has.columns_are table c.in-Some.fault (search rules))
+pub returns-in-Some : goal.returns-in-Some
+returns-in-Some g c = record {
+  told = λ content has.
+      let f = filter_of c.args.filter.now in
+      let sets = map set_of c.args.sets.now in
+      let cols = c.args.known.now.columns.items in
+      let table = string_bytes c.args.known.now.name in
+      inr (tested_due sets f content cols has.columns_are table c.in-Some.fault (search rules));
+  only = search rules;
+  live = search rules;
+}
 
-pub returns-in_err-query-clause-written : goal.returns-in_err-query-clause-written
-returns-in_err-query-clause-written g c content has =
-    let f = filter_of c.args.filter.now in
-    let sets = map set_of c.args.sets.now in
-    let cols = c.args.known.now.columns.items in
-    let table = string_bytes c.args.known.now.name in
-    let fault : Fault = c.in_err-query.field-0.0 in
-    let is : c.from_residual.result ≡ Err fault = search rules in
-    let tested : update_tests table (bare_content cols) sets f ≡ None = search rules in
-    let refused : fault ≢ faults.Memory → query_fault (bare_content cols) f ≡ Some fault = search rules in
-    subst (λ (r : Result (Vec Rewrite Global) Fault). Writes content (due sets f table content) (made sets f content) (touches sets f content) r) (sym is)
-    (text_due sets f content cols has.columns_are table fault tested refused)
+pub returns-in_err-query : goal.returns-in_err-query
+returns-in_err-query g c = record {
+  told = λ content has.
+      let f = filter_of c.args.filter.now in
+      let sets = map set_of c.args.sets.now in
+      let cols = c.args.known.now.columns.items in
+      let table = string_bytes c.args.known.now.name in
+      let fault : Fault = c.in_err-query.field-0.0 in
+      let is : c.from_residual.result ≡ Err fault = search rules in
+      let tested : update_tests table (bare_content cols) sets f ≡ None = search rules in
+      let refused : fault ≢ faults.Memory → query_fault (bare_content cols) f ≡ Some fault = search rules in
+      subst (λ (r : Result (Vec Rewrite Global) Fault). Writes content (due sets f table content) (made sets f content) (touches sets f content) r) (sym is)
+      (text_due sets f content cols has.columns_are table fault tested refused);
+  only = search rules;
+  live = search rules;
+}
 
-pub returns-in_err-test_move-clause-written : goal.returns-in_err-test_move-clause-written
-returns-in_err-test_move-clause-written g c content has =
-    let f = filter_of c.args.filter.now in
-    let sets = map set_of c.args.sets.now in
-    let cols = c.args.known.now.columns.items in
-    let table = string_bytes c.args.known.now.name in
-    let fault : Fault = c.in_err-test_move.field-0.0 in
-    let is : c.from_residual-in_err-test_move.result ≡ Err fault = search rules in
-    let tested : update_tests table (bare_content cols) sets f ≡ None = search rules in
-    let fine : query_fault (bare_content cols) f ≡ None = search rules in
-    let reads : ReadsAs (bare_content cols) f (option_map tree_of c.in_ok-query.query) = search rules in
-    let fits : FitsSigned w64 c.args.known.now.id = search rules in
-    let same = to_z-of_z fits in
-    let tab = to_z w64 (of_z w64 c.args.known.now.id) in
-    let columns = map column_of cols in
-    let old = c.args.store.now in
-    let mid = c.chosen_documents.new.store in
-    let new = c.test_move.new.store in
-    let rows = rows_of g.S.Store tab c.args.known.now.id same table columns old new content has in
-    let index = index_of g.S.Store tab c.args.known.now.id same table columns old new content has in
-    let one = c.in_ok-documents.ensures.looks.only in
-    let two = c.test_move.ensures.looks.only in
-    let shown : option_map (λ q. tree_of q.now) c.as_ref.result ≡ option_map tree_of c.in_ok-query.query = search rules in
-    let here = subst (ReadsAs content f) (sym shown) (reads_bare content cols has.columns_are f (option_map tree_of c.in_ok-query.query) reads) in
-    let found = c.in_ok-documents.ensures.chosen content (rows_first g.S.Store old mid new one two tab content rows) (index_first g.S.Store old mid new one two tab content index) here in
-    let given : slice_get (docids_in sets) 0 ≡ c.set_docid-given.result = sym c.set_docid-given.ensures in
-    let listed : map shown_document c.as_slice.result.now ≡ chosen content f = ap (map shown_document) c.as_slice.ensures.value ∙ found in
-    let failed = c.in_err-test_move.ensures.moves content (docids_in sets) (rows_then g.S.Store old mid new one two tab content rows) given in
-    subst (λ (r : Result (Vec Rewrite Global) Fault). Writes content (due sets f table content) (made sets f content) (touches sets f content) r) (sym is)
-    (elim failed [
-      | inl outside ↦ inl outside
-      | inr refused ↦ inr (moves_due sets f content cols has.columns_are table tested fine ∙ ap (λ ds. moves_fault content.documents ds (docids_in sets)) (sym listed) ∙ refused)
-    ])
+pub returns-in_err-test_move : goal.returns-in_err-test_move
+returns-in_err-test_move g c = record {
+  told = λ content has.
+      let f = filter_of c.args.filter.now in
+      let sets = map set_of c.args.sets.now in
+      let cols = c.args.known.now.columns.items in
+      let table = string_bytes c.args.known.now.name in
+      let fault : Fault = c.in_err-test_move.field-0.0 in
+      let is : c.from_residual-in_err-test_move.result ≡ Err fault = search rules in
+      let tested : update_tests table (bare_content cols) sets f ≡ None = search rules in
+      let fine : query_fault (bare_content cols) f ≡ None = search rules in
+      let reads : ReadsAs (bare_content cols) f (option_map tree_of c.in_ok-query.query) = search rules in
+      let fits : FitsSigned w64 c.args.known.now.id = search rules in
+      let same = to_z-of_z fits in
+      let tab = to_z w64 (of_z w64 c.args.known.now.id) in
+      let columns = map column_of cols in
+      let old = c.args.store.now in
+      let mid = c.chosen_documents.new.store in
+      let new = c.test_move.new.store in
+      let rows = rows_of g.S.Store tab c.args.known.now.id same table columns old new content has in
+      let index = index_of g.S.Store tab c.args.known.now.id same table columns old new content has in
+      let one = c.in_ok-documents.ensures.only in
+      let two = c.test_move.ensures.only in
+      let shown : option_map (λ q. tree_of q.now) c.as_ref.result ≡ option_map tree_of c.in_ok-query.query = search rules in
+      let here = subst (ReadsAs content f) (sym shown) (reads_bare content cols has.columns_are f (option_map tree_of c.in_ok-query.query) reads) in
+      let found = c.in_ok-documents.ensures.told content (rows_first g.S.Store old mid new one two tab content rows) (index_first g.S.Store old mid new one two tab content index) here in
+      let given : slice_get (docids_in sets) 0 ≡ c.set_docid-given.result = sym c.set_docid-given.ensures in
+      let listed : map shown_document c.as_slice.result.now ≡ chosen content f = ap (map shown_document) c.as_slice.ensures.value ∙ found in
+      let failed = c.in_err-test_move.ensures.told content (docids_in sets) (rows_then g.S.Store old mid new one two tab content rows) given in
+      subst (λ (r : Result (Vec Rewrite Global) Fault). Writes content (due sets f table content) (made sets f content) (touches sets f content) r) (sym is)
+      (elim failed [
+        | inl outside ↦ inl outside
+        | inr refused ↦ inr (moves_due sets f content cols has.columns_are table tested fine ∙ ap (λ ds. moves_fault content.documents ds (docids_in sets)) (sym listed) ∙ refused)
+      ]);
+  only = search rules;
+  live = search rules;
+}
 
-pub returns-clause-written : goal.returns-clause-written
-returns-clause-written g c content has =
-    let f = filter_of c.args.filter.now in
-    let sets = map set_of c.args.sets.now in
-    let cols = c.args.known.now.columns.items in
-    let table = string_bytes c.args.known.now.name in
-    let tested : update_tests table (bare_content cols) sets f ≡ None = search rules in
-    let fine : query_fault (bare_content cols) f ≡ None = search rules in
-    let reads : ReadsAs (bare_content cols) f (option_map tree_of c.in_ok-query.query) = search rules in
-    let fits : FitsSigned w64 c.args.known.now.id = search rules in
-    let same = to_z-of_z fits in
-    let tab = to_z w64 (of_z w64 c.args.known.now.id) in
-    let columns = map column_of cols in
-    let old = c.args.store.now in
-    let mid = c.chosen_documents.new.store in
-    let new = c.test_move.new.store in
-    let rows = rows_of g.S.Store tab c.args.known.now.id same table columns old new content has in
-    let index = index_of g.S.Store tab c.args.known.now.id same table columns old new content has in
-    let one = c.in_ok-documents.ensures.looks.only in
-    let two = c.test_move.ensures.looks.only in
-    let shown : option_map (λ q. tree_of q.now) c.as_ref.result ≡ option_map tree_of c.in_ok-query.query = search rules in
-    let here = subst (ReadsAs content f) (sym shown) (reads_bare content cols has.columns_are f (option_map tree_of c.in_ok-query.query) reads) in
-    let found = c.in_ok-documents.ensures.chosen content (rows_first g.S.Store old mid new one two tab content rows) (index_first g.S.Store old mid new one two tab content index) here in
-    let given : slice_get (docids_in sets) 0 ≡ c.set_docid-given.result = sym c.set_docid-given.ensures in
-    let listed : map shown_document c.as_slice.result.now ≡ chosen content f = ap (map shown_document) c.as_slice.ensures.value ∙ found in
-    let stays : moves_fault content.documents (chosen content f) (docids_in sets) ≡ None = ap (λ ds. moves_fault content.documents ds (docids_in sets)) (sym listed) ∙ c.in_ok-test_move.ensures.moves content (docids_in sets) (rows_then g.S.Store old mid new one two tab content rows) given in
-    let none : due sets f table content ≡ None = moves_due sets f content cols has.columns_are table tested fine ∙ stays in
-    let rewrites = map shown_rewrite c.in_ok-rewrites.rewrites.items in
-    let moves = subst (λ o. MayMove o (map (changing sets content.columns) (chosen content f)) rewrites) (sym given)
-    (subst (λ (ds : Documents). MayMove c.set_docid-given.result (map (changing sets content.columns) ds) rewrites) found
-    (subst (λ (cs : List Column). MayMove c.set_docid-given.result (map (changing sets cs) (map shown_document c.in_ok-documents.documents.items)) rewrites) (ap (map column_of) c.as_slice-columns.ensures.value ∙ sym has.columns_are) c.in_ok-rewrites.ensures)) in (
-      none,
-      leads sets f table content (docids_in sets) (chosen content f) rewrites (λ i. chosen content f) has.has.is_content stays (update_keeps_content table content sets f has.has.is_content none) moves,
-    )
+pub returns : goal.returns
+returns g c = record {
+  told = λ content has.
+      let f = filter_of c.args.filter.now in
+      let sets = map set_of c.args.sets.now in
+      let cols = c.args.known.now.columns.items in
+      let table = string_bytes c.args.known.now.name in
+      let tested : update_tests table (bare_content cols) sets f ≡ None = search rules in
+      let fine : query_fault (bare_content cols) f ≡ None = search rules in
+      let reads : ReadsAs (bare_content cols) f (option_map tree_of c.in_ok-query.query) = search rules in
+      let fits : FitsSigned w64 c.args.known.now.id = search rules in
+      let same = to_z-of_z fits in
+      let tab = to_z w64 (of_z w64 c.args.known.now.id) in
+      let columns = map column_of cols in
+      let old = c.args.store.now in
+      let mid = c.chosen_documents.new.store in
+      let new = c.test_move.new.store in
+      let rows = rows_of g.S.Store tab c.args.known.now.id same table columns old new content has in
+      let index = index_of g.S.Store tab c.args.known.now.id same table columns old new content has in
+      let one = c.in_ok-documents.ensures.only in
+      let two = c.test_move.ensures.only in
+      let shown : option_map (λ q. tree_of q.now) c.as_ref.result ≡ option_map tree_of c.in_ok-query.query = search rules in
+      let here = subst (ReadsAs content f) (sym shown) (reads_bare content cols has.columns_are f (option_map tree_of c.in_ok-query.query) reads) in
+      let found = c.in_ok-documents.ensures.told content (rows_first g.S.Store old mid new one two tab content rows) (index_first g.S.Store old mid new one two tab content index) here in
+      let given : slice_get (docids_in sets) 0 ≡ c.set_docid-given.result = sym c.set_docid-given.ensures in
+      let listed : map shown_document c.as_slice.result.now ≡ chosen content f = ap (map shown_document) c.as_slice.ensures.value ∙ found in
+      let stays : moves_fault content.documents (chosen content f) (docids_in sets) ≡ None = ap (λ ds. moves_fault content.documents ds (docids_in sets)) (sym listed) ∙ c.in_ok-test_move.ensures.told content (docids_in sets) (rows_then g.S.Store old mid new one two tab content rows) given in
+      let none : due sets f table content ≡ None = moves_due sets f content cols has.columns_are table tested fine ∙ stays in
+      let rewrites = map shown_rewrite c.in_ok-rewrites.rewrites.items in
+      let moves = subst (λ o. MayMove o (map (changing sets content.columns) (chosen content f)) rewrites) (sym given)
+      (subst (λ (ds : Documents). MayMove c.set_docid-given.result (map (changing sets content.columns) ds) rewrites) found
+      (subst (λ (cs : List Column). MayMove c.set_docid-given.result (map (changing sets cs) (map shown_document c.in_ok-documents.documents.items)) rewrites) (ap (map column_of) c.as_slice-columns.ensures.value ∙ sym has.columns_are) c.in_ok-rewrites.ensures)) in (
+        none,
+        leads sets f table content (docids_in sets) (chosen content f) rewrites (λ i. chosen content f) has.has.is_content stays (update_keeps_content table content sets f has.has.is_content none) moves,
+      );
+  only = search rules;
+  live = search rules;
+}
