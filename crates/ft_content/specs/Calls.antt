@@ -1,5 +1,5 @@
 -- Steps. What calls answer that say more than one thing.
-use Rattle.std.specs.Prelude.{◌≡◌, ◌≢◌, ℕ, false, List, map, option_map, Option, None, Some, Result, Ok, ℤ, pos, IsTrue, IfOk, IfErr, OnOk}
+use Rattle.std.specs.Prelude.{◌≡◌, ◌≢◌, ℕ, false, List, option_map, Option, None, Some, Result, Ok, ℤ, pos, IsTrue, IfOk, IfErr, OnOk}
 use Rattle.std.specs.List.{list_any, flat_map}
 use Rattle.std.specs.Ordering.{int_cmp, int_eq}
 use Rattle.std.specs.FinMap.Entries.{is_sorted}

@@ -17,7 +17,6 @@ use Rattle.ft_content.specs.declared.command.Grid.{Grid}
 use Rattle.ft_content.specs.declared.command.Reply.{Reply}
 use Rattle.ft_content.specs.declared.command.Reply.TheVariants as replies
 use Rattle.ft_values.specs.declared.fault.Fault.{Fault}
-use Rattle.ft_values.specs.declared.fault.Fault.TheVariants as faults
 use Rattle.ft_values.specs.declared.table.Column.{Column}
 use Rattle.ft_values.specs.declared.table.TableInfo.{TableInfo as RustTableInfo}
 pub use Rattle.ft_values.specs.Names.{info_names, info_ids}

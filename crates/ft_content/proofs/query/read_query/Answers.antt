@@ -1,5 +1,5 @@
 -- the columns' names and the column that is searched are those of the definition
-use Rattle.std.proofs.Common.{◌≡◌, map, Option, Result, Ok, Err, Some, sym, ap, ◌∙◌, string_bytes}
+use Rattle.std.proofs.Common.{◌≡◌, map, Option, Result, Err, Some, sym, ap, ◌∙◌, string_bytes}
 use Rattle.std.specs.Prelude.{◌≢◌}
 use Rattle.ft_query.specs.declared.query.QueryFault.{QueryFault}
 use Rattle.ft_query.specs.declared.query.QueryFault.TheVariants as query
