@@ -12,7 +12,7 @@ use Rattle.ft_statements.specs.Dots.{DotCommand, Nothing, SetMode, SetHeaders, S
 use Rattle.ft_shell.specs.Shell.{Shell}
 use Rattle.ft_shell.specs.Deeds.{Deeds, and_then}
 use Rattle.ft_shell.specs.DotTurns.{DotTurn}
-use Rattle.ft_shell.specs.Turns.{Body, DotOrLacks, Session, Begins, Turns}
+use Rattle.ft_shell.specs.Turns.{Body, Turns}
 use Rattle.ft_shell.specs.Broken.{Broken, not_begun, not_echoed, not_told}
 use Rattle.ft_shell.specs.Runs.{Console, IsWhole, IsFront}
 use Rattle.ft_shell.specs.Promise.{Ran, RanAndKept}

@@ -1,6 +1,6 @@
 -- What runs leave, by the calls that their turns made.
 use Rattle.std.proofs.Common.{◌≡◌, ℕ, Bool, true, false, List, [], ◌∷◌, ◌++◌, Option, Some, None, Result, Ok, Err, refl, ap, sym, subst, ◌∙◌, ◌⊎◌, inl, inr, append-nil, append_assoc, ◌^◌}
-use Rattle.std.specs.Prelude.{IfOk, IfErr, IsTrue, MatchBool, map, take}
+use Rattle.std.specs.Prelude.{IsTrue, MatchBool, map, take}
 use Rattle.sqlite.specs.Store.{Ghosts}
 use Rattle.shell_text.specs.Print.{Settings}
 use Rattle.shell_text.specs.Dot.{dot_words_of}
@@ -30,7 +30,7 @@ use Rattle.plain_shell.specs.DotParts.{behind_stop}
 use Rattle.ft_shell.proofs.Spelled.{MayNote, MayRead, CallsOf, CallsOfClass, CallsOfDot, CallsOfImport}
 use Rattle.ft_shell.specs.Turns.{Turn, Turns}
 use Rattle.ft_shell.specs.Ran.{Ends}
-use Rattle.ft_shell.specs.Runs.{Completes, Console, IsFront, IsWhole, Stops}
+use Rattle.ft_shell.specs.Runs.{Console, IsFront, IsWhole}
 use Rattle.ft_shell.specs.Promise.{Ran, AllRan, none_ran, last_ran, first_ran, Reached, Lists, KeptByRuns, RanAndKept, parts_of}
 use Rattle.ft_shell.proofs.CallsLemmas.{runs_join, turn_spelled, turns_made}
 use Rattle.ft_shell.proofs.TurnsLemmas.{assoc_then, idle_then, turns_one, turns_then}

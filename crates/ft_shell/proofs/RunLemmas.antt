@@ -13,7 +13,7 @@ use Rattle.ft_shell.specs.Shell.{Shell}
 use Rattle.ft_shell.specs.Deeds.{Deeds}
 use Rattle.ft_shell.specs.Turns.{Turns, Session, Begins}
 use Rattle.plain_shell.specs.Feeds.{Fed, members_left}
-use Rattle.ft_shell.specs.Ran.{Moment, Did, Passes, Breaks, Ends, IsInside, TakesRead}
+use Rattle.ft_shell.specs.Ran.{Moment, Did, Passes, Breaks, Ends, IsInside}
 use Rattle.ft_shell.specs.Runs.{Console, IsWhole, IsFront, Completes, Stops}
 use Rattle.plain_shell.proofs.WriteLemmas.{appends_kept}
 use Rattle.ft_shell.proofs.TurnsLemmas.{turns_ended}

@@ -1,5 +1,5 @@
 -- what was read so far was run, and no unit waits before the next piece
-use Rattle.std.proofs.Common.{◌≡◌, ◌+◌, ◌-◌, ◌^◌, ◌<◌, ℕ, List, length, [], false}
+use Rattle.std.proofs.Common.{◌≡◌, ◌+◌, ◌-◌, ◌^◌, ◌<◌, length, [], false}
 use Rattle.ft_shell.specs.Shell.{lent}
 use Rattle.ft_shell.specs.Ran.{moment}
 use Rattle.ft_shell.proofs.RunLemmas.{SoFar, opening}
