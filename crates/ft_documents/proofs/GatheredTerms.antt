@@ -16,7 +16,7 @@ use Rattle.std.proofs.lemmas.Map.Entries.{lookup_head, lookup_tail, none_past_he
 use Rattle.std.proofs.lemmas.Map.Keys.{sorted_tail, IsDistinct-tail, IsDistinct-from_sorted}
 use Rattle.std.proofs.lemmas.Map.Lookups.{exact_bytes}
 use Rattle.std.proofs.lemmas.Map.Text.{is_eq-slice_cmp}
-use Rattle.ft_values.specs.declared.rows.ListRow.{ListRow}
+use Rattle.ft_rows.specs.declared.terms.Posting.{Posting}
 use Rattle.ft_documents.specs.Terms.{Group, term_cmp, gathered, lists_of_term, lists_in_groups}
 use Rattle.ft_documents.proofs.TermLemmas.{is_term, term_total, all_above}
 
@@ -24,7 +24,7 @@ abbrev Term : Type 0
 Term = String Global
 
 abbrev Found : Type 0
-Found = Option (Vec ListRow Global)
+Found = Option (Vec Posting Global)
 
 same_term : IsEquivalence (eq_by_cmp term_cmp)
 same_term = eq_by_cmp_equiv term_total
@@ -46,7 +46,7 @@ under_is q gs = ap (λ test. lookup test gs) (λ i t. is_eq-slice_cmp (string_by
 abbrev Sorted : List Group → Type 0
 Sorted gs = IsStrictlySortedBy term_cmp (keys_of gs)
 
-below_insert : (u t : Term) (v : Vec ListRow Global) (gs : List Group) → term_cmp u t ≡ Less → AllByRecursion (λ y. term_cmp u y ≡ Less) (keys_of gs) → AllByRecursion (λ y. term_cmp u y ≡ Less) (keys_of (insert_entry term_cmp gs t v))
+below_insert : (u t : Term) (v : Vec Posting Global) (gs : List Group) → term_cmp u t ≡ Less → AllByRecursion (λ y. term_cmp u y ≡ Less) (keys_of gs) → AllByRecursion (λ y. term_cmp u y ≡ Less) (keys_of (insert_entry term_cmp gs t v))
 below_insert u t v [] h all = (h, tt)
 below_insert u t v (g ∷ gs) h all =
     elim (term_cmp t g.0) as (λ o. AllByRecursion (λ y. term_cmp u y ≡ Less) (keys_of (match_ordering o ((t, v) ∷ g ∷ gs) ((g.0, v) ∷ gs) (g ∷ insert_entry term_cmp gs t v)))) [
@@ -55,7 +55,7 @@ below_insert u t v (g ∷ gs) h all =
       | Greater ↦ (all.0, below_insert u t v gs h all.1)
     ]
 
-sorted_insert : (t : Term) (v : Vec ListRow Global) (gs : List Group) → Sorted gs → Sorted (insert_entry term_cmp gs t v)
+sorted_insert : (t : Term) (v : Vec Posting Global) (gs : List Group) → Sorted gs → Sorted (insert_entry term_cmp gs t v)
 unfolding IsStrictlySortedBy
 sorted_insert t v [] sorted = (tt, tt)
 sorted_insert t v (g ∷ gs) sorted =
@@ -65,7 +65,7 @@ sorted_insert t v (g ∷ gs) sorted =
       | Greater ↦ λ h. (below_insert g.0 t v gs (term_total.antisymm g.0 t ∙ ap ordering_reverse h) sorted.0, sorted_insert t v gs sorted.1)
     ] refl
 
-under_insert : (q t : Term) (v : Vec ListRow Global) (gs : List Group) → under q (insert_entry term_cmp gs t v) ≡ cond (is_term t q) (Some v) (under q gs)
+under_insert : (q t : Term) (v : Vec Posting Global) (gs : List Group) → under q (insert_entry term_cmp gs t v) ≡ cond (is_term t q) (Some v) (under q gs)
 under_insert q t v [] = ap (λ b. cond b (Some v) None) (same_term.symm q t)
 under_insert q t v (g ∷ gs) =
     elim (term_cmp t g.0) as (λ o. term_cmp t g.0 ≡ o → under q (match_ordering o ((t, v) ∷ g ∷ gs) ((g.0, v) ∷ gs) (g ∷ insert_entry term_cmp gs t v)) ≡ cond (is_term t q) (Some v) (under q (g ∷ gs))) [
@@ -132,7 +132,7 @@ none_before q g gs sorted h = lookup-none (is_term q) (g ∷ gs) (none_below_hea
 none_behind : (q : Term) (g : Group) (gs : List Group) → Sorted (g ∷ gs) → is_term q g.0 ≡ true → under q gs ≡ None
 none_behind q g gs sorted at = lookup-none (is_term q) gs (none_past_head same_term q g gs (IsDistinct-from_sorted term_cmp (keys_of (g ∷ gs)) sorted) at)
 
-some-none : (v : Vec ListRow Global) → Some v ≢ None
+some-none : (v : Vec Posting Global) → Some v ≢ None
 some-none v h = true≢false (ap is_some h)
 
 module _ (g k : Group) (gs hs : List Group) (first : Sorted (g ∷ gs)) (second : Sorted (k ∷ hs)) (same : (q : Term) → under q (g ∷ gs) ≡ under q (k ∷ hs)) where
@@ -165,7 +165,7 @@ same_lists (g ∷ gs) (k ∷ hs) first second same =
     λ i. lists_of_term (term i) (lists i).items ++ rest i
 
 -- a term that joins those of a map, with what stands under it
-pub term_joins : (t : Term) (v : Vec ListRow Global) (old new : List Group) → IsDistinct string_eq (keys_of old) → IsDistinct string_eq (keys_of new) → ((q : Term) → lookup (string_eq q) new ≡ cond (string_eq t q) (Some v) (lookup (string_eq q) old)) →
+pub term_joins : (t : Term) (v : Vec Posting Global) (old new : List Group) → IsDistinct string_eq (keys_of old) → IsDistinct string_eq (keys_of new) → ((q : Term) → lookup (string_eq q) new ≡ cond (string_eq t q) (Some v) (lookup (string_eq q) old)) →
     lists_in_groups (gathered [] new) ≡ lists_in_groups (insert_entry term_cmp (gathered [] old) t v)
 term_joins t v old new once still joins =
     same_lists (gathered [] new) (insert_entry term_cmp (gathered [] old) t v) (are_sorted new) (sorted_insert t v (gathered [] old) (are_sorted old)) (λ q.

@@ -19,6 +19,7 @@ pub mod IndexOf
 pub mod InsertDue
 pub mod InsertOf
 pub mod InsertRows
+pub mod JoinSteps
 pub mod JoinedLists
 pub mod KeyedRows
 pub mod MadeIndexes

@@ -1,8 +1,8 @@
 -- One document after another.
-use Rattle.std.proofs.Common.{◌≡◌, ℕ, ◌+◌, ◌<◌, ◌≤◌, ◌==◌, Bool, true, List, [], ◌∷◌, ◌++◌, map, length, take, drop, Some, None, ℤ, pos, refl, sym, ap, subst, ◌∙◌, arith, eqb-true, length-append}
+use Rattle.std.proofs.Common.{◌≡◌, ℕ, ◌+◌, ◌<◌, ◌≤◌, ◌==◌, Bool, true, false, List, [], ◌∷◌, ◌++◌, map, length, take, drop, Some, None, ℤ, pos, refl, sym, ap, subst, ◌∙◌, arith, eqb-true, length-append}
 use Rattle.std.specs.Prelude.{slice_get, IsTrue}
 use Rattle.std.specs.declared.cmp.Ordering.TheVariants.{Greater}
-use Rattle.std.specs.Ordering.{int_cmp}
+use Rattle.std.specs.Ordering.{int_cmp, is_lt}
 use Rattle.std.specs.FinMap.Entries.{is_sorted}
 use Rattle.std.specs.List.{AllByRecursion, list_all, flat_map, enumerate_from, take-map, drop-map}
 use Rattle.std.proofs.Math.Seq.{take-append_seam, drop-append_seam}
@@ -13,10 +13,13 @@ use Rattle.std.proofs.lemmas.Bool.{and_parts}
 use Rattle.ft_values.specs.declared.rows.CellRow as stored
 use Rattle.ft_values.specs.Cells.{Cell}
 use Rattle.ft_content.specs.Content.{Column, CellRow, Documents, Content, document_rows, is_cell, is_document}
-use Rattle.ft_content.specs.Index.{Key, key_cmp, StoredSpot}
-use Rattle.ft_documents.specs.RewriteRows.{all_put, lists_of}
+use Rattle.ft_content.specs.Index.{Key, StoredSpot}
+use Rattle.ft_documents.specs.Joins.{CanJoin}
+use Rattle.ft_documents.specs.RewriteRows.{lists_with, lists_of}
 use Rattle.ft_documents.specs.Standing.{HaveCells, HaveContent, shown_row, cell_in, same_size, after_first, own_sizes, rest_passes, are_sizes_of}
-use Rattle.ft_documents.proofs.JoinedLists.{joined, lower, lower_lists}
+use Rattle.ft_documents.proofs.FoundLists.{made_sorted}
+use Rattle.ft_documents.proofs.IndexOf.{lists_with-append, lists_made}
+use Rattle.ft_documents.proofs.JoinedLists.{lower, lower_lists}
 
 -- Some documents came and others are left. The sizes that are left are theirs as all are of all, and the lists so far are those of the documents
 -- that came.
@@ -90,16 +93,17 @@ none_left width [] some none (d ∷ ds) have =
     let total : 0 ≡ length (document_rows d) + length (flat_map document_rows ds) = ap length have.are ∙ length-append (document_rows d) (flat_map document_rows ds) in
     absurd (omega (arith, some, long, total, rows_long d))
 
--- the document is one of more, and its lists join theirs
-pub one_more : (columns : List Column) (before : Documents) (d : ℤ × List Cell) (others all : Documents) (lists : List (Key × List StoredSpot)) → before ++ d ∷ others ≡ all → is_sorted int_cmp all ≡ true → lists ≡ lists_of columns before →
-    all_put key_cmp (lists_of columns (d ∷ [])) lists ≡ lists_of columns (before ++ d ∷ [])
-one_more columns before d others all lists are sorted is =
-    ap (all_put key_cmp (lists_of columns (d ∷ []))) is ∙ joined columns before d (lower before d others (ap (is_sorted int_cmp) are ∙ sorted))
+none_above : (d : ℤ) (lists : List (Key × List StoredSpot)) → AllByRecursion (λ (l : Key × List StoredSpot). int_cmp d l.0.1 ≡ Greater) lists → AllByRecursion (λ (l : Key × List StoredSpot). is_lt (int_cmp d l.0.1) ≡ false) lists
+none_above d [] all = tt
+none_above d (l ∷ ls) all = (ap is_lt all.0, none_above d ls all.1)
 
-pub all_lower : (columns : List Column) (before : Documents) (d : ℤ × List Cell) (others all : Documents) (lists : List (Key × List StoredSpot)) → before ++ d ∷ others ≡ all → is_sorted int_cmp all ≡ true → lists ≡ lists_of columns before →
-    AllByRecursion (λ (l : Key × List StoredSpot). int_cmp d.0 l.0.1 ≡ Greater) lists
-all_lower columns before d others all lists are sorted is =
-    subst (AllByRecursion (λ (l : Key × List StoredSpot). int_cmp d.0 l.0.1 ≡ Greater)) (sym is) (lower_lists columns d.0 before (lower before d others (ap (is_sorted int_cmp) are ∙ sorted)))
+-- the document is one of more, and its lists join theirs
+pub one_more : (columns : List Column) (before : Documents) (d : ℤ × List Cell) (others all : Documents) (lists new : List (Key × List StoredSpot)) → before ++ d ∷ others ≡ all → is_sorted int_cmp all ≡ true → lists ≡ lists_of columns before →
+    (CanJoin d.0 lists → new ≡ lists_with columns (d ∷ []) lists) → new ≡ lists_of columns (before ++ d ∷ [])
+one_more columns before d others all lists new are sorted is grown =
+    let own : CanJoin d.0 (lists_of columns before) = record { sorted = made_sorted columns before; highest = none_above d.0 (lists_of columns before) (lower_lists columns d.0 before (lower before d others (ap (is_sorted int_cmp) are ∙ sorted))) } in
+    grown (subst (CanJoin d.0) (sym is) own)
+    ∙ ap (lists_with columns (d ∷ [])) (is ∙ sym (lists_made columns before)) ∙ sym (lists_with-append columns before (d ∷ []) []) ∙ lists_made columns (before ++ d ∷ [])
 
 -- cells of a content are those of its documents
 pub have_cells : (columns : List Column) (width : ℕ) (rows : List CellRow) (content : Content) → length columns ≡ width → HaveContent columns rows content → HaveCells width rows content.documents

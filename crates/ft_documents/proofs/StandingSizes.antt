@@ -105,7 +105,7 @@ put_themselves : (rows : List ((ℤ × ℤ) × ℤ)) → is_sorted column_key_cm
 put_themselves rows h = same_entries column_key_cmp column_total column_exact (all_put column_key_cmp rows []) rows (of_true _ (sorted_put column_key_cmp column_total column_exact rows [] refl)) (of_true _ h)
     (λ q. find_all_put column_key_cmp column_total column_exact q rows [] h ∙ or_none (find column_key_cmp q rows))
 
-own_sizes_are : (columns : List Column) (d : ℤ × List Cell) → own_sizes columns d ≡ sized (map size_row (document_sizes columns d))
+pub own_sizes_are : (columns : List Column) (d : ℤ × List Cell) → own_sizes columns d ≡ sized (map size_row (document_sizes columns d))
 unfolding index_rows sizes
 own_sizes_are columns d =
     ap (λ ss. all_put column_key_cmp (sized (map size_row ss)) []) (append-nil (document_sizes columns d))

@@ -13,12 +13,8 @@ use Rattle.std.proofs.lemmas.List.FromFn.{get_or-range_with_len}
 use Rattle.ft_query.specs.declared.text.Token.{Token}
 use Rattle.ft_query.specs.Tokens.{PlainToken, AreTokens, plain_token}
 use Rattle.ft_rows.specs.Store.{column_key_cmp}
+use Rattle.ft_documents.specs.MadeIndex.{AreSmall}
 use Rattle.ft_documents.specs.RewriteRows.{sized, cell_sizes, all_put}
-
--- tokens whose numbers are small
-abbrev pub AreSmall : List Token → Type 0
-AreSmall [] = Unit {0}
-AreSmall (t ∷ ts) = (t.pos < 2 ^ 63) × (t.start < 2 ^ 63) × (t.size < 2 ^ 63) × AreSmall ts
 
 number_at : (ts : List PlainToken) → map (λ (t : PlainToken). t.pos) ts ≡ range_with_len 0 (length ts) → All (λ t. t.pos < length ts) ts
 number_at ts e k d within =

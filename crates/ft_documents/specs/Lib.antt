@@ -5,6 +5,7 @@ pub mod Tables
 pub mod Gathered
 pub mod Chosen
 pub mod Inserted
+pub mod Joins
 pub mod MadeIndex
 pub mod Matched
 pub mod NewDocuments

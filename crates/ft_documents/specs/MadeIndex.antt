@@ -1,18 +1,16 @@
 -- Steps. What calls make of an index that is kept in memory, its lists and its sizes together. All of it is our own choice.
-use Rattle.std.specs.Prelude.{◌≡◌, ◌<◌, ◌≤◌, ◌^◌, ℕ, ℤ, List, [], map, drop, length, Option, option_map, All, IfSome, IsTrue}
+use Rattle.std.specs.Prelude.{◌≡◌, ◌<◌, ◌^◌, ℕ, ℤ, List, [], ◌∷◌, map, length, All, IsTrue}
 use Rattle.std.specs.Ordering.{int_cmp}
 use Rattle.std.specs.FinMap.Entries.{is_sorted}
 use Rattle.ft_values.specs.Cells.{Cell}
-use Rattle.ft_values.specs.declared.rows.SizeRow.{SizeRow}
 use Rattle.ft_query.specs.declared.text.Token.{Token}
-use Rattle.ft_query.specs.Tokens.{tokens_of}
+use Rattle.ft_query.specs.Tokens.{plain_token, tokens_of}
 use Rattle.ft_rows.specs.Store.{column_key_cmp, Change}
 use Rattle.ft_content.specs.Content.{Column, Documents, cell_text}
-use Rattle.ft_content.specs.Index.{Key, StoredSpot}
+use Rattle.ft_content.specs.Index.{Key, StoredSpot, stored_spot}
 use Rattle.ft_documents.specs.declared.document_index.DocumentIndex.{DocumentIndex}
 use Rattle.ft_documents.specs.Rewrite.{Rewrite, afters}
 use Rattle.ft_documents.specs.RewriteRows.{rewrite_changes, lists_in, sizes_in, lists_with, sizes_with, lists_of, sizes_of, with_entries, cell_entries, cell_sizes, sized, all_put, IsShortNumber, AreShortNumbers}
-use Rattle.ft_documents.specs.Standing.{shown_size, same_size, after_first}
 
 -- an index has these lists and these sizes
 pub record Shows (index : DocumentIndex) (its_lists : List (Key × List StoredSpot)) (its_sizes : List ((ℤ × ℤ) × ℤ)) : Type 0 where
@@ -64,19 +62,23 @@ pub record FitsSpot (column : ℕ) (token : Token) : Type 0 where
   pub start : token.start < 2 ^ 63
   pub size : token.size < 2 ^ 63
 
+-- where a token of a column stands
+abbrev pub token_spot : ℕ → Token → StoredSpot
+token_spot column t = stored_spot (record { column = column; pos = t.pos; place = t.start; size = t.size })
+
+-- the numbers of tokens are
+abbrev pub AreSmall : List Token → Type 0
+AreSmall [] = Unit {0}
+AreSmall (t ∷ ts) = (t.pos < 2 ^ 63) × (t.start < 2 ^ 63) × (t.size < 2 ^ 63) × AreSmall ts
+
+-- the tokens of a cell
+pub record AreCellTokens (cell : Cell) (found : List Token) : Type 0 where
+  pub are : map plain_token found ≡ tokens_of (cell_text cell)
+  pub small : AreSmall found
+  pub number : IsShortNumber cell
+
 -- bytes are the text of a cell, and no more than memory has
 pub record IsTextOf (cell : Cell) (bytes : List ℕ) : Type 0 where
   pub text : bytes ≡ cell_text cell
   pub short : length bytes < 2 ^ 63
   pub number : IsShortNumber cell
-
--- an index gives its lists away, and keeps its sizes
-pub record GivesLists (old new : DocumentIndex) (its_lists : List (Key × List StoredSpot)) : Type 0 where
-  pub taken : its_lists ≡ lists_in old
-  pub none : lists_in new ≡ []
-  pub sizes : sizes_in new ≡ sizes_in old
-
--- how many sizes an index has, where they are the first of these
-pub record CountsSizes (index : DocumentIndex) (found : List SizeRow) (count : Option ℕ) : Type 0 where
-  pub rest : option_map (λ n. map shown_size (drop n found)) count ≡ after_first same_size (sizes_in index) (map shown_size found)
-  pub within : IfSome count (λ n. n ≤ length found)

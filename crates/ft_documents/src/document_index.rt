@@ -1,13 +1,14 @@
 //! The index of some documents, made from scratch, and the row changes from one to another.
-ghost use Rattle.std.specs.Prelude.{◌≡◌, map, drop};
+ghost use Rattle.std.specs.Prelude.{◌≡◌, OnOk};
 ghost use Rattle.ft_values.specs.Cells.{shown_value};
-ghost use Rattle.ft_documents.specs.MadeIndex.{IsTextOf};
-ghost use Rattle.ft_documents.specs.Standing as standing;
+ghost use Rattle.ft_rows.specs.Store.{column_key_cmp};
+ghost use Rattle.ft_documents.specs.MadeIndex.{FitsSize};
+ghost use Rattle.ft_documents.specs.RewriteRows.{all_put, sized, cell_sizes};
 
+use crate::tokens::{cell_tokens, spot_of};
 use ft_content::{Column, Value};
-use ft_query::{Token, tokens};
-use ft_values::{CellRow, RowChange, SizeRow, Spot};
-use itoa::Buffer;
+use ft_query::Token;
+use ft_values::{RowChange, Spot};
 use std::alloc::{AllocError, Global};
 use std::collections::BTreeMap;
 
@@ -66,25 +67,6 @@ impl DocumentIndex {
         Ok(())
     }
 
-    /// Adds the tokens of a document, whose cells are in rows.
-    pub(crate) fn add_rows(
-        &mut self,
-        columns: &[Column],
-        docid: i64,
-        cells: &[CellRow],
-    ) -> Result<(), AllocError>
-        ensures { OnOk result (Adds (map column_of columns.now)
-            ((docid, map standing.cell_in cells.now) ∷ []) self.old self.new) }
-    {
-        for place in 0..columns.len().min(cells.len()) {
-            let value = &cells[place].value;
-            if columns[place].indexed {
-                self.add_cell(docid, place, value)?;
-            }
-        }
-        Ok(())
-    }
-
     /// Adds the tokens of a document, if there is one.
     pub(crate) fn add_if_any(
         &mut self,
@@ -106,25 +88,10 @@ impl DocumentIndex {
         requires { place < 2 ^ 63 }
         ensures { OnOk result (AddsCell docid place (shown_value value.now) self.old self.new) }
     {
-        let mut buffer = Buffer::new();
-        let text = text_of(value, &mut buffer);
-        let found = tokens(self.alloc, text)?;
-        self.add_size(docid, place, found.len())?;
-        for token in found {
+        let tokens = cell_tokens(self.alloc, value)?;
+        add_size(&mut self.sizes, docid, place, tokens.len())?;
+        for token in tokens {
             self.add_token(docid, place, token)?;
-        }
-        Ok(())
-    }
-
-    // Adds the size of a cell, if it has tokens.
-    fn add_size(&mut self, docid: i64, place: usize, n: usize) -> Result<(), AllocError>
-        requires { FitsSize place n }
-        ensures { OnOk result (Shows self.new (rows.lists_in self.old)
-            (rows.all_put column_key_cmp (rows.sized (rows.cell_sizes docid place n))
-            (rows.sizes_in self.old))) }
-    {
-        if n > 0 {
-            self.sizes.insert((docid, place as i64), n as i64)?;
         }
         Ok(())
     }
@@ -136,12 +103,7 @@ impl DocumentIndex {
             (rows.with_entries (rows.cell_entries docid place (plain_token token ∷ []))
             (rows.lists_in self.old)) (rows.sizes_in self.old)) }
     {
-        let spot = Spot {
-            column: place as i64,
-            pos: token.pos as i64,
-            place: token.start as i64,
-            size: token.size as i64,
-        };
+        let spot = spot_of(place, &token);
         self.add_spot((token.term, docid), spot)
     }
 
@@ -163,15 +125,21 @@ impl DocumentIndex {
     }
 }
 
-// The text of a cell.
-fn text_of<'a>(value: &'a Value, buffer: &'a mut Buffer) -> &'a str
-    ensures { IsTextOf (shown_value value.now) result.now }
+/// Adds the size of a cell to those of others, if it has tokens.
+pub(crate) fn add_size(
+    sizes: &mut Sizes,
+    docid: i64,
+    place: usize,
+    n: usize,
+) -> Result<(), AllocError>
+    requires { FitsSize place n }
+    ensures { OnOk result (sizes.new.entries
+        ≡ all_put column_key_cmp (sized (cell_sizes docid place n)) sizes.old.entries) }
 {
-    match value {
-        Value::Null => "",
-        Value::Int(number) => buffer.format(*number),
-        Value::Text(text) => text.as_str(),
+    if n > 0 {
+        sizes.insert((docid, place as i64), n as i64)?;
     }
+    Ok(())
 }
 
 impl DocumentIndex {
@@ -181,7 +149,6 @@ impl DocumentIndex {
     ghost use Rattle.ft_rows.specs.Store.{column_key_cmp};
     ghost use Rattle.ft_rows.specs.Changes.{shown_change};
     ghost use Rattle.ft_content.specs.Index.{key_cmp};
-    ghost use Rattle.ft_documents.specs.MadeIndex.{GivesLists};
     ghost use Rattle.ft_documents.specs.RewriteRows as rows;
 
     /// Its lists and its sizes.
@@ -190,13 +157,6 @@ impl DocumentIndex {
     {
         let DocumentIndex { lists, sizes, .. } = self;
         (lists, sizes)
-    }
-
-    /// Takes its lists out of it. Its sizes stay.
-    pub(crate) fn take_lists(&mut self) -> PostingLists
-        ensures { GivesLists self.old self.new (map rows.shown_list result.entries) }
-    {
-        std::mem::replace(&mut self.lists, BTreeMap::new(self.alloc))
     }
 
     /// Drops the lists that another index has not, or has otherwise.
@@ -301,35 +261,5 @@ impl DocumentIndex {
             Some(other) => *other == n,
             None => false,
         }
-    }
-}
-
-impl DocumentIndex {
-    ghost use Rattle.ft_documents.specs.MadeIndex.{CountsSizes};
-
-    /// How many sizes it has, where they are the first of these.
-    pub(crate) fn count_sizes(&self, sizes: &[SizeRow]) -> Option<usize>
-        ensures { CountsSizes self.now sizes.now result }
-    {
-        let mut place = 0;
-        for (key, n) in self.sizes.iter() {
-            let n = *n;
-            if !is_size(sizes, place, key, n) {
-                return None;
-            }
-            place += 1;
-        }
-        Some(place)
-    }
-}
-
-// Whether this size stands at a place.
-fn is_size(sizes: &[SizeRow], place: usize, key: &(i64, i64), n: i64) -> bool
-    ensures { result ≡ standing.is_first standing.same_size (key.now, n)
-        (map standing.shown_size (drop place sizes.now)) }
-{
-    match sizes.get(place) {
-        Some(size) => key.0 == size.docid && key.1 == size.column && n == size.n,
-        None => false,
     }
 }

@@ -16,6 +16,7 @@ mod rewrite;
 mod standing_index;
 mod standing_rows;
 mod term_index;
+mod tokens;
 mod told;
 mod writes;
 

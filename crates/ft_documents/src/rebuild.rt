@@ -1,5 +1,5 @@
 //! Making the index of a table again.
-ghost use Rattle.std.specs.Prelude.{◌≡◌, ◌≤◌, All, IfOk, IsTrue, length, map};
+ghost use Rattle.std.specs.Prelude.{◌≡◌, ◌≤◌, All, IfOk, OnOk, IsTrue, length, map};
 ghost use Rattle.std.specs.Ordering.{int_cmp};
 ghost use Rattle.std.specs.FinMap.Entries.{is_sorted};
 ghost use Rattle.ft_rows.specs.Changes.{shown_change, CanApply};
@@ -7,15 +7,17 @@ ghost use Rattle.ft_content.specs.Content.{is_document};
 ghost use Rattle.ft_content.specs.Views.{column_of};
 ghost use Rattle.ft_documents.specs.Rebuild.{shown_document, MakesIndex, LeavesOthers, LeavesNames};
 ghost use Rattle.ft_documents.specs.MadeIndex.{AreIndexOf};
+ghost use Rattle.ft_documents.specs.Joins.{Joins};
 ghost use Rattle.ft_documents.specs.RewriteRows as rows;
 ghost use Rattle.ft_documents.specs.Terms.{lists_in_terms};
 
 use crate::document::Document;
-use crate::document_index::{DocumentIndex, Sizes};
+use crate::document_index::{DocumentIndex, Sizes, add_size};
 use crate::term_index::TermIndex;
 use ft_content::Column;
 use ft_values::RowChange;
 use std::alloc::{AllocError, Global};
+use std::collections::BTreeMap;
 
 /// The row changes that make the index of a table again out of its documents, which stand by rising docid.
 pub fn index_changes(
@@ -48,13 +50,32 @@ fn index_of(
         (map shown_document documents.now) (lists_in_terms made.0) made.1.entries) }
 {
     let mut lists = TermIndex::new(alloc);
-    let mut index = DocumentIndex::new(alloc);
+    let mut sizes = BTreeMap::new(alloc);
     for document in documents {
-        let docid = document.docid;
-        index.add(columns, docid, document.cells.as_slice())?;
-        lists.add(index.take_lists())?;
+        add_document(&mut lists, &mut sizes, columns, document)?;
     }
-    Ok((lists, index.into_parts().1))
+    Ok((lists, sizes))
+}
+
+// Adds the postings of a document behind those of others, and its sizes.
+fn add_document(
+    lists: &mut TermIndex,
+    sizes: &mut Sizes,
+    columns: &[Column],
+    document: &Document,
+) -> Result<(), AllocError>
+    ensures { OnOk result (Joins (map column_of columns.now) (shown_document document.now)
+        lists.old lists.new sizes.old.entries sizes.new.entries) }
+{
+    let docid = document.docid;
+    for place in 0..columns.len().min(document.cells.len()) {
+        let value = &document.cells[place];
+        if columns[place].indexed {
+            let n = lists.add_cell(docid, place, value)?;
+            add_size(sizes, docid, place, n)?;
+        }
+    }
+    Ok(())
 }
 
 // No index row of before, and all of these.

@@ -1,37 +1,74 @@
 //! The index rows of a table, made from scratch out of its cells.
-ghost use Rattle.std.specs.Prelude.{◌≡◌, ◌<◌, ◌∷◌, [], false, map, length, IsTrue, IfOk, MatchOption};
+ghost use Rattle.std.specs.Prelude.{◌≡◌, ◌<◌, false, map, drop, length, IsTrue, IfOk, MatchOption};
 ghost use Rattle.std.specs.Ordering.{int_cmp};
 ghost use Rattle.std.specs.FinMap.Entries.{is_sorted};
 ghost use Rattle.ft_content.specs.Content.{Content, Documents};
 ghost use Rattle.ft_content.specs.Views.{column_of};
-ghost use Rattle.ft_documents.specs.MadeIndex.{IsIndexOf};
+ghost use Rattle.ft_documents.specs.MadeIndex.{FitsSize};
 ghost use Rattle.ft_documents.specs.RewriteRows as rows;
 ghost use Rattle.ft_documents.specs.Standing as standing;
+ghost use Rattle.ft_documents.specs.Joins.{PassesSize, JoinsDocument, cell_size};
 ghost use Rattle.ft_documents.specs.Terms.{lists_in_terms};
 
-use crate::document_index::DocumentIndex;
 use crate::term_index::TermIndex;
 use ft_content::Column;
 use ft_rows::TermLists;
 use ft_values::{CellRow, SizeRow};
 use std::alloc::{AllocError, Global};
 
-// The index of one document.
-fn index_of(
-    alloc: Global,
+// Whether this size stands at a place.
+fn is_size(sizes: &[SizeRow], count: usize, docid: i64, place: usize, n: usize) -> bool
+    requires { FitsSize place n }
+    ensures { result ≡ standing.is_first standing.same_size
+        (cell_size docid place n) (map standing.shown_size (drop count sizes.now)) }
+{
+    match sizes.get(count) {
+        Some(size) => { docid == size.docid && place as i64 == size.column && n as i64 == size.n }
+        None => false,
+    }
+}
+
+// How many of these sizes came, where that of a cell is next, if the cell has tokens; none where another is.
+fn past_size(sizes: &[SizeRow], count: usize, docid: i64, place: usize, n: usize) -> Option<usize>
+    requires { FitsSize place n }
+    ensures { PassesSize sizes.now count docid place n result }
+{
+    if n == 0 {
+        return Some(count);
+    }
+    if is_size(sizes, count, docid, place, n) {
+        Some(count + 1)
+    } else {
+        None
+    }
+}
+
+// Adds the postings of a document behind those of others. How many of the first of these sizes are its own; none where others stand there.
+fn add_document(
+    lists: &mut TermIndex,
     columns: &[Column],
     docid: i64,
     cells: &[CellRow],
-) -> Result<DocumentIndex, AllocError>
-    ensures { IfOk result
-        (IsIndexOf (map column_of columns.now) ((docid, map standing.cell_in cells.now) ∷ [])) }
+    sizes: &[SizeRow],
+) -> Result<Option<usize>, AllocError>
+    ensures { IfOk result (JoinsDocument (map column_of columns.now)
+        (docid, map standing.cell_in cells.now) sizes.now lists.old lists.new) }
 {
-    let mut index = DocumentIndex::new(alloc);
-    index.add_rows(columns, docid, cells)?;
-    Ok(index)
+    let mut count = 0;
+    for place in 0..columns.len().min(cells.len()) {
+        let value = &cells[place].value;
+        if columns[place].indexed {
+            let n = lists.add_cell(docid, place, value)?;
+            let Some(next) = past_size(sizes, count, docid, place, n) else {
+                return Ok(None);
+            };
+            count = next;
+        }
+    }
+    Ok(Some(count))
 }
 
-// The posting lists of the documents that have these cells, by their terms, where these are their sizes.
+// The postings of the documents that have these cells, by their terms, where these are their sizes.
 fn lists_of_documents(
     alloc: Global,
     columns: &[Column],
@@ -57,11 +94,9 @@ fn lists_of_documents(
         }
         let docid = first.docid;
         let (own, others) = cells.split_at(columns.len());
-        let index = index_of(alloc, columns, docid, own)?;
-        let Some(count) = index.count_sizes(sizes) else {
+        let Some(count) = add_document(&mut lists, columns, docid, own, sizes)? else {
             return Ok(None);
         };
-        lists.add(index.into_parts().0)?;
         sizes = sizes.split_at(count).1;
         cells = others;
     }
@@ -72,7 +107,7 @@ fn lists_of_documents(
     }
 }
 
-/// The posting lists of a content that has these cells, made from scratch, by their terms; none where these aren't the sizes of its cells.
+/// The postings of a content that has these cells, made from scratch, by their terms; none where these aren't the sizes of its cells.
 pub fn index_lists(
     alloc: Global,
     columns: &[Column],

@@ -1,31 +1,35 @@
-//! The posting lists of documents by their terms.
+//! The postings of documents by their terms.
 ghost use Rattle.std.specs.Prelude.{◌≡◌, ◌++◌, [], map, IfOk, OnOk};
 ghost use Rattle.ft_rows.specs.Changes.{shown_change};
+ghost use Rattle.ft_rows.specs.Terms.{spot_of};
 ghost use Rattle.ft_documents.specs.RewriteRows.{put_lists};
 ghost use Rattle.ft_documents.specs.Terms.{lists_of_term, gathered};
 
-use crate::document_index::PostingLists;
-use ft_rows::TermLists;
-use ft_values::{ListRow, RowChange};
+use crate::tokens::{cell_tokens, spot_of};
+use ft_content::Value;
+use ft_query::Token;
+use ft_rows::{Posting, TermLists, first_list};
+use ft_values::{RowChange, Spot};
 use std::alloc::{AllocError, Global};
 use std::collections::{BTreeMap, HashMap};
 
-/// The posting lists of documents, which come by rising docid, under their terms. A term is found by its hash, and the
-/// terms are put in order once, at the end: there is a step for each posting, and far fewer terms.
+/// The postings of documents, which come by rising docid, under their terms. A term is found by its hash, and the terms
+/// are put in order once, at the end: there is a step for each posting, and far fewer terms.
 #[derive(Drop)]
 pub(crate) struct TermIndex {
     alloc: Global,
-    terms: HashMap<String, Vec<ListRow>>,
+    terms: HashMap<String, Vec<Posting>>,
 }
 
 impl TermIndex {
-    ghost use Rattle.std.specs.Prelude.{◌≡◌, [], ◌++◌, map, string_bytes, IfOk, OnOk, ℤ};
-    ghost use Rattle.std.specs.List.{AllByRecursion};
-    ghost use Rattle.std.specs.Ordering.{int_cmp};
-    ghost use Rattle.std.specs.declared.cmp.Ordering.TheVariants.{Greater};
-    ghost use Rattle.std.specs.FinMap.Entries.{put};
+    ghost use Rattle.std.specs.Prelude.{◌≡◌, ◌<◌, ◌^◌, [], ◌∷◌, ◌++◌, map, string_bytes, unwrap_or, IfOk, OnOk};
+    ghost use Rattle.std.specs.FinMap.Entries.{put, find};
+    ghost use Rattle.ft_values.specs.Cells.{shown_value};
+    ghost use Rattle.ft_query.specs.Tokens.{plain_token};
     ghost use Rattle.ft_rows.specs.Changes.{shown_change};
     ghost use Rattle.ft_content.specs.Index.{key_cmp};
+    ghost use Rattle.ft_documents.specs.MadeIndex.{FitsSpot};
+    ghost use Rattle.ft_documents.specs.Joins.{CanJoin, JoinsCell};
     ghost use Rattle.ft_documents.specs.RewriteRows as rows;
     ghost use Rattle.ft_documents.specs.Terms as terms;
 
@@ -39,61 +43,76 @@ impl TermIndex {
         }
     }
 
-    /// Adds the lists of a document whose docid is above those of all that are there.
-    pub(crate) fn add(&mut self, lists: PostingLists) -> Result<(), AllocError>
-        ensures { (docid : ℤ)
-            → AllByRecursion (λ l. l.0.1 ≡ docid) (map rows.shown_list lists.entries)
-            → AllByRecursion (λ l. int_cmp docid l.0.1 ≡ Greater) (terms.lists_in_terms self.old)
-            → OnOk result (terms.lists_in_terms self.new
-            ≡ rows.all_put key_cmp (map rows.shown_list lists.entries)
-            (terms.lists_in_terms self.old)) }
+    /// Adds the tokens of a cell that is indexed, of the last document or one behind it. How many they are.
+    pub(crate) fn add_cell(
+        &mut self,
+        docid: i64,
+        place: usize,
+        value: &Value,
+    ) -> Result<usize, AllocError>
+        requires { place < 2 ^ 63 }
+        ensures { IfOk result (JoinsCell docid place (shown_value value.now) self.old self.new) }
     {
-        for (key, spots) in lists {
-            let (term, docid) = key;
-            self.add_list(term, ListRow { docid, spots })?;
+        let tokens = cell_tokens(self.alloc, value)?;
+        let count = tokens.len();
+        for token in tokens {
+            self.add_token(docid, place, token)?;
         }
-        Ok(())
+        Ok(count)
     }
 
-    // Adds a list of a term, whose docid is above those of the term's other lists.
-    fn add_list(&mut self, term: String, list: ListRow) -> Result<(), AllocError>
-        ensures { terms.IsAfter (string_bytes term, list.docid) (terms.lists_in_terms self.old)
+    // Adds a token of a cell.
+    fn add_token(&mut self, docid: i64, place: usize, token: Token) -> Result<(), AllocError>
+        requires { FitsSpot place token }
+        ensures { CanJoin docid (terms.lists_in_terms self.old)
             → OnOk result (terms.lists_in_terms self.new
-            ≡ put key_cmp (string_bytes term, list.docid) list.spots.items
+            ≡ rows.with_entries (rows.cell_entries docid place (plain_token token ∷ []))
             (terms.lists_in_terms self.old)) }
     {
-        if let Some(lists) = self.terms.get_mut(&term) {
-            lists.push(list)?;
+        let spot = spot_of(place, &token);
+        self.add_posting(token.term, Posting { docid, spot })
+    }
+
+    // Adds a posting of a term, which joins the term's last list, if that is of its document.
+    fn add_posting(&mut self, term: String, posting: Posting) -> Result<(), AllocError>
+        ensures { CanJoin posting.docid (terms.lists_in_terms self.old)
+            → OnOk result (terms.lists_in_terms self.new
+            ≡ put key_cmp (string_bytes term, posting.docid) (unwrap_or (find key_cmp
+            (string_bytes term, posting.docid) (terms.lists_in_terms self.old)) []
+            ++ posting.spot ∷ []) (terms.lists_in_terms self.old)) }
+    {
+        if let Some(postings) = self.terms.get_mut(&term) {
+            postings.push(posting)?;
             return Ok(());
         }
-        let mut lists = Vec::with_capacity(self.alloc, 1)?;
-        lists.push(list)?;
-        self.terms.insert(term, lists)?;
+        let mut postings = Vec::new(self.alloc);
+        postings.push(posting)?;
+        self.terms.insert(term, postings)?;
         Ok(())
     }
 
-    /// The lists of each term, by rising terms.
+    /// The postings of each term, by rising terms.
     pub(crate) fn into_lists(self) -> Result<Vec<TermLists>, AllocError>
         ensures { IfOk result (λ lists. terms.lists_of_terms lists.items
             ≡ terms.lists_in_terms self) }
     {
         let TermIndex { alloc, terms } = self;
         let mut found = Vec::new(alloc);
-        for (term, lists) in by_terms(alloc, terms)? {
-            found.push(TermLists { term, lists })?;
+        for (term, postings) in by_terms(alloc, terms)? {
+            found.push(TermLists { term, postings })?;
         }
         Ok(found)
     }
 
-    /// Puts all lists, by rising terms and docids. Their places are moved into the changes.
+    /// Puts all lists, by rising terms and docids.
     pub(crate) fn put_lists(self, changes: &mut Vec<RowChange>, tab: i64) -> Result<(), AllocError>
         ensures { OnOk result (map shown_change changes.new.items
             ≡ map shown_change changes.old.items ++ rows.put_lists tab
             (terms.lists_in_terms self)) }
     {
         let TermIndex { alloc, terms } = self;
-        for (term, lists) in by_terms(alloc, terms)? {
-            put_term(alloc, changes, tab, term.as_str(), lists)?;
+        for (term, postings) in by_terms(alloc, terms)? {
+            put_term(alloc, changes, tab, term.as_str(), postings.as_slice())?;
         }
         Ok(())
     }
@@ -102,13 +121,13 @@ impl TermIndex {
 // The same, by rising terms.
 fn by_terms(
     alloc: Global,
-    terms: HashMap<String, Vec<ListRow>>,
-) -> Result<BTreeMap<String, Vec<ListRow>>, AllocError>
+    terms: HashMap<String, Vec<Posting>>,
+) -> Result<BTreeMap<String, Vec<Posting>>, AllocError>
     ensures { IfOk result (λ found. found.entries ≡ gathered [] terms.entries) }
 {
     let mut found = BTreeMap::new(alloc);
-    for (term, lists) in terms {
-        found.insert(term, lists)?;
+    for (term, postings) in terms {
+        found.insert(term, postings)?;
     }
     Ok(found)
 }
@@ -119,16 +138,26 @@ fn put_term(
     changes: &mut Vec<RowChange>,
     tab: i64,
     term: &str,
-    lists: Vec<ListRow>,
+    postings: &[Posting],
 ) -> Result<(), AllocError>
     ensures { OnOk result (map shown_change changes.new.items
         ≡ map shown_change changes.old.items ++ put_lists tab
-        (lists_of_term term.now lists.items)) }
+        (lists_of_term term.now postings.now)) }
 {
-    for list in lists {
-        let ListRow { docid, spots } = list;
+    let mut rest = postings;
+    while let Some(first) = rest.first() {
+        let docid = first.docid;
+        let (own, others) = rest.split_at(first_list(rest));
         let term = String::from_str(alloc, term)?;
-        changes.push(RowChange::PutEntries(tab, term, docid, spots))?;
+        changes.push(RowChange::PutEntries(tab, term, docid, spots_of(alloc, own)?))?;
+        rest = others;
     }
     Ok(())
+}
+
+// The places of postings.
+fn spots_of(alloc: Global, postings: &[Posting]) -> Result<Vec<Spot>, AllocError>
+    ensures { IfOk result (λ spots. spots.items ≡ map spot_of postings.now) }
+{
+    postings.iter().map(|p| p.spot).collect(alloc)
 }

@@ -29,8 +29,8 @@ use Rattle.ft_index.specs.Kept.{Stands, held_columns, is_sound}
 use Rattle.ft_index.specs.Opened.{standing_of, StandsSo, IsListed, IsMarked}
 use Rattle.ft_documents.specs.RewriteRows.{sized}
 use Rattle.ft_documents.specs.Standing.{shown_size, shown_row, listed_rows, columns_in, AreContent, HaveContent}
-use Rattle.ft_documents.specs.Terms.{lists_of_term, lists_of_terms}
-use Rattle.ft_rows.specs.Terms.{lists_under, lists_by_terms}
+use Rattle.ft_documents.specs.Terms.{under_term, lists_of_terms}
+use Rattle.ft_rows.specs.Terms.{lists_of_postings, lists_under, lists_by_terms}
 use Rattle.ft_rows.specs.declared.terms.TermLists.{TermLists}
 use Rattle.ft_values.specs.declared.rows.ListRow.{ListRow}
 use Rattle.ft_documents.specs.Tables.{table_rows, table_index}
@@ -70,21 +70,23 @@ asked_given tab (l ∷ ls) =
       | false ↦ λ _. asked_given tab ls
     ] refl
 
-term_given : (tab : ℤ) (term : List ℕ) (ls : List ListRow) → map (given tab) (lists_of_term term ls) ≡ map (λ (l : ListRow). ((tab, term, l.docid), l.spots.items)) ls
+term_given : (tab : ℤ) (term : List ℕ) (ls : List (ℤ × List StoredSpot)) → map (given tab) (under_term term ls) ≡ map (λ (l : ℤ × List StoredSpot). ((tab, term, l.0), l.1)) ls
 term_given tab term [] = refl
-term_given tab term (l ∷ ls) = ap (λ xs. ((tab, term, l.docid), l.spots.items) ∷ xs) (term_given tab term ls)
+term_given tab term (l ∷ ls) = ap (λ xs. ((tab, term, l.0), l.1) ∷ xs) (term_given tab term ls)
 
 terms_given : (tab : ℤ) (terms : List TermLists) → map (given tab) (lists_of_terms terms) ≡ lists_by_terms tab terms
 terms_given tab [] = refl
-terms_given tab (t ∷ ts) = map-append (given tab) (lists_of_term (string_bytes t.term) t.lists.items) (lists_of_terms ts) ∙ (λ i. term_given tab (string_bytes t.term) t.lists.items i ++ terms_given tab ts i)
+terms_given tab (t ∷ ts) =
+    let lists = lists_of_postings t.postings.items in
+    map-append (given tab) (under_term (string_bytes t.term) lists) (lists_of_terms ts) ∙ (λ i. term_given tab (string_bytes t.term) lists i ++ terms_given tab ts i)
 
-term_own : (tab : ℤ) (term : List ℕ) (ls : List ListRow) → map own_list (map (λ (l : ListRow). ((tab, term, l.docid), l.spots.items)) ls) ≡ lists_of_term term ls
+term_own : (tab : ℤ) (term : List ℕ) (ls : List (ℤ × List StoredSpot)) → map own_list (map (λ (l : ℤ × List StoredSpot). ((tab, term, l.0), l.1)) ls) ≡ under_term term ls
 term_own tab term [] = refl
-term_own tab term (l ∷ ls) = ap (λ xs. ((term, l.docid), l.spots.items) ∷ xs) (term_own tab term ls)
+term_own tab term (l ∷ ls) = ap (λ xs. ((term, l.0), l.1) ∷ xs) (term_own tab term ls)
 
 terms_own : (tab : ℤ) (terms : List TermLists) → map own_list (lists_by_terms tab terms) ≡ lists_of_terms terms
 terms_own tab [] = refl
-terms_own tab (t ∷ ts) = map-append own_list (lists_under tab t) (lists_by_terms tab ts) ∙ (λ i. term_own tab (string_bytes t.term) t.lists.items i ++ terms_own tab ts i)
+terms_own tab (t ∷ ts) = map-append own_list (lists_under tab t) (lists_by_terms tab ts) ∙ (λ i. term_own tab (string_bytes t.term) (lists_of_postings t.postings.items) i ++ terms_own tab ts i)
 
 -- A table's index rows are those of a content where its sizes and lists are.
 pub rows_same : (tab : ℤ) (store : StoreValue) (content : Content) (ss : List stored_size.SizeRow) (terms : List TermLists) → SizesRead tab store ss → (map shown_size ss ≡ sized (index_rows content).sizes) × (lists_of_terms terms ≡ (index_rows content).lists) →

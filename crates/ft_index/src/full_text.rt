@@ -41,7 +41,8 @@ impl<S: Alter> Model for FullText<S> {
 
     ghost view = { λ f. record { store = f.store; tables = map shown_info f.tables.items } };
 
-    ghost invariant = { λ f. HoldsSome S.Store (record { store = f.store; tables = map shown_info f.tables.items }) };
+    ghost invariant = { λ f. HoldsSome S.Store
+        (record { store = f.store; tables = map shown_info f.tables.items }) };
 }
 
 impl<S: Alter> FullText<S> {

@@ -90,7 +90,9 @@ impl<'s, S: Alter> Lists for TableLists<'s, S> {
 
     ghost given_so_far = { λ l. l.given };
 
-    ghost becomes = { λ old is_answered new. (new.store.ghost_name ≡ old.store.ghost_name) × (new.tab ≡ old.tab) × Reads S.Store old.store.now old.given is_answered new.store.now new.given };
+    ghost becomes = { λ old is_answered new. (new.store.ghost_name ≡ old.store.ghost_name)
+        × (new.tab ≡ old.tab)
+        × Reads S.Store old.store.now old.given is_answered new.store.now new.given };
 
     ghost in_order = { λ l reliable. reliable.in_order };
 

@@ -1,5 +1,7 @@
+pub mod ExactLemmas
 pub mod ListLemmas
 pub mod PackTests
 pub mod PackedLemmas
 pub mod PackedRows
+pub mod PostingLemmas
 pub mod ReadLemmas

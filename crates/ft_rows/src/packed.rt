@@ -1,10 +1,12 @@
 //! The packed list: where one term stands in one document, as bytes.
-ghost use Rattle.std.specs.Prelude.{◌≡◌, ℕ, [], ◌∷◌, ◌++◌, ◌+◌, ◌<◌, ◌&&◌, ◌||◌, ◌==◌, map, reverse, true, false, if◌then◌else◌, Some, None, IfOk, IfSome, IfNone, OnOk, MatchOption, slice_index, IsTrue};
+ghost use Rattle.std.specs.Prelude.{◌≡◌, ◌↔◌, ℕ, [], ◌∷◌, ◌++◌, ◌+◌, ◌<◌, ◌&&◌, ◌||◌, ◌==◌, map, reverse, true, false, if◌then◌else◌, Some, None, IfOk, IfSome, IfNone, OnOk, MatchOption, slice_index, IsTrue};
 ghost use Rattle.std.specs.List.{flat_map};
 ghost use Rattle.std.specs.Option.{option_and_then};
 ghost use Rattle.ft_rows.specs.Packed.{CanPack, is_natural, PackedIsRead, PackedIsExact, OnlyPackedIsRead, packed_spots, spots_in, stored_spot, plain_spot, leb128, natural, numbers_after, numbers_in, unpacked, is_spot, is_after, origin};
-ghost use Rattle.ft_rows.specs.Unpacking.{next_numbers, spot_from, passes, checked};
+ghost use Rattle.ft_rows.specs.Terms.{spot_of};
+ghost use Rattle.ft_rows.specs.Unpacking.{next_numbers, spot_from, passes, checked, Follows};
 
+use crate::terms::Posting;
 use ft_values::Spot;
 use std::alloc::{AllocError, Global};
 
@@ -118,6 +120,66 @@ pub fn can_pack(spots: &[Spot]) -> bool
         last = *spot;
     }
     !spots.is_empty()
+}
+
+// ---- comparing
+
+/// What comes behind a byte, where it is the first.
+fn behind_byte(bytes: &[u8], byte: u8) -> Option<&[u8]>
+    ensures { Follows result bytes.now (byte ∷ []) }
+{
+    match bytes.split_first() {
+        Some((first, rest)) if *first == byte => Some(rest),
+        _ => None,
+    }
+}
+
+/// What comes behind a number, where it is the first.
+fn behind_number(bytes: &[u8], number: u64) -> Option<&[u8]>
+    ensures { Follows result bytes.now (leb128 number) }
+{
+    let mut left = bytes;
+    let mut rest = number;
+    while rest >= 128 {
+        left = behind_byte(left, (rest % 128 + 128) as u8)?;
+        rest /= 128;
+    }
+    behind_byte(left, rest as u8)
+}
+
+/// What comes behind the four numbers of a place behind the last one, where they are the first.
+fn behind_spot<'a>(bytes: &'a [u8], last: &Spot, spot: &Spot) -> Option<&'a [u8]>
+    ensures { Follows result bytes.now (flat_map leb128
+        (numbers_after (plain_spot last.now) (plain_spot spot.now ∷ []))) }
+{
+    let column = natural(spot.column);
+    let same = column == natural(last.column);
+    let left = behind_number(bytes, column.saturating_sub(natural(last.column)))?;
+    let pos = natural(spot.pos).saturating_sub(kept(same, last.pos));
+    let left = behind_number(left, pos)?;
+    let place = natural(spot.place).saturating_sub(kept(same, last.place));
+    let left = behind_number(left, place)?;
+    behind_number(left, natural(spot.size))
+}
+
+/// Whether bytes are the packed list of these postings' places: no other bytes stand for them.
+pub fn is_list_of(bytes: &[u8], postings: &[Posting]) -> bool
+    ensures { IsTrue result ↔ (spots_in bytes.now ≡ Some (map spot_of postings.now)) }
+{
+    let mut left = bytes;
+    let mut last = ORIGIN;
+    for (at, posting) in postings.iter().enumerate() {
+        let spot = &posting.spot;
+        if !may_follow(at == 0, &last, spot) {
+            return false;
+        }
+        let Some(rest) = behind_spot(left, &last, spot) else {
+            return false;
+        };
+        left = rest;
+        last = posting.spot;
+    }
+    left.is_empty() && !postings.is_empty()
 }
 
 // ---- unpacking

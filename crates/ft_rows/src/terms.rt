@@ -1,9 +1,37 @@
-//! Posting lists by their terms.
-use ft_values::ListRow;
+//! Postings by their terms.
+ghost use Rattle.std.specs.Prelude.{◌≡◌};
+ghost use Rattle.ft_rows.specs.Terms.{AreFirstList, run_with};
 
-/// The posting lists of one term, of a table that isn't told.
+use ft_values::Spot;
+
+/// A place of a term in a document.
+#[derive(Clone, Copy, Debug)]
+pub struct Posting {
+    pub docid: i64,
+    pub spot: Spot,
+}
+
+/// The postings of one term, of a table that isn't told. Those of one document that stand beside each other are its posting list.
 #[derive(Debug, Drop)]
 pub struct TermLists {
     pub term: String,
-    pub lists: Vec<ListRow>,
+    pub postings: Vec<Posting>,
+}
+
+/// How many of these postings are their first list: the first ones, as many as are of one document.
+pub fn first_list(postings: &[Posting]) -> usize
+    ensures { AreFirstList postings.now result }
+{
+    match postings.first() {
+        Some(first) => count_with(first, postings),
+        None => 0,
+    }
+}
+
+/// How many of the first postings are in the document of this one.
+fn count_with(first: &Posting, postings: &[Posting]) -> usize
+    ensures { result ≡ run_with first.now postings.now }
+{
+    let docid = first.docid;
+    postings.iter().take_while(|p| p.docid == docid).count()
 }

@@ -1,41 +1,16 @@
 -- Lists that are expected, gone through beside rows.
-use Rattle.std.proofs.Common.{◌≡◌, ℕ, ℤ, zero, suc, ◌+◌, ◌<◌, Bool, true, false, true≢false, not, ◌&&◌, IsTrue, List, [], ◌∷◌, ◌++◌, map, length, get_or, drop, refl, sym, ap, subst, ◌∙◌, arith, append_assoc, append-nil, length-append, length-drop}
-use Rattle.std.specs.Prelude.{string_bytes, ◌↔◌, Decides, MatchBool}
+use Rattle.std.proofs.Common.{◌≡◌, ℕ, ℤ, zero, suc, ◌+◌, ◌<◌, Bool, true, false, true≢false, cond, not, IsTrue, List, [], ◌∷◌, ◌++◌, map, length, get_or, take, drop, refl, sym, ap, subst, ◌∙◌, arith, append_assoc, append-nil, length-drop}
+use Rattle.std.specs.Prelude.{string_bytes, ◌↔◌, MatchBool}
 use Rattle.std.specs.Ordering.{int_eq}
-use Rattle.std.specs.Cmp.Lexicographic.{pointwise}
-use Rattle.std.proofs.lemmas.Bool.Decides.{Decides-int_eq}
-use Rattle.std.proofs.lemmas.Slice.Eq.{slice_eq-Decides}
-use Rattle.std.proofs.lemmas.List.{map-append, append_cancel_left, drop_more, drop-map, length-map}
-use Rattle.ft_values.specs.declared.rows.ListRow.{ListRow}
+use Rattle.std.proofs.lemmas.List.{map-append, append_cancel_left, drop_more, drop-drop}
+use Rattle.sqlite.specs.Order.{Row}
 use Rattle.ft_values.specs.declared.rows.Spot.{Spot}
+use Rattle.ft_rows.specs.declared.terms.Posting.{Posting}
 use Rattle.ft_rows.specs.declared.terms.TermLists.{TermLists}
 use Rattle.ft_rows.specs.Store.{ListKey}
-use Rattle.ft_rows.specs.Terms.{lists_under, lists_by_terms}
-use Rattle.ft_rows.proofs.ListLemmas.{and_first, and_second}
-use Rattle.ft_store.specs.Expected.{left_of, HasMore}
-
--- ---- places
-
-abbrev same_spot : Spot → Spot → Bool
-same_spot s t = int_eq s.column t.column && (int_eq s.pos t.pos && (int_eq s.place t.place && int_eq s.size t.size))
-
-itself : (n : ℤ) → int_eq n n ≡ true
-itself n = (Decides-int_eq n n).1 refl
-
-spot_decides : (s t : Spot) → Decides (same_spot s t) (s ≡ t)
-spot_decides s t = (
-  λ h. let second = and_second _ _ h in
-      let third = and_second _ _ second in
-      let column = (Decides-int_eq s.column t.column).0 (and_first _ _ h) in
-      let pos = (Decides-int_eq s.pos t.pos).0 (and_first _ _ second) in
-      let place = (Decides-int_eq s.place t.place).0 (and_first _ _ third) in
-      let size = (Decides-int_eq s.size t.size).0 (and_second _ _ third) in
-      λ i. record { column = column i; pos = pos i; place = place i; size = size i },
-  λ e. subst (λ u. same_spot s u ≡ true) e (λ i. itself s.column i && (itself s.pos i && (itself s.place i && itself s.size i))),
-)
-
-pub spots_decide : (ss ts : List Spot) (b : Bool) → b ≡ pointwise same_spot ss ts → IsTrue b ↔ (ss ≡ ts)
-spots_decide ss ts b is = slice_eq-Decides spot_decides ss ts b is
+use Rattle.ft_rows.specs.Terms.{spot_of, joined, lists_of_postings, AreFirstList, lists_by_terms}
+use Rattle.ft_store.specs.Found.{found_places}
+use Rattle.ft_store.specs.Expected.{left_under, left_of, HasMore, IsList}
 
 -- ---- terms
 
@@ -45,21 +20,45 @@ inside_terms [] (suc i) n h = absurd h
 inside_terms (t ∷ ts) zero n h = omega arith
 inside_terms (t ∷ ts) (suc i) n h = omega (arith, inside_terms ts i n h)
 
+term_here : (ts : List TermLists) (i n : ℕ) (t : TermLists) → HasMore (drop i ts) n → t ≡ get_or ts i t → drop i ts ≡ t ∷ drop (i + 1) ts
+term_here ts i n t h is = drop_more ts i t (inside_terms ts i n h) ∙ ap (λ u. u ∷ drop (i + 1) ts) (sym is)
+
+-- postings of the term are left
+inside_postings : (ts : List TermLists) (i n : ℕ) (t : TermLists) → HasMore (drop i ts) n → t ≡ get_or ts i t → n < length t.postings.items
+inside_postings ts i n t h is = subst (λ us. HasMore us n) (term_here ts i n t h is) h
+
 -- the next list, and what is left behind it
-pub next_list : (tab : ℤ) (ts : List TermLists) (i n : ℕ) (t : TermLists) (l : ListRow) → HasMore (drop i ts) n → t ≡ get_or ts i t → l ≡ get_or t.lists.items n l
-    → left_of tab (drop i ts) n ≡ ((tab, string_bytes t.term, l.docid), l.spots.items) ∷ left_of tab (drop i ts) (n + 1)
-next_list tab ts i n t l h is at =
-    let key : ListRow → ListKey × List Spot = λ r. ((tab, string_bytes t.term, r.docid), r.spots.items) in
-    let lists = t.lists.items in
-    let here : drop i ts ≡ t ∷ drop (i + 1) ts = drop_more ts i t (inside_terms ts i n h) ∙ ap (λ u. u ∷ drop (i + 1) ts) (sym is) in
-    let within : n < length lists = subst (λ us. HasMore us n) here h in
-    let first : drop n (lists_under tab t) ≡ key l ∷ drop (n + 1) (lists_under tab t) =
-    drop-map key n lists ∙ ap (map key) (drop_more lists n l within ∙ ap (λ r. r ∷ drop (n + 1) lists) (sym at)) ∙ ap (λ ls. key l ∷ ls) (sym (drop-map key (n + 1) lists)) in
-    ap (λ us. left_of tab us n) here ∙ ap (λ ls. ls ++ lists_by_terms tab (drop (i + 1) ts)) first ∙ ap (λ us. key l ∷ left_of tab us (n + 1)) (sym here)
+next_list : (tab : ℤ) (ts : List TermLists) (i n : ℕ) (t : TermLists) (p : Posting) (ps : List Posting) (count : ℕ) → HasMore (drop i ts) n → t ≡ get_or ts i t → p ∷ ps ≡ drop n t.postings.items → AreFirstList (p ∷ ps) count
+    → left_of tab (drop i ts) n ≡ ((tab, string_bytes t.term, p.docid), map spot_of (take count (p ∷ ps))) ∷ left_of tab (drop i ts) (n + count)
+next_list tab ts i n t p ps count h is rest first =
+    let key : ℤ × List Spot → ListKey × List Spot = λ l. ((tab, string_bytes t.term, l.0), l.1) in
+    let list : ListKey × List Spot = ((tab, string_bytes t.term, p.docid), map spot_of (take count (p ∷ ps))) in
+    let here = term_here ts i n t h is in
+    let behind : drop count (p ∷ ps) ≡ drop (n + count) t.postings.items = ap (drop count) rest ∙ drop-drop count n t.postings.items in
+    let under : left_under tab t n ≡ list ∷ left_under tab t (n + count) =
+    ap (λ qs. map key (lists_of_postings qs)) (sym rest) ∙ ap (map key) first.2 ∙ ap (λ qs. list ∷ map key (lists_of_postings qs)) behind in
+    ap (λ us. left_of tab us n) here ∙ ap (λ ls. ls ++ lists_by_terms tab (drop (i + 1) ts)) under ∙ ap (λ us. list ∷ left_of tab us (n + count)) (sym here)
+
+-- where postings are left, lists are
+some_joined : (p : Posting) (ls : List (ℤ × List Spot)) → joined p ls ≡ [] → ⊥
+some_joined p [] e = cc
+some_joined p (l ∷ ls) e = go (int_eq p.docid l.0) e
+  where
+    go : (b : Bool) → cond b ((p.docid, p.spot ∷ l.1) ∷ ls) ((p.docid, p.spot ∷ []) ∷ l ∷ ls) ≡ [] → ⊥
+    go true e = cc
+    go false e = cc
+
+some_under : (key : ℤ × List Spot → ListKey × List Spot) (ps : List Posting) (more : List (ListKey × List Spot)) → 0 < length ps → map key (lists_of_postings ps) ++ more ≡ [] → ⊥
+some_under key [] more h e = absurd (omega arith)
+some_under key (p ∷ ps) more h e = some_joined p (lists_of_postings ps) (none key (lists_of_postings (p ∷ ps)) more e)
+  where
+    none : (key : ℤ × List Spot → ListKey × List Spot) (ls : List (ℤ × List Spot)) (more : List (ListKey × List Spot)) → map key ls ++ more ≡ [] → ls ≡ []
+    none key [] more e = refl
+    none key (l ∷ ls) more e = absurd (let no = e in cc)
 
 pub some_left : (tab : ℤ) (ts : List TermLists) (n : ℕ) → HasMore ts n → left_of tab ts n ≡ [] → ⊥
 some_left tab [] n h e = h
-some_left tab (t ∷ ts) n h e = omega (arith, simp (length-append, length-drop, length-map) at (ap length e))
+some_left tab (t ∷ ts) n h e = some_under (λ l. ((tab, string_bytes t.term, l.0), l.1)) (drop n t.postings.items) (lists_by_terms tab ts) (omega (arith, length-drop n t.postings.items)) e
 
 -- ---- rows
 
@@ -96,3 +95,16 @@ module _ {X Y : Type 0} (found : X → Y) (rows : List X) where
   -- rows that no others can follow to become the lists that are expected
   pub others_at_end : (all value : List Y) → map found rows ≡ value → ((more : List X) → map found (rows ++ more) ≡ all → ⊥) → IsTrue false ↔ (value ≡ all)
   others_at_end all value shown others = (λ t. absurd (true≢false (sym t)), λ e. absurd (others [] (ap (map found) (append-nil rows) ∙ shown ∙ e)))
+
+-- ---- the next list
+
+-- a row more is the list that the first of the postings left make, or another one
+pub next_found : (tab : ℤ) (ts : List TermLists) (i n : ℕ) (t : TermLists) (left list : List Posting) (count : ℕ) → HasMore (drop i ts) n → t ≡ get_or ts i t → left ≡ drop n t.postings.items → AreFirstList left count → list ≡ take count left
+    → (rows : List Row) (all : List (ListKey × List Spot)) → map (found_places tab) rows ++ left_of tab (drop i ts) n ≡ all → (row : Row) (same : Bool) → IsTrue same ↔ IsList tab row (string_bytes t.term) list
+    → MatchBool same (map (found_places tab) (rows ++ row ∷ []) ++ left_of tab (drop i ts) (n + count) ≡ all) ((more : List Row) → map (found_places tab) ((rows ++ row ∷ []) ++ more) ≡ all → ⊥)
+next_found tab ts i n t [] list count h is rest first front rows all so_far row same decided =
+    let within = inside_postings ts i n t h is in
+    absurd (omega (arith, ap length rest, length-drop n t.postings.items))
+next_found tab ts i n t (p ∷ ps) list zero h is rest first front rows all so_far row same decided = absurd (omega (arith, first.0))
+next_found tab ts i n t (p ∷ ps) list (suc k) h is rest first front rows all so_far row same decided =
+    row_found (found_places tab) rows _ all so_far row _ _ same (next_list tab ts i n t p ps (suc k) h is rest first) (subst (λ (l : List Posting). IsTrue same ↔ IsList tab row (string_bytes t.term) l) front decided)

@@ -1,24 +1,23 @@
 //! Whether the lists of a table are exactly those that are expected.
-ghost use Rattle.std.specs.Prelude.{◌≡◌, ◌↔◌, ℤ, ◌-◌, ◌^◌, min, drop, [], IsTrue, MatchBool};
+ghost use Rattle.std.specs.Prelude.{◌≡◌, ◌↔◌, ℤ, ◌-◌, ◌^◌, min, map, drop, [], Some, IsTrue, MatchBool};
 ghost use Rattle.std.specs.Ordering.{int_eq};
 ghost use Rattle.std.specs.FinMap.Entries.{where_key};
 ghost use Rattle.sqlite.specs.Held.{state};
+ghost use Rattle.sqlite.specs.Order.{column};
+ghost use Rattle.sqlite_value.specs.Order.{bytes};
+ghost use Rattle.ft_rows.specs.Packed.{spots_in};
 ghost use Rattle.ft_rows.specs.Store.{list_key_cmp};
-ghost use Rattle.ft_rows.specs.Terms.{lists_by_terms};
+ghost use Rattle.ft_rows.specs.Terms.{spot_of, lists_by_terms};
 ghost use Rattle.ft_store.specs.Rows.{value_of};
-ghost use Rattle.ft_store.specs.Found.{found_spots, found_places};
-ghost use Rattle.ft_store.specs.Expected.{left_of, HasMore, place_count};
+ghost use Rattle.ft_store.specs.Expected.{left_of, HasMore, IsList, place_count};
 ghost use Rattle.ft_store.specs.Calls.{IsAtRest};
 ghost use Rattle.ft_store.specs.Settled.{Finds, ReadsFor};
 
 use crate::fault::StoreFault;
-use crate::lists::count_spots;
 use crate::stream::{Gathered, gather};
-use ft_rows::{TermLists, unpack};
-use ft_values::{ListRow, Spot};
+use ft_rows::{Posting, TermLists, first_list, is_list_of};
 use sqlite::types::ValueRef;
 use sqlite::{Alter, Connection, Row, params};
-use std::alloc::Global;
 
 /// How many places the lists of terms have, up to 2^64 - 1.
 pub(crate) fn count_places(terms: &[TermLists]) -> u64
@@ -26,7 +25,7 @@ pub(crate) fn count_places(terms: &[TermLists]) -> u64
 {
     let mut count: u64 = 0;
     for term in terms {
-        count = count.saturating_add(count_spots(term.lists.as_slice()));
+        count = count.saturating_add(term.postings.len() as u64);
     }
     count
 }
@@ -34,11 +33,10 @@ pub(crate) fn count_places(terms: &[TermLists]) -> u64
 /// Lists that are expected, by their terms, of which those before a place were found.
 #[derive(Drop)]
 struct Expected {
-    alloc: Global,
     terms: Vec<TermLists>,
-    // the place of a term, and how many of its lists were found
+    // the place of a term, and how many of its postings were found
     term: usize,
-    list: usize,
+    posting: usize,
 }
 
 impl Expected {
@@ -46,49 +44,51 @@ impl Expected {
     fn find_next(&mut self) -> bool
         ensures terms { self.new.terms ≡ self.old.terms }
         ensures left { (tab : ℤ)
-            → left_of tab (drop self.new.term self.new.terms.items) self.new.list
-            ≡ left_of tab (drop self.old.term self.old.terms.items) self.old.list }
+            → left_of tab (drop self.new.term self.new.terms.items) self.new.posting
+            ≡ left_of tab (drop self.old.term self.old.terms.items) self.old.posting }
         ensures next { MatchBool result
-            (HasMore (drop self.new.term self.new.terms.items) self.new.list)
-            ((tab : ℤ) → left_of tab (drop self.new.term self.new.terms.items) self.new.list ≡ []) }
+            (HasMore (drop self.new.term self.new.terms.items) self.new.posting)
+            ((tab : ℤ)
+            → left_of tab (drop self.new.term self.new.terms.items) self.new.posting ≡ []) }
     {
         'terms: while self.term < self.terms.len() {
-            if self.list < self.terms[self.term].lists.len() {
+            if self.posting < self.terms[self.term].postings.len() {
                 return true;
             }
             self.term += 1;
-            self.list = 0;
+            self.posting = 0;
         }
         false
     }
 }
 
-/// Whether the second column has these places as a packed list. Damaged bytes have none.
-fn has_spots(alloc: Global, row: &Row, spots: &[Spot]) -> Result<bool, StoreFault>
-    ensures { Finds result (λ b. IsTrue b ↔ ((found_spots row.now).1 ≡ spots.now)) }
+/// Whether the second column is the packed list of these postings: no other bytes stand for them.
+fn has_spots(row: &Row, postings: &[Posting]) -> Result<bool, StoreFault>
+    ensures { Finds result (λ b. IsTrue b
+        ↔ (spots_in (bytes (column row.now 1)) ≡ Some (map spot_of postings.now))) }
 {
     let ValueRef::Blob(bytes) = row.get_ref(1)? else {
         return Err(StoreFault::Refused);
     };
-    match unpack(alloc, bytes)? {
-        Some(found) => Ok(found.as_slice() == spots),
-        None => Ok(spots.is_empty()),
-    }
+    Ok(is_list_of(bytes, postings))
 }
 
-/// Whether a row, in which docid and packed list come before the term, is this list of the term.
-fn is_list(alloc: Global, row: &Row, term: &str, list: &ListRow) -> Result<bool, StoreFault>
-    ensures { Finds result (λ b. (tab : ℤ) → IsTrue b ↔ (found_places tab row.now
-        ≡ ((tab, term.now, list.now.docid), list.now.spots.items))) }
+/// Whether a row, in which docid and packed list come before the term, is this list of the term. No row is the list of
+/// no postings.
+fn is_list(row: &Row, term: &str, list: &[Posting]) -> Result<bool, StoreFault>
+    ensures { Finds result (λ b. (tab : ℤ) → IsTrue b ↔ IsList tab row.now term.now list.now) }
 {
     let docid: i64 = row.get(0)?;
     let ValueRef::Text(bytes) = row.get_ref(2)? else {
         return Err(StoreFault::Refused);
     };
-    if docid != list.docid || bytes != term.as_bytes() {
+    let Some(first) = list.first() else {
+        return Ok(false);
+    };
+    if docid != first.docid || bytes != term.as_bytes() {
         return Ok(false);
     }
-    has_spots(alloc, row, list.spots.as_slice())
+    has_spots(row, list)
 }
 
 impl Gathered for Expected {
@@ -101,10 +101,12 @@ impl Gathered for Expected {
     ghost expects = { λ made. made.terms.items };
 
     ghost is_made_of = { λ made whole rows. (tab : ℤ) → MatchBool whole
-        (map (found_places tab) rows ++ left_of tab (drop made.term made.terms.items) made.list
+        (map (found_places tab) rows
+        ++ left_of tab (drop made.term made.terms.items) made.posting
         ≡ lists_by_terms tab made.terms.items)
         ((more : List order.Row)
-        → map (found_places tab) (rows ++ more) ≡ lists_by_terms tab made.terms.items → ⊥) };
+        → map (found_places tab) (rows ++ more)
+        ≡ lists_by_terms tab made.terms.items → ⊥) };
 
     fn add(&mut self, whole: bool, row: &Row) -> Result<bool, StoreFault> {
         if !whole {
@@ -114,8 +116,11 @@ impl Gathered for Expected {
             return Ok(false);
         }
         let term = &self.terms[self.term];
-        let same = is_list(self.alloc, row, term.term.as_str(), &term.lists[self.list])?;
-        self.list += 1;
+        let (_, rest) = term.postings.as_slice().split_at(self.posting);
+        let count = first_list(rest);
+        let (list, _) = rest.split_at(count);
+        let same = is_list(row, term.term.as_str(), list)?;
+        self.posting += count;
         Ok(same)
     }
 }
@@ -123,7 +128,6 @@ impl Gathered for Expected {
 /// Whether the lists of a table are exactly these, by their terms.
 pub(crate) fn has_lists<S: Alter>(
     conn: &mut Connection<S>,
-    alloc: Global,
     tab: i64,
     terms: Vec<TermLists>,
 ) -> Result<bool, StoreFault>
@@ -133,10 +137,9 @@ pub(crate) fn has_lists<S: Alter>(
         (value_of (state S.Store conn.old).now.trees).lists ≡ lists_by_terms tab terms.items)) }
 {
     let mut expected = Expected {
-        alloc,
         terms,
         term: 0,
-        list: 0,
+        posting: 0,
     };
     let whole = gather(
         conn,

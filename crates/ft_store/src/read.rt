@@ -72,7 +72,8 @@ impl Gathered for CellsOf {
     ghost use Rattle.ft_rows.specs.Shown.{shown_cell};
 
     ghost is_made_of = { λ made whole rows.
-        IsTrue whole × ((tab : ℤ) → map (shown_cell tab) made.cells.items ≡ map (found_cell tab) rows) };
+        IsTrue whole
+        × ((tab : ℤ) → map (shown_cell tab) made.cells.items ≡ map (found_cell tab) rows) };
 
     fn add(&mut self, whole: bool, row: &Row) -> Result<bool, StoreFault> {
         self.cells.push(cell_row(row)?)?;

@@ -325,7 +325,7 @@ impl<S: Alter> Store<S> {
             (λ b. if b then place_count terms.items else 0) IsPlainFault }
     {
         let places = count_places(terms.as_slice());
-        let same = expected::has_lists(&mut self.conn, self.alloc, tab, terms)?;
+        let same = expected::has_lists(&mut self.conn, tab, terms)?;
         if same {
             self.rows_read = self.rows_read.saturating_add(places);
         }

@@ -39,7 +39,8 @@ pub(crate) fn gather<S: Alter, G: Gathered>(
     ensures given { ReadsFor S.Store conn.old conn.new result
         (λ whole. GivesRows S.Store conn.old conn.new sql.now (bound params.now)
         (G.Gathered.is_made_of into.new whole)) }
-    ensures expects { IfOk result (λ _. G.Gathered.expects into.new ≡ G.Gathered.expects into.old) }
+    ensures expects { IfOk result (λ _.
+        G.Gathered.expects into.new ≡ G.Gathered.expects into.old) }
 {
     let _schema = conn.schema();
     let _settled = conn.is_autocommit();

@@ -2,7 +2,7 @@
 
 use super::begun;
 use crate::empty::{Begins, Trial, tried};
-use ft_store::{ListRow, Spot, TermLists};
+use ft_store::{Posting, Spot, TermLists};
 use std::alloc::{AllocError, Global};
 use std::test::Fail;
 
@@ -16,18 +16,22 @@ const DAMAGED: &str =
     "INSERT INTO posting VALUES (1, 'pear', 2, x'00010404'), (1, 'pear', 5, x'00000004'),
     (1, 'red', 2, x'00')";
 
-// A document with a place of a term: its position, where its bytes begin, and how many they are.
-type Document = (i64, i64, i64, i64);
+// The term `pear` twice in one document and once in another.
+const TWICE: &str =
+    "INSERT INTO posting VALUES (1, 'pear', 2, x'0001040400010504'), (1, 'pear', 5, x'00000004')";
 
-// A term and its documents.
-type Term = (&'static str, &'static [Document]);
+// A document with a place of a term: its position, where its bytes begin, and how many they are.
+type Place = (i64, i64, i64, i64);
+
+// A term and its places.
+type Term = (&'static str, &'static [Place]);
 
 const PEAR: Term = ("pear", &[(2, 1, 4, 4), (5, 0, 0, 4)]);
 
 const RED: Term = ("red", &[(2, 0, 0, 3)]);
 
 // What is asked of which rows, what is answered, and how many rows were read then.
-const TRIALS: [(&str, &[Term], bool, u64); 11] = [
+const TRIALS: [(&str, &[Term], bool, u64); 15] = [
     (ROWS, &[PEAR, RED], true, 3),
     (ROWS, &[PEAR, ("plum", &[]), RED, ("zoo", &[])], true, 3),
     (ROWS, &[], false, 0),
@@ -43,34 +47,37 @@ const TRIALS: [(&str, &[Term], bool, u64); 11] = [
     (ROWS, &[PEAR, ("redo", &[(2, 0, 0, 3)])], false, 0),
     (ROWS, &[PEAR, ("red", &[(2, 0, 0, 4)])], false, 0),
     (DAMAGED, &[PEAR, RED], false, 0),
+    (TWICE, &[("pear", &[(2, 1, 4, 4), (2, 2, 9, 4), (5, 0, 0, 4)])], true, 3),
+    (TWICE, &[("pear", &[(2, 1, 4, 4), (5, 0, 0, 4)])], false, 0),
+    (TWICE, &[("pear", &[(2, 1, 4, 4), (2, 2, 9, 5), (5, 0, 0, 4)])], false, 0),
+    (TWICE, &[("pear", &[(2, 1, 4, 4), (2, 1, 4, 4), (5, 0, 0, 4)])], false, 0),
     ("", &[], true, 0),
 ];
 
-fn lists_of(alloc: Global, documents: &[Document]) -> Result<Vec<ListRow>, AllocError> {
-    let mut lists = Vec::new(alloc);
-    for (docid, pos, place, size) in documents {
-        let mut spots = Vec::new(alloc);
-        spots.push(Spot {
+fn postings_of(alloc: Global, places: &[Place]) -> Result<Vec<Posting>, AllocError> {
+    let mut postings = Vec::new(alloc);
+    for (docid, pos, place, size) in places {
+        let spot = Spot {
             column: 0,
             pos: *pos,
             place: *place,
             size: *size,
-        })?;
-        lists.push(ListRow {
+        };
+        postings.push(Posting {
             docid: *docid,
-            spots,
+            spot,
         })?;
     }
-    Ok(lists)
+    Ok(postings)
 }
 
 fn terms_of(alloc: Global, terms: &[Term]) -> Result<Vec<TermLists>, AllocError> {
     let mut found = Vec::new(alloc);
-    for (term, documents) in terms {
-        let lists = lists_of(alloc, documents)?;
+    for (term, places) in terms {
+        let postings = postings_of(alloc, places)?;
         found.push(TermLists {
             term: String::from_str(alloc, term)?,
-            lists,
+            postings,
         })?;
     }
     Ok(found)

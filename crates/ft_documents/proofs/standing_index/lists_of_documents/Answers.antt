@@ -3,14 +3,13 @@ use Rattle.std.proofs.Common.{◌≡◌, ◌==◌, [], ◌∷◌, ◌++◌, Some
 use Rattle.std.specs.Prelude.{slice_get}
 use Rattle.std.proofs.lemmas.List.{length-map}
 use Rattle.ft_values.specs.Cells.{Cell}
-use Rattle.ft_content.specs.Index.{key_cmp}
 use Rattle.ft_content.specs.Views.{column_of}
-use Rattle.ft_documents.specs.RewriteRows.{shown_list, all_put, sizes_in, lists_of, sizes_of}
+use Rattle.ft_documents.specs.Joins.{CanJoin}
+use Rattle.ft_documents.specs.RewriteRows.{lists_with, lists_of}
 use Rattle.ft_documents.specs.Standing.{shown_row, shown_size, cell_in, same_size, after_first, own_sizes, rest_passes, are_sizes_of}
 use Rattle.ft_documents.specs.Terms.{lists_in_terms}
-use Rattle.ft_documents.proofs.TermLemmas.{HaveDocid}
-use Rattle.ft_documents.proofs.JoinedLists.{own_docid, no_lists}
-use Rattle.ft_documents.proofs.StandingIndex.{head, none_left, one_more, all_lower}
+use Rattle.ft_documents.proofs.JoinedLists.{no_lists}
+use Rattle.ft_documents.proofs.StandingIndex.{head, none_left, one_more}
 use Rattle.ft_documents.proofs.standing_index.lists_of_documents.Goals as goal
 
 pub loop-first-init : goal.loop-first-init
@@ -23,17 +22,18 @@ returns-then-cells-columns c = λ documents have sorted.
     let h = head (map column_of c.args.columns.now) (length c.args.columns.now) c.loop-first.cells.now c.in-Some.first.now (map shown_size c.loop-first.sizes.now) _ c.requires here left.documents left.have left.sizes_are in
     absurd (omega (arith, h.long, c.if-cells-columns.true))
 
-pub returns-in_default-count_sizes : goal.returns-in_default-count_sizes
-returns-in_default-count_sizes c = λ documents have sorted.
+pub returns-in_default-2 : goal.returns-in_default-2
+returns-in_default-2 c = λ documents have sorted.
     let left = c.loop-first.invariant documents have sorted in
     let here : slice_get c.loop-first.cells.now 0 ≡ Some c.in-Some.first.now = search rules in
     let columns = map column_of c.args.columns.now in
+    let docid = c.in-Some.first.now.docid in
     let old = map shown_size c.loop-first.sizes.now in
     let h = head columns (length c.args.columns.now) c.loop-first.cells.now c.in-Some.first.now old _ c.requires here left.documents left.have left.sizes_are in
-    let d : to_z w64 (of_z w64 c.in-Some.first.now.docid) ≡ c.in-Some.first.now.docid = search rules in
+    let d : to_z w64 (of_z w64 docid) ≡ docid = search rules in
     let own : map cell_in c.split_at.result.0.now ≡ h.own = ap (map cell_in) c.split_at.ensures.front ∙ h.cells_are in
-    let sizes : sizes_in c.in_ok-index.index ≡ own_sizes columns (c.in-Some.first.now.docid, h.own) = c.in_ok-index.ensures.sizes ∙ (λ i. sizes_of columns ((d i, own i) ∷ [])) in
-    sym (ap (λ o. rest_passes o (are_sizes_of columns h.others)) (c.in_default-count_sizes.ensures.rest ∙ ap (λ xs. after_first same_size xs old) sizes) ∙ h.is)
+    let rest = rw c.in_default-2.is at c.in_ok-count.ensures.rest in
+    sym (ap (λ o. rest_passes o (are_sizes_of columns h.others)) (rest ∙ (λ i. after_first same_size (own_sizes columns (d i, own i)) old)) ∙ h.is)
 
 pub loop-first-preserved : goal.loop-first-preserved
 loop-first-preserved c = λ documents have sorted.
@@ -47,18 +47,18 @@ loop-first-preserved c = λ documents have sorted.
     let d : to_z w64 (of_z w64 docid) ≡ docid = search rules in
     let own : map cell_in c.split_at.result.0.now ≡ h.own = ap (map cell_in) c.split_at.ensures.front ∙ h.cells_are in
     let document : ℤ × List Cell = (docid, h.own) in
-    let sizes : sizes_in c.in_ok-index.index ≡ own_sizes columns document = c.in_ok-index.ensures.sizes ∙ (λ i. sizes_of columns ((d i, own i) ∷ [])) in
-    let size_rest = c.in-Some-count_sizes.ensures.rest ∙ ap (λ xs. after_first same_size xs old) sizes in
-    let own_lists : map shown_list c.into_parts.result.0.entries ≡ lists_of columns (document ∷ []) = ap (λ m. map shown_list m.entries) c.into_parts.ensures.0 ∙ c.in_ok-index.ensures.lists ∙ (λ i. lists_of columns ((d i, own i) ∷ [])) in
+    let joins = rw c.in-Some-2.is at c.in_ok-count.ensures in
+    let size_rest = joins.rest ∙ (λ i. after_first same_size (own_sizes columns (d i, own i)) old) in
     let are : left.before ++ document ∷ h.others ≡ documents = ap (λ ds. left.before ++ ds) (sym h.are) ∙ left.all_are in
+    let grown : CanJoin docid lists → lists_in_terms c.add_document.new.lists ≡ lists_with columns (document ∷ []) lists =
+    λ can. joins.lists (subst (λ n. CanJoin n lists) (sym d) can) ∙ (λ i. lists_with columns ((d i, own i) ∷ []) lists) in
     record {
       before = left.before ++ document ∷ [];
       documents = h.others;
       all_are = append_assoc left.before (document ∷ []) h.others ∙ are;
       have = record { each = h.have.each; are = ap (map shown_row) c.split_at.ensures.back ∙ h.have.are };
       sizes_are = ap (λ rows. are_sizes_of columns h.others (map shown_size rows)) c.split_at-in-Some.ensures.back ∙ ap (λ o. rest_passes o (are_sizes_of columns h.others)) size_rest ∙ h.is;
-      lists_are = c.in_ok-add.ensures docid (subst (HaveDocid docid) (sym own_lists) (own_docid columns document)) (all_lower columns left.before document h.others documents lists are sorted left.lists_are)
-          ∙ ap (λ ls. all_put key_cmp ls lists) own_lists ∙ one_more columns left.before document h.others documents lists are sorted left.lists_are;
+      lists_are = one_more columns left.before document h.others documents lists _ are sorted left.lists_are grown;
     }
 
 pub returns-then-is_empty : goal.returns-then-is_empty

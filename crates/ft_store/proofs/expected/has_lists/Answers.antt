@@ -31,7 +31,7 @@ returns g c = record {
             let next = w.find_next in
             let so_far = rw w.if-whole.true at made in
             let found = ap (λ ls. map (found_places tab) h.0 ++ ls) (next.ensures.left tab) ∙ so_far ∙ terms in
-            rw w.result-is (at_end (found_places tab) h.0 _ _ found _ _ _ next.result shown next.ensures.next (some_left tab (drop next.new.self.term next.new.self.terms.items) next.new.self.list) (λ none. none tab))
+            rw w.result-is (at_end (found_places tab) h.0 _ _ found _ _ _ next.result shown next.ensures.next (some_left tab (drop next.new.self.term next.new.self.terms.items) next.new.self.posting) (λ none. none tab))
         | else-whole w ↦ rw (w.result-is, w.if-whole.false) (others_at_end (found_places tab) h.0 _ _ shown (λ more e. (rw w.if-whole.false at made) more (e ∙ sym terms)))
       ];
   read = record { kept = c.in_ok-whole.ensures.given.read.kept; live = c.in_ok-whole.ensures.given.read.live; mode = c.in_ok-whole.ensures.given.read.mode; survives = c.in_ok-whole.ensures.given.read.survives; fault = search rules };

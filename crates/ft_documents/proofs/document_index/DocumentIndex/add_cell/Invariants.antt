@@ -5,7 +5,7 @@ use Rattle.ft_values.specs.Cells.{shown_value}
 use Rattle.ft_rows.specs.Store.{column_key_cmp}
 use Rattle.ft_content.specs.Content.{cell_text}
 use Rattle.ft_documents.specs.RewriteRows.{lists_in, sizes_in, with_entries, cell_entries, cell_sizes, sized, all_put}
-use Rattle.ft_documents.proofs.TokenSteps.{AreSmall}
+use Rattle.ft_documents.specs.MadeIndex.{AreSmall}
 use Rattle.ft_documents.proofs.document_index.DocumentIndex.add_cell.Given as goal
 
 -- the tokens so far are in the lists, and the others join them

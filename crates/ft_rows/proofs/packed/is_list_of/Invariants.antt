@@ -1,0 +1,15 @@
+-- the tests of all places are those of the places to come, and so is what comes behind their bytes
+use Rattle.std.proofs.Common.{◌≡◌, true, map, drop}
+use Rattle.std.specs.Prelude.{◌==◌}
+use Rattle.std.specs.List.{flat_map}
+use Rattle.ft_rows.specs.Packed.{leb128, numbers_after, origin, plain_spot, packed_spots}
+use Rattle.ft_rows.specs.Terms.{spot_of}
+use Rattle.ft_rows.specs.Unpacking.{behind}
+use Rattle.ft_rows.proofs.PackTests.{tests}
+use Rattle.ft_rows.proofs.packed.is_list_of.Given as goal
+
+abbrev pub invariant-loop-at : goal.invariant-loop-at
+invariant-loop-at l =
+    let to_come = map spot_of (drop l.at l.postings) in
+    (tests true origin (map spot_of l.postings) ≡ tests (l.at == 0) (plain_spot l.last) to_come)
+    × (behind (packed_spots (map spot_of l.postings)) l.bytes ≡ behind (flat_map leb128 (numbers_after (plain_spot l.last) (map plain_spot to_come))) l.left)
