@@ -1,9 +1,9 @@
 //! The postings of documents by their terms.
-ghost use Rattle.std.specs.Prelude.{◌≡◌, ◌++◌, [], map, IfOk, OnOk};
+ghost use Rattle.std.specs.Prelude.{◌≡◌, ◌++◌, map, IfOk, OnOk};
 ghost use Rattle.ft_rows.specs.Changes.{shown_change};
 ghost use Rattle.ft_rows.specs.Terms.{spot_of};
 ghost use Rattle.ft_documents.specs.RewriteRows.{put_lists};
-ghost use Rattle.ft_documents.specs.Terms.{lists_of_term, gathered};
+ghost use Rattle.ft_documents.specs.Terms.{lists_of_term};
 
 use crate::tokens::{cell_tokens, spot_of};
 use ft_content::Value;
@@ -11,7 +11,7 @@ use ft_query::Token;
 use ft_rows::{Posting, TermLists, first_list};
 use ft_values::{RowChange, Spot};
 use std::alloc::{AllocError, Global};
-use std::collections::{BTreeMap, HashMap};
+use std::collections::HashMap;
 
 /// The postings of documents, which come by rising docid, under their terms. A term is found by its hash, and the terms
 /// are put in order once, at the end: there is a step for each posting, and far fewer terms.
@@ -97,10 +97,11 @@ impl TermIndex {
             ≡ terms.lists_in_terms self) }
     {
         let TermIndex { alloc, terms } = self;
-        let mut found = Vec::new(alloc);
-        for (term, postings) in by_terms(alloc, terms)? {
+        let mut found = Vec::with_capacity(alloc, terms.len())?;
+        for (term, postings) in terms {
             found.push(TermLists { term, postings })?;
         }
+        found.sort_unstable_by(|one, other| one.term.cmp(&other.term));
         Ok(found)
     }
 
@@ -110,26 +111,18 @@ impl TermIndex {
             ≡ map shown_change changes.old.items ++ rows.put_lists tab
             (terms.lists_in_terms self)) }
     {
-        let TermIndex { alloc, terms } = self;
-        for (term, postings) in by_terms(alloc, terms)? {
-            put_term(alloc, changes, tab, term.as_str(), postings.as_slice())?;
+        let alloc = self.alloc;
+        for lists in self.into_lists()? {
+            put_term(
+                alloc,
+                changes,
+                tab,
+                lists.term.as_str(),
+                lists.postings.as_slice(),
+            )?;
         }
         Ok(())
     }
-}
-
-// The same, by rising terms.
-fn by_terms(
-    alloc: Global,
-    terms: HashMap<String, Vec<Posting>>,
-) -> Result<BTreeMap<String, Vec<Posting>>, AllocError>
-    ensures { IfOk result (λ found. found.entries ≡ gathered [] terms.entries) }
-{
-    let mut found = BTreeMap::new(alloc);
-    for (term, postings) in terms {
-        found.insert(term, postings)?;
-    }
-    Ok(found)
 }
 
 // Puts the lists of a term.

@@ -46,8 +46,11 @@ impl<P: Alter, S: Alter> Model for Session<P, S> {
 
     ghost coded = { parts_code P.code S.code };
 
-    ghost view = { λ s. record { settings = s.settings; plain = s.plain;
-        full_text = s.full_text } };
+    ghost view = { λ s. record {
+      settings = s.settings;
+      plain = s.plain;
+      full_text = s.full_text;
+    } };
 }
 
 impl<P: Alter, S: Alter> Session<P, S> {

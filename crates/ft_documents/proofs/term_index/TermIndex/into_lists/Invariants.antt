@@ -1,7 +1,7 @@
--- the lists so far
-use Rattle.std.proofs.Common.{◌≡◌}
-use Rattle.ft_documents.specs.Terms.{lists_of_terms, lists_in_groups}
+-- the terms so far, and those that are left
+use Rattle.std.proofs.Common.{◌≡◌, ◌++◌, map}
+use Rattle.ft_documents.proofs.SortedTerms.{group_of}
 use Rattle.ft_documents.proofs.term_index.TermIndex.into_lists.Given as goal
 
 abbrev pub invariant-loop-term : goal.invariant-loop-term
-invariant-loop-term l = lists_of_terms l.found.items ≡ lists_in_groups l.yielded
+invariant-loop-term l = map group_of l.found.items ++ l.term-iterator ≡ l.fn.self.terms.entries

@@ -2,8 +2,8 @@
 use Rattle.std.proofs.Common.{◌≡◌, ◌++◌, map}
 use Rattle.ft_rows.specs.Changes.{shown_change}
 use Rattle.ft_documents.specs.RewriteRows.{put_lists}
-use Rattle.ft_documents.specs.Terms.{lists_in_groups}
+use Rattle.ft_documents.specs.Terms.{lists_of_terms}
 use Rattle.ft_documents.proofs.term_index.TermIndex.put_lists.Given as goal
 
-abbrev pub invariant-loop-term : goal.invariant-loop-term
-invariant-loop-term l = map shown_change l.changes.items ≡ map shown_change l.fn.changes.items ++ put_lists l.tab (lists_in_groups l.yielded)
+abbrev pub invariant-loop-lists : goal.invariant-loop-lists
+invariant-loop-lists l = map shown_change l.changes.items ≡ map shown_change l.fn.changes.items ++ put_lists l.tab (lists_of_terms l.yielded)
