@@ -20,10 +20,10 @@ use Rattle.ft_rows.specs.declared.terms.Posting.{Posting}
 use Rattle.ft_documents.specs.Terms.{Group, term_cmp, gathered, lists_of_term, lists_in_groups}
 use Rattle.ft_documents.proofs.TermLemmas.{is_term, term_total, all_above}
 
-abbrev pub Term : Type 0
+abbrev Term : Type 0
 Term = String Global
 
-abbrev pub Found : Type 0
+abbrev Found : Type 0
 Found = Option (Vec Posting Global)
 
 same_term : IsEquivalence (eq_by_cmp term_cmp)
@@ -38,7 +38,7 @@ under q gs = lookup (is_term q) gs
 abbrev pub held_under : Term → List Group → Found
 held_under q gs = lookup (string_eq q) gs
 
-pub under_is : (q : Term) (gs : List Group) → under q gs ≡ held_under q gs
+under_is : (q : Term) (gs : List Group) → under q gs ≡ held_under q gs
 under_is q gs = ap (λ test. lookup test gs) (λ i t. is_eq-slice_cmp (string_bytes q) (string_bytes t) i)
 
 -- ---- one more

@@ -38,7 +38,6 @@ pub mod RewriteLemmas
 pub mod RightLemmas
 pub mod RisingRows
 pub mod RowKinds
-pub mod SortedTerms
 pub mod StandingCells
 pub mod StandingContent
 pub mod StandingIndex

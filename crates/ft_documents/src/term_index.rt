@@ -14,7 +14,7 @@ use std::alloc::{AllocError, Global};
 use std::collections::HashMap;
 
 /// The postings of documents, which come by rising docid, under their terms. A term is found by its hash, and the terms
-/// are put in order once, at the end: there is a step for each posting, and far fewer terms.
+/// are sorted once, at the end: there is a step for each posting, and far fewer terms.
 #[derive(Drop)]
 pub(crate) struct TermIndex {
     alloc: Global,
