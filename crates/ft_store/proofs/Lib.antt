@@ -7,6 +7,7 @@ pub mod ChainLemmas
 pub mod ChangeLemmas
 pub mod EntryLemmas
 pub mod ExpectedLemmas
+pub mod FoundLemmas
 pub mod GroupLemmas
 pub mod InsideLemmas
 pub mod KeyedLemmas

@@ -14,13 +14,15 @@ use Rattle.ft_values.specs.declared.rows.ListRow.{ListRow}
 use Rattle.ft_values.specs.declared.rows.EntryRow.{EntryRow}
 use Rattle.ft_rows.specs.Store.{ListKey, nothing_held}
 use Rattle.ft_rows.specs.Shown.{shown_entry, entries_of, AreRead, AreWhole, SomeDamaged}
+use Rattle.ft_store.specs.declared.examine.Rowids.{Rowids}
+use Rattle.ft_store.specs.declared.examine.Rowids.TheVariants.{Apart, Unknown}
 use Rattle.ft_store.specs.declared.fault.StoreFault.{StoreFault}
 use Rattle.ft_store.specs.declared.fault.StoreFault.TheVariants as fault
 use Rattle.ft_store.specs.declared.same.Layout.{Layout}
 use Rattle.ft_store.specs.Tables.{no_schema}
 use Rattle.ft_store.specs.Rows.{value_of}
 use Rattle.ft_store.specs.Older.{schema_of}
-use Rattle.ft_store.specs.Calls.{IsStore, IsPlainFault, IsReadFault, Keeps, Reads}
+use Rattle.ft_store.specs.Calls.{AreNumbered, IsStore, IsPlainFault, IsReadFault, Keeps, Reads}
 use Rattle.ft_store.specs.Adopted.{IsOfVersion}
 
 -- Outside a transaction, with a database that has this property as long as the disk does what it is told and the connection is open.
@@ -43,6 +45,11 @@ IsBare db = db.schema ≡ no_schema
 -- it is a store without rows
 abbrev pub IsEmptyStore : Database → Type 0
 IsEmptyStore db = IsStore db × (value_of db.trees ≡ nothing_held)
+
+-- what is known of the rowids of its tables, as long as the disk does what it is told and the connection is open
+abbrev pub AreAsKnown : Rowids → State → Type 0
+AreAsKnown Apart s = HasCleanDisk s → IsTrue s.is_open → AreNumbered s.now.schema.tables s.now.trees
+AreAsKnown Unknown s = Unit {0}
 
 -- What is answered without a database: on Ok such a value, and otherwise a plain fault.
 pub record Finds {X : Type 0} (result : Result X StoreFault) (Is : X → Type 0) : Type 0 where

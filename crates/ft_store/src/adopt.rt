@@ -6,9 +6,9 @@ ghost use Rattle.sqlite.specs.Held.{state};
 ghost use Rattle.sqlite_schema.specs.Names.{same_name};
 ghost use Rattle.ft_store.specs.Adopted.{TellsAs, rows_cause, error_cause, told_cause, our_names, has_our_name, IsAdoptFault, IsTaken, IsNotTaken, LeavesMade};
 ghost use Rattle.ft_store.specs.Calls.{IsStoreIfOpen};
-ghost use Rattle.ft_store.specs.Settled.{LeavesAlone};
+ghost use Rattle.ft_store.specs.Settled.{AreAsKnown, LeavesAlone};
 
-use crate::examine::examine;
+use crate::examine::{Rowids, examine};
 use crate::fault::StoreFault;
 use crate::make::make;
 use crate::migrate::take_older;
@@ -114,8 +114,9 @@ fn foreign<S: Alter>(conn: &mut Connection<S>) -> StoreFault
 
 /// Takes a database as a store. One without objects becomes an empty store, and one of version 2 becomes one of version 3,
 /// each in one transaction.
-pub(crate) fn take<S: Alter>(conn: &mut Connection<S>) -> Result<(), StoreFault>
+pub(crate) fn take<S: Alter>(conn: &mut Connection<S>, rowids: Rowids) -> Result<(), StoreFault>
     requires settled { (state S.Store conn.old).in_transaction ≡ false }
+    requires known { AreAsKnown rowids (state S.Store conn.old) }
     ensures store { OnOk result (IsStoreIfOpen (state S.Store conn.new)) }
     ensures taken { OnOk result (IsTaken S.Store conn.old conn.new) }
     ensures refused { IfErr result (IsNotTaken S.Store conn.old conn.new) }
@@ -129,8 +130,8 @@ pub(crate) fn take<S: Alter>(conn: &mut Connection<S>) -> Result<(), StoreFault>
         return make(conn);
     }
     match layout {
-        Some(Layout::Present) => examine(conn, Layout::Present),
-        Some(Layout::Older) => take_older(conn),
+        Some(Layout::Present) => examine(conn, Layout::Present, rowids),
+        Some(Layout::Older) => take_older(conn, rowids),
         None => Err(foreign(conn)),
     }
 }

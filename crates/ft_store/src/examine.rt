@@ -9,13 +9,22 @@ ghost use Rattle.ft_store.specs.Scan.{Scans, tree_at};
 ghost use Rattle.ft_store.specs.Older.{schema_of, tables_of, version_of, IsStoreBy};
 ghost use Rattle.ft_store.specs.Adopted.{IsAdoptFault, IsOtherVersion};
 ghost use Rattle.ft_store.specs.Calls.{HasOwnRowids, AreNumbered, Reads};
-ghost use Rattle.ft_store.specs.Settled.{IsSettled, IsLaidOut, IsJudged, Finds, ReadsFor};
+ghost use Rattle.ft_store.specs.Settled.{AreAsKnown, IsSettled, IsLaidOut, IsJudged, Finds, ReadsFor};
 
 use crate::fault::StoreFault;
 use crate::read::select;
 use crate::same::Layout;
 use crate::stream::{Gathered, gather};
 use sqlite::{Alter, Connection, Row};
+
+/// What is known of the rowids of a database's tables.
+#[derive(Clone, Copy, PartialEq)]
+pub(crate) enum Rowids {
+    /// No two rows of a table have the same.
+    Apart,
+    /// Nothing, so that they are looked at.
+    Unknown,
+}
 
 /// How many tables a store has.
 fn tables_in(layout: Layout) -> usize
@@ -142,9 +151,14 @@ fn judge(found: Option<i64>, layout: Layout) -> Result<(), StoreFault>
     }
 }
 
-/// Whether a database with the tables of a store is a store. Nothing changes.
-pub(crate) fn examine<S: Alter>(conn: &mut Connection<S>, layout: Layout) -> Result<(), StoreFault>
-    requires { IsSettled (IsLaidOut layout) (state S.Store conn.old) }
+/// Whether a database with the tables of a store is a store. Nothing changes. Rowids that are known to be apart aren't read.
+pub(crate) fn examine<S: Alter>(
+    conn: &mut Connection<S>,
+    layout: Layout,
+    rowids: Rowids,
+) -> Result<(), StoreFault>
+    requires rest { IsSettled (IsLaidOut layout) (state S.Store conn.old) }
+    requires known { AreAsKnown rowids (state S.Store conn.old) }
     ensures store { HasCleanDisk (state S.Store conn.new)
         → OnOk result (IsStoreBy layout (state S.Store conn.new).now) }
     ensures judged { HasCleanDisk (state S.Store conn.new)
@@ -153,7 +167,7 @@ pub(crate) fn examine<S: Alter>(conn: &mut Connection<S>, layout: Layout) -> Res
 {
     let _schema = conn.schema();
     judge(version(conn, layout)?, layout)?;
-    if are_numbered(conn, layout)? {
+    if rowids == Rowids::Apart || are_numbered(conn, layout)? {
         Ok(())
     } else {
         Err(StoreFault::Refused)

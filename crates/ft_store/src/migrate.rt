@@ -9,9 +9,9 @@ ghost use Rattle.ft_store.specs.Made.{IsTabled, IsUnmarked};
 ghost use Rattle.ft_store.specs.Inside.{MakesInside};
 ghost use Rattle.ft_store.specs.Adopted.{IsAdoptFault};
 ghost use Rattle.ft_store.specs.Calls.{IsPlainFault, IsStored};
-ghost use Rattle.ft_store.specs.Settled.{IsSettled, IsLaidOut, IsJudged, MakesWhole};
+ghost use Rattle.ft_store.specs.Settled.{AreAsKnown, IsSettled, IsLaidOut, IsJudged, MakesWhole};
 
-use crate::examine::examine;
+use crate::examine::{Rowids, examine};
 use crate::fault::StoreFault;
 use crate::make::mark;
 use crate::same::Layout;
@@ -55,8 +55,12 @@ fn migrate<S: Alter>(conn: &mut Connection<S>) -> Result<(), StoreFault>
 }
 
 /// Takes a database with the tables of version 2 as a store. All of it is looked at before anything changes.
-pub(crate) fn take_older<S: Alter>(conn: &mut Connection<S>) -> Result<(), StoreFault>
-    requires { IsSettled (IsLaidOut Older) (state S.Store conn.old) }
+pub(crate) fn take_older<S: Alter>(
+    conn: &mut Connection<S>,
+    rowids: Rowids,
+) -> Result<(), StoreFault>
+    requires rest { IsSettled (IsLaidOut Older) (state S.Store conn.old) }
+    requires known { AreAsKnown rowids (state S.Store conn.old) }
     ensures made { MakesWhole (state S.Store conn.old) (state S.Store conn.new) result
         (λ db. IsOlder (state S.Store conn.old).now.trees
         × IsRenewed (state S.Store conn.old).now db)
@@ -65,6 +69,6 @@ pub(crate) fn take_older<S: Alter>(conn: &mut Connection<S>) -> Result<(), Store
     ensures judged { HasCleanDisk (state S.Store conn.new)
         → IsJudged (state S.Store conn.old).now.trees result }
 {
-    examine(conn, Layout::Older)?;
+    examine(conn, Layout::Older, rowids)?;
     migrate(conn)
 }

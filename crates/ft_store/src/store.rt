@@ -13,11 +13,14 @@ ghost use Rattle.ft_rows.specs.Shown.{shown_cell, shown_size, shown_note, shown_
 ghost use Rattle.ft_rows.specs.Terms.{lists_by_terms};
 ghost use Rattle.ft_store.specs.Expected.{place_count};
 ghost use Rattle.ft_store.specs.Calls.{IsPlainFault, IsReadFault, IsChangeFault, IsStored, Keeps, MakesAllOrNone};
+ghost use Rattle.ft_store.specs.declared.examine.Rowids.TheVariants.{Apart};
+ghost use Rattle.ft_store.specs.Settled.{AreAsKnown};
 ghost use Rattle.ft_store.specs.Adopted.{IsTaken, IsNotTaken, IsNotTakenFor, LeavesMade};
 ghost use Rattle.ft_store.specs.Older.{IsOlder};
 ghost use Rattle.ft_store.specs.Parts.{changes_in, CanMake};
 
 use crate::adopt::take;
+use crate::examine::Rowids;
 use crate::expected::count_places;
 use crate::fault::StoreFault;
 use crate::files::open_for_store;
@@ -118,17 +121,21 @@ impl<B: Start> Store<FileStore<FileFrom<B>>> {
 }
 
 impl<S: Alter + Drop> Store<S> {
-    // The database as a store, or why it is not taken: then what it stands on is let go here alone.
+    // The database, whose rowids are apart, as a store, or why it is not taken: then what it stands on is let go here alone.
     fn taken(alloc: Global, conn: Connection<S>) -> Result<Store<S>, StoreFault>
-        ensures taken { conn.in_transaction ≡ false
-            → IfOk result (λ store. IsTaken S.Store conn store.held × (store.rows_read ≡ 0)) }
-        ensures refused { conn.in_transaction ≡ false
-            → IfErr result (IsNotTakenFor S.Store conn) }
+        requires settled { conn.in_transaction ≡ false }
+        requires known { AreAsKnown Apart (state S.Store conn) }
+        ensures taken { IfOk result (λ store. IsTaken S.Store conn store.held
+            × (store.rows_read ≡ 0)) }
+        ensures refused { IfErr result (IsNotTakenFor S.Store conn) }
     {
-        match Store::adopt(alloc, conn) {
-            Ok(store) => Ok(store),
-            Err(fault) => Err(fault.cause),
-        }
+        let mut conn = conn;
+        take(&mut conn, Rowids::Apart)?;
+        Ok(Store {
+            conn,
+            alloc,
+            rows_read: UNREAD,
+        })
     }
 }
 
@@ -168,7 +175,7 @@ impl<S: Alter> Store<S> {
                 cause: StoreFault::Refused,
             });
         }
-        match take(&mut conn) {
+        match take(&mut conn, Rowids::Unknown) {
             Ok(()) => Ok(Store {
                 conn,
                 alloc,

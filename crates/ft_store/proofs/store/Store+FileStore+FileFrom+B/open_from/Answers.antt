@@ -1,16 +1,27 @@
--- what is found is taken or not
-use Rattle.std.proofs.Common.{inr}
+-- what is found is taken or not, and its rowids are apart since it comes from files
+use Rattle.std.proofs.Common.{inr, sym, subst}
 use Rattle.std.proofs.lemmas.Result.{IfOk-weaker, IfErr-weaker}
+use Rattle.sqlite.specs.Effect.{Database}
+use Rattle.sqlite.specs.Files.{AreFoundIn}
+use Rattle.sqlite_wal.specs.Files.{image_at}
+use Rattle.ft_store.proofs.FoundLemmas.{found_numbered}
 use Rattle.ft_store.proofs.store.Store+FileStore+FileFrom+B.open_from.Goals as goal
+
+pub taken-requires-clause-known : goal.taken-requires-clause-known
+taken-requires-clause-known g c clean is_open =
+    let given = c.in_ok-conn.ensures.given.found in
+    let opened = given.opened clean in
+    let live = opened.1 is_open in
+    found_numbered _ _ _ (subst (λ (d : Database). AreFoundIn (image_at g.B.Start) d.trees) (sym opened.0.clean) (given.found clean).reads) live.0
 
 pub returns-clause-opened : goal.returns-clause-opened
 returns-clause-opened g c =
     let new = c.in_ok-conn.ensures.given.found.fresh in
     IfOk-weaker c.taken.result _ _ (λ store taken. record { conn = c.in_ok-conn.conn; fresh = new; opened = c.in_ok-conn.ensures.given.found.opened; found = c.in_ok-conn.ensures.given.found.found; taken = taken.0 })
-    (c.taken.ensures.taken new.autocommit)
+    c.taken.ensures.taken
 
 pub returns-clause-refused : goal.returns-clause-refused
 returns-clause-refused g c =
     let new = c.in_ok-conn.ensures.given.found.fresh in
     IfErr-weaker c.taken.result _ _ (λ cause left. inr (record { conn = c.in_ok-conn.conn; fresh = new; opened = c.in_ok-conn.ensures.given.found.opened; found = c.in_ok-conn.ensures.given.found.found; after = left.new; refused = left.refused }))
-    (c.taken.ensures.refused new.autocommit)
+    c.taken.ensures.refused

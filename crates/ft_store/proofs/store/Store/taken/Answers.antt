@@ -1,4 +1,8 @@
+use Rattle.std.proofs.Common.{rules}
+use Rattle.std.proofs.lemmas.Result.{IfErr-weaker}
+use Rattle.ft_store.specs.Adopted.{IsNotTaken}
 use Rattle.ft_store.proofs.store.Store.taken.Goals as goal
 
-pub returns-in-Err-clause-refused : goal.returns-in-Err-clause-refused
-returns-in-Err-clause-refused g c settled = record { new = c.in-Err.fault.connection; refused = c.in-Err.ensures.refused settled }
+pub returns-in_err-take-clause-refused : goal.returns-in_err-take-clause-refused
+returns-in_err-take-clause-refused g c =
+    IfErr-weaker c.from_residual.result (IsNotTaken g.S.Store c.args.conn c.take.new.conn) _ (λ cause left. record { new = c.take.new.conn; refused = left }) (search rules)
