@@ -1,10 +1,10 @@
 -- Steps. What calls make of an index that is kept in memory, its lists and its sizes together. All of it is our own choice.
-use Rattle.std.specs.Prelude.{◌≡◌, ◌<◌, ◌^◌, ℕ, ℤ, List, [], ◌∷◌, map, length, All, IsTrue}
+use Rattle.std.specs.Prelude.{◌≡◌, ◌<◌, ◌^◌, ℕ, ℤ, List, [], ◌∷◌, length, All, IsTrue}
 use Rattle.std.specs.Ordering.{int_cmp}
 use Rattle.std.specs.FinMap.Entries.{is_sorted}
 use Rattle.ft_values.specs.Cells.{Cell}
 use Rattle.ft_query.specs.declared.text.Token.{Token}
-use Rattle.ft_query.specs.Tokens.{plain_token, tokens_of}
+use Rattle.ft_query.specs.Tokens.{PlainToken, tokens_of}
 use Rattle.ft_rows.specs.Store.{column_key_cmp, Change}
 use Rattle.ft_content.specs.Content.{Column, Documents, cell_text}
 use Rattle.ft_content.specs.Index.{Key, StoredSpot, stored_spot}
@@ -67,15 +67,9 @@ abbrev pub token_spot : ℕ → Token → StoredSpot
 token_spot column t = stored_spot (record { column = column; pos = t.pos; place = t.start; size = t.size })
 
 -- the numbers of tokens are
-abbrev pub AreSmall : List Token → Type 0
+abbrev pub AreSmall : List PlainToken → Type 0
 AreSmall [] = Unit {0}
 AreSmall (t ∷ ts) = (t.pos < 2 ^ 63) × (t.start < 2 ^ 63) × (t.size < 2 ^ 63) × AreSmall ts
-
--- the tokens of a cell
-pub record AreCellTokens (cell : Cell) (found : List Token) : Type 0 where
-  pub are : map plain_token found ≡ tokens_of (cell_text cell)
-  pub small : AreSmall found
-  pub number : IsShortNumber cell
 
 -- bytes are the text of a cell, and no more than memory has
 pub record IsTextOf (cell : Cell) (bytes : List ℕ) : Type 0 where

@@ -5,10 +5,11 @@ ghost use Rattle.ft_rows.specs.Store.{column_key_cmp};
 ghost use Rattle.ft_documents.specs.MadeIndex.{FitsSize};
 ghost use Rattle.ft_documents.specs.RewriteRows.{all_put, sized, cell_sizes};
 
-use crate::tokens::{cell_tokens, spot_of};
+use crate::tokens::{spot_of, text_of};
 use ft_content::{Column, Value};
-use ft_query::Token;
+use ft_query::{Token, Tokenizer};
 use ft_values::{RowChange, Spot};
+use itoa::Buffer;
 use std::alloc::{AllocError, Global};
 use std::collections::BTreeMap;
 
@@ -88,12 +89,14 @@ impl DocumentIndex {
         requires { place < 2 ^ 63 }
         ensures { OnOk result (AddsCell docid place (shown_value value.now) self.old self.new) }
     {
-        let tokens = cell_tokens(self.alloc, value)?;
-        add_size(&mut self.sizes, docid, place, tokens.len())?;
-        for token in tokens {
+        let mut buffer = Buffer::new();
+        let mut tokenizer = Tokenizer::new(self.alloc, text_of(value, &mut buffer));
+        let mut count = 0;
+        while let Some(token) = tokenizer.next()? {
             self.add_token(docid, place, token)?;
+            count += 1;
         }
-        Ok(())
+        add_size(&mut self.sizes, docid, place, count)
     }
 
     // Adds a token of a cell.

@@ -5,11 +5,12 @@ ghost use Rattle.ft_rows.specs.Terms.{spot_of};
 ghost use Rattle.ft_documents.specs.RewriteRows.{put_lists};
 ghost use Rattle.ft_documents.specs.Terms.{lists_of_term};
 
-use crate::tokens::{cell_tokens, spot_of};
+use crate::tokens::{spot_of, text_of};
 use ft_content::Value;
-use ft_query::Token;
+use ft_query::{Token, Tokenizer};
 use ft_rows::{Posting, TermLists, first_list};
 use ft_values::{RowChange, Spot};
+use itoa::Buffer;
 use std::alloc::{AllocError, Global};
 use std::collections::HashMap;
 
@@ -53,10 +54,12 @@ impl TermIndex {
         requires { place < 2 ^ 63 }
         ensures { IfOk result (JoinsCell docid place (shown_value value.now) self.old self.new) }
     {
-        let tokens = cell_tokens(self.alloc, value)?;
-        let count = tokens.len();
-        for token in tokens {
+        let mut buffer = Buffer::new();
+        let mut tokenizer = Tokenizer::new(self.alloc, text_of(value, &mut buffer));
+        let mut count = 0;
+        while let Some(token) = tokenizer.next()? {
             self.add_token(docid, place, token)?;
+            count += 1;
         }
         Ok(count)
     }

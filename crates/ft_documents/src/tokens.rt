@@ -1,25 +1,15 @@
-//! The tokens of cells, and the places where they stand.
-ghost use Rattle.std.specs.Prelude.{◌≡◌, IfOk};
+//! The texts of cells, and the places where their tokens stand.
+ghost use Rattle.std.specs.Prelude.{◌≡◌};
 ghost use Rattle.ft_values.specs.Cells.{shown_value};
-ghost use Rattle.ft_documents.specs.MadeIndex.{AreCellTokens, FitsSpot, IsTextOf, token_spot};
+ghost use Rattle.ft_documents.specs.MadeIndex.{FitsSpot, IsTextOf, token_spot};
 
 use ft_content::Value;
-use ft_query::{Token, tokens};
+use ft_query::Token;
 use ft_values::Spot;
 use itoa::Buffer;
-use std::alloc::{AllocError, Global};
 
-/// The tokens of a cell, by rising places.
-pub(crate) fn cell_tokens(alloc: Global, value: &Value) -> Result<Vec<Token>, AllocError>
-    ensures { IfOk result (λ found. AreCellTokens (shown_value value.now) found.items) }
-{
-    let mut buffer = Buffer::new();
-    let found = tokens(alloc, text_of(value, &mut buffer))?;
-    Ok(found)
-}
-
-/// The text of a cell.
-fn text_of<'a>(value: &'a Value, buffer: &'a mut Buffer) -> &'a str
+/// The text of a cell. The buffer is for the digits of a number.
+pub(crate) fn text_of<'a>(value: &'a Value, buffer: &'a mut Buffer) -> &'a str
     ensures { IsTextOf (shown_value value.now) result.now }
 {
     match value {

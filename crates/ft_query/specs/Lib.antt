@@ -10,6 +10,7 @@ pub mod Occurs
 pub mod Work
 pub mod Walk
 -- Steps
+pub mod Cutting
 pub mod Lists
 pub mod Machine
 pub mod Cursors

@@ -19,5 +19,5 @@ pub use laws::{
 pub use lists::{DocList, ListFault, Lists, Place};
 pub use parser::parse;
 pub use query::{Chain, Link, Phrase, Query, QueryFault, QueryTerm};
-pub use text::{Token, is_eligible, tokens};
+pub use text::{Token, Tokenizer, is_eligible, tokens};
 pub use walk::{Hit, Matches, Offset, offsets_text};

@@ -1,6 +1,6 @@
 //! Tokens.
 use crate::expected::expect;
-use ft_query::{Token, tokens};
+use ft_query::{Token, Tokenizer, tokens};
 use std::alloc::Global;
 use std::test::Fail;
 
@@ -22,6 +22,19 @@ fn told_tokens(alloc: Global, text: &str) -> Result<String, Fail> {
     Ok(out)
 }
 
+// The tokens of a text as they are cut, with a line's end for each time that there is none.
+fn cut_tokens(alloc: Global, text: &str) -> Result<String, Fail> {
+    let mut out = String::new(alloc);
+    let mut tokenizer = Tokenizer::new(alloc, text);
+    for _ in 0..4 {
+        match tokenizer.next()? {
+            Some(token) => tell(&mut out, &token)?,
+            None => out.push_str("\n")?,
+        }
+    }
+    Ok(out)
+}
+
 const TOKENS: [(&str, &str); 2] = [("Ærø café", "Ærø 0 0 5;café 1 6 5;"), ("-15", "15 0 1 2;")];
 
 #[test]
@@ -29,6 +42,20 @@ fn tokens_of_texts(rt: HostRuntime) -> Result<(), Fail> {
     let alloc = rt.alloc();
     for (text, want) in TOKENS {
         expect(alloc, told_tokens(alloc, text)?.as_str(), want, text)?;
+    }
+    Ok(())
+}
+
+#[test]
+fn tokens_are_cut_one_at_a_time(rt: HostRuntime) -> Result<(), Fail> {
+    let alloc = rt.alloc();
+    for (text, want) in [
+        ("", "\n\n\n\n"),
+        ("..", "\n\n\n\n"),
+        (" Ærø, café", "Ærø 0 1 5;café 1 8 5;\n\n"),
+        ("a b c d e", "a 0 0 1;b 1 2 1;c 2 4 1;d 3 6 1;"),
+    ] {
+        expect(alloc, cut_tokens(alloc, text)?.as_str(), want, text)?;
     }
     Ok(())
 }
