@@ -14,6 +14,7 @@ import sys
 import tempfile
 
 TESTS = (
+    "text::tokens_are_cut_one_at_a_time",
     "walk::near_and_chains",
     "walk::two_columns",
     "walk::sets_of_documents",
