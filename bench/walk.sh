@@ -48,7 +48,7 @@ fn count(lists: &[DocList]) -> u64
 {
     let mut places: u64 = 0;
     for list in lists {
-        places = places.saturating_add(list.places.len() as u64);
+        places = places.saturating_add(list.place_count() as u64);
     }
     places
 }
@@ -63,9 +63,9 @@ fn made(alloc: Global, places: usize, second: bool) -> Result<Vec<DocList>, Allo
         let mut list: Vec<Place> = Vec::new(alloc);
         for i in 0..50_usize {
             let pos = if second { 2 * i + 1 } else { 2 * i };
-            list.push(Place { column: 0, pos, start: 2 * pos, size: 1 })?;
+            list.push(Place::new(0, pos, 2 * pos, 1))?;
         }
-        lists.push(DocList { docid, places: list })?;
+        lists.push(DocList::new(docid, list))?;
     }
     Ok(lists)
 }

@@ -7,7 +7,7 @@ use Rattle.std.proofs.lemmas.Map.Lookups.{exact_signed}
 use Rattle.std.proofs.lemmas.List.{map-append}
 use Rattle.std.proofs.lemmas.List.Sorted.{IsPermutation-refl}
 use Rattle.std.proofs.lemmas.List.Sums.{sum_by-cons}
-use Rattle.ft_query.specs.declared.lists.DocList.{DocList}
+use Rattle.ft_query.specs.declared.lists.doc_list.DocList.{DocList}
 use Rattle.ft_query.specs.Documents.{PlaceList, plain_list, place_count}
 use Rattle.ft_documents.specs.declared.lists.Placed.{Placed}
 use Rattle.ft_documents.specs.Placed.{place_in, list_with, run_with, with_placed, by_docid}

@@ -3,7 +3,7 @@ use Rattle.std.specs.Prelude.{◌≡◌, ℕ, ℤ, Bool, true, nat_lt, int_lt, �
 use Rattle.std.specs.List.{prefix_len, flat_map, list_all}
 use Rattle.std.specs.declared.cmp.Ordering.{Ordering}
 use Rattle.std.specs.Ordering.{nat_cmp, int_cmp, int_eq, ordering_then}
-use Rattle.ft_query.specs.declared.lists.Place.{Place}
+use Rattle.ft_query.specs.declared.lists.place.Place.{Place}
 use Rattle.ft_query.specs.Documents.{PlaceList, is_filled}
 use Rattle.ft_values.specs.declared.rows.ListRow.{ListRow}
 use Rattle.ft_values.specs.declared.rows.Spot.{Spot}

@@ -19,27 +19,22 @@ struct Placed {
 }
 
 impl Placed {
-    fn new(docid: i64, place: Place) -> Placed
-        ensures { result ≡ placed_in docid place }
+    fn new(docid: i64, spot: &Spot) -> Placed
+        ensures { result ≡ placed_in docid (place_of spot.now) }
     {
         Placed {
             docid,
-            column: place.column,
-            pos: place.pos,
-            start: place.start,
-            size: place.size,
+            column: number(spot.column),
+            pos: number(spot.pos),
+            start: number(spot.place),
+            size: number(spot.size),
         }
     }
 
     fn place(self) -> Place
         ensures { result ≡ place_in self }
     {
-        Place {
-            column: self.column,
-            pos: self.pos,
-            start: self.start,
-            size: self.size,
-        }
+        Place::new(self.column, self.pos, self.start, self.size)
     }
 }
 
@@ -54,12 +49,12 @@ fn number(n: i64) -> usize
 fn place_of(spot: &Spot) -> Place
     ensures { result ≡ place_of spot.now }
 {
-    Place {
-        column: number(spot.column),
-        pos: number(spot.pos),
-        start: number(spot.place),
-        size: number(spot.size),
-    }
+    Place::new(
+        number(spot.column),
+        number(spot.pos),
+        number(spot.place),
+        number(spot.size),
+    )
 }
 
 // ---- rows in order, each a list
@@ -68,8 +63,8 @@ fn place_of(spot: &Spot) -> Place
 fn is_before(one: &Spot, other: &Spot) -> bool
     ensures { result ≡ is_before (place_of one.now) (place_of other.now) }
 {
-    let (one, other) = (place_of(one), place_of(other));
-    one.column < other.column || (one.column == other.column && one.pos < other.pos)
+    let (column, other_column) = (number(one.column), number(other.column));
+    column < other_column || (column == other_column && number(one.pos) < number(other.pos))
 }
 
 /// Whether places stand in order.
@@ -123,10 +118,7 @@ fn row_list(alloc: Global, row: ListRow) -> Result<DocList, AllocError>
     ensures { IfOk result (λ list. plain_list list ≡ list_of row) }
 {
     let places = row_places(alloc, row.spots.as_slice())?;
-    Ok(DocList {
-        docid: row.docid,
-        places,
-    })
+    Ok(DocList::new(row.docid, places))
 }
 
 /// The lists of rows. Each row goes as its list is made, so that the next list finds its room free.
@@ -148,7 +140,7 @@ fn push_places(places: &mut Vec<Placed>, row: &ListRow) -> Result<(), AllocError
         (list_of row.now).places) }
 {
     for spot in &row.spots {
-        places.push(Placed::new(row.docid, place_of(spot)))?;
+        places.push(Placed::new(row.docid, spot))?;
     }
     Ok(())
 }
@@ -196,10 +188,7 @@ fn doc_list(alloc: Global, first: &Placed, places: &[Placed]) -> Result<DocList,
     ensures { IfOk result (λ list. plain_list list ≡ list_with first.now places.now) }
 {
     let places = bare(alloc, places)?;
-    Ok(DocList {
-        docid: first.docid,
-        places,
-    })
+    Ok(DocList::new(first.docid, places))
 }
 
 /// A list for each document, of places in order.

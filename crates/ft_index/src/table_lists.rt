@@ -17,7 +17,7 @@ fn count_places(lists: &[DocList]) -> u64
 {
     let mut count: u64 = 0;
     for list in lists {
-        count = count.saturating_add(list.places.len() as u64);
+        count = count.saturating_add(list.place_count() as u64);
     }
     count
 }

@@ -4,7 +4,7 @@ use Rattle.std.specs.Prelude.{filter, flat_map, AllPairs, Contains, nat_le, max}
 use Rattle.std.specs.List.{list_any, AllByRecursion}
 use Rattle.std.proofs.lemmas.Bool.Decides.{nat_tests}
 use Rattle.std.proofs.lemmas.List.{append-nil}
-use Rattle.ft_query.specs.declared.lists.Place.{Place}
+use Rattle.ft_query.specs.declared.lists.place.Place.{Place}
 use Rattle.ft_query.specs.Documents.{Posting, IsBefore, is_filled}
 use Rattle.ft_query.specs.Trees.{PlainTerm, PlainPhrase, PlainLink, chain}
 use Rattle.ft_query.specs.Occurs.{places_of, occurrences, are_near, IsChoice, choices, heads, taken_in, taken_links}

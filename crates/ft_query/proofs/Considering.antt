@@ -10,7 +10,7 @@ use Rattle.std.proofs.lemmas.Bool.Decides.{Decides-int_eq}
 use Rattle.std.proofs.lemmas.List.Sums.{sum_by-cons}
 use Rattle.ft_query.proofs.TokenOnce.{pairs_head}
 use Rattle.ft_query.specs.declared.query.Query.{Query}
-use Rattle.ft_query.specs.declared.lists.Place.{Place}
+use Rattle.ft_query.specs.declared.lists.place.Place.{Place}
 use Rattle.ft_query.specs.declared.walk.Offset.{Offset}
 use Rattle.ft_query.specs.declared.walk.cursor.Cursor.{Cursor}
 use Rattle.ft_query.specs.declared.walk.visit.Wanted.{Wanted}

@@ -3,7 +3,7 @@ use Rattle.std.proofs.Common.{◌≡◌, ℕ, ◌+◌, ◌<◌, List, [], ◌∷
 use Rattle.std.specs.Prelude.{flat_map}
 use Rattle.std.proofs.lemmas.List.{append_assoc, length-append, length-map, length-drop, length-take-le, drop_more}
 use Rattle.ft_query.specs.declared.walk.places.Places.{Places}
-use Rattle.ft_query.specs.declared.lists.Place.{Place}
+use Rattle.ft_query.specs.declared.lists.place.Place.{Place}
 use Rattle.ft_query.specs.declared.walk.Offset.{Offset}
 use Rattle.ft_query.specs.declared.walk.visit.Wanted.{Wanted}
 use Rattle.ft_query.specs.declared.walk.visit.Wanted.TheVariants.{Docids, Offsets}

@@ -9,7 +9,7 @@ use Rattle.std.specs.List.{list_any, AllByRecursion}
 use Rattle.std.proofs.lemmas.Bool.Decides.{nat_tests}
 use Rattle.std.proofs.lemmas.List.Elements.{recursion_from_All, All-tail}
 use Rattle.ft_query.proofs.TokenOnce.{pairs_head, pairs_tail}
-use Rattle.ft_query.specs.declared.lists.Place.{Place}
+use Rattle.ft_query.specs.declared.lists.place.Place.{Place}
 use Rattle.ft_query.specs.Documents.{Posting, Document, AreDocuments, IsBefore, PlaceList, is_filled, has_places, places_with, place_count}
 use Rattle.ft_query.specs.Trees.{PlainTerm, Tree}
 use Rattle.ft_query.specs.Occurs.{PlainHit, is_listed, accepts, offsets_of, hits_of}

@@ -5,7 +5,7 @@ use Rattle.std.specs.Ordering.{match_ordering}
 use Rattle.std.specs.declared.cmp.Ordering.{Ordering}
 use Rattle.std.specs.declared.cmp.Ordering.TheVariants.{Less, Equal, Greater}
 use Rattle.ft_query.specs.declared.walk.places.Places.{Places}
-use Rattle.ft_query.specs.declared.lists.Place.{Place}
+use Rattle.ft_query.specs.declared.lists.place.Place.{Place}
 use Rattle.std.proofs.lemmas.List.{drop_more, reverse-append, reverse-reverse, append_assoc, length-map}
 use Rattle.ft_query.specs.declared.query.QueryTerm.{QueryTerm}
 use Rattle.ft_query.specs.declared.query.Link.{Link}

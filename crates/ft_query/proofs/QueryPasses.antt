@@ -1,7 +1,7 @@
 -- From the lists of its terms in one document, what a query accepts and the places that its terms take.
 use Rattle.std.proofs.Common.{◌≡◌, ◌&&◌, ◌||◌, not, List, ◌++◌, length, map, take, drop, refl, ap, ◌∙◌}
 use Rattle.std.specs.Prelude.{AllPairs}
-use Rattle.ft_query.specs.declared.lists.Place.{Place}
+use Rattle.ft_query.specs.declared.lists.place.Place.{Place}
 use Rattle.ft_query.specs.Documents.{Posting, IsBefore, is_filled}
 use Rattle.ft_query.specs.Trees.{PlainPhrase, Tree, phrase, chain, both, either, without}
 use Rattle.ft_query.specs.Work.{terms_in}

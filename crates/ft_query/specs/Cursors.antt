@@ -1,7 +1,7 @@
 -- Steps. What is left of the lists of a walk.
 use Rattle.std.specs.Prelude.{ℕ, ℤ, int_lt, Bool, false, List, [], ◌∷◌, drop, map, sum_by, if◌then◌else◌, Option, Some, None}
 use Rattle.std.specs.Ordering.{int_eq}
-use Rattle.ft_query.specs.declared.lists.Place.{Place}
+use Rattle.ft_query.specs.declared.lists.place.Place.{Place}
 use Rattle.ft_query.specs.declared.walk.cursor.Cursor.{Cursor}
 use Rattle.ft_query.specs.Documents.{Document, PlaceList, plain_list, lists_with, place_count}
 use Rattle.ft_query.specs.Trees.{PlainTerm}

@@ -25,6 +25,7 @@ pub record TakesOf (most left : ℕ) (old new : Steps) : Type 0 where
 
 -- one or more, but at most so many
 pub record TakesSome (most : ℕ) (old new : Steps) : Type 0 where
+  pub rises : old.taken ≤ new.taken
   pub at_least : more_steps 1 old ≤ new.taken
   pub at_most : new.taken ≤ old.taken + most
 

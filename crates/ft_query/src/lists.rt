@@ -4,24 +4,13 @@ ghost use Rattle.std.specs.List.{starts_with};
 ghost use Rattle.ft_query.specs.Documents.{Document, AreDocuments, lists_with, plain_list, place_count};
 ghost use Rattle.ft_query.specs.Lists.{is_failed};
 
+mod doc_list;
+mod place;
+
+pub use doc_list::DocList;
+pub use place::Place;
 use std::alloc::{AllocError, AllocFailed, Global};
 use thiserror::Error;
-
-/// Where a token stands: its column, its number in the cell, and its place and size in bytes.
-#[derive(Clone, Copy, Debug, PartialEq, Eq)]
-pub struct Place {
-    pub column: usize,
-    pub pos: usize,
-    pub start: usize,
-    pub size: usize,
-}
-
-/// The places of some terms in one document.
-#[derive(Debug, Drop)]
-pub struct DocList {
-    pub docid: i64,
-    pub places: Vec<Place>,
-}
 
 /// Why there is no list.
 #[derive(Clone, Copy, Debug, PartialEq, Eq, Error)]

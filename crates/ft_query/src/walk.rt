@@ -13,6 +13,7 @@ mod visit;
 
 use itoa::Buffer;
 pub use matches::Matches;
+pub(crate) use matches::Steps;
 use std::alloc::{AllocError, Global};
 
 /// One term of a phrase's occurrence: its column, the term's number in the query, and its place and size in bytes.

@@ -23,7 +23,7 @@ fn count(lists: &[DocList]) -> u64
 {
     let mut places: u64 = 0;
     for list in lists {
-        places = places.saturating_add(list.places.len() as u64);
+        places = places.saturating_add(list.place_count() as u64);
     }
     places
 }
@@ -46,12 +46,7 @@ fn push_places(
 ) -> Result<(), AllocError> {
     for token in &tokens(alloc, text)? {
         if is_asked(token.term.as_str(), asked, begins) {
-            places.push(Place {
-                column,
-                pos: token.pos,
-                start: token.start,
-                size: token.size,
-            })?;
+            places.push(Place::new(column, token.pos, token.start, token.size))?;
         }
     }
     Ok(())
@@ -70,10 +65,7 @@ fn lists_of(
             push_places(alloc, column, text, asked, begins, &mut places)?;
         }
         if !places.is_empty() {
-            lists.push(DocList {
-                docid: *docid,
-                places,
-            })?;
+            lists.push(DocList::new(*docid, places))?;
         }
     }
     Ok(lists)

@@ -6,11 +6,10 @@ ghost use Rattle.ft_query.specs.Sought.{StandsAt, SearchesOn};
 ghost use Rattle.ft_query.specs.Taken.{Takes, LooksAt};
 
 use crate::lists::DocList;
-use crate::walk::matches::Steps;
+use crate::walk::Steps;
 use crate::walk::places::Places;
 
-/// A term's list: where the walk stands in it, and how far the search for the next hit has come. Docids are seen here alone: each look
-/// at the next one of the search is a step.
+/// A term's list: where the walk stands in it, and how far the search for the next hit has come.
 #[derive(Drop)]
 pub(crate) struct Cursor {
     lists: Vec<DocList>,
@@ -49,8 +48,7 @@ impl Cursor {
         ensures steps { LooksAt (lists_left self.now) result steps.old steps.new }
     {
         let list = self.lists.get(self.at)?;
-        steps.take();
-        Some(list.docid)
+        Some(list.docid(steps))
     }
 
     /// This document is the next one here. It is a step to ask, also where there is no next one.
@@ -58,10 +56,12 @@ impl Cursor {
         ensures next { result ≡ is_next docid (lists_left self.now) }
         ensures step { Takes 1 steps.old steps.new }
     {
-        steps.take();
         match self.lists.get(self.at) {
-            Some(list) => list.docid == docid,
-            None => false,
+            Some(list) => list.is_of(docid, steps),
+            None => {
+                steps.take();
+                false
+            }
         }
     }
 
@@ -70,7 +70,7 @@ impl Cursor {
         ensures { result.places.now ≡ next_places (lists_left self.now) }
     {
         match self.lists.get(self.at) {
-            Some(list) => Places::new(list.places.as_slice()),
+            Some(list) => Places::new(list.places()),
             None => Places::new(&[]),
         }
     }

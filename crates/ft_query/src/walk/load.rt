@@ -1,5 +1,5 @@
 // The lists of a query's terms.
-ghost use Rattle.std.specs.Prelude.{◌≡◌, ◌+◌, ◌-◌, ◌^◌, map, min, flat_map, IfOk, OnOk};
+ghost use Rattle.std.specs.Prelude.{◌≡◌, true, ◌+◌, ◌-◌, ◌^◌, map, min, flat_map, IfOk, OnOk};
 ghost use Rattle.ft_query.specs.Documents.{place_count};
 ghost use Rattle.ft_query.specs.Trees.{plain_term, plain_link, tree_of};
 ghost use Rattle.ft_query.specs.Work.{terms_in};
@@ -17,6 +17,7 @@ fn load_term<L: Lists>(alloc: Global, term: &QueryTerm, lists: &mut L) -> Result
     ensures list { IfOk result (λ c. L.is_clean lists.new
         → lists_kept c ≡ listed_for (L.documents lists.new) (plain_term term.now)) }
     ensures asks { Asks L.Lists lists.old lists.new result }
+    ensures becomes { OnOk result (L.becomes lists.old true lists.new) }
     ensures given { IfOk result (λ c. L.given_so_far lists.new
         ≡ min (L.given_so_far lists.old + place_count (lists_kept c)) (2 ^ 64 - 1)) }
 {

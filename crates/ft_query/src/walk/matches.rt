@@ -1,8 +1,8 @@
 // The documents that a query accepts, one after the other.
-ghost use Rattle.std.specs.Prelude.{◌≡◌, ◌+◌, ◌-◌, ◌^◌, ◌<◌, ◌||◌, List, length, map, min, is_ok, IfOk, IfSome, OnOk, OnErr};
+ghost use Rattle.std.specs.Prelude.{◌≡◌, ◌+◌, ◌-◌, ◌^◌, ◌<◌, ◌≤◌, ◌||◌, List, length, map, min, is_ok, IfOk, IfSome, OnOk, OnErr};
 ghost use Rattle.ft_query.specs.Documents.{Document};
 ghost use Rattle.ft_query.specs.Trees.{tree_of};
-ghost use Rattle.ft_query.specs.Lists.{is_failed, Reaches};
+ghost use Rattle.ft_query.specs.Lists.{is_failed, Reaches, Answers};
 ghost use Rattle.ft_query.specs.Work.{terms_in, entry_count};
 ghost use Rattle.ft_query.specs.Cursors.{lists_left, lists_kept};
 ghost use Rattle.ft_query.specs.Walk.{lists_to_come, StandsBefore, Walked, WalkedTo};
@@ -52,6 +52,7 @@ fn advance(
     ensures finds { IfOk result
         (FindsNext wanted (stands_at query.now cursors.old steps.old.taken)
         (stands_at query.now cursors.new steps.new.taken)) }
+    ensures rise { steps.old.taken ≤ steps.new.taken }
     ensures err { OnErr result ((map lists_kept cursors.new ≡ map lists_kept cursors.old)
         × (steps.new.taken ≡ steps.old.taken)) }
 {
@@ -109,6 +110,8 @@ impl<'q> Matches<'q> {
             × (L.documents lists.new ≡ L.documents lists.old) }
         ensures failed { L.has_failed lists.new ≡ (L.has_failed lists.old || is_failed result) }
         ensures becomes { Reaches L.becomes lists.old (is_ok result) lists.new }
+        ensures asks { OnOk result (Answers L.becomes (length (terms_in (tree_of query.now)))
+            lists.old lists.new) }
     {
         let mut cursors = Vec::new(alloc);
         load(alloc, query, lists, &mut cursors)?;
@@ -123,6 +126,7 @@ impl<'q> Matches<'q> {
     // The next hit, without offsets where they aren't wanted.
     fn find(&mut self, wanted: Wanted) -> Result<Option<Hit>, AllocError>
         ensures finds { IfOk result (FindsNext wanted self.old self.new) }
+        ensures rise { self.old.steps ≤ self.new.steps }
         ensures query { self.new.query ≡ self.old.query }
         ensures err { OnErr result (self.new ≡ self.old) }
     {
@@ -136,6 +140,7 @@ impl<'q> Matches<'q> {
             → StandsBefore self.old documents → Walked self.old self.new hit documents) }
         ensures passes { IfOk result (λ hit. IfSome hit
             (λ _. lists_to_come self.new < lists_to_come self.old)) }
+        ensures rise { self.old.steps ≤ self.new.steps }
         ensures query { self.new.query ≡ self.old.query }
         ensures err { OnErr result (self.new ≡ self.old) }
     {
@@ -149,6 +154,7 @@ impl<'q> Matches<'q> {
             → StandsBefore self.old documents → WalkedTo self.old self.new docid documents) }
         ensures passes { IfOk result (λ docid.
             IfSome docid (λ _. lists_to_come self.new < lists_to_come self.old)) }
+        ensures rise { self.old.steps ≤ self.new.steps }
         ensures query { self.new.query ≡ self.old.query }
         ensures err { OnErr result (self.new ≡ self.old) }
     {

@@ -1,5 +1,5 @@
 // The search for the next document that a query accepts.
-ghost use Rattle.std.specs.Prelude.{◌≡◌, None, map, length, IfOk};
+ghost use Rattle.std.specs.Prelude.{◌≡◌, ◌≤◌, None, map, length, IfOk};
 ghost use Rattle.ft_query.specs.Trees.{tree_of};
 ghost use Rattle.ft_query.specs.Work.{terms_in};
 ghost use Rattle.ft_query.specs.Cursors.{lists_left, lists_kept, passed, least_of, least_from};
@@ -8,10 +8,9 @@ ghost use Rattle.ft_query.specs.Sought.{SearchesOn, AllSearchOn};
 ghost use Rattle.ft_query.specs.Taken.{Takes, LooksAt, LooksAtAll};
 
 use crate::query::Query;
-use crate::walk::Hit;
 use crate::walk::cursor::Cursor;
-use crate::walk::matches::Steps;
 use crate::walk::visit::{Wanted, visit};
+use crate::walk::{Hit, Steps};
 use std::alloc::{AllocError, Global};
 
 /// What became of the next document.
@@ -84,6 +83,7 @@ fn consider(
     ensures considers { IfOk result
         (ConsidersNext wanted (walk_at query.now cursors.old steps.old.taken)
         (walk_at query.now cursors.new steps.new.taken)) }
+    ensures rise { steps.old.taken ≤ steps.new.taken }
 {
     let Some(docid) = least(cursors, steps) else {
         return Ok(Considered::NoDocument);
@@ -109,6 +109,7 @@ pub(crate) fn search(
     ensures finds { IfOk result
         (FindsNext wanted (walk_at query.now cursors.old steps.old.taken)
         (walk_at query.now cursors.new steps.new.taken)) }
+    ensures rise { steps.old.taken ≤ steps.new.taken }
 {
     loop {
         match consider(alloc, query, cursors, wanted, steps)? {

@@ -3,22 +3,22 @@ ghost use Rattle.std.specs.Prelude.{◌≡◌, ◌+◌, ◌*◌, ◌++◌, lengt
 ghost use Rattle.ft_query.specs.Visit.{seek, among, skip_behind, begin_near, near_those, may_begin, offset_at};
 ghost use Rattle.ft_query.specs.Taken.{TakesAtMost, TakesOf};
 
-use crate::walk::Offset;
-use crate::walk::matches::Steps;
-use crate::walk::places::{Places, Spot, Starts};
+use crate::lists::Place;
+use crate::walk::places::{Places, Starts};
+use crate::walk::{Offset, Steps};
 use std::alloc::{AllocError, Global};
 use std::cmp::Ordering;
 
 // Whether a place moved by i is one of those moved by j, and which of them are behind it.
 fn seek<'a>(
-    place: Spot<'_>,
+    place: &Place,
     i: usize,
     places: Places<'a>,
     j: usize,
     steps: &mut Steps,
 ) -> (bool, Places<'a>)
     ensures found { (result.0, result.1.places.now)
-        ≡ seek i place.entry.place.now j places.entry.places.now }
+        ≡ seek i place.now j places.entry.places.now }
     ensures steps { TakesOf (length places.entry.places.now + 1) (length result.1.places.now)
         steps.old steps.new }
 {
@@ -40,12 +40,12 @@ fn seek<'a>(
 fn skip_behind<'a>(
     places: Places<'a>,
     k: usize,
-    place: Spot<'_>,
+    place: &Place,
     most: usize,
     steps: &mut Steps,
 ) -> Places<'a>
     ensures rest { result.places.now ≡ skip_behind most k places.entry.places.now
-        place.entry.place.now }
+        place.now }
     ensures steps { TakesOf (length places.entry.places.now + 1) (length result.places.now)
         steps.old steps.new }
 {
@@ -65,12 +65,12 @@ fn skip_behind<'a>(
 fn begin_near(
     places: Places<'_>,
     k: usize,
-    place: Spot<'_>,
+    place: &Place,
     m: usize,
     most: usize,
     steps: &mut Steps,
 ) -> bool
-    ensures near { result ≡ begin_near most k places.entry.places.now m place.entry.place.now }
+    ensures near { result ≡ begin_near most k places.entry.places.now m place.now }
     ensures steps { TakesAtMost 2 steps.old steps.new }
 {
     let Some((first, rest)) = places.split_first() else {

@@ -11,10 +11,9 @@ ghost use Rattle.ft_query.specs.Work.{terms_in, width};
 ghost use Rattle.ft_query.specs.Visit.{among, followed, if_wanted, starts_of, marks_from, linked, link_marks, plain_starts, plain_lists, listed_places, precedes, places_in, total, linked_cost, link_cost, visit_cost};
 
 use crate::query::{Chain, Link, Phrase, Query, QueryTerm};
-use crate::walk::Offset;
 use crate::walk::cursor::Cursor;
-use crate::walk::matches::Steps;
 use crate::walk::places::{Places, Starts};
+use crate::walk::{Offset, Steps};
 use std::alloc::{AllocError, Global};
 
 // Of these occurrences the ones that this term follows after i positions, which has this list. A first term follows nothing.

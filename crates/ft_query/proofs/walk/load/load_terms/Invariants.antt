@@ -1,7 +1,7 @@
-use Rattle.std.proofs.Common.{◌≡◌, ℕ, true, ◌+◌, ◌-◌, ◌^◌, ◌++◌, map, min, vec_len}
+use Rattle.std.proofs.Common.{◌≡◌, ℕ, true, ◌+◌, ◌-◌, ◌^◌, ◌++◌, map, min, length, vec_len}
 use Rattle.std.specs.Prelude.{take}
 use Rattle.ft_query.specs.Trees.{plain_term}
-use Rattle.ft_query.specs.Lists.{Reaches}
+use Rattle.ft_query.specs.Lists.{Reaches, Answers}
 use Rattle.ft_query.specs.Cursors.{lists_kept, places_left, listed_for}
 use Rattle.ft_query.proofs.walk.load.load_terms.Given as goal
 
@@ -14,6 +14,7 @@ invariant-loop-term g l =
     record {
       lists : is_clean l.lists → map lists_kept l.cursors.items ≡ map lists_kept l.fn.cursors.items ++ map (listed_for (documents l.lists)) (map plain_term (take l.term-index l.terms));
       number : vec_len l.cursors ≡ vec_len l.fn.cursors + l.term-index;
+      asked : Answers g.L.Lists.becomes (length (map plain_term (take l.term-index l.terms))) l.fn.lists l.lists;
       clean : is_clean l.lists → is_clean l.fn.lists × (documents l.lists ≡ documents l.fn.lists);
       becomes : Reaches g.L.Lists.becomes l.fn.lists true l.lists;
       failed : g.L.Lists.has_failed l.lists ≡ g.L.Lists.has_failed l.fn.lists;

@@ -1,4 +1,4 @@
-use Rattle.std.proofs.Common.{◌≡◌, ◌∙◌, rules, true, false, true≢false, map, sym, ap, subst, to_z, of_z, w64, Some, None, Vec, Global}
+use Rattle.std.proofs.Common.{◌≡◌, ◌∙◌, rules, arith, true, false, true≢false, map, sym, ap, subst, to_z, of_z, w64, Some, None, Vec, Global}
 use Rattle.std.specs.Prelude.{option_map}
 use Rattle.ft_query.specs.declared.walk.Hit.{Hit}
 use Rattle.ft_query.specs.declared.walk.Offset.{Offset}
@@ -47,3 +47,12 @@ returns-in-None-clause-considers c =
           record { offsets = added.offsets; went = added.went; told = tt; ended = λ never. absurd (passed_none never) };
       passes = λ _. fewer_left _ c.args.cursors.now c.pass.new.cursors one c.pass.ensures.go.left;
     }
+
+pub returns-in_err-offsets-clause-rise : goal.returns-in_err-offsets-clause-rise
+returns-in_err-offsets-clause-rise c = omega (arith, c.least.ensures.steps.at_least, c.in_err-offsets.ensures.steps.rises)
+
+pub returns-in-Some-offsets-clause-rise : goal.returns-in-Some-offsets-clause-rise
+returns-in-Some-offsets-clause-rise c = omega (arith, c.least.ensures.steps.at_least, c.in_ok-offsets.ensures.steps.rises, c.pass.ensures.steps.at_least)
+
+pub returns-in-None-clause-rise : goal.returns-in-None-clause-rise
+returns-in-None-clause-rise c = omega (arith, c.least.ensures.steps.at_least, c.in_ok-offsets.ensures.steps.rises, c.pass.ensures.steps.at_least)

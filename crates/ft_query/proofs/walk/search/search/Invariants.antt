@@ -11,6 +11,7 @@ abbrev pub invariant-loop-hit : goal.invariant-loop-hit
 invariant-loop-hit l = record {
   kept : map lists_kept l.cursors ≡ map lists_kept l.fn.cursors;
   number : length l.cursors ≡ length l.fn.cursors;
+  rise : l.fn.steps.taken ≤ l.steps.taken;
   fewer : sum_by length (map lists_left l.cursors) ≤ sum_by length (map lists_left l.fn.cursors);
   went : (documents : List Document) → StandsBefore (walk_at l.fn.query l.fn.cursors l.fn.steps.taken) documents → Went (walk_at l.fn.query l.fn.cursors l.fn.steps.taken) (walk_at l.fn.query l.cursors l.steps.taken) [] documents;
 }

@@ -1,6 +1,6 @@
 use Rattle.std.proofs.Common.{◌≡◌, ◌++◌, List, ap, ◌∙◌, to_z-of_z, refl, arith}
 use Rattle.ft_query.specs.Trees.{tree_of}
-use Rattle.ft_query.specs.declared.lists.Place.{Place}
+use Rattle.ft_query.specs.declared.lists.place.Place.{Place}
 use Rattle.ft_query.specs.declared.walk.visit.Wanted.{Wanted}
 use Rattle.ft_query.specs.Visit.{numbered, marks_of, plain_lists, places_in, if_wanted}
 use Rattle.ft_query.proofs.Costs.{document_bound}
@@ -29,13 +29,14 @@ returns-clause-offsets c = λ postings ordered same.
 pub returns-in_err-lists-clause-steps : goal.returns-in_err-lists-clause-steps
 returns-in_err-lists-clause-steps c =
     let bound = document_bound (tree_of c.args.query.now) c.args.docid c.args.cursors.now (places_in c.args.docid c.args.cursors.now) c.requires refl in
-    record { at_least = c.in_err-lists.ensures.steps.refused; at_most = omega (arith, bound, c.in_err-lists.ensures.steps.at_most) }
+    record { rises = c.in_err-lists.ensures.steps.at_least; at_least = c.in_err-lists.ensures.steps.refused; at_most = omega (arith, bound, c.in_err-lists.ensures.steps.at_most) }
 
 pub returns-in_err-visit_part-clause-steps : goal.returns-in_err-visit_part-clause-steps
 returns-in_err-visit_part-clause-steps c =
     let is = ap plain_lists c.deref.ensures.value ∙ c.in_ok-lists.ensures.lists ∙ ap (λ z. places_in z c.args.cursors.now) (to_z-of_z c.ranges.docid) in
     let bound = document_bound (tree_of c.args.query.now) c.args.docid c.args.cursors.now (plain_lists c.deref.result.now) c.requires is in
     record {
+      rises = omega (arith, c.in_ok-lists.ensures.steps.at_least, c.in_err-visit_part.ensures.steps.rises);
       at_least = grind arith;
       at_most = omega (arith, bound, c.in_ok-lists.ensures.steps.at_most, c.in_err-visit_part.ensures.steps.at_most);
     }
@@ -45,6 +46,7 @@ returns-then-not-branch-clause-steps c =
     let is = ap plain_lists c.deref.ensures.value ∙ c.in_ok-lists.ensures.lists ∙ ap (λ z. places_in z c.args.cursors.now) (to_z-of_z c.ranges.docid) in
     let bound = document_bound (tree_of c.args.query.now) c.args.docid c.args.cursors.now (plain_lists c.deref.result.now) c.requires is in
     record {
+      rises = omega (arith, c.in_ok-lists.ensures.steps.at_least, c.in_ok-visit_part.ensures.steps.rises);
       at_least = grind arith;
       at_most = omega (arith, bound, c.in_ok-lists.ensures.steps.at_most, c.in_ok-visit_part.ensures.steps.at_most);
     }
@@ -54,6 +56,7 @@ returns-clause-steps c =
     let is = ap plain_lists c.deref.ensures.value ∙ c.in_ok-lists.ensures.lists ∙ ap (λ z. places_in z c.args.cursors.now) (to_z-of_z c.ranges.docid) in
     let bound = document_bound (tree_of c.args.query.now) c.args.docid c.args.cursors.now (plain_lists c.deref.result.now) c.requires is in
     record {
+      rises = omega (arith, c.in_ok-lists.ensures.steps.at_least, c.in_ok-visit_part.ensures.steps.rises);
       at_least = grind arith;
       at_most = omega (arith, bound, c.in_ok-lists.ensures.steps.at_most, c.in_ok-visit_part.ensures.steps.at_most);
     }

@@ -1,0 +1,107 @@
+// A place in one document, whose position is seen here alone: each comparison of one is a step.
+ghost use Rattle.std.specs.Prelude.{◌≡◌};
+ghost use Rattle.ft_query.specs.Occurs.{are_near};
+ghost use Rattle.ft_query.specs.Visit.{place_order, is_behind, may_begin, offset_at};
+ghost use Rattle.ft_query.specs.Taken.{Takes};
+
+use crate::walk::{Offset, Steps};
+use std::cmp::Ordering;
+
+/// Where a token stands: its column, its number in the cell, and its place and size in bytes. Nothing but a comparison that is counted
+/// tells its number in the cell.
+#[derive(Clone, Copy)]
+pub struct Place {
+    column: usize,
+    pos: usize,
+    start: usize,
+    size: usize,
+}
+
+impl Place {
+    pub fn new(column: usize, pos: usize, start: usize, size: usize) -> Place
+        ensures { result ≡ record { column = column; pos = pos; start = start; size = size } }
+    {
+        Place {
+            column,
+            pos,
+            start,
+            size,
+        }
+    }
+
+    // Looks at the position.
+    fn look(&self, steps: &mut Steps) -> usize
+        ensures pos { result ≡ self.now.pos }
+        ensures step { Takes 1 steps.old steps.new }
+    {
+        steps.take();
+        self.pos
+    }
+
+    /// The order of this place, moved by i, and the other one, moved by j: by column and then by position.
+    pub(crate) fn order(&self, i: usize, other: &Place, j: usize, steps: &mut Steps) -> Ordering
+        ensures order { result ≡ place_order i self.now j other.now }
+        ensures step { Takes 1 steps.old steps.new }
+    {
+        let here = self.look(steps) as u128 + i as u128;
+        let there = other.pos as u128 + j as u128;
+        self.column.cmp(&other.column).then(here.cmp(&there))
+    }
+
+    /// This occurrence, of k terms, ends too far before the other one to be near it.
+    pub(crate) fn is_behind(&self, k: usize, other: &Place, most: usize, steps: &mut Steps) -> bool
+        ensures behind { result ≡ is_behind most k self.now other.now }
+        ensures step { Takes 1 steps.old steps.new }
+    {
+        let last = self.look(steps) as u128 + k as u128 + most as u128;
+        self.column < other.column || self.column == other.column && last < other.pos as u128
+    }
+
+    /// This occurrence, of k terms, and the other one, of m terms, are near: they stand in one column, don't end at the same token,
+    /// and have at most so many tokens between them.
+    pub(crate) fn is_near(
+        &self,
+        k: usize,
+        other: &Place,
+        m: usize,
+        most: usize,
+        steps: &mut Steps,
+    ) -> bool
+        ensures near { result ≡ are_near most k self.now m other.now }
+        ensures step { Takes 1 steps.old steps.new }
+    {
+        let pos = self.look(steps) as u128;
+        let end = pos + k as u128;
+        let other_pos = other.pos as u128;
+        let other_end = other_pos + m as u128;
+        let between = other_pos
+            .saturating_sub(end)
+            .max(pos.saturating_sub(other_end));
+        self.column == other.column && end != other_end && between <= most as u128
+    }
+
+    /// A phrase with this filter may begin here, where its first term may want position 0.
+    pub(crate) fn may_begin(&self, only: Option<usize>, first: bool, steps: &mut Steps) -> bool
+        ensures begins { result ≡ may_begin only first self.now }
+        ensures step { Takes 1 steps.old steps.new }
+    {
+        let pos = self.look(steps);
+        let is_within = match only {
+            None => true,
+            Some(column) => column == self.column,
+        };
+        is_within && (!first || pos == 0)
+    }
+
+    /// The offset with this number that is told of this place. The position isn't looked at.
+    pub(crate) fn offset(&self, number: usize) -> Offset
+        ensures { result ≡ offset_at number self.now }
+    {
+        Offset {
+            column: self.column,
+            term: number,
+            place: self.start,
+            size: self.size,
+        }
+    }
+}
