@@ -4,10 +4,15 @@ use Rattle.sqlite.specs.Held.{Held, IsNew, state}
 use Rattle.sqlite.specs.State.{HasCleanDisk}
 use Rattle.sqlite.specs.Steps.{IsEmpty}
 use Rattle.sqlite.specs.Store.{Ghosts}
+use Rattle.sqlite_disk.specs.declared.Disk as disk
+use Rattle.sqlite_store.specs.declared.store.FileStore.{FileStore}
+use Rattle.sqlite_wal.specs.Recovery.{Image}
 use Rattle.ft_rows.specs.Store.{nothing_held}
 use Rattle.ft_store.specs.declared.fault.StoreFault.{StoreFault}
 use Rattle.ft_store.specs.declared.fault.StoreFault.TheVariants as store
+use Rattle.ft_store.specs.Calls.{IsPlainFault}
 use Rattle.ft_store.specs.Kept.{StoreState, shows, value_in}
+use Rattle.ft_store.specs.Opened.{IsNewFrom, IsNotTakenFrom, IsOpenedFrom}
 use Rattle.ft_files.specs.declared.databases.OpenFault.{OpenFault}
 use Rattle.ft_files.specs.declared.databases.OpenFault.TheVariants as fault
 
@@ -26,11 +31,6 @@ pub record Opens {X : Type 0} (result : Result X OpenFault) (Is : X → Type 0) 
   pub opened : IfOk result Is
   pub refused : IfErr result IsCause
 
--- a new connection to the plain tables of a file
-pub record IsPlain {P : Type 0} (g : Ghosts P) (IsOpened : Held P → Type 0) (conn : Held P) : Type 0 where
-  pub opened : HasCleanDisk (state g conn) → IsOpened conn
-  pub fresh : IsNew conn
-
 -- a new connection to no plain tables
 pub record IsNoPlain {P : Type 0} (g : Ghosts P) (conn : Held P) : Type 0 where
   pub empty : IsEmpty (state g conn)
@@ -43,10 +43,23 @@ pub record IsNoStore {S : Type 0} (h : Ghosts S) (store : StoreState S) : Type 0
   pub clean : HasCleanDisk (shows h store)
   pub unread : store.rows_read ≡ 0
 
--- both databases, in files
-pub record OpensFiles {P S : Type 0} (g : Ghosts P) (IsOpened : Held P → Type 0) (result : Result (Held P × StoreState S) OpenFault) : Type 0 where
-  pub opened : IfOk result (λ both. HasCleanDisk (state g both.0) → IsOpened both.0)
-  pub unread : IfOk result (λ both. both.1.rows_read ≡ 0)
+-- the store that is found in files which held this image, of which no row was read
+pub record IsStoreFrom {D : Type 0} {g : disk.Ghosts D} (image : Image) (store : StoreState (FileStore D g)) : Type 0 where
+  pub opened : IsOpenedFrom image store.held
+  pub unread : store.rows_read ≡ 0
+
+-- why it is not opened: a plain fault, or the database that is found in them is not taken as a store
+abbrev pub IsNoStoreFor : {D : Type 0} → disk.Ghosts D → Image → OpenFault → Type 0
+IsNoStoreFor g image f = (cause : StoreFault) × (f ≡ fault_of cause) × (IsPlainFault cause ⊎ IsNotTakenFrom g image cause)
+
+abbrev pub IsNoStoreFrom : {D : Type 0} {g : disk.Ghosts D} → Image → Result (StoreState (FileStore D g)) OpenFault → Type 0
+IsNoStoreFrom {D} {g} image result = IfErr result (IsNoStoreFor g image)
+
+-- both databases, in files which held these images
+pub record OpensFiles {D E : Type 0} {g : disk.Ghosts D} {h : disk.Ghosts E} (tables texts : Image) (result : Result (Held (FileStore D g) × StoreState (FileStore E h)) OpenFault) : Type 0 where
+  pub plain : IfOk result (λ both. IsNewFrom tables both.0)
+  pub store : IfOk result (λ both. IsStoreFrom texts both.1)
+  pub refused : IfErr result (λ f. (f ≡ fault.Database) ⊎ IsNoStoreFor h texts f)
 
 -- both databases, empty and in memory
 pub record OpensMemory {P S : Type 0} (g : Ghosts P) (h : Ghosts S) (result : Result (Held P × StoreState S) OpenFault) : Type 0 where

@@ -1,15 +1,17 @@
 //! The two databases: the plain tables and the full-text store.
 
 ghost use Rattle.std.specs.Prelude.{◌≡◌, string_bytes, IfOk};
-ghost use Rattle.sqlite.specs.Files.{IsOpened, over_files};
-ghost use Rattle.ft_files.specs.Opening.{Opens, OpensFiles, OpensMemory, IsPlain, IsNoPlain, IsNoStore};
+ghost use Rattle.sqlite.specs.Files.{over_files};
+ghost use Rattle.sqlite_wal.specs.Files.{image_at};
+ghost use Rattle.ft_store.specs.Opened.{IsNewFrom};
+ghost use Rattle.ft_files.specs.Opening.{Opens, OpensFiles, OpensMemory, IsNoPlain, IsNoStore, IsNoStoreFrom, IsStoreFrom};
 ghost use Rattle.ft_files.specs.Opening as forms;
 ghost use Rattle.ft_files.specs.declared.databases.OpenFault.TheVariants as fault;
 
 use crate::access::make_beside;
 use ft_store::{Store, StoreFault, open_database};
 use ram_disk::{Ram, open_ram};
-use sqlite::{Connection, File, FileStore, Unknown};
+use sqlite::{Connection, FileFrom, FileStore, Start};
 use std::alloc::{AllocError, Global};
 
 /// Why a database is not opened.
@@ -39,21 +41,29 @@ fn store_path(alloc: Global, path: &str) -> Result<String, AllocError>
     format!(in alloc; "{path}-fts4")
 }
 
-// The plain tables in a file, which is made where it isn't there.
-fn open_plain(rt: &HostRuntime, path: &str) -> Result<Connection<FileStore<File>>, OpenFault>
-    ensures { Opens result (IsPlain over_files IsOpened) (λ f. f ≡ fault.Database) }
+// The plain tables in a file, which is made where it isn't there. `A` stands for what the file and its log held.
+fn open_plain<A: Start>(
+    rt: &HostRuntime,
+    path: &str,
+    held: A,
+) -> Result<Connection<FileStore<FileFrom<A>>>, OpenFault>
+    ensures { Opens result (IsNewFrom (image_at A.Start)) (λ f. f ≡ fault.Database) }
 {
-    match open_database(rt, path, Unknown) {
+    match open_database(rt, path, held) {
         Ok(conn) => Ok(conn),
         Err(_) => Err(OpenFault::Database),
     }
 }
 
 // The full-text store in the file beside that of the plain tables, which is made where it isn't there, with the access that
-// the other has.
-fn open_store(rt: &HostRuntime, path: &str) -> Result<Store<FileStore<File>>, OpenFault>
-    ensures { Opens result (λ store. store.rows_read ≡ 0)
-        (λ f. (cause : StoreFault) × (f ≡ forms.fault_of cause)) }
+// the other has. `B` stands for what the file and its log held.
+fn open_store<B: Start>(
+    rt: &HostRuntime,
+    path: &str,
+    held: B,
+) -> Result<Store<FileStore<FileFrom<B>>>, OpenFault>
+    ensures store { IfOk result (IsStoreFrom (image_at B.Start)) }
+    ensures refused { IsNoStoreFrom (image_at B.Start) result }
 {
     let Ok(beside) = store_path(rt.alloc(), path) else {
         return Err(store_fault(StoreFault::Memory));
@@ -61,7 +71,7 @@ fn open_store(rt: &HostRuntime, path: &str) -> Result<Store<FileStore<File>>, Op
     if make_beside(rt, path, beside.as_str()).is_err() {
         return Err(store_fault(StoreFault::Refused));
     }
-    match Store::open_file(rt, beside.as_str()) {
+    match Store::open_from(rt, beside.as_str(), held) {
         Ok(store) => Ok(store),
         Err(cause) => Err(store_fault(cause)),
     }
@@ -90,15 +100,24 @@ fn store_in_memory(alloc: Global) -> Result<Store<FileStore<Ram>>, OpenFault>
     }
 }
 
-/// Both databases in files: that of the plain tables at the path, and the full-text store beside it.
-pub fn open_files(
+/// Both databases in files: that of the plain tables at the path, and the full-text store beside it. `A` and `B` stand for
+/// what they held.
+pub fn open_files<A: Start, B: Start>(
     rt: &HostRuntime,
     path: &str,
-) -> Result<(Connection<FileStore<File>>, Store<FileStore<File>>), OpenFault>
-    ensures { OpensFiles over_files IsOpened result }
+    tables: A,
+    texts: B,
+) -> Result<
+    (
+        Connection<FileStore<FileFrom<A>>>,
+        Store<FileStore<FileFrom<B>>>,
+    ),
+    OpenFault,
+>
+    ensures { OpensFiles (image_at A.Start) (image_at B.Start) result }
 {
-    let plain = open_plain(rt, path)?;
-    let store = open_store(rt, path)?;
+    let plain = open_plain(rt, path, tables)?;
+    let store = open_store(rt, path, texts)?;
     Ok((plain, store))
 }
 

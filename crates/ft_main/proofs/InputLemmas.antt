@@ -11,14 +11,15 @@ use Rattle.ft_shell.specs.Deeds.{Deeds, idle, and_then}
 use Rattle.ft_shell.specs.Promise.{Ran, AllRan, PromiseKept, KeptByRuns, none_ran, last_ran, first_ran}
 use Rattle.ft_shell.specs.Runs.{Console}
 use Rattle.ft_shell.proofs.TurnsLemmas.{assoc_then, idle_then, then_idle}
+use Rattle.ft_shell.proofs.PromiseLemmas.{all_made}
 use Rattle.std.specs.Prelude.{OnOk, OnErr, ◌≢◌}
 use Rattle.std.specs.Io.KnownBytes.{Appends}
 use Rattle.sqlite.specs.Held.{Held}
 use Rattle.shell_text.specs.Print.{AppendsFront, Settings}
 use Rattle.ft_store.specs.Kept.{StoreState}
-use Rattle.ft_index.specs.Kept.{FullText, Holds, IsUp}
+use Rattle.ft_index.specs.Kept.{FullText, Call, Executed, Noted, Holds, IsUp, Runs}
 use Rattle.ft_index.specs.Opened.{Opens}
-use Rattle.plain_shell.specs.Writing.{AppendsUpTo}
+use Rattle.plain_shell.specs.Writing.{AppendsUpTo, Sends}
 use Rattle.plain_shell.proofs.WriteLemmas.{up_to_part, up_to_whole}
 use Rattle.ft_main.specs.Inputs.{Closes, EndsAs, InTurn, OpensAndRuns, Outputs, RunsAndKeeps, RunsInTurn, RunsOne, Stage, WritesOwn, due, exit_status}
 
@@ -125,7 +126,7 @@ all_ran {P} {S} g h (input ∷ inputs) cause old new all (Ok status, mid, own, (
 pub runs_and_keeps : {P S : Type 0} (g : Ghosts P) (h : Ghosts S) (inputs : List (Option (List ℕ))) (ended : Result Status RunFault) (old new : Stage P S) → KeptByRuns g h (IsUp h) → RunsInTurn g h inputs ended old new → RunsAndKeeps g h inputs ended old new
 runs_and_keeps g h inputs ended old new law (cause, all, turns, ends) =
     let ran = all_ran g h inputs cause old new all turns in
-    (cause, all, turns, ends, ran, λ held up. law [] old.parts new.parts all held ran up)
+    (cause, all, turns, ends, ran, λ first held up. law first old.parts new.parts all held ran up)
 
 -- ---- the inputs of a command line
 
@@ -139,10 +140,14 @@ due_some (text ∷ texts) standard some = refl
 
 -- ---- what is written at the end
 
--- a line, whole or a front of it
-pub line_sent : {T E : Type 0} (r : Result T E) (a b : Option (List ℕ)) (x : List ℕ) → OnOk r (Appends a b x) → OnErr r (AppendsFront a b x) → AppendsUpTo a b x
-line_sent (Ok t) a b x whole part = up_to_whole a b x whole
-line_sent (Err e) a b x whole part = up_to_part a b x part
+-- a text, whole or a front of it
+pub text_sent : {T E : Type 0} (r : Result T E) (a b : Option (List ℕ)) (x : List ℕ) → OnOk r (Appends a b x) → OnErr r (AppendsFront a b x) → Sends r a b x
+text_sent (Ok t) a b x whole part = whole
+text_sent (Err e) a b x whole part = up_to_part a b x part
+
+pub up_to_sent : {T E : Type 0} (r : Result T E) (a b : Option (List ℕ)) (x : List ℕ) → Sends r a b x → AppendsUpTo a b x
+up_to_sent (Ok t) a b x whole = up_to_whole a b x whole
+up_to_sent (Err e) a b x front = front
 
 abbrev pub code_if : Bool → ℕ
 code_if b = if b then 0 else 1
@@ -174,21 +179,34 @@ closes_as (Ok status) cause all a b n (is, faults, quit) (same, code) =
     go (suc m) zero same = absurd (omega (arith, same))
     go (suc m) (suc n) same = ap code_if (not_none (suc m) (omega arith) ∙ sym (not_none (suc n) (omega arith)))
 
+-- where a store is up in the end, it was so from the first
+up_before : {S : Type 0} (h : Ghosts S) (start end : FullText S) (calls : List Call) → IsUp h end → Runs h start calls end → IsUp h start
+up_before h start end [] up runs = subst (IsUp h) runs up
+up_before h start end (Executed command answer ∷ calls) up runs = runs.1.was_up (up_before h runs.0 end calls up runs.2)
+up_before h start end (Noted name is_done ∷ calls) up runs = runs.1.was_up (up_before h runs.0 end calls up runs.2)
+
+up_from_first : {P S : Type 0} (g : Ghosts P) (h : Ghosts S) (old new : Parts P S) (all : Deeds) → AllRan g h old all new → IsUp h new.full_text → IsUp h old.full_text
+up_from_first g h old new all ran up = up_before h old.full_text new.full_text all.calls up (all_made g h old new all ran)
+
 -- the inputs are run over two databases, and then the program ends
-pub runs_over : {P S : Type 0} (g : Ghosts P) (h : Ghosts S) (settings : Settings) (plain : Held P) (store : StoreState S) (made : FullText S) (inputs : List (Option (List ℕ))) (ended : Result Status RunFault) (old new : Outputs) (parts : Parts P S) (last : Stage P S) (status : ℕ) →
-    Opens h store made → parts ≡ record { settings = settings; plain = plain; full_text = made } → RunsAndKeeps g h inputs ended (record { parts = parts; on = old }) last → new.out ≡ last.on.out → Closes ended last.on.err new.err status → OpensAndRuns g h settings plain store inputs old new status
-runs_over {P} {S} g h settings plain store made inputs ended old new parts last status opened is (cause, all, turns, ends, ran, kept) out closes =
+pub runs_over : {P S : Type 0} (g : Ghosts P) (h : Ghosts S) (AreClosed : Parts P S → Type 0) (settings : Settings) (plain : Held P) (store : StoreState S) (made : FullText S) (inputs : List (Option (List ℕ))) (ended : Result Status RunFault) (old new : Outputs) (parts : Parts P S) (last : Stage P S) (status : ℕ) →
+    Opens h store made → parts ≡ record { settings = settings; plain = plain; full_text = made } → RunsAndKeeps g h inputs ended (record { parts = parts; on = old }) last → AreClosed last.parts → new.out ≡ last.on.out → Closes ended last.on.err new.err status → OpensAndRuns g h AreClosed settings plain store inputs old new status
+runs_over {P} {S} g h AreClosed settings plain store made inputs ended old new parts last status opened is (cause, all, turns, ends, ran, kept) closed out closes =
     let end = closes_as ended cause all last.on.err new.err status ends closes in
-    inr (record {
-      made = made;
-      opened = opened;
-      cause = cause;
-      last = last;
-      all = all;
-      turns = subst (λ (p : Parts P S). InTurn g h inputs cause (record { parts = p; on = old }) last all) is turns;
-      out = out;
-      err = end.0;
-      ends = end.1;
-      ran = subst (λ (p : Parts P S). AllRan g h p all last.parts) is ran;
-      kept = λ held up is_up. subst (λ (p : Parts P S). PromiseKept g h [] p all last.parts) is (kept (subst (λ (p : Parts P S). Holds h p.full_text []) (sym is) (opened.marks up [] held)) is_up);
-    })
+    inr (
+      record {
+        made = made;
+        opened = opened;
+        cause = cause;
+        last = last;
+        all = all;
+        turns = subst (λ (p : Parts P S). InTurn g h inputs cause (record { parts = p; on = old }) last all) is turns;
+        out = out;
+        err = end.0;
+        ends = end.1;
+        ran = subst (λ (p : Parts P S). AllRan g h p all last.parts) is ran;
+        kept = λ first held up. subst (λ (p : Parts P S). PromiseKept g h first p all last.parts) is
+            (kept first (subst (λ (p : Parts P S). Holds h p.full_text first) (sym is) (opened.marks (subst (λ (p : Parts P S). IsUp h p.full_text) is (up_from_first g h parts last.parts all ran up)) first held)) up);
+      },
+      closed,
+    )

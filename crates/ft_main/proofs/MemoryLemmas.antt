@@ -1,30 +1,56 @@
--- Databases in memory.
-use Rattle.std.proofs.Common.{◌≡◌, ◌⊎◌, ℕ, List, [], Option, Result, Ok, Err, inl, inr, sym, subst}
-use Rattle.std.specs.Prelude.{IfOk}
-use Rattle.sqlite.specs.Held.{Held, state}
+-- Databases that are opened, in memory or in files.
+use Rattle.std.proofs.Common.{◌≡◌, ◌⊎◌, ℕ, List, [], map, Option, Some, String, string_bytes, Global, Result, Ok, Err, inl, inr, refl, sym, subst}
+use Rattle.std.specs.Borrow.{RattleType}
+use Rattle.sqlite_disk.specs.declared.Disk as disk
+use Rattle.sqlite_disk.specs.declared.start.Start as first
+use Rattle.ft_line.specs.declared.line.Line.{Line}
+use Rattle.sqlite_store.specs.declared.store.FileStore.{FileStore}
+use Rattle.sqlite_wal.specs.Recovery.{Image}
+use Rattle.sqlite.specs.Files.{over_files}
+use Rattle.sqlite.specs.Held.{Held}
 use Rattle.sqlite.specs.State.{HasCleanDisk}
-use Rattle.sqlite.specs.Steps.{IsEmpty}
-use Rattle.sqlite.specs.Store.{Ghosts}
 use Rattle.shell_text.specs.Print.{Settings}
-use Rattle.ft_store.specs.Kept.{StoreState, shows, value_in}
-use Rattle.ft_rows.specs.Store.{nothing_held}
+use Rattle.ft_store.specs.Kept.{StoreState, shows}
 use Rattle.ft_index.specs.Kept.{StoreHolds}
 use Rattle.ft_files.specs.declared.databases.OpenFault.{OpenFault}
 use Rattle.ft_files.specs.declared.databases.OpenFault.TheVariants as opening
-use Rattle.ft_main.specs.Inputs.{NotOpened, Outputs, RunsOn}
-use Rattle.ft_main.specs.Memory.{FromNothing}
+use Rattle.ft_files.specs.Opening.{IsNoStoreFor, OpensFiles, OpensMemory}
+use Rattle.ft_main.specs.Closed.{AreClosed}
+use Rattle.ft_main.specs.InFiles.{RunsFromFiles, RunsInFiles}
+use Rattle.ft_main.specs.Inputs.{NotOpened, Outputs, RunsOn, due}
+use Rattle.ft_main.specs.Memory.{FromNothing, IsOfMemory, RunsIn, RunsLine}
 
 -- over stores that are always clean an empty one is up
-pub from_nothing : {P S : Type 0} (g : Ghosts P) (h : Ghosts S) (settings : Settings) (opened : Result (Held P × StoreState S) OpenFault) (inputs : List (Option (List ℕ))) (old new : Outputs) (status : ℕ) →
-    ((store : StoreState S) → HasCleanDisk (shows h store)) → IfOk opened (λ both. IsEmpty (state g both.0)) → IfOk opened (λ both. value_in h both.1 ≡ nothing_held) → RunsOn g h settings opened inputs old new status →
-    ((why : OpenFault) × NotOpened why old new status) ⊎ FromNothing g h settings inputs old new status
-from_nothing g h settings (Err why) inputs old new status always no_plain no_store runs = inl (why, runs)
-from_nothing g h settings (Ok (plain, store)) inputs old new status always no_plain no_store (inl refused) = inl (opening.Store, refused)
-from_nothing g h settings (Ok (plain, store)) inputs old new status always no_plain no_store (inr runs) = inr (record {
+pub from_nothing : {D : Type 0} (g : disk.Ghosts D) (settings : Settings) (opened : Result (Held (FileStore D g) × StoreState (FileStore D g)) OpenFault) (inputs : List (Option (List ℕ))) (old new : Outputs) (status : ℕ) →
+    ((store : StoreState (FileStore D g)) → HasCleanDisk (shows over_files store)) → OpensMemory over_files over_files opened → RunsOn over_files over_files AreClosed settings opened inputs old new status →
+    ((why : OpenFault) × IsOfMemory why × NotOpened why old new status) ⊎ FromNothing g settings inputs old new status
+from_nothing g settings (Err why) inputs old new status always opens runs = inl (why, opens.refused, runs)
+from_nothing g settings (Ok (plain, store)) inputs old new status always opens (inl refused) = inl (opening.Store, inr refl, refused)
+from_nothing g settings (Ok (plain, store)) inputs old new status always opens (inr (runs, closed)) = inr (record {
   plain = plain;
-  no_plain = no_plain;
+  no_plain = opens.plain;
   store = store;
-  no_store = no_store;
+  no_store = opens.store;
   runs = runs;
-  kept = λ is_open. runs.kept (subst (λ v. StoreHolds v []) (sym no_store) tt) (record { clean = always runs.made.store; is_open = runs.opened.live (always runs.made.store) }) (record { clean = always runs.last.parts.full_text.store; is_open = is_open });
+  kept = λ is_open. runs.kept [] (subst (λ v. StoreHolds v []) (sym opens.store) tt) (record { clean = always runs.last.parts.full_text.store; is_open = is_open });
+  closed = closed;
 })
+
+-- over files
+pub from_files : {D E : Type 0} (g : disk.Ghosts D) (h : disk.Ghosts E) (tables texts : Image) (settings : Settings) (opened : Result (Held (FileStore D g) × StoreState (FileStore E h)) OpenFault) (inputs : List (Option (List ℕ))) (old new : Outputs) (status : ℕ) →
+    OpensFiles tables texts opened → RunsOn over_files over_files AreClosed settings opened inputs old new status → RunsFromFiles g h tables texts settings inputs old new status
+from_files g h tables texts settings (Err why) inputs old new status opens runs = inl (why, cause opens.refused, runs)
+  where
+    cause : (why ≡ opening.Database) ⊎ IsNoStoreFor h texts why → (why ≡ opening.Database) ⊎ ((why ≡ opening.Store) ⊎ IsNoStoreFor h texts why)
+    cause (inl is) = inl is
+    cause (inr is) = inr (inr is)
+from_files g h tables texts settings (Ok (plain, store)) inputs old new status opens (inl refused) = inl (opening.Store, inr (inl refl), refused)
+from_files g h tables texts settings (Ok (plain, store)) inputs old new status opens (inr (runs, closed)) =
+    inr (record { plain = plain; tables_found = opens.plain; store = store; texts_found = opens.store; runs = runs; closed = closed })
+
+-- a command line with a FILE
+pub in_a_file : (A B : RattleType) (tables : first.Ghosts A.Denot) (texts : first.Ghosts B.Denot) (line : Line) (path : String Global) (given : List (String Global)) (standard : Option (List ℕ)) (old new : Outputs) (status : ℕ) → line.file ≡ Some path → given ≡ line.inputs.items →
+    RunsInFiles A B tables texts line.settings (due (map string_bytes given) standard) old new status → RunsLine A B tables texts line standard old new status
+in_a_file A B tables texts line path given standard old new status is same runs =
+    subst (λ (f : Option (String Global)). RunsIn A B tables texts f line.settings (due (map string_bytes line.inputs.items) standard) old new status) (sym is)
+    (subst (λ (t : List (String Global)). RunsInFiles A B tables texts line.settings (due (map string_bytes t) standard) old new status) same runs)

@@ -1,11 +1,13 @@
 -- Meaning. The inputs of a command line, run in turn over two databases, and what is told of how that ends (own choice).
-use Rattle.std.specs.Prelude.{ℕ, ◌≡◌, ◌⊎◌, ◌^◌, ◌-◌, ◌++◌, ◌==◌, min, if◌then◌else◌, MatchBool, MatchResult, List, [], ◌∷◌, map, codes, Option, Some, None, IfSome, Result, Ok, Err}
+use Rattle.std.specs.Prelude.{ℕ, ◌≡◌, ◌⊎◌, ◌^◌, ◌-◌, ◌++◌, ◌==◌, min, if◌then◌else◌, MatchBool, MatchResult, List, [], ◌∷◌, map, codes, Option, Some, None, Result, Ok, Err}
 use Rattle.sqlite.specs.Store.{Ghosts}
 use Rattle.sqlite.specs.Held.{Held}
 use Rattle.shell_text.specs.Print.{Settings}
 use Rattle.ft_store.specs.Kept.{StoreState, value_in}
 use Rattle.ft_index.specs.Kept.{FullText, Holds, IsUp, StoreHolds}
 use Rattle.ft_index.specs.Opened.{Opens}
+use Rattle.ft_content.specs.Deserved.{Contents}
+use Rattle.std.specs.Fmt.{signed_decimal}
 use Rattle.plain_shell.specs.declared.run.Outputs.{Outputs as RustOutputs}
 use Rattle.plain_shell.specs.declared.run.Status.{Status}
 use Rattle.plain_shell.specs.declared.run.RunFault.{RunFault}
@@ -72,11 +74,11 @@ EndsAs (Err fault) cause all = cause ≡ Some fault
 abbrev pub RunsInTurn : {P S : Type 0} → Ghosts P → Ghosts S → List (Option (List ℕ)) → Result Status RunFault → Stage P S → Stage P S → Type 0
 RunsInTurn g h inputs ended old new = (cause : Option RunFault) × (all : Deeds) × InTurn g h inputs cause old new all × EndsAs ended cause all
 
--- They are runs one after another: so what any runs leave of the full-text tables is left by them, too. Where there were no tables, these are
--- what the accepted commands made, if the store is up in the end.
+-- They are runs one after another: so what any runs leave of the full-text tables is left by them, too. Whatever these were before, they are
+-- what the accepted commands made of that, if the store is up in the end.
 abbrev pub RunsAndKeeps : {P S : Type 0} → Ghosts P → Ghosts S → List (Option (List ℕ)) → Result Status RunFault → Stage P S → Stage P S → Type 0
 RunsAndKeeps g h inputs ended old new = (cause : Option RunFault) × (all : Deeds) × InTurn g h inputs cause old new all × EndsAs ended cause all
-    × AllRan g h old.parts all new.parts × (Holds h old.parts.full_text [] → IsUp h new.parts.full_text → PromiseKept g h [] old.parts all new.parts)
+    × AllRan g h old.parts all new.parts × ((first : Contents) → Holds h old.parts.full_text first → IsUp h new.parts.full_text → PromiseKept g h first old.parts all new.parts)
 
 -- the program's own line for a fault that ended a run
 abbrev pub own_line : RunFault → List ℕ
@@ -100,22 +102,22 @@ abbrev pub Closes : Result Status RunFault → Option (List ℕ) → Option (Lis
 Closes (Ok status) old new n = (new ≡ old) × (n ≡ (if status.faults == 0 then 0 else 1))
 Closes (Err fault) old new n = AppendsUpTo old new (own_line fault) × (n ≡ 1)
 
--- the line for a database that is not opened, but for one of another version
-abbrev pub opening_line : OpenFault → Option (List ℕ)
-opening_line opening.Database = Some (codes "Error: unable to open database" ++ 10 ∷ [])
-opening_line opening.NotAStore = Some (codes "Error: not a full-text store" ++ 10 ∷ [])
-opening_line (opening.Version n) = None
-opening_line opening.Store = Some (codes "Error: unable to open full-text store" ++ 10 ∷ [])
+-- the line for a database that is not opened
+abbrev pub opening_line : OpenFault → List ℕ
+opening_line opening.Database = codes "Error: unable to open database" ++ 10 ∷ []
+opening_line opening.NotAStore = codes "Error: not a full-text store" ++ 10 ∷ []
+opening_line (opening.Version n) = codes "Error: full-text store of version " ++ (signed_decimal n ++ 10 ∷ [])
+opening_line opening.Store = codes "Error: unable to open full-text store" ++ 10 ∷ []
 
 -- a database is not opened: why is told, and nothing else
 pub record NotOpened (why : OpenFault) (old new : Outputs) (status : ℕ) : Type 0 where
   pub out : new.out ≡ old.out
-  pub err : IfSome (opening_line why) (AppendsUpTo old.err new.err)
+  pub err : AppendsUpTo old.err new.err (opening_line why)
   pub ends : status ≡ 1
 
 module _ {P S : Type 0} (g : Ghosts P) (h : Ghosts S) where
   -- The inputs are run in turn from plain tables and a full-text store as it is taken, and then the program's own line is written. They are
-  -- runs one after another; where the store held no tables, it holds in the end what the accepted commands made.
+  -- runs one after another; whatever contents the store held, it holds in the end what the accepted commands made of them, if it is up then.
   pub record RunsOver (settings : Settings) (plain : Held P) (store : StoreState S) (inputs : List (Option (List ℕ))) (old new : Outputs) (status : ℕ) : Type 0 where
     pub made : FullText S
     pub opened : Opens h store made
@@ -127,13 +129,13 @@ module _ {P S : Type 0} (g : Ghosts P) (h : Ghosts S) where
     pub err : WritesOwn cause last.on.err new.err
     pub ends : status ≡ exit_status cause all
     pub ran : AllRan g h (record { settings = settings; plain = plain; full_text = made }) all last.parts
-    pub kept : StoreHolds (value_in h store) [] → IsUp h made → IsUp h last.parts.full_text → PromiseKept g h [] (record { settings = settings; plain = plain; full_text = made }) all last.parts
+    pub kept : (first : Contents) → StoreHolds (value_in h store) first → IsUp h last.parts.full_text → PromiseKept g h first (record { settings = settings; plain = plain; full_text = made }) all last.parts
 
-  -- or the store can't be read
-  abbrev pub OpensAndRuns : Settings → Held P → StoreState S → List (Option (List ℕ)) → Outputs → Outputs → ℕ → Type 0
-  OpensAndRuns settings plain store inputs old new status = NotOpened opening.Store old new status ⊎ RunsOver settings plain store inputs old new status
+  -- and both are closed so; or the store can't be read
+  abbrev pub OpensAndRuns : (Parts P S → Type 0) → Settings → Held P → StoreState S → List (Option (List ℕ)) → Outputs → Outputs → ℕ → Type 0
+  OpensAndRuns AreClosed settings plain store inputs old new status = NotOpened opening.Store old new status ⊎ ((it : RunsOver settings plain store inputs old new status) × AreClosed it.last.parts)
 
   -- or a database isn't opened
-  abbrev pub RunsOn : Settings → Result (Held P × StoreState S) OpenFault → List (Option (List ℕ)) → Outputs → Outputs → ℕ → Type 0
-  RunsOn settings (Ok (plain, store)) inputs old new status = OpensAndRuns settings plain store inputs old new status
-  RunsOn settings (Err why) inputs old new status = NotOpened why old new status
+  abbrev pub RunsOn : (Parts P S → Type 0) → Settings → Result (Held P × StoreState S) OpenFault → List (Option (List ℕ)) → Outputs → Outputs → ℕ → Type 0
+  RunsOn AreClosed settings (Ok (plain, store)) inputs old new status = OpensAndRuns AreClosed settings plain store inputs old new status
+  RunsOn AreClosed settings (Err why) inputs old new status = NotOpened why old new status

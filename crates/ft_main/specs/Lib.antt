@@ -1,3 +1,5 @@
 -- Meaning
 pub mod Inputs
+pub mod Closed
+pub mod InFiles
 pub mod Memory

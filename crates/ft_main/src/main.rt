@@ -4,6 +4,7 @@
 mod start;
 
 use ft_shell::Outputs;
+use sqlite::Unknown;
 use start::start;
 use std::env;
 use std::io::{self, BufWriter, ErrorKind, Write};
@@ -22,7 +23,14 @@ fn run(rt: &HostRuntime) -> io::Result<u8> {
     let words: Vec<&str> = texts.iter().map(|text| text.as_str()).collect(rt.alloc())?;
     let out = BufWriter::new(rt.alloc(), rt.stdout())?;
     let mut outputs = Outputs::new(out, rt.stderr());
-    Ok(start(rt, words.as_slice(), &mut rt.stdin(), &mut outputs))
+    Ok(start(
+        rt,
+        words.as_slice(),
+        Unknown,
+        Unknown,
+        &mut rt.stdin(),
+        &mut outputs,
+    ))
 }
 
 fn main(rt: HostRuntime) -> ExitCode {

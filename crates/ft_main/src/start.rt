@@ -1,8 +1,11 @@
 //! The program: its words, its databases, its inputs and its status.
 
-ghost use Rattle.std.specs.Prelude.{◌≡◌, map, Some, IfSome, string_bytes};
+ghost use Rattle.std.specs.Prelude.{◌≡◌, map, Some, string_bytes};
 ghost use Rattle.sqlite.specs.Files.{over_files};
-ghost use Rattle.plain_shell.specs.Writing.{AppendsUpTo};
+ghost use Rattle.plain_shell.specs.Writing.{AppendsUpTo, Sends};
+ghost use Rattle.ft_files.specs.declared.databases.OpenFault.TheVariants as opening;
+ghost use Rattle.ft_main.specs.Closed.{AreClosed, IsLeft};
+ghost use Rattle.ft_main.specs.InFiles.{RunsInFiles};
 ghost use Rattle.ft_main.specs.Inputs.{outputs_of, stage_of, due, RunsInTurn, RunsAndKeeps, Closes, OpensAndRuns, RunsOn, opening_line};
 ghost use Rattle.ft_main.specs.Inputs as forms;
 ghost use Rattle.ft_main.specs.Memory.{RefusesLine, RunsInMemory, RunsLine, Starts};
@@ -12,8 +15,9 @@ use ft_index::FullText;
 use ft_line::{Line, LineFault, read_line};
 use ft_shell::{Outputs, RunFault, Session, Status};
 use ft_store::Store;
-use shell_text::{Settings, write_out};
-use sqlite::{Alter, Connection, FileStore};
+use itoa::Buffer;
+use shell_text::{PrintFault, Settings, write_out};
+use sqlite::{Alter, Connection, FileStore, Files, Start};
 use sqlite_disk::Disk;
 use std::alloc::Global;
 use std::io::{Read, Write};
@@ -26,19 +30,22 @@ const FAULTY: u8 = 1;
 const NOT_UNDERSTOOD: u8 = 2;
 
 /// Runs the program on words without its own name, and gives its status: 0; 1 where a fault line was written, a database
-/// wasn't opened or the run ended early; 2 where the words aren't understood.
-pub fn start<R: Read, O: Write, E: Write>(
+/// wasn't opened or the run ended early; 2 where the words aren't understood. `A` and `B` stand for what the files of the
+/// plain tables and of the full-text store held.
+pub fn start<A: Start, B: Start, R: Read, O: Write, E: Write>(
     rt: &HostRuntime,
     words: &[&str],
+    tables: A,
+    texts: B,
     input: &mut R,
     outputs: &mut Outputs<O, E>,
 ) -> u8
-    ensures { Starts (map (λ word. word.now) words.now) (R.remaining input.old)
+    ensures { Starts A.row B.row A.Start B.Start (map (λ word. word.now) words.now) (R.remaining input.old)
         (outputs_of O.contents E.contents outputs.old)
         (outputs_of O.contents E.contents outputs.new) result }
 {
     match read_line(rt.alloc(), words) {
-        Ok(line) => run_line(rt, line, input, outputs),
+        Ok(line) => run_line(rt, line, tables, texts, input, outputs),
         Err(fault) => refuse_line(&fault, outputs),
     }
 }
@@ -67,13 +74,15 @@ fn refuse_line<O: Write, E: Write>(fault: &LineFault, outputs: &mut Outputs<O, E
 }
 
 // Runs what a command line says.
-fn run_line<R: Read, O: Write, E: Write>(
+fn run_line<A: Start, B: Start, R: Read, O: Write, E: Write>(
     rt: &HostRuntime,
     line: Line,
+    tables: A,
+    texts: B,
     input: &mut R,
     outputs: &mut Outputs<O, E>,
 ) -> u8
-    ensures { RunsLine line (R.remaining input.old)
+    ensures { RunsLine A.row B.row A.Start B.Start line (R.remaining input.old)
         (outputs_of O.contents E.contents outputs.old)
         (outputs_of O.contents E.contents outputs.new) result }
 {
@@ -84,9 +93,11 @@ fn run_line<R: Read, O: Write, E: Write>(
     } = line;
     match file {
         None => in_memory(rt, settings, inputs.as_slice(), input, outputs),
-        Some(path) => on_databases(
+        Some(path) => in_files(
             rt,
-            open_files(rt, path.as_str()),
+            path.as_str(),
+            tables,
+            texts,
             settings,
             inputs.as_slice(),
             input,
@@ -110,16 +121,42 @@ fn in_memory<R: Read, O: Write, E: Write>(
     on_databases(rt, open_in_memory(rt), settings, inputs, input, outputs)
 }
 
-// Runs the inputs over two databases, if they are opened.
-fn on_databases<D: Disk + Drop, R: Read, O: Write, E: Write>(
+// Runs the inputs over two databases in files.
+fn in_files<A: Start, B: Start, R: Read, O: Write, E: Write>(
     rt: &HostRuntime,
-    opened: Result<(Connection<FileStore<D>>, Store<FileStore<D>>), OpenFault>,
+    path: &str,
+    tables: A,
+    texts: B,
     settings: Settings,
     inputs: &[String],
     input: &mut R,
     outputs: &mut Outputs<O, E>,
 ) -> u8
-    ensures { RunsOn over_files over_files settings opened
+    ensures { RunsInFiles A.row B.row A.Start B.Start settings
+        (due (map string_bytes inputs.now) (R.remaining input.old))
+        (outputs_of O.contents E.contents outputs.old)
+        (outputs_of O.contents E.contents outputs.new) result }
+{
+    on_databases(
+        rt,
+        open_files(rt, path, tables, texts),
+        settings,
+        inputs,
+        input,
+        outputs,
+    )
+}
+
+// Runs the inputs over two databases, if they are opened.
+fn on_databases<D: Disk + Drop, F: Disk + Drop, R: Read, O: Write, E: Write>(
+    rt: &HostRuntime,
+    opened: Result<(Connection<FileStore<D>>, Store<FileStore<F>>), OpenFault>,
+    settings: Settings,
+    inputs: &[String],
+    input: &mut R,
+    outputs: &mut Outputs<O, E>,
+) -> u8
+    ensures { RunsOn over_files over_files AreClosed settings opened
         (due (map string_bytes inputs.now) (R.remaining input.old))
         (outputs_of O.contents E.contents outputs.old)
         (outputs_of O.contents E.contents outputs.new) result }
@@ -131,16 +168,16 @@ fn on_databases<D: Disk + Drop, R: Read, O: Write, E: Write>(
 }
 
 // Runs the inputs over both databases, and closes them: what was committed goes from the log into each file.
-fn over<D: Disk + Drop, R: Read, O: Write, E: Write>(
+fn over<D: Disk + Drop, F: Disk + Drop, R: Read, O: Write, E: Write>(
     rt: &HostRuntime,
     plain: Connection<FileStore<D>>,
-    store: Store<FileStore<D>>,
+    store: Store<FileStore<F>>,
     settings: Settings,
     inputs: &[String],
     input: &mut R,
     outputs: &mut Outputs<O, E>,
 ) -> u8
-    ensures { OpensAndRuns over_files over_files settings plain store
+    ensures { OpensAndRuns over_files over_files AreClosed settings plain store
         (due (map string_bytes inputs.now) (R.remaining input.old))
         (outputs_of O.contents E.contents outputs.old)
         (outputs_of O.contents E.contents outputs.new) result }
@@ -151,26 +188,66 @@ fn over<D: Disk + Drop, R: Read, O: Write, E: Write>(
     let mut session = session_over(rt.alloc(), plain, full_text, settings);
     let mut files = SystemFiles { rt };
     let ended = run_all_on(&mut session, inputs, input, &mut files, outputs);
-    close(session);
+    let (tables, texts) = close(session);
+    let_go(tables);
+    let_go(texts);
     status_of(ended, &mut outputs.err)
 }
 
-fn session_over<D: Disk + Drop>(
+// A session over a plain database in files. Here, too, one of the two stores is named at a time.
+fn session_over<D: Disk + Drop, S: Alter>(
     alloc: Global,
     plain: Connection<FileStore<D>>,
-    full_text: FullText<FileStore<D>>,
+    full_text: FullText<S>,
     settings: Settings,
-) -> Session<FileStore<D>, FileStore<D>>
+) -> Session<FileStore<D>, S>
     ensures { result ≡ record { settings = settings; plain = plain; full_text = full_text } }
 {
     Session::new(alloc, plain, full_text, settings)
 }
 
+// Such a session taken apart.
+fn parts_over<D: Disk + Drop, S: Alter>(
+    session: Session<FileStore<D>, S>,
+) -> (Connection<FileStore<D>>, FullText<S>)
+    ensures { result ≡ (session.plain, session.full_text) }
+{
+    session.into_parts()
+}
+
+// What a close leaves: the two files of a database, or the store that they are in where it is refused.
+type Left<D> = Result<Files<D>, FileStore<D>>;
+
 // Closes both databases. Where that is refused their logs keep what was committed, and the next open finds it.
-fn close<D: Disk + Drop>(session: Session<FileStore<D>, FileStore<D>>) {
-    let (plain, full_text) = session.into_parts();
-    let _ = plain.close();
-    let _ = full_text.into_store().into_connection().close();
+fn close<D: Disk + Drop, F: Disk + Drop>(
+    session: Session<FileStore<D>, FileStore<F>>,
+) -> (Left<D>, Left<F>)
+    ensures tables { IsLeft session.plain result.0 }
+    ensures texts { IsLeft session.full_text.store.held result.1 }
+{
+    let (plain, full_text) = parts_over(session);
+    (
+        close_one(plain),
+        close_one(full_text.into_store().into_connection()),
+    )
+}
+
+// What a close left is let go.
+fn let_go<D: Disk + Drop>(left: Left<D>) {
+    match left {
+        Ok(files) => drop(files),
+        Err(store) => drop(store.close()),
+    }
+}
+
+// Closes a database.
+fn close_one<D: Disk + Drop>(conn: Connection<FileStore<D>>) -> Left<D>
+    ensures { IsLeft conn result }
+{
+    match conn.close_files() {
+        Ok(files) => Ok(files),
+        Err((_, store)) => Err(store),
+    }
 }
 
 // The program's own line for a fault that ended a run.
@@ -185,11 +262,29 @@ fn own_line(fault: RunFault) -> &'static str
     }
 }
 
+// Writes a text whole, or as far as the writer takes it.
+fn send<W: Write>(to: &mut W, text: &str) -> Result<(), PrintFault>
+    ensures { Sends result (W.contents to.old) (W.contents to.new) text.now }
+{
+    write_out(to, text.as_bytes())
+}
+
+// Writes the line for a store of a version that isn't taken.
+fn send_version<W: Write>(to: &mut W, number: i64) -> Result<(), PrintFault>
+    ensures { Sends result (W.contents to.old) (W.contents to.new)
+        (opening_line (opening.Version number)) }
+{
+    let mut buffer = Buffer::new();
+    send(to, "Error: full-text store of version ")?;
+    send(to, buffer.format(number))?;
+    send(to, "\n")
+}
+
 // Writes a line as far as the writer takes it.
 fn write_line<W: Write>(to: &mut W, line: &str)
     ensures { AppendsUpTo (W.contents to.old) (W.contents to.new) line.now }
 {
-    let _ = write_out(to, line.as_bytes());
+    let _ = send(to, line);
 }
 
 // The program's status for how its run ended.
@@ -272,8 +367,7 @@ fn run_texts<P: Alter, S: Alter, O: Write, E: Write>(
 
 // Writes why a database is not opened.
 fn tell<E: Write>(err: &mut E, fault: OpenFault) -> u8
-    ensures line { IfSome (opening_line fault)
-        (AppendsUpTo (E.contents err.old) (E.contents err.new)) }
+    ensures line { AppendsUpTo (E.contents err.old) (E.contents err.new) (opening_line fault) }
     ensures status { result ≡ 1 }
 {
     match fault {
@@ -281,7 +375,7 @@ fn tell<E: Write>(err: &mut E, fault: OpenFault) -> u8
         OpenFault::NotAStore => write_line(err, "Error: not a full-text store\n"),
         OpenFault::Store => write_line(err, "Error: unable to open full-text store\n"),
         OpenFault::Version(number) => {
-            let _ = writeln!(err, "Error: full-text store of version {number}");
+            let _ = send_version(err, number);
         }
     }
     FAULTY

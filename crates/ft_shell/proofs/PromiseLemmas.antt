@@ -262,7 +262,7 @@ ran_turns g h (Err fault) old new all (it, is) =
 ran_made : {P S : Type 0} (g : Ghosts P) (h : Ghosts S) (ended : Result Status RunFault) (old new : Console P S) (all : Deeds) → Ran g h ended old new all → Runs h old.shell.full_text all.calls new.shell.full_text
 ran_made g h ended old new all ran = let it = ran_turns g h ended old new all ran in turns_made g h it.0 old.shell new.shell all it.1
 
-all_made : {P S : Type 0} (g : Ghosts P) (h : Ghosts S) (old new : Parts P S) (all : Deeds) → AllRan g h old all new → Runs h old.full_text all.calls new.full_text
+pub all_made : {P S : Type 0} (g : Ghosts P) (h : Ghosts S) (old new : Parts P S) (all : Deeds) → AllRan g h old all new → Runs h old.full_text all.calls new.full_text
 all_made g h old new all (none_ran parts) = refl
 all_made g h old new all (last_ran ended from to own ran) = ran_made g h ended from to own ran
 all_made g h old new all (first_ran ended from to own rest last ran later) =

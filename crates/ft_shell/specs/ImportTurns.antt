@@ -14,7 +14,7 @@ use Rattle.ft_documents.specs.Found.{info_named}
 use Rattle.ft_index.specs.Kept.{FullText, Executes}
 use Rattle.ft_index.specs.Crashes.{CommandSurvives}
 use Rattle.ft_statements.specs.Dots.{Import}
-use Rattle.ft_shell.specs.FullTextTurns.{NoteTurn}
+use Rattle.ft_shell.specs.FullTextTurns.{LeavesAlone, NoteTurn, StaysOpen}
 use Rattle.plain_shell.specs.Imports.{delimiter_of, row_cells}
 use Rattle.plain_shell.specs.IntoTables.{IsLeft, IntoTable}
 use Rattle.plain_shell.specs.PlainImports.{import_steps, CommitsAll, Declines}
@@ -41,6 +41,8 @@ pub record InsertTurn {S : Type 0} (h : Ghosts S) (settings : Settings) (line : 
   pub answer : Result Reply Fault
   pub executes : Executes h before command answer after
   pub survives : CommandSurvives h before command after
+  pub live : StaysOpen h answer before after
+  pub alone : LeavesAlone h command answer before after
   pub tells : Tells settings line (insert_told settings line lines answer) told
 
 -- All records go in by one Insert, or none does. Where memory is wanting before it, nothing is done.

@@ -1,7 +1,5 @@
 -- from two empty databases
 use Rattle.std.proofs.Common.{refl}
-use Rattle.sqlite.specs.Files.{over_files}
-use Rattle.ram_disk.specs.declared.disk.Ram.{Ram}
 use Rattle.ram_disk.specs.contracts.disk.RamDisk.TheImpl.{ghosts}
 use Rattle.ram_disk.specs.Clean.{never_lies_is_clean}
 use Rattle.ft_main.proofs.MemoryLemmas.{from_nothing}
@@ -9,4 +7,4 @@ use Rattle.ft_main.proofs.start.in_memory.Goals as goal
 
 pub returns : goal.returns
 returns g c =
-    from_nothing (over_files {D = Ram} {g = ghosts}) (over_files {D = Ram} {g = ghosts}) c.args.settings c.open_in_memory.result _ _ _ c.on_databases.result (λ store. never_lies_is_clean (λ _. refl) store.held) c.open_in_memory.ensures.plain c.open_in_memory.ensures.store c.on_databases.ensures
+    from_nothing ghosts c.args.settings c.open_in_memory.result _ _ _ c.on_databases.result (λ store. never_lies_is_clean (λ _. refl) store.held) c.open_in_memory.ensures c.on_databases.ensures

@@ -1,11 +1,6 @@
 -- whole, or a front of it
-use Rattle.std.proofs.Common.{subst}
-use Rattle.plain_shell.specs.Writing.{AppendsUpTo}
-use Rattle.ft_main.proofs.InputLemmas.{line_sent}
+use Rattle.ft_main.proofs.InputLemmas.{up_to_sent}
 use Rattle.ft_main.proofs.start.write_line.Goals as goal
 
 pub returns : goal.returns
-returns g c =
-    let a = g.W.Write.contents c.args.to.now in
-    let b = g.W.Write.contents c.write_out.new.out in
-    subst (AppendsUpTo a b) c.as_bytes.ensures.value (line_sent c.write_out.result a b c.as_bytes.result.now c.write_out.ensures.ok c.write_out.ensures.err)
+returns g c = up_to_sent c.send.result (g.W.Write.contents c.args.to.now) (g.W.Write.contents c.send.new.to) c.args.line.now c.send.ensures
