@@ -67,7 +67,7 @@ pieces_before : (at : Place) (b : ℕ) (rest more : List ℕ) (t : Turn) → end
     → pieces_from at (b ∷ (rest ++ more)) ≡ with_byte t b (pieces_from (place_after t) (rest ++ more))
 pieces_before at b rest more t h e = pieces_by at b (rest ++ more) t (turn_before at b rest more h ∙ e)
 
-none_left : (at : Place) → pieces_from at [] ≡ []
+pub none_left : (at : Place) → pieces_from at [] ≡ []
 unfolding pieces_from
 none_left at = refl
 

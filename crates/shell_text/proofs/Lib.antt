@@ -18,3 +18,8 @@ pub mod Columns
 pub mod Grids
 pub mod Listing
 pub mod FieldLemmas
+pub mod FormRuns
+pub mod FormSplits
+pub mod FormLaw
+pub mod DotFormLaw
+mod FormExamples

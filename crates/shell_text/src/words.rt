@@ -3,7 +3,8 @@
 ghost use Rattle.std.specs.Prelude.{◌≡◌, ◌==◌, ◌+◌, List, ℕ, false, true, slice_get, All, IsCharBoundary};
 ghost use Rattle.std.specs.Str.{IsUtf8};
 ghost use Rattle.shell_text.specs.declared.words.LexFault.TheVariants.{Memory};
-ghost use Rattle.shell_text.specs.Words.{IsRising, begins_word, begun, ends_line, goes_on_word, in_comment, in_marks, in_number, in_word, is_space, next_is, turn, words_of, FindsWords};
+ghost use Rattle.shell_text.specs.Words.{IsRising, Piece, pieces_of, begins_word, begun, ends_line, goes_on_word, in_comment, in_marks, in_number, in_word, is_space, next_is, turn, words_of, FindsWords};
+ghost use Rattle.shell_text.specs.WordForms.{ArePieces};
 
 use std::alloc::{AllocFailed, Global};
 use thiserror::Error;
@@ -257,4 +258,10 @@ pub fn words_on_characters()
     ensures { (text : List ℕ) → IsUtf8 text
         → All (λ w. IsCharBoundary text w.start × IsCharBoundary text (w.start + w.size))
         (words_of text) }
+{}
+
+/// A text falls into pieces of the forms in one way, which is the computed one: its words are those of that reading.
+pub fn words_by_forms()
+    ensures computed { (text : List ℕ) → ArePieces text (pieces_of text) }
+    ensures once { (text : List ℕ) (ps : List Piece) → ArePieces text ps → ps ≡ pieces_of text }
 {}
