@@ -22,4 +22,4 @@ pub mod FormRuns
 pub mod FormSplits
 pub mod FormLaw
 pub mod DotFormLaw
-mod FormExamples
+mod WordRows
