@@ -1,17 +1,15 @@
 -- How many marks a query's terms have, and the offsets of marks one after the other.
-use Rattle.std.proofs.Common.{◌≡◌, ℕ, ◌+◌, ◌<◌, List, [], ◌∷◌, ◌++◌, length, map, take, drop, get_or, append-nil, ap, sym, ◌∙◌, arith}
+use Rattle.std.proofs.Common.{◌≡◌, ℕ, ◌+◌, ◌<◌, List, [], ◌∷◌, ◌++◌, length, map, take, drop, get_or, ap, sym, ◌∙◌, arith}
 use Rattle.std.specs.Prelude.{flat_map}
 use Rattle.std.proofs.lemmas.List.{append_assoc, length-append, length-map, length-drop, length-take-le, drop_more}
 use Rattle.ft_query.specs.declared.walk.places.Places.{Places}
 use Rattle.ft_query.specs.declared.lists.place.Place.{Place}
 use Rattle.ft_query.specs.declared.walk.Offset.{Offset}
-use Rattle.ft_query.specs.declared.walk.visit.Wanted.{Wanted}
-use Rattle.ft_query.specs.declared.walk.visit.Wanted.TheVariants.{Docids, Offsets}
 use Rattle.ft_query.specs.declared.query.Link.{Link}
-use Rattle.ft_query.specs.Trees.{PlainPhrase, PlainLink, Tree, chain, plain_link, plain_term}
+use Rattle.ft_query.specs.Trees.{PlainPhrase, PlainLink, chain, plain_link, plain_term}
 use Rattle.ft_query.specs.Work.{terms_in}
-use Rattle.ft_query.specs.Visit.{marks_from, head_of, linked, link_marks, near_those, marks_of, numbered, plain_lists, if_wanted}
-use Rattle.ft_query.proofs.Passes.{numbered-append, marks_length, map-take, map-drop}
+use Rattle.ft_query.specs.Visit.{marks_from, head_of, linked, link_marks, near_those, marks_of, numbered, plain_lists}
+use Rattle.ft_query.proofs.Passes.{numbered-append, marks_length}
 
 link_marks_length : (k : ℕ) (starts : List Place) (links : List PlainLink) (lists : List (List Place)) (all : List (List Place)) → length lists ≡ length (flat_map (λ link. link.to.terms) links) → length (link_marks k starts links lists all) ≡ length lists
 link_marks_length k starts [] lists all same = sym same
@@ -38,7 +36,7 @@ chain_marks_length p links lists same =
     length-append (marks_from 0 (take n lists) (head_of all)) (link_marks n (head_of all) links (drop n lists) (drop 1 all)) ∙ omega (arith, sum, back, rest, front, short, same)
 
 -- what a query's left side adds before its right one
-numbered_more : (old : List Offset) (n : ℕ) (ms more : List (List Place)) → old ++ numbered n ms ++ numbered (n + length ms) more ≡ old ++ numbered n (ms ++ more)
+pub numbered_more : (old : List Offset) (n : ℕ) (ms more : List (List Place)) → old ++ numbered n ms ++ numbered (n + length ms) more ≡ old ++ numbered n (ms ++ more)
 numbered_more old n ms more = append_assoc old (numbered n ms) (numbered (n + length ms) more) ∙ sym (ap (λ os. old ++ os) (numbered-append n ms more))
 
 -- the terms of the first link of those that are left
@@ -54,16 +52,3 @@ phrase_marks_count lists starts = marks_length 0 (plain_lists lists) starts ∙ 
 
 pub chain_marks_count : (p : PlainPhrase) (links : List PlainLink) (lists : List Places) → length lists ≡ length (terms_in (chain p links)) → length (marks_of (chain p links) (plain_lists lists)) ≡ length lists
 chain_marks_count p links lists same = chain_marks_length p links (plain_lists lists) (length-map lists (λ l. l.places.now) ∙ same) ∙ length-map lists (λ l. l.places.now)
-
-pub tree_offsets : (wanted : Wanted) (p q : Tree) (lists own rest : List Places) (n : ℕ) (old mid : List Offset) (k more : ℕ)
-    → n ≡ length (terms_in p) → own ≡ take n lists → rest ≡ drop n lists → mid ≡ old ++ numbered k (if_wanted wanted (marks_of p (plain_lists own))) → more ≡ k + length (if_wanted wanted (marks_of p (plain_lists own)))
-    → mid ++ numbered more (if_wanted wanted (marks_of q (plain_lists rest))) ≡ old ++ numbered k (if_wanted wanted (marks_of p (take (length (terms_in p)) (plain_lists lists)) ++ marks_of q (drop (length (terms_in p)) (plain_lists lists))))
-tree_offsets Docids p q lists own rest n old mid k more size is_own is_rest is_mid is_more = ap (λ os. os ++ []) is_mid ∙ append-nil (old ++ [])
-tree_offsets Offsets p q lists own rest n old mid k more size is_own is_rest is_mid is_more =
-    let front : plain_lists own ≡ take (length (terms_in p)) (plain_lists lists) = ap plain_lists is_own ∙ sym (map-take n lists) ∙ ap (λ m. take m (plain_lists lists)) size in
-    let back : plain_lists rest ≡ drop (length (terms_in p)) (plain_lists lists) = ap plain_lists is_rest ∙ sym (map-drop n lists) ∙ ap (λ m. drop m (plain_lists lists)) size in
-    ap (λ os. os ++ numbered more (marks_of q (plain_lists rest))) is_mid
-    ∙ ap (λ m. old ++ numbered k (marks_of p (plain_lists own)) ++ numbered m (marks_of q (plain_lists rest))) is_more
-    ∙ numbered_more old k (marks_of p (plain_lists own)) (marks_of q (plain_lists rest))
-    ∙ ap (λ ls. old ++ numbered k (marks_of p ls ++ marks_of q (plain_lists rest))) front
-    ∙ ap (λ ls. old ++ numbered k (marks_of p (take (length (terms_in p)) (plain_lists lists)) ++ marks_of q ls)) back

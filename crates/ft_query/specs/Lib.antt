@@ -15,6 +15,7 @@ pub mod Lists
 pub mod Machine
 pub mod Cursors
 pub mod Search
+pub mod Spines
 pub mod Visit
 pub mod Taken
 pub mod Sought

@@ -8,6 +8,8 @@ use Rattle.ft_query.specs.declared.walk.places.Starts.{Starts}
 use Rattle.ft_query.specs.declared.walk.visit.Found.{Found}
 use Rattle.ft_query.specs.declared.walk.visit.Wanted.{Wanted}
 use Rattle.ft_query.specs.Trees.{PlainTerm, Tree, chain, plain_phrase, plain_link}
+use Rattle.ft_query.specs.declared.walk.spine.By.{By}
+use Rattle.ft_query.specs.Spines.{joined_answer, joined_marks}
 use Rattle.ft_query.specs.Visit.{is_accepted, marks_of, numbered, if_wanted, plain_lists, plain_starts, head_of}
 
 -- a chain as a query of its own
@@ -32,6 +34,16 @@ pub record Evaluates (result : Result Bool AllocError) (old new : Found) (tree :
   pub wanted : new.wanted ≡ old.wanted
   pub offsets : OnOk result (new.offsets.items ≡ old.offsets.items ++ numbered old.next (if_wanted old.wanted (marks_of tree (plain_lists lists))))
   pub next : OnOk result (new.next ≡ old.next + length (if_wanted old.wanted (marks_of tree (plain_lists lists))))
+  pub room : OnOk result (new.next ≤ old.next + length lists)
+
+-- A right side is evaluated behind its left one, which accepts or not: whether both together accept is answered, and the right side's marks are
+-- added if they are wanted and it isn't behind a NOT, with no more numbers than it has terms. What is asked stays.
+pub record Joins (by : By) (accepted : Bool) (result : Result Bool AllocError) (old new : Found) (tree : Tree) (lists : List Places) : Type 0 where
+  pub both : IfOk result (λ b. b ≡ joined_answer by accepted (is_accepted tree (plain_lists lists)))
+  pub wanted : new.wanted ≡ old.wanted
+  pub offsets : OnOk result (new.offsets.items ≡ old.offsets.items ++ numbered old.next
+      (if_wanted old.wanted (joined_marks by (marks_of tree (plain_lists lists)))))
+  pub next : OnOk result (new.next ≡ old.next + length (if_wanted old.wanted (joined_marks by (marks_of tree (plain_lists lists)))))
   pub room : OnOk result (new.next ≤ old.next + length lists)
 
 -- nothing is found so far, and this is asked

@@ -36,13 +36,27 @@ pub struct Chain {
 }
 
 /// A query. `Not` wants the left and not the right.
-#[derive(Debug, Drop)]
+#[derive(Debug)]
 pub enum Query {
     Phrase(Phrase),
     Near(Chain),
     And(Box<Query>, Box<Query>),
     Or(Box<Query>, Box<Query>),
     Not(Box<Query>, Box<Query>),
+}
+
+// Goes down the left sides by a loop, since a text can join thousands of phrases from the left.
+impl Drop for Query {
+    fn drop(mut self) {
+        loop {
+            match self {
+                Query::Phrase(_phrase) => return,
+                Query::Near(_chain) => return,
+                Query::And(left, _right) | Query::Or(left, _right) | Query::Not(left, _right) =>
+                    self = Box::into_inner(left),
+            }
+        }
+    }
 }
 
 /// Why a text is no query.

@@ -8,6 +8,7 @@ mod load;
 mod matches;
 mod places;
 mod search;
+mod spine;
 mod starts;
 mod visit;
 

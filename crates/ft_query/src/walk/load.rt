@@ -5,10 +5,12 @@ ghost use Rattle.ft_query.specs.Trees.{plain_term, plain_link, tree_of};
 ghost use Rattle.ft_query.specs.Work.{terms_in};
 ghost use Rattle.ft_query.specs.Cursors.{lists_kept, listed_for};
 ghost use Rattle.ft_query.specs.Loaded.{Asks, Loads};
+ghost use Rattle.ft_query.specs.Spines.{leaf_tree};
 
 use crate::lists::{ListFault, Lists};
 use crate::query::{Link, Query, QueryTerm};
 use crate::walk::cursor::Cursor;
+use crate::walk::spine::{Leaf, spine_of};
 use std::alloc::Global;
 
 #[tactic(auto, using(crate::proofs::Reaching::one_call))]
@@ -68,6 +70,27 @@ fn load_links<L: Lists>(
 }
 
 #[tactic(auto, using(crate::proofs::Reaching::reaches_on))]
+/// The lists of the terms of a first operand.
+fn load_leaf<L: Lists>(
+    alloc: Global,
+    leaf: Leaf<'_>,
+    lists: &mut L,
+    cursors: &mut Vec<Cursor>,
+) -> Result<(), ListFault>
+    ensures loads { OnOk result (Loads L.Lists (terms_in (leaf_tree leaf.entry)) lists.old lists.new
+        cursors.old cursors.new) }
+    ensures asks { Asks L.Lists lists.old lists.new result }
+{
+    match leaf {
+        Leaf::Phrase(phrase) => load_terms(alloc, phrase.terms.as_slice(), lists, cursors),
+        Leaf::Near(chain) => {
+            load_terms(alloc, chain.first.terms.as_slice(), lists, cursors)?;
+            load_links(alloc, chain.links.as_slice(), lists, cursors)
+        }
+    }
+}
+
+#[tactic(auto, using(crate::proofs::Reaching::reaches_on))]
 /// The lists of the terms of a query.
 pub(crate) fn load<L: Lists>(
     alloc: Global,
@@ -79,15 +102,10 @@ pub(crate) fn load<L: Lists>(
         cursors.old cursors.new) }
     ensures asks { Asks L.Lists lists.old lists.new result }
 {
-    match query {
-        Query::Phrase(phrase) => load_terms(alloc, phrase.terms.as_slice(), lists, cursors),
-        Query::Near(chain) => {
-            load_terms(alloc, chain.first.terms.as_slice(), lists, cursors)?;
-            load_links(alloc, chain.links.as_slice(), lists, cursors)
-        }
-        Query::And(left, right) | Query::Or(left, right) | Query::Not(left, right) => {
-            load(alloc, left, lists, cursors)?;
-            load(alloc, right, lists, cursors)
-        }
+    let (leaf, mut joints) = spine_of(alloc, query)?;
+    load_leaf(alloc, leaf, lists, cursors)?;
+    while let Some(joint) = joints.pop() {
+        load(alloc, joint.right, lists, cursors)?;
     }
+    Ok(())
 }

@@ -5,7 +5,8 @@ ghost use Rattle.ft_query.specs.Cursors.{lists_left, places_at};
 ghost use Rattle.ft_query.specs.Documents.{Posting, IsBefore, is_filled};
 ghost use Rattle.ft_query.specs.Occurs.{accepts, offsets_of};
 ghost use Rattle.ft_query.specs.Trees.{plain_term, plain_phrase, plain_link, tree_of, phrase, chain};
-ghost use Rattle.ft_query.specs.Marked.{chain_tree, AreNumbered, IsEmpty, AreLinked, Marks, Evaluates};
+ghost use Rattle.ft_query.specs.Marked.{chain_tree, AreNumbered, IsEmpty, AreLinked, Marks, Evaluates, Joins};
+ghost use Rattle.ft_query.specs.Spines.{leaf_tree};
 ghost use Rattle.ft_query.specs.Taken.{Takes, TakesAtMost, TakesOf, TakesSome, LooksForAll};
 ghost use Rattle.ft_query.specs.Work.{terms_in, width};
 ghost use Rattle.ft_query.specs.Visit.{among, followed, if_wanted, starts_of, marks_from, linked, link_marks, plain_starts, plain_lists, listed_places, precedes, places_in, total, linked_cost, link_cost, visit_cost};
@@ -13,6 +14,7 @@ ghost use Rattle.ft_query.specs.Visit.{among, followed, if_wanted, starts_of, ma
 use crate::query::{Chain, Link, Phrase, Query, QueryTerm};
 use crate::walk::cursor::Cursor;
 use crate::walk::places::{Places, Starts};
+use crate::walk::spine::{By, Joint, Leaf, leaf_count, spine_of, term_count};
 use crate::walk::{Offset, Steps};
 use std::alloc::{AllocError, Global};
 
@@ -271,35 +273,67 @@ fn visit_chain(
     }
 }
 
-#[tactic(auto, using(crate::proofs::Marks::count_more))]
-// How many terms a chain has.
-fn chain_count(near: &Chain) -> usize
-    requires { length (terms_in (chain_tree near.now)) < 2 ^ 64 }
-    ensures { result ≡ length (terms_in (chain_tree near.now)) }
+// Adds the offsets of a first operand, if they are wanted, and says whether it accepts the
+// document.
+fn visit_leaf(
+    leaf: Leaf<'_>,
+    lists: &[Places<'_>],
+    found: &mut Found,
+    steps: &mut Steps,
+) -> Result<bool, AllocError>
+    requires { AreNumbered found.old (terms_in (leaf_tree leaf)) lists.now }
+    ensures evaluates { Evaluates result found.old found.new (leaf_tree leaf.entry) lists.now }
+    ensures steps { TakesOf (visit_cost (leaf_tree leaf.entry) (plain_lists lists.now)) 1
+        steps.old steps.new }
 {
-    let mut count = near.first.terms.len();
-    for link in &near.links {
-        count += link.to.terms.len();
-    }
-    count
-}
-
-// How many terms a query has.
-fn term_count(query: &Query) -> usize
-    requires { length (terms_in (tree_of query.now)) < 2 ^ 64 }
-    ensures { result ≡ length (terms_in (tree_of query.now)) }
-{
-    match query {
-        Query::Phrase(phrase) => phrase.terms.len(),
-        Query::Near(near) => chain_count(near),
-        Query::And(left, right) => term_count(left) + term_count(right),
-        Query::Or(left, right) => term_count(left) + term_count(right),
-        Query::Not(left, right) => term_count(left) + term_count(right),
+    match leaf {
+        Leaf::Phrase(phrase) => visit_phrase(phrase, lists, found, steps),
+        Leaf::Near(near) => visit_chain(near, lists, found, steps),
     }
 }
 
-// Adds the offsets of a query or of a part of one, if they are wanted, and says whether it accepts the document. Nothing is added
-// right of a NOT, which is visited only where its left side accepts.
+#[cycle(visit_part)]
+// Adds the offsets of a right side, if they are wanted, and says whether it and its left one accept
+// the document, where `accepted` is what the left one answers. Nothing is added right of a NOT,
+// which is visited only where its left side accepts.
+fn visit_joint(
+    joint: Joint<'_>,
+    accepted: bool,
+    lists: &[Places<'_>],
+    found: &mut Found,
+    steps: &mut Steps,
+) -> Result<bool, AllocError>
+    requires { AreNumbered found.old (terms_in (tree_of joint.right.now)) lists.now }
+    ensures joins { Joins joint.entry.by accepted result found.old found.new
+        (tree_of joint.entry.right.now) lists.now }
+    ensures steps { TakesSome
+        (1 + visit_cost (tree_of joint.entry.right.now) (plain_lists lists.now))
+        steps.old steps.new }
+{
+    steps.take();
+    match joint.by {
+        By::And => {
+            let is_right = visit_part(joint.right, lists, found, steps)?;
+            Ok(accepted && is_right)
+        }
+        By::Or => {
+            let is_right = visit_part(joint.right, lists, found, steps)?;
+            Ok(accepted || is_right)
+        }
+        By::Not => {
+            if !accepted {
+                return Ok(false);
+            }
+            let mut unmarked = no_offsets(found.alloc, Wanted::Docids);
+            let is_right = visit_part(joint.right, lists, &mut unmarked, steps)?;
+            Ok(!is_right)
+        }
+    }
+}
+
+#[cycle(visit_part)]
+// Adds the offsets of a query or of a part of one, if they are wanted, and says whether it accepts
+// the document. It goes up from the first operand, since a text can join thousands of phrases.
 fn visit_part(
     query: &Query,
     lists: &[Places<'_>],
@@ -312,31 +346,15 @@ fn visit_part(
         steps.old steps.new }
 {
     steps.take();
-    match query {
-        Query::Phrase(phrase) => visit_phrase(phrase, lists, found, steps),
-        Query::Near(near) => visit_chain(near, lists, found, steps),
-        Query::And(left, right) => {
-            let (own, rest) = lists.split_at(term_count(left));
-            let is_left = visit_part(left, own, found, steps)?;
-            let is_right = visit_part(right, rest, found, steps)?;
-            Ok(is_left && is_right)
-        }
-        Query::Or(left, right) => {
-            let (own, rest) = lists.split_at(term_count(left));
-            let is_left = visit_part(left, own, found, steps)?;
-            let is_right = visit_part(right, rest, found, steps)?;
-            Ok(is_left || is_right)
-        }
-        Query::Not(left, right) => {
-            let (own, rest) = lists.split_at(term_count(left));
-            if !visit_part(left, own, found, steps)? {
-                return Ok(false);
-            }
-            let mut unmarked = no_offsets(found.alloc, Wanted::Docids);
-            let is_right = visit_part(right, rest, &mut unmarked, steps)?;
-            Ok(!is_right)
-        }
+    let (leaf, mut joints) = spine_of(found.alloc, query)?;
+    let (own, mut rest) = lists.split_at(leaf_count(leaf));
+    let mut accepted = visit_leaf(leaf, own, found, steps)?;
+    while let Some(joint) = joints.pop() {
+        let (own, behind) = rest.split_at(term_count(joint.right));
+        accepted = visit_joint(joint, accepted, own, found, steps)?;
+        rest = behind;
     }
+    Ok(accepted)
 }
 
 // By column, then by place, then by term number.

@@ -1,24 +1,30 @@
--- the calls of one part, and those of the other
-use Rattle.std.proofs.Common.{◌≡◌, ◌++◌, List, map, flat_map, subst, rules}
-use Rattle.std.specs.Prelude.{OnOk}
-use Rattle.ft_query.specs.Trees.{PlainTerm, plain_term, plain_link, tree_of}
-use Rattle.ft_query.specs.Work.{terms_in}
-use Rattle.ft_query.specs.Loaded.{Loads}
-use Rattle.ft_query.proofs.Loading.{loads_more}
+-- each right side is less wide, and its lists come behind those of the part that it is joined to
+use Rattle.std.proofs.Common.{◌≡◌, ◌++◌, ◌∷◌, [], List, subst, rules, arith}
+use Rattle.std.proofs.lemmas.Grind.{common_steps}
+use Rattle.ft_query.specs.declared.walk.spine.Joint.{Joint}
+use Rattle.ft_query.specs.Trees.{tree_of}
+use Rattle.ft_query.specs.Spines.{whole}
+use Rattle.ft_query.proofs.Loading.{front_with, loads_on}
+use Rattle.ft_query.proofs.Reaching.{no_call}
+use Rattle.ft_query.proofs.Spines.{right_width}
 use Rattle.ft_query.proofs.walk.load.+load.Goals as goal
 
-pub returns-in_ok-load_terms-in-Near-clause-loads : goal.returns-in_ok-load_terms-in-Near-clause-loads
-returns-in_ok-load_terms-in-Near-clause-loads g t c =
-    let p = map plain_term c.as_slice-in-Near.result.now in
-    let q = flat_map (λ link. link.to.terms) (map plain_link c.as_slice-in-Near-2.result.now) in
-    let same : p ++ q ≡ terms_in (tree_of c.args.query.now) = search rules in
-    subst (λ (terms : List PlainTerm). OnOk c.load_links.result (Loads g.L.Lists terms c.args.lists.now c.load_links.new.lists c.args.cursors.now c.load_links.new.cursors)) same
-    (loads_more g.L.Lists _ p q _ _ _ _ _ _ c.load_links.ensures.asks.clean c.in_ok-load_terms-in-Near.ensures.loads c.load_links.ensures.loads)
+pub returns-in_err-leaf-clause-asks : goal.returns-in_err-leaf-clause-asks
+returns-in_err-leaf-clause-asks g t c = record {
+  clean = grind (arith, common_steps);
+  failed = grind (arith, common_steps);
+  becomes = no_call _ _ _;
+}
 
-pub returns-in_ok-load-in-And-clause-loads : goal.returns-in_ok-load-in-And-clause-loads
-returns-in_ok-load-in-And-clause-loads g t c =
-    let p = terms_in (tree_of c.deref.result.now) in
-    let q = terms_in (tree_of c.deref-in-And.result.now) in
-    let same : p ++ q ≡ terms_in (tree_of c.args.query.now) = search rules in
-    subst (λ (terms : List PlainTerm). OnOk c.load-in-And.result (Loads g.L.Lists terms c.args.lists.now c.load-in-And.new.lists c.args.cursors.now c.load-in-And.new.cursors)) same
-    (loads_more g.L.Lists _ p q _ _ _ _ _ _ c.load-in-And.ensures.asks.clean c.in_ok-load-in-And.ensures.loads c.load-in-And.ensures.loads)
+pub load-requires : goal.load-requires
+load-requires g t c κs within =
+    let items : c.loop-joint.joints.items ≡ c.pop.new.self.items ++ c.in-Some.joint ∷ [] = c.in-Some.ensures.items in
+    let at = c.loop-joint.invariant in
+    let all = subst (λ (js : List Joint). whole js at.part ≡ tree_of c.args.query.now) items at.all in
+    let less = right_width c.pop.new.self.items c.in-Some.joint at.part (tree_of c.args.query.now) all in
+    (omega (arith, less), search rules)
+
+pub loop-joint-preserved : goal.loop-joint-preserved
+loop-joint-preserved g t c =
+    let at = front_with c.in-Some.ensures.items c.loop-joint.invariant in
+    loads_on c.in-Some.joint _ at c.in_ok-load.ensures.loads c.in_ok-load.ensures.asks

@@ -1,0 +1,56 @@
+-- What is joined to the first operand of a query, one joint after the other.
+use Rattle.std.proofs.Common.{◌≡◌, ◌+◌, ◌≤◌, ◌<◌, List, [], ◌∷◌, ◌++◌, length, refl, sym, ap, ◌∙◌, arith}
+use Rattle.std.proofs.lemmas.List.{length-append}
+use Rattle.ft_query.specs.declared.walk.spine.By.{By}
+use Rattle.ft_query.specs.declared.walk.spine.By.TheVariants as by
+use Rattle.ft_query.specs.declared.walk.spine.Joint.{Joint}
+use Rattle.ft_query.specs.Trees.{Tree, phrase, chain, both, either, without, tree_of}
+use Rattle.ft_query.specs.Work.{terms_in, width}
+use Rattle.ft_query.specs.Spines.{joined, whole}
+
+-- the last joint is joined first
+pub whole_last : (js : List Joint) (j : Joint) (p : Tree) → whole (js ++ j ∷ []) p ≡ whole js (joined p j.by (tree_of j.right.now))
+whole_last [] j p = refl
+whole_last (i ∷ js) j p = ap (λ t. joined t i.by (tree_of i.right.now)) (whole_last js j p)
+
+pub joined_terms : (p : Tree) (b : By) (q : Tree) → terms_in (joined p b q) ≡ terms_in p ++ terms_in q
+joined_terms p by.And q = refl
+joined_terms p by.Or q = refl
+joined_terms p by.Not q = refl
+
+pub joined_width : (p : Tree) (b : By) (q : Tree) → width (joined p b q) ≡ width p + width q
+joined_width p by.And q = refl
+joined_width p by.Or q = refl
+joined_width p by.Not q = refl
+
+pub some_width : (t : Tree) → 1 ≤ width t
+some_width (phrase p) = omega arith
+some_width (chain p links) = omega arith
+some_width (both p q) = let one = some_width p in omega (arith, one)
+some_width (either p q) = let one = some_width p in omega (arith, one)
+some_width (without p q) = let one = some_width p in omega (arith, one)
+
+pub part_terms : (js : List Joint) (p : Tree) → length (terms_in p) ≤ length (terms_in (whole js p))
+part_terms [] p = omega arith
+part_terms (j ∷ js) p =
+    let rest = part_terms js p in
+    let q = tree_of j.right.now in
+    let sum = ap length (joined_terms (whole js p) j.by q) ∙ length-append (terms_in (whole js p)) (terms_in q) in
+    omega (arith, rest, sum)
+
+part_width : (js : List Joint) (p : Tree) → width p ≤ width (whole js p)
+part_width [] p = omega arith
+part_width (j ∷ js) p =
+    let rest = part_width js p in
+    let sum = joined_width (whole js p) j.by (tree_of j.right.now) in
+    omega (arith, rest, sum)
+
+-- a right side is less wide than the whole
+pub right_width : (js : List Joint) (j : Joint) (p query : Tree) → whole (js ++ j ∷ []) p ≡ query → width (tree_of j.right.now) < width query
+right_width js j p query all =
+    let q = tree_of j.right.now in
+    let wide = part_width js (joined p j.by q) in
+    let is = ap width (sym (whole_last js j p) ∙ all) in
+    let both_wide = joined_width p j.by q in
+    let some = some_width p in
+    omega (arith, wide, is, both_wide, some)

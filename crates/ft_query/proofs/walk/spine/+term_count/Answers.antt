@@ -1,0 +1,18 @@
+use Rattle.std.proofs.Common.{rules, ◌≡◌, ◌++◌, ◌+◌, length, ap, arith}
+use Rattle.std.proofs.lemmas.List.{length-append}
+use Rattle.ft_query.specs.Trees.{tree_of}
+use Rattle.ft_query.specs.Work.{terms_in, width}
+use Rattle.ft_query.proofs.Spines.{some_width}
+use Rattle.ft_query.proofs.walk.spine.+term_count.Goals as goal
+
+-- a right side is a part of the part, and less wide
+pub term_count-count-requires : goal.term_count-count-requires
+term_count-count-requires t c =
+    let p = tree_of c.in-And.left.value in
+    let q = tree_of c.deref.result.now in
+    let terms : terms_in p ++ terms_in q ≡ terms_in (tree_of c.loop-part.part.now) = search rules in
+    let wide : width p + width q ≡ width (tree_of c.loop-part.part.now) = search rules in
+    let sum = length-append (terms_in p) (terms_in q) in
+    let some = some_width p in
+    let same = ap length terms in
+    (omega (arith, wide, some), omega (arith, same, sum))
