@@ -2,7 +2,7 @@
 # Times walks of ft_query over made lists of 10^4, 10^5 and 10^6 places a term: one term, a phrase of two frequent terms, and NEAR.
 # It makes a small program in a folder of its own (the first argument, or a new one), proves and builds it, and prints for each walk
 # its hits, its steps and the processor nanoseconds for each place, the best of three runs, less those of a run that only makes the
-# lists.
+# lists. Where there is valgrind, it also counts the instructions of texts that join many phrases without terms.
 set -eu
 top=$(cd "$(dirname "$0")/.." && pwd)
 room=${1:-$(mktemp -d)}
@@ -170,5 +170,21 @@ for query in 'a' '"a b"' 'a NEAR/3 b'; do
         printf '%s, %s places a term: %s s, lists alone %s s, %s ns a place; ' "$query" "$places" "$walk" "$lists" \
             "$(awk -v w="$walk" -v l="$lists" -v p="$places" 'BEGIN { printf "%.0f", (w - l) * 1e9 / p }')"
         cat "$room/told"
+    done
+done
+
+# Thousands of instructions for each of 100 documents, less those of a run that only makes the lists, of `a` and so many pairs of
+# quotes.
+command -v valgrind > /dev/null || exit 0
+counted() {
+    printf '%s\n5000\n%s\n' "$1" "$2" | valgrind --tool=callgrind --callgrind-out-file=/dev/null "$crate/out/walk_lists" 2>&1 |
+        sed -n 's/.*Collected : //p'
+}
+for between in '' ' OR ' ' NOT '; do
+    for pairs in 600 1200 2400; do
+        query="a$(for i in $(seq "$pairs"); do printf '%s""' "$between"; done)"
+        [ ${#query} -le 10000 ] || continue
+        printf '%s times %s"": %s thousand instructions a document\n' "$pairs" "$between" \
+            "$((($(counted "$query" walk) - $(counted "$query" lists)) / 100000))"
     done
 done

@@ -1,9 +1,9 @@
 """Compares the program with a model on drawn inputs: drawn.py PROGRAM [SEED [COUNT]].
 
 An input has 30 to 40 commands on two tables. About half of them are from a list, the others are drawn, with MATCH texts of all forms,
-malformed ones too. Every third input is over a FILE, which is opened again in its middle. What the program writes on both streams and its
-status have to be those of the model: see drawn_model.py. Of the first input where they are not, the shortest part that still shows it is
-printed.
+malformed ones too, and chains of NEAR over documents of few words, where each word has many others near it. Every third input is over a
+FILE, which is opened again some four times. What the program writes on both streams and its status have to be those of the model: see
+drawn_model.py. Of the first input where they are not, the shortest part that still shows it is printed.
 """
 import collections
 import concurrent.futures
@@ -15,7 +15,7 @@ import tempfile
 
 from drawn_model import LAST, Create, Delete, Drop, Fault, Insert, Offsets, Select, Special, Update, Where
 
-# Where the FILE is opened again.
+# Where the FILE is closed and opened again.
 AGAIN = "opened again"
 Ran = collections.namedtuple("Ran", "out err status")
 
@@ -153,6 +153,13 @@ class Drawn:
             text += self.one([" NEAR ", " NEAR/0 ", " NEAR/1 ", " NEAR/2 "]) + self.phrase()
         return text
 
+    def dense(self):
+        """Documents of few words, and a chain in which each word has many others near it."""
+        rows = [[" ".join(self.draw.choices("aaabbbc", k=self.draw.randint(8, 20))) for _ in "xy"] for _ in range(2)]
+        phrases = self.draw.choices(["a", "b", "a", "b", "c", "a*", "^a", '"a b"', '"b a"', "x:a"], k=self.draw.randint(3, 5))
+        chain = self.joined(phrases, [" NEAR/0 ", " NEAR/1 ", " NEAR/2 "])
+        return [Insert(self.table, ["x", "y"], rows), Select(self.table, ["docid", Offsets(self.table)], Where(self.table, chain))]
+
     def query(self, depth=2):
         """A text of the grammar, in most cases."""
         if depth == 0 or self.is_drawn(0.4):
@@ -211,7 +218,9 @@ class Drawn:
 
     def commands(self):
         kinds = [self.select] * 12 + [self.insert] * 6 + [self.update] * 3 + [self.delete, self.special]
-        return self.table_made_anew() if self.is_drawn(0.02) else [self.one(kinds)()]
+        if self.is_drawn(0.1):
+            return self.table_made_anew() if self.is_drawn(0.2) else self.dense()
+        return [self.one(kinds)()]
 
 
 def drawn_input(seed, number):
@@ -220,7 +229,7 @@ def drawn_input(seed, number):
     commands, length = [*BEGIN, found(LARGE[number % len(LARGE)])], draw.randint(30, 40)
     while len(commands) < length:
         commands += draw.choice(LISTED) if draw.random() < 0.5 else Drawn(draw, draw.choice("ddde")).commands()
-        if is_of_file and AGAIN not in commands and len(commands) > length // 2:
+        if is_of_file and draw.random() < 0.15:
             commands.append(AGAIN)
     return commands + [Special("d", "integrity-check"), Special("e", "integrity-check")], is_of_file
 
