@@ -13,3 +13,4 @@ pub mod AnswerLemmas
 pub mod DocidLemmas
 pub mod LastLemmas
 pub mod NameLemmas
+pub mod SmallLemmas

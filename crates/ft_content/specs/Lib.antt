@@ -10,3 +10,4 @@ pub mod Laws
 pub mod Meaning
 -- Steps
 pub mod Calls
+pub mod Small

@@ -100,6 +100,7 @@ fn leaves_out_unknown(options: &[(String, String)], names: &[String]) -> bool
 
 #[tactic(auto, using(crate::proofs::Lists::all_of_map, crate::proofs::Lists::length_of_map))]
 fn create_tests(
+    alloc: Global,
     is_there: bool,
     count: usize,
     table: &str,
@@ -123,7 +124,7 @@ fn create_tests(
     if !(is_name(table) && are_names(names)) {
         return Some(Fault::Name);
     }
-    if names_clash(table, names) {
+    if names_clash(alloc, table, names) {
         return Some(Fault::DuplicateColumn);
     }
     if names.len() > 100 {
@@ -144,6 +145,7 @@ fn create_tests(
 /// The fault of a Create of a table with columns of these names, if it deserves one. The tables are those that are
 /// there.
 pub fn create_fault(
+    alloc: Global,
     tables: &[TableInfo],
     table: &str,
     module_name: &str,
@@ -157,6 +159,7 @@ pub fn create_fault(
 {
     let is_there = has_table(tables, table);
     create_tests(
+        alloc,
         is_there,
         tables.len(),
         table,

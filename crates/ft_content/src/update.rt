@@ -8,10 +8,11 @@ ghost use Rattle.ft_content.specs.Views.{bare_content, cells_of, column_of, set_
 
 use crate::columns::{has_column, names_unknown};
 use crate::command::Filter;
-use crate::names::is_docid;
+use crate::names::{add_small, is_docid};
 use crate::value::{copied_value, docid_under, has_nul, is_null, is_text, is_too_long};
 use ft_values::{Column, Fault, Value, same_name};
 use std::alloc::{AllocError, Global};
+use std::collections::BTreeSet;
 
 // Whether one of these values stands under this name.
 fn sets_name(sets: &[(String, Value)], name: &str) -> bool
@@ -20,8 +21,22 @@ fn sets_name(sets: &[(String, Value)], name: &str) -> bool
     sets.iter().any(|set| same_name(name, set.0.as_str()))
 }
 
-/// Whether two of these values stand under one name.
-pub fn repeats_set(sets: &[(String, Value)]) -> bool
+// Whether two of these values stand under one name, by a set.
+fn repeats_in_set(alloc: Global, sets: &[(String, Value)]) -> Result<bool, AllocError>
+    ensures { IfOk result
+        (λ b. b ≡ content.repeats_name (map (λ s. s.0) (map set_of sets.now))) }
+{
+    let mut small = BTreeSet::new(alloc);
+    for set in sets {
+        if !add_small(alloc, &mut small, set.0.as_str())? {
+            return Ok(true);
+        }
+    }
+    Ok(false)
+}
+
+// The same, each by those behind it.
+fn repeats_behind(sets: &[(String, Value)]) -> bool
     ensures { result ≡ content.repeats_name (map (λ s. s.0) (map set_of sets.now)) }
 {
     for k in 0..sets.len() {
@@ -31,6 +46,17 @@ pub fn repeats_set(sets: &[(String, Value)]) -> bool
         }
     }
     false
+}
+
+/// Whether two of these values stand under one name. Where there is no memory for a set, it takes time in the square of their
+/// number.
+pub fn repeats_set(alloc: Global, sets: &[(String, Value)]) -> bool
+    ensures { result ≡ content.repeats_name (map (λ s. s.0) (map set_of sets.now)) }
+{
+    match repeats_in_set(alloc, sets) {
+        Ok(repeats) => repeats,
+        Err(_) => repeats_behind(sets),
+    }
 }
 
 // Whether each of these names is one that a value may stand under.

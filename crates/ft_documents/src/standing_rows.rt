@@ -95,7 +95,7 @@ fn are_columns(alloc: Global, table: &str, columns: &[Column]) -> Result<bool, A
         return Ok(false);
     }
     let names = column_names(alloc, columns)?;
-    Ok(are_names(names.as_slice()) && !names_clash(table, names.as_slice()))
+    Ok(are_names(names.as_slice()) && !names_clash(alloc, table, names.as_slice()))
 }
 
 // Whether these are the numbers of the columns that aren't indexed.

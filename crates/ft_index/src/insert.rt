@@ -75,7 +75,7 @@ fn insert_written<'t, S: Alter>(
         (option_map (λ n. map string_bytes n.now) columns.entry) (map cells_of rows.now)) result) }
 {
     store.is_in_order();
-    if lists_twice(columns) {
+    if lists_twice(alloc, columns) {
         return Err(Fault::DuplicateColumn);
     }
     let known = sound_table(tables, table)?;
@@ -87,12 +87,12 @@ fn insert_written<'t, S: Alter>(
 }
 
 // Whether a column is listed twice.
-fn lists_twice(columns: Option<&[String]>) -> bool
+fn lists_twice(alloc: Global, columns: Option<&[String]>) -> bool
     ensures { result ≡ content.repeats_name (unwrap_or
         (option_map (λ n. map string_bytes n.now) columns.entry) []) }
 {
     match columns {
-        Some(names) => repeats_name(names),
+        Some(names) => repeats_name(alloc, names),
         None => false,
     }
 }

@@ -35,6 +35,7 @@ pub(crate) fn made_table(
 {
     let names = made_names(alloc, columns)?;
     if let Some(fault) = create_fault(
+        alloc,
         tables,
         table,
         module_name,

@@ -75,7 +75,7 @@ fn update_written<'t, S: Alter>(
         (map set_of sets.now) (filter_of filter.now)) result) }
 {
     store.is_in_order();
-    if repeats_set(sets) {
+    if repeats_set(alloc, sets) {
         return Err(Fault::DuplicateColumn);
     }
     let known = sound_table(tables, table)?;

@@ -2,7 +2,7 @@
 use Rattle.std.proofs.Common.{string_bytes}
 use Rattle.std.proofs.lemmas.List.{take_rest}
 use Rattle.ft_content.proofs.NameLemmas.{repeats_here, repeats_later}
-use Rattle.ft_content.proofs.names.repeats_name.Goals as goal
+use Rattle.ft_content.proofs.names.repeats_behind.Goals as goal
 
 pub returns-then-has_name : goal.returns-then-has_name
 returns-then-has_name c =

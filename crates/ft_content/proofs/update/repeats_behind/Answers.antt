@@ -8,7 +8,7 @@ use Rattle.ft_content.specs.Content.{repeats_name}
 use Rattle.ft_content.specs.Views.{set_of}
 use Rattle.ft_content.proofs.Lists.{map_of_map}
 use Rattle.ft_content.proofs.NameLemmas.{repeats_here, repeats_later}
-use Rattle.ft_content.proofs.update.repeats_set.Goals as goal
+use Rattle.ft_content.proofs.update.repeats_behind.Goals as goal
 
 abbrev name_of : String Global × Value → List ℕ
 name_of s = string_bytes s.0
