@@ -6,7 +6,7 @@ use Rattle.sqlite.specs.Store.{Ghosts}
 use Rattle.sqlite.specs.Held.{Held, held_code, state}
 use Rattle.ft_rows.specs.Store.{StoreValue}
 use Rattle.ft_store.specs.Rows.{value_of}
-use Rattle.ft_store.specs.Calls.{IsStoreIfOpen, Keeps}
+use Rattle.ft_store.specs.Calls.{IsStored, IsStoreIfOpen, Keeps}
 use Rattle.ft_store.specs.declared.fault.StoreFault.{StoreFault}
 
 pub record StoreState (S : Type 0) : Type 0 where
@@ -27,6 +27,11 @@ value_in g s = value_of (shows g s).now.trees
 pub record IsKept {S : Type 0} (g : Ghosts S) (h : Held S) : Type 0 where
   pub settled : h.in_transaction ≡ false
   pub store : IsStoreIfOpen (state g h)
+
+-- no transaction is open, and the last commit of an open store is what it holds
+pub record AreCommitted {S : Type 0} (g : Ghosts S) (s : StoreState S) : Type 0 where
+  pub settled : (shows g s).in_transaction ≡ false
+  pub stored : HasCleanDisk (shows g s) → IsTrue (shows g s).is_open → IsStored (shows g s).committed.trees (value_in g s)
 
 -- so many rows more, as a number of 64 bits that stays at its greatest value
 abbrev pub more_rows : {S : Type 0} → ℕ → StoreState S → ℕ

@@ -140,7 +140,7 @@ impl<S: Alter + Drop> Store<S> {
 }
 
 impl<S: Alter> Store<S> {
-    ghost use Rattle.ft_store.specs.Kept.{shows, value_in, ReadsRows};
+    ghost use Rattle.ft_store.specs.Kept.{shows, value_in, AreCommitted, ReadsRows};
 
     /// Takes a database that holds a store, as it is, or one without objects, which becomes an empty store in one
     /// transaction. A store of version 2 becomes one of version 3 that holds the same, also in one transaction. Any other
@@ -428,11 +428,13 @@ impl<S: Alter> Store<S> {
         self.rows_read
     }
 
-    /// The database as it stands.
+    /// The database as it stands. While it is open, its last commit is what the store holds.
     pub fn into_connection(self) -> Connection<S>
-        ensures { result ≡ self.held }
+        ensures held { result ≡ self.held }
+        ensures committed { AreCommitted S.Store self }
     {
         let Store { conn, .. } = self;
+        let _settled = conn.is_autocommit();
         conn
     }
 }
