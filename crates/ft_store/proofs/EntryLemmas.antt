@@ -1,6 +1,6 @@
 -- How lists become entries.
-use Rattle.std.proofs.Common.{◌≡◌, ◌≢◌, ℕ, ℤ, Bool, true, false, ◌&&◌, cond, List, [], ◌∷◌, ◌++◌, map, refl, sym, ap, ap₂, ◌∙◌, is_eq}
-use Rattle.std.specs.List.{flat_map}
+use Rattle.std.proofs.Common.{◌≡◌, ℕ, ℤ, Bool, true, false, ◌&&◌, cond, List, [], ◌∷◌, ◌++◌, map, refl, sym, ap, ap₂, ◌∙◌, is_eq}
+use Rattle.std.specs.List.{AllByRecursion, flat_map}
 use Rattle.std.specs.Ordering.{int_eq}
 use Rattle.std.specs.FinMap.Entries.{where_key}
 use Rattle.std.proofs.lemmas.List.{map-append}
@@ -8,26 +8,27 @@ use Rattle.sqlite.specs.Order.{Row}
 use Rattle.sqlite_typed.proofs.TestLemmas.{same_bytes}
 use Rattle.ft_values.specs.declared.rows.Spot.{Spot}
 use Rattle.ft_rows.specs.Store.{ListKey, list_key_cmp, name_cmp}
-use Rattle.ft_rows.specs.Shown.{Entry, bare_list, entries_with, entries_of, AreWhole, SomeDamaged}
+use Rattle.ft_rows.specs.Shown.{Entry, bare_list, entries_with, entries_of, AreWhole}
 use Rattle.ft_rows.proofs.ListLemmas.{and_second}
 use Rattle.ft_rows.proofs.ListLemmas.{flat_more}
 
--- rows of lists, and one row more
+-- rows of lists, each with such a property, and one row more
+module _ {X : Type 0} (Is : X → Type 0) (found : Row → X) (row : Row) where
+  pub all_more : (rows : List Row) → AllByRecursion Is (map found rows) → Is (found row) → AllByRecursion Is (map found (rows ++ row ∷ []))
+  all_more [] all last = (last, tt)
+  all_more (r ∷ rows) all last = (all.0, all_more rows all.1 last)
+
+  were_all : (rows : List Row) → AllByRecursion Is (map found (rows ++ row ∷ [])) → AllByRecursion Is (map found rows) × Is (found row)
+  were_all [] all = (tt, all.0)
+  were_all (r ∷ rows) all = let rest = were_all rows all.1 in ((all.0, rest.0), rest.1)
+
+  pub others_more : (rows : List Row) → ¬ AllByRecursion Is (map found rows) → ¬ AllByRecursion Is (map found (rows ++ row ∷ []))
+  others_more rows others all = others (were_all rows all).0
+
+  pub other_last : (rows : List Row) → ¬ Is (found row) → ¬ AllByRecursion Is (map found (rows ++ row ∷ []))
+  other_last rows other all = other (were_all rows all).1
+
 module _ {K : Type 0} (found : Row → K × List Spot) (row : Row) where
-  pub whole_more : (rows : List Row) → AreWhole (map found rows) → (found row).1 ≢ [] → AreWhole (map found (rows ++ row ∷ []))
-  whole_more [] whole some = (some, tt)
-  whole_more (r ∷ rows) whole some = (whole.0, whole_more rows whole.1 some)
-
-  were_whole : (rows : List Row) → AreWhole (map found (rows ++ row ∷ [])) → AreWhole (map found rows) × ((found row).1 ≢ [])
-  were_whole [] whole = (tt, whole.0)
-  were_whole (r ∷ rows) whole = let rest = were_whole rows whole.1 in ((whole.0, rest.0), rest.1)
-
-  pub damaged_more : (rows : List Row) → SomeDamaged (map found rows) → SomeDamaged (map found (rows ++ row ∷ []))
-  damaged_more rows damaged whole = damaged (were_whole rows whole).0
-
-  pub damaged_last : (rows : List Row) → (found row).1 ≡ [] → SomeDamaged (map found (rows ++ row ∷ []))
-  damaged_last rows none whole = (were_whole rows whole).1 none
-
   pub entries_more : (f : K × List Spot → List Entry) (rows : List Row) (old new : List Entry) → new ≡ old ++ f (found row) → old ≡ flat_map f (map found rows) → new ≡ flat_map f (map found (rows ++ row ∷ []))
   entries_more f rows old new added before = added ∙ ap (λ es. es ++ f (found row)) before ∙ sym (flat_more f (map found rows) (found row)) ∙ ap (flat_map f) (sym (map-append found rows (row ∷ [])))
 

@@ -1,5 +1,5 @@
 -- Meaning. What a call does to a store.
-use Rattle.std.specs.Prelude.{◌≡◌, ◌≢◌, ◌⊎◌, pos, true, false, Result, List, [], ◌∷◌, map, IsTrue, IfErr, OnOk, OnErr}
+use Rattle.std.specs.Prelude.{◌≡◌, ◌≢◌, ◌⊎◌, IsUtf8, pos, true, false, Result, List, [], ◌∷◌, map, IsTrue, IfErr, OnOk, OnErr}
 use Rattle.std.specs.Borrow.{MutBor}
 use Rattle.std.specs.List.{AllByRecursion}
 use Rattle.sqlite.specs.declared.error.Error.{Error}
@@ -21,7 +21,8 @@ use Rattle.ft_store.specs.declared.fault.StoreFault.TheVariants as fault
 use Rattle.ft_values.specs.declared.fault.Fault.{Fault}
 use Rattle.ft_values.specs.declared.fault.Fault.TheVariants as told
 use Rattle.ft_store.specs.Tables.{store_schema}
-use Rattle.ft_rows.specs.Store.{StoreValue, Change, all_applied}
+use Rattle.ft_values.specs.declared.rows.Spot.{Spot}
+use Rattle.ft_rows.specs.Store.{StoreValue, ListKey, Change, all_applied}
 use Rattle.ft_store.specs.Rows.{value_of}
 
 -- the rowids are integers, and no two rows have one
@@ -118,7 +119,11 @@ pub record IsStored (db : Trees) (value : StoreValue) : Type 0 where
   pub marked : IsMarked db
   pub is : value_of db ≡ value
 
--- why a read of lists is refused: a plain fault, or Damaged, where a list of places is not in its one form
+-- lists whose entries can be told: none is damaged, and the term of each is a text
+abbrev pub AreTold : List (ListKey × List Spot) → Type 0
+AreTold lists = AllByRecursion (λ l. (l.1 ≢ []) × IsUtf8 l.0.1) lists
+
+-- why a read of lists is refused: a plain fault, or Damaged, where a list of places is not in its one form or a term is no text
 abbrev pub IsReadFault : StoreFault → Type 0
 IsReadFault e = IsPlainFault e ⊎ (e ≡ fault.Damaged)
 

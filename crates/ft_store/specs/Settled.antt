@@ -22,7 +22,7 @@ use Rattle.ft_store.specs.declared.same.Layout.{Layout}
 use Rattle.ft_store.specs.Tables.{no_schema}
 use Rattle.ft_store.specs.Rows.{value_of}
 use Rattle.ft_store.specs.Older.{schema_of}
-use Rattle.ft_store.specs.Calls.{AreNumbered, IsStore, IsPlainFault, IsReadFault, Keeps, Reads}
+use Rattle.ft_store.specs.Calls.{AreNumbered, AreTold, IsStore, IsPlainFault, IsReadFault, Keeps, Reads}
 use Rattle.ft_store.specs.Adopted.{IsOfVersion}
 
 -- Outside a transaction, with a database that has this property as long as the disk does what it is told and the connection is open.
@@ -89,7 +89,7 @@ pub record ReadsFor {S X : Type 0} (g : Ghosts S) (old new : Held S) (result : R
   pub read : Reads g old new result IsPlainFault
 
 -- What a read of lists answers and leaves: where the disk did what it was told, an answer of Ok is such a value, and Damaged means that one
--- of the lists is, and leaves the connection open.
+-- of the lists is, or has a term that is no text, and leaves the connection open.
 pub record ReadsLists {S X : Type 0} (g : Ghosts S) (old new : Held S) (result : Result X StoreFault) (Are : X → Type 0) (IsDamaged : Type 0) : Type 0 where
   pub rows : HasCleanDisk (state g new) → IfOk result Are
   pub damaged : HasCleanDisk (state g new) → result ≡ Err fault.Damaged → IsDamaged
@@ -100,9 +100,13 @@ pub record ReadsLists {S X : Type 0} (g : Ghosts S) (old new : Held S) (result :
 abbrev pub GivesLists : {S : Type 0} → Ghosts S → Held S → Held S → Result (Vec ListRow Global) StoreFault → List (ListKey × List Spot) → Type 0
 GivesLists g old new result asked = ReadsLists g old new result (λ found. AreRead asked found.items) (SomeDamaged asked)
 
--- each place in them, with its term
+-- each place in them, with its term, which is known
 abbrev pub GivesEntries : {S : Type 0} → Ghosts S → Held S → Held S → Result (Vec EntryRow Global) StoreFault → List (ListKey × List Spot) → Type 0
 GivesEntries g old new result asked = ReadsLists g old new result (λ found. (map shown_entry found.items ≡ entries_of asked) × AreWhole asked) (SomeDamaged asked)
+
+-- the same, where the terms are read: each is a text
+abbrev pub GivesTold : {S : Type 0} → Ghosts S → Held S → Held S → Result (Vec EntryRow Global) StoreFault → List (ListKey × List Spot) → Type 0
+GivesTold g old new result asked = ReadsLists g old new result (λ found. (map shown_entry found.items ≡ entries_of asked) × AreTold asked) (¬ AreTold asked)
 
 -- the query gives rows with this property
 abbrev pub GivesRows : {S : Type 0} → Ghosts S → Held S → Held S → List ℕ → Row → (List Row → Type 0) → Type 0

@@ -21,7 +21,7 @@ pub enum StoreFault {
     /// The store has a version that is not taken.
     #[error("full-text store of version {0}")]
     Version(i64),
-    /// A list of places is not in its one form.
+    /// A list of places is not in its one form, or its term is no text.
     #[error("a damaged posting list")]
     Damaged,
 }

@@ -1,10 +1,12 @@
 //! Queries on the lists of terms.
-ghost use Rattle.std.specs.Prelude.{◌≡◌, ◌≢◌, false, ℤ, ◌<◌, ◌-◌, ◌^◌, [], ◌++◌, map, min, Err, IfOk, OnOk, MatchOption};
+ghost use Rattle.std.specs.Prelude.{◌≡◌, ◌≢◌, false, IsUtf8, ℤ, ◌<◌, ◌-◌, ◌^◌, [], ◌++◌, map, min, Err, IfOk, OnOk, MatchOption};
 ghost use Rattle.std.specs.Ordering.{int_eq};
 ghost use Rattle.std.specs.List.{AllByRecursion, flat_map};
 ghost use Rattle.std.specs.FinMap.Entries.{where_key};
 ghost use Rattle.sqlite.specs.State.{Shown};
 ghost use Rattle.sqlite.specs.Order as order;
+ghost use Rattle.sqlite.specs.Order.{column};
+ghost use Rattle.sqlite_value.specs.Order.{bytes};
 ghost use Rattle.sqlite.specs.Values.{bound};
 ghost use Rattle.sqlite.specs.Held.{state};
 ghost use Rattle.sqlite_value.specs.Value.{owned};
@@ -14,8 +16,8 @@ ghost use Rattle.ft_store.specs.Rows.{value_of};
 ghost use Rattle.ft_store.specs.Range.{after_last};
 ghost use Rattle.ft_store.specs.Found.{found_spots, found_places};
 ghost use Rattle.ft_rows.specs.Shown.{shown_list, shown_entry, entries_with, entries_of, lists_of_term, lists_of_prefix, spot_count, AreWhole, SomeDamaged};
-ghost use Rattle.ft_store.specs.Calls.{IsAtRest};
-ghost use Rattle.ft_store.specs.Settled.{IsSettled, IsPlainIn, Finds, ReadsLists, GivesLists, GivesEntries, GivesRows};
+ghost use Rattle.ft_store.specs.Calls.{AreTold, IsAtRest};
+ghost use Rattle.ft_store.specs.Settled.{IsSettled, IsPlainIn, Finds, ReadsLists, GivesLists, GivesEntries, GivesTold, GivesRows};
 
 use crate::fault::StoreFault;
 use crate::stream::{Gathered, gather};
@@ -39,6 +41,20 @@ fn list_row(alloc: Global, row: &Row) -> Result<Option<ListRow>, StoreFault>
     match unpack(alloc, bytes)? {
         Some(spots) => Ok(Some(ListRow { docid, spots })),
         None => Ok(None),
+    }
+}
+
+/// The term of a row, in which it stands last; none where it is no text.
+fn row_term(row: &Row) -> Result<Option<&str>, StoreFault>
+    ensures { Finds result (λ term. let stored = bytes (column row.now 2)
+        in MatchOption term (¬ (IsUtf8 stored)) (λ t. (t.now ≡ stored) × IsUtf8 stored)) }
+{
+    let ValueRef::Text(bytes) = row.get_ref(2)? else {
+        return Err(StoreFault::Refused);
+    };
+    match str::from_utf8(bytes) {
+        Ok(term) => Ok(Some(term)),
+        Err(_) => Ok(None),
     }
 }
 
@@ -136,13 +152,14 @@ struct EntriesOf {
 
 impl Gathered for EntriesOf {
     ghost use Rattle.std.specs.Prelude.{◌≡◌, ℤ, map, MatchBool};
+    ghost use Rattle.ft_store.specs.Calls.{AreTold};
     ghost use Rattle.ft_store.specs.Found.{found_places};
-    ghost use Rattle.ft_rows.specs.Shown.{shown_entry, entries_of, AreWhole, SomeDamaged};
+    ghost use Rattle.ft_rows.specs.Shown.{shown_entry, entries_of};
 
     ghost is_made_of = { λ made whole rows. (tab : ℤ) → MatchBool whole
         ((map shown_entry made.entries.items ≡ entries_of (map (found_places tab) rows))
-        × AreWhole (map (found_places tab) rows))
-        (SomeDamaged (map (found_places tab) rows)) };
+        × AreTold (map (found_places tab) rows))
+        (¬ AreTold (map (found_places tab) rows)) };
 
     fn add(&mut self, whole: bool, row: &Row) -> Result<bool, StoreFault> {
         if !whole {
@@ -151,13 +168,16 @@ impl Gathered for EntriesOf {
         let Some(list) = list_row(self.alloc, row)? else {
             return Ok(false);
         };
-        let term: String = row.get(2)?;
-        push_entries(self.alloc, &mut self.entries, term.as_str(), &list)?;
+        let Some(term) = row_term(row)? else {
+            return Ok(false);
+        };
+        push_entries(self.alloc, &mut self.entries, term, &list)?;
         Ok(true)
     }
 }
 
-/// The entries of the lists that a query gives, in the order of its rows. Damaged bytes are Damaged.
+/// The entries of the lists that a query gives, in the order of its rows. Damaged bytes are Damaged, and so is a term
+/// that is no text.
 fn select_entries<S: Alter>(
     conn: &mut Connection<S>,
     alloc: Global,
@@ -168,9 +188,9 @@ fn select_entries<S: Alter>(
     ensures { ReadsLists S.Store conn.old conn.new result
         (λ entries. GivesRows S.Store conn.old conn.new sql.now (bound params.now) (λ rows.
         (tab : ℤ) → (map shown_entry entries.items ≡ entries_of (map (found_places tab) rows))
-        × AreWhole (map (found_places tab) rows)))
+        × AreTold (map (found_places tab) rows)))
         (GivesRows S.Store conn.old conn.new sql.now (bound params.now) (λ rows.
-        (tab : ℤ) → SomeDamaged (map (found_places tab) rows))) }
+        (tab : ℤ) → ¬ AreTold (map (found_places tab) rows))) }
 {
     let mut found = EntriesOf {
         alloc,
@@ -240,7 +260,7 @@ pub(crate) fn entries<S: Alter>(
     tab: i64,
 ) -> Result<Vec<EntryRow>, StoreFault>
     requires { IsAtRest (state S.Store conn.old) }
-    ensures { GivesEntries S.Store conn.old conn.new result
+    ensures { GivesTold S.Store conn.old conn.new result
         (where_key list_key_cmp (λ k. int_eq tab k.0)
         (value_of (state S.Store conn.old).now.trees).lists) }
 {
@@ -301,7 +321,7 @@ fn range<'a, S: Alter>(
     requires rest { IsAtRest (state S.Store conn.old) }
     requires some { from.now ≢ [] }
     requires past { end.now ≡ after_last from.now }
-    ensures { GivesEntries S.Store conn.old conn.new result
+    ensures { GivesTold S.Store conn.old conn.new result
         (lists_of_prefix tab from.now (value_of (state S.Store conn.old).now.trees)) }
 {
     select_entries(
@@ -342,7 +362,7 @@ pub(crate) fn prefix<S: Alter>(
     begin: &str,
 ) -> Result<Vec<EntryRow>, StoreFault>
     requires { IsAtRest (state S.Store conn.old) }
-    ensures { GivesEntries S.Store conn.old conn.new result
+    ensures { GivesTold S.Store conn.old conn.new result
         (lists_of_prefix tab begin.now (value_of (state S.Store conn.old).now.trees)) }
 {
     if begin.is_empty() {

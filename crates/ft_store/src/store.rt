@@ -12,7 +12,7 @@ ghost use Rattle.ft_rows.specs.Changes.{shown_change, CanApply};
 ghost use Rattle.ft_rows.specs.Shown.{shown_cell, shown_size, shown_note, shown_list, shown_entry, lists_of_term, lists_of_prefix, spot_count, tables_listed, shown_table, last_docid_of, entries_of, AreWhole, AreRead, SomeDamaged, AreNamedApart};
 ghost use Rattle.ft_rows.specs.Terms.{lists_by_terms};
 ghost use Rattle.ft_store.specs.Expected.{place_count};
-ghost use Rattle.ft_store.specs.Calls.{IsPlainFault, IsReadFault, IsChangeFault, IsStored, Keeps, MakesAllOrNone};
+ghost use Rattle.ft_store.specs.Calls.{AreTold, IsPlainFault, IsReadFault, IsChangeFault, IsStored, Keeps, MakesAllOrNone};
 ghost use Rattle.ft_store.specs.declared.examine.Rowids.TheVariants.{Apart};
 ghost use Rattle.ft_store.specs.Settled.{AreAsKnown};
 ghost use Rattle.ft_store.specs.Adopted.{IsTaken, IsNotTaken, IsNotTakenFor, LeavesMade};
@@ -270,16 +270,16 @@ impl<S: Alter> Store<S> {
     }
 
     /// The entries of the terms that begin so, by term, then docid, column and position. Damaged where one of their
-    /// lists is.
+    /// lists is, or a term is no text.
     pub fn prefix(&mut self, tab: i64, begin: &str) -> Result<Vec<EntryRow>, StoreFault>
         ensures rows { HasCleanDisk (shows S.Store self.new)
             → IfOk result (λ found. let asked = where_key list_key_cmp
             (λ k. int_eq tab k.0 && starts_with nat_eq k.1 begin.now)
             (value_in S.Store self.old).lists in (map shown_entry found.items ≡ entries_of asked)
-            × AreWhole asked) }
+            × AreTold asked) }
         ensures read { ReadsRows S.Store self.old self.new result vec_len IsReadFault }
         ensures damaged { HasCleanDisk (shows S.Store self.new) → result ≡ Err StoreFault.Damaged
-            → SomeDamaged (where_key list_key_cmp
+            → ¬ AreTold (where_key list_key_cmp
             (λ k. int_eq tab k.0 && starts_with nat_eq k.1 begin.now)
             (value_in S.Store self.old).lists) }
     {
@@ -304,15 +304,16 @@ impl<S: Alter> Store<S> {
         Ok(found)
     }
 
-    /// All entries of a table, by term, then docid, column and position. Damaged where one of its lists is.
+    /// All entries of a table, by term, then docid, column and position. Damaged where one of its lists is, or a
+    /// term is no text.
     pub fn entries(&mut self, tab: i64) -> Result<Vec<EntryRow>, StoreFault>
         ensures rows { HasCleanDisk (shows S.Store self.new)
             → IfOk result (λ found. let asked = where_key list_key_cmp (λ k. int_eq tab k.0)
             (value_in S.Store self.old).lists in (map shown_entry found.items ≡ entries_of asked)
-            × AreWhole asked) }
+            × AreTold asked) }
         ensures read { ReadsRows S.Store self.old self.new result vec_len IsReadFault }
         ensures damaged { HasCleanDisk (shows S.Store self.new) → result ≡ Err StoreFault.Damaged
-            → SomeDamaged (where_key list_key_cmp (λ k. int_eq tab k.0)
+            → ¬ AreTold (where_key list_key_cmp (λ k. int_eq tab k.0)
             (value_in S.Store self.old).lists) }
         ensures stays { HasCleanDisk (shows S.Store self.new) → result ≡ Err StoreFault.Damaged
             → IsTrue (shows S.Store self.new).is_open }

@@ -4,7 +4,8 @@ use Rattle.sqlite.specs.Given.{IsPlain}
 use Rattle.sqlite.specs.Listing.{understood}
 use Rattle.sqlite.specs.Held.{state}
 use Rattle.std.proofs.lemmas.Result.{IfOk-weaker}
-use Rattle.ft_rows.specs.Shown.{shown_entry, entries_of, AreWhole, SomeDamaged}
+use Rattle.ft_rows.specs.Shown.{shown_entry, entries_of}
+use Rattle.ft_store.specs.Calls.{AreTold}
 use Rattle.ft_store.proofs.Texts.{lists_text}
 use Rattle.ft_store.proofs.TextLemmas.{lists_plain}
 use Rattle.ft_store.proofs.AnswerLemmas.{lists_stored_shown, placed}
@@ -20,7 +21,7 @@ returns g c = record {
       let new = state g.S.Store c.select_entries.new.conn in
       let store = c.requires.store (omega (arith, c.select_entries.ensures.read.survives.clean)) in
       IfOk-weaker c.select_entries.result _ _
-      (λ found h. let all = placed old.now.trees c.args.tab (λ k. int_eq c.args.tab k.0) h.0 (lists_stored_shown c.args.tab old new h.0 store (simp (to_z-of_z, c.ranges.tab) at (rw c.params-to_sql.ensures at h.1))) in (subst (λ l. map shown_entry found.items ≡ entries_of l) all (h.2 c.args.tab).0, subst AreWhole all (h.2 c.args.tab).1))
+      (λ found h. let all = placed old.now.trees c.args.tab (λ k. int_eq c.args.tab k.0) h.0 (lists_stored_shown c.args.tab old new h.0 store (simp (to_z-of_z, c.ranges.tab) at (rw c.params-to_sql.ensures at h.1))) in (subst (λ l. map shown_entry found.items ≡ entries_of l) all (h.2 c.args.tab).0, subst AreTold all (h.2 c.args.tab).1))
       (c.select_entries.ensures.rows clean);
   damaged = λ clean is.
       let old = state g.S.Store c.args.conn.now in
@@ -28,7 +29,7 @@ returns g c = record {
       let store = c.requires.store (omega (arith, c.select_entries.ensures.read.survives.clean)) in
       let h = c.select_entries.ensures.damaged clean is in
       let all = placed old.now.trees c.args.tab (λ k. int_eq c.args.tab k.0) h.0 (lists_stored_shown c.args.tab old new h.0 store (simp (to_z-of_z, c.ranges.tab) at (rw c.params-to_sql.ensures at h.1))) in
-      subst SomeDamaged all (h.2 c.args.tab);
+      subst (λ l. ¬ AreTold l) all (h.2 c.args.tab);
   stays = c.select_entries.ensures.stays;
   read = c.select_entries.ensures.read;
 }

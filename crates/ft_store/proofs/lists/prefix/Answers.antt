@@ -3,8 +3,9 @@ use Rattle.std.specs.Prelude.{IfOk}
 use Rattle.std.specs.FinMap.Entries.{where_key}
 use Rattle.sqlite.specs.Held.{state}
 use Rattle.ft_rows.specs.Store.{ListKey, list_key_cmp}
+use Rattle.ft_store.specs.Calls.{AreTold}
 use Rattle.ft_store.specs.Rows.{value_of}
-use Rattle.ft_rows.specs.Shown.{shown_entry, entries_of, AreWhole, SomeDamaged}
+use Rattle.ft_rows.specs.Shown.{shown_entry, entries_of}
 use Rattle.ft_store.proofs.RangeLemmas.{below_255, all_begin, none_of}
 use Rattle.ft_store.proofs.lists.prefix.Goals as goal
 
@@ -13,12 +14,12 @@ returns-then-is_empty g c = record {
   rows = λ clean.
       let lists = (value_of (state g.S.Store c.args.conn.now).now.trees).lists in
       let none : c.args.begin.now ≡ [] = none_of c.args.begin.now (search rules) in
-      subst (λ (p : ListKey → Bool). IfOk c.entries.result (λ found. (map shown_entry found.items ≡ entries_of (where_key list_key_cmp p lists)) × AreWhole (where_key list_key_cmp p lists)))
+      subst (λ (p : ListKey → Bool). IfOk c.entries.result (λ found. (map shown_entry found.items ≡ entries_of (where_key list_key_cmp p lists)) × AreTold (where_key list_key_cmp p lists)))
       (all_begin c.args.tab c.args.begin.now none) (simp (to_z-of_z, c.ranges.tab) at (c.entries.ensures.rows clean));
   damaged = λ clean is.
       let lists = (value_of (state g.S.Store c.args.conn.now).now.trees).lists in
       let none : c.args.begin.now ≡ [] = none_of c.args.begin.now (search rules) in
-      subst (λ (p : ListKey → Bool). SomeDamaged (where_key list_key_cmp p lists)) (all_begin c.args.tab c.args.begin.now none) (simp (to_z-of_z, c.ranges.tab) at (c.entries.ensures.damaged clean is));
+      subst (λ (p : ListKey → Bool). ¬ AreTold (where_key list_key_cmp p lists)) (all_begin c.args.tab c.args.begin.now none) (simp (to_z-of_z, c.ranges.tab) at (c.entries.ensures.damaged clean is));
   stays = c.entries.ensures.stays;
   read = c.entries.ensures.read;
 }
