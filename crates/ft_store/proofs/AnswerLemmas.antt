@@ -74,11 +74,6 @@ test_texts op v w s t p q = ap₂ (λ a b. is_true (binary (Compare op Binary) a
 cmp_cases : (v w : Value) (s t : List ℕ) → v ≡ Text s → w ≡ Text t → by_key (ascending NoCase) v w ≡ name_cmp (without_case s) (without_case t)
 cmp_cases v w s t p q = ap₂ (by_key (ascending NoCase)) p q ∙ value_cmp-Text (without_case s) (without_case t)
 
-regroup_2 : (x y z : Ordering) → ordering_then x (ordering_then y z) ≡ ordering_then (ordering_then x y) z
-regroup_2 Less y z = refl
-regroup_2 Equal y z = refl
-regroup_2 Greater y z = refl
-
 pub alone : (x : Ordering) → x ≡ ordering_then x Equal
 alone Less = refl
 alone Equal = refl
@@ -203,10 +198,10 @@ pub columns_shown : (tab : ℤ) (old new : State) (rows : List Row) → (IsTrue 
 columns_shown tab old new rows if_open h =
     let kept = if_open (shown_open _ _ old new rows h) in
     let sound = sound_of old kept in
-    found column_key_cmp column_key_total tied_column_keys name_cmp name_total tied_names column_entry IsColumnRow (overlay old.now.trees []) 3 (are_columns old.now.trees sound) (columns_apart old.now.trees sound kept.numbered.1.1.0) columns_query.filter (2 ∷ 3 ∷ []) (rising (1 ∷ 2 ∷ 3 ∷ [])) (Int tab ∷ []) (λ k. int_eq tab k.0) (found_column tab)
+    keyed_found column_key_cmp column_key_total tied_column_keys name_cmp name_total tied_names column_entry IsColumnRow (overlay old.now.trees []) 3 (are_columns old.now.trees sound) (columns_apart old.now.trees sound kept.numbered.1.1.0) columns_query.filter (2 ∷ 3 ∷ []) (rising (1 ∷ 2 ∷ [])) (Int tab ∷ []) (λ k. int_eq tab k.0) (found_column tab)
     (λ r h. last_term (turned _ _ _ _ h.tab refl))
     (λ r h passed. ap (λ t. ((t, (column_entry r).0.1), (column_entry r).1)) (same_int tab (column_entry r).0.0 passed))
-    (λ a b p q. then_key (cmp_ints _ _ _ _ p.tab q.tab) (then_key (cmp_ints _ _ _ _ p.at q.at) (last_key (cmp_texts _ _ _ _ p.name q.name))) ∙ regroup_2 (int_cmp (column_entry a).0.0 (column_entry b).0.0) (int_cmp (column_entry a).0.1 (column_entry b).0.1) (name_cmp (column_entry a).1 (column_entry b).1))
+    (λ a b p q. then_key (cmp_ints _ _ _ _ p.tab q.tab) (last_key (cmp_ints _ _ _ _ p.at q.at)))
     rows ((reads_as columns_text (Int tab ∷ []) old new store_schema kept.schema _ columns_is columns_plain columns_unlisted rows h).answer Null)
 
 pub skips_shown : (tab : ℤ) (old new : State) (rows : List Row) → (IsTrue old.is_open → IsStore old.now) → Shown skips_text (Int tab ∷ []) old new rows

@@ -23,6 +23,7 @@ pub mod RowidLemmas
 pub mod SameLemmas
 pub mod ScanLemmas
 pub mod SelectLemmas
+pub mod ShownLemmas
 pub mod SortedLemmas
 pub mod StepLemmas
 pub mod StoredLemmas

@@ -317,7 +317,7 @@ unfolding understood everything
 names_plain = (refl, refl)
 
 abbrev pub columns_query : Query
-columns_query = table_query 3 (is_param 1 0 ∷ []) (2 ∷ 3 ∷ []) (1 ∷ 2 ∷ 3 ∷ [])
+columns_query = table_query 3 (is_param 1 0 ∷ []) (2 ∷ 3 ∷ []) (1 ∷ 2 ∷ [])
 
 pub columns_is : command_of (understood store_schema columns_text) ≡ Select (record { lets = []; body = columns_query }) (codes "col" ∷ codes "name" ∷ [])
 unfolding understood everything

@@ -72,7 +72,7 @@ abbrev pub names_text : List ℕ
 names_text = codes "SELECT id, name FROM tab ORDER BY id, name COLLATE BINARY"
 
 abbrev pub columns_text : List ℕ
-columns_text = codes "SELECT col, name FROM col WHERE tab = ?1 ORDER BY tab, col, name"
+columns_text = codes "SELECT col, name FROM col WHERE tab = ?1 ORDER BY tab, col"
 
 abbrev pub skips_text : List ℕ
 skips_text = codes "SELECT col FROM skip WHERE tab = ?1 ORDER BY tab, col"

@@ -4,25 +4,20 @@ use Rattle.std.specs.List.{AllByRecursion}
 use Rattle.sqlite.specs.declared.types.Value.{Value}
 use Rattle.sqlite.specs.declared.types.Value.TheVariants.{Null, Int, Real, Text, Blob}
 use Rattle.sqlite.specs.Order.{Row, column}
-use Rattle.sqlite_value.specs.Order.{value_cmp, bytes}
+use Rattle.sqlite_value.specs.Order.{bytes}
 use Rattle.sqlite.specs.Tree.{Trees}
 use Rattle.sqlite.specs.Edit.{id_in}
 use Rattle.sqlite_trees.specs.Tree.{rowid}
 use Rattle.sqlite_trees.specs.View.{is_int}
 use Rattle.ft_store.specs.Calls.{HasOwnRowids}
-use Rattle.sqlite_sql.specs.Ops.{is_null, is_false, binary}
-use Rattle.sqlite_sql.specs.declared.ops.BinaryOp.TheVariants.{Or, Is}
-use Rattle.sqlite.specs.Collation.TheVariants.{Binary}
+use Rattle.sqlite_sql.specs.Ops.{is_null}
 use Rattle.sqlite_schema.specs.declared.schema.Column.{Column}
 use Rattle.sqlite_schema.specs.declared.schema.Kind.TheVariants as kind
-use Rattle.sqlite_schema.specs.declared.schema.Constraint.{Constraint}
-use Rattle.sqlite_schema.specs.declared.schema.Constraint.TheVariants.{Datatype, NotNull, Check}
+use Rattle.sqlite_schema.specs.declared.schema.Constraint.TheVariants.{Datatype, NotNull}
 use Rattle.sqlite_schema.specs.Rules.{are_typed, is_of, suits, passes}
 use Rattle.sqlite_catalog.specs.Listing.{IsSound}
 use Rattle.sqlite_keyed.proofs.ListLemmas.{all_both}
 use Rattle.ft_store.specs.Tables.{store_schema, tab_table, col_table, cell_table, posting_table, sizes_table, noted_table, skip_table}
-use Rattle.ft_store.specs.Rows.{cell_in}
-use Rattle.ft_store.specs.Rows.{num_of, txt_of}
 use Rattle.ft_rows.proofs.ListLemmas.{and_first, and_second}
 
 pub not_null : (b : Bool) → not b ≡ true → b ≡ false
@@ -91,64 +86,35 @@ pub record IsCellRow (row : Row) : Type 0 where
   pub tab : column row 1 ≡ Int (id_in (column row 1))
   pub docid : column row 2 ≡ Int (id_in (column row 2))
   pub at : column row 3 ≡ Int (id_in (column row 3))
-  pub num : column row 4 ≡ num_of (cell_in (column row 4) (column row 5))
-  pub txt : column row 5 ≡ txt_of (cell_in (column row 4) (column row 5))
 
-values_are : (a b : Value) → is_of kind.Integer a ≡ true → is_of kind.Text b ≡ true → not (is_false (binary Or (binary (Is Binary) a Null) (binary (Is Binary) b Null))) ≡ true
-    → (a ≡ num_of (cell_in a b)) × (b ≡ txt_of (cell_in a b))
-unfolding binary value_cmp
-values_are Null Null p q r = (refl, refl)
-values_are Null (Text t) p q r = (refl, refl)
-values_are Null (Int n) p q r = absurd (true≢false (sym q))
-values_are Null (Real x) p q r = absurd (true≢false (sym q))
-values_are Null (Blob x) p q r = absurd (true≢false (sym q))
-values_are (Int n) Null p q r = (refl, refl)
-values_are (Int n) (Text t) p q r = absurd (true≢false (sym r))
-values_are (Int n) (Int m) p q r = absurd (true≢false (sym q))
-values_are (Int n) (Real x) p q r = absurd (true≢false (sym q))
-values_are (Int n) (Blob x) p q r = absurd (true≢false (sym q))
-values_are (Real x) b p q r = absurd (true≢false (sym p))
-values_are (Text x) b p q r = absurd (true≢false (sym p))
-values_are (Blob x) b p q r = absurd (true≢false (sym p))
-
-cell_typed : (db : Trees) (row : Row) → (passes Datatype store_schema db (cell_table 5) row ≡ true) × (passes NotNull store_schema db (cell_table 5) row ≡ true) → passes Check store_schema db (cell_table 5) row ≡ true → IsCellRow row
-cell_typed db [] typed check = absurd (true≢false (sym typed.1))
-cell_typed db (r ∷ values) typed check =
-    let kinds = typed_at 0 (cell_table 5).columns values (and_first _ _ typed.0) in
-    let a = and_second _ _ typed.1 in
-    let b = and_second _ _ a in
-    let both = values_are _ _ (kinds 3 _ refl refl) (kinds 4 _ refl refl) (and_first _ _ check) in
+cell_typed : (db : Trees) (row : Row) → passes Datatype store_schema db (cell_table 5) row ≡ true → passes NotNull store_schema db (cell_table 5) row ≡ true → IsCellRow row
+cell_typed db [] typed there = absurd (true≢false (sym there))
+cell_typed db (r ∷ values) typed there =
+    let kinds = typed_at 0 (cell_table 5).columns values (and_first _ _ typed) in
+    let n1 = and_second _ _ there in
+    let n2 = and_second _ _ n1 in
     record {
-      tab = is_integer _ (kinds 0 _ refl refl) (not_null _ (and_first _ _ typed.1));
-      docid = is_integer _ (kinds 1 _ refl refl) (not_null _ (and_first _ _ a));
-      at = is_integer _ (kinds 2 _ refl refl) (not_null _ (and_first _ _ b));
-      num = both.0;
-      txt = both.1;
+      tab = is_integer _ (kinds 0 _ refl refl) (not_null _ (and_first _ _ there));
+      docid = is_integer _ (kinds 1 _ refl refl) (not_null _ (and_first _ _ n1));
+      at = is_integer _ (kinds 2 _ refl refl) (not_null _ (and_first _ _ n2));
     }
 
 pub are_cells : (db : Trees) → IsSound store_schema db → AllByRecursion IsCellRow (db 5)
-are_cells db sound =
-    let rule = λ (r : Constraint). (sound.obeys.rules r).1.1.1.0 in
-    let typed = all_both _ (λ row. passes NotNull store_schema db (cell_table 5) row ≡ true) (λ row. (passes Datatype store_schema db (cell_table 5) row ≡ true) × (passes NotNull store_schema db (cell_table 5) row ≡ true)) (λ row h k. (h, k)) (db 5) (rule Datatype) (rule NotNull) in
-    all_both _ (λ row. passes Check store_schema db (cell_table 5) row ≡ true) IsCellRow (cell_typed db) (db 5) typed (rule Check)
+are_cells db sound = all_both _ (λ row. passes NotNull store_schema db (cell_table 5) row ≡ true) IsCellRow (cell_typed db) (db 5) (sound.obeys.rules Datatype).1.1.1.0 (sound.obeys.rules NotNull).1.1.1.0
 
 -- ---- columns
 
 pub record IsColumnRow (row : Row) : Type 0 where
   pub tab : column row 1 ≡ Int (id_in (column row 1))
   pub at : column row 2 ≡ Int (id_in (column row 2))
-  pub name : column row 3 ≡ Text (bytes (column row 3))
 
 column_typed : (db : Trees) (row : Row) → passes Datatype store_schema db (col_table 3) row ≡ true → passes NotNull store_schema db (col_table 3) row ≡ true → IsColumnRow row
 column_typed db [] typed there = absurd (true≢false (sym there))
 column_typed db (r ∷ values) typed there =
     let kinds = typed_at 0 (col_table 3).columns values (and_first _ _ typed) in
-    let n1 = and_second _ _ there in
-    let n2 = and_second _ _ n1 in
     record {
       tab = is_integer _ (kinds 0 _ refl refl) (not_null _ (and_first _ _ there));
-      at = is_integer _ (kinds 1 _ refl refl) (not_null _ (and_first _ _ n1));
-      name = is_text _ (kinds 2 _ refl refl) (not_null _ (and_first _ _ n2));
+      at = is_integer _ (kinds 1 _ refl refl) (not_null _ (and_first _ _ (and_second _ _ there)));
     }
 
 pub are_columns : (db : Trees) → IsSound store_schema db → AllByRecursion IsColumnRow (db 3)

@@ -1,5 +1,5 @@
 -- What each statement of a change makes of the value of a store.
-use Rattle.std.proofs.Common.{◌≡◌, ℕ, ℤ, Bool, true, false, Some, not, ◌&&◌, List, [], ◌∷◌, map, drop, None, Ok, refl, ap, ap₂, subst, ◌∙◌, Ordering, Less, Equal, Greater, is_eq}
+use Rattle.std.proofs.Common.{◌≡◌, IsUtf8, ℕ, ℤ, Bool, true, false, Some, not, ◌&&◌, List, [], ◌∷◌, map, drop, None, Ok, refl, ap, ap₂, subst, ◌∙◌, Ordering, Less, Equal, Greater, is_eq}
 use Rattle.std.specs.Prelude.{unwrap_or}
 use Rattle.std.specs.List.{AllByRecursion, flat_map}
 use Rattle.std.specs.Ordering.{int_cmp, int_eq, eq_by_cmp, ordering_then, ordering_reverse}
@@ -28,6 +28,7 @@ use Rattle.ft_values.specs.Cells as cells
 use Rattle.ft_store.specs.Groups.{Entry, entry_values, entry_spots, put_each, with_entries}
 use Rattle.ft_store.specs.Tables.{posting_table}
 use Rattle.ft_store.specs.Rows.{cell_in, list_entry, value_of}
+use Rattle.ft_store.proofs.ShownLemmas.{text_again}
 use Rattle.ft_store.proofs.RowidLemmas.{IsInt}
 use Rattle.ft_store.specs.Rows.{num_of, txt_of}
 use Rattle.ft_store.specs.Calls.{IsStore, Steps}
@@ -82,11 +83,6 @@ cast_txt : (v : Cell) → cast kind.Text (txt_of v) ≡ txt_of v
 cast_txt cells.Null = refl
 cast_txt (cells.Int n) = refl
 cast_txt (cells.Text t) = refl
-
-same_again : (v : Cell) → cell_in (num_of v) (txt_of v) ≡ v
-same_again cells.Null = refl
-same_again (cells.Int n) = refl
-same_again (cells.Text t) = refl
 
 -- a parameter is bound as it is
 pub bound_num : (v : Cell) → bound_value (num_of v) ≡ num_of v
@@ -186,20 +182,20 @@ module _ (old new : State) (kept : IsStore old.now) (shown : Shows old new new.n
   does_add_name tab name count free h =
       tables_added old new kept shown (Int tab ∷ Null ∷ Text name ∷ []) refl (inserts old new add_name_text (Int tab ∷ Text name ∷ []) 1 1 _ _ _ _ _ _ _ add_name_terms 3 (Int tab ∷ Null ∷ Text name ∷ []) count kept.schema add_name_is add_name_plain refl (rw (cast_int tab, cast_null) refl) h) free
 
-  pub does_add_column : (tab : ℤ) (column : ℤ) (name : List ℕ) (count : ℕ) → find column_key_cmp (tab, column) (value_of old.now.trees).columns ≡ None → Executes add_column_text (Int tab ∷ Int column ∷ Text name ∷ []) old new (Ok count)
+  pub does_add_column : (tab : ℤ) (column : ℤ) (name : List ℕ) (count : ℕ) → IsUtf8 name → find column_key_cmp (tab, column) (value_of old.now.trees).columns ≡ None → Executes add_column_text (Int tab ∷ Int column ∷ Text name ∷ []) old new (Ok count)
       → Steps old new (record (value_of old.now.trees) { columns = put column_key_cmp (tab, column) name (value_of old.now.trees).columns })
-  does_add_column tab column name count free h =
-      columns_added old new kept shown (Int (next_rowid (old.now.trees 3)) ∷ Int tab ∷ Int column ∷ Text name ∷ []) refl (inserts old new add_column_text (Int tab ∷ Int column ∷ Text name ∷ []) 2 3 _ _ _ _ _ _ _ add_column_terms 4 (Int (next_rowid (old.now.trees 3)) ∷ Int tab ∷ Int column ∷ Text name ∷ []) count kept.schema add_column_is add_column_plain refl (rw (cast_null, cast_int tab, cast_int column) refl) h) free
+  does_add_column tab column name count text free h =
+      subst (λ x. Steps old new (record (value_of old.now.trees) { columns = put column_key_cmp (tab, column) x (value_of old.now.trees).columns })) (text_again name text) (columns_added old new kept shown (Int (next_rowid (old.now.trees 3)) ∷ Int tab ∷ Int column ∷ Text name ∷ []) refl (inserts old new add_column_text (Int tab ∷ Int column ∷ Text name ∷ []) 2 3 _ _ _ _ _ _ _ add_column_terms 4 (Int (next_rowid (old.now.trees 3)) ∷ Int tab ∷ Int column ∷ Text name ∷ []) count kept.schema add_column_is add_column_plain refl (rw (cast_null, cast_int tab, cast_int column) refl) h) free)
 
   pub does_add_skip : (tab : ℤ) (column : ℤ) (count : ℕ) → find column_key_cmp (tab, column) (value_of old.now.trees).skipped ≡ None → Executes add_skip_text (Int tab ∷ Int column ∷ []) old new (Ok count)
       → Steps old new (record (value_of old.now.trees) { skipped = put column_key_cmp (tab, column) tt (value_of old.now.trees).skipped })
   does_add_skip tab column count free h =
       skipped_added old new kept shown (Int (next_rowid (old.now.trees 13)) ∷ Int tab ∷ Int column ∷ []) refl (inserts old new add_skip_text (Int tab ∷ Int column ∷ []) 7 13 _ _ _ _ _ _ _ add_skip_terms 3 (Int (next_rowid (old.now.trees 13)) ∷ Int tab ∷ Int column ∷ []) count kept.schema add_skip_is add_skip_plain refl (rw (cast_null, cast_int tab, cast_int column) refl) h) free
 
-  pub does_add_cell : (tab : ℤ) (docid : ℤ) (column : ℤ) (value : Cell) (count : ℕ) → find cell_key_cmp (tab, docid, column) (value_of old.now.trees).cells ≡ None → Executes add_cell_text (Int tab ∷ Int docid ∷ Int column ∷ num_of value ∷ txt_of value ∷ []) old new (Ok count)
+  pub does_add_cell : (tab : ℤ) (docid : ℤ) (column : ℤ) (value : Cell) (count : ℕ) → cell_in (num_of value) (txt_of value) ≡ value → find cell_key_cmp (tab, docid, column) (value_of old.now.trees).cells ≡ None → Executes add_cell_text (Int tab ∷ Int docid ∷ Int column ∷ num_of value ∷ txt_of value ∷ []) old new (Ok count)
       → Steps old new (record (value_of old.now.trees) { cells = put cell_key_cmp (tab, docid, column) value (value_of old.now.trees).cells })
-  does_add_cell tab docid column value count free h =
-      subst (λ x. Steps old new (record (value_of old.now.trees) { cells = put cell_key_cmp (tab, docid, column) x (value_of old.now.trees).cells })) (same_again value) (cells_added old new kept shown (Int (next_rowid (old.now.trees 5)) ∷ Int tab ∷ Int docid ∷ Int column ∷ num_of value ∷ txt_of value ∷ []) refl (inserts old new add_cell_text (Int tab ∷ Int docid ∷ Int column ∷ num_of value ∷ txt_of value ∷ []) 3 5 _ _ _ _ _ _ _ add_cell_terms 6 (Int (next_rowid (old.now.trees 5)) ∷ Int tab ∷ Int docid ∷ Int column ∷ num_of value ∷ txt_of value ∷ []) count kept.schema add_cell_is add_cell_plain refl (rw (cast_null, cast_int tab, cast_int docid, cast_int column, cast_num value, cast_txt value) refl) h) free)
+  does_add_cell tab docid column value count again free h =
+      subst (λ x. Steps old new (record (value_of old.now.trees) { cells = put cell_key_cmp (tab, docid, column) x (value_of old.now.trees).cells })) again (cells_added old new kept shown (Int (next_rowid (old.now.trees 5)) ∷ Int tab ∷ Int docid ∷ Int column ∷ num_of value ∷ txt_of value ∷ []) refl (inserts old new add_cell_text (Int tab ∷ Int docid ∷ Int column ∷ num_of value ∷ txt_of value ∷ []) 3 5 _ _ _ _ _ _ _ add_cell_terms 6 (Int (next_rowid (old.now.trees 5)) ∷ Int tab ∷ Int docid ∷ Int column ∷ num_of value ∷ txt_of value ∷ []) count kept.schema add_cell_is add_cell_plain refl (rw (cast_null, cast_int tab, cast_int docid, cast_int column, cast_num value, cast_txt value) refl) h) free)
 
   pub does_add_list : (tab : ℤ) (term : List ℕ) (docid : ℤ) (list : List ℕ) (count : ℕ) → find list_key_cmp (tab, term, docid) (value_of old.now.trees).lists ≡ None → Executes add_list_text (Int tab ∷ Text term ∷ Int docid ∷ Blob list ∷ []) old new (Ok count)
       → Steps old new (record (value_of old.now.trees) { lists = put list_key_cmp (tab, term, docid) (unwrap_or (spots_in list) []) (value_of old.now.trees).lists })

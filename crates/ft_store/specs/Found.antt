@@ -8,13 +8,13 @@ use Rattle.sqlite_value.specs.Keys.{without_case}
 use Rattle.sqlite_rules.specs.Edit.{id_in}
 use Rattle.ft_values.specs.Cells.{Cell}
 use Rattle.ft_rows.specs.Store.{CellKey, ListKey, ColumnKey}
-use Rattle.ft_store.specs.Rows.{cell_in}
+use Rattle.ft_store.specs.Rows.{text_in, cell_in}
 
 abbrev pub found_table : Row → ℤ × List ℕ
 found_table row = (id_in (column row 0), bytes (column row 1))
 
 abbrev pub found_column : ℤ → Row → ColumnKey × List ℕ
-found_column tab row = ((tab, id_in (column row 0)), bytes (column row 1))
+found_column tab row = ((tab, id_in (column row 0)), text_in (bytes (column row 1)))
 
 abbrev pub found_skip : ℤ → Row → ColumnKey × Unit {0}
 found_skip tab row = ((tab, id_in (column row 0)), tt)

@@ -1,5 +1,6 @@
 -- Meaning. What the trees of a store stand for. Column 0 of a row is its rowid.
-use Rattle.std.specs.Prelude.{ℕ, ℤ, List, [], ◌∷◌, map, unwrap_or}
+use Rattle.std.specs.Prelude.{ℕ, ℤ, if◌then◌else◌, List, [], ◌∷◌, map, unwrap_or}
+use Rattle.std.specs.Str.{is_utf8}
 use Rattle.std.specs.declared.cmp.Ordering.{Ordering}
 use Rattle.std.specs.Ordering.{int_cmp}
 use Rattle.std.specs.FinMap.Entries.{put}
@@ -19,10 +20,14 @@ abbrev pub keyed : {K X : Type 0} → (K → K → Ordering) → List (K × X) �
 keyed R [] = []
 keyed R (e ∷ es) = put R e.0 e.1 (keyed R es)
 
+-- A text of a cell or a column. Bytes that aren't UTF-8 show as the character U+0000, which no content has: so their table is no content's.
+abbrev pub text_in : List ℕ → List ℕ
+text_in stored = if is_utf8 stored then stored else (0 ∷ [])
+
 -- a cell of its two columns, of which one at most is not NULL
 abbrev pub cell_in : Value → Value → Cell
 cell_in (value.Int n) b = Int n
-cell_in a (value.Text t) = Text t
+cell_in a (value.Text t) = Text (text_in t)
 cell_in a b = Null
 
 -- the two columns of a cell
@@ -45,7 +50,7 @@ abbrev pub column_key : Row → ColumnKey
 column_key row = (id_in (column row 1), id_in (column row 2))
 
 abbrev pub column_entry : Row → ColumnKey × List ℕ
-column_entry row = (column_key row, bytes (column row 3))
+column_entry row = (column_key row, text_in (bytes (column row 3)))
 
 abbrev pub skip_entry : Row → ColumnKey × Unit {0}
 skip_entry row = (column_key row, tt)

@@ -1,5 +1,5 @@
 //! Queries, each with the rows of the store's value that it gives.
-ghost use Rattle.std.specs.Prelude.{◌≡◌, ℤ, ◌&&◌, map, slice_get, option_map, IsTrue};
+ghost use Rattle.std.specs.Prelude.{◌≡◌, ℤ, ◌&&◌, map, slice_get, option_map, string_bytes, IsTrue, IfOk};
 ghost use Rattle.std.specs.Ordering.{int_eq};
 ghost use Rattle.std.specs.FinMap.Entries.{where_key};
 ghost use Rattle.sqlite.specs.State.{Shown};
@@ -9,7 +9,8 @@ ghost use Rattle.sqlite.specs.Order as order;
 ghost use Rattle.sqlite.specs.Order.{column};
 ghost use Rattle.sqlite_rules.specs.Edit.{id_in};
 ghost use Rattle.ft_rows.specs.Store.{cell_key_cmp, column_key_cmp};
-ghost use Rattle.ft_store.specs.Rows.{value_of};
+ghost use Rattle.ft_values.specs.Cells.{shown_value};
+ghost use Rattle.ft_store.specs.Rows.{text_in, cell_in, value_of};
 ghost use Rattle.ft_store.specs.Found.{found_table, found_column, found_skip, found_cell, found_size, found_note};
 ghost use Rattle.ft_rows.specs.Shown.{shown_cell, shown_size, shown_name, shown_column, shown_skip, shown_note, last_docid_of};
 ghost use Rattle.ft_store.specs.Calls.{IsAtRest};
@@ -20,7 +21,10 @@ use crate::stream::{Gathered, gather};
 use ft_values::{CellRow, SizeRow, Value};
 use sqlite::types::ValueRef;
 use sqlite::{Alter, Connection, Row, params};
-use std::alloc::Global;
+use std::alloc::{AllocError, Global};
+
+/// What is shown of bytes that aren't UTF-8: no text of a content has it.
+const UNREADABLE: &str = "\0";
 
 /// The rows that a query gives. It changes nothing.
 pub(crate) fn select<S: Alter>(
@@ -38,21 +42,37 @@ pub(crate) fn select<S: Alter>(
     Ok(conn.query_all(sql, params)?)
 }
 
+/// A text of a cell or a column, as it is shown: bytes that aren't UTF-8 as a character that no content has.
+fn shown_text(alloc: Global, stored: &[u8]) -> Result<String, AllocError>
+    ensures { IfOk result (λ text. string_bytes text ≡ text_in stored.now) }
+{
+    match str::from_utf8(stored) {
+        Ok(text) => String::from_str(alloc, text),
+        Err(_) => String::from_str(alloc, UNREADABLE),
+    }
+}
+
+/// The value of a cell, of its two columns.
+fn cell_value(alloc: Global, row: &Row) -> Result<Value, StoreFault>
+    ensures { Finds result (λ value. shown_value value
+        ≡ cell_in (column row.now 2) (column row.now 3)) }
+{
+    if let ValueRef::Int(number) = row.get_ref(2)? {
+        return Ok(Value::Int(number));
+    }
+    match row.get_ref(3)? {
+        ValueRef::Text(stored) => Ok(Value::Text(shown_text(alloc, stored)?)),
+        _ => Ok(Value::Null),
+    }
+}
+
 /// A cell, of its row.
-fn cell_row(row: &Row) -> Result<CellRow, StoreFault>
+fn cell_row(alloc: Global, row: &Row) -> Result<CellRow, StoreFault>
     ensures { Finds result (λ x. (tab : _) → shown_cell tab x ≡ found_cell tab row.now) }
 {
     let docid: i64 = row.get(0)?;
     let column: i64 = row.get(1)?;
-    let number: Option<i64> = row.get(2)?;
-    let text: Option<String> = row.get(3)?;
-    let value = match number {
-        Some(number) => Value::Int(number),
-        None => match text {
-            Some(text) => Value::Text(text),
-            None => Value::Null,
-        },
-    };
+    let value = cell_value(alloc, row)?;
     Ok(CellRow {
         docid,
         column,
@@ -63,6 +83,7 @@ fn cell_row(row: &Row) -> Result<CellRow, StoreFault>
 /// Cells, as their rows come.
 #[derive(Drop)]
 struct CellsOf {
+    alloc: Global,
     cells: Vec<CellRow>,
 }
 
@@ -76,7 +97,7 @@ impl Gathered for CellsOf {
         × ((tab : ℤ) → map (shown_cell tab) made.cells.items ≡ map (found_cell tab) rows) };
 
     fn add(&mut self, whole: bool, row: &Row) -> Result<bool, StoreFault> {
-        self.cells.push(cell_row(row)?)?;
+        self.cells.push(cell_row(self.alloc, row)?)?;
         Ok(whole)
     }
 }
@@ -94,6 +115,7 @@ fn select_cells<S: Alter>(
         (tab : ℤ) → map (shown_cell tab) cells.items ≡ map (found_cell tab) rows)) }
 {
     let mut found = CellsOf {
+        alloc,
         cells: Vec::new(alloc),
     };
     gather(conn, sql, params, &mut found)?;
@@ -141,12 +163,14 @@ fn name_rows(alloc: Global, rows: &[Row]) -> Result<Vec<(i64, String)>, StoreFau
 }
 
 /// A column's number and name, of its row.
-fn column_row(row: &Row) -> Result<(i64, String), StoreFault>
+fn column_row(alloc: Global, row: &Row) -> Result<(i64, String), StoreFault>
     ensures { Finds result (λ x. (tab : _) → shown_column tab x ≡ found_column tab row.now) }
 {
     let column: i64 = row.get(0)?;
-    let name: String = row.get(1)?;
-    Ok((column, name))
+    let ValueRef::Text(stored) = row.get_ref(1)? else {
+        return Err(StoreFault::Refused);
+    };
+    Ok((column, shown_text(alloc, stored)?))
 }
 
 fn column_rows(alloc: Global, rows: &[Row]) -> Result<Vec<(i64, String)>, StoreFault>
@@ -155,7 +179,7 @@ fn column_rows(alloc: Global, rows: &[Row]) -> Result<Vec<(i64, String)>, StoreF
 {
     let mut found = Vec::new(alloc);
     for row in rows {
-        found.push(column_row(row)?)?;
+        found.push(column_row(alloc, row)?)?;
     }
     Ok(found)
 }
@@ -227,7 +251,7 @@ pub(crate) fn columns<S: Alter>(
 {
     let rows = select(
         conn,
-        "SELECT col, name FROM col WHERE tab = ?1 ORDER BY tab, col, name",
+        "SELECT col, name FROM col WHERE tab = ?1 ORDER BY tab, col",
         params![tab],
     )?;
     column_rows(alloc, rows.as_slice())

@@ -10,7 +10,7 @@ ghost use Rattle.sqlite.specs.declared.types.Value.TheVariants.{Int};
 ghost use Rattle.ft_rows.specs.Packed.{spots_in};
 ghost use Rattle.ft_rows.specs.Store.{cell_key_cmp, list_key_cmp, column_key_cmp, name_cmp};
 ghost use Rattle.ft_values.specs.Cells.{shown_value};
-ghost use Rattle.ft_store.specs.Rows.{num_of, txt_of};
+ghost use Rattle.ft_store.specs.Rows.{cell_in, num_of, txt_of};
 ghost use Rattle.ft_store.specs.Inside.{DoneInside, StepsInside, AddsInside, RunsOnOk, RunsOrKeeps};
 ghost use Rattle.ft_store.specs.Groups.{Entry, entry_values, with_entries, GoesOnOk};
 
@@ -73,10 +73,13 @@ fn number_of(value: &Value) -> ValueRef<'_>
 }
 
 fn text_of(value: &Value) -> ValueRef<'_>
-    ensures { owned result ≡ txt_of (shown_value value.now) }
+    ensures value { owned result ≡ txt_of (shown_value value.now) }
+
+    // It is read again as it is.
+    ensures again { let cell = shown_value value.now in cell_in (num_of cell) (txt_of cell) ≡ cell }
 {
     match value {
-        Value::Text(text) => ValueRef::Text(text.as_bytes()),
+        Value::Text(text) => ValueRef::Text(text.as_str().as_bytes()),
         _ => ValueRef::Null,
     }
 }
