@@ -8,6 +8,8 @@ columns 101 > more.csv
 x 67108864 '\n' > empty.csv
 x 67108865 '\n' > big.csv
 echo "CREATE VIRTUAL TABLE d USING fts4(x);"
+echo ".import --csv long.csv d"
+echo "SELECT count(*) FROM d;"
 echo ".import --csv field.csv d"
 echo ".import --csv long.csv d"
 echo "SELECT docid FROM d;"

@@ -2,11 +2,12 @@
 
 The promise is the clauses of some functions; the modules of definitions that it reaches are those that these clauses name, and those that
 these import. Each of them has to stand in a row of the page, and each row `| name | file:line | .. |` has to name the line on which its file
-defines the name. A row may name a contract too, with its edit, which has to be there. The page says how many modules and lines there are.
-In the table of rules of docs/ARCHITECTURE.md a file that is named has to be there, with the names that stand behind it, and so have edits and
-tests. The first line of each module of definitions says whether it is meaning, which some contract of the page reaches and a reader has to
-believe, or steps of proofs; the list of a crate's modules has the two apart. What is missing is said in one line each; with --mend the
-numbers of lines and modules, the first lines and the lists are put right instead.
+defines the name. A row may name a contract too, with its edit, which has to be there. The page says how many modules and lines there are. In
+the table of rules of docs/ARCHITECTURE.md and that of worked inputs of docs/PROOFS.md a file that is named has to be there, with the names
+that stand behind it, and so have edits, and tests with the texts that stand behind them. The first line of each module of definitions says
+whether it is meaning, which some contract of the page reaches and a reader has to believe, or steps of proofs; the list of a crate's modules
+has the two apart. What is missing is said in one line each; with --mend the numbers of lines and modules, the first lines and the lists are
+put right instead.
 """
 import os
 import re
@@ -14,7 +15,8 @@ import sys
 
 ROOT = os.path.dirname(os.path.dirname(os.path.abspath(__file__)))
 PAGE = "docs/READING.md"
-RULES = ("docs/ARCHITECTURE.md", "## Where a rule stands")
+# Tables of which each file, name, edit and test has to be there.
+TABLES = [("docs/ARCHITECTURE.md", "## Where a rule stands"), ("docs/PROOFS.md", "## Worked inputs")]
 # Where the promise stands: a heading's word in the page, a file, and the functions in it whose clauses say it.
 PROMISES = [
     ("commands", "crates/ft_index/src/full_text.rt", ["kept_by_calls"]),
@@ -29,8 +31,8 @@ MARKED = r"^-- (?:(?:Steps|Meaning)\. )?"
 COUNT = re.compile(r"\*\*([\w ]+): (\d+) modules, (\d+) lines\*\*")
 
 
-def lines_of(path):
-    with open(os.path.join(ROOT, path), encoding="utf-8") as file:
+def lines_of(path, errors="strict"):
+    with open(os.path.join(ROOT, path), encoding="utf-8", errors=errors) as file:
         return file.read().split("\n")
 
 
@@ -149,7 +151,7 @@ def counts():
 
 
 def rule_complaints(cell):
-    """What isn't there of a cell of the table of rules: files, the names behind each, edits and tests."""
+    """What isn't there of a cell of such a table: files, the names behind each, edits, tests and the texts behind each."""
     folder, source = "", ""
     for span in re.findall(r"`([^`]+)`", cell):
         if span.endswith((".antt", ".rt")):
@@ -160,25 +162,30 @@ def rule_complaints(cell):
                 continue
             source = "\n".join(lines_of(path))
         elif span.endswith(".edit"):
+            source = ""
             crate = re.search(rf"`{re.escape(span)}`[^|;]*? of `(\w+)`", cell)
             if not crate or is_gone(f"{crate[1]}/must-fail/{span}"):
                 yield f"names {span}, which isn't there"
         elif span.startswith("tests/"):
-            folder_of_it, name = os.path.split(span)
-            if not any(file.split(".")[0] == name for file in os.listdir(os.path.join(ROOT, folder_of_it))):
+            path, (folder_of_it, name) = span, os.path.split(span)
+            files = [f"{folder_of_it}/{file}" for file in os.listdir(os.path.join(ROOT, folder_of_it)) if file.split(".")[0] == name]
+            source = "\n".join(line for file in files if os.path.isfile(os.path.join(ROOT, file)) for line in lines_of(file, "replace"))
+            if not files:
                 yield f"names {span}, which isn't there"
         elif source and not re.search(rf"(?<!\w){re.escape(span)}(?!\w)", source):
             yield f"names {span}, which {path} doesn't have"
 
 
 def rules_complaints():
-    """What is wrong with the table of rules."""
-    page, heading = RULES
-    lines = lines_of(page)
-    if heading not in lines:
-        return [f"{page} has no table of rules"]
-    table = [line for line in lines[lines.index(heading) :] if line.startswith("| ")]
-    return [f"{page} {complaint}" for line in table for cell in line.split("|") for complaint in rule_complaints(cell)]
+    """What is wrong with the tables of rules and of worked inputs."""
+    for page, heading in TABLES:
+        text = "\n".join(lines_of(page))
+        if f"\n{heading}\n" not in text:
+            yield f"{page} has no table {heading}"
+            continue
+        part = text.split(f"\n{heading}\n")[1].split("\n## ")[0]
+        cells = [cell for line in part.split("\n") if line.startswith("| ") for cell in line.split("|")]
+        yield from (f"{page} {complaint}" for cell in cells for complaint in rule_complaints(cell))
 
 
 def looked_at(text, told):
@@ -216,7 +223,7 @@ def main(mends):
             with open(os.path.join(ROOT, path), "w", encoding="utf-8") as file:
                 file.write("\n".join(lines))
         wrong, marks_wrong = [], []
-    complaints = [f"{PAGE} {complaint}" for complaint in wrong + missing] + rules_complaints()
+    complaints = [f"{PAGE} {complaint}" for complaint in wrong + missing] + list(rules_complaints())
     complaints += [f"{path} doesn't say rightly what is meaning and what are steps" for path, _ in marks_wrong]
     for complaint in complaints:
         print(complaint)

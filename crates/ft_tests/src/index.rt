@@ -3,6 +3,8 @@
 mod changes;
 mod commands;
 mod damage;
+mod mended;
+mod stops;
 
 use ft_index::{Command, Fault, FullText, Reply};
 use ft_store::Store;

@@ -1,6 +1,7 @@
 //! A store of full-text rows in memory.
 
 mod adopting;
+mod damaged;
 mod expected;
 mod groups;
 mod rows;

@@ -2,7 +2,7 @@
 
 use super::{answer, taken};
 use crate::empty::Begins;
-use ft_index::{Command, FullText, TableInfo};
+use ft_index::{Command, Fault, FullText, Reply, TableInfo};
 use ft_statements::{Class, read_statement};
 use ft_store::Store;
 use shell_text::sql_words;
@@ -19,9 +19,14 @@ fn command_of(alloc: Global, text: &str, tables: &[TableInfo]) -> Result<Command
     }
 }
 
-fn is_done<S: Alter>(alloc: Global, tables: &mut FullText<S>, text: &str) -> Result<bool, Fail> {
+/// What a statement is answered.
+pub(crate) fn answered<S: Alter>(
+    alloc: Global,
+    tables: &mut FullText<S>,
+    text: &str,
+) -> Result<Result<Reply, Fault>, Fail> {
     let command = command_of(alloc, text, tables.tables())?;
-    Ok(answer(tables, &command).is_ok())
+    Ok(answer(tables, &command))
 }
 
 /// Whether all statements of an input are executed, of which each has a line.
@@ -32,7 +37,7 @@ pub(crate) fn are_done<S: Alter>(
 ) -> Result<bool, Fail> {
     let mut all = true;
     for text in input.lines() {
-        all = is_done(alloc, tables, text)? && all;
+        all = answered(alloc, tables, text)?.is_ok() && all;
     }
     Ok(all)
 }

@@ -1,5 +1,6 @@
-//! Databases that are not taken as stores, for which cause, and what is left of them.
+//! Databases that are taken as stores, why others are not, and what is left of them.
 
+use super::{adopted, all_read};
 use crate::empty::{Begins, Trial, number, tried};
 use ft_store::{Store, StoreFault};
 use sqlite::{Alter, Connection};
@@ -100,5 +101,26 @@ fn other_databases_are_handed_back(rt: HostRuntime) -> Result<(), Fail> {
         let found = tried(rt.alloc(), Other { is_store, texts })?;
         assert_eq!(&rt; found, (cause, count), "{texts}");
     }
+    Ok(())
+}
+
+// What is read of an empty database that is adopted, handed out and adopted again.
+#[derive(Clone, Copy)]
+struct Twice;
+
+impl Trial for Twice {
+    type Found = String;
+
+    fn over<S: Begins>(self, alloc: Global) -> Result<String, Fail> {
+        let first = adopted(alloc, S::database(alloc)?)?;
+        let mut again = adopted(alloc, first.into_connection())?;
+        Ok(all_read(&mut again, alloc)?)
+    }
+}
+
+#[test]
+fn an_empty_database_is_adopted_and_again(rt: HostRuntime) -> Result<(), Fail> {
+    let found = tried(rt.alloc(), Twice)?;
+    assert_eq!(&rt; found.as_str(), "[] [] [] []");
     Ok(())
 }
