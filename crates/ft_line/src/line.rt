@@ -145,12 +145,18 @@ fn with_places<'a>(alloc: Global, command: Command<'a>) -> Result<Command<'a>, A
     command.arg(file)?.arg(sql)
 }
 
+// The end of the help.
+const HELP_END: &str = "\
+Dot-commands: .bail .echo .exit .header .headers .import .mode .nullvalue .print .quit .separator .tables
+Manual: man ft4sh, or docs/MANUAL.md";
+
 // The command, which is given its words without the program's name.
 fn command<'a>(alloc: Global) -> Result<Command<'a>, AllocError>
     ensures { IfOk result (λ command. app_of command ≡ forms.ft4sh) }
 {
     let bare = Command::new(alloc, "ft4sh")
         .about("SQL shell with full-text tables")
+        .after_help(HELP_END)
         .no_binary_name(true);
     let bail = with_flag(alloc, bare, "bail", "Stop after the first fault")?;
     let echo = with_flag(alloc, bail, "echo", "Print each input before it runs")?;

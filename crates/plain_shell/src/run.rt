@@ -118,7 +118,7 @@ pub fn tell<O: Write, E: Write>(told: &Told, outputs: &mut Outputs<O, E>) -> Res
     Ok(())
 }
 
-/// Writes the text of a unit where echo is on.
+/// Writes the text of a unit where echo is on, and flushes the output, so that who watches sees what is running.
 pub fn echo_text<O: Write>(echo: bool, text: &str, out: &mut O) -> Result<(), RunFault>
     ensures out { Sends result (O.contents out.old) (O.contents out.new)
         (forms.echo_text echo text.now) }
@@ -126,6 +126,7 @@ pub fn echo_text<O: Write>(echo: bool, text: &str, out: &mut O) -> Result<(), Ru
 {
     if echo {
         write_echo(out, text)?;
+        flush(out)?;
     }
     Ok(())
 }

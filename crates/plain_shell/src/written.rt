@@ -66,7 +66,7 @@ fn write_err<W: Write>(to: &mut W, told: &Told) -> Result<(), Refused>
     }
 }
 
-/// What a turn tells. What went to the output before a fault line is flushed first.
+/// What a turn tells. The output is flushed where something went to it, and before a fault line.
 pub(crate) fn write_told<O: Write, E: Write>(
     told: &Told,
     out: &mut O,
@@ -76,7 +76,7 @@ pub(crate) fn write_told<O: Write, E: Write>(
     ensures err { Sends result (E.contents err.old) (E.contents err.new) (told_as told.now).err }
 {
     write_bytes(out, told.out.as_slice())?;
-    if told.warnings.is_empty() && told.fault.is_none() {
+    if told.out.is_empty() && told.warnings.is_empty() && told.fault.is_none() {
         return Ok(());
     }
     out.flush().map_err(|_| Refused)?;
