@@ -1,4 +1,3 @@
 -- Meaning
 pub mod Reading
--- Steps
 pub mod Opening

@@ -1,4 +1,4 @@
--- Steps. The two databases of a command line (own choice).
+-- Meaning. The two databases of a command line (own choice).
 use Rattle.std.specs.Prelude.{◌≡◌, ◌⊎◌, ℕ, List, ◌++◌, codes, Result, IfOk, IfErr}
 use Rattle.sqlite.specs.Held.{Held, IsNew, state}
 use Rattle.sqlite.specs.State.{HasCleanDisk}

@@ -1,13 +1,20 @@
 -- What calls one after another leave.
-use Rattle.std.proofs.Common.{◌≡◌, ℕ, Bool, true, false, cond, List, [], ◌∷◌, Option, Some, None, Result, Ok, Err, refl, ◌⊎◌, sym, ap, subst, ◌∙◌, inl, inr}
+use Rattle.std.proofs.Common.{◌≡◌, ℕ, Bool, true, false, cond, List, [], ◌∷◌, ◌++◌, ◌||◌, Option, Some, None, Result, Ok, Err, refl, ◌⊎◌, sym, ap, ap₂, subst, subst₂, ◌∙◌, inl, inr, append_assoc, arith}
 use Rattle.std.specs.Prelude.{IsTrue, is_ok}
+use Rattle.std.specs.List.{list_any}
 use Rattle.ft_values.specs.declared.fault.Fault.{Fault}
 use Rattle.ft_content.specs.Command.{Command, Reply}
 use Rattle.ft_content.specs.Deserved.{Contents, deserved}
 use Rattle.ft_content.specs.Step.{step, step_by, after}
+use Rattle.sqlite.specs.State.{HasCleanDisk}
 use Rattle.sqlite.specs.Store.{Ghosts}
-use Rattle.ft_rows.specs.Store.{applied, Note}
-use Rattle.ft_index.specs.Kept.{StoreHolds, FullText, IsUp, value_of, Holds, Answers, Call, Executed, Noted, Runs, accepted, left_by, is_outside, AreAnswered, KeptByCalls}
+use Rattle.sqlite.specs.Tree.{Trees}
+use Rattle.ft_rows.specs.Store.{StoreValue, applied, Note}
+use Rattle.ft_store.specs.Kept.{shows}
+use Rattle.ft_index.specs.Kept.{StoreHolds, FullText, IsUp, value_of, Holds, Answers, is_outside}
+use Rattle.ft_index.specs.Crashes.{HoldsLeft, IsSettled, CommitsCommand, CommitsNote, LeavesNote, LeavesRead, Name}
+use Rattle.ft_index.proofs.Crashing.{survives_as}
+use Rattle.ft_index.specs.Called.{Call, Executed, Noted, DoesCall, Runs, is_answered, accepted, left_by, with_name, noted_by, contents_with, names_with, AreAnswered, StandsAfter, LeftAfter, at_rest, running, KeptByCalls}
 
 -- a step that is done leaves what comes after it, and one that is refused leaves the contents
 done : (due : Option Fault) (first mid : Contents) (command : Command) (reply : Reply) → step_by due first command ≡ (Ok reply, mid) → mid ≡ after first command
@@ -29,9 +36,9 @@ next_is first mid command (Ok reply) (inr s) = done (deserved first command) fir
 next_is first mid command (Err fault) (inl outside) = outside.1
 next_is first mid command (Err fault) (inr s) = refused (deserved first command) first mid command fault s
 
-is_answered : (first mid : Contents) (command : Command) (answer : Result Reply Fault) → Answers first command answer mid → IsTrue (is_outside answer) ⊎ (answer ≡ (step first command).0)
-is_answered first mid command answer (inl outside) = inl outside.0
-is_answered first mid command answer (inr s) = inr (sym (ap (λ (p : Result Reply Fault × Contents). p.0) s))
+is_answered_by : (first mid : Contents) (command : Command) (answer : Result Reply Fault) → Answers first command answer mid → IsTrue (is_outside answer) ⊎ (answer ≡ (step first command).0)
+is_answered_by first mid command answer (inl outside) = inl outside.0
+is_answered_by first mid command answer (inr s) = inr (sym (ap (λ (p : Result Reply Fault × Contents). p.0) s))
 
 -- what an accepted command leaves comes first
 left_next : (first : Contents) (command : Command) (rest : List Command) (answer : Result Reply Fault) → left_by (next_of first command answer) rest ≡ left_by first (cond (is_ok answer) (command ∷ rest) rest)
@@ -39,29 +46,227 @@ unfolding left_by
 left_next first command rest (Ok reply) = refl
 left_next first command rest (Err fault) = refl
 
--- what is up in the end was so at each call
-up_before : {S : Type 0} (g : Ghosts S) (start end : FullText S) (calls : List Call) → IsUp g end → Runs g start calls end → IsUp g start
-up_before g start end [] up runs = subst (IsUp g) runs up
-up_before g start end (Executed command answer ∷ calls) up runs = runs.1.was_up (up_before g runs.0 end calls up runs.2)
-up_before g start end (Noted name is_done ∷ calls) up runs = runs.1.was_up (up_before g runs.0 end calls up runs.2)
+-- ---- calls one after another
 
--- a note changes no table
-note_holds : {S : Type 0} (g : Ghosts S) (old new : FullText S) (name : List ℕ) (is_done : Bool) (contents : Contents) →
-    value_of g new ≡ cond is_done (applied (Note name) (value_of g old)) (value_of g old) → new.tables ≡ old.tables → Holds g old contents → Holds g new contents
-note_holds g old new name is_done contents value tables h = record {
-  named_once = h.named_once;
-  held = subst (λ v. StoreHolds v contents) (sym value) (elim is_done as (λ b. StoreHolds (cond b (applied (Note name) (value_of g old)) (value_of g old)) contents) [ true ↦ h.held | false ↦ h.held ]);
-  told = tables ∙ h.told;
-}
+module _ {S : Type 0} (g : Ghosts S) where
+  abbrev pub IsCleanAt : FullText S → Type 0
+  IsCleanAt known = HasCleanDisk (shows g known.store)
+
+  call_clean : (old new : FullText S) (call : Call) → DoesCall g old call new → IsCleanAt new → IsCleanAt old
+  call_clean old new (Executed command answer) does clean = omega (arith, does.1.survives.clean, clean)
+  call_clean old new (Noted name is_done) does clean = omega (arith, does.1.survives.clean, clean)
+
+  -- the disk did what it was told at each call
+  pub clean_before : (start end : FullText S) (calls : List Call) → Runs g start calls end → IsCleanAt end → IsCleanAt start
+  clean_before start end [] same clean = subst IsCleanAt same clean
+  clean_before start end (call ∷ calls) runs clean = call_clean start runs.0 call runs.1 (clean_before runs.0 end calls runs.2 clean)
+
+  call_up : (old new : FullText S) (call : Call) → DoesCall g old call new → IsUp g new → IsUp g old
+  call_up old new (Executed command answer) does up = does.0.was_up up
+  call_up old new (Noted name is_done) does up = does.0.was_up up
+
+  -- what is up in the end was so at each call
+  up_before : (start end : FullText S) (calls : List Call) → IsUp g end → Runs g start calls end → IsUp g start
+  up_before start end [] up runs = subst (IsUp g) runs up
+  up_before start end (call ∷ calls) up runs = call_up start runs.0 call runs.1 (up_before runs.0 end calls up runs.2)
+
+  -- an answer says that the store is open
+  call_live : (old new : FullText S) (call : Call) → DoesCall g old call new → is_answered call ≡ true → IsCleanAt new → IsUp g new
+  call_live old new (Executed command answer) does done clean = record { clean = clean; is_open = does.1.live clean done }
+  call_live old new (Noted name is_done) does done clean = record { clean = clean; is_open = does.1.live clean done }
+
+  call_settled : (old new : FullText S) (call : Call) → DoesCall g old call new → IsSettled g new
+  call_settled old new (Executed command answer) does = does.1.settled
+  call_settled old new (Noted name is_done) does = does.1.settled
+
+  pub runs_split : (start end : FullText S) (xs ys : List Call) → Runs g start (xs ++ ys) end → (mid : FullText S) × Runs g start xs mid × Runs g mid ys end
+  runs_split start end [] ys runs = (start, refl, runs)
+  runs_split start end (call ∷ xs) ys runs = let it = runs_split runs.0 end xs ys runs.2 in (it.0, (runs.0, runs.1, it.1), it.2)
+
+  -- a note changes no table
+  note_holds : (old new : FullText S) (name : List ℕ) (is_done : Bool) (contents : Contents) →
+      value_of g new ≡ cond is_done (applied (Note name) (value_of g old)) (value_of g old) → new.tables ≡ old.tables → Holds g old contents → Holds g new contents
+  note_holds old new name is_done contents value tables h = record {
+    named_once = h.named_once;
+    held = subst (λ v. StoreHolds v contents) (sym value) (elim is_done as (λ b. StoreHolds (cond b (applied (Note name) (value_of g old)) (value_of g old)) contents) [ true ↦ h.held | false ↦ h.held ]);
+    told = tables ∙ h.told;
+  }
+
+  name_noted : (old new : FullText S) (name : List ℕ) (is_done : Bool) → value_of g new ≡ cond is_done (applied (Note name) (value_of g old)) (value_of g old) →
+      (value_of g new).noted ≡ cond is_done (with_name name (value_of g old).noted) (value_of g old).noted
+  name_noted old new name true is = ap (λ (v : StoreValue). v.noted) is
+  name_noted old new name false is = ap (λ (v : StoreValue). v.noted) is
+
+  -- the contents and the noted names after a call
+  abbrev contents_next : Contents → Call → Contents
+  contents_next first (Executed command answer) = next_of first command answer
+  contents_next first (Noted name is_done) = first
+
+  abbrev names_next : List Name → Call → List Name
+  names_next names (Executed command answer) = names
+  names_next names (Noted name is_done) = cond is_done (with_name name names) names
+
+  call_holds : (old new : FullText S) (call : Call) (first : Contents) → DoesCall g old call new → IsUp g new → Holds g old first → Holds g new (contents_next first call)
+  call_holds old new (Executed command answer) first does up holds =
+      let stepped = does.0.steps up first holds in subst (Holds g new) (next_is first stepped.0 command answer stepped.2) stepped.1
+  call_holds old new (Noted name is_done) first does up holds = note_holds old new name is_done first (does.0.noted up) does.0.tables holds
+
+  call_names : (old new : FullText S) (call : Call) (first : Contents) → DoesCall g old call new → IsUp g new → Holds g old first → (value_of g new).noted ≡ names_next (value_of g old).noted call
+  call_names old new (Executed command answer) first does up holds = does.0.noted up first holds
+  call_names old new (Noted name is_done) first does up holds = name_noted old new name is_done (does.0.noted up)
+
+  left_after : (first : Contents) (call : Call) (calls : List Call) → left_by (contents_next first call) (accepted calls) ≡ left_by first (accepted (call ∷ calls))
+  left_after first (Executed command answer) calls = left_next first command (accepted calls) answer
+  left_after first (Noted name is_done) calls = refl
+
+  names_after : (names : List Name) (call : Call) (calls : List Call) → noted_by (names_next names call) calls ≡ noted_by names (call ∷ calls)
+  names_after names (Executed command answer) calls = refl
+  names_after names (Noted name is_done) calls = refl
+
+  answered_more : (first : Contents) (old new : FullText S) (call : Call) (calls : List Call) → DoesCall g old call new → IsUp g new → Holds g old first → AreAnswered (contents_next first call) calls → AreAnswered first (call ∷ calls)
+  unfolding AreAnswered
+  answered_more first old new (Executed command answer) calls does up holds rest = let stepped = does.0.steps up first holds in (is_answered_by first stepped.0 command answer stepped.2, rest)
+  answered_more first old new (Noted name is_done) calls does up holds rest = rest
+
+  -- what stands after calls, where the store is up
+  stands_up : (start end : FullText S) (calls : List Call) (first : Contents) → IsUp g end → Holds g start first → Runs g start calls end → StandsAfter g first (value_of g start).noted calls end
+  unfolding left_by AreAnswered
+  stands_up start end [] first up holds same = record { up = up; holds = subst (λ k. Holds g k first) (sym same) holds; noted = ap (λ (k : FullText S). (value_of g k).noted) same; answered = tt }
+  stands_up start end (call ∷ calls) first up holds runs =
+      let up_now = up_before runs.0 end calls up runs.2 in
+      let held = call_holds start runs.0 call first runs.1 up_now holds in
+      let rest = stands_up runs.0 end calls (contents_next first call) up held runs.2 in
+      record {
+        up = up;
+        holds = subst (Holds g end) (left_after first call calls) rest.holds;
+        noted = rest.noted ∙ ap (λ names. noted_by names calls) (call_names start runs.0 call first runs.1 up_now holds) ∙ names_after (value_of g start).noted call calls;
+        answered = answered_more first start runs.0 call calls runs.1 up_now holds rest.answered;
+      }
+
+  -- behind a call that was answered
+  stands_behind : (start end : FullText S) (calls before more : List Call) (call : Call) (first : Contents) → IsCleanAt end → Holds g start first → Runs g start calls end → calls ≡ before ++ call ∷ more → is_answered call ≡ true →
+      (mid : FullText S) × Runs g start (before ++ call ∷ []) mid × Runs g mid more end × StandsAfter g first (value_of g start).noted (before ++ call ∷ []) mid
+  stands_behind start end calls before more call first clean holds runs is done =
+      let cut = runs_split start end (before ++ call ∷ []) more (subst (λ cs. Runs g start cs end) (is ∙ sym (append_assoc before (call ∷ []) more)) runs) in
+      let last = runs_split start cut.0 before (call ∷ []) cut.1 in
+      let mid_clean = clean_before cut.0 end more cut.2 clean in
+      let up : IsUp g cut.0 = subst (IsUp g) (sym last.2.2) (call_live last.0 last.2.0 call last.2.1 done (subst IsCleanAt last.2.2 mid_clean)) in
+      (cut.0, cut.1, cut.2, stands_up start cut.0 (before ++ call ∷ []) first up holds cut.1)
+
+  refused_behind : (start end : FullText S) (calls before more : List Call) (command : Command) (fault : Fault) → Runs g start calls end → calls ≡ before ++ Executed command (Err fault) ∷ more →
+      (was now : FullText S) × Runs g start before was × Runs g now more end × (IsUp g now → (value_of g now ≡ value_of g was) × (now.tables ≡ was.tables))
+  refused_behind start end calls before more command fault runs is =
+      let cut = runs_split start end before (Executed command (Err fault) ∷ more) (subst (λ cs. Runs g start cs end) is runs) in
+      (cut.0, cut.2.0, cut.1, cut.2.2, λ up. cut.2.1.0.unchanged refl up)
+
+  -- ---- a crash
+
+  -- what a call leaves that found the store shut
+  shut_call : (old new : FullText S) (call : Call) → DoesCall g old call new → (IsUp g old → ⊥) → IsCleanAt new → (db : Trees) → (shows g new.store).may_leave db → (shows g old.store).may_leave db
+  shut_call old new (Executed command answer) does shut clean db may = only (does.1.survives.crash clean db may)
+    where
+      only : {B C : Type 0} → B ⊎ (IsUp g old × C) → B
+      only (inl kept) = kept
+      only (inr more) = absurd (shut more.0)
+  shut_call old new (Noted name is_done) does shut clean db may = only (does.1.survives.crash clean db may)
+    where
+      only : {B C : Type 0} → B ⊎ (IsUp g old × C) → B
+      only (inl kept) = kept
+      only (inr more) = absurd (shut more.0)
+
+  -- what calls leave that found it so, and that none of them was answered
+  shut_calls : (start end : FullText S) (calls : List Call) → Runs g start calls end → (IsUp g start → ⊥) → IsCleanAt end → (db : Trees) → (shows g end.store).may_leave db → (shows g start.store).may_leave db
+  shut_calls start end [] same shut clean db may = subst (λ (k : FullText S). (shows g k.store).may_leave db) same may
+  shut_calls start end (call ∷ calls) runs shut clean db may =
+      shut_call start runs.0 call runs.1 shut (clean_before runs.0 end calls runs.2 clean) db
+      (shut_calls runs.0 end calls runs.2 (λ up. shut (call_up start runs.0 call runs.1 up)) clean db may)
+
+  unanswered : (call : Call) → (is_answered call ≡ true → ⊥) → is_answered call ≡ false
+  unanswered call refused = go (is_answered call) refl
+    where
+      go : (b : Bool) → is_answered call ≡ b → is_answered call ≡ false
+      go true is = absurd (refused is)
+      go false is = is
+
+  none_answered : (start end : FullText S) (calls : List Call) → Runs g start calls end → (IsUp g start → ⊥) → IsCleanAt end → list_any is_answered calls ≡ false
+  none_answered start end [] same shut clean = refl
+  none_answered start end (call ∷ calls) runs shut clean =
+      let mid_clean = clean_before runs.0 end calls runs.2 clean in
+      let one = unanswered call (λ done. shut (call_up start runs.0 call runs.1 (call_live start runs.0 call runs.1 done mid_clean))) in
+      let rest = none_answered runs.0 end calls runs.2 (λ up. shut (call_up start runs.0 call runs.1 up)) clean in
+      ap₂ (λ a b. a || b) one rest
+
+  -- calls that were not answered leave contents and names
+  refused_left : (first : Contents) (names : List Name) (calls : List Call) → list_any is_answered calls ≡ false → (left_by first (accepted calls) ≡ first) × (noted_by names calls ≡ names)
+  unfolding left_by
+  refused_left first names [] none = (refl, refl)
+  refused_left first names (Executed command (Ok reply) ∷ calls) none = absurd (let wrong = none in cc)
+  refused_left first names (Executed command (Err fault) ∷ calls) none = refused_left first names calls none
+  refused_left first names (Noted name true ∷ calls) none = absurd (let wrong = none in cc)
+  refused_left first names (Noted name false ∷ calls) none = refused_left first names calls none
+
+  -- what a call commits
+  call_commits : (old new : FullText S) (call : Call) (first : Contents) → DoesCall g old call new → Holds g old first → IsSettled g old → IsUp g old → IsCleanAt new → (db : Trees) → (shows g new.store).may_leave db →
+      HoldsLeft first (value_of g old).noted db ⊎ HoldsLeft (contents_with call first) (names_with call (value_of g old).noted) db
+  call_commits old new (Executed command answer) first does holds settled up clean db may = go (does.1.survives.crash clean db may)
+    where
+      go : (shows g old.store).may_leave db ⊎ (IsUp g old × CommitsCommand g old command db) → HoldsLeft first (value_of g old).noted db ⊎ HoldsLeft (step first command).1 (value_of g old).noted db
+      go (inl kept) = inl (record { left = value_of g old; stored = settled up db kept; held = holds.held; noted = refl })
+      go (inr commits) = inr (commits.1 commits.0 first holds)
+  call_commits old new (Noted name is_done) first does holds settled up clean db may = go (does.1.survives.crash clean db may)
+    where
+      go : (shows g old.store).may_leave db ⊎ (IsUp g old × CommitsNote g old name db) → HoldsLeft first (value_of g old).noted db ⊎ HoldsLeft first (with_name name (value_of g old).noted) db
+      go (inl kept) = inl (record { left = value_of g old; stored = settled up db kept; held = holds.held; noted = refl })
+      go (inr commits) = inr (record { left = applied (Note name) (value_of g old); stored = commits.1 commits.0; held = holds.held; noted = refl })
+
+  -- one call more in front
+  left_more : (first : Contents) (names : List Name) (call : Call) (calls : List Call) (db : Trees) → LeftAfter (contents_next first call) (names_next names call) calls db → LeftAfter first names (call ∷ calls) db
+  left_more first names call calls db (at_rest it) = at_rest (subst₂ (λ c n. HoldsLeft c n db) (left_after first call calls) (names_after names call calls) it)
+  left_more first names call calls db (running front more one is none it) =
+      running (call ∷ front) more one (ap (λ cs. call ∷ cs) is) none
+      (subst₂ (λ c n. HoldsLeft (contents_with one c) (names_with one n) db) (left_after first call front) (names_after names call front) it)
+
+  crash_after : (start end : FullText S) (calls : List Call) (first : Contents) → Runs g start calls end → IsCleanAt end → IsUp g start → Holds g start first → IsSettled g start → (db : Trees) → (shows g end.store).may_leave db → LeftAfter first (value_of g start).noted calls db
+  unfolding left_by
+  crash_after start end [] first same clean up holds settled db may =
+      at_rest (record { left = value_of g start; stored = settled up db (subst (λ (k : FullText S). (shows g k.store).may_leave db) same may); held = holds.held; noted = refl })
+  crash_after start end (call ∷ calls) first runs clean up holds settled db may = go (λ up_now held. crash_after runs.0 end calls (contents_next first call) runs.2 clean up_now held (call_settled start runs.0 call runs.1) db may) (shows g runs.0.store).is_open refl
+    where
+      mid_clean : IsCleanAt runs.0
+      mid_clean = clean_before runs.0 end calls runs.2 clean
+
+      go : (IsUp g runs.0 → Holds g runs.0 (contents_next first call) → LeftAfter (contents_next first call) (value_of g runs.0).noted calls db) → (b : Bool) → (shows g runs.0.store).is_open ≡ b → LeftAfter first (value_of g start).noted (call ∷ calls) db
+      go later true is =
+          let up_now : IsUp g runs.0 = record { clean = mid_clean; is_open = is } in
+          let held = call_holds start runs.0 call first runs.1 up_now holds in
+          let rest = later up_now held in
+          left_more first (value_of g start).noted call calls db (subst (λ names. LeftAfter (contents_next first call) names calls db) (call_names start runs.0 call first runs.1 up_now holds) rest)
+      go later false is = shut (call_commits start runs.0 call first runs.1 holds settled up mid_clean db (shut_calls runs.0 end calls runs.2 is_shut clean db may))
+        where
+          is_shut : IsUp g runs.0 → ⊥
+          is_shut now = let wrong = now.is_open in cc
+
+          none : list_any is_answered (call ∷ calls) ≡ false
+          none = ap₂ (λ a b. a || b) (unanswered call (λ done. is_shut (call_live start runs.0 call runs.1 done mid_clean))) (none_answered runs.0 end calls runs.2 is_shut clean)
+
+          shut : HoldsLeft first (value_of g start).noted db ⊎ HoldsLeft (contents_with call first) (names_with call (value_of g start).noted) db → LeftAfter first (value_of g start).noted (call ∷ calls) db
+          shut (inl it) =
+              let same = refused_left first (value_of g start).noted (call ∷ calls) none in
+              at_rest (subst₂ (λ c n. HoldsLeft c n db) (sym same.0) (sym same.1) it)
+          shut (inr it) = running [] calls call refl none it
 
 pub kept : {S : Type 0} (g : Ghosts S) → KeptByCalls g
-unfolding left_by AreAnswered
-kept g start end [] first up holds runs = (subst (λ k. Holds g k first) (sym runs) holds, tt)
-kept g start end (Executed command answer ∷ calls) first up holds runs =
-    let stepped = runs.1.steps (up_before g runs.0 end calls up runs.2) first holds in
-    let next = next_is first stepped.0 command answer stepped.2 in
-    let rest = kept g runs.0 end calls (next_of first command answer) up (subst (λ c. Holds g runs.0 c) next stepped.1) runs.2 in
-    (subst (λ c. Holds g end c) (left_next first command (accepted calls) answer) rest.0, (is_answered first stepped.0 command answer stepped.2, rest.1))
-kept g start end (Noted name is_done ∷ calls) first up holds runs =
-    let up_now = up_before g runs.0 end calls up runs.2 in
-    kept g runs.0 end calls first up (note_holds g start runs.0 name is_done first (runs.1.noted up_now) runs.1.tables holds) runs.2
+kept g start end calls first clean holds settled runs = record {
+  stands = λ before more call is done. stands_behind g start end calls before more call first clean holds runs is done;
+  ends = λ is_open. stands_up g start end calls first (record { clean = clean; is_open = is_open }) holds runs;
+  refused = λ before more command fault is. refused_behind g start end calls before more command fault runs is;
+  crash = λ up db may. crash_after g start end calls first runs clean up holds settled db may;
+}
+
+-- what a read leaves is left by a note that is refused, too
+pub read_leaves_note : {S : Type 0} (g : Ghosts S) (old new : FullText S) (is_answered : Bool) (name : List ℕ) → LeavesRead g old is_answered new → LeavesNote g old name false new
+read_leaves_note g old new is_answered name leaves = record {
+  live = λ clean no. absurd (let wrong = no in cc);
+  settled = leaves.settled;
+  survives = survives_as (shows g old.store) (shows g new.store) _ _ (λ clean db none. absurd none.1) leaves.survives;
+}

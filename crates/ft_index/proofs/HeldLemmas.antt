@@ -6,7 +6,8 @@ use Rattle.ft_content.specs.Index.{IndexRows, index_rows}
 use Rattle.ft_content.specs.Deserved.{TableState, Sound, Stale, Loose, Table, Contents}
 use Rattle.ft_rows.specs.Store.{StoreValue}
 use Rattle.ft_documents.specs.Tables.{table_rows, table_index}
-use Rattle.ft_index.specs.Kept.{Stands, HoldsTable, HoldsOneContents}
+use Rattle.ft_index.specs.Kept.{Stands, HoldsTable}
+use Rattle.ft_index.specs.Called.{HoldsOneContents}
 use Rattle.ft_content.proofs.RowLemmas.{contents_are_one}
 
 pub held_once : (name : List ℕ) (rows : TableRows) (index : IndexRows) (a b : TableState) → Stands name rows index a → Stands name rows index b → a ≡ b

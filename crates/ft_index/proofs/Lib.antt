@@ -22,6 +22,7 @@ pub mod Writing
 pub mod Acting
 pub mod InsertWrites
 pub mod Planning
+pub mod Pinging
 pub mod LookLemmas
 pub mod ChosenWrites
 pub mod DeleteWrites

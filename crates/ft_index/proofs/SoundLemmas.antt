@@ -9,7 +9,8 @@ use Rattle.ft_content.specs.Content.{Content, Documents, same_name}
 use Rattle.ft_content.specs.Command.{Command, Create, Drop, Insert, Update, Delete, Select, Rebuild, Check, Optimize}
 use Rattle.ft_content.specs.Deserved.{TableState, Sound, Stale, Loose, Table, Contents, table_named, made_columns}
 use Rattle.ft_content.specs.Step.{free_id_from, new_table, inserted, updated, deleted, with_documents, rebuilt, on_table, after}
-use Rattle.ft_index.specs.Kept.{is_sound, is_unsound, left_by, NoneGetsUnsound}
+use Rattle.ft_index.specs.Kept.{is_sound}
+use Rattle.ft_index.specs.Called.{is_unsound, left_by, NoneGetsUnsound}
 
 or_more : (a b c : Bool) → (b ≡ true → c ≡ true) → (a || b) ≡ true → (a || c) ≡ true
 or_more true b c more h = refl

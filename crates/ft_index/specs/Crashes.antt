@@ -1,7 +1,7 @@
 -- Meaning. What a crash leaves of full-text tables. All of it is our own choice.
-use Rattle.std.specs.Prelude.{◌≡◌, ℕ, List}
+use Rattle.std.specs.Prelude.{◌≡◌, ℕ, Bool, true, List, IsTrue}
 use Rattle.sqlite.specs.Tree.{Trees}
-use Rattle.sqlite.specs.State.{Survives}
+use Rattle.sqlite.specs.State.{HasCleanDisk, Survives}
 use Rattle.sqlite.specs.Store.{Ghosts}
 use Rattle.ft_store.specs.Calls.{IsStored}
 use Rattle.ft_rows.specs.Store.{StoreValue, Note, applied}
@@ -11,12 +11,20 @@ use Rattle.ft_content.specs.Deserved.{Contents}
 use Rattle.ft_content.specs.Step.{step}
 use Rattle.ft_index.specs.Kept.{FullText, IsUp, Holds, StoreHolds, value_of}
 
--- a store that holds the contents which a command leaves, with the noted names as they were
-pub record HoldsAfter (old : StoreValue) (first : Contents) (command : Command) (db : Trees) : Type 0 where
+-- a name that is noted, with its small letters before it
+abbrev pub Name : Type 0
+Name = List ℕ × List ℕ
+
+-- the files of a store hold these contents, whole, and these noted names
+pub record HoldsLeft (contents : Contents) (names : List Name) (db : Trees) : Type 0 where
   pub left : StoreValue
   pub stored : IsStored db left
-  pub held : StoreHolds left (step first command).1
-  pub noted : left.noted ≡ old.noted
+  pub held : StoreHolds left contents
+  pub noted : left.noted ≡ names
+
+-- a store that holds the contents which a command leaves, with the noted names as they were
+abbrev pub HoldsAfter : StoreValue → Contents → Command → Trees → Type 0
+HoldsAfter old first command db = HoldsLeft (step first command).1 old.noted db
 
 -- What a call of `execute` may commit: the contents that the command leaves, whole.
 abbrev pub CommitsCommand : {S : Type 0} → Ghosts S → FullText S → Command → Trees → Type 0
@@ -30,5 +38,23 @@ CommandSurvives g old command new = Survives (shows g old.store) (shows g new.st
 abbrev pub CommitsNote : {S : Type 0} → Ghosts S → FullText S → List ℕ → Trees → Type 0
 CommitsNote g old name db = IsUp g old → IsStored db (applied (Note name) (value_of g old))
 
-abbrev pub NoteSurvives : {S : Type 0} → Ghosts S → FullText S → List ℕ → FullText S → Type 0
-NoteSurvives g old name new = Survives (shows g old.store) (shows g new.store) (CommitsNote g old name)
+-- a crash leaves what an open store holds, and nothing else
+abbrev pub IsSettled : {S : Type 0} → Ghosts S → FullText S → Type 0
+IsSettled g known = IsUp g known → (db : Trees) → (shows g known.store).may_leave db → IsStored db (value_of g known)
+
+-- What a call leaves, whatever it is answered: an answer says that the store is open; of an open store a crash leaves what it holds; and else
+-- what it could leave before the call, or what the call commits, which only a store does that was up.
+pub record Leaves {S : Type 0} (g : Ghosts S) (old new : FullText S) (is_answered : Bool) (Commits : Trees → Type 0) : Type 0 where
+  pub live : HasCleanDisk (shows g new.store) → is_answered ≡ true → IsTrue (shows g new.store).is_open
+  pub settled : IsSettled g new
+  pub survives : Survives (shows g old.store) (shows g new.store) (λ db. IsUp g old × Commits db)
+
+abbrev pub LeavesCommand : {S : Type 0} → Ghosts S → FullText S → Command → Bool → FullText S → Type 0
+LeavesCommand g old command is_answered new = Leaves g old new is_answered (CommitsCommand g old command)
+
+abbrev pub LeavesNote : {S : Type 0} → Ghosts S → FullText S → List ℕ → Bool → FullText S → Type 0
+LeavesNote g old name is_answered new = Leaves g old new is_answered (CommitsNote g old name)
+
+-- of a call that reads at most
+abbrev pub LeavesRead : {S : Type 0} → Ghosts S → FullText S → Bool → FullText S → Type 0
+LeavesRead g old is_answered new = Leaves g old new is_answered (λ _. ⊥)

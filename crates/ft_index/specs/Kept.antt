@@ -1,7 +1,6 @@
 -- Meaning. What stays true of full-text tables, whatever is called.
-use Rattle.std.specs.Prelude.{◌≡◌, ◌≢◌, ◌⊎◌, ℕ, Bool, true, false, if◌then◌else◌, List, [], ◌∷◌, map, Option, Some, None, Result, Ok, Err, ℤ, IsTrue, is_ok, All, refl}
-use Rattle.std.specs.List.{AllZip, list_any}
-use Rattle.std.specs.Ordering.{int_eq}
+use Rattle.std.specs.Prelude.{◌≡◌, ◌≢◌, ◌⊎◌, ℕ, Bool, true, false, if◌then◌else◌, List, [], map, Option, Some, None, Result, Ok, Err, ℤ, IsTrue, is_ok, All, refl}
+use Rattle.std.specs.List.{AllZip}
 use Rattle.std.specs.Coded.{Coded, code_by, coded×, coded_ℤ, coded_ℕ, coded_bool, coded_list}
 use Rattle.sqlite.specs.State.{HasCleanDisk, Survives}
 use Rattle.sqlite.specs.Store.{Ghosts}
@@ -146,58 +145,3 @@ pub record Notes {S : Type 0} (g : Ghosts S) (old : FullText S) (name : List ℕ
   pub was_up : IsUp g new → IsUp g old
   pub noted : IsUp g new → value_of g new ≡ (if is_done then applied (Note name) (value_of g old) else value_of g old)
   pub tables : new.tables ≡ old.tables
-
--- a call of `execute` with its answer, or of `note`, which was done or refused
-pub data Call : Type 0 where
-  Executed : (command : Command) → (answer : Result Reply Fault) → Call
-  Noted : (name : List ℕ) → (is_done : Bool) → Call
-
-abbrev pub DoesCall : {S : Type 0} → Ghosts S → FullText S → Call → FullText S → Type 0
-DoesCall g old (Executed command answer) new = Executes g old command answer new
-DoesCall g old (Noted name is_done) new = Notes g old name is_done new
-
--- calls one after another
-abbrev pub Runs : {S : Type 0} → Ghosts S → FullText S → List Call → FullText S → Type 0
-Runs g old [] new = new ≡ old
-Runs {S} g old (call ∷ calls) new = (mid : FullText S) × DoesCall g old call mid × Runs g mid calls new
-
--- the commands that were answered Done or Rows
-abbrev pub accepted : List Call → List Command
-accepted [] = []
-accepted (Executed command answer ∷ calls) = if is_ok answer then (command ∷ accepted calls) else accepted calls
-accepted (Noted name is_done ∷ calls) = accepted calls
-
--- the contents that commands leave which are done one after another
-unfoldable pub left_by : Contents → List Command → Contents
-left_by first [] = first
-left_by first (command ∷ commands) = left_by (after first command) commands
-
--- Each answer is that of the definitions over the contents that the accepted commands before it left, or a refusal from outside.
-unfoldable pub AreAnswered : Contents → List Call → Type 0
-AreAnswered first [] = Unit {0}
-AreAnswered first (Executed command answer ∷ calls) =
-    (IsTrue (is_outside answer) ⊎ (answer ≡ (step first command).0)) × AreAnswered (if is_ok answer then after first command else first) calls
-AreAnswered first (Noted name is_done ∷ calls) = AreAnswered first calls
-
--- After any calls the store holds what the accepted commands leave: so the index rows of each sound table are exactly those made
--- from scratch. And each command was answered by the definitions.
-abbrev pub KeptByCalls : {S : Type 0} → Ghosts S → Type 0
-KeptByCalls {S} g = (start end : FullText S) (calls : List Call) (first : Contents) → IsUp g end → Holds g start first → Runs g start calls end → Holds g end (left_by first (accepted calls)) × AreAnswered first calls
-
--- What a store holds are one contents: so its tables' marks are settled.
-abbrev pub HoldsOneContents : Type 0
-HoldsOneContents = (store : StoreValue) (one other : Contents) → StoreHolds store one → StoreHolds store other → one ≡ other
-
-abbrev pub is_unsound : ℤ → ℤ × Table → Bool
-is_unsound id table = if is_sound table.1.held then false else int_eq id table.0
-
--- Commands leave no table unsound that wasn't: a sound one stays so, and one that is made or rebuilt is sound.
-abbrev pub NoneGetsUnsound : Type 0
-NoneGetsUnsound = (first : Contents) (commands : List Command) (id : ℤ) → IsTrue (list_any (is_unsound id) (left_by first commands)) → IsTrue (list_any (is_unsound id) first)
-
-abbrev pub table_names : Contents → List (List ℕ)
-table_names contents = map (λ (t : ℤ × Table). t.1.name) contents
-
--- Commands give no two tables one name.
-abbrev pub NamesStayApart : Type 0
-NamesStayApart = (first : Contents) (commands : List Command) → repeats_name (table_names first) ≡ false → repeats_name (table_names (left_by first commands)) ≡ false

@@ -5,6 +5,7 @@ pub mod DocumentsRead
 pub mod Planned
 pub mod Opened
 pub mod Crashes
+pub mod Called
 -- Steps
 pub mod Rebuild
 pub mod Walked

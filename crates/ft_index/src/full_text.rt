@@ -1,7 +1,7 @@
 // Full-text tables over a store.
-use crate::change::change_rows;
+use crate::change::{note_name, noted_names};
 use crate::check::check_all;
-use crate::execute::execute_command;
+use crate::execute::execute_asked;
 use crate::open::opened_tables;
 use crate::plan::planned_changes;
 use ft_content::{Command, Fault, Reply, TableInfo};
@@ -46,22 +46,20 @@ impl<S: Alter> Model for FullText<S> {
 }
 
 impl<S: Alter> FullText<S> {
-    ghost use Rattle.std.specs.Prelude.{◌≡◌, ◌⊎◌, ◌↔◌, [], map, string_bytes, is_ok, IsTrue, IfOk, IfErr, OnOk};
+    ghost use Rattle.std.specs.Prelude.{◌≡◌, ◌⊎◌, ◌↔◌, [], map, string_bytes, is_ok, IsTrue, IfOk, IfErr};
     ghost use Rattle.ft_store.specs.Calls.{IsPlainFault};
-    ghost use Rattle.ft_store.specs.Kept.{shows, value_in};
-    ghost use Rattle.sqlite.specs.State.{HasCleanDisk};
-    ghost use Rattle.ft_rows.specs.Store.{Note, applied, nothing_held};
+    ghost use Rattle.ft_store.specs.Kept.{value_in};
+    ghost use Rattle.ft_rows.specs.Store.{nothing_held};
     ghost use Rattle.ft_values.specs.declared.fault.Fault.TheVariants as faults;
     ghost use Rattle.ft_content.specs.Deserved.{Contents};
     ghost use Rattle.ft_content.specs.Views.{shown_info, command_of, answer_of};
-    ghost use Rattle.ft_index.specs.Crashes.{CommandSurvives, NoteSurvives, HoldsAfter};
-    ghost use Rattle.sqlite_trees.specs.Tree.{Trees};
-    ghost use Rattle.ft_store.specs.Calls.{IsStored};
+    ghost use Rattle.ft_index.specs.Crashes.{IsSettled, LeavesCommand, LeavesNote, LeavesRead};
     ghost use Rattle.ft_index.specs.Planned.{changes_of};
     ghost use Rattle.ft_index.specs.RowsRead.{CountsRows};
     ghost use Rattle.ft_index.specs.DocumentsRead.{Looks};
     ghost use Rattle.ft_index.specs.Opened.{Opens, OpensWhatIsLeft};
-    ghost use Rattle.ft_index.specs.Kept.{IsUp, value_of, Holds, AreSound, OnlyLooks, Executes, Plans, Notes, KeptByCalls, NoneGetsUnsound, NamesStayApart, HoldsOneContents};
+    ghost use Rattle.ft_index.specs.Kept.{IsUp, value_of, Holds, AreSound, OnlyLooks, Executes, Plans, Notes};
+    ghost use Rattle.ft_index.specs.Called.{KeptByCalls, NoneGetsUnsound, NamesStayApart, HoldsOneContents};
 
     /// Takes a store, and marks each table whose rows aren't documents with exactly the index rows made from scratch. The
     /// store is only read; where a read is refused it is handed back.
@@ -93,7 +91,7 @@ impl<S: Alter> FullText<S> {
         self.tables.as_slice()
     }
 
-    /// Executes a command. One that is refused leaves everything as it was.
+    /// Executes a command. One that is refused leaves everything as it was. The store is asked first whether it is open.
     ///
     /// # Errors
     ///
@@ -102,24 +100,14 @@ impl<S: Alter> FullText<S> {
     pub fn execute(&mut self, command: &Command) -> Result<Reply, Fault>
         ensures executes { Executes S.Store self.old (command_of command.now) (answer_of result)
             self.new }
-
-        // Where it is answered Ok, an open store stays open.
-        ensures live { HasCleanDisk (shows S.Store self.new.store)
-            → OnOk result (IsTrue (shows S.Store self.old.store).is_open
-            → IsTrue (shows S.Store self.new.store).is_open) }
+        ensures leaves { LeavesCommand S.Store self.old (command_of command.now) (is_ok result)
+            self.new }
 
         // A Select with MATCH reads the entries of its terms, and where an item is a column the documents that it answers.
         ensures counts { CountsRows S.Store self.old (command_of command.now) (answer_of result)
             self.new }
-
-        // A crash leaves what it could leave before, or the contents that the command leaves.
-        ensures crash { CommandSurvives S.Store self.old (command_of command.now) self.new }
-        ensures alone { OnOk result (IsUp S.Store self.new → (first : Contents)
-            → Holds S.Store self.old first → (db : Trees)
-            → (shows S.Store self.new.store).may_leave db
-            → HoldsAfter (value_of S.Store self.old) first (command_of command.now) db) }
     {
-        let result = execute_command(self.alloc, &mut self.store, &mut self.tables, command);
+        let result = execute_asked(self.alloc, &mut self.store, &mut self.tables, command);
         self.store.is_settled();
         result
     }
@@ -149,28 +137,20 @@ impl<S: Alter> FullText<S> {
         check_all(self.alloc, &mut self.store)
     }
 
-    /// Notes a name, in its latest spelling.
+    /// Notes a name, in its latest spelling. The store is asked first whether it is open.
     pub fn note(&mut self, name: &str) -> Result<(), Fault>
         ensures noted { Notes S.Store self.old name.now (is_ok result) self.new }
+        ensures leaves { LeavesNote S.Store self.old name.now (is_ok result) self.new }
         ensures fault { IfErr result (λ fault. (fault ≡ faults.Store) ⊎ (fault ≡ faults.Memory)) }
-
-        // A crash leaves what it could leave before, or the name alone; and once it is noted nothing else.
-        ensures crash { NoteSurvives S.Store self.old name.now self.new }
-        ensures alone { OnOk result (IsUp S.Store self.new → (db : Trees)
-            → (shows S.Store self.new.store).may_leave db
-            → IsStored db (applied (Note name.now) (value_of S.Store self.old))) }
     {
-        let mut changes = Vec::new(self.alloc);
-        changes.push(RowChange::Note(String::from_str(self.alloc, name)?))?;
-        let result = change_rows(&mut self.store, changes.as_slice());
+        let result = note_name(self.alloc, &mut self.store, name);
         self.store.is_settled();
         result
     }
 
     /// The law that a crash leaves what a store that is up holds, and nothing else.
     pub fn is_settled(&self)
-        ensures { IsUp S.Store self.now → (db : Trees) → (shows S.Store self.now.store).may_leave db
-            → IsStored db (value_of S.Store self.now) }
+        ensures { IsSettled S.Store self.now }
     {
         self.store.is_settled();
     }
@@ -182,8 +162,10 @@ impl<S: Alter> FullText<S> {
             ≡ map (λ n. n.1) (value_of S.Store self.old).noted) }
         ensures fault { IfErr result (λ fault. (fault ≡ faults.Store) ⊎ (fault ≡ faults.Memory)) }
         ensures looks { OnlyLooks S.Store self.old self.new }
+        ensures leaves { LeavesRead S.Store self.old (is_ok result) self.new }
     {
-        let names = self.store.noted()?;
+        self.store.is_settled();
+        let names = noted_names(&mut self.store)?;
         Ok(names)
     }
 

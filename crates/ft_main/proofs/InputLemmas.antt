@@ -8,7 +8,7 @@ use Rattle.plain_shell.specs.declared.run.Status.{Status}
 use Rattle.plain_shell.specs.declared.run.RunFault.{RunFault}
 use Rattle.ft_shell.specs.Shell.{Parts}
 use Rattle.ft_shell.specs.Deeds.{Deeds, idle, and_then}
-use Rattle.ft_shell.specs.Promise.{Ran, AllRan, PromiseKept, KeptByRuns, none_ran, last_ran, first_ran}
+use Rattle.ft_shell.specs.Promise.{IsClean, Ran, AllRan, PromiseKept, KeptByRuns, none_ran, last_ran, first_ran}
 use Rattle.ft_shell.specs.Runs.{Console}
 use Rattle.ft_shell.proofs.TurnsLemmas.{assoc_then, idle_then, then_idle}
 use Rattle.ft_shell.proofs.PromiseLemmas.{all_made}
@@ -17,7 +17,9 @@ use Rattle.std.specs.Io.KnownBytes.{Appends}
 use Rattle.sqlite.specs.Held.{Held}
 use Rattle.shell_text.specs.Print.{AppendsFront, Settings}
 use Rattle.ft_store.specs.Kept.{StoreState}
-use Rattle.ft_index.specs.Kept.{FullText, Call, Executed, Noted, Holds, IsUp, Runs}
+use Rattle.ft_index.specs.Kept.{FullText, Holds, IsUp}
+use Rattle.ft_index.specs.Crashes.{IsSettled}
+use Rattle.ft_index.proofs.Calls.{clean_before}
 use Rattle.ft_index.specs.Opened.{Opens}
 use Rattle.plain_shell.specs.Writing.{AppendsUpTo, Sends}
 use Rattle.plain_shell.proofs.WriteLemmas.{up_to_part, up_to_whole}
@@ -123,10 +125,10 @@ all_ran {P} {S} g h (input ∷ inputs) cause old new all (Ok status, mid, own, (
     go left_ran false (rest, later, whole) = subst (λ d. AllRan g h old.parts d new.parts) (sym whole) (first_ran (Ok status) _ _ own rest new.parts ran (left_ran rest later))
 
 -- so what they leave is kept
-pub runs_and_keeps : {P S : Type 0} (g : Ghosts P) (h : Ghosts S) (inputs : List (Option (List ℕ))) (ended : Result Status RunFault) (old new : Stage P S) → KeptByRuns g h (IsUp h) → RunsInTurn g h inputs ended old new → RunsAndKeeps g h inputs ended old new
+pub runs_and_keeps : {P S : Type 0} (g : Ghosts P) (h : Ghosts S) (inputs : List (Option (List ℕ))) (ended : Result Status RunFault) (old new : Stage P S) → KeptByRuns g h (IsClean h) → RunsInTurn g h inputs ended old new → RunsAndKeeps g h inputs ended old new
 runs_and_keeps g h inputs ended old new law (cause, all, turns, ends) =
     let ran = all_ran g h inputs cause old new all turns in
-    (cause, all, turns, ends, ran, λ first held up. law first old.parts new.parts all held ran up)
+    (cause, all, turns, ends, ran, λ first held settled clean. law first old.parts new.parts all held settled ran clean)
 
 -- ---- the inputs of a command line
 
@@ -179,19 +181,14 @@ closes_as (Ok status) cause all a b n (is, faults, quit) (same, code) =
     go (suc m) zero same = absurd (omega (arith, same))
     go (suc m) (suc n) same = ap code_if (not_none (suc m) (omega arith) ∙ sym (not_none (suc n) (omega arith)))
 
--- where a store is up in the end, it was so from the first
-up_before : {S : Type 0} (h : Ghosts S) (start end : FullText S) (calls : List Call) → IsUp h end → Runs h start calls end → IsUp h start
-up_before h start end [] up runs = subst (IsUp h) runs up
-up_before h start end (Executed command answer ∷ calls) up runs = runs.1.was_up (up_before h runs.0 end calls up runs.2)
-up_before h start end (Noted name is_done ∷ calls) up runs = runs.1.was_up (up_before h runs.0 end calls up runs.2)
-
-up_from_first : {P S : Type 0} (g : Ghosts P) (h : Ghosts S) (old new : Parts P S) (all : Deeds) → AllRan g h old all new → IsUp h new.full_text → IsUp h old.full_text
-up_from_first g h old new all ran up = up_before h old.full_text new.full_text all.calls up (all_made g h old new all ran)
+-- where the disk did what it was told to the end, it did so from the first
+clean_from_first : {P S : Type 0} (g : Ghosts P) (h : Ghosts S) (old new : Parts P S) (all : Deeds) → AllRan g h old all new → IsClean h new.full_text → IsClean h old.full_text
+clean_from_first g h old new all ran clean = clean_before h old.full_text new.full_text all.calls (all_made g h old new all ran) clean
 
 -- the inputs are run over two databases, and then the program ends
 pub runs_over : {P S : Type 0} (g : Ghosts P) (h : Ghosts S) (AreClosed : Parts P S → Type 0) (settings : Settings) (plain : Held P) (store : StoreState S) (made : FullText S) (inputs : List (Option (List ℕ))) (ended : Result Status RunFault) (old new : Outputs) (parts : Parts P S) (last : Stage P S) (status : ℕ) →
-    Opens h store made → parts ≡ record { settings = settings; plain = plain; full_text = made } → RunsAndKeeps g h inputs ended (record { parts = parts; on = old }) last → AreClosed last.parts → new.out ≡ last.on.out → Closes ended last.on.err new.err status → OpensAndRuns g h AreClosed settings plain store inputs old new status
-runs_over {P} {S} g h AreClosed settings plain store made inputs ended old new parts last status opened is (cause, all, turns, ends, ran, kept) closed out closes =
+    Opens h store made → IsSettled h made → parts ≡ record { settings = settings; plain = plain; full_text = made } → RunsAndKeeps g h inputs ended (record { parts = parts; on = old }) last → AreClosed last.parts → new.out ≡ last.on.out → Closes ended last.on.err new.err status → OpensAndRuns g h AreClosed settings plain store inputs old new status
+runs_over {P} {S} g h AreClosed settings plain store made inputs ended old new parts last status opened settled is (cause, all, turns, ends, ran, kept) closed out closes =
     let end = closes_as ended cause all last.on.err new.err status ends closes in
     inr (
       record {
@@ -205,8 +202,11 @@ runs_over {P} {S} g h AreClosed settings plain store made inputs ended old new p
         err = end.0;
         ends = end.1;
         ran = subst (λ (p : Parts P S). AllRan g h p all last.parts) is ran;
-        kept = λ first held up. subst (λ (p : Parts P S). PromiseKept g h first p all last.parts) is
-            (kept first (subst (λ (p : Parts P S). Holds h p.full_text first) (sym is) (opened.marks (subst (λ (p : Parts P S). IsUp h p.full_text) is (up_from_first g h parts last.parts all ran up)) first held)) up);
+        kept = λ first held clean.
+            let first_clean : IsClean h made = subst (λ (p : Parts P S). IsClean h p.full_text) is (clean_from_first g h parts last.parts all ran clean) in
+            let up : IsUp h made = record { clean = first_clean; is_open = opened.live first_clean } in
+            subst (λ (p : Parts P S). PromiseKept g h first p all last.parts) is
+            (kept first (subst (λ (p : Parts P S). Holds h p.full_text first) (sym is) (opened.marks up first held)) (subst (λ (p : Parts P S). IsSettled h p.full_text) (sym is) settled) clean);
       },
       closed,
     )

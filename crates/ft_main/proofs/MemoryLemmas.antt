@@ -16,6 +16,7 @@ use Rattle.ft_files.specs.declared.databases.OpenFault.{OpenFault}
 use Rattle.ft_files.specs.declared.databases.OpenFault.TheVariants as opening
 use Rattle.ft_files.specs.Opening.{IsNoStoreFor, OpensFiles, OpensMemory}
 use Rattle.ft_main.specs.Closed.{AreClosed}
+use Rattle.ft_main.proofs.Reopening.{finds_left}
 use Rattle.ft_main.specs.InFiles.{RunsFromFiles, RunsInFiles}
 use Rattle.ft_main.specs.Inputs.{NotOpened, Outputs, RunsOn, due}
 use Rattle.ft_main.specs.Memory.{FromNothing, IsOfMemory, RunsIn, RunsLine}
@@ -32,7 +33,7 @@ from_nothing g settings (Ok (plain, store)) inputs old new status always opens (
   store = store;
   no_store = opens.store;
   runs = runs;
-  kept = λ is_open. runs.kept [] (subst (λ v. StoreHolds v []) (sym opens.store) tt) (record { clean = always runs.last.parts.full_text.store; is_open = is_open });
+  kept = runs.kept [] (subst (λ v. StoreHolds v []) (sym opens.store) tt) (always runs.last.parts.full_text.store);
   closed = closed;
 })
 
@@ -46,7 +47,7 @@ from_files g h tables texts settings (Err why) inputs old new status opens runs 
     cause (inr is) = inr (inr is)
 from_files g h tables texts settings (Ok (plain, store)) inputs old new status opens (inl refused) = inl (opening.Store, inr (inl refl), refused)
 from_files g h tables texts settings (Ok (plain, store)) inputs old new status opens (inr (runs, closed)) =
-    inr (record { plain = plain; tables_found = opens.plain; store = store; texts_found = opens.store; runs = runs; closed = closed })
+    inr (record { plain = plain; tables_found = opens.plain; store = store; texts_found = opens.store; runs = runs; closed = closed; again = finds_left h })
 
 -- a command line with a FILE
 pub in_a_file : (A B : RattleType) (tables : first.Ghosts A.Denot) (texts : first.Ghosts B.Denot) (line : Line) (path : String Global) (given : List (String Global)) (standard : Option (List ℕ)) (old new : Outputs) (status : ℕ) → line.file ≡ Some path → given ≡ line.inputs.items →

@@ -21,6 +21,7 @@ use Rattle.ft_files.specs.declared.databases.OpenFault.TheVariants as opening
 use Rattle.ft_files.specs.Opening.{IsNoStoreFor, IsStoreFrom}
 use Rattle.ft_main.specs.Inputs.{NotOpened, Outputs, RunsOver}
 use Rattle.ft_main.specs.Closed.{AreClosed}
+use Rattle.ft_main.specs.Reopened.{FindsWhatIsLeft}
 
 -- a file of the system whose first contents are these, and its ghosts
 abbrev pub FileOf : (B : RattleType) → first.Ghosts B.Denot → Type 0
@@ -38,6 +39,8 @@ pub record FromFiles {D E : Type 0} (g : disk.Ghosts D) (h : disk.Ghosts E) (tab
   pub texts_found : IsStoreFrom texts store
   pub runs : RunsOver over_files over_files settings plain store inputs old new status
   pub closed : AreClosed runs.last.parts
+  -- what a crash or the close leaves of the store is what the next start finds
+  pub again : FindsWhatIsLeft h
 
 -- why one of them is not opened: there is no telling of the plain tables; or the full-text store is not taken, or can't be read
 abbrev pub IsCause : {E : Type 0} → disk.Ghosts E → Image → OpenFault → Type 0

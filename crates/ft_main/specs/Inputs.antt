@@ -4,7 +4,8 @@ use Rattle.sqlite.specs.Store.{Ghosts}
 use Rattle.sqlite.specs.Held.{Held}
 use Rattle.shell_text.specs.Print.{Settings}
 use Rattle.ft_store.specs.Kept.{StoreState, value_in}
-use Rattle.ft_index.specs.Kept.{FullText, Holds, IsUp, StoreHolds}
+use Rattle.ft_index.specs.Kept.{FullText, Holds, StoreHolds}
+use Rattle.ft_index.specs.Crashes.{IsSettled}
 use Rattle.ft_index.specs.Opened.{Opens}
 use Rattle.ft_content.specs.Deserved.{Contents}
 use Rattle.std.specs.Fmt.{signed_decimal}
@@ -15,7 +16,7 @@ use Rattle.plain_shell.specs.declared.run.RunFault.TheVariants as causes
 use Rattle.ft_shell.specs.Shell.{Parts, lent}
 use Rattle.ft_shell.specs.Deeds.{Deeds, idle, and_then}
 use Rattle.ft_shell.specs.Runs.{Console}
-use Rattle.ft_shell.specs.Promise.{Ran, AllRan, PromiseKept}
+use Rattle.ft_shell.specs.Promise.{IsClean, Ran, AllRan, PromiseKept}
 use Rattle.plain_shell.specs.Writing.{AppendsUpTo}
 use Rattle.ft_files.specs.declared.databases.OpenFault.{OpenFault}
 use Rattle.ft_files.specs.declared.databases.OpenFault.TheVariants as opening
@@ -74,11 +75,10 @@ EndsAs (Err fault) cause all = cause ≡ Some fault
 abbrev pub RunsInTurn : {P S : Type 0} → Ghosts P → Ghosts S → List (Option (List ℕ)) → Result Status RunFault → Stage P S → Stage P S → Type 0
 RunsInTurn g h inputs ended old new = (cause : Option RunFault) × (all : Deeds) × InTurn g h inputs cause old new all × EndsAs ended cause all
 
--- They are runs one after another: so what any runs leave of the full-text tables is left by them, too. Whatever these were before, they are
--- what the accepted commands made of that, if the store is up in the end.
+-- They are runs one after another: so what any runs leave of the full-text tables is left by them, too.
 abbrev pub RunsAndKeeps : {P S : Type 0} → Ghosts P → Ghosts S → List (Option (List ℕ)) → Result Status RunFault → Stage P S → Stage P S → Type 0
 RunsAndKeeps g h inputs ended old new = (cause : Option RunFault) × (all : Deeds) × InTurn g h inputs cause old new all × EndsAs ended cause all
-    × AllRan g h old.parts all new.parts × ((first : Contents) → Holds h old.parts.full_text first → IsUp h new.parts.full_text → PromiseKept g h first old.parts all new.parts)
+    × AllRan g h old.parts all new.parts × ((first : Contents) → Holds h old.parts.full_text first → IsSettled h old.parts.full_text → IsClean h new.parts.full_text → PromiseKept g h first old.parts all new.parts)
 
 -- the program's own line for a fault that ended a run
 abbrev pub own_line : RunFault → List ℕ
@@ -117,7 +117,7 @@ pub record NotOpened (why : OpenFault) (old new : Outputs) (status : ℕ) : Type
 
 module _ {P S : Type 0} (g : Ghosts P) (h : Ghosts S) where
   -- The inputs are run in turn from plain tables and a full-text store as it is taken, and then the program's own line is written. They are
-  -- runs one after another; whatever contents the store held, it holds in the end what the accepted commands made of them, if it is up then.
+  -- runs one after another: of whatever contents the store held the promise is kept, where the disk returned what was written.
   pub record RunsOver (settings : Settings) (plain : Held P) (store : StoreState S) (inputs : List (Option (List ℕ))) (old new : Outputs) (status : ℕ) : Type 0 where
     pub made : FullText S
     pub opened : Opens h store made
@@ -129,7 +129,7 @@ module _ {P S : Type 0} (g : Ghosts P) (h : Ghosts S) where
     pub err : WritesOwn cause last.on.err new.err
     pub ends : status ≡ exit_status cause all
     pub ran : AllRan g h (record { settings = settings; plain = plain; full_text = made }) all last.parts
-    pub kept : (first : Contents) → StoreHolds (value_in h store) first → IsUp h last.parts.full_text → PromiseKept g h first (record { settings = settings; plain = plain; full_text = made }) all last.parts
+    pub kept : (first : Contents) → StoreHolds (value_in h store) first → IsClean h last.parts.full_text → PromiseKept g h first (record { settings = settings; plain = plain; full_text = made }) all last.parts
 
   -- and both are closed so; or the store can't be read
   abbrev pub OpensAndRuns : (Parts P S → Type 0) → Settings → Held P → StoreState S → List (Option (List ℕ)) → Outputs → Outputs → ℕ → Type 0

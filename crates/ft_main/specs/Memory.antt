@@ -12,7 +12,7 @@ use Rattle.ram_disk.specs.contracts.disk.RamDisk.TheImpl.{ghosts}
 use Rattle.shell_text.specs.Print.{Settings}
 use Rattle.ft_store.specs.Kept.{StoreState, value_in}
 use Rattle.ft_rows.specs.Store.{nothing_held}
-use Rattle.ft_shell.specs.Promise.{IsOpen, PromiseKept}
+use Rattle.ft_shell.specs.Promise.{PromiseKept}
 use Rattle.ft_line.specs.declared.line.Line.{Line}
 use Rattle.ft_line.specs.declared.line.LineFault.{LineFault}
 use Rattle.ft_line.specs.declared.line.LineFault.TheVariants as lines
@@ -30,8 +30,8 @@ pub record FromNothing {D : Type 0} (g : disk.Ghosts D) (settings : Settings) (i
   pub store : StoreState (FileStore D g)
   pub no_store : value_in over_files store ≡ nothing_held
   pub runs : RunsOver over_files over_files settings plain store inputs old new status
-  -- as long as the store is open in the end, it holds what the accepted commands made
-  pub kept : IsOpen over_files runs.last.parts.full_text → PromiseKept over_files over_files [] (record { settings = settings; plain = plain; full_text = runs.made }) runs.all runs.last.parts
+  -- nothing is supposed of the disk
+  pub kept : PromiseKept over_files over_files [] (record { settings = settings; plain = plain; full_text = runs.made }) runs.all runs.last.parts
   pub closed : AreClosed runs.last.parts
 
 -- a database in memory isn't opened only where there is no memory for it

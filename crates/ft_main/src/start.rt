@@ -4,7 +4,7 @@ ghost use Rattle.std.specs.Prelude.{◌≡◌, map, Some, string_bytes};
 ghost use Rattle.sqlite.specs.Files.{over_files};
 ghost use Rattle.plain_shell.specs.Writing.{AppendsUpTo, Sends};
 ghost use Rattle.ft_files.specs.declared.databases.OpenFault.TheVariants as opening;
-ghost use Rattle.ft_main.specs.Closed.{AreClosed, IsLeft};
+ghost use Rattle.ft_main.specs.Closed.{AreClosed, IsLeft, IsStoreLeft};
 ghost use Rattle.ft_main.specs.InFiles.{RunsInFiles};
 ghost use Rattle.ft_main.specs.Inputs.{outputs_of, stage_of, due, RunsInTurn, RunsAndKeeps, Closes, OpensAndRuns, RunsOn, opening_line};
 ghost use Rattle.ft_main.specs.Inputs as forms;
@@ -185,6 +185,7 @@ fn over<D: Disk + Drop, F: Disk + Drop, R: Read, O: Write, E: Write>(
     let Ok(full_text) = FullText::new(rt.alloc(), store) else {
         return tell(&mut outputs.err, OpenFault::Store);
     };
+    full_text.is_settled();
     let mut session = session_over(rt.alloc(), plain, full_text, settings);
     let mut files = SystemFiles { rt };
     let ended = run_all_on(&mut session, inputs, input, &mut files, outputs);
@@ -223,13 +224,10 @@ fn close<D: Disk + Drop, F: Disk + Drop>(
     session: Session<FileStore<D>, FileStore<F>>,
 ) -> (Left<D>, Left<F>)
     ensures tables { IsLeft session.plain result.0 }
-    ensures texts { IsLeft session.full_text.store.held result.1 }
+    ensures texts { IsStoreLeft session.full_text.store result.1 }
 {
     let (plain, full_text) = parts_over(session);
-    (
-        close_one(plain),
-        close_one(full_text.into_store().into_connection()),
-    )
+    (close_one(plain), close_store(full_text.into_store()))
 }
 
 // What a close left is let go.
@@ -248,6 +246,13 @@ fn close_one<D: Disk + Drop>(conn: Connection<FileStore<D>>) -> Left<D>
         Ok(files) => Ok(files),
         Err((_, store)) => Err(store),
     }
+}
+
+// Closes the full-text store.
+fn close_store<D: Disk + Drop>(store: Store<FileStore<D>>) -> Left<D>
+    ensures { IsStoreLeft store result }
+{
+    close_one(store.into_connection())
 }
 
 // The program's own line for a fault that ended a run.

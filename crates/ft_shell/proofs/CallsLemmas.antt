@@ -1,13 +1,16 @@
 -- What the calls are like that the turns of a session make of the full-text tables, and that they are all that changes these.
 use Rattle.std.proofs.Common.{◌≡◌, ℕ, Bool, true, false, List, [], ◌∷◌, ◌++◌, Option, Some, None, refl, sym, ap, subst, ◌⊎◌, inl, inr}
-use Rattle.std.specs.Prelude.{MatchBool, codes, map}
+use Rattle.std.specs.Prelude.{MatchBool, codes, map, is_ok}
 use Rattle.sqlite.specs.Store.{Ghosts}
 use Rattle.sqlite.specs.Held.{Held}
 use Rattle.shell_text.specs.Print.{Settings}
 use Rattle.shell_text.specs.Units.{Member, Sql, Dot, Fault}
 use Rattle.shell_text.specs.Dot.{dot_words_of}
 use Rattle.shell_text.specs.Words.{is_unclosed}
-use Rattle.ft_index.specs.Kept.{FullText, Call, Noted, DoesCall, OnlyLooks, Runs}
+use Rattle.ft_index.specs.Kept.{FullText, OnlyLooks}
+use Rattle.ft_index.specs.Crashes.{LeavesRead}
+use Rattle.ft_index.proofs.Calls.{read_leaves_note}
+use Rattle.ft_index.specs.Called.{Call, Noted, DoesCall, Runs}
 use Rattle.ft_statements.specs.Words.{tokens_of}
 use Rattle.ft_statements.specs.Plain.{asks, made_name}
 use Rattle.ft_shell.specs.Shell.{Shell}
@@ -62,7 +65,7 @@ same_shell h old new same = calls_nothing h old.full_text new.full_text (ap (λ 
 
 notes_calls : {S : Type 0} (h : Ghosts S) (settings : Settings) (line : ℕ) (made : Option (List ℕ)) (old new : FullText S) (told : Told) → (it : MaybeNotes h settings line made old new told) → Called h (MayNote made) (note_in h settings line made old new told it) old new
 notes_calls h settings line None old new told it = notes_none h None old new it.0
-notes_calls h settings line (Some name) old new told it = notes_one h old new name it.is_noted it.notes
+notes_calls h settings line (Some name) old new told it = notes_one h old new name (is_ok it.answer) it.does
 
 command_calls : {P S : Type 0} (g : Ghosts P) (h : Ghosts S) (settings : Settings) (line : ℕ) (text : List ℕ) (made : Option (List ℕ)) (old new : Held P) (before after : FullText S) (told : Told) → (it : CommandTurn g h settings line text made old new before after told) → Called h (MayNote made) (command_in g h settings line text old new before after told made it) before after
 command_calls g h settings line text made old new before after told (done count is notes) = notes_calls h settings line made before after told notes
@@ -78,7 +81,7 @@ plain_calls g h settings line text old new before after told it = go (asks (toke
 class_calls : {P S : Type 0} (g : Ghosts P) (h : Ghosts S) (settings : Settings) (line : ℕ) (text : List ℕ) (old new : Held P) (before after : FullText S) (told : Told) (class : Option Class) (it : ClassTurn g h settings line text old new before after told class) → Called h (λ calls. CallsOfClass settings line told calls (made_name (tokens_of text)) class) (class_in g h settings line text old new before after told class it) before after
 class_calls g h settings line text old new before after told None it = calls_nothing h before after it.1
 class_calls g h settings line text old new before after told (Some Plain) it = plain_calls g h settings line text old new before after told it
-class_calls g h settings line text old new before after told (Some (FullTextClass command)) it = (inl (it.1.answer, refl, it.1.tells), (after, it.1.executes, refl))
+class_calls g h settings line text old new before after told (Some (FullTextClass command)) it = (inl (it.1.answer, refl, it.1.tells), (after, it.1.does, refl))
 
 class_none : {S : Type 0} (h : Ghosts S) (settings : Settings) (line : ℕ) (made : Option (List ℕ)) (before after : FullText S) (told : Told) (class : Option Class) → after ≡ before → told ≡ lacks_memory settings line → Called h (λ calls. CallsOfClass settings line told calls made class) [] before after
 class_none h settings line made before after told None same is = calls_nothing h before after same
@@ -100,15 +103,15 @@ statement_calls g h settings line text old new before after told (inl it) = go (
     go false it = class_calls g h settings line text old new before after told (class_of (table_names before) (tokens_of text)) it
 
 -- what only looks does what a note does that is refused
-looks_call : {S : Type 0} (h : Ghosts S) (old new : FullText S) → OnlyLooks h old new → Called h MayRead (Noted [] false ∷ []) old new
-looks_call h old new looks = (inr refl, (new, record { was_up = looks.was_up; noted = looks.value; tables = looks.tables }, refl))
+looks_call : {S : Type 0} (h : Ghosts S) (old new : FullText S) (is_answered : Bool) → OnlyLooks h old new → LeavesRead h old is_answered new → Called h MayRead (Noted [] false ∷ []) old new
+looks_call h old new is_answered looks leaves = (inr refl, (new, (record { was_up = looks.was_up; noted = looks.value; tables = looks.tables }, read_leaves_note h old new is_answered [] leaves), refl))
 
 tables_calls : {P S : Type 0} (g : Ghosts P) (h : Ghosts S) (settings : Settings) (line : ℕ) (old new : Held P) (before after : FullText S) (told : Told) → TablesTurn g h settings line old new before after told → Called h MayRead (Noted [] false ∷ []) before after
-tables_calls g h settings line old new before after told (tables.lists noted looks is it) = looks_call h before after looks
-tables_calls g h settings line old new before after told (tables.refused looks same tells) = looks_call h before after looks
+tables_calls g h settings line old new before after told (tables.lists noted looks leaves is it) = looks_call h before after true looks leaves
+tables_calls g h settings line old new before after told (tables.refused looks leaves same tells) = looks_call h before after false looks leaves
 
-note_calls : {S : Type 0} (h : Ghosts S) (settings : Settings) (line : ℕ) (name : List ℕ) (old new : FullText S) (told : Told) → (it : NoteTurn h settings line name old new told) → Called h (MayNote (Some name)) (Noted name it.is_noted ∷ []) old new
-note_calls h settings line name old new told it = notes_one h old new name it.is_noted it.notes
+note_calls : {S : Type 0} (h : Ghosts S) (settings : Settings) (line : ℕ) (name : List ℕ) (old new : FullText S) (told : Told) → (it : NoteTurn h settings line name old new told) → Called h (MayNote (Some name)) (Noted name (is_ok it.answer) ∷ []) old new
+note_calls h settings line name old new told it = notes_one h old new name (is_ok it.answer) it.does
 
 -- ---- imports
 
@@ -118,7 +121,7 @@ Inserts settings line what n rows told calls = OneCommand settings line told cal
 
 text_calls : {S : Type 0} (h : Ghosts S) (settings : Settings) (line : ℕ) (what : Import) (n : ℕ) (rows : List (ℕ × List (List ℕ))) (before after : FullText S) (told : Told) → (it : TextImport h settings line what n rows before after told) →
     Called h (λ calls. Inserts settings line what n rows told calls ⊎ NoCall settings line told calls) (text_in h settings line what n rows before after told it) before after
-text_calls h settings line what n rows before after told (executed it) = (inl (it.answer, refl, it.tells), (after, it.executes, refl))
+text_calls h settings line what n rows before after told (executed it) = (inl (it.answer, refl, it.tells), (after, it.does, refl))
 text_calls h settings line what n rows before after told (no_memory same is) = (inr (refl, codes "out of memory", is), same)
 
 new_calls : {P S : Type 0} (g : Ghosts P) (h : Ghosts S) (settings : Settings) (line : ℕ) (what : Import) (rows : List (ℕ × List (List ℕ))) (old new : Held P) (before after : FullText S) (told : Told) → (it : IntoNew g settings line what rows h old new before after told) → Called h (MayNote (Some what.table)) (new_in g h settings line what rows old new before after told it) before after

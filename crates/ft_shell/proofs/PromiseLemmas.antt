@@ -11,7 +11,8 @@ use Rattle.ft_values.specs.declared.fault.Fault.{Fault}
 use Rattle.ft_content.specs.Command.{Command, Filter, Insert, Items, Reply, Select}
 use Rattle.ft_content.specs.Deserved.{Contents, deserved}
 use Rattle.ft_content.specs.Step.{after, reply_to, step, step_by}
-use Rattle.ft_index.specs.Kept.{FullText, Call, Executed, Noted, Runs, IsUp, KeptByCalls, NoneGetsUnsound, accepted, left_by, AreAnswered, is_outside, value_of}
+use Rattle.ft_index.specs.Kept.{FullText, is_outside}
+use Rattle.ft_index.specs.Called.{Call, CallsKept, Executed, Noted, Runs, KeptByCalls, NoneGetsUnsound, accepted, left_by, AreAnswered}
 use Rattle.ft_statements.specs.Words.{tokens_of}
 use Rattle.ft_statements.specs.Statements.{Class, Plain, FullText as FullTextClass, class_of}
 use Rattle.ft_statements.specs.Dots.{DotCommand, Import, Nothing, SetMode, SetHeaders, SetSeparator, SetNull, SetEcho, SetBail, Print, Importing, Tables, Quit, Usage, Unknown, dot_command_of}
@@ -31,7 +32,8 @@ use Rattle.ft_shell.proofs.Spelled.{MayNote, MayRead, CallsOf, CallsOfClass, Cal
 use Rattle.ft_shell.specs.Turns.{Turn, Turns}
 use Rattle.ft_shell.specs.Ran.{Ends}
 use Rattle.ft_shell.specs.Runs.{Console, IsFront, IsWhole}
-use Rattle.ft_shell.specs.Promise.{Ran, AllRan, none_ran, last_ran, first_ran, Reached, Lists, KeptByRuns, RanAndKept, parts_of}
+use Rattle.ft_index.specs.Crashes.{IsSettled}
+use Rattle.ft_shell.specs.Promise.{IsClean, Ran, AllRan, none_ran, last_ran, first_ran, Reached, Lists, KeptByRuns, RanAndKept, parts_of}
 use Rattle.ft_shell.proofs.CallsLemmas.{runs_join, turn_spelled, turns_made}
 use Rattle.ft_shell.proofs.TurnsLemmas.{assoc_then, idle_then, turns_one, turns_then}
 use Rattle.ft_shell.specs.Broken.{Broken, not_begun, not_echoed, not_told}
@@ -39,11 +41,6 @@ use Rattle.plain_shell.specs.Sources.{Files}
 use Rattle.ft_statements.specs.Plain.{made_name}
 
 -- ---- calls
-
-up_before : {S : Type 0} (h : Ghosts S) (start end : FullText S) (calls : List Call) → IsUp h end → Runs h start calls end → IsUp h start
-up_before h start end [] up runs = subst (IsUp h) runs up
-up_before h start end (Executed command answer ∷ calls) up runs = runs.1.was_up (up_before h runs.0 end calls up runs.2)
-up_before h start end (Noted name is_done ∷ calls) up runs = runs.1.was_up (up_before h runs.0 end calls up runs.2)
 
 -- the answer of a command is one that the definitions give over what those before it left
 answer_at : (first : Contents) (before more : List Call) (command : Command) (answer : Result Reply Fault) → AreAnswered first (before ++ Executed command answer ∷ more) → IsTrue (is_outside answer) ⊎ (answer ≡ (step (left_by first (accepted before)) command).0)
@@ -61,16 +58,6 @@ reply_is contents command reply (inr is) = go (deserved contents command) is
     go : (due : Option Fault) → Ok reply ≡ (step_by due contents command).0 → reply ≡ reply_to contents command
     go None same = let is = same in cc
     go (Some fault) same = absurd (let wrong = same in cc)
-
--- a refused command
-refused_at : {S : Type 0} (h : Ghosts S) (old new : FullText S) (before more : List Call) (command : Command) (fault : Fault) → IsUp h new → Runs h old (before ++ Executed command (Err fault) ∷ more) new →
-    (was now : FullText S) × Runs h old before was × Runs h now more new × (value_of h now ≡ value_of h was) × (now.tables ≡ was.tables)
-refused_at h old new [] more command fault up runs =
-    let same = runs.1.unchanged refl (up_before h runs.0 new more up runs.2) in
-    (old, runs.0, refl, runs.2, same.0, same.1)
-refused_at h old new (call ∷ before) more command fault up runs =
-    let it = refused_at h runs.0 new before more command fault up runs.2 in
-    (it.0, it.1, (runs.0, runs.1, it.2), it.3, it.4, it.5)
 
 -- ---- the turn of a call
 
@@ -172,6 +159,7 @@ module _ {P S : Type 0} (g : Ghosts P) (h : Ghosts S) where
     calls : earlier.calls ≡ before
     turn : Turn g h member was now own
     only : own.calls ≡ Executed command answer ∷ []
+    behind : later.calls ≡ more
     ends : Runs h now.full_text more new
     out : all.out ≡ earlier.out ++ (own.out ++ later.out)
     err : all.err ≡ earlier.err ++ (own.err ++ later.err)
@@ -184,8 +172,8 @@ module _ {P S : Type 0} (g : Ghosts P) (h : Ghosts S) where
   at_turn [] old new all it before more command answer is = absurd (no_more before more (Executed command answer) (sym (ap (λ (d : Deeds). d.calls) it.1) ∙ is))
   at_turn (member ∷ members) old new all (mid, first, turn, rest) before more command answer is = go (λ later turns b e. at_turn members mid new later turns b more command answer e) first.ends refl rest
     where
-      here : first.calls ≡ before ++ Executed command answer ∷ [] → before ≡ [] → Runs h mid.full_text more new.full_text → (later : Deeds) → all.out ≡ first.out ++ later.out → all.err ≡ first.err ++ later.err → At (From old) all before command answer more new.full_text
-      here own no_front ends later out err = record {
+      here : first.calls ≡ before ++ Executed command answer ∷ [] → before ≡ [] → Runs h mid.full_text more new.full_text → (later : Deeds) → later.calls ≡ more → all.out ≡ first.out ++ later.out → all.err ≡ first.err ++ later.err → At (From old) all before command answer more new.full_text
+      here own no_front ends later behind out err = record {
         member = member;
         was = old;
         now = mid;
@@ -196,6 +184,7 @@ module _ {P S : Type 0} (g : Ghosts P) (h : Ghosts S) where
         calls = sym no_front;
         turn = turn;
         only = own ∙ ap (λ b. b ++ Executed command answer ∷ []) no_front;
+        behind = behind;
         ends = ends;
         out = out;
         err = err;
@@ -206,14 +195,14 @@ module _ {P S : Type 0} (g : Ghosts P) (h : Ghosts S) where
       go next true ended (same, all_is) =
           let own : first.calls ≡ before ++ Executed command answer ∷ more = sym (ap (λ (d : Deeds). d.calls) all_is) ∙ is in
           let alone = few_is first.calls before more command answer (few member old turn.body first.calls (turn_spelled g h member old mid first turn)) own in
-          here (own ∙ ap (λ m. before ++ Executed command answer ∷ m) alone.1) alone.0 (subst (λ m. Runs h mid.full_text m new.full_text) (sym alone.1) (ap (λ (s : Shell P S). s.full_text) same)) idle
+          here (own ∙ ap (λ m. before ++ Executed command answer ∷ m) alone.1) alone.0 (subst (λ m. Runs h mid.full_text m new.full_text) (sym alone.1) (ap (λ (s : Shell P S). s.full_text) same)) idle (sym alone.1)
           (ap (λ (d : Deeds). d.out) all_is ∙ sym (append-nil first.out)) (ap (λ (d : Deeds). d.err) all_is ∙ sym (append-nil first.err))
       go next false goes (later, turns, all_is) = cut (split_at first.calls later.calls before more (Executed command answer) (sym (ap (λ (d : Deeds). d.calls) all_is) ∙ is))
         where
           cut : ((m : List Call) × (first.calls ≡ before ++ Executed command answer ∷ m) × (more ≡ m ++ later.calls)) ⊎ ((b : List Call) × (before ≡ first.calls ++ b) × (later.calls ≡ b ++ Executed command answer ∷ more)) → At (From old) all before command answer more new.full_text
           cut (inl (m, own, left)) =
               let alone = few_is first.calls before m command answer (few member old turn.body first.calls (turn_spelled g h member old mid first turn)) own in
-              here (own ∙ ap (λ k. before ++ Executed command answer ∷ k) alone.1) alone.0 (subst (λ k. Runs h mid.full_text k new.full_text) (sym (left ∙ ap (λ k. k ++ later.calls) alone.1)) (turns_made g h members mid new later turns)) later
+              here (own ∙ ap (λ k. before ++ Executed command answer ∷ k) alone.1) alone.0 (subst (λ k. Runs h mid.full_text k new.full_text) (sym (left ∙ ap (λ k. k ++ later.calls) alone.1)) (turns_made g h members mid new later turns)) later (sym (left ∙ ap (λ k. k ++ later.calls) alone.1))
               (ap (λ (d : Deeds). d.out) all_is) (ap (λ (d : Deeds). d.err) all_is)
           cut (inr (b, front, left)) =
               let it = next later turns b left in
@@ -228,6 +217,7 @@ module _ {P S : Type 0} (g : Ghosts P) (h : Ghosts S) where
                 calls = ap (λ cs. first.calls ++ cs) it.calls ∙ sym front;
                 turn = it.turn;
                 only = it.only;
+                behind = it.behind;
                 ends = it.ends;
                 out = ap (λ (d : Deeds). d.out) all_is ∙ ap (λ o. first.out ++ o) it.out ∙ sym (append_assoc first.out it.earlier.out (it.own.out ++ it.later.out));
                 err = ap (λ (d : Deeds). d.err) all_is ∙ ap (λ o. first.err ++ o) it.err ∙ sym (append_assoc first.err it.earlier.err (it.own.err ++ it.later.err));
@@ -284,6 +274,7 @@ at_run g h ended from to all ran before more command answer is =
       calls = it.calls;
       turn = it.turn;
       only = it.only;
+      behind = it.behind;
       ends = it.ends;
       out = it.out;
       err = it.err;
@@ -309,6 +300,7 @@ at_all {P} {S} g h old new all (first_ran ended from to own rest last ran others
           calls = it.calls;
           turn = it.turn;
           only = it.only;
+          behind = ap (λ k. k ++ rest.calls) it.behind ∙ sym left;
           ends = subst (λ k. Runs h it.now.full_text k last.full_text) (sym left) (runs_join h it.now.full_text to.shell.full_text last.full_text m rest.calls it.ends (all_made g h (parts_of to.shell) last rest others));
           out = behind it.earlier.out it.own.out it.later.out rest.out it.out;
           err = behind it.earlier.err it.own.err it.later.err rest.err it.err;
@@ -330,6 +322,7 @@ at_all {P} {S} g h old new all (first_ran ended from to own rest last ran others
           calls = ap (λ cs. own.calls ++ cs) it.calls ∙ sym front;
           turn = it.turn;
           only = it.only;
+          behind = it.behind;
           ends = it.ends;
           out = ap (λ o. own.out ++ o) it.out ∙ sym (append_assoc own.out it.earlier.out (it.own.out ++ it.later.out));
           err = ap (λ o. own.err ++ o) it.err ∙ sym (append_assoc own.err it.earlier.err (it.own.err ++ it.later.err));
@@ -379,10 +372,10 @@ module _ (table : List ℕ) (items : Items) (filter : Filter) (limit : Option �
       go true it = absurd (not_none (none_of selected it))
       go false it = select_class old.settings line told (made_name (tokens_of text)) (class_of (table_names old.full_text) (tokens_of text)) it
 
-  select_lists : {P S : Type 0} (g : Ghosts P) (h : Ghosts S) (old new : Parts P S) (all : Deeds) (before more : List Call) → At g h (Reached g h old) all before (Select table items filter limit offset) (Ok reply) more new.full_text → Lists g h old all before more new reply
+  select_lists : {P S : Type 0} (g : Ghosts P) (h : Ghosts S) (old new : Parts P S) (all : Deeds) (before more : List Call) → At g h (Reached g h old) all before (Select table items filter limit offset) (Ok reply) more new.full_text → Lists g h old all before (Select table items filter limit offset) reply more new
   select_lists {P} {S} g h old new all before more it = go it.member it.turn
     where
-      go : (member : Member) → Turn g h member it.was it.now it.own → Lists g h old all before more new reply
+      go : (member : Member) → Turn g h member it.was it.now it.own → Lists g h old all before (Select table items filter limit offset) reply more new
       go (units.Fault line fault) turn = absurd (not_none (none_of selected (sym it.only ∙ turn_spelled g h (units.Fault line fault) it.was it.now it.own turn)))
       go (Dot line text) turn = absurd (select_dot line it.was turn.body (dot_command_of (dot_words_of (behind_stop text))) (subst (λ calls. CallsOfDot line it.was turn.body calls (dot_command_of (dot_words_of (behind_stop text)))) it.only (turn_spelled g h (Dot line text) it.was it.now it.own turn)))
       go (Sql line text) turn = record {
@@ -394,9 +387,11 @@ module _ (table : List ℕ) (items : Items) (filter : Filter) (limit : Option �
         own = it.own;
         later = it.later;
         reached = it.reached;
-        calls = it.calls;
+        calls_before = it.calls;
         turn = turn;
-        ends = it.ends;
+        one_call = it.only;
+        calls_behind = it.behind;
+        goes_on = it.ends;
         prints = told (select_sql line text it.was turn.body (subst (λ calls. CallsOf (Sql line text) it.was turn.body calls) it.only (turn_spelled g h (Sql line text) it.was it.now it.own turn)));
         out = it.out;
         err = it.err;
@@ -408,22 +403,22 @@ module _ (table : List ℕ) (items : Items) (filter : Filter) (limit : Option �
 
 -- ---- the promise
 
-pub kept_by_runs : {P S : Type 0} (g : Ghosts P) (h : Ghosts S) → KeptByCalls h → NoneGetsUnsound → KeptByRuns g h (IsUp h)
-kept_by_runs g h law sound first old new all held ran up =
-    let runs = all_made g h old new all ran in
-    let kept = law old.full_text new.full_text all.calls first up held runs in
-    record {
-      holds = kept.0;
-      sound = λ id. sound first (accepted all.calls) id;
-      answered = kept.1;
-      lists = λ before more table items filter limit offset reply is. (
-        reply_is (left_by first (accepted before)) (Select table items filter limit offset) reply (answer_at first before more (Select table items filter limit offset) (Ok reply) (subst (AreAnswered first) is kept.1)),
-        select_lists table items filter limit offset reply g h old new all before more (at_all g h old new all ran before more (Select table items filter limit offset) (Ok reply) is),
+pub kept_by_runs : {P S : Type 0} (g : Ghosts P) (h : Ghosts S) → KeptByCalls h → NoneGetsUnsound → KeptByRuns g h (IsClean h)
+kept_by_runs g h law sound first old new all held settled ran clean = record {
+  calls = kept;
+  sound = λ id. sound first (accepted all.calls) id;
+  lists = λ before more table items filter limit offset reply is.
+      let select = Select table items filter limit offset in
+      let behind = kept.stands before more (Executed select (Ok reply)) is refl in (
+        reply_is (left_by first (accepted before)) select reply (answer_at first before [] select (Ok reply) behind.3.answered),
+        select_lists table items filter limit offset reply g h old new all before more (at_all g h old new all ran before more select (Ok reply) is),
       );
-      refused = λ before more command fault is. refused_at h old.full_text new.full_text before more command fault up (subst (λ cs. Runs h old.full_text cs new.full_text) is runs);
-    }
+}
+  where
+    kept : CallsKept h first old.full_text all.calls new.full_text
+    kept = law old.full_text new.full_text all.calls first clean held settled (all_made g h old new all ran)
 
 -- one run, however it ends
-pub ran_and_kept : {P S : Type 0} (g : Ghosts P) (h : Ghosts S) (ended : Result Status RunFault) (old new : Console P S) → Ends g h ended old new → KeptByRuns g h (IsUp h) → RanAndKept g h ended old new
-ran_and_kept g h (Ok status) old new ran law = (ran.deeds, (ran, refl), λ first held up. law first (parts_of old.shell) (parts_of new.shell) ran.deeds held (last_ran (Ok status) old new ran.deeds (ran, refl)) up)
-ran_and_kept g h (Err fault) old new cut law = (cut.deeds, (cut, refl), λ first held up. law first (parts_of old.shell) (parts_of new.shell) cut.deeds held (last_ran (Err fault) old new cut.deeds (cut, refl)) up)
+pub ran_and_kept : {P S : Type 0} (g : Ghosts P) (h : Ghosts S) (ended : Result Status RunFault) (old new : Console P S) → Ends g h ended old new → IsSettled h old.shell.full_text → KeptByRuns g h (IsClean h) → RanAndKept g h ended old new
+ran_and_kept g h (Ok status) old new ran settled law = (ran.deeds, (ran, refl), λ first held clean. law first (parts_of old.shell) (parts_of new.shell) ran.deeds held settled (last_ran (Ok status) old new ran.deeds (ran, refl)) clean)
+ran_and_kept g h (Err fault) old new cut settled law = (cut.deeds, (cut, refl), λ first held clean. law first (parts_of old.shell) (parts_of new.shell) cut.deeds held settled (last_ran (Err fault) old new cut.deeds (cut, refl)) clean)

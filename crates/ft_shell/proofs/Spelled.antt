@@ -10,7 +10,7 @@ use Rattle.shell_text.specs.Records.{csv_reader}
 use Rattle.shell_text.specs.Words.{is_unclosed}
 use Rattle.ft_values.specs.declared.fault.Fault.{Fault as Cause}
 use Rattle.ft_content.specs.Command.{Command, Insert, Reply}
-use Rattle.ft_index.specs.Kept.{Call, Executed, Noted}
+use Rattle.ft_index.specs.Called.{Call, Executed, Noted}
 use Rattle.ft_statements.specs.Words.{tokens_of}
 use Rattle.ft_statements.specs.Statements.{Class, Plain, FullText, class_of}
 use Rattle.ft_statements.specs.Dots.{DotCommand, Import, Importing, Tables, dot_command_of}

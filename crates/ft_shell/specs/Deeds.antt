@@ -1,6 +1,6 @@
 -- Meaning. What turns of a session tell, and which calls they make of the full-text tables (own choice).
 use Rattle.std.specs.Prelude.{ℕ, Bool, false, List, [], ◌++◌, ◌+◌}
-use Rattle.ft_index.specs.Kept.{Call}
+use Rattle.ft_index.specs.Called.{Call}
 use Rattle.plain_shell.specs.Told.{Told}
 
 -- what one or more turns tell, and the calls that they make of the full-text tables

@@ -11,10 +11,10 @@ use Rattle.ft_values.specs.declared.fault.Fault.{Fault}
 use Rattle.ft_content.specs.Command.{Command, Insert, Reply}
 use Rattle.ft_content.specs.Views.{TableInfo}
 use Rattle.ft_documents.specs.Found.{info_named}
-use Rattle.ft_index.specs.Kept.{FullText, Executes}
-use Rattle.ft_index.specs.Crashes.{CommandSurvives}
+use Rattle.ft_index.specs.Kept.{FullText}
+use Rattle.ft_index.specs.Called.{DoesCall, Executed}
 use Rattle.ft_statements.specs.Dots.{Import}
-use Rattle.ft_shell.specs.FullTextTurns.{LeavesAlone, NoteTurn, StaysOpen}
+use Rattle.ft_shell.specs.FullTextTurns.{NoteTurn}
 use Rattle.plain_shell.specs.Imports.{delimiter_of, row_cells}
 use Rattle.plain_shell.specs.IntoTables.{IsLeft, IntoTable}
 use Rattle.plain_shell.specs.PlainImports.{import_steps, CommitsAll, Declines}
@@ -39,10 +39,7 @@ insert_told settings line lines (Err fault) = blames settings line (fault_text f
 -- The one command is executed, and its answer is told.
 pub record InsertTurn {S : Type 0} (h : Ghosts S) (settings : Settings) (line : ℕ) (command : Command) (lines : List ℕ) (before after : FullText S) (told : Told) : Type 0 where
   pub answer : Result Reply Fault
-  pub executes : Executes h before command answer after
-  pub survives : CommandSurvives h before command after
-  pub live : StaysOpen h answer before after
-  pub alone : LeavesAlone h command answer before after
+  pub does : DoesCall h before (Executed command answer) after
   pub tells : Tells settings line (insert_told settings line lines answer) told
 
 -- All records go in by one Insert, or none does. Where memory is wanting before it, nothing is done.

@@ -1,14 +1,16 @@
 -- Meaning. What runs of a session leave of the full-text tables (own choice).
-use Rattle.std.specs.Prelude.{ℕ, ℤ, ◌≡◌, ◌⊎◌, List, ◌∷◌, ◌++◌, Option, Result, Ok, Err, IsTrue}
+use Rattle.std.specs.Prelude.{ℕ, ℤ, ◌≡◌, ◌⊎◌, List, [], ◌∷◌, ◌++◌, Option, Result, Ok, Err, IsTrue}
 use Rattle.std.specs.List.{list_any}
 use Rattle.sqlite.specs.Store.{Ghosts}
 use Rattle.shell_text.specs.Units.{Member, Sql}
 use Rattle.ft_store.specs.Kept.{shows}
-use Rattle.ft_values.specs.declared.fault.Fault.{Fault}
 use Rattle.ft_content.specs.Command.{Command, Filter, Items, Reply, Select}
 use Rattle.ft_content.specs.Deserved.{Contents}
 use Rattle.ft_content.specs.Step.{reply_to}
-use Rattle.ft_index.specs.Kept.{FullText, Call, Executed, Runs, IsUp, Holds, accepted, left_by, AreAnswered, is_unsound, value_of}
+use Rattle.sqlite.specs.State.{HasCleanDisk}
+use Rattle.ft_index.specs.Kept.{FullText, Holds}
+use Rattle.ft_index.specs.Crashes.{IsSettled}
+use Rattle.ft_index.specs.Called.{Call, CallsKept, Executed, Runs, accepted, left_by, is_unsound}
 use Rattle.plain_shell.specs.declared.run.Status.{Status}
 use Rattle.plain_shell.specs.declared.run.RunFault.{RunFault}
 use Rattle.ft_shell.specs.Shell.{Parts, Shell}
@@ -46,12 +48,20 @@ module _ {P S : Type 0} (g : Ghosts P) (h : Ghosts S) where
     pub turns : Turns g h members start was part
     pub both : earlier ≡ and_then whole part
 
+-- so far the disk returned what was written, as it always does in memory
+abbrev pub IsClean : {S : Type 0} → Ghosts S → FullText S → Type 0
+IsClean h known = HasCleanDisk (shows h known.store)
+
+-- of a store in memory nothing is supposed
+abbrev pub IsAny : {S : Type 0} → FullText S → Type 0
+IsAny known = Unit {0}
+
 -- ---- the promise
 
 module _ {P S : Type 0} (g : Ghosts P) (h : Ghosts S) where
-  -- The turn of a Select among all calls. What it tells is the reply by the settings that are in force there, or that it lacks memory for
-  -- it, and stands on both outputs between what the turns before it and those after it tell.
-  pub record Lists (old : Parts P S) (all : Deeds) (before more : List Call) (new : Parts P S) (reply : Reply) : Type 0 where
+  -- The turn of a Select among all calls, of which it is the one of its turn. What it tells is the reply by the settings that are in force
+  -- there, or that it lacks memory for it, and stands on both outputs between what the turns before it and those after it tell.
+  pub record Lists (old : Parts P S) (all : Deeds) (before : List Call) (select : Command) (reply : Reply) (more : List Call) (new : Parts P S) : Type 0 where
     pub line : ℕ
     pub text : List ℕ
     pub was : Shell P S
@@ -60,37 +70,31 @@ module _ {P S : Type 0} (g : Ghosts P) (h : Ghosts S) where
     pub own : Deeds
     pub later : Deeds
     pub reached : Reached g h old earlier was
-    pub calls : earlier.calls ≡ before
+    pub calls_before : earlier.calls ≡ before
     pub turn : Turn g h (Sql line text) was now own
-    pub ends : Runs h now.full_text more new.full_text
+    pub one_call : own.calls ≡ Executed select (Ok reply) ∷ []
+    pub calls_behind : later.calls ≡ more
+    pub goes_on : Runs h now.full_text more new.full_text
     pub prints : (told_by own ≡ echoed was.settings text (says (reply_text was.settings reply))) ⊎ (told_by own ≡ echoed was.settings text (lacks_memory was.settings line))
     pub out : all.out ≡ earlier.out ++ (own.out ++ later.out)
     pub err : all.err ≡ earlier.err ++ (own.err ++ later.err)
 
   -- What runs leave of full-text tables that held these contents before them.
   pub record PromiseKept (first : Contents) (old : Parts P S) (all : Deeds) (new : Parts P S) : Type 0 where
-    -- each table's content is that of the accepted commands, and the index rows of each sound table are exactly those made from scratch
-    pub holds : Holds h new.full_text (left_by first (accepted all.calls))
+    -- Behind each call that is answered each table's content is that of the accepted commands, and the index rows of each sound table are
+    -- exactly those made from scratch. A refused command changes nothing, and so does a crash but for the command that was running.
+    pub calls : CallsKept h first old.full_text all.calls new.full_text
     -- no table gets unsound
     pub sound : (id : ℤ) → IsTrue (list_any (is_unsound id) (left_by first (accepted all.calls))) → IsTrue (list_any (is_unsound id) first)
-    -- each command is answered by the definitions over what those before it left, or refused by the store or memory
-    pub answered : AreAnswered first all.calls
-    -- so each Select that is accepted, with MATCH too, lists the reply that is defined over what the accepted commands before it left
+    -- each Select that is accepted, with MATCH too, lists the reply that is defined over what the accepted commands before it left
     pub lists : (before more : List Call) (table : List ℕ) (items : Items) (filter : Filter) (limit : Option ℕ) (offset : ℕ) (reply : Reply) → all.calls ≡ before ++ Executed (Select table items filter limit offset) (Ok reply) ∷ more →
-        (reply ≡ reply_to (left_by first (accepted before)) (Select table items filter limit offset)) × Lists old all before more new reply
-    -- a refused command changes no row of content or index, and no mark
-    pub refused : (before more : List Call) (command : Command) (fault : Fault) → all.calls ≡ before ++ Executed command (Err fault) ∷ more →
-        (was now : FullText S) × Runs h old.full_text before was × Runs h now more new.full_text × (value_of h now ≡ value_of h was) × (now.tables ≡ was.tables)
+        (reply ≡ reply_to (left_by first (accepted before)) (Select table items filter limit offset)) × Lists old all before (Select table items filter limit offset) reply more new
 
-  -- After any runs the full-text tables are what the accepted commands make of them, if the store is up in the end.
+  -- After any runs the full-text tables are what the accepted commands make of them, where the disk returned what was written.
   abbrev pub KeptByRuns : (FullText S → Type 0) → Type 0
-  KeptByRuns Up = (first : Contents) (old new : Parts P S) (all : Deeds) → Holds h old.full_text first → AllRan g h old all new → Up new.full_text → PromiseKept first old all new
+  KeptByRuns IsClean = (first : Contents) (old new : Parts P S) (all : Deeds) → Holds h old.full_text first → IsSettled h old.full_text → AllRan g h old all new → IsClean new.full_text → PromiseKept first old all new
 
   -- So it is after one run.
   abbrev pub RanAndKept : Result Status RunFault → Console P S → Console P S → Type 0
   RanAndKept ended old new = (all : Deeds) × Ran g h ended old new all
-      × ((first : Contents) → Holds h old.shell.full_text first → IsUp h new.shell.full_text → PromiseKept first (parts_of old.shell) all (parts_of new.shell))
-
--- in memory a store is up as long as it is open
-abbrev pub IsOpen : {S : Type 0} → Ghosts S → FullText S → Type 0
-IsOpen h known = IsTrue (shows h known.store).is_open
+      × ((first : Contents) → Holds h old.shell.full_text first → IsClean h new.shell.full_text → PromiseKept first (parts_of old.shell) all (parts_of new.shell))

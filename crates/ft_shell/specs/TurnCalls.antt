@@ -1,13 +1,14 @@
 -- Meaning. The calls that a turn makes of the full-text tables, read off the turn: each command that it executes, with the answer that it has, and
 -- each note. All of it is our own choice.
 use Rattle.std.proofs.Common.{inl, inr}
-use Rattle.std.specs.Prelude.{ℕ, ◌≡◌, Bool, true, false, MatchBool, List, [], ◌∷◌, map, codes, Option, Some, None}
+use Rattle.std.specs.Prelude.{ℕ, ◌≡◌, Bool, true, false, MatchBool, List, [], ◌∷◌, map, codes, Option, Some, None, is_ok}
 use Rattle.sqlite.specs.Store.{Ghosts}
 use Rattle.sqlite.specs.Held.{Held}
 use Rattle.shell_text.specs.Print.{Settings}
 use Rattle.shell_text.specs.Words.{is_unclosed}
 use Rattle.ft_content.specs.Command.{Insert}
-use Rattle.ft_index.specs.Kept.{FullText, Call, Executed, Noted}
+use Rattle.ft_index.specs.Kept.{FullText}
+use Rattle.ft_index.specs.Called.{Call, Executed, Noted}
 use Rattle.ft_statements.specs.Words.{tokens_of}
 use Rattle.ft_statements.specs.Plain.{asks, made_name}
 use Rattle.ft_statements.specs.Statements.{Class, Plain, FullText as FullTextClass, class_of}
@@ -29,7 +30,7 @@ module _ {S : Type 0} (h : Ghosts S) (settings : Settings) (line : ℕ) where
   -- the name of a plain table that was made is noted
   abbrev pub note_in : (name : Option (List ℕ)) (before after : FullText S) (told : Told) → MaybeNotes h settings line name before after told → List Call
   note_in None before after told it = []
-  note_in (Some name) before after told it = Noted name it.is_noted ∷ []
+  note_in (Some name) before after told it = Noted name (is_ok it.answer) ∷ []
 
   -- all records go into a full-text table by one Insert
   abbrev pub text_in : (what : Import) (n : ℕ) (rows : List (ℕ × List (List ℕ))) (before after : FullText S) (told : Told) → TextImport h settings line what n rows before after told → List Call
@@ -69,7 +70,7 @@ module _ {P S : Type 0} (g : Ghosts P) (h : Ghosts S) (settings : Settings) (lin
     abbrev pub new_in : IntoNew g settings line what rows h old new before after told → List Call
     new_in (imports.no_header none same is_same is) = []
     new_in (imports.too_wide first rest are wide same is_same is) = []
-    new_in (imports.made first rest are narrow commits notes) = Noted what.table notes.1.is_noted ∷ []
+    new_in (imports.made first rest are narrow commits notes) = Noted what.table (is_ok notes.1.answer) ∷ []
     new_in (imports.declined first rest are narrow why is_same is) = []
     new_in (imports.no_memory is_same is) = []
 

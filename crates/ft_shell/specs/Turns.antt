@@ -11,7 +11,7 @@ use Rattle.ft_statements.specs.Dots.{DotCommand, dot_command_of}
 use Rattle.ft_shell.specs.DotTurns.{DotTurn}
 use Rattle.plain_shell.specs.DotParts.{behind_stop}
 use Rattle.ft_shell.specs.StatementTurns.{StatementTurn}
-use Rattle.ft_index.specs.Kept.{Call}
+use Rattle.ft_index.specs.Called.{Call}
 use Rattle.ft_shell.specs.TurnCalls.{dot_in, statement_in}
 use Rattle.plain_shell.specs.Told.{Told, blames, echo_text, echoed, lacks_memory}
 use Rattle.ft_shell.specs.Deeds.{Deeds, told_by, idle, and_then}

@@ -5,8 +5,8 @@ ghost use Rattle.shell_text.specs.Splitting.{member_of_unit};
 ghost use Rattle.plain_shell.specs.Feeds.{members_left, refused_as};
 ghost use Rattle.ft_shell.specs.Ran.{moment, Ends, GoesOn, NoneWaits, Runs, TakesRead};
 ghost use Rattle.ft_shell.specs.Runs.{console_of};
-ghost use Rattle.ft_shell.specs.Promise.{IsOpen, KeptByRuns, RanAndKept};
-ghost use Rattle.ft_index.specs.Kept.{IsUp};
+ghost use Rattle.ft_shell.specs.Promise.{IsAny, IsClean, KeptByRuns, RanAndKept};
+ghost use Rattle.ft_index.specs.Crashes.{IsSettled};
 ghost use Rattle.ft_shell.specs.Shell.{lent};
 ghost use Rattle.plain_shell.specs.Sources.{Files};
 
@@ -106,6 +106,7 @@ impl<P: Alter, S: Alter> Session<P, S> {
         ensures source { (name : List ℕ) → F.holds source.new name ≡ F.holds source.old name }
     {
         Session::<P, S>::kept_by_runs();
+        self.is_settled();
         self.run_pieces(reader, source, outputs)
     }
 
@@ -113,9 +114,16 @@ impl<P: Alter, S: Alter> Session<P, S> {
     /// rows of each sound table are exactly those made from scratch. Each command, a Select with MATCH too, was answered by
     /// the definitions, and a refused one changed neither content nor index.
     pub fn kept_by_runs()
-        ensures { KeptByRuns P.Store S.Store (IsUp S.Store) }
+        ensures { KeptByRuns P.Store S.Store (IsClean S.Store) }
     {
         FullText::<S>::kept_by_calls();
+    }
+
+    // The law that a crash leaves what an open store holds, and nothing else.
+    fn is_settled(&self)
+        ensures { IsSettled S.Store self.now.full_text }
+    {
+        self.full_text.is_settled();
     }
 
     fn run_pieces<R: Read, O: Write, E: Write, F: Source>(
@@ -396,9 +404,9 @@ impl<P: Alter, S: Alter> Session<P, S> {
 }
 
 impl<P: Alter, S: Honest> Session<P, S> {
-    /// The same in memory, where the disk always returns what was written: it is so as long as the store is open.
+    /// The same in memory, where the disk always returns what was written: nothing is supposed.
     pub fn kept_in_memory()
-        ensures { KeptByRuns P.Store S.Store (IsOpen S.Store) }
+        ensures { KeptByRuns P.Store S.Store IsAny }
     {
         Session::<P, S>::kept_by_runs();
     }

@@ -45,6 +45,12 @@ refused_keeps sql params old new e (inr shows) = go shows.0.returning shows.2
     go (Some what) (inl h) = inl h.1
     go (Some what) (inr h) = inr h.3
 
+-- a statement that isn't run changes nothing, or the transaction is undone
+pub not_run : (sql : List ℕ) (params : Row) (old new : State) (e : Error) → IsNotRun old new sql params e → IsUnchanged old new ⊎ IsRolledBack old new
+unfolding IsNotRun
+not_run sql params old new e (inl none) = inl none.1
+not_run sql params old new e (inr fails) = inr fails.3
+
 pub kept_either : (old new : State) → (IsTrue old.is_open → old.now ≡ old.committed) → IsUnchanged old new ⊎ IsRolledBack old new → Keeps old new
 kept_either old new settled (inl same) now = (same.0.now_is, same.0.committed_is, same.0.was_open)
 kept_either old new settled (inr back) now = let undone = back.undone now in (undone.0 ∙ sym (settled (back.was_open now)), undone.1, back.was_open now)

@@ -107,11 +107,12 @@ pub record IsNotTaken {S : Type 0} (g : Ghosts S) (old new : Held S) (cause : St
   pub told : HasCleanDisk (state g new) → old.schema ≢ no_schema → (HasStoreTables old.schema → ⊥) → IsTrue (has_our_name old.schema)
       → (found : Result (Vec Row Global) Error) × TellsAs g old found × (cause ≡ told_cause found)
 
+-- a crash leaves what it could leave before, or that store whole
+abbrev pub LeavesMade : {S : Type 0} → Ghosts S → Held S → Held S → Type 0
+LeavesMade g old new = Survives (state g old) (state g new) (λ db. IsTrue (state g old).is_open → IsMadeOf (state g old).now db)
+
 -- not taken for this cause, whatever was left of the database
 pub record IsNotTakenFor {S : Type 0} (g : Ghosts S) (old : Held S) (cause : StoreFault) : Type 0 where
   pub new : Held S
   pub refused : IsNotTaken g old new cause
-
--- a crash leaves what it could leave before, or that store whole
-abbrev pub LeavesMade : {S : Type 0} → Ghosts S → Held S → Held S → Type 0
-LeavesMade g old new = Survives (state g old) (state g new) (λ db. IsTrue (state g old).is_open → IsMadeOf (state g old).now db)
+  pub left : LeavesMade g old new

@@ -6,7 +6,7 @@ use Rattle.sqlite.specs.Store.{Ghosts}
 use Rattle.sqlite.specs.Held.{Held, held_code, state}
 use Rattle.ft_rows.specs.Store.{StoreValue}
 use Rattle.ft_store.specs.Rows.{value_of}
-use Rattle.ft_store.specs.Calls.{IsStored, IsStoreIfOpen, Keeps}
+use Rattle.ft_store.specs.Calls.{IsPlainFault, IsStored, IsStoreIfOpen, Keeps}
 use Rattle.ft_store.specs.declared.fault.StoreFault.{StoreFault}
 
 pub record StoreState (S : Type 0) : Type 0 where
@@ -46,3 +46,11 @@ pub record ReadsRows {S X : Type 0} (g : Ghosts S) (old new : StoreState S) (res
   pub counted : IfOk result (λ x. new.rows_read ≡ more_rows (count x) old)
   pub uncounted : OnErr result (new.rows_read ≡ old.rows_read)
   pub causes : IfErr result IsFault
+
+-- What is left by a question whether the database is open: nothing is changed, read or committed, and Ok says that it is open.
+pub record Pings {S : Type 0} (g : Ghosts S) (old new : StoreState S) (result : Result (Unit {0}) StoreFault) : Type 0 where
+  pub kept : HasCleanDisk (shows g new) → Keeps (shows g old) (shows g new)
+  pub live : HasCleanDisk (shows g new) → OnOk result (IsTrue (shows g new).is_open)
+  pub survives : Survives (shows g old) (shows g new) (λ _. ⊥)
+  pub unread : new.rows_read ≡ old.rows_read
+  pub cause : IfErr result IsPlainFault

@@ -5,13 +5,13 @@ pub mod Kept
 pub mod Older
 pub mod Rows
 pub mod Tables
+pub mod Opened
 -- Steps
 pub mod Expected
 pub mod Found
 pub mod Groups
 pub mod Inside
 pub mod Made
-pub mod Opened
 pub mod Parts
 pub mod Range
 pub mod Same

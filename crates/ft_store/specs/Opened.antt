@@ -1,4 +1,4 @@
--- Steps. What a store holds that is opened from files (own choice).
+-- Meaning. What a store holds that is opened from files (own choice).
 use Rattle.std.specs.Prelude.{◌⊎◌, Result, IfErr}
 use Rattle.sqlite_disk.specs.declared.Disk as disk
 use Rattle.sqlite_store.specs.declared.store.FileStore.{FileStore}
@@ -8,7 +8,7 @@ use Rattle.sqlite.specs.Held.{Held, IsNew}
 use Rattle.sqlite.specs.Start.{FindsIn}
 use Rattle.sqlite.specs.State.{HasCleanDisk}
 use Rattle.ft_store.specs.declared.fault.StoreFault.{StoreFault}
-use Rattle.ft_store.specs.Adopted.{IsTaken, IsNotTaken}
+use Rattle.ft_store.specs.Adopted.{IsTaken, IsNotTaken, LeavesMade}
 use Rattle.ft_store.specs.Calls.{IsPlainFault}
 use Rattle.ft_store.specs.Kept.{StoreState}
 
@@ -19,6 +19,7 @@ pub record IsOpenedFrom {D : Type 0} {g : disk.Ghosts D} (image : Image) (store 
   pub opened : HasCleanDisk (file_state conn) → IsOpened conn
   pub found : HasCleanDisk (file_state conn) → FindsIn image (file_state conn)
   pub taken : IsTaken over_files conn store
+  pub left : LeavesMade over_files conn store
 
 -- The same up to the end, where the database was not taken, for this cause.
 pub record IsNotTakenFrom {D : Type 0} (g : disk.Ghosts D) (image : Image) (cause : StoreFault) : Type 0 where
@@ -28,6 +29,7 @@ pub record IsNotTakenFrom {D : Type 0} (g : disk.Ghosts D) (image : Image) (caus
   pub found : HasCleanDisk (file_state conn) → FindsIn image (file_state conn)
   pub after : Held (FileStore D g)
   pub refused : IsNotTaken over_files conn after cause
+  pub left : LeavesMade over_files conn after
 
 -- an open is refused for a plain fault, or since the database that was found is not taken
 abbrev pub IsRefusedFrom : {D : Type 0} {g : disk.Ghosts D} → Image → Result (StoreState (FileStore D g)) StoreFault → Type 0

@@ -126,7 +126,7 @@ impl<S: Alter + Drop> Store<S> {
         requires settled { conn.in_transaction ≡ false }
         requires known { AreAsKnown Apart (state S.Store conn) }
         ensures taken { IfOk result (λ store. IsTaken S.Store conn store.held
-            × (store.rows_read ≡ 0)) }
+            × LeavesMade S.Store conn store.held × (store.rows_read ≡ 0)) }
         ensures refused { IfErr result (IsNotTakenFor S.Store conn) }
     {
         let mut conn = conn;
@@ -140,7 +140,7 @@ impl<S: Alter + Drop> Store<S> {
 }
 
 impl<S: Alter> Store<S> {
-    ghost use Rattle.ft_store.specs.Kept.{shows, value_in, AreCommitted, ReadsRows};
+    ghost use Rattle.ft_store.specs.Kept.{shows, value_in, AreCommitted, Pings, ReadsRows};
 
     /// Takes a database that holds a store, as it is, or one without objects, which becomes an empty store in one
     /// transaction. A store of version 2 becomes one of version 3 that holds the same, also in one transaction. Any other
@@ -186,6 +186,15 @@ impl<S: Alter> Store<S> {
                 cause,
             }),
         }
+    }
+
+    /// Asks the database whether it is open, and for nothing else.
+    pub fn ping(&mut self) -> Result<(), StoreFault>
+        ensures { Pings S.Store self.old self.new result }
+    {
+        let _settled = self.conn.is_autocommit();
+        let _statement = self.conn.prepare("")?;
+        Ok(())
     }
 
     /// All tables, by rising number, each with its columns and the numbers of those that aren't indexed.

@@ -17,11 +17,11 @@ taken-requires-clause-known g c clean is_open =
 pub returns-clause-opened : goal.returns-clause-opened
 returns-clause-opened g c =
     let new = c.in_ok-conn.ensures.given.found.fresh in
-    IfOk-weaker c.taken.result _ _ (λ store taken. record { conn = c.in_ok-conn.conn; fresh = new; opened = c.in_ok-conn.ensures.given.found.opened; found = c.in_ok-conn.ensures.given.found.found; taken = taken.0 })
+    IfOk-weaker c.taken.result _ _ (λ store taken. record { conn = c.in_ok-conn.conn; fresh = new; opened = c.in_ok-conn.ensures.given.found.opened; found = c.in_ok-conn.ensures.given.found.found; taken = taken.0; left = taken.1 })
     c.taken.ensures.taken
 
 pub returns-clause-refused : goal.returns-clause-refused
 returns-clause-refused g c =
     let new = c.in_ok-conn.ensures.given.found.fresh in
-    IfErr-weaker c.taken.result _ _ (λ cause left. inr (record { conn = c.in_ok-conn.conn; fresh = new; opened = c.in_ok-conn.ensures.given.found.opened; found = c.in_ok-conn.ensures.given.found.found; after = left.new; refused = left.refused }))
+    IfErr-weaker c.taken.result _ _ (λ cause left. inr (record { conn = c.in_ok-conn.conn; fresh = new; opened = c.in_ok-conn.ensures.given.found.opened; found = c.in_ok-conn.ensures.given.found.found; after = left.new; refused = left.refused; left = left.left }))
     c.taken.ensures.refused

@@ -1,0 +1,206 @@
+-- Calls that ask first whether the store is open.
+use Rattle.std.proofs.Common.{◌≡◌, ◌⊎◌, ℕ, true, List, [], Option, Some, None, Result, Ok, Err, ℤ, refl, sym, ap, subst, ◌∙◌, inl, inr, arith}
+use Rattle.std.specs.Prelude.{IsTrue, OnOk, is_ok}
+use Rattle.sqlite_trees.specs.View.{doubt}
+use Rattle.sqlite.specs.State.{State, HasCleanDisk, Survives}
+use Rattle.sqlite.specs.Store.{Ghosts}
+use Rattle.sqlite.specs.Tree.{Trees}
+use Rattle.sqlite.proofs.StateLemmas.{survives_then}
+use Rattle.ft_store.specs.Calls.{IsPlainFault, IsStored, fault_of_read}
+use Rattle.ft_store.specs.Kept.{StoreState, Pings, ReadsRows, shows, value_in}
+use Rattle.ft_store.proofs.ChainLemmas.{kept_then}
+use Rattle.ft_store.specs.declared.fault.StoreFault.{StoreFault}
+use Rattle.ft_store.specs.declared.fault.StoreFault.TheVariants as causes
+use Rattle.ft_rows.specs.Store.{StoreValue, Change, all_applied}
+use Rattle.ft_values.specs.declared.fault.Fault.{Fault}
+use Rattle.ft_content.specs.declared.command.Reply.{Reply as RustReply}
+use Rattle.ft_content.specs.Command.{Command, Create, Drop, Insert, Update, Delete, Select, Rebuild, Check, Optimize, Filter, All, Docid, Match, Items, Reply, Done, Rows}
+use Rattle.ft_content.specs.Deserved.{TableState, Sound, Stale, Loose, Table, Contents, table_named}
+use Rattle.ft_content.specs.Views.{TableInfo, answer_of}
+use Rattle.ft_index.specs.DocumentsRead.{Looks}
+use Rattle.ft_index.specs.Kept.{FullText, IsUp, IsOutside, AreHeld, Executes, OnlyLooks, is_outside}
+use Rattle.ft_index.specs.Crashes.{HoldsAfter, IsSettled, LeavesRead}
+use Rattle.ft_index.specs.Changed.{with_tables, Does, DoesAsked, LooksAsked, MakesAsked, MakesRows}
+use Rattle.ft_index.specs.RowsRead.{CountsFound, CountsHeld, CountsIfRows, CountsRows}
+use Rattle.ft_index.proofs.Acting.{executes_read, looks_same, looks_up, then_changed}
+use Rattle.ft_index.proofs.Crashing.{survives_as}
+
+-- what a Select reads is told by the count before it alone
+module _ {S : Type 0} (one other new : FullText S) (same : one.store.rows_read ≡ other.store.rows_read) where
+  counts_held : (offset : ℕ) (items : Items) (f : Filter) (limit : Option ℕ) (held : TableState) → CountsHeld offset one new items f limit held → CountsHeld offset other new items f limit held
+  counts_held offset items f limit (Sound content) it = rw (← same) it
+  counts_held offset items f limit (Stale content) it = tt
+  counts_held offset items f limit (Loose rows) it = tt
+
+  counts_found : (offset : ℕ) (items : Items) (f : Filter) (limit : Option ℕ) (found : Option (ℤ × Table)) → CountsFound offset one new items f limit found → CountsFound offset other new items f limit found
+  counts_found offset items f limit None it = tt
+  counts_found offset items f limit (Some t) it = counts_held offset items f limit t.1.held it
+
+  counts_same : (first : Contents) (command : Command) (answer : Result Reply Fault) → CountsIfRows first one new command answer → CountsIfRows first other new command answer
+  counts_same first (Select table items (Match name text) limit offset) (Ok (Rows grid)) it = counts_found offset items (Match name text) limit (table_named first table) it
+  counts_same first (Select table items All limit offset) (Ok (Rows grid)) it = tt
+  counts_same first (Select table items (Docid docid) limit offset) (Ok (Rows grid)) it = tt
+  counts_same first (Create table module_name options columns if_new) (Ok (Rows grid)) it = tt
+  counts_same first (Drop table if_there) (Ok (Rows grid)) it = tt
+  counts_same first (Insert table columns rows) (Ok (Rows grid)) it = tt
+  counts_same first (Update table sets f) (Ok (Rows grid)) it = tt
+  counts_same first (Delete table f) (Ok (Rows grid)) it = tt
+  counts_same first (Rebuild table) (Ok (Rows grid)) it = tt
+  counts_same first (Check table) (Ok (Rows grid)) it = tt
+  counts_same first (Optimize table) (Ok (Rows grid)) it = tt
+  counts_same first command (Ok Done) it = tt
+  counts_same first command (Err fault) it = tt
+
+-- what is done of an answer where it leads to more
+on_ok : {X E A : Type 0} (B : Type 0) (r : Result X E) → OnOk r (A → B) → A → OnOk r B
+on_ok B (Ok x) f a = f a
+on_ok B (Err e) f a = tt
+
+pub ok_then : {X E A : Type 0} (r : Result X E) → OnOk r A → is_ok r ≡ true → A
+ok_then (Ok x) a done = a
+ok_then (Err e) a done = absurd (let wrong = done in cc)
+
+-- a fault of the store is one from outside
+pub outside_of : (e : StoreFault) → IsOutside (fault_of_read e)
+outside_of causes.Memory = inr refl
+outside_of causes.Refused = inl refl
+outside_of causes.NotAStore = inl refl
+outside_of (causes.Version n) = inl refl
+outside_of causes.Damaged = inl refl
+
+is_outside_of : (f : Fault) → IsOutside f → IsTrue (is_outside (Err f))
+is_outside_of f (inl is) = subst (λ (e : Fault). IsTrue (is_outside (Err e))) (sym is) refl
+is_outside_of f (inr is) = subst (λ (e : Fault). IsTrue (is_outside (Err e))) (sym is) refl
+
+-- nothing is done, so nothing is committed
+pub same_survives : (s : State) (P : Trees → Type 0) → Survives s s P
+same_survives s P = record { clean = omega arith; shield = λ h. h; counts = omega arith; limit = refl; closes = λ clean is_open. inl is_open; crash = λ clean db h. inl h }
+
+-- where memory lacks before the store is asked
+pub unasked : {S X : Type 0} (g : Ghosts S) (old : StoreState S) (changes : List Change) (result : Result X Fault) (f : Fault) → result ≡ Err f → IsOutside f → MakesAsked g old old changes result
+unasked {S} {X} g old changes result f is outside = subst (λ (r : Result X Fault). MakesAsked g old old changes r) (sym is) (record {
+  changed = record { was_up = λ tables others up. record { clean = up.clean; is_open = up.is_open }; value = λ tables up. refl };
+  crash = same_survives (shows g old) _;
+  live = λ clean. tt;
+  cause = outside;
+})
+
+module _ {S : Type 0} (g : Ghosts S) (old mid : StoreState S) (result : Result (Unit {0}) StoreFault) (it : Pings g old mid result) where
+  pinged : Looks g old mid
+  pinged = record { kept = it.kept; survives = survives_as (shows g old) (shows g mid) _ _ (λ clean db none is_open. none) it.survives }
+
+  nothing_left : (P : Trees → Type 0) → Survives (shows g old) (shows g mid) P
+  nothing_left P = survives_as (shows g old) (shows g mid) _ _ (λ clean db none. absurd none) it.survives
+
+  -- where the answer is that it isn't open
+  pub makes_nothing : {X : Type 0} (changes : List Change) (made : Result X Fault) (f : Fault) → made ≡ Err f → IsOutside f → MakesAsked g old mid changes made
+  makes_nothing {X} changes made f is outside = subst (λ (r : Result X Fault). MakesAsked g old mid changes r) (sym is) (record {
+    changed = record { was_up = λ tables others up. looks_up g old mid tables others pinged up; value = λ tables up. looks_same g old mid tables pinged up };
+    crash = nothing_left _;
+    live = λ clean. tt;
+    cause = outside;
+  })
+
+  pub does_nothing : (tables : List TableInfo) (command : Command) (answer : Result RustReply Fault) (f : Fault) → answer ≡ Err f → IsOutside f → DoesAsked g (with_tables old tables) command answer (with_tables mid tables)
+  does_nothing tables command answer f is outside = subst (λ (r : Result RustReply Fault). DoesAsked g (with_tables old tables) command r (with_tables mid tables)) (sym is) (record {
+    executes = executes_read g old mid tables command (Err f) pinged (λ up first held. inl (is_outside_of f outside, refl));
+    crash = nothing_left _;
+    live = λ clean. tt;
+  })
+
+  pub counts_nothing : (tables : List TableInfo) (command : Command) (answer : Result RustReply Fault) (f : Fault) → answer ≡ Err f → CountsRows g (with_tables old tables) command (answer_of answer) (with_tables mid tables)
+  counts_nothing tables command answer f is = subst (λ (r : Result RustReply Fault). CountsRows g (with_tables old tables) command (answer_of r) (with_tables mid tables)) (sym is) (λ up first holds. tt)
+
+  -- where it is
+  module _ (asked : HasCleanDisk (shows g mid) → IsTrue (shows g mid).is_open) where
+    up_mid : (tables : List TableInfo) → HasCleanDisk (shows g mid) → IsUp g (with_tables mid tables)
+    up_mid tables clean = record { clean = clean; is_open = asked clean }
+
+    pub makes_then : {X : Type 0} (new : StoreState S) (changes : List Change) (made : Result X Fault) → MakesRows g mid new changes made → MakesAsked g old new changes made
+    makes_then new changes made rows = record {
+      changed = then_changed g old mid new changes (is_ok made) pinged rows.changed;
+      crash = survives_then (shows g old) (shows g mid) (shows g new) (λ _. ⊥) _ _ (λ clean db none. absurd none) (λ clean db commits.
+          let up = up_mid [] (clean_mid clean) in
+          (looks_up g old mid [] [] pinged up, subst (λ (v : StoreValue). IsStored db (all_applied changes v)) (looks_same g old mid [] pinged up) (commits up.is_open))) it.survives rows.crash;
+      live = λ clean. on_ok _ made (rows.live clean) (asked (clean_mid clean));
+      cause = rows.cause;
+    }
+      where
+        clean_mid : HasCleanDisk (shows g new) → HasCleanDisk (shows g mid)
+        clean_mid clean = let c : doubt (shows g new).is_clean ≡ 0 = clean in omega (arith, c, rows.crash.clean)
+
+    pub does_then : (tables : List TableInfo) (new : FullText S) (command : Command) (answer : Result RustReply Fault) → Does g (with_tables mid tables) command answer new → DoesAsked g (with_tables old tables) command answer new
+    does_then tables new command answer does = record {
+      executes = executes_behind;
+      crash = survives_then (shows g old) (shows g mid) (shows g new.store) (λ _. ⊥) _ _ (λ clean db none. absurd none) (λ clean db commits.
+          let up = up_mid tables (clean_mid clean) in
+          let same : value_in g mid ≡ value_in g old = looks_same g old mid tables pinged up in
+          (looks_up g old mid tables tables pinged up, λ old_up first holds. subst (λ v. HoldsAfter v first command db) same (commits up first (subst (λ v. AreHeld v tables first) (sym same) holds)))) it.survives does.crash;
+      live = λ clean. on_ok _ answer (does.live clean) (asked (clean_mid clean));
+    }
+      where
+        clean_mid : HasCleanDisk (shows g new.store) → HasCleanDisk (shows g mid)
+        clean_mid clean = let c : doubt (shows g new.store).is_clean ≡ 0 = clean in omega (arith, c, does.crash.clean)
+
+        same_value : IsUp g new → value_in g mid ≡ value_in g old
+        same_value up = looks_same g old mid tables pinged (does.executes.was_up up)
+
+        executes_behind : Executes g (with_tables old tables) command (answer_of answer) new
+        executes_behind = record {
+          was_up = λ up. looks_up g old mid tables tables pinged (does.executes.was_up up);
+          steps = λ up first holds. does.executes.steps up first (subst (λ v. AreHeld v tables first) (sym (same_value up)) holds);
+          noted = λ up first holds. does.executes.noted up first (subst (λ v. AreHeld v tables first) (sym (same_value up)) holds) ∙ ap (λ (v : StoreValue). v.noted) (same_value up);
+          unchanged = λ refused up. ((does.executes.unchanged refused up).0 ∙ same_value up, (does.executes.unchanged refused up).1);
+        }
+
+    pub counts_then : (tables : List TableInfo) (new : FullText S) (command : Command) (answer : Result RustReply Fault) → Does g (with_tables mid tables) command answer new → CountsRows g (with_tables mid tables) command (answer_of answer) new → CountsRows g (with_tables old tables) command (answer_of answer) new
+    counts_then tables new command answer does counts up first holds =
+        let same : value_in g mid ≡ value_in g old = looks_same g old mid tables pinged (does.executes.was_up up) in
+        counts_same (with_tables mid tables) (with_tables old tables) new it.unread first command (answer_of answer) (counts up first (subst (λ v. AreHeld v tables first) (sym same) holds))
+
+    pub value_mid : HasCleanDisk (shows g mid) → value_in g mid ≡ value_in g old
+    value_mid clean = looks_same g old mid [] pinged (up_mid [] clean)
+
+    pub looks_then : {X : Type 0} (new : StoreState S) (read : Result X StoreFault) (count : X → ℕ) → ReadsRows g mid new read count IsPlainFault → LooksAsked g old new read
+    looks_then new read count rows = record {
+      kept = λ clean. kept_then (shows g old) (shows g mid) (shows g new) (it.kept (clean_mid clean)) (rows.kept clean);
+      survives = survives_then (shows g old) (shows g mid) (shows g new) (λ _. ⊥) _ _ (λ clean db none. none) (λ clean db none. none (asked (clean_mid clean))) it.survives rows.survives;
+      live = rows.live;
+      cause = rows.causes;
+    }
+      where
+        clean_mid : HasCleanDisk (shows g new) → HasCleanDisk (shows g mid)
+        clean_mid clean = let c : doubt (shows g new).is_clean ≡ 0 = clean in omega (arith, c, rows.survives.clean)
+
+-- what a read leaves of full-text tables
+pub read_leaves : {S X : Type 0} (g : Ghosts S) (old new : StoreState S) (tables : List TableInfo) (read : Result X StoreFault) → LooksAsked g old new read → IsSettled g (with_tables old tables) → LeavesRead g (with_tables old tables) (is_ok read) (with_tables new tables)
+read_leaves {S} g old new tables read it settled = record {
+  live = λ clean done. ok_then read (it.live clean) done;
+  settled = λ up db may. subst (IsStored db) (sym (same up)) (settled (was_up up) db (only (it.survives.crash up.clean db may)));
+  survives = survives_as (shows g old) (shows g new) _ _ (λ clean db none. absurd none) it.survives;
+}
+  where
+    looks : Looks g old new
+    looks = record { kept = it.kept; survives = survives_as (shows g old) (shows g new) _ _ (λ clean db none is_open. none) it.survives }
+
+    same : IsUp g (with_tables new tables) → value_in g new ≡ value_in g old
+    same up = looks_same g old new tables looks up
+
+    was_up : IsUp g (with_tables new tables) → IsUp g (with_tables old tables)
+    was_up up = looks_up g old new tables tables looks up
+
+    only : {A : Type 0} → A ⊎ ⊥ → A
+    only (inl a) = a
+    only (inr none) = absurd none
+
+-- and that it only looks
+pub read_looks : {S X : Type 0} (g : Ghosts S) (old new : StoreState S) (tables : List TableInfo) (read : Result X StoreFault) → LooksAsked g old new read → OnlyLooks g (with_tables old tables) (with_tables new tables)
+read_looks g old new tables read it = record {
+  was_up = λ up. looks_up g old new tables tables looks up;
+  value = λ up. looks_same g old new tables looks up;
+  survives = looks.survives;
+  tables = refl;
+}
+  where
+    looks : Looks g old new
+    looks = record { kept = it.kept; survives = survives_as (shows g old) (shows g new) _ _ (λ clean db none is_open. none) it.survives }
