@@ -3,7 +3,7 @@
 The promise is the clauses of some functions; the modules of definitions that it reaches are those that these clauses name, and those that
 these import. Each of them has to stand in a row of the page, and each row `| name | file:line | .. |` has to name the line on which its file
 defines the name. A row may name a contract too, with its edit, which has to be there. The page says how many modules and lines there are. In
-the table of rules of docs/ARCHITECTURE.md and that of worked inputs of docs/PROOFS.md a file that is named has to be there, with the names
+the table of rules of docs/ARCHITECTURE.md and that of worked inputs of docs/TESTS.md a file that is named has to be there, with the names
 that stand behind it, and so have edits, and tests with the texts that stand behind them. The first line of each module of definitions says
 whether it is meaning, which some contract of the page reaches and a reader has to believe, or steps of proofs; the list of a crate's modules
 has the two apart. What is missing is said in one line each; with --mend the numbers of lines and modules, the first lines and the lists are
@@ -16,7 +16,7 @@ import sys
 ROOT = os.path.dirname(os.path.dirname(os.path.abspath(__file__)))
 PAGE = "docs/READING.md"
 # Tables of which each file, name, edit and test has to be there.
-TABLES = [("docs/ARCHITECTURE.md", "## Where a rule stands"), ("docs/PROOFS.md", "## Worked inputs")]
+TABLES = [("docs/ARCHITECTURE.md", "## Where a rule stands"), ("docs/TESTS.md", "## Worked inputs")]
 # Where the promise stands: a heading's word in the page, a file, and the functions in it whose clauses say it.
 PROMISES = [
     ("commands", "crates/ft_index/src/full_text.rt", ["kept_by_calls"]),

@@ -4,7 +4,8 @@ own     the crate's sources and edits, its line in crates.txt and the kit
 below   the sources and lines of the crates below it
 faces   what it can know of those: their texts without bodies, their definitions and lemmas, and what the kit made of them but for bodies
 
-The file has a part for each kit whose prover refused them, headed by the kit's own line: machines with other kits may take turns.
+Lines that are comments and no more count for none of them. The file has a part for each kit whose prover refused them, headed by the kit's own
+line: machines with other kits may take turns.
 """
 import functools
 import hashlib
@@ -18,6 +19,8 @@ import kit
 TRIED = "must-fail/tried.md"
 # The proofs of a function, and the modules made of its body, which no other function can name.
 PROOF = re.compile(r"(.*/)?proofs/.*/(Answers|Invariants|Proof)\.antt$")
+# Lines that are comments alone, by the end of a file's name.
+COMMENTS = {".rt": re.compile(rb"(?m)^[ \t]*//.*\n?"), ".antt": re.compile(rb"(?m)^[ \t]*--.*\n?")}
 OF_BODY = re.compile(r"(.+?)/(Code|Goals|Layout|Lts|Tie|Proof)(/|$)")
 
 
@@ -25,14 +28,18 @@ def digest(said):
     return hashlib.sha256(json.dumps(said).encode()).hexdigest()
 
 
+def said_in(file):
+    """Returns the bytes of a file without the lines that are comments."""
+    with open(file, "rb") as it:
+        text = it.read()
+    comments = COMMENTS.get(os.path.splitext(file)[1])
+    return comments.sub(b"", text) if comments else text
+
+
 def files_in(folder, *parts):
-    """Returns the path in the folder and the digest of each file of these parts of it."""
+    """Returns the path in the folder and the digest of each file of these parts of it, without its comments."""
     files = [os.path.join(at, name) for part in parts for at, _, names in os.walk(f"{folder}/{part}") for name in names]
-    found = []
-    for file in files:
-        with open(file, "rb") as it:
-            found.append((os.path.relpath(file, folder), hashlib.sha256(it.read()).hexdigest()))
-    return sorted(found)
+    return sorted((os.path.relpath(it, folder), hashlib.sha256(said_in(it)).hexdigest()) for it in files)
 
 
 @functools.lru_cache(maxsize=None)

@@ -36,7 +36,7 @@ pub record Outputs : Type 0 where
 
 -- those of the outputs of a run, whose writers hold what these functions read
 abbrev pub outputs_of : {O E : Type 0} → (O → Option (List ℕ)) → (E → Option (List ℕ)) → RustOutputs O E → Outputs
-outputs_of out_of err_of outputs = record { out = out_of outputs.out; err = err_of outputs.err }
+outputs_of out_of err_of outputs = record { out = out_of outputs.out.now; err = err_of outputs.err.now }
 
 -- a session between two inputs
 pub record Stage (P S : Type 0) : Type 0 where

@@ -3,7 +3,6 @@
 
 mod start;
 
-use ft_shell::Outputs;
 use sqlite::Unknown;
 use start::start;
 use std::env;
@@ -21,15 +20,15 @@ fn words_fault(kind: ErrorKind) -> &'static str {
 fn run(rt: &HostRuntime) -> io::Result<u8> {
     let texts: Vec<String> = env::args(rt)?.skip(1).collect(rt.alloc())?;
     let words: Vec<&str> = texts.iter().map(|text| text.as_str()).collect(rt.alloc())?;
-    let out = BufWriter::new(rt.alloc(), rt.stdout())?;
-    let mut outputs = Outputs::new(out, rt.stderr());
+    let mut out = BufWriter::new(rt.alloc(), rt.stdout())?;
     Ok(start(
         rt,
         words.as_slice(),
         Unknown,
         Unknown,
         &mut rt.stdin(),
-        &mut outputs,
+        &mut out,
+        &mut rt.stderr(),
     ))
 }
 

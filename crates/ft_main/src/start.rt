@@ -2,7 +2,7 @@
 
 ghost use Rattle.std.specs.Prelude.{◌≡◌, map, Some, string_bytes};
 ghost use Rattle.sqlite.specs.Files.{over_files};
-ghost use Rattle.plain_shell.specs.Writing.{AppendsUpTo, Sends};
+ghost use Rattle.plain_shell.specs.Writing.{AppendsUpTo, SameWriters, Sends};
 ghost use Rattle.ft_files.specs.declared.databases.OpenFault.TheVariants as opening;
 ghost use Rattle.ft_main.specs.Closed.{AreClosed, IsLeft, IsStoreLeft};
 ghost use Rattle.ft_main.specs.InFiles.{RunsInFiles};
@@ -38,23 +38,27 @@ pub fn start<A: Start, B: Start, R: Read, O: Write, E: Write>(
     tables: A,
     texts: B,
     input: &mut R,
-    outputs: &mut Outputs<O, E>,
+    out: &mut O,
+    err: &mut E,
 ) -> u8
-    ensures { Starts A.row B.row A.Start B.Start (map (λ word. word.now) words.now) (R.remaining input.old)
-        (outputs_of O.contents E.contents outputs.old)
-        (outputs_of O.contents E.contents outputs.new) result }
+    ensures { Starts A.row B.row A.Start B.Start
+        (map (λ word. word.now) words.now) (R.remaining input.old)
+        (record { out = O.contents out.old; err = E.contents err.old })
+        (record { out = O.contents out.new; err = E.contents err.new }) result }
 {
+    let mut outputs = Outputs::new(out, err);
     match read_line(rt.alloc(), words) {
-        Ok(line) => run_line(rt, line, tables, texts, input, outputs),
-        Err(fault) => refuse_line(&fault, outputs),
+        Ok(line) => run_line(rt, line, tables, texts, input, &mut outputs),
+        Err(fault) => refuse_line(&fault, &mut outputs),
     }
 }
 
 // Tells why the words say nothing; the help goes to the output.
-fn refuse_line<O: Write, E: Write>(fault: &LineFault, outputs: &mut Outputs<O, E>) -> u8
-    ensures { RefusesLine fault.now
+fn refuse_line<O: Write, E: Write>(fault: &LineFault, outputs: &mut Outputs<'_, O, E>) -> u8
+    ensures runs { RefusesLine fault.now
         (outputs_of O.contents E.contents outputs.old)
         (outputs_of O.contents E.contents outputs.new) result }
+    ensures writers { SameWriters outputs.old outputs.new }
 {
     match fault {
         LineFault::Words(help) if !help.use_stderr() => {
@@ -80,11 +84,12 @@ fn run_line<A: Start, B: Start, R: Read, O: Write, E: Write>(
     tables: A,
     texts: B,
     input: &mut R,
-    outputs: &mut Outputs<O, E>,
+    outputs: &mut Outputs<'_, O, E>,
 ) -> u8
-    ensures { RunsLine A.row B.row A.Start B.Start line (R.remaining input.old)
+    ensures runs { RunsLine A.row B.row A.Start B.Start line (R.remaining input.old)
         (outputs_of O.contents E.contents outputs.old)
         (outputs_of O.contents E.contents outputs.new) result }
+    ensures writers { SameWriters outputs.old outputs.new }
 {
     let Line {
         settings,
@@ -112,11 +117,12 @@ fn in_memory<R: Read, O: Write, E: Write>(
     settings: Settings,
     inputs: &[String],
     input: &mut R,
-    outputs: &mut Outputs<O, E>,
+    outputs: &mut Outputs<'_, O, E>,
 ) -> u8
-    ensures { RunsInMemory settings (due (map string_bytes inputs.now) (R.remaining input.old))
+    ensures runs { RunsInMemory settings (due (map string_bytes inputs.now) (R.remaining input.old))
         (outputs_of O.contents E.contents outputs.old)
         (outputs_of O.contents E.contents outputs.new) result }
+    ensures writers { SameWriters outputs.old outputs.new }
 {
     on_databases(rt, open_in_memory(rt), settings, inputs, input, outputs)
 }
@@ -130,12 +136,13 @@ fn in_files<A: Start, B: Start, R: Read, O: Write, E: Write>(
     settings: Settings,
     inputs: &[String],
     input: &mut R,
-    outputs: &mut Outputs<O, E>,
+    outputs: &mut Outputs<'_, O, E>,
 ) -> u8
-    ensures { RunsInFiles A.row B.row A.Start B.Start settings
+    ensures runs { RunsInFiles A.row B.row A.Start B.Start settings
         (due (map string_bytes inputs.now) (R.remaining input.old))
         (outputs_of O.contents E.contents outputs.old)
         (outputs_of O.contents E.contents outputs.new) result }
+    ensures writers { SameWriters outputs.old outputs.new }
 {
     on_databases(
         rt,
@@ -154,16 +161,17 @@ fn on_databases<D: Disk + Drop, F: Disk + Drop, R: Read, O: Write, E: Write>(
     settings: Settings,
     inputs: &[String],
     input: &mut R,
-    outputs: &mut Outputs<O, E>,
+    outputs: &mut Outputs<'_, O, E>,
 ) -> u8
-    ensures { RunsOn over_files over_files AreClosed settings opened
+    ensures runs { RunsOn over_files over_files AreClosed settings opened
         (due (map string_bytes inputs.now) (R.remaining input.old))
         (outputs_of O.contents E.contents outputs.old)
         (outputs_of O.contents E.contents outputs.new) result }
+    ensures writers { SameWriters outputs.old outputs.new }
 {
     match opened {
         Ok((plain, store)) => over(rt, plain, store, settings, inputs, input, outputs),
-        Err(fault) => tell(&mut outputs.err, fault),
+        Err(fault) => tell(outputs.err, fault),
     }
 }
 
@@ -175,15 +183,16 @@ fn over<D: Disk + Drop, F: Disk + Drop, R: Read, O: Write, E: Write>(
     settings: Settings,
     inputs: &[String],
     input: &mut R,
-    outputs: &mut Outputs<O, E>,
+    outputs: &mut Outputs<'_, O, E>,
 ) -> u8
-    ensures { OpensAndRuns over_files over_files AreClosed settings plain store
+    ensures runs { OpensAndRuns over_files over_files AreClosed settings plain store
         (due (map string_bytes inputs.now) (R.remaining input.old))
         (outputs_of O.contents E.contents outputs.old)
         (outputs_of O.contents E.contents outputs.new) result }
+    ensures writers { SameWriters outputs.old outputs.new }
 {
     let Ok(full_text) = FullText::new(rt.alloc(), store) else {
-        return tell(&mut outputs.err, OpenFault::Store);
+        return tell(outputs.err, OpenFault::Store);
     };
     full_text.is_settled();
     let mut session = session_over(rt.alloc(), plain, full_text, settings);
@@ -192,7 +201,7 @@ fn over<D: Disk + Drop, F: Disk + Drop, R: Read, O: Write, E: Write>(
     let (tables, texts) = close(session);
     let_go(tables);
     let_go(texts);
-    status_of(ended, &mut outputs.err)
+    status_of(ended, outputs.err)
 }
 
 // A session over a plain database in files. Here, too, one of the two stores is named at a time.
@@ -313,12 +322,13 @@ fn run_all_on<S: Alter, D: Disk + Drop, R: Read, O: Write, E: Write>(
     inputs: &[String],
     input: &mut R,
     files: &mut SystemFiles<'_>,
-    outputs: &mut Outputs<O, E>,
+    outputs: &mut Outputs<'_, O, E>,
 ) -> Result<Status, RunFault>
-    ensures { RunsAndKeeps over_files S.Store
+    ensures runs { RunsAndKeeps over_files S.Store
         (due (map string_bytes inputs.now) (R.remaining input.old)) result
         (stage_of O.contents E.contents session.old outputs.old)
         (stage_of O.contents E.contents session.new outputs.new) }
+    ensures writers { SameWriters outputs.old outputs.new }
 {
     run_all(session, inputs, input, files, outputs)
 }
@@ -329,16 +339,17 @@ fn run_all<P: Alter, S: Alter, R: Read, O: Write, E: Write>(
     inputs: &[String],
     input: &mut R,
     files: &mut SystemFiles<'_>,
-    outputs: &mut Outputs<O, E>,
+    outputs: &mut Outputs<'_, O, E>,
 ) -> Result<Status, RunFault>
-    ensures { RunsAndKeeps P.Store S.Store (due (map string_bytes inputs.now)
+    ensures runs { RunsAndKeeps P.Store S.Store (due (map string_bytes inputs.now)
         (R.remaining input.old)) result
         (stage_of O.contents E.contents session.old outputs.old)
         (stage_of O.contents E.contents session.new outputs.new) }
+    ensures writers { SameWriters outputs.old outputs.new }
 {
     Session::<P, S>::kept_by_runs();
     if inputs.is_empty() {
-        session.run(input, files, outputs)
+        session.run(input, outputs.out, outputs.err, files)
     } else {
         run_texts(session, inputs, files, outputs)
     }
@@ -349,16 +360,17 @@ fn run_texts<P: Alter, S: Alter, O: Write, E: Write>(
     session: &mut Session<P, S>,
     inputs: &[String],
     files: &mut SystemFiles<'_>,
-    outputs: &mut Outputs<O, E>,
+    outputs: &mut Outputs<'_, O, E>,
 ) -> Result<Status, RunFault>
-    ensures { RunsInTurn P.Store S.Store (map Some (map string_bytes inputs.now)) result
+    ensures runs { RunsInTurn P.Store S.Store (map Some (map string_bytes inputs.now)) result
         (stage_of O.contents E.contents session.old outputs.old)
         (stage_of O.contents E.contents session.new outputs.new) }
+    ensures writers { SameWriters outputs.old outputs.new }
 {
     let mut faults: u64 = 0;
     for text in inputs {
         let mut bytes = text.as_bytes();
-        let status = session.run(&mut bytes, files, outputs)?;
+        let status = session.run(&mut bytes, outputs.out, outputs.err, files)?;
         faults = faults.saturating_add(status.faults);
         if status.quit {
             return Ok(Status { faults, quit: true });

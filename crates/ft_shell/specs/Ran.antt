@@ -23,7 +23,7 @@ pub record Moment (P S : Type 0) : Type 0 where
 
 -- such a moment, of a shell and the outputs of its run, whose writers hold what these functions read
 abbrev pub moment : {P S O E : Type 0} → (O → Option (List ℕ)) → (E → Option (List ℕ)) → Shell P S → Outputs O E → Moment P S
-moment out_of err_of shell outputs = record { shell = shell; status = outputs.status; out = out_of outputs.out; err = err_of outputs.err }
+moment out_of err_of shell outputs = record { shell = shell; status = outputs.status; out = out_of outputs.out.now; err = err_of outputs.err.now }
 
 -- no unit waits where the session goes on
 abbrev pub NoneWaits : Status → Fed → Type 0

@@ -9,6 +9,7 @@ ghost use Rattle.ft_shell.specs.Promise.{IsAny, IsClean, KeptByRuns, RanAndKept}
 ghost use Rattle.ft_index.specs.Crashes.{IsSettled};
 ghost use Rattle.ft_shell.specs.Shell.{lent};
 ghost use Rattle.plain_shell.specs.Sources.{Files};
+ghost use Rattle.plain_shell.specs.Writing.{SameWriters};
 
 use crate::unit_turn::unit_turn;
 use ft_index::FullText;
@@ -95,19 +96,20 @@ impl<P: Alter, S: Alter> Session<P, S> {
     pub fn run<R: Read, O: Write, E: Write, F: Source>(
         &mut self,
         reader: &mut R,
+        out: &mut O,
+        err: &mut E,
         source: &mut F,
-        outputs: &mut Outputs<O, E>,
     ) -> Result<Status, RunFault>
         ensures ran { RanAndKept P.Store S.Store result
             (console_of (lent self.old (F.holds source.old)) (R.remaining reader.old)
-            (O.contents outputs.old.out) (E.contents outputs.old.err))
+            (O.contents out.old) (E.contents err.old))
             (console_of (lent self.new (F.holds source.new)) (R.remaining reader.new)
-            (O.contents outputs.new.out) (E.contents outputs.new.err)) }
+            (O.contents out.new) (E.contents err.new)) }
         ensures source { (name : List ℕ) → F.holds source.new name ≡ F.holds source.old name }
     {
         Session::<P, S>::kept_by_runs();
         self.is_settled();
-        self.run_pieces(reader, source, outputs)
+        self.run_pieces(reader, source, &mut Outputs::new(out, err))
     }
 
     /// After any runs, however each ended, each full-text table's content is that of the accepted commands, and the index
@@ -130,13 +132,14 @@ impl<P: Alter, S: Alter> Session<P, S> {
         &mut self,
         reader: &mut R,
         source: &mut F,
-        outputs: &mut Outputs<O, E>,
+        outputs: &mut Outputs<'_, O, E>,
     ) -> Result<Status, RunFault>
-        ensures { Ends P.Store S.Store result
+        ensures runs { Ends P.Store S.Store result
             (console_of (lent self.old (F.holds source.old)) (R.remaining reader.old)
-            (O.contents outputs.old.out) (E.contents outputs.old.err))
+            (O.contents outputs.old.out.now) (E.contents outputs.old.err.now))
             (console_of (lent self.new (F.holds source.new)) (R.remaining reader.new)
-            (O.contents outputs.new.out) (E.contents outputs.new.err)) }
+            (O.contents outputs.new.out.now) (E.contents outputs.new.err.now)) }
+        ensures writers { SameWriters outputs.old outputs.new }
     {
         blocks_read_whole();
         let mut feed = Feed::new(self.alloc)?;
@@ -147,12 +150,12 @@ impl<P: Alter, S: Alter> Session<P, S> {
         };
         let mut total: usize = 0;
         while total <= MOST_INPUT {
-            flush(&mut outputs.out)?;
+            flush(outputs.out)?;
             let bytes = read_chunk(reader, chunk.as_mut_slice())?;
             let read = bytes.len();
             self.take_read(&mut feed, bytes, MOST_INPUT - total, source, outputs)?;
             if is_over(read, outputs.status) {
-                flush(&mut outputs.out)?;
+                flush(outputs.out)?;
                 return Ok(outputs.status);
             }
             total += read;
@@ -168,7 +171,7 @@ impl<P: Alter, S: Alter> Session<P, S> {
         read: &[u8],
         room: usize,
         source: &mut F,
-        outputs: &mut Outputs<O, E>,
+        outputs: &mut Outputs<'_, O, E>,
     ) -> Result<(), RunFault>
         requires goes { GoesOn outputs.old.status feed.old }
         ensures takes { TakesRead P.Store S.Store result room read.now feed.old feed.new
@@ -176,6 +179,7 @@ impl<P: Alter, S: Alter> Session<P, S> {
             (moment O.contents E.contents (lent self.new (F.holds source.new)) outputs.new) }
         ensures waiting { OnOk result (0 < length read.now
             → NoneWaits outputs.new.status feed.new) }
+        ensures writers { SameWriters outputs.old outputs.new }
     {
         if read.is_empty() {
             return self.finish(feed, source, outputs);
@@ -190,7 +194,7 @@ impl<P: Alter, S: Alter> Session<P, S> {
         feed: &mut Feed,
         bytes: &[u8],
         source: &mut F,
-        outputs: &mut Outputs<O, E>,
+        outputs: &mut Outputs<'_, O, E>,
     ) -> Result<(), RunFault>
         requires waiting { NoneWaits outputs.old.status feed.old }
         ensures runs { Runs P.Store S.Store result
@@ -199,6 +203,7 @@ impl<P: Alter, S: Alter> Session<P, S> {
             (moment O.contents E.contents (lent self.old (F.holds source.old)) outputs.old)
             (moment O.contents E.contents (lent self.new (F.holds source.new)) outputs.new) }
         ensures waiting { OnOk result (NoneWaits outputs.new.status feed.new) }
+        ensures writers { SameWriters outputs.old outputs.new }
     {
         for byte in bytes {
             if outputs.status.quit {
@@ -214,7 +219,7 @@ impl<P: Alter, S: Alter> Session<P, S> {
         feed: &mut Feed,
         byte: u8,
         source: &mut F,
-        outputs: &mut Outputs<O, E>,
+        outputs: &mut Outputs<'_, O, E>,
     ) -> Result<(), RunFault>
         requires goes { GoesOn outputs.old.status feed.old }
         ensures runs { Runs P.Store S.Store result
@@ -223,6 +228,7 @@ impl<P: Alter, S: Alter> Session<P, S> {
             (moment O.contents E.contents (lent self.old (F.holds source.old)) outputs.old)
             (moment O.contents E.contents (lent self.new (F.holds source.new)) outputs.new) }
         ensures waiting { OnOk result (NoneWaits outputs.new.status feed.new) }
+        ensures writers { SameWriters outputs.old outputs.new }
     {
         if byte == b'\n' {
             return self.end_line(feed, source, outputs);
@@ -236,7 +242,7 @@ impl<P: Alter, S: Alter> Session<P, S> {
         &mut self,
         feed: &mut Feed,
         source: &mut F,
-        outputs: &mut Outputs<O, E>,
+        outputs: &mut Outputs<'_, O, E>,
     ) -> Result<(), RunFault>
         requires goes { GoesOn outputs.old.status feed.old }
         ensures runs { Runs P.Store S.Store result
@@ -246,6 +252,7 @@ impl<P: Alter, S: Alter> Session<P, S> {
             (moment O.contents E.contents (lent self.new (F.holds source.new)) outputs.new) }
         ensures waiting { OnOk result (NoneWaits outputs.new.status feed.new) }
         ensures line { OnOk result (feed.new.line ≡ []) }
+        ensures writers { SameWriters outputs.old outputs.new }
     {
         let refused = feed.end_line()?;
         self.refuse_some(&refused, outputs)?;
@@ -260,7 +267,7 @@ impl<P: Alter, S: Alter> Session<P, S> {
         &mut self,
         feed: &mut Feed,
         source: &mut F,
-        outputs: &mut Outputs<O, E>,
+        outputs: &mut Outputs<'_, O, E>,
     ) -> Result<(), RunFault>
         ensures runs { Runs P.Store S.Store result (λ (rest : List ℕ). members_left feed.old rest)
             (λ (rest : List ℕ). members_left feed.new rest)
@@ -268,6 +275,7 @@ impl<P: Alter, S: Alter> Session<P, S> {
             (moment O.contents E.contents (lent self.new (F.holds source.new)) outputs.new) }
         ensures waiting { OnOk result (NoneWaits outputs.new.status feed.new) }
         ensures line { feed.new.line ≡ feed.old.line }
+        ensures writers { SameWriters outputs.old outputs.new }
     {
         while !outputs.status.quit {
             let Some(unit) = feed.next() else {
@@ -282,14 +290,15 @@ impl<P: Alter, S: Alter> Session<P, S> {
         &mut self,
         unit: &Unit,
         source: &mut F,
-        outputs: &mut Outputs<O, E>,
+        outputs: &mut Outputs<'_, O, E>,
     ) -> Result<(), RunFault>
-        ensures { Runs P.Store S.Store result
+        ensures runs { Runs P.Store S.Store result
             (λ (rest : List Member). member_of_unit unit.now ∷ rest) (λ (rest : List Member). rest)
             (moment O.contents E.contents (lent self.old (F.holds source.old)) outputs.old)
             (moment O.contents E.contents (lent self.new (F.holds source.new)) outputs.new) }
+        ensures writers { SameWriters outputs.old outputs.new }
     {
-        echo_text(self.settings.echo(), unit.text.as_str(), &mut outputs.out)?;
+        echo_text(self.settings.echo(), unit.text.as_str(), outputs.out)?;
         let told = unit_turn(
             self.alloc,
             &mut self.settings,
@@ -305,13 +314,14 @@ impl<P: Alter, S: Alter> Session<P, S> {
     fn refuse<O: Write, E: Write>(
         &mut self,
         refusal: &Refusal,
-        outputs: &mut Outputs<O, E>,
+        outputs: &mut Outputs<'_, O, E>,
     ) -> Result<(), RunFault>
-        ensures { (holds : Files)
+        ensures runs { (holds : Files)
             → Runs P.Store S.Store result (λ (rest : List Member).
             Fault refusal.now.line refusal.now.fault ∷ rest) (λ (rest : List Member). rest)
             (moment O.contents E.contents (lent self.old holds) outputs.old)
             (moment O.contents E.contents (lent self.new holds) outputs.new) }
+        ensures writers { SameWriters outputs.old outputs.new }
     {
         let text = split_text(&refusal.fault);
         let told = Told::blames(self.alloc, &self.settings, refusal.line, text);
@@ -321,13 +331,14 @@ impl<P: Alter, S: Alter> Session<P, S> {
     fn refuse_some<O: Write, E: Write>(
         &mut self,
         refused: &Option<Refusal>,
-        outputs: &mut Outputs<O, E>,
+        outputs: &mut Outputs<'_, O, E>,
     ) -> Result<(), RunFault>
-        ensures { (holds : Files)
+        ensures runs { (holds : Files)
             → Runs P.Store S.Store result (λ (rest : List Member). refused_as refused.now ++ rest)
             (λ (rest : List Member). rest)
             (moment O.contents E.contents (lent self.old holds) outputs.old)
             (moment O.contents E.contents (lent self.new holds) outputs.new) }
+        ensures writers { SameWriters outputs.old outputs.new }
     {
         match refused {
             Some(refusal) => self.refuse(refusal, outputs),
@@ -340,7 +351,7 @@ impl<P: Alter, S: Alter> Session<P, S> {
         &mut self,
         feed: &mut Feed,
         source: &mut F,
-        outputs: &mut Outputs<O, E>,
+        outputs: &mut Outputs<'_, O, E>,
     ) -> Result<(), RunFault>
         requires goes { GoesOn outputs.old.status feed.old }
         ensures runs { Runs P.Store S.Store result (λ (_ : ⊤). members_left feed.old [])
@@ -349,6 +360,7 @@ impl<P: Alter, S: Alter> Session<P, S> {
             (moment O.contents E.contents (lent self.new (F.holds source.new)) outputs.new) }
         ensures waiting { OnOk result (NoneWaits outputs.new.status feed.new) }
         ensures line { OnOk result (feed.new.line ≡ []) }
+        ensures writers { SameWriters outputs.old outputs.new }
     {
         if feed.is_between_lines() {
             return Ok(());
@@ -361,13 +373,14 @@ impl<P: Alter, S: Alter> Session<P, S> {
         &mut self,
         feed: &mut Feed,
         source: &mut F,
-        outputs: &mut Outputs<O, E>,
+        outputs: &mut Outputs<'_, O, E>,
     ) -> Result<(), RunFault>
         requires goes { GoesOn outputs.old.status feed.old }
-        ensures { Runs P.Store S.Store result (λ (_ : ⊤). members_left feed.old [])
+        ensures runs { Runs P.Store S.Store result (λ (_ : ⊤). members_left feed.old [])
             (λ (_ : ⊤). [])
             (moment O.contents E.contents (lent self.old (F.holds source.old)) outputs.old)
             (moment O.contents E.contents (lent self.new (F.holds source.new)) outputs.new) }
+        ensures writers { SameWriters outputs.old outputs.new }
     {
         self.finish_line(feed, source, outputs)?;
         if outputs.status.quit {
@@ -381,14 +394,15 @@ impl<P: Alter, S: Alter> Session<P, S> {
         &mut self,
         feed: &mut Feed,
         source: &mut F,
-        outputs: &mut Outputs<O, E>,
+        outputs: &mut Outputs<'_, O, E>,
     ) -> Result<(), RunFault>
         requires waiting { feed.old.splitting.waiting ≡ [] }
         requires between { feed.old.line ≡ [] }
-        ensures { Runs P.Store S.Store result (λ (_ : ⊤). members_left feed.old [])
+        ensures runs { Runs P.Store S.Store result (λ (_ : ⊤). members_left feed.old [])
             (λ (_ : ⊤). [])
             (moment O.contents E.contents (lent self.old (F.holds source.old)) outputs.old)
             (moment O.contents E.contents (lent self.new (F.holds source.new)) outputs.new) }
+        ensures writers { SameWriters outputs.old outputs.new }
     {
         match feed.finish() {
             Ok(Some(unit)) => self.run_unit(&unit, source, outputs),

@@ -4,7 +4,8 @@ use Rattle.std.proofs.lemmas.List.{take-append-drop}
 use Rattle.std.specs.Prelude.{IsErrAnd}
 use Rattle.std.specs.Io.KnownBytes.{Appends, Keeps}
 use Rattle.shell_text.specs.Print.{AppendsFront}
-use Rattle.plain_shell.specs.Writing.{AppendsUpTo, Sends}
+use Rattle.plain_shell.specs.declared.run.Outputs.{Outputs}
+use Rattle.plain_shell.specs.Writing.{AppendsUpTo, SameWriters, Sends}
 
 pub appends_then : (a b c : Option (List ℕ)) (x y : List ℕ) → Appends a b x → Appends b c y → Appends a c (x ++ y)
 appends_then None b c x y h k = tt
@@ -49,3 +50,8 @@ sends_then (Err e) a b c x y first then = up_to_then a b c x y first then
 pub sends_err : {T E : Type 0} (Q : E → Type 0) (r : Result T E) (a b : Option (List ℕ)) (x : List ℕ) → IsErrAnd r Q → AppendsUpTo a b x → Sends r a b x
 sends_err Q (Ok t) a b x is front = absurd is
 sends_err Q (Err e) a b x is front = front
+
+-- ---- the writers that a run is lent
+
+pub same_then : {O E : Type 0} {a b c : Outputs O E} → SameWriters a b → SameWriters b c → SameWriters a c
+same_then h k = (k.0 ∙ h.0, k.1 ∙ h.1)

@@ -4,7 +4,7 @@ ghost use Rattle.std.specs.Io.KnownBytes.{Consumes, IsAtEnd, Keeps};
 ghost use Rattle.plain_shell.specs.declared.run.RunFault.TheVariants.{Memory, Write};
 ghost use Rattle.plain_shell.specs.Told as forms;
 ghost use Rattle.plain_shell.specs.ToldViews.{told_as};
-ghost use Rattle.plain_shell.specs.Writing.{Sends, Writes};
+ghost use Rattle.plain_shell.specs.Writing.{SameWriters, Sends, Writes};
 
 use crate::told::Told;
 use crate::written::{Refused, write_echo, write_told};
@@ -21,19 +21,20 @@ pub struct Status {
     pub quit: bool,
 }
 
-/// The two outputs of a run, with its status so far.
+/// The two writers that a run is lent, with its status so far.
 #[derive(Drop)]
-pub struct Outputs<O, E> {
+pub struct Outputs<'w, O, E> {
     pub status: Status,
-    pub out: O,
-    pub err: E,
+    pub out: &'w mut O,
+    pub err: &'w mut E,
 }
 
-impl<O, E> Outputs<O, E> {
+impl<'w, O, E> Outputs<'w, O, E> {
     /// Outputs before a run.
-    pub fn new(out: O, err: E) -> Outputs<O, E>
-        ensures { result
-            ≡ record { status = record { faults = 0; quit = false }; out = out; err = err } }
+    pub fn new(out: &'w mut O, err: &'w mut E) -> Outputs<'w, O, E>
+        ensures status { result.status ≡ record { faults = 0; quit = false } }
+        ensures out { result.out ≡ out.entry }
+        ensures err { result.err ≡ err.entry }
     {
         Outputs {
             status: Status {
@@ -106,10 +107,15 @@ fn faults_with(faults: u64, told: &Told) -> u64
 }
 
 /// Writes what a turn tells, and counts its fault line.
-pub fn tell<O: Write, E: Write>(told: &Told, outputs: &mut Outputs<O, E>) -> Result<(), RunFault>
-    ensures { Writes O.contents E.contents result outputs.old outputs.new (told_as told.now) }
+pub fn tell<O: Write, E: Write>(
+    told: &Told,
+    outputs: &mut Outputs<'_, O, E>,
+) -> Result<(), RunFault>
+    ensures writes { Writes O.contents E.contents result outputs.old outputs.new
+        (told_as told.now) }
+    ensures writers { SameWriters outputs.old outputs.new }
 {
-    write_told(told, &mut outputs.out, &mut outputs.err)?;
+    write_told(told, outputs.out, outputs.err)?;
     let status = outputs.status;
     outputs.status = Status {
         faults: faults_with(status.faults, told),

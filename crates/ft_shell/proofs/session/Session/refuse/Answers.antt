@@ -11,15 +11,15 @@ use Rattle.plain_shell.proofs.WriteLemmas.{appends_same}
 use Rattle.ft_shell.proofs.RanLemmas.{runs_turn}
 use Rattle.ft_shell.proofs.session.Session.refuse.Goals as goal
 
-pub returns : goal.returns
-returns g c = λ holds.
+pub returns-clause-runs : goal.returns-clause-runs
+returns-clause-runs g c = λ holds.
     let parts : Parts g.row.P.Denot g.row.S.Denot = record { settings = c.self.inside.settings; plain = c.self.inside.plain; full_text = c.self.inside.full_text } in
     let old : Shell g.row.P.Denot g.row.S.Denot = lent parts holds in
     let told = told_as c.blames-told.result in
     let due : told ≡ blames old.settings c.args.refusal.now.line (split_text c.args.refusal.now.fault) = c.blames-told.ensures ∙ ap (blames c.self.inside.settings c.args.refusal.now.line) c.split_text-text.ensures in
-    let a = g.O.Write.contents c.args.outputs.now.out in
-    let e = g.E.Write.contents c.args.outputs.now.err in
+    let a = g.O.Write.contents c.args.outputs.now.out.now in
+    let e = g.E.Write.contents c.args.outputs.now.err.now in
     subst (λ s. Runs g.P.Store g.S.Store c.tell.result (λ (rest : List Member). Fault c.args.refusal.now.line c.args.refusal.now.fault ∷ rest) (λ rest. rest) (moment g.O.Write.contents g.E.Write.contents (lent s holds) c.args.outputs.now) (moment g.O.Write.contents g.E.Write.contents (lent s holds) c.tell.new.outputs)) c.self.view_is
     (runs_turn g.P.Store g.S.Store c.tell.result (Fault c.args.refusal.now.line c.args.refusal.now.fault) (moment g.O.Write.contents g.E.Write.contents old c.args.outputs.now) (moment g.O.Write.contents g.E.Write.contents old c.tell.new.outputs) (deeds_of told []) a told.out
     (record { body = told; done = (refl, due); tells = refl; calls = refl })
-    refl (appends_same a) c.tell.ensures.out c.tell.ensures.err c.tell.ensures.fault c.tell.ensures.faults c.tell.ensures.quit)
+    refl (appends_same a) c.tell.ensures.writes.out c.tell.ensures.writes.err c.tell.ensures.writes.fault c.tell.ensures.writes.faults c.tell.ensures.writes.quit)

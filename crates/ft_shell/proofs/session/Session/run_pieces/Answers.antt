@@ -4,15 +4,16 @@ use Rattle.plain_shell.specs.declared.run.RunFault.TheVariants as causes
 use Rattle.plain_shell.specs.Feeds.{Fed}
 use Rattle.ft_shell.proofs.PieceLemmas.{chunk_kept, has_read, interrupted_taking, interrupted_unread}
 use Rattle.ft_shell.proofs.RunLemmas.{completes, ends_err, so_far_kept, so_far_more, so_far_none, some_or_none, stops_at_flush, stops_first, stops_in_piece, stops_too_much, stops_unflushed}
+use Rattle.plain_shell.proofs.WriteLemmas.{same_then}
 use Rattle.ft_shell.proofs.session.Session.run_pieces.Goals as goal
 
-pub returns-in_err-feed : goal.returns-in_err-feed
-returns-in_err-feed g c =
+pub returns-in_err-feed-clause-runs : goal.returns-in_err-feed-clause-runs
+returns-in_err-feed-clause-runs g c =
     let is : c.from_residual.result ≡ Err causes.Memory = search (rules, c.from_residual.ensures) in
     ends_err g.P.Store g.S.Store c.from_residual.result causes.Memory _ _ is (stops_first g.P.Store g.S.Store causes.Memory _ _ _ _ (λ much. absurd (let wrong = much in cc)))
 
-pub returns-in_err-chunk : goal.returns-in_err-chunk
-returns-in_err-chunk g c =
+pub returns-in_err-chunk-clause-runs : goal.returns-in_err-chunk-clause-runs
+returns-in_err-chunk-clause-runs g c =
     let is : c.from_residual-in_err-chunk.result ≡ Err causes.Memory = search (rules, c.from_residual-in_err-chunk.ensures) in
     ends_err g.P.Store g.S.Store c.from_residual-in_err-chunk.result causes.Memory _ _ is (stops_first g.P.Store g.S.Store causes.Memory _ _ _ _ (λ much. absurd (let wrong = much in cc)))
 
@@ -22,31 +23,32 @@ loop-total-init g c = record {
   size = omega (arith, c.in_ok-chunk.chunk.ok.0, c.in_ok-chunk.ensures.len);
   waits = ap (λ (f : Fed). f.splitting.waiting) c.in_ok-feed.ensures;
   goes = refl;
+  writers = (refl, refl);
 }
 
-pub returns-in_err-flush : goal.returns-in_err-flush
-returns-in_err-flush g c =
+pub returns-in_err-flush-clause-runs : goal.returns-in_err-flush-clause-runs
+returns-in_err-flush-clause-runs g c =
     let is : c.from_residual-in_err-flush.result ≡ Err c.in_err-flush.field-0.0 = search (rules, c.from_residual-in_err-flush.ensures) in
     let cause : c.in_err-flush.field-0.0 ≡ causes.Write = c.in_err-flush.ensures.fault in
     ends_err g.P.Store g.S.Store c.from_residual-in_err-flush.result c.in_err-flush.field-0.0 _ _ is
     (stops_unflushed g.P.Store g.S.Store c.in_err-flush.field-0.0 (2 ^ 30) c.loop-total.total _ _ _ _ _ _ _ _ refl c.loop-total.invariant.run c.flush.ensures.bytes cause)
 
-pub returns-in_err-bytes : goal.returns-in_err-bytes
-returns-in_err-bytes g c =
+pub returns-in_err-bytes-clause-runs : goal.returns-in_err-bytes-clause-runs
+returns-in_err-bytes-clause-runs g c =
     let is : c.from_residual-in_err-bytes.result ≡ Err c.in_err-bytes.field-0.0 = search (rules, c.from_residual-in_err-bytes.ensures) in
     ends_err g.P.Store g.S.Store c.from_residual-in_err-bytes.result c.in_err-bytes.field-0.0 _ _ is
     (stops_in_piece g.P.Store g.S.Store c.in_err-bytes.field-0.0 (2 ^ 30) c.loop-total.total _ _ _ _ _ _ _ _ _ _ refl (so_far_kept g.P.Store g.S.Store (2 ^ 30) c.loop-total.total _ _ _ _ _ _ c.loop-total.invariant.run c.flush.ensures.bytes) c.loop-total.invariant.goes c.loop-total-test.true refl
     (interrupted_unread g.P.Store g.S.Store c.in_err-bytes.field-0.0 _ _ _ _ _ c.in_err-bytes.ensures.fault c.in_err-bytes.ensures.kept))
 
-pub returns-in_err-take_read : goal.returns-in_err-take_read
-returns-in_err-take_read g c =
+pub returns-in_err-take_read-clause-runs : goal.returns-in_err-take_read-clause-runs
+returns-in_err-take_read-clause-runs g c =
     let is : c.from_residual-in_err-take_read.result ≡ Err c.in_err-take_read.field-0.0 = search (rules, c.from_residual-in_err-take_read.ensures) in
     ends_err g.P.Store g.S.Store c.from_residual-in_err-take_read.result c.in_err-take_read.field-0.0 _ _ is
     (stops_in_piece g.P.Store g.S.Store c.in_err-take_read.field-0.0 (2 ^ 30) c.loop-total.total _ _ _ _ _ _ _ _ _ _ refl (so_far_kept g.P.Store g.S.Store (2 ^ 30) c.loop-total.total _ _ _ _ _ _ c.loop-total.invariant.run c.flush.ensures.bytes) c.loop-total.invariant.goes c.loop-total-test.true refl
     (interrupted_taking g.P.Store g.S.Store {T = Unit {0}} c.in_err-take_read.field-0.0 _ c.in_ok-bytes.bytes.now _ _ _ _ _ _ c.in_ok-bytes.ensures.bytes (λ none. c.in_ok-bytes.ensures.end none (omega (arith, c.loop-total.invariant.size, c.loop-total.chunk.ok.0, c.as_mut_slice.ensures.len))) c.in_err-take_read.ensures.takes))
 
-pub returns-in_err-flush-2 : goal.returns-in_err-flush-2
-returns-in_err-flush-2 g c =
+pub returns-in_err-flush-2-clause-runs : goal.returns-in_err-flush-2-clause-runs
+returns-in_err-flush-2-clause-runs g c =
     let is : c.from_residual-in_err-flush-2.result ≡ Err c.in_err-flush-2.field-0.0 = search (rules, c.from_residual-in_err-flush-2.ensures) in
     let cause : c.in_err-flush-2.field-0.0 ≡ causes.Write = c.in_err-flush-2.ensures.fault in
     ends_err g.P.Store g.S.Store c.from_residual-in_err-flush-2.result c.in_err-flush-2.field-0.0 _ _ is
@@ -54,8 +56,8 @@ returns-in_err-flush-2 g c =
     (has_read g.P.Store g.S.Store tt _ _ c.in_ok-bytes.bytes.now _ _ _ _ _ _ c.in_ok-bytes.ensures.bytes refl (λ none. c.in_ok-bytes.ensures.end none (omega (arith, c.loop-total.invariant.size, c.loop-total.chunk.ok.0, c.as_mut_slice.ensures.len))) c.in_ok-take_read.ensures.takes)
     (some_or_none _) c.flush-then-is_over.ensures.bytes cause)
 
-pub returns-then-is_over : goal.returns-then-is_over
-returns-then-is_over g c =
+pub returns-then-is_over-clause-runs : goal.returns-then-is_over-clause-runs
+returns-then-is_over-clause-runs g c =
     completes g.P.Store g.S.Store (2 ^ 30) c.loop-total.total _ _ _ _ _ _ _ _ _ _ _ _ _ refl (so_far_kept g.P.Store g.S.Store (2 ^ 30) c.loop-total.total _ _ _ _ _ _ c.loop-total.invariant.run c.flush.ensures.bytes) c.loop-total.invariant.goes c.loop-total-test.true refl
     (has_read g.P.Store g.S.Store tt _ _ c.in_ok-bytes.bytes.now _ _ _ _ _ _ c.in_ok-bytes.ensures.bytes refl (λ none. c.in_ok-bytes.ensures.end none (omega (arith, c.loop-total.invariant.size, c.loop-total.chunk.ok.0, c.as_mut_slice.ensures.len))) c.in_ok-take_read.ensures.takes)
     (c.is_over.ensures.over c.if-is_over.true) c.flush-then-is_over.ensures.bytes c.is_over.ensures.fits
@@ -72,7 +74,8 @@ loop-total-preserved g c =
           chunk_kept c.loop-total.chunk.len _ c.loop-total.chunk.items full some;
       waits = c.in_ok-take_read.ensures.waiting goes.0 goes.1;
       goes = goes.1;
+      writers = same_then c.loop-total.invariant.writers c.in_ok-take_read.ensures.writers;
     }
 
-pub returns : goal.returns
-returns g c = ends_err g.P.Store g.S.Store _ causes.TooMuch _ _ refl (stops_too_much g.P.Store g.S.Store (2 ^ 30) c.loop-total.total _ _ _ _ _ _ _ refl c.loop-total.invariant.run c.loop-total-test.false)
+pub returns-clause-runs : goal.returns-clause-runs
+returns-clause-runs g c = ends_err g.P.Store g.S.Store _ causes.TooMuch _ _ refl (stops_too_much g.P.Store g.S.Store (2 ^ 30) c.loop-total.total _ _ _ _ _ _ _ refl c.loop-total.invariant.run c.loop-total-test.false)

@@ -13,11 +13,11 @@ use Rattle.ft_shell.specs.Ran.{Runs, moment}
 use Rattle.ft_shell.proofs.RanLemmas.{breaks_echo, runs_err, runs_turn, unit_echo, unit_turned}
 use Rattle.ft_shell.proofs.session.Session.run_unit.Goals as goal
 
-pub returns-in_err-echo_text : goal.returns-in_err-echo_text
-returns-in_err-echo_text g c =
-    let a = g.O.Write.contents c.args.outputs.now.out in
+pub returns-in_err-echo_text-clause-runs : goal.returns-in_err-echo_text-clause-runs
+returns-in_err-echo_text-clause-runs g c =
+    let a = g.O.Write.contents c.args.outputs.now.out.now in
     let b = g.O.Write.contents c.echo_text.new.out in
-    let e = g.E.Write.contents c.args.outputs.now.err in
+    let e = g.E.Write.contents c.args.outputs.now.err.now in
     let text = string_bytes c.args.unit.now.text in
     let held = g.F.Source.holds c.args.source.now in
     let old : Shell g.row.P.Denot g.row.S.Denot = record { settings = c.self.inside.settings; plain = c.self.inside.plain; full_text = c.self.inside.full_text; holds = held } in
@@ -26,17 +26,17 @@ returns-in_err-echo_text g c =
     let spoken : AppendsUpTo a b (echo_text c.echo.result text) = subst (λ t. AppendsUpTo a b (echo_text c.echo.result t)) c.as_str.ensures.value c.in_err-echo_text.ensures.out in
     let first : AppendsUpTo a b (echo_text old.settings.echo text) = subst (λ on. AppendsUpTo a b (echo_text on text)) c.echo.ensures spoken in
     let part : AppendsUpTo a b (echo_of old.settings unit) = subst (AppendsUpTo a b) (sym (unit_echo old.settings c.args.unit.now.kind c.args.unit.now.line text)) first in
-    subst (λ s. Runs g.P.Store g.S.Store c.from_residual.result (λ (rest : List Member). unit ∷ rest) (λ rest. rest) (moment g.O.Write.contents g.E.Write.contents (lent s held) c.args.outputs.now) (record { shell = lent s held; status = c.args.outputs.now.status; out = b; err = g.E.Write.contents c.args.outputs.now.err })) c.self.view_is
+    subst (λ s. Runs g.P.Store g.S.Store c.from_residual.result (λ (rest : List Member). unit ∷ rest) (λ rest. rest) (moment g.O.Write.contents g.E.Write.contents (lent s held) c.args.outputs.now) (record { shell = lent s held; status = c.args.outputs.now.status; out = b; err = g.E.Write.contents c.args.outputs.now.err.now })) c.self.view_is
     (runs_err g.P.Store g.S.Store c.from_residual.result c.in_err-echo_text.field-0.0 (λ (rest : List Member). unit ∷ rest) (λ rest. rest) _ _ is
     (breaks_echo g.P.Store g.S.Store c.in_err-echo_text.field-0.0 unit (moment g.O.Write.contents g.E.Write.contents old c.args.outputs.now) b part c.in_err-echo_text.ensures.fault, inl c.in_err-echo_text.ensures.fault))
 
-pub returns : goal.returns
-returns g c =
-    let a = g.O.Write.contents c.args.outputs.now.out in
+pub returns-clause-runs : goal.returns-clause-runs
+returns-clause-runs g c =
+    let a = g.O.Write.contents c.args.outputs.now.out.now in
     let b = g.O.Write.contents c.echo_text.new.out in
-    let d = g.O.Write.contents c.tell.new.outputs.out in
-    let e = g.E.Write.contents c.args.outputs.now.err in
-    let f = g.E.Write.contents c.tell.new.outputs.err in
+    let d = g.O.Write.contents c.tell.new.outputs.out.now in
+    let e = g.E.Write.contents c.args.outputs.now.err.now in
+    let f = g.E.Write.contents c.tell.new.outputs.err.now in
     let text = string_bytes c.args.unit.now.text in
     let held = g.F.Source.holds c.args.source.now in
     let old : Shell g.row.P.Denot g.row.S.Denot = record { settings = c.self.inside.settings; plain = c.self.inside.plain; full_text = c.self.inside.full_text; holds = held } in
@@ -49,4 +49,4 @@ returns g c =
     subst (λ s. Runs g.P.Store g.S.Store c.tell.result (λ (rest : List Member). member_of_unit c.args.unit.now ∷ rest) (λ rest. rest) (moment g.O.Write.contents g.E.Write.contents (lent s held) c.args.outputs.now) (moment g.O.Write.contents g.E.Write.contents new c.tell.new.outputs)) c.self.view_is
     (runs_turn g.P.Store g.S.Store c.tell.result (member_of_unit c.args.unit.now) (moment g.O.Write.contents g.E.Write.contents old c.args.outputs.now) (moment g.O.Write.contents g.E.Write.contents new c.tell.new.outputs) (deeds_of (echoed old.settings text body) calls) b body.out
     (unit_turned g.P.Store g.S.Store c.args.unit.now.kind c.args.unit.now.line text old new body c.unit_turn-told.ensures)
-    (ap (λ e. e ++ body.out) (sym spells)) (subst (Appends a b) (sym spells) first) c.tell.ensures.out c.tell.ensures.err c.tell.ensures.fault c.tell.ensures.faults c.tell.ensures.quit)
+    (ap (λ e. e ++ body.out) (sym spells)) (subst (Appends a b) (sym spells) first) c.tell.ensures.writes.out c.tell.ensures.writes.err c.tell.ensures.writes.fault c.tell.ensures.writes.faults c.tell.ensures.writes.quit)

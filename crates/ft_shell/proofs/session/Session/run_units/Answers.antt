@@ -4,12 +4,14 @@ use Rattle.shell_text.specs.Units.{Member}
 use Rattle.shell_text.specs.Splitting.{member_of_unit}
 use Rattle.plain_shell.specs.Feeds.{Fed, members_left}
 use Rattle.ft_shell.proofs.RanLemmas.{passes_as, passes_none, passes_then, runs_as, runs_err, runs_then}
+use Rattle.plain_shell.proofs.WriteLemmas.{same_then}
 use Rattle.ft_shell.proofs.session.Session.run_units.Goals as goal
 
 pub loop-outputs-init : goal.loop-outputs-init
 loop-outputs-init g c = record {
   run = passes_none g.P.Store g.S.Store _ _ _ (λ rest. refl);
   line = refl;
+  writers = (refl, refl);
 }
 
 pub returns-in_err-run_unit-clause-runs : goal.returns-in_err-run_unit-clause-runs
@@ -20,7 +22,7 @@ returns-in_err-run_unit-clause-runs g c =
     runs_err g.P.Store g.S.Store c.from_residual.result c.in_err-run_unit.field-0.0 _ _ _ _ is
     (runs_then {T = Unit {0}} g.P.Store g.S.Store (Err c.in_err-run_unit.field-0.0) _ _ (λ (rest : List ℕ). members_left c.next.new.self rest) _ _ _ c.loop-outputs.invariant.run goes
     (runs_as {T = Unit {0}} g.P.Store g.S.Store (Err c.in_err-run_unit.field-0.0) (λ (rest : List Member). unit ∷ rest) (λ (rest : List Member). rest) (λ (rest : List ℕ). members_left c.loop-outputs.feed rest) (λ rest. members_left c.next.new.self rest) (λ rest. members_left c.next.new.self rest) _ _
-    (λ rest. c.in-Some.ensures.some.0 rest) (λ rest goes. refl) c.in_err-run_unit.ensures))
+    (λ rest. c.in-Some.ensures.some.0 rest) (λ rest goes. refl) c.in_err-run_unit.ensures.runs))
 
 pub loop-outputs-preserved : goal.loop-outputs-preserved
 loop-outputs-preserved g c =
@@ -29,8 +31,9 @@ loop-outputs-preserved g c =
     record {
       run = passes_then g.P.Store g.S.Store _ _ _ _ _ _ c.loop-outputs.invariant.run goes
           (passes_as g.P.Store g.S.Store (λ (rest : List Member). unit ∷ rest) (λ (rest : List Member). rest) (λ (rest : List ℕ). members_left c.loop-outputs.feed rest) (λ rest. members_left c.next.new.self rest) (λ rest. members_left c.next.new.self rest) _ _
-          (λ rest. c.in-Some.ensures.some.0 rest) (λ rest goes. refl) c.in_ok-run_unit.ensures);
+          (λ rest. c.in-Some.ensures.some.0 rest) (λ rest goes. refl) c.in_ok-run_unit.ensures.runs);
       line = c.in-Some.ensures.some.2 ∙ c.loop-outputs.invariant.line;
+      writers = same_then c.loop-outputs.invariant.writers c.in_ok-run_unit.ensures.writers;
     }
 
 pub returns-in_default-clause-runs : goal.returns-in_default-clause-runs

@@ -3,12 +3,14 @@ use Rattle.std.proofs.Common.{rules, ◌≡◌, ◌∷◌, ◌++◌, ◌+◌, �
 use Rattle.std.proofs.lemmas.List.{drop_all, drop_more}
 use Rattle.plain_shell.specs.Feeds.{members_left}
 use Rattle.ft_shell.proofs.RanLemmas.{passes_as, passes_none, passes_then, runs_as, runs_err, runs_then}
+use Rattle.plain_shell.proofs.WriteLemmas.{same_then}
 use Rattle.ft_shell.proofs.session.Session.take.Goals as goal
 
 pub loop-byte-init : goal.loop-byte-init
 loop-byte-init g c = record {
   run = passes_none g.P.Store g.S.Store _ _ _ (λ rest. refl);
   waits = c.requires.waiting;
+  writers = (refl, refl);
 }
 
 pub returns-then-outputs-clause-runs : goal.returns-then-outputs-clause-runs
@@ -39,6 +41,7 @@ loop-byte-preserved g c =
           (passes_as g.P.Store g.S.Store (λ (rest : List ℕ). members_left c.loop-byte.feed (byte ∷ rest)) (λ (rest : List ℕ). members_left c.take_byte.new.feed rest) (λ (rest : List ℕ). members_left c.loop-byte.feed (drop i bytes ++ rest)) (λ (rest : List ℕ). members_left c.take_byte.new.feed (drop (i + 1) bytes ++ rest)) (λ rest. drop (i + 1) bytes ++ rest) _ _
           (λ rest. ap (λ xs. members_left c.loop-byte.feed (xs ++ rest)) (drop_more bytes i 0 c.loop-byte-test.true)) (λ rest goes. refl) c.in_ok-take_byte.ensures.runs);
       waits = c.in_ok-take_byte.ensures.waiting;
+      writers = same_then c.loop-byte.invariant.writers c.in_ok-take_byte.ensures.writers;
     }
 
 pub returns-clause-runs : goal.returns-clause-runs

@@ -6,7 +6,7 @@ use Rattle.ft_shell.proofs.session.Session.take_read.Goals as goal
 pub returns-then-is_empty-clause-takes : goal.returns-then-is_empty-clause-takes
 returns-then-is_empty-clause-takes g c =
     let none : length c.args.read.now ≡ 0 = search rules in
-    takes_none g.P.Store g.S.Store c.finish.result c.args.room c.args.read.now _ _ _ _ none c.finish.ensures
+    takes_none g.P.Store g.S.Store c.finish.result c.args.room c.args.read.now _ _ _ _ none c.finish.ensures.runs
 
 pub returns-clause-takes : goal.returns-clause-takes
 returns-clause-takes g c =
