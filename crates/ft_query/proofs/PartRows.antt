@@ -7,7 +7,8 @@ no_parts : parts_of (codes " ") ≡ []
 no_parts = refl
 
 all_white_space : parts_of (codes "a" ++ 9 ∷ codes "b" ++ 10 ∷ codes "c" ++ 11 ∷ codes "d" ++ 12 ∷ codes "e" ++ 13 ∷ codes "f g")
-    ≡ chunk_part (codes "a") ∷ chunk_part (codes "b") ∷ chunk_part (codes "c") ∷ chunk_part (codes "d") ∷ chunk_part (codes "e") ∷ chunk_part (codes "f") ∷ chunk_part (codes "g") ∷ []
+    ≡ chunk_part (codes "a") ∷ chunk_part (codes "b") ∷ chunk_part (codes "c") ∷ chunk_part (codes "d") ∷ chunk_part (codes "e") ∷ chunk_part
+    (codes "f") ∷ chunk_part (codes "g") ∷ []
 all_white_space = refl
 
 -- U+00A0 is no white space

@@ -114,7 +114,8 @@ left_inside text q start place before h e =
 
 left_ended : (text : List ℕ) (q : Bool) (start place : ℕ) → place < length text → ends_part q (mark_of (get_or text place 0)) ≡ true
     → parts_left text q start place
-    ≡ parts_ended (begun q (slice_range text start place)) (mark_of (get_or text place 0)) ++ parts_left text (not q && get_or text place 0 == 34) (place + 1) (place + 1)
+    ≡ parts_ended (begun q (slice_range text start place)) (mark_of (get_or text place 0)) ++ parts_left text (not q && get_or text place 0 == 34) (place + 1)
+    (place + 1)
 left_ended text q start place h e =
     let b = get_or text place 0 in
     let bytes = slice_range text start place in
