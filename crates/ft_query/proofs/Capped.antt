@@ -80,7 +80,9 @@ fars_capped (l ∷ ls) = ap (λ b. b || list_any is_far (map capped ls)) (far_ca
 
 depths_capped : (ls : List Lexeme) (n : ℕ × ℕ) → nests_deep n (map capped ls) ≡ nests_deep n ls
 depths_capped [] n = refl
-depths_capped (l ∷ ls) n = ap (λ m. nat_lt (n.1 + 32) n.0 || nests_deep m (map capped ls)) (depth_capped l n) ∙ ap (λ b. nat_lt (n.1 + 32) n.0 || b) (depths_capped ls (depth_after l n))
+depths_capped (l ∷ ls) n =
+    ap (λ m. nat_lt (n.1 + 32) n.0 || nests_deep m (map capped ls)) (depth_capped l n)
+    ∙ ap (λ b. nat_lt (n.1 + 32) n.0 || b) (depths_capped ls (depth_after l n))
 
 kept : (ls : List Lexeme) → list_any is_far ls ≡ false → map capped ls ≡ ls
 kept [] near = refl
@@ -105,7 +107,8 @@ is_long text = nat_lt 10000 (length text)
 abbrev is_broken : List ℕ → Bool
 is_broken text = list_any is_unclosed (parts_of text) || list_any (λ b. b == 0) text
 
-answer_by : (columns : List (List ℕ)) (default : Option ℕ) (text : List ℕ) (long broken much : Bool) → is_long text ≡ long → is_broken text ≡ broken → asks_much (lexemes_of columns text) ≡ much
+answer_by : (columns : List (List ℕ)) (default : Option ℕ) (text : List ℕ) (long broken much : Bool) → is_long text ≡ long → is_broken text ≡ broken
+    → asks_much (lexemes_of columns text) ≡ much
     → query_of columns default text ≡ query_unless (fault_by long broken much) default (lexemes_of columns text)
 unfolding query_of
 answer_by columns default text long broken much e f g =
@@ -114,20 +117,29 @@ answer_by columns default text long broken much e f g =
     ∙ ap (λ b. query_unless (fault_by long broken b) default (lexemes_of columns text)) g
 
 pub long_is_large : (columns : List (List ℕ)) (default : Option ℕ) (text : List ℕ) → 10000 < length text → query_of columns default text ≡ Err TooLarge
-long_is_large columns default text long = answer_by columns default text true (is_broken text) (asks_much (lexemes_of columns text)) (lt-ltb 10000 (length text) long) refl refl
+long_is_large columns default text long =
+    answer_by columns default text true (is_broken text) (asks_much (lexemes_of columns text)) (lt-ltb 10000 (length text) long) refl refl
 
-pub broken_is_malformed : (columns : List (List ℕ)) (default : Option ℕ) (text : List ℕ) → length text ≤ 10000 → is_broken text ≡ true → query_of columns default text ≡ Err Malformed
-broken_is_malformed columns default text short broken = answer_by columns default text false true (asks_much (lexemes_of columns text)) (le-ltb 10000 (length text) short) broken refl
+pub broken_is_malformed : (columns : List (List ℕ)) (default : Option ℕ) (text : List ℕ) → length text ≤ 10000 → is_broken text ≡ true
+    → query_of columns default text ≡ Err Malformed
+broken_is_malformed columns default text short broken =
+    answer_by columns default text false true (asks_much (lexemes_of columns text)) (le-ltb 10000 (length text) short) broken refl
 
-pub zero_is_malformed : (columns : List (List ℕ)) (default : Option ℕ) (text : List ℕ) → length text ≤ 10000 → list_any (λ b. b == 0) text ≡ true → query_of columns default text ≡ Err Malformed
-zero_is_malformed columns default text short zero = broken_is_malformed columns default text short (or_right (list_any is_unclosed (parts_of text)) (list_any (λ b. b == 0) text) zero)
+pub zero_is_malformed : (columns : List (List ℕ)) (default : Option ℕ) (text : List ℕ) → length text ≤ 10000 → list_any (λ b. b == 0) text ≡ true
+    → query_of columns default text ≡ Err Malformed
+zero_is_malformed columns default text short zero =
+    broken_is_malformed columns default text short (or_right (list_any is_unclosed (parts_of text)) (list_any (λ b. b == 0) text) zero)
 
-pub open_is_malformed : (columns : List (List ℕ)) (default : Option ℕ) (text : List ℕ) → length text ≤ 10000 → list_any is_unclosed (parts_of text) ≡ true → query_of columns default text ≡ Err Malformed
-open_is_malformed columns default text short unclosed = broken_is_malformed columns default text short (or_left (list_any is_unclosed (parts_of text)) (list_any (λ b. b == 0) text) unclosed)
+pub open_is_malformed : (columns : List (List ℕ)) (default : Option ℕ) (text : List ℕ) → length text ≤ 10000 → list_any is_unclosed (parts_of text) ≡ true
+    → query_of columns default text ≡ Err Malformed
+open_is_malformed columns default text short unclosed =
+    broken_is_malformed columns default text short (or_left (list_any is_unclosed (parts_of text)) (list_any (λ b. b == 0) text) unclosed)
 
 -- the lexemes as the parser holds them read as the text does
-pub read_within : (columns : List (List ℕ)) (default : Option ℕ) (text : List ℕ) (found : List Lexeme) → length text ≤ 10000 → list_any (λ b. b == 0) text ≡ false
-    → (list_any is_unclosed (parts_of text) ≡ false) × (found ≡ map capped (lexemes_of columns text)) → query_within default found ≡ query_of columns default text
+pub read_within : (columns : List (List ℕ)) (default : Option ℕ) (text : List ℕ) (found : List Lexeme) → length text ≤ 10000
+    → list_any (λ b. b == 0) text ≡ false
+    → (list_any is_unclosed (parts_of text) ≡ false) × (found ≡ map capped (lexemes_of columns text))
+    → query_within default found ≡ query_of columns default text
 read_within columns default text found short no_zero lexed = by_much (asks_much ls) refl
   where
     ls : List Lexeme
@@ -140,9 +152,13 @@ read_within columns default text found short no_zero lexed = by_much (asks_much 
     same = ap asks_much lexed.1 ∙ much_capped ls
 
     by_much : (much : Bool) → asks_much ls ≡ much → query_within default found ≡ query_of columns default text
-    by_much true e = ap (λ b. query_unless (cond b (Some TooLarge) None) default found) (same ∙ e) ∙ sym (answer_by columns default text false false true (le-ltb 10000 (length text) short) fine e)
+    by_much true e =
+        ap (λ b. query_unless (cond b (Some TooLarge) None) default found) (same ∙ e)
+        ∙ sym (answer_by columns default text false false true (le-ltb 10000 (length text) short) fine e)
     by_much false e =
-        let near = or_parts (nat_lt 64 (sum_by term_count ls)) (list_any is_far ls) (or_parts (nat_lt 64 (sum_by term_count ls) || list_any is_far ls) (nests_deep (0, 0) ls) e).0 in
+        let near =
+        or_parts (nat_lt 64 (sum_by term_count ls)) (list_any is_far ls)
+        (or_parts (nat_lt 64 (sum_by term_count ls) || list_any is_far ls) (nests_deep (0, 0) ls) e).0 in
         ap (λ b. query_unless (cond b (Some TooLarge) None) default found) (same ∙ e)
         ∙ ap (query_from default) (lexed.1 ∙ kept ls near.1)
         ∙ sym (answer_by columns default text false false false (le-ltb 10000 (length text) short) fine e)

@@ -41,16 +41,19 @@ one_docid : (a b : ℤ) → (Some a ≡ Some b) → a ≡ b
 one_docid a b same = ap (λ (o : Option ℤ). elim o [ Some c ↦ c | None ↦ a ]) same
 
 -- where no list has a document left
-pub nothing_left : (wanted : Wanted) (q : Query) (ls : List (List PlaceList)) (s t : ℕ) (documents : List Document) → AreDocuments documents × (ls ≡ lists_of (tree_of q) documents) → least_from None ls ≡ None → t ≡ s →
+pub nothing_left : (wanted : Wanted) (q : Query) (ls : List (List PlaceList)) (s t : ℕ) (documents : List Document)
+    → AreDocuments documents × (ls ≡ lists_of (tree_of q) documents) → least_from None ls ≡ None → t ≡ s →
     Considers wanted (record { query = q; lists = ls; steps = s }) (record { query = q; lists = ls; steps = t }) NoDocument documents
 nothing_left wanted q ls s t documents stands none same_steps = by (next_of (tree_of q) documents stands.0)
   where
-    by : Next (tree_of q) documents → Considers wanted (record { query = q; lists = ls; steps = s }) (record { query = q; lists = ls; steps = t }) NoDocument documents
+    by : Next (tree_of q) documents
+        → Considers wanted (record { query = q; lists = ls; steps = s }) (record { query = q; lists = ls; steps = t }) NoDocument documents
     by (First d ds are least same hits count) = absurd (not_found d.docid (sym least ∙ ap (least_from None) (sym stands.1) ∙ none))
     by (Nothing least same hits count) =
         let tree = tree_of q in
         let entries : entry_count tree documents ≡ entry_count tree [] = ap (sum_by place_count) same in
-        let to_come : steps_to_come tree documents ≡ steps_to_come tree [] = ap (λ n. 32 * n + 8 * width tree * candidate_count tree documents) entries ∙ ap (λ n. 32 * entry_count tree [] + 8 * width tree * n) count in
+        let to_come : steps_to_come tree documents ≡ steps_to_come tree [] =
+        ap (λ n. 32 * n + 8 * width tree * candidate_count tree documents) entries ∙ ap (λ n. 32 * entry_count tree [] + 8 * width tree * n) count in
         record {
           offsets = [];
           went = record {
@@ -77,43 +80,55 @@ pub record Adds (wanted : Wanted) (old new : Walk) (docid : ℤ) (answer : Optio
 abbrev answer_here : Wanted → Tree → Document → Bool → Option (List Offset)
 answer_here wanted tree d v = if v then Some (if_wanted wanted (offsets_of d.postings tree)) else None
 
-hits_here : (wanted : Wanted) (docid : ℤ) (answer : Option (List Offset)) (tree : Tree) (d : Document) (ds : List Document) → d.docid ≡ docid → answer ≡ answer_here wanted tree d (accepts d.postings tree) →
+hits_here : (wanted : Wanted) (docid : ℤ) (answer : Option (List Offset)) (tree : Tree) (d : Document) (ds : List Document) → d.docid ≡ docid
+    → answer ≡ answer_here wanted tree d (accepts d.postings tree) →
     hits_of tree (d ∷ ds) ≡ hit_at (option_map (λ (o : List Offset). docid) answer) (offsets_of d.postings tree) ++ hits_of tree ds
 hits_here wanted docid answer tree d ds one here = cases (accepts d.postings tree) refl
   where
-    cases : (v : Bool) → accepts d.postings tree ≡ v → hits_of tree (d ∷ ds) ≡ hit_at (option_map (λ (o : List Offset). docid) answer) (offsets_of d.postings tree) ++ hits_of tree ds
+    cases : (v : Bool) → accepts d.postings tree ≡ v
+        → hits_of tree (d ∷ ds) ≡ hit_at (option_map (λ (o : List Offset). docid) answer) (offsets_of d.postings tree) ++ hits_of tree ds
     cases true is =
         with_it tree d ds is
         ∙ ap (λ z. record { docid = z; offsets = offsets_of d.postings tree } ∷ hits_of tree ds) one
-        ∙ ap (λ o. hit_at (option_map (λ (os : List Offset). docid) o) (offsets_of d.postings tree) ++ hits_of tree ds) (sym (here ∙ ap (answer_here wanted tree d) is))
+        ∙ ap (λ o. hit_at (option_map (λ (os : List Offset). docid) o) (offsets_of d.postings tree) ++ hits_of tree ds)
+        (sym (here ∙ ap (answer_here wanted tree d) is))
     cases false is =
         without_it tree d ds is
-        ∙ ap (λ o. hit_at (option_map (λ (os : List Offset). docid) o) (offsets_of d.postings tree) ++ hits_of tree ds) (sym (here ∙ ap (answer_here wanted tree d) is))
+        ∙ ap (λ o. hit_at (option_map (λ (os : List Offset). docid) o) (offsets_of d.postings tree) ++ hits_of tree ds)
+        (sym (here ∙ ap (answer_here wanted tree d) is))
 
-told_here : (wanted : Wanted) (answer : Option (List Offset)) (tree : Tree) (d : Document) (v : Bool) → answer ≡ answer_here wanted tree d v → IfSome answer (λ o. o ≡ if_wanted wanted (offsets_of d.postings tree))
+told_here : (wanted : Wanted) (answer : Option (List Offset)) (tree : Tree) (d : Document) (v : Bool) → answer ≡ answer_here wanted tree d v
+    → IfSome answer (λ o. o ≡ if_wanted wanted (offsets_of d.postings tree))
 told_here wanted answer tree d true here = subst (λ a. IfSome a (λ o. o ≡ if_wanted wanted (offsets_of d.postings tree))) (sym here) refl
 told_here wanted answer tree d false here = subst (λ a. IfSome a (λ o. o ≡ if_wanted wanted (offsets_of d.postings tree))) (sym here) tt
 
 -- where this is the least docid left
-pub one_left : (wanted : Wanted) (q : Query) (ls : List (List PlaceList)) (s t : ℕ) (docid : ℤ) (offsets : Option (List Offset)) (documents : List Document) → AreDocuments documents × (ls ≡ lists_of (tree_of q) documents) → least_from None ls ≡ Some docid →
-    ((postings : List Posting) → AllPairs IsBefore postings → map (places_at docid) ls ≡ map (listed_places postings) (terms_in (tree_of q)) → offsets ≡ (if accepts postings (tree_of q) then Some (if_wanted wanted (offsets_of postings (tree_of q))) else None)) →
+pub one_left : (wanted : Wanted) (q : Query) (ls : List (List PlaceList)) (s t : ℕ) (docid : ℤ) (offsets : Option (List Offset)) (documents : List Document)
+    → AreDocuments documents × (ls ≡ lists_of (tree_of q) documents) → least_from None ls ≡ Some docid →
+    ((postings : List Posting) → AllPairs IsBefore postings → map (places_at docid) ls ≡ map (listed_places postings) (terms_in (tree_of q)) → offsets
+    ≡ (if accepts postings (tree_of q) then Some (if_wanted wanted (offsets_of postings (tree_of q))) else None)) →
     t ≤ s + 32 * sum_by length (map (places_at docid) ls) + 8 * width (tree_of q) → min (s + 1) (2 ^ 64 - 1) ≤ t →
     Adds wanted (record { query = q; lists = ls; steps = s }) (record { query = q; lists = map (passed docid) ls; steps = t }) docid offsets documents
 one_left wanted q ls s t docid offsets documents stands least given at_most at_least = by (next_of (tree_of q) documents stands.0)
   where
-    by : Next (tree_of q) documents → Adds wanted (record { query = q; lists = ls; steps = s }) (record { query = q; lists = map (passed docid) ls; steps = t }) docid offsets documents
+    by : Next (tree_of q) documents
+        → Adds wanted (record { query = q; lists = ls; steps = s }) (record { query = q; lists = map (passed docid) ls; steps = t }) docid offsets documents
     by (Nothing none same hits count) = absurd (not_found docid (sym least ∙ ap (least_from None) stands.1 ∙ none))
     by (First d ds are first same hits count) =
         let tree = tree_of q in
         let one : d.docid ≡ docid = one_docid d.docid docid (sym first ∙ ap (least_from None) (sym stands.1) ∙ least) in
         let later = recursion_from_All (λ (e : Document). d.docid <ℤ e.docid) ds (pairs_head (λ (a b : Document). a.docid <ℤ b.docid) d ds are.rising) in
         let lists : ls ≡ map (listed_for (d ∷ ds)) (terms_in tree) = stands.1 ∙ same in
-        let places : map (places_at docid) ls ≡ map (listed_places d.postings) (terms_in tree) = ap (λ z. map (places_at z) ls) (sym one) ∙ ap (map (places_at d.docid)) lists ∙ all_places d ds later (terms_in tree) in
-        let left : map (passed docid) ls ≡ lists_of tree ds = ap (λ z. map (passed z) ls) (sym one) ∙ ap (map (passed d.docid)) lists ∙ all_passed d ds later (terms_in tree) in
-        let here : offsets ≡ answer_here wanted tree d (accepts d.postings tree) = given d.postings (All-head (λ (e : Document). AllPairs IsBefore e.postings) d ds are.ordered) places in
+        let places : map (places_at docid) ls ≡ map (listed_places d.postings) (terms_in tree) =
+        ap (λ z. map (places_at z) ls) (sym one) ∙ ap (map (places_at d.docid)) lists ∙ all_places d ds later (terms_in tree) in
+        let left : map (passed docid) ls ≡ lists_of tree ds =
+        ap (λ z. map (passed z) ls) (sym one) ∙ ap (map (passed d.docid)) lists ∙ all_passed d ds later (terms_in tree) in
+        let here : offsets ≡ answer_here wanted tree d (accepts d.postings tree) =
+        given d.postings (All-head (λ (e : Document). AllPairs IsBefore e.postings) d ds are.ordered) places in
         let entries : entry_count tree documents ≡ sum_by length (map (places_at docid) ls) + entry_count tree ds =
         ap (sum_by place_count) same ∙ all_counted d ds later (terms_in tree) ∙ ap (λ ps. sum_by length ps + entry_count tree ds) (sym places) in
-        let product : 8 * width tree * candidate_count tree documents ≡ 8 * width tree * candidate_count tree ds + 8 * width tree = ap (λ n. 8 * width tree * n) (count ∙ one_more (candidate_count tree ds)) ∙ mul-suc (8 * width tree) (candidate_count tree ds) in
+        let product : 8 * width tree * candidate_count tree documents ≡ 8 * width tree * candidate_count tree ds + 8 * width tree =
+        ap (λ n. 8 * width tree * n) (count ∙ one_more (candidate_count tree ds)) ∙ mul-suc (8 * width tree) (candidate_count tree ds) in
         record {
           offsets = offsets_of d.postings tree;
           went = record {
@@ -127,9 +142,12 @@ one_left wanted q ls s t docid offsets documents stands least given at_most at_l
         }
 
 -- the same, of cursors and the steps of the calls
-pub went_on : (wanted : Wanted) (q : Query) (cursors passed_by : List Cursor) (s a b t : Steps) (docid : ℤ) (offsets : Option (List Offset)) (documents : List Document) → StandsBefore (walk_at q cursors s.taken) documents → least_from None (map lists_left cursors) ≡ Some docid →
-    ((postings : List Posting) → AllPairs IsBefore postings → map (λ c. places_at docid (lists_left c)) cursors ≡ map (listed_places postings) (terms_in (tree_of q)) → offsets ≡ (if accepts postings (tree_of q) then Some (if_wanted wanted (offsets_of postings (tree_of q))) else None)) →
-    map lists_left passed_by ≡ map (passed docid) (map lists_left cursors) → length cursors ≡ length (terms_in (tree_of q)) → s.taken ≤ a.taken → a.taken ≤ s.taken + length cursors →
+pub went_on : (wanted : Wanted) (q : Query) (cursors passed_by : List Cursor) (s a b t : Steps) (docid : ℤ) (offsets : Option (List Offset))
+    (documents : List Document) → StandsBefore (walk_at q cursors s.taken) documents → least_from None (map lists_left cursors) ≡ Some docid →
+    ((postings : List Posting) → AllPairs IsBefore postings → map (λ c. places_at docid (lists_left c)) cursors ≡ map (listed_places postings)
+    (terms_in (tree_of q)) → offsets ≡ (if accepts postings (tree_of q) then Some (if_wanted wanted (offsets_of postings (tree_of q))) else None)) →
+    map lists_left passed_by ≡ map (passed docid) (map lists_left cursors) → length cursors ≡ length
+    (terms_in (tree_of q)) → s.taken ≤ a.taken → a.taken ≤ s.taken + length cursors →
     TakesSome (12 * sum_by (λ c. length (places_at docid (lists_left c))) cursors + 3 * width (tree_of q)) a b → Takes (length cursors) b t →
     Adds wanted (walk_at q cursors s.taken) (walk_at q passed_by t.taken) docid offsets documents
 went_on wanted q cursors passed_by s a b t docid offsets documents stands least given left number first_least first_most visit last =
@@ -138,9 +156,12 @@ went_on wanted q cursors passed_by s a b t docid offsets documents stands least 
     let pass = last.taken in
     let ls = map lists_left cursors in
     let same : map (places_at docid) ls ≡ map (λ c. places_at docid (lists_left c)) cursors = map-map (places_at docid) lists_left cursors in
-    let sum : sum_by length (map (places_at docid) ls) ≡ sum_by (λ c. length (places_at docid (lists_left c))) cursors = ap (sum_by length) same ∙ sum_mapped (λ c. places_at docid (lists_left c)) cursors in
+    let sum : sum_by length (map (places_at docid) ls) ≡ sum_by (λ c. length (places_at docid (lists_left c))) cursors =
+    ap (sum_by length) same ∙ sum_mapped (λ c. places_at docid (lists_left c)) cursors in
     let terms = all_terms (tree_of q) in
-    let went = one_left wanted q ls s.taken t.taken docid offsets documents stands least (λ postings ordered here. given postings ordered (sym same ∙ here)) (omega arith) (omega arith) in
+    let went =
+    one_left wanted q ls s.taken t.taken docid offsets documents stands least (λ postings ordered here. given postings ordered (sym same ∙ here)) (omega arith)
+    (omega arith) in
     subst (λ new. Adds wanted (walk_at q cursors s.taken) (record { query = q; lists = new; steps = t.taken }) docid offsets documents) (sym left) went
   where
     sum_mapped : {X : Type 0} (f : X → List Place) (xs : List X) → sum_by length (map f xs) ≡ sum_by (λ x. length (f x)) xs
@@ -167,7 +188,8 @@ none_more docid (l ∷ ls) =
     omega arith
 
 -- the least is the docid so far, or one list gets shorter
-less_left : (docid : ℤ) (so_far : Option ℤ) (ls : List (List PlaceList)) → least_from so_far ls ≡ Some docid → (so_far ≡ Some docid) ⊎ (sum_by length (map (passed docid) ls) < sum_by length ls)
+less_left : (docid : ℤ) (so_far : Option ℤ) (ls : List (List PlaceList)) → least_from so_far ls ≡ Some docid
+    → (so_far ≡ Some docid) ⊎ (sum_by length (map (passed docid) ls) < sum_by length ls)
 less_left docid so_far [] least = inl least
 less_left docid so_far (l ∷ ls) least = ⊎_elim
     (λ (here : least_of so_far l ≡ Some docid). first l here)
@@ -178,7 +200,8 @@ less_left docid so_far (l ∷ ls) least = ⊎_elim
     inr (omega arith))
     (less_left docid (least_of so_far l) ls least)
   where
-    same_docid : (x : PlaceList) (xs : List PlaceList) → (Some x.docid ≡ Some docid) → sum_by length (map (passed docid) ((x ∷ xs) ∷ ls)) < sum_by length ((x ∷ xs) ∷ ls)
+    same_docid : (x : PlaceList) (xs : List PlaceList) → (Some x.docid ≡ Some docid)
+        → sum_by length (map (passed docid) ((x ∷ xs) ∷ ls)) < sum_by length ((x ∷ xs) ∷ ls)
     same_docid x xs same =
         let is : int_eq x.docid docid ≡ true = (Decides-int_eq x.docid docid).1 (one_docid x.docid docid same) in
         let passes : length (passed docid (x ∷ xs)) ≡ length xs = ap (λ v. length (cond v xs (x ∷ xs))) is in
@@ -187,15 +210,18 @@ less_left docid so_far (l ∷ ls) least = ⊎_elim
         let b = sum_by-cons length (x ∷ xs) ls in
         omega arith
 
-    first : (l : List PlaceList) → least_of so_far l ≡ Some docid → (so_far ≡ Some docid) ⊎ (sum_by length (map (passed docid) (l ∷ ls)) < sum_by length (l ∷ ls))
+    first : (l : List PlaceList) → least_of so_far l ≡ Some docid
+        → (so_far ≡ Some docid) ⊎ (sum_by length (map (passed docid) (l ∷ ls)) < sum_by length (l ∷ ls))
     first [] here = inl here
     first (x ∷ xs) here = by so_far here
       where
-        by : (o : Option ℤ) → least_of o (x ∷ xs) ≡ Some docid → (o ≡ Some docid) ⊎ (sum_by length (map (passed docid) ((x ∷ xs) ∷ ls)) < sum_by length ((x ∷ xs) ∷ ls))
+        by : (o : Option ℤ) → least_of o (x ∷ xs) ≡ Some docid
+            → (o ≡ Some docid) ⊎ (sum_by length (map (passed docid) ((x ∷ xs) ∷ ls)) < sum_by length ((x ∷ xs) ∷ ls))
         by None here = inr (same_docid x xs here)
         by (Some z) here = less (int_lt x.docid z) refl
           where
-            less : (v : Bool) → int_lt x.docid z ≡ v → (Some z ≡ Some docid) ⊎ (sum_by length (map (passed docid) ((x ∷ xs) ∷ ls)) < sum_by length ((x ∷ xs) ∷ ls))
+            less : (v : Bool) → int_lt x.docid z ≡ v
+                → (Some z ≡ Some docid) ⊎ (sum_by length (map (passed docid) ((x ∷ xs) ∷ ls)) < sum_by length ((x ∷ xs) ∷ ls))
             less true is = inr (same_docid x xs (sym (ap (λ v. if v then Some x.docid else Some z) is) ∙ here))
             less false is = inl (sym (ap (λ v. if v then Some x.docid else Some z) is) ∙ here)
 
@@ -205,9 +231,11 @@ passes_one docid ls least = ⊎_elim
     (λ (less : sum_by length (map (passed docid) ls) < sum_by length ls). less)
     (less_left docid None ls least)
 
-pub fewer_left : (docid : ℤ) (cursors passed_by : List Cursor) → least_from None (map lists_left cursors) ≡ Some docid → map lists_left passed_by ≡ map (passed docid) (map lists_left cursors) →
+pub fewer_left : (docid : ℤ) (cursors passed_by : List Cursor) → least_from None (map lists_left cursors) ≡ Some docid
+    → map lists_left passed_by ≡ map (passed docid) (map lists_left cursors) →
     sum_by length (map lists_left passed_by) < sum_by length (map lists_left cursors)
-fewer_left docid cursors passed_by least left = subst (λ ls. sum_by length ls < sum_by length (map lists_left cursors)) (sym left) (passes_one docid (map lists_left cursors) least)
+fewer_left docid cursors passed_by least left =
+    subst (λ ls. sum_by length ls < sum_by length (map lists_left cursors)) (sym left) (passes_one docid (map lists_left cursors) least)
 
 -- ---- one walk after the other
 

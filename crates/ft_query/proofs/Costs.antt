@@ -31,7 +31,8 @@ followed_le i (t ∷ ts) (l ∷ ls) starts =
     let one = one_le t.first i starts l in
     omega (arith, rest, one)
 
-followed_times : (i : ℕ) (ts : List PlainTerm) (ls : List (List Place)) (starts : List Place) → length ts ≡ length ls → length ts * length (followed i ts ls starts) ≤ total ls
+followed_times : (i : ℕ) (ts : List PlainTerm) (ls : List (List Place)) (starts : List Place) → length ts ≡ length ls
+    → length ts * length (followed i ts ls starts) ≤ total ls
 followed_times i [] ls starts same = omega arith
 followed_times i (t ∷ ts) [] starts same = absurd (omega arith)
 followed_times i (t ∷ ts) (l ∷ ls) starts same =
@@ -63,7 +64,8 @@ from_times only (t ∷ ts) (l ∷ ls) same =
 abbrev link_terms : List PlainLink → List PlainTerm
 link_terms links = flat_map (λ link. link.to.terms) links
 
-linked_le : (p : PlainPhrase) (links : List PlainLink) (ls : List (List Place)) → length ls ≡ length (p.terms ++ link_terms links) → length (head_of (linked p links ls)) ≤ total (take (length p.terms) ls)
+linked_le : (p : PlainPhrase) (links : List PlainLink) (ls : List (List Place)) → length ls ≡ length (p.terms ++ link_terms links)
+    → length (head_of (linked p links ls)) ≤ total (take (length p.terms) ls)
 linked_le p [] ls same =
     let all = take_all (length p.terms) ls (let sum = length-append p.terms [] in omega (arith, sum, same)) in
     subst (λ l. length (starts_of p ls) ≤ total l) (sym all) (from_le p.filter p.terms ls)
@@ -73,7 +75,8 @@ linked_le p (link ∷ links) ls same =
     let one = from_le p.filter p.terms (take n ls) in
     omega (arith, short, one)
 
-linked_times : (p : PlainPhrase) (links : List PlainLink) (ls : List (List Place)) → length ls ≡ length (p.terms ++ link_terms links) → length p.terms * length (head_of (linked p links ls)) ≤ total (take (length p.terms) ls)
+linked_times : (p : PlainPhrase) (links : List PlainLink) (ls : List (List Place)) → length ls ≡ length (p.terms ++ link_terms links)
+    → length p.terms * length (head_of (linked p links ls)) ≤ total (take (length p.terms) ls)
 linked_times p [] ls same =
     let sum = length-append p.terms [] in
     let all = take_all (length p.terms) ls (omega (arith, sum, same)) in
@@ -87,7 +90,8 @@ linked_times p (link ∷ links) ls same =
     let more = mul-le-mul_left n short in
     omega (arith, more, one)
 
-linked_bound : (p : PlainPhrase) (links : List PlainLink) (ls : List (List Place)) → linked_cost p links ls + length (head_of (linked p links ls)) ≤ 6 * total ls
+linked_bound : (p : PlainPhrase) (links : List PlainLink) (ls : List (List Place))
+    → linked_cost p links ls + length (head_of (linked p links ls)) ≤ 6 * total ls
 linked_bound p [] ls = let one = from_le p.filter p.terms ls in omega (arith, one)
 linked_bound p (link ∷ links) ls =
     let n = length p.terms in
@@ -121,7 +125,8 @@ links_bound p (link ∷ links) ls starts same =
 some_width : (p : PlainPhrase) → 1 ≤ max 1 (length p.terms)
 some_width p = omega arith
 
-chain_bound : (p : PlainPhrase) (links : List PlainLink) (ls : List (List Place)) → length ls ≡ length (p.terms ++ link_terms links) → visit_cost (chain p links) ls ≤ 1 + 12 * total ls
+chain_bound : (p : PlainPhrase) (links : List PlainLink) (ls : List (List Place)) → length ls ≡ length (p.terms ++ link_terms links)
+    → visit_cost (chain p links) ls ≤ 1 + 12 * total ls
 chain_bound p links ls same =
     let n = length p.terms in
     let back = linked_bound p links ls in
@@ -132,7 +137,8 @@ chain_bound p links ls same =
     omega (arith, back, parts, few, times, rest)
 
 two_bound : (p q : Tree) (ls : List (List Place)) → length ls ≡ length (terms_in p ++ terms_in q)
-    → ((l : List (List Place)) → length l ≡ length (terms_in p) → visit_cost p l + 1 ≤ 12 * total l + 2 * width p) → ((l : List (List Place)) → length l ≡ length (terms_in q) → visit_cost q l + 1 ≤ 12 * total l + 2 * width q)
+    → ((l : List (List Place)) → length l ≡ length (terms_in p) → visit_cost p l + 1 ≤ 12 * total l + 2 * width p)
+    → ((l : List (List Place)) → length l ≡ length (terms_in q) → visit_cost q l + 1 ≤ 12 * total l + 2 * width q)
     → 1 + (visit_cost p (take (length (terms_in p)) ls) + visit_cost q (drop (length (terms_in p)) ls)) + 1 ≤ 12 * total ls + 2 * (width p + width q)
 two_bound p q ls same left right =
     let n = length (terms_in p) in
@@ -169,9 +175,12 @@ links_width (link ∷ links) =
 terms_width : (tree : Tree) → length (terms_in tree) ≤ width tree
 terms_width (phrase p) = omega arith
 terms_width (chain p links) = let sum = length-append p.terms (link_terms links) in let rest = links_width links in omega (arith, sum, rest)
-terms_width (both p q) = let sum = length-append (terms_in p) (terms_in q) in let one = terms_width p in let other = terms_width q in omega (arith, sum, one, other)
-terms_width (either p q) = let sum = length-append (terms_in p) (terms_in q) in let one = terms_width p in let other = terms_width q in omega (arith, sum, one, other)
-terms_width (without p q) = let sum = length-append (terms_in p) (terms_in q) in let one = terms_width p in let other = terms_width q in omega (arith, sum, one, other)
+terms_width (both p q) =
+    let sum = length-append (terms_in p) (terms_in q) in let one = terms_width p in let other = terms_width q in omega (arith, sum, one, other)
+terms_width (either p q) =
+    let sum = length-append (terms_in p) (terms_in q) in let one = terms_width p in let other = terms_width q in omega (arith, sum, one, other)
+terms_width (without p q) =
+    let sum = length-append (terms_in p) (terms_in q) in let one = terms_width p in let other = terms_width q in omega (arith, sum, one, other)
 
 total_is : (docid : ℤ) (cursors : List Cursor) → total (places_in docid cursors) ≡ sum_by (λ c. length (places_at docid (lists_left c))) cursors
 total_is docid [] = refl
@@ -180,7 +189,8 @@ total_is docid (c ∷ cs) =
     ap (λ n. length (places_at docid (lists_left c)) + n) rest ∙ sym (sum_by-cons (λ (u : Cursor). length (places_at docid (lists_left u))) c cs)
 
 -- what a document costs, with one step for each of its lists
-pub document_bound : (tree : Tree) (docid : ℤ) (cursors : List Cursor) (lists : List (List Place)) → length cursors ≡ length (terms_in tree) → lists ≡ places_in docid cursors
+pub document_bound : (tree : Tree) (docid : ℤ) (cursors : List Cursor) (lists : List (List Place)) → length cursors ≡ length (terms_in tree)
+    → lists ≡ places_in docid cursors
     → length cursors + visit_cost tree lists ≤ 12 * sum_by (λ c. length (places_at docid (lists_left c))) cursors + 3 * width tree
 document_bound tree docid cursors lists same is =
     let many : length lists ≡ length (terms_in tree) = ap length is ∙ length-map cursors (λ c. places_at docid (lists_left c)) ∙ same in

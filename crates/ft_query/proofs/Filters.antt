@@ -17,7 +17,8 @@ pub any_place : {X : Type 0} (p : X → Bool) (xs : List X) → list_any p xs �
 any_place p [] = refl
 any_place p (x ∷ xs) = by_head (p x) refl (any_place p xs)
   where
-    by_head : (b : Bool) → p x ≡ b → list_any p xs ≡ nat_lt (position_or_len p xs) (length xs) → list_any p (x ∷ xs) ≡ nat_lt (position_or_len p (x ∷ xs)) (length (x ∷ xs))
+    by_head : (b : Bool) → p x ≡ b → list_any p xs ≡ nat_lt (position_or_len p xs) (length xs)
+        → list_any p (x ∷ xs) ≡ nat_lt (position_or_len p (x ∷ xs)) (length (x ∷ xs))
     by_head true e rest = rw e (sym (lt-ltb 0 (suc (length xs)) (omega arith)))
     by_head false e rest = rw e (rest ∙ lt-suc (position_or_len p xs) (length xs))
 
@@ -26,16 +27,22 @@ place-map p f [] = refl
 place-map p f (x ∷ xs) = ap (λ n. cond (not (p (f x))) (1 + n) 0) (place-map p f xs)
 
 pub position-map : {X Y : Type 0} (p : Y → Bool) (f : X → Y) (xs : List X) → position p (map f xs) ≡ position (λ x. p (f x)) xs
-position-map p f xs = ap (λ n. cond (nat_lt (position_or_len p (map f xs)) n) (Some (position_or_len p (map f xs))) None) (length-map xs f) ∙ ap (λ n. cond (nat_lt n (length xs)) (Some n) None) (place-map p f xs)
+position-map p f xs =
+    ap (λ n. cond (nat_lt (position_or_len p (map f xs)) n) (Some (position_or_len p (map f xs))) None) (length-map xs f)
+    ∙ ap (λ n. cond (nat_lt n (length xs)) (Some n) None) (place-map p f xs)
 
 -- what `split_once` says of the first colon, as a test
 pub colon_parts : (chunk : List ℕ) (r : Option (Bor (List ℕ) × Bor (List ℕ)))
-    → MatchOption r (position_or_len is_colon chunk ≡ length chunk) (λ x. (position_or_len is_colon chunk < length chunk) × (x.0.now ≡ before_first is_colon chunk) × (x.1.now ≡ after_first is_colon chunk))
-    → MatchOption r (list_any is_colon chunk ≡ false) (λ x. (list_any is_colon chunk ≡ true) × (x.0.now ≡ before_first is_colon chunk) × (x.1.now ≡ after_first is_colon chunk))
+    → MatchOption r (position_or_len is_colon chunk ≡ length chunk)
+    (λ x. (position_or_len is_colon chunk < length chunk) × (x.0.now ≡ before_first is_colon chunk) × (x.1.now ≡ after_first is_colon chunk))
+    → MatchOption r (list_any is_colon chunk ≡ false) (λ x. (list_any is_colon chunk ≡ true) × (x.0.now ≡ before_first is_colon chunk)
+    × (x.1.now ≡ after_first is_colon chunk))
 colon_parts chunk None none = any_place is_colon chunk ∙ le-ltb (position_or_len is_colon chunk) (length chunk) (omega arith)
 colon_parts chunk (Some x) parts = (any_place is_colon chunk ∙ lt-ltb (position_or_len is_colon chunk) (length chunk) parts.0, parts.1, parts.2)
 
 -- the filter of a chunk with a colon is the column of the name before it
 pub filter_named : (columns : List (String Global)) (chunk name : List ℕ) → list_any is_colon chunk ≡ true → name ≡ before_first is_colon chunk
     → filter_of (map string_bytes columns) chunk ≡ position (λ c. str_eq_ignore_ascii_case (string_bytes c) name) columns
-filter_named columns chunk name has same = rw has (ap (λ b. position (λ n. str_eq_ignore_ascii_case n b) (map string_bytes columns)) (sym same) ∙ position-map (λ n. str_eq_ignore_ascii_case n name) string_bytes columns)
+filter_named columns chunk name has same =
+    rw has (ap (λ b. position (λ n. str_eq_ignore_ascii_case n b) (map string_bytes columns)) (sym same) ∙ position-map
+    (λ n. str_eq_ignore_ascii_case n name) string_bytes columns)

@@ -25,11 +25,13 @@ pub hits_found : (result : Result (Option Hit) AllocError) (old new : Walk) → 
 hits_found (Ok hit) old new found = λ documents stands. found_hit old new hit documents (found.finds documents stands)
 hits_found (Err error) old new found = tt
 
-pub passes_on : (wanted : Wanted) (result : Result (Option Hit) AllocError) (old new : Walk) → IfOk result (FindsNext wanted old new) → IfOk result (λ hit. IfSome hit (λ _. lists_to_come new < lists_to_come old))
+pub passes_on : (wanted : Wanted) (result : Result (Option Hit) AllocError) (old new : Walk) → IfOk result (FindsNext wanted old new)
+    → IfOk result (λ hit. IfSome hit (λ _. lists_to_come new < lists_to_come old))
 passes_on wanted (Ok hit) old new found = found.passes
 passes_on wanted (Err error) old new found = tt
 
 -- without
-pub found_docid : (old new : Walk) (hit : Option Hit) (documents : List Document) → Finds Docids old new hit documents → WalkedTo old new (option_map (λ h. h.docid) hit) documents
+pub found_docid : (old new : Walk) (hit : Option Hit) (documents : List Document) → Finds Docids old new hit documents
+    → WalkedTo old new (option_map (λ h. h.docid) hit) documents
 found_docid old new None documents found = record { offsets = found.offsets; went = found.went; ended = λ _. found.ended refl }
 found_docid old new (Some hit) documents found = record { offsets = found.offsets; went = found.went; ended = λ never. absurd (there_is never) }

@@ -44,7 +44,8 @@ Ordered j y i x Less = Earlier j y i x
 Ordered j y i x Equal = meets i j x y ≡ true
 Ordered j y i x Greater = Earlier i x j y
 
-ordered_by : (j : ℕ) (y : Place) (i : ℕ) (x : Place) (columns places : Ordering) → Compared y.column x.column columns → Compared (y.pos + j) (x.pos + i) places → Ordered j y i x (ordering_then columns places)
+ordered_by : (j : ℕ) (y : Place) (i : ℕ) (x : Place) (columns places : Ordering) → Compared y.column x.column columns → Compared (y.pos + j) (x.pos + i) places
+    → Ordered j y i x (ordering_then columns places)
 ordered_by j y i x Less places c p = inl c
 ordered_by j y i x Greater places c p = inl c
 ordered_by j y i x Equal Less c p = inr (c, p)
@@ -52,7 +53,8 @@ ordered_by j y i x Equal Equal c p = grind (arith, nat_tests)
 ordered_by j y i x Equal Greater c p = inr (sym c, p)
 
 ordered : (j : ℕ) (y : Place) (i : ℕ) (x : Place) → Ordered j y i x (place_order j y i x)
-ordered j y i x = ordered_by j y i x (nat_cmp y.column x.column) (nat_cmp (y.pos + j) (x.pos + i)) (compared y.column x.column) (compared (y.pos + j) (x.pos + i))
+ordered j y i x =
+    ordered_by j y i x (nat_cmp y.column x.column) (nat_cmp (y.pos + j) (x.pos + i)) (compared y.column x.column) (compared (y.pos + j) (x.pos + i))
 
 earlier_apart : (j : ℕ) (y : Place) (i : ℕ) (x : Place) → Earlier j y i x → meets i j x y ≡ false
 earlier_apart j y i x (inl h) = grind (arith, nat_tests)
@@ -88,7 +90,8 @@ record Left (i j : ℕ) (x : Place) (ys : List Place) (r : Bool × List Place) :
   rising : Rising r.1
   later : (z : Place) → Before x z → list_any (meets i j z) r.1 ≡ list_any (meets i j z) ys
 
-left_one : (i j : ℕ) (x y : Place) (ys : List Place) (more : Bool × List Place) (o : Ordering) → Ordered j y i x o → AllByRecursion (Before y) ys → Rising ys → Left i j x ys more → Left i j x (y ∷ ys) (match_ordering o more (true, ys) (false, y ∷ ys))
+left_one : (i j : ℕ) (x y : Place) (ys : List Place) (more : Bool × List Place) (o : Ordering) → Ordered j y i x o → AllByRecursion (Before y) ys → Rising ys
+    → Left i j x ys more → Left i j x (y ∷ ys) (match_ordering o more (true, ys) (false, y ∷ ys))
 left_one i j x y ys more Less is first rising rest = record {
   found = rest.found ∙ sym (ap (λ b. b || list_any (meets i j x) ys) (earlier_apart j y i x is));
   rising = rest.rising;
@@ -124,6 +127,9 @@ among_is i j [] ys first second = refl
 among_is i j (x ∷ xs) ys first second =
     let r = seek i x j ys in
     let left = left_by i j x ys second in
-    let rest = among_is i j xs r.1 first.1 left.rising ∙ filter_same (λ z. list_any (meets i j z) r.1) (λ z. list_any (meets i j z) ys) xs (all_weaker (Before x) (λ z. list_any (meets i j z) r.1 ≡ list_any (meets i j z) ys) xs left.later first.0) in
+    let rest =
+    among_is i j xs r.1 first.1 left.rising
+    ∙ filter_same (λ z. list_any (meets i j z) r.1) (λ z. list_any (meets i j z) ys) xs
+    (all_weaker (Before x) (λ z. list_any (meets i j z) r.1 ≡ list_any (meets i j z) ys) xs left.later first.0) in
     ap (λ b. cond b (x ∷ among i j xs r.1) (among i j xs r.1)) left.found
     ∙ ap (λ zs. cond (list_any (meets i j x) ys) (x ∷ zs) zs) rest

@@ -48,10 +48,11 @@ IsLater docid (l ∷ ls) = docid <ℤ l.docid
 later_lists : (docid : ℤ) (ds : List Document) (t : PlainTerm) → AllByRecursion (λ d. docid <ℤ d.docid) ds → IsLater docid (listed_for ds t)
 unfolding IsLater
 later_lists docid [] t later = tt
-later_lists docid (d ∷ ds) t later = elim (has_places (places_with (is_listed t) d)) as (λ v. IsLater docid (cond v (places_with (is_listed t) d ∷ listed_for ds t) (listed_for ds t))) [
-  | true ↦ later.0
-  | false ↦ later_lists docid ds t later.1
-]
+later_lists docid (d ∷ ds) t later =
+    elim (has_places (places_with (is_listed t) d)) as (λ v. IsLater docid (cond v (places_with (is_listed t) d ∷ listed_for ds t) (listed_for ds t))) [
+      | true ↦ later.0
+      | false ↦ later_lists docid ds t later.1
+    ]
 
 none_at : (docid : ℤ) (ls : List PlaceList) → IsLater docid ls → places_at docid ls ≡ []
 unfolding IsLater
@@ -65,10 +66,12 @@ none_passed docid (l ∷ ls) later = ap (λ b. cond b ls (l ∷ ls)) (not_later 
 
 filled : (t : PlainTerm) (ps : List Posting) → is_filled (listed_places ps t) ≡ has_term ps t
 filled t [] = refl
-filled t (p ∷ ps) = elim (is_listed t p.term) as (λ v. is_filled (map (λ (q : Posting). q.place) (cond v (p ∷ filter (λ q. is_listed t q.term) ps) (filter (λ q. is_listed t q.term) ps))) ≡ (v || has_term ps t)) [
-  | true ↦ refl
-  | false ↦ filled t ps
-]
+filled t (p ∷ ps) =
+    elim (is_listed t p.term) as (λ v. is_filled (map (λ (q : Posting). q.place)
+    (cond v (p ∷ filter (λ q. is_listed t q.term) ps) (filter (λ q. is_listed t q.term) ps))) ≡ (v || has_term ps t)) [
+      | true ↦ refl
+      | false ↦ filled t ps
+    ]
 
 empty_one : (places : List Place) → is_filled places ≡ false → places ≡ []
 empty_one [] none = refl
@@ -97,7 +100,8 @@ module _ (d : Document) (ds : List Document) (later : AllByRecursion (λ e. d.do
   unfolding here
   one_count = by (has_places here) refl
     where
-      by : (v : Bool) → has_places here ≡ v → place_count (cond v (here ∷ listed_for ds t) (listed_for ds t)) ≡ length (listed_places d.postings t) + place_count (listed_for ds t)
+      by : (v : Bool) → has_places here ≡ v
+          → place_count (cond v (here ∷ listed_for ds t) (listed_for ds t)) ≡ length (listed_places d.postings t) + place_count (listed_for ds t)
       by true is = sum_by-cons (λ (l : PlaceList). length l.places) here (listed_for ds t)
       by false is = let none = ap length (empty_one (listed_places d.postings t) is) in omega arith
 
@@ -106,13 +110,17 @@ module _ (d : Document) (ds : List Document) (later : AllByRecursion (λ e. d.do
 module _ (d : Document) (ds : List Document) (later : AllByRecursion (λ e. d.docid <ℤ e.docid) ds) where
   pub all_places : (ts : List PlainTerm) → map (places_at d.docid) (map (listed_for (d ∷ ds)) ts) ≡ map (listed_places d.postings) ts
   all_places [] = refl
-  all_places (t ∷ ts) = ap (λ p. p ∷ map (places_at d.docid) (map (listed_for (d ∷ ds)) ts)) (one_places d ds later t) ∙ ap (λ ps. listed_places d.postings t ∷ ps) (all_places ts)
+  all_places (t ∷ ts) =
+      ap (λ p. p ∷ map (places_at d.docid) (map (listed_for (d ∷ ds)) ts)) (one_places d ds later t)
+      ∙ ap (λ ps. listed_places d.postings t ∷ ps) (all_places ts)
 
   pub all_passed : (ts : List PlainTerm) → map (passed d.docid) (map (listed_for (d ∷ ds)) ts) ≡ map (listed_for ds) ts
   all_passed [] = refl
-  all_passed (t ∷ ts) = ap (λ p. p ∷ map (passed d.docid) (map (listed_for (d ∷ ds)) ts)) (one_passed d ds later t) ∙ ap (λ ps. listed_for ds t ∷ ps) (all_passed ts)
+  all_passed (t ∷ ts) =
+      ap (λ p. p ∷ map (passed d.docid) (map (listed_for (d ∷ ds)) ts)) (one_passed d ds later t) ∙ ap (λ ps. listed_for ds t ∷ ps) (all_passed ts)
 
-  pub all_counted : (ts : List PlainTerm) → sum_by place_count (map (listed_for (d ∷ ds)) ts) ≡ sum_by length (map (listed_places d.postings) ts) + sum_by place_count (map (listed_for ds) ts)
+  pub all_counted : (ts : List PlainTerm)
+      → sum_by place_count (map (listed_for (d ∷ ds)) ts) ≡ sum_by length (map (listed_places d.postings) ts) + sum_by place_count (map (listed_for ds) ts)
   all_counted [] = refl
   all_counted (t ∷ ts) =
       let more = all_counted ts in
@@ -132,9 +140,11 @@ module _ (d : Document) (ds : List Document) (later : AllByRecursion (λ e. d.do
   unfolding IsLater
   still_behind so_far [] behind later = behind
   still_behind None (l ∷ ls) behind later = later
-  still_behind (Some docid) (l ∷ ls) behind later = elim (int_lt l.docid docid) as (λ v. IsBehind (cond v (Some l.docid) (Some docid))) [ true ↦ later | false ↦ behind ]
+  still_behind (Some docid) (l ∷ ls) behind later =
+      elim (int_lt l.docid docid) as (λ v. IsBehind (cond v (Some l.docid) (Some docid))) [ true ↦ later | false ↦ behind ]
 
-  found : (so_far : Option ℤ) (places : List Place) (ls : List PlaceList) → IsBehind so_far → least_of so_far (record { docid = d.docid; places = places } ∷ ls) ≡ Some d.docid
+  found : (so_far : Option ℤ) (places : List Place) (ls : List PlaceList) → IsBehind so_far
+      → least_of so_far (record { docid = d.docid; places = places } ∷ ls) ≡ Some d.docid
   found None places ls behind = refl
   found (Some docid) places ls behind = ap (λ v. cond v (Some d.docid) (Some docid)) (earlier d.docid docid behind).0
 
@@ -144,35 +154,45 @@ module _ (d : Document) (ds : List Document) (later : AllByRecursion (λ e. d.do
   stays_one (l ∷ ls) later = ap (λ v. cond v (Some l.docid) (Some d.docid)) (earlier d.docid l.docid later).1
 
   stays : (t : PlainTerm) → least_of (Some d.docid) (listed_for (d ∷ ds) t) ≡ Some d.docid
-  stays t = elim (has_places (places_with (is_listed t) d)) as (λ v. least_of (Some d.docid) (cond v (places_with (is_listed t) d ∷ listed_for ds t) (listed_for ds t)) ≡ Some d.docid) [
-    | true ↦ ap (λ v. cond v (Some d.docid) (Some d.docid)) (not_less d.docid)
-    | false ↦ stays_one (listed_for ds t) (later_lists d.docid ds t later)
-  ]
+  stays t =
+      elim (has_places (places_with (is_listed t) d)) as (λ v. least_of (Some d.docid)
+      (cond v (places_with (is_listed t) d ∷ listed_for ds t) (listed_for ds t)) ≡ Some d.docid) [
+        | true ↦ ap (λ v. cond v (Some d.docid) (Some d.docid)) (not_less d.docid)
+        | false ↦ stays_one (listed_for ds t) (later_lists d.docid ds t later)
+      ]
 
   stays_all : (ts : List PlainTerm) → least_from (Some d.docid) (map (listed_for (d ∷ ds)) ts) ≡ Some d.docid
   stays_all [] = refl
   stays_all (t ∷ ts) = ap (λ o. least_from o (map (listed_for (d ∷ ds)) ts)) (stays t) ∙ stays_all ts
 
   -- where the document has one of the terms, it is the least
-  least_is : (so_far : Option ℤ) (ts : List PlainTerm) → IsBehind so_far → list_any (has_term d.postings) ts ≡ true → least_from so_far (map (listed_for (d ∷ ds)) ts) ≡ Some d.docid
+  least_is : (so_far : Option ℤ) (ts : List PlainTerm) → IsBehind so_far → list_any (has_term d.postings) ts ≡ true
+      → least_from so_far (map (listed_for (d ∷ ds)) ts) ≡ Some d.docid
   least_is so_far [] behind some = absurd (true≢false (sym some))
-  least_is so_far (t ∷ ts) behind some = by (has_term d.postings t) refl (least_is (least_of so_far (listed_for ds t)) ts (still_behind so_far (listed_for ds t) behind (later_lists d.docid ds t later)))
+  least_is so_far (t ∷ ts) behind some =
+      by (has_term d.postings t) refl (least_is (least_of so_far (listed_for ds t)) ts
+      (still_behind so_far (listed_for ds t) behind (later_lists d.docid ds t later)))
     where
-      by : (v : Bool) → has_term d.postings t ≡ v → (list_any (has_term d.postings) ts ≡ true → least_from (least_of so_far (listed_for ds t)) (map (listed_for (d ∷ ds)) ts) ≡ Some d.docid) →
+      by : (v : Bool) → has_term d.postings t ≡ v
+          → (list_any (has_term d.postings) ts ≡ true → least_from (least_of so_far (listed_for ds t)) (map (listed_for (d ∷ ds)) ts) ≡ Some d.docid) →
           least_from (least_of so_far (listed_for (d ∷ ds) t)) (map (listed_for (d ∷ ds)) ts) ≡ Some d.docid
       by true is rest =
-          ap (λ v. least_from (least_of so_far (cond v (places_with (is_listed t) d ∷ listed_for ds t) (listed_for ds t))) (map (listed_for (d ∷ ds)) ts)) (filled t d.postings ∙ is)
+          ap (λ v. least_from (least_of so_far (cond v (places_with (is_listed t) d ∷ listed_for ds t) (listed_for ds t))) (map (listed_for (d ∷ ds)) ts))
+          (filled t d.postings ∙ is)
           ∙ ap (λ o. least_from o (map (listed_for (d ∷ ds)) ts)) (found so_far (listed_places d.postings t) (listed_for ds t) behind)
           ∙ stays_all ts
       by false is rest =
-          ap (λ v. least_from (least_of so_far (cond v (places_with (is_listed t) d ∷ listed_for ds t) (listed_for ds t))) (map (listed_for (d ∷ ds)) ts)) (filled t d.postings ∙ is)
+          ap (λ v. least_from (least_of so_far (cond v (places_with (is_listed t) d ∷ listed_for ds t) (listed_for ds t))) (map (listed_for (d ∷ ds)) ts))
+          (filled t d.postings ∙ is)
           ∙ rest (ap (λ b. b || list_any (has_term d.postings) ts) (sym is) ∙ some)
 
 -- a document that has none of the terms is in none of their lists
-pub unlisted : (d : Document) (ds : List Document) (ts : List PlainTerm) → list_any (has_term d.postings) ts ≡ false → map (listed_for (d ∷ ds)) ts ≡ map (listed_for ds) ts
+pub unlisted : (d : Document) (ds : List Document) (ts : List PlainTerm) → list_any (has_term d.postings) ts ≡ false
+    → map (listed_for (d ∷ ds)) ts ≡ map (listed_for ds) ts
 unlisted d ds [] none = refl
 unlisted d ds (t ∷ ts) none =
-    ap (λ v. cond v (places_with (is_listed t) d ∷ listed_for ds t) (listed_for ds t) ∷ map (listed_for (d ∷ ds)) ts) (filled t d.postings ∙ or_left (has_term d.postings t) (list_any (has_term d.postings) ts) none)
+    ap (λ v. cond v (places_with (is_listed t) d ∷ listed_for ds t) (listed_for ds t) ∷ map (listed_for (d ∷ ds)) ts)
+    (filled t d.postings ∙ or_left (has_term d.postings t) (list_any (has_term d.postings) ts) none)
     ∙ ap (λ ls. listed_for ds t ∷ ls) (unlisted d ds ts (or_right (has_term d.postings t) (list_any (has_term d.postings) ts) none))
 
 none_left : (ts : List PlainTerm) → least_from None (map (listed_for []) ts) ≡ None
@@ -190,11 +210,14 @@ are_more d ds are = record {
 
 -- No document is left that has one of the terms, or this one is the first.
 pub data Next (tree : Tree) (documents : List Document) : Type 0 where
-  Nothing : least_from None (lists_of tree documents) ≡ None → lists_of tree documents ≡ lists_of tree [] → hits_of tree documents ≡ [] → candidate_count tree documents ≡ 0 → Next tree documents
-  First : (d : Document) → (ds : List Document) → AreDocuments (d ∷ ds) → least_from None (lists_of tree documents) ≡ Some d.docid → lists_of tree documents ≡ lists_of tree (d ∷ ds) →
+  Nothing : least_from None (lists_of tree documents) ≡ None → lists_of tree documents ≡ lists_of tree [] → hits_of tree documents ≡ []
+      → candidate_count tree documents ≡ 0 → Next tree documents
+  First : (d : Document) → (ds : List Document) → AreDocuments (d ∷ ds) → least_from None (lists_of tree documents) ≡ Some d.docid
+      → lists_of tree documents ≡ lists_of tree (d ∷ ds) →
       hits_of tree documents ≡ hits_of tree (d ∷ ds) → candidate_count tree documents ≡ 1 + candidate_count tree ds → Next tree documents
 
-counted : (tree : Tree) (d : Document) (ds : List Document) → candidate_count tree (d ∷ ds) ≡ cond (list_any (has_term d.postings) (terms_in tree)) 1 0 + candidate_count tree ds
+counted : (tree : Tree) (d : Document) (ds : List Document)
+    → candidate_count tree (d ∷ ds) ≡ cond (list_any (has_term d.postings) (terms_in tree)) 1 0 + candidate_count tree ds
 counted tree d ds = sum_by-cons (λ (e : Document). cond (list_any (has_term e.postings) (terms_in tree)) 1 0) d ds
 
 abbrev hit_in : Tree → Document → PlainHit
@@ -204,7 +227,8 @@ hit_in tree d = record { docid = d.docid; offsets = offsets_of d.postings tree }
 pub without_it : (tree : Tree) (d : Document) (ds : List Document) → accepts d.postings tree ≡ false → hits_of tree (d ∷ ds) ≡ hits_of tree ds
 without_it tree d ds is = ap (λ v. map (hit_in tree) (cond v (d ∷ filter (λ e. accepts e.postings tree) ds) (filter (λ e. accepts e.postings tree) ds))) is
 
-pub with_it : (tree : Tree) (d : Document) (ds : List Document) → accepts d.postings tree ≡ true → hits_of tree (d ∷ ds) ≡ record { docid = d.docid; offsets = offsets_of d.postings tree } ∷ hits_of tree ds
+pub with_it : (tree : Tree) (d : Document) (ds : List Document) → accepts d.postings tree ≡ true
+    → hits_of tree (d ∷ ds) ≡ record { docid = d.docid; offsets = offsets_of d.postings tree } ∷ hits_of tree ds
 with_it tree d ds is = ap (λ v. map (hit_in tree) (cond v (d ∷ filter (λ e. accepts e.postings tree) ds) (filter (λ e. accepts e.postings tree) ds))) is
 
 pub next_of : (tree : Tree) (documents : List Document) → AreDocuments documents → Next tree documents

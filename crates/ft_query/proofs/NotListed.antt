@@ -35,13 +35,16 @@ none_taken (p ∷ ps) t column pos none =
     ∙ ap (λ b. b || takes ps t column pos) (and-false test)
     ∙ none_taken ps t column pos (or_right (is_listed t p.term) (has_term ps t) none)
 
-none_occurs : (postings : List Posting) (p : PlainPhrase) → list_any (has_term postings) p.terms ≡ false → (column pos : ℕ) → occurs postings p column pos ≡ false
+none_occurs : (postings : List Posting) (p : PlainPhrase) → list_any (has_term postings) p.terms ≡ false → (column pos : ℕ)
+    → occurs postings p column pos ≡ false
 none_occurs postings p none column pos = by p.terms none
   where
-    by : (terms : List PlainTerm) → list_any (has_term postings) terms ≡ false → (is_within p.filter column && is_filled terms && take_row postings terms column pos) ≡ false
+    by : (terms : List PlainTerm) → list_any (has_term postings) terms ≡ false
+        → (is_within p.filter column && is_filled terms && take_row postings terms column pos) ≡ false
     by [] none = ap (λ b. b && true) (and-false (is_within p.filter column))
     by (t ∷ ts) none =
-        ap (λ b. is_within p.filter column && true && (b && take_row postings ts column (pos + 1))) (none_taken postings t column pos (or_left (has_term postings t) (list_any (has_term postings) ts) none))
+        ap (λ b. is_within p.filter column && true && (b && take_row postings ts column (pos + 1)))
+        (none_taken postings t column pos (or_left (has_term postings t) (list_any (has_term postings) ts) none))
         ∙ and-false (is_within p.filter column && true)
 
 no_occurrence : (postings : List Posting) (p : PlainPhrase) → list_any (has_term postings) p.terms ≡ false → occurrences postings p ≡ []
@@ -49,7 +52,8 @@ no_occurrence postings p none = filter_none (λ at. occurs postings p at.column 
 
 no_choice : (postings : List Posting) (p : PlainPhrase) (links : List PlainLink) → occurrences postings p ≡ [] → choices postings p links ≡ []
 no_choice postings p [] none = ap (map (λ (at : Place). at ∷ [])) none
-no_choice postings p (link ∷ links) none = ap (flat_map (λ (at : Place). map (λ choice. at ∷ choice) (filter (begins_near link.most _ at _) (choices postings link.to links)))) none
+no_choice postings p (link ∷ links) none =
+    ap (flat_map (λ (at : Place). map (λ choice. at ∷ choice) (filter (begins_near link.most _ at _) (choices postings link.to links)))) none
 
 pub accepts_none : (postings : List Posting) (tree : Tree) → list_any (has_term postings) (terms_in tree) ≡ false → accepts postings tree ≡ false
 accepts_none postings (phrase p) none = ap is_filled (no_occurrence postings p none)

@@ -1,5 +1,5 @@
 -- How the parts of what is left of a text change by one byte.
-use Rattle.std.proofs.Common.{◌≡◌, ℕ, ◌+◌, ◌-◌, ◌<◌, ◌≤◌, Bool, true, false, cond, List, [], ◌∷◌, ◌++◌, length, map, take, drop, get_or, refl, sym, ap, ◌∙◌, subst, arith, append_assoc, length-drop, get_or-drop, IsUtf8, IsCharBoundary, ⊎_elim}
+use Rattle.std.proofs.Common.{◌≡◌, ℕ, ◌+◌, ◌-◌, ◌<◌, ◌≤◌, Bool, true, false, List, [], ◌∷◌, ◌++◌, length, map, take, drop, get_or, refl, sym, ap, ◌∙◌, subst, arith, append_assoc, length-drop, get_or-drop, IsUtf8, IsCharBoundary, ⊎_elim}
 use Rattle.std.specs.Prelude.{◌==◌, ◌&&◌, ◌||◌, not, slice_range, flat_map}
 use Rattle.std.specs.List.{list_any}
 use Rattle.std.specs.Int.{is_in_range}
@@ -9,13 +9,15 @@ use Rattle.std.proofs.lemmas.List.Concat.{flat_map-append}
 use Rattle.std.proofs.lemmas.List.Folds.{list_any-append}
 use Rattle.std.proofs.lemmas.Str.{IsCharBoundary-start, IsCharBoundary-after_ascii}
 use Rattle.std.proofs.str.Laws.{order}
-use Rattle.ft_query.specs.Lexemes.{Lexeme, Part, open_part, close_part, Mark, quote, paren, space, plain, mark_of, chunk_parts, begun_after, parts_ended, parts_from, parts_of, lexemes_of_part}
+use Rattle.ft_query.specs.Lexemes.{Lexeme, Part, open_part, close_part, is_space, parts_of, lexemes_of_part}
 use Rattle.ft_query.specs.Reads.{is_unclosed}
-use Rattle.ft_query.specs.Machine.{capped, begun, ends_part}
+use Rattle.ft_query.specs.Machine.{capped, plain, mark_of, chunk_parts, begun_after, parts_ended, parts_from, begun, ends_part}
 use Rattle.ft_query.proofs.TokenSteps.{rest_at}
+use Rattle.ft_query.proofs.PartLaw.{mark_by, inside_ends, inside_grows, parts_by_bytes}
 
 -- the bytes from start to before the next place
-pub range_more : (text : List ℕ) (start place : ℕ) → start ≤ place → place < length text → slice_range text start (place + 1) ≡ slice_range text start place ++ get_or text place 0 ∷ []
+pub range_more : (text : List ℕ) (start place : ℕ) → start ≤ place → place < length text
+    → slice_range text start (place + 1) ≡ slice_range text start place ++ get_or text place 0 ∷ []
 range_more text start place before h =
     let more : place + 1 - start ≡ place - start + 1 = omega arith in
     let inside : place - start < length (drop start text) = omega (arith, length-drop start text) in
@@ -29,35 +31,12 @@ range_empty text place =
     let none : place - place ≡ 0 = omega arith in
     ap (λ n. take n (drop place text)) none
 
--- ---- one byte that ends nothing
-
-inside_ends : (q : Bool) (bytes : List ℕ) (m : Mark) → ends_part q m ≡ false → parts_ended (begun q bytes) m ≡ []
-inside_ends true bytes quote e = cc
-inside_ends true bytes (paren part) e = refl
-inside_ends true bytes space e = refl
-inside_ends true bytes plain e = refl
-inside_ends false bytes quote e = cc
-inside_ends false bytes (paren part) e = cc
-inside_ends false bytes space e = cc
-inside_ends false bytes plain e = refl
-
-inside_grows : (q : Bool) (bytes : List ℕ) (m : Mark) (b : ℕ) → ends_part q m ≡ false → begun_after (begun q bytes) m b ≡ begun q (bytes ++ b ∷ [])
-inside_grows true bytes quote b e = cc
-inside_grows true bytes (paren part) b e = refl
-inside_grows true bytes space b e = refl
-inside_grows true bytes plain b e = refl
-inside_grows false bytes quote b e = cc
-inside_grows false bytes (paren part) b e = cc
-inside_grows false bytes space b e = cc
-inside_grows false bytes plain b e = refl
-
 -- ---- one byte that ends what is begun
 
--- A byte has its mark by four tests. What is begun after one that ends something is empty, and a quoted part only after a
--- quote that ends a chunk.
+-- what is begun after a byte that ends something is empty, and a quoted part only after a quote that ends a chunk
 after_by : (q : Bool) (bytes : List ℕ) (b : ℕ) (is_quote is_open is_close is_space : Bool)
-    → ends_part q (cond is_quote quote (cond is_open (paren open_part) (cond is_close (paren close_part) (cond is_space space plain)))) ≡ true
-    → begun_after (begun q bytes) (cond is_quote quote (cond is_open (paren open_part) (cond is_close (paren close_part) (cond is_space space plain)))) b ≡ begun (not q && is_quote) []
+    → ends_part q (mark_by is_quote is_open is_close is_space) ≡ true
+    → begun_after (begun q bytes) (mark_by is_quote is_open is_close is_space) b ≡ begun (not q && is_quote) []
 after_by true bytes b true is_open is_close is_space e = refl
 after_by true bytes b false true is_close is_space e = cc
 after_by true bytes b false false true is_space e = cc
@@ -69,8 +48,9 @@ after_by false bytes b false false true is_space e = refl
 after_by false bytes b false false false true e = refl
 after_by false bytes b false false false false e = cc
 
-ends_after : (q : Bool) (bytes : List ℕ) (b : ℕ) → ends_part q (mark_of b) ≡ true → begun_after (begun q bytes) (mark_of b) b ≡ begun (not q && b == 34) []
-ends_after q bytes b e = after_by q bytes b (b == 34) (b == 40) (b == 41) (is_in_range 9 13 b || b == 32) e
+ends_after : (q : Bool) (bytes : List ℕ) (b : ℕ) → ends_part q (mark_of b) ≡ true
+    → begun_after (begun q bytes) (mark_of b) b ≡ begun (not q && b == 34) []
+ends_after q bytes b e = after_by q bytes b (b == 34) (b == 40) (b == 41) (is_space b) e
 
 chunk_closed : (bytes : List ℕ) → list_any is_unclosed (chunk_parts bytes) ≡ false
 chunk_closed [] = refl
@@ -81,7 +61,7 @@ chunk_then_closed [] part e = rw e refl
 chunk_then_closed (b ∷ bytes) part e = rw e refl
 
 closed_by : (q : Bool) (bytes : List ℕ) (is_quote is_open is_close is_space : Bool)
-    → list_any is_unclosed (parts_ended (begun q bytes) (cond is_quote quote (cond is_open (paren open_part) (cond is_close (paren close_part) (cond is_space space plain))))) ≡ false
+    → list_any is_unclosed (parts_ended (begun q bytes) (mark_by is_quote is_open is_close is_space)) ≡ false
 closed_by true bytes true is_open is_close is_space = refl
 closed_by true bytes false true is_close is_space = refl
 closed_by true bytes false false true is_space = refl
@@ -95,7 +75,7 @@ closed_by false bytes false false false false = refl
 
 -- no part that a byte ends is an unclosed quote
 ended_closed : (q : Bool) (bytes : List ℕ) (b : ℕ) → list_any is_unclosed (parts_ended (begun q bytes) (mark_of b)) ≡ false
-ended_closed q bytes b = closed_by q bytes (b == 34) (b == 40) (b == 41) (is_in_range 9 13 b || b == 32)
+ended_closed q bytes b = closed_by q bytes (b == 34) (b == 40) (b == 41) (is_space b)
 
 -- a byte that ends something is ASCII
 late_plain : (b : ℕ) → 128 ≤ b → mark_of b ≡ plain
@@ -103,7 +83,8 @@ late_plain b late =
     let no_quote : (b == 34) ≡ false = ne_eqb b 34 (λ e. omega arith) in
     let no_open : (b == 40) ≡ false = ne_eqb b 40 (λ e. omega arith) in
     let no_close : (b == 41) ≡ false = ne_eqb b 41 (λ e. omega arith) in
-    let no_space : (is_in_range 9 13 b || b == 32) ≡ false = or_from (is_in_range 9 13 b) (b == 32) (and_right _ _ (lt-leb b 13 (omega arith))) (ne_eqb b 32 (λ e. omega arith)) in
+    let no_space : is_space b ≡ false =
+    or_from (is_in_range 9 13 b) (b == 32) (and_right _ _ (lt-leb b 13 (omega arith))) (ne_eqb b 32 (λ e. omega arith)) in
     rw (no_quote, no_open, no_close, no_space) refl
 
 pub ends_ascii : (q : Bool) (b : ℕ) → ends_part q (mark_of b) ≡ true → b < 128
@@ -122,7 +103,8 @@ ends_ascii q b ends = ⊎_elim
 abbrev pub parts_left : List ℕ → Bool → ℕ → ℕ → List Part
 parts_left text q start place = parts_from (begun q (slice_range text start place)) (drop place text)
 
-left_inside : (text : List ℕ) (q : Bool) (start place : ℕ) → start ≤ place → place < length text → ends_part q (mark_of (get_or text place 0)) ≡ false → parts_left text q start place ≡ parts_left text q start (place + 1)
+left_inside : (text : List ℕ) (q : Bool) (start place : ℕ) → start ≤ place → place < length text → ends_part q (mark_of (get_or text place 0)) ≡ false
+    → parts_left text q start place ≡ parts_left text q start (place + 1)
 left_inside text q start place before h e =
     let b = get_or text place 0 in
     let bytes = slice_range text start place in
@@ -131,19 +113,24 @@ left_inside text q start place before h e =
     ∙ ap (λ after. parts_from after (drop (place + 1) text)) (inside_grows q bytes (mark_of b) b e ∙ ap (begun q) (sym (range_more text start place before h)))
 
 left_ended : (text : List ℕ) (q : Bool) (start place : ℕ) → place < length text → ends_part q (mark_of (get_or text place 0)) ≡ true
-    → parts_left text q start place ≡ parts_ended (begun q (slice_range text start place)) (mark_of (get_or text place 0)) ++ parts_left text (not q && get_or text place 0 == 34) (place + 1) (place + 1)
+    → parts_left text q start place
+    ≡ parts_ended (begun q (slice_range text start place)) (mark_of (get_or text place 0)) ++ parts_left text (not q && get_or text place 0 == 34) (place + 1)
+    (place + 1)
 left_ended text q start place h e =
     let b = get_or text place 0 in
     let bytes = slice_range text start place in
     ap (parts_from (begun q bytes)) (rest_at text place h)
-    ∙ ap (λ after. parts_ended (begun q bytes) (mark_of b) ++ parts_from after (drop (place + 1) text)) (ends_after q bytes b e ∙ ap (begun (not q && b == 34)) (sym (range_empty text (place + 1))))
+    ∙ ap (λ after. parts_ended (begun q bytes) (mark_of b) ++ parts_from after (drop (place + 1) text))
+    (ends_after q bytes b e ∙ ap (begun (not q && b == 34)) (sym (range_empty text (place + 1))))
 
 -- the lexemes of some parts, as the parser holds them
 abbrev pub held : List (List ℕ) → List Part → List Lexeme
 held columns parts = map capped (flat_map (lexemes_of_part columns) parts)
 
 held-append : (columns : List (List ℕ)) (xs ys : List Part) → held columns (xs ++ ys) ≡ held columns xs ++ held columns ys
-held-append columns xs ys = ap (map capped) (flat_map-append (lexemes_of_part columns) xs ys) ∙ map-append capped (flat_map (lexemes_of_part columns) xs) (flat_map (lexemes_of_part columns) ys)
+held-append columns xs ys =
+    ap (map capped) (flat_map-append (lexemes_of_part columns) xs ys)
+    ∙ map-append capped (flat_map (lexemes_of_part columns) xs) (flat_map (lexemes_of_part columns) ys)
 
 -- Before place these lexemes ended, and a quoted part or a chunk began at start: they and those of what is left are the text's.
 pub record Lexed (columns : List (List ℕ)) (text : List ℕ) (found : List Lexeme) (q : Bool) (start place : ℕ) : Type 0 where
@@ -156,8 +143,8 @@ pub lexed_none : (columns : List (List ℕ)) (text : List ℕ) → IsUtf8 text �
 lexed_none columns text utf8 = record {
   before = omega arith;
   cut = IsCharBoundary-start text utf8;
-  told = refl;
-  open_left = refl;
+  told = ap (held columns) (parts_by_bytes text);
+  open_left = ap (list_any is_unclosed) (parts_by_bytes text);
 }
 
 pub lexed_inside : {columns : List (List ℕ)} {text : List ℕ} {found : List Lexeme} {q : Bool} {start place : ℕ} → Lexed columns text found q start place
@@ -171,7 +158,8 @@ lexed_inside {columns} {text} {found} {q} {start} {place} so_far h e =
       open_left = ap (list_any is_unclosed) (sym same) ∙ so_far.open_left;
     }
 
-pub lexed_ended : {columns : List (List ℕ)} {text : List ℕ} {found found' : List Lexeme} {q : Bool} {start place : ℕ} → Lexed columns text found q start place → IsUtf8 text
+pub lexed_ended : {columns : List (List ℕ)} {text : List ℕ} {found found' : List Lexeme} {q : Bool} {start place : ℕ}
+    → Lexed columns text found q start place → IsUtf8 text
     → place < length text → ends_part q (mark_of (get_or text place 0)) ≡ true
     → found' ≡ found ++ held columns (parts_ended (begun q (slice_range text start place)) (mark_of (get_or text place 0)))
     → Lexed columns text found' (not q && get_or text place 0 == 34) (place + 1) (place + 1)
@@ -198,7 +186,8 @@ lexed_ended {columns} {text} {found} {found'} {q} {start} {place} so_far utf8 h 
 
 -- ---- the same as the loop over the text's bytes meets it
 
-pub step_inside : {columns : List (List ℕ)} {text bytes : List ℕ} {found found' : List Lexeme} {q q' : Bool} {start start' place : ℕ} → Lexed columns text found q start place
+pub step_inside : {columns : List (List ℕ)} {text bytes : List ℕ} {found found' : List Lexeme} {q q' : Bool} {start start' place : ℕ}
+    → Lexed columns text found q start place
     → bytes ≡ text → place < length bytes → ends_part q (mark_of (get_or bytes place 0)) ≡ false → found' ≡ found → q' ≡ q → start' ≡ start
     → Lexed columns text found' q' start' (place + 1)
 step_inside {columns} {text} {bytes} {found} {found'} {q} {q'} {start} {start'} {place} so_far is_text h e same_found same_q same_start =
@@ -207,14 +196,17 @@ step_inside {columns} {text} {bytes} {found} {found'} {q} {q'} {start} {start'} 
     (subst (λ p. Lexed columns text found p start' (place + 1)) (sym same_q)
     (subst (λ n. Lexed columns text found q n (place + 1)) (sym same_start) after))
 
-pub step_ended : {columns : List (List ℕ)} {text bytes part : List ℕ} {found found' : List Lexeme} {q q' : Bool} {start start' place : ℕ} → Lexed columns text found q start place → IsUtf8 text
+pub step_ended : {columns : List (List ℕ)} {text bytes part : List ℕ} {found found' : List Lexeme} {q q' : Bool} {start start' place : ℕ}
+    → Lexed columns text found q start place → IsUtf8 text
     → bytes ≡ text → place < length bytes → ends_part q (mark_of (get_or bytes place 0)) ≡ true → part ≡ slice_range text start place
     → found' ≡ found ++ held columns (parts_ended (begun q part) (mark_of (get_or bytes place 0)))
     → q' ≡ (not q && get_or bytes place 0 == 34) → start' ≡ place + 1
     → Lexed columns text found' q' start' (place + 1)
 step_ended {columns} {text} {bytes} {part} {found} {found'} {q} {q'} {start} {start'} {place} so_far utf8 is_text h e cut grown is_q is_start =
     let kind = ap (λ bs. ends_part q (mark_of (get_or bs place 0))) (sym is_text) ∙ e in
-    let grows = grown ∙ ap (λ p. found ++ held columns (parts_ended (begun q p) (mark_of (get_or bytes place 0)))) cut ∙ ap (λ bs. found ++ held columns (parts_ended (begun q (slice_range text start place)) (mark_of (get_or bs place 0)))) is_text in
+    let grows =
+    grown ∙ ap (λ p. found ++ held columns (parts_ended (begun q p) (mark_of (get_or bytes place 0)))) cut
+    ∙ ap (λ bs. found ++ held columns (parts_ended (begun q (slice_range text start place)) (mark_of (get_or bs place 0)))) is_text in
     let after = lexed_ended so_far utf8 (subst (λ bs. place < length bs) is_text h) kind grows in
     subst (λ p. Lexed columns text found' p start' (place + 1)) (sym (is_q ∙ ap (λ bs. not q && get_or bs place 0 == 34) is_text))
     (subst (λ n. Lexed columns text found' (not q && get_or text place 0 == 34) n (place + 1)) (sym is_start) after)

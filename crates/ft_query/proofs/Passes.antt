@@ -19,7 +19,8 @@ use Rattle.ft_query.specs.declared.walk.places.Starts.{Starts}
 abbrev left_over : Bool × List Place → ℕ
 left_over r = length r.1 + cond r.0 1 0
 
-seek_one : (o : Ordering) (y : Place) (ys : List Place) (more : Bool × List Place) → left_over more ≤ length ys → left_over (match_ordering o more (true, ys) (false, y ∷ ys)) ≤ length (y ∷ ys)
+seek_one : (o : Ordering) (y : Place) (ys : List Place) (more : Bool × List Place) → left_over more ≤ length ys
+    → left_over (match_ordering o more (true, ys) (false, y ∷ ys)) ≤ length (y ∷ ys)
 seek_one Less y ys more h = omega arith
 seek_one Equal y ys more h = omega arith
 seek_one Greater y ys more h = omega arith
@@ -70,17 +71,22 @@ all_may_begin (x ∷ xs) = ap (λ ys. x ∷ ys) (all_may_begin xs)
 
 -- ---- the lists of a phrase's terms, one after the other
 
-pub total_more : (lists : List Places) (i : ℕ) (l : Places) → i < length lists → total (plain_lists (drop i lists)) ≡ length (get_or lists i l).places.now + total (plain_lists (drop (i + 1) lists))
+pub total_more : (lists : List Places) (i : ℕ) (l : Places) → i < length lists
+    → total (plain_lists (drop i lists)) ≡ length (get_or lists i l).places.now + total (plain_lists (drop (i + 1) lists))
 total_more lists i l h = ap (λ ls. total (plain_lists ls)) (drop_more lists i l h)
 
 -- the first term of those that are left, with its list
-pub follow_more : (i : ℕ) (terms : List QueryTerm) (lists : List Places) (starts : List Place) (t : QueryTerm) (l : Places) → i < length terms → length lists ≡ length terms → t ≡ get_or terms i t
-    → followed (i + 1) (map plain_term (drop i terms)) (plain_lists (drop i lists)) starts ≡ followed (i + 1 + 1) (map plain_term (drop (i + 1) terms)) (plain_lists (drop (i + 1) lists)) (cond t.first [] (among (i + 1) 0 starts (get_or lists i l).places.now))
+pub follow_more : (i : ℕ) (terms : List QueryTerm) (lists : List Places) (starts : List Place) (t : QueryTerm) (l : Places) → i < length terms
+    → length lists ≡ length terms → t ≡ get_or terms i t
+    → followed (i + 1) (map plain_term (drop i terms)) (plain_lists (drop i lists)) starts
+    ≡ followed (i + 1 + 1) (map plain_term (drop (i + 1) terms)) (plain_lists (drop (i + 1) lists))
+    (cond t.first [] (among (i + 1) 0 starts (get_or lists i l).places.now))
 follow_more i terms lists starts t l h same is =
     let inside : i < length lists = omega arith in
     ap (λ ts. followed (i + 1) (map plain_term ts) (plain_lists (drop i lists)) starts) (drop_more terms i t h)
     ∙ ap (λ ls. followed (i + 1) (map plain_term (get_or terms i t ∷ drop (i + 1) terms)) (plain_lists ls) starts) (drop_more lists i l inside)
-    ∙ ap (λ (u : QueryTerm). followed (i + 1 + 1) (map plain_term (drop (i + 1) terms)) (plain_lists (drop (i + 1) lists)) (cond u.first [] (among (i + 1) 0 starts (get_or lists i l).places.now))) (sym is)
+    ∙ ap (λ (u : QueryTerm). followed (i + 1 + 1) (map plain_term (drop (i + 1) terms)) (plain_lists (drop (i + 1) lists))
+    (cond u.first [] (among (i + 1) 0 starts (get_or lists i l).places.now))) (sym is)
 
 pub followed_few : (first : Bool) (i : ℕ) (starts list : List Place) → length (cond first [] (among i 0 starts list)) ≤ length list
 followed_few true i starts list = omega arith
@@ -93,11 +99,14 @@ starts_push [] s = refl
 starts_push (x ∷ all) s = ap (λ ls. x.places.items ∷ ls) (starts_push all s)
 
 -- a chain has a first phrase
-linked_first : (p : PlainPhrase) (links : List PlainLink) (lists : List (List Place)) → linked p links lists ≡ head_of (linked p links lists) ∷ drop 1 (linked p links lists)
+linked_first : (p : PlainPhrase) (links : List PlainLink) (lists : List (List Place))
+    → linked p links lists ≡ head_of (linked p links lists) ∷ drop 1 (linked p links lists)
 linked_first p [] lists = refl
 linked_first p (link ∷ links) lists = refl
 
-pub linked_push : (p : PlainPhrase) (links : List PlainLink) (lists : List (List Place)) (rest : List Starts) (next : Starts) → next.places.items ≡ head_of (linked p links lists) → plain_starts rest ≡ reverse (drop 1 (linked p links lists)) → plain_starts (rest ++ next ∷ []) ≡ reverse (linked p links lists)
+pub linked_push : (p : PlainPhrase) (links : List PlainLink) (lists : List (List Place)) (rest : List Starts) (next : Starts)
+    → next.places.items ≡ head_of (linked p links lists) → plain_starts rest ≡ reverse (drop 1 (linked p links lists))
+    → plain_starts (rest ++ next ∷ []) ≡ reverse (linked p links lists)
 linked_push p links lists rest next first later =
     starts_push rest next
     ∙ ap (λ ls. ls ++ next.places.items ∷ []) later
@@ -118,7 +127,8 @@ marks_length i (l ∷ ls) starts = ap (λ n. suc n) (marks_length (i + 1) ls sta
 
 -- what the lists of a phrase's terms add before the terms behind it
 pub numbered_marks : (old : List Offset) (n : ℕ) (lists : List Places) (starts : List Place) (more : List (List Place))
-    → old ++ numbered n (marks_from 0 (plain_lists lists) starts) ++ numbered (n + length lists) more ≡ old ++ numbered n (marks_from 0 (plain_lists lists) starts ++ more)
+    → old ++ numbered n (marks_from 0 (plain_lists lists) starts) ++ numbered (n + length lists) more
+    ≡ old ++ numbered n (marks_from 0 (plain_lists lists) starts ++ more)
 numbered_marks old n lists starts more =
     let ms = marks_from 0 (plain_lists lists) starts in
     let many : length ms ≡ length lists = marks_length 0 (plain_lists lists) starts ∙ length-map lists (λ l. l.places.now) in
@@ -138,27 +148,33 @@ map-take zero lists = refl
 map-take (suc n) [] = refl
 map-take (suc n) (l ∷ lists) = ap (λ ls. l.places.now ∷ ls) (map-take n lists)
 
-pub back_lists : (terms : List QueryTerm) (lists back : List Places) (n : ℕ) → n ≡ length terms → back ≡ drop n lists → drop (length (map plain_term terms)) (plain_lists lists) ≡ plain_lists back
+pub back_lists : (terms : List QueryTerm) (lists back : List Places) (n : ℕ) → n ≡ length terms → back ≡ drop n lists
+    → drop (length (map plain_term terms)) (plain_lists lists) ≡ plain_lists back
 back_lists terms lists back n size is =
     ap (λ k. drop k (plain_lists lists)) (length-map terms plain_term ∙ sym size) ∙ map-drop n lists ∙ ap plain_lists (sym is)
 
-front_lists : (terms : List QueryTerm) (lists front : List Places) (n : ℕ) → n ≡ length terms → front ≡ take n lists → take (length (map plain_term terms)) (plain_lists lists) ≡ plain_lists front
+front_lists : (terms : List QueryTerm) (lists front : List Places) (n : ℕ) → n ≡ length terms → front ≡ take n lists
+    → take (length (map plain_term terms)) (plain_lists lists) ≡ plain_lists front
 front_lists terms lists front n size is =
     ap (λ k. take k (plain_lists lists)) (length-map terms plain_term ∙ sym size) ∙ map-take n lists ∙ ap plain_lists (sym is)
 
 -- the marks of one link, and those of the links behind it
-pub link_marks_one : (k : ℕ) (starts : List Place) (link : Link) (links : List Link) (lists own behind : List Places) (others : Starts) (all : List Starts) (size : ℕ) (next : List Place)
+pub link_marks_one : (k : ℕ) (starts : List Place) (link : Link) (links : List Link) (lists own behind : List Places) (others : Starts) (all : List Starts)
+    (size : ℕ) (next : List Place)
     → size ≡ length link.to.terms.items → own ≡ take size lists → behind ≡ drop size lists → next ≡ near_those link.most k starts size others.places.items
-    → marks_from 0 (plain_lists own) next ++ link_marks size next (map plain_link links) (plain_lists behind) (plain_starts all) ≡ link_marks k starts (map plain_link (link ∷ links)) (plain_lists lists) (plain_starts (others ∷ all))
+    → marks_from 0 (plain_lists own) next ++ link_marks size next (map plain_link links) (plain_lists behind) (plain_starts all)
+    ≡ link_marks k starts (map plain_link (link ∷ links)) (plain_lists lists) (plain_starts (others ∷ all))
 link_marks_one k starts link links lists own behind others all size next is_size is_own is_behind is_next =
     let terms = link.to.terms.items in
     let n = length (map plain_term terms) in
     let same : size ≡ n = is_size ∙ sym (length-map terms plain_term) in
-    let marked : ℕ → List Place → List (List Place) → List (List Place) → List (List Place) = λ m s front back. marks_from 0 front s ++ link_marks m s (map plain_link links) back (plain_starts all) in
+    let marked : ℕ → List Place → List (List Place) → List (List Place) → List (List Place) =
+    λ m s front back. marks_from 0 front s ++ link_marks m s (map plain_link links) back (plain_starts all) in
     ap (λ s. marked size s (plain_lists own) (plain_lists behind)) is_next
     ∙ ap (λ m. marked m (near_those link.most k starts m others.places.items) (plain_lists own) (plain_lists behind)) same
     ∙ ap (λ ls. marked n (near_those link.most k starts n others.places.items) ls (plain_lists behind)) (sym (front_lists terms lists own size is_size is_own))
-    ∙ ap (λ ls. marked n (near_those link.most k starts n others.places.items) (take n (plain_lists lists)) ls) (sym (back_lists terms lists behind size is_size is_behind))
+    ∙ ap (λ ls. marked n (near_those link.most k starts n others.places.items) (take n (plain_lists lists)) ls)
+    (sym (back_lists terms lists behind size is_size is_behind))
 
 pub linked_length : (p : PlainPhrase) (links : List PlainLink) (lists : List (List Place)) → length (drop 1 (linked p links lists)) ≡ length links
 linked_length p [] lists = refl
@@ -183,15 +199,18 @@ starts_many all lists is = sym (length-map all (λ s. s.places.items)) ∙ ap le
 -- the marks of a chain's first phrase, and those of its links
 pub chain_marks : (first : Phrase) (links : List Link) (lists own behind : List Places) (starts : List Place) (all : List (List Place)) (size : ℕ)
     → size ≡ length first.terms.items → own ≡ take size lists → behind ≡ drop size lists
-    → starts ≡ head_of (linked (plain_phrase first) (map plain_link links) (plain_lists lists)) → all ≡ drop 1 (linked (plain_phrase first) (map plain_link links) (plain_lists lists))
-    → marks_from 0 (plain_lists own) starts ++ link_marks size starts (map plain_link links) (plain_lists behind) all ≡ marks_of (chain (plain_phrase first) (map plain_link links)) (plain_lists lists)
+    → starts ≡ head_of (linked (plain_phrase first) (map plain_link links) (plain_lists lists))
+    → all ≡ drop 1 (linked (plain_phrase first) (map plain_link links) (plain_lists lists))
+    → marks_from 0 (plain_lists own) starts ++ link_marks size starts (map plain_link links) (plain_lists behind) all
+    ≡ marks_of (chain (plain_phrase first) (map plain_link links)) (plain_lists lists)
 chain_marks first links lists own behind starts all size is_size is_own is_behind is_starts is_all =
     let terms = first.terms.items in
     let n = length (map plain_term terms) in
     let same : size ≡ n = is_size ∙ sym (length-map terms plain_term) in
     let begun = head_of (linked (plain_phrase first) (map plain_link links) (plain_lists lists)) in
     let later = drop 1 (linked (plain_phrase first) (map plain_link links) (plain_lists lists)) in
-    let marked : ℕ → List Place → List (List Place) → List (List Place) → List (List Place) → List (List Place) = λ m s ss front back. marks_from 0 front s ++ link_marks m s (map plain_link links) back ss in
+    let marked : ℕ → List Place → List (List Place) → List (List Place) → List (List Place) → List (List Place) =
+    λ m s ss front back. marks_from 0 front s ++ link_marks m s (map plain_link links) back ss in
     ap (λ s. marked size s all (plain_lists own) (plain_lists behind)) is_starts
     ∙ ap (λ ss. marked size begun ss (plain_lists own) (plain_lists behind)) is_all
     ∙ ap (λ m. marked m begun later (plain_lists own) (plain_lists behind)) same
@@ -201,8 +220,10 @@ chain_marks first links lists own behind starts all size is_size is_own is_behin
 -- the steps for a chain: back to its first phrase, for that one's marks, and for those of its links
 pub chain_cost : (first : Phrase) (links : List Link) (lists own behind : List Places) (starts : List Place) (all : List (List Place)) (size : ℕ)
     → size ≡ length first.terms.items → own ≡ take size lists → behind ≡ drop size lists
-    → starts ≡ head_of (linked (plain_phrase first) (map plain_link links) (plain_lists lists)) → all ≡ drop 1 (linked (plain_phrase first) (map plain_link links) (plain_lists lists))
-    → 1 + (linked_cost (plain_phrase first) (map plain_link links) (plain_lists lists) + total (plain_lists own) + size * length starts + link_cost size starts (map plain_link links) (plain_lists behind) all) ≡ visit_cost (chain (plain_phrase first) (map plain_link links)) (plain_lists lists)
+    → starts ≡ head_of (linked (plain_phrase first) (map plain_link links) (plain_lists lists))
+    → all ≡ drop 1 (linked (plain_phrase first) (map plain_link links) (plain_lists lists))
+    → 1 + (linked_cost (plain_phrase first) (map plain_link links) (plain_lists lists) + total (plain_lists own) + size * length starts + link_cost size starts
+    (map plain_link links) (plain_lists behind) all) ≡ visit_cost (chain (plain_phrase first) (map plain_link links)) (plain_lists lists)
 chain_cost first links lists own behind starts all size is_size is_own is_behind is_starts is_all =
     let terms = first.terms.items in
     let n = length (map plain_term terms) in
@@ -210,7 +231,8 @@ chain_cost first links lists own behind starts all size is_size is_own is_behind
     let begun = head_of (linked (plain_phrase first) (map plain_link links) (plain_lists lists)) in
     let later = drop 1 (linked (plain_phrase first) (map plain_link links) (plain_lists lists)) in
     let back = linked_cost (plain_phrase first) (map plain_link links) (plain_lists lists) in
-    let cost : ℕ → List Place → List (List Place) → List (List Place) → List (List Place) → ℕ = λ m s ss front rest. 1 + (back + total front + m * length s + link_cost m s (map plain_link links) rest ss) in
+    let cost : ℕ → List Place → List (List Place) → List (List Place) → List (List Place) → ℕ =
+    λ m s ss front rest. 1 + (back + total front + m * length s + link_cost m s (map plain_link links) rest ss) in
     ap (λ s. cost size s all (plain_lists own) (plain_lists behind)) is_starts
     ∙ ap (λ ss. cost size begun ss (plain_lists own) (plain_lists behind)) is_all
     ∙ ap (λ m. cost m begun later (plain_lists own) (plain_lists behind)) same

@@ -35,24 +35,28 @@ before_place p q (inr h) = inr (h.0, h.1)
 
 listed_later : (p : Posting) (t : PlainTerm) (ps : List Posting) → AllByRecursion (IsBefore p) ps → AllByRecursion (Before p.place) (listed_places ps t)
 listed_later p t [] all = tt
-listed_later p t (q ∷ qs) all = elim (is_listed t q.term) as (λ b. AllByRecursion (Before p.place) (map (λ (u : Posting). u.place) (cond b (q ∷ filter (λ u. is_listed t u.term) qs) (filter (λ u. is_listed t u.term) qs)))) [
-  | true ↦ (before_place p q all.0, listed_later p t qs all.1)
-  | false ↦ listed_later p t qs all.1
-]
+listed_later p t (q ∷ qs) all =
+    elim (is_listed t q.term) as (λ b. AllByRecursion (Before p.place)
+    (map (λ (u : Posting). u.place) (cond b (q ∷ filter (λ u. is_listed t u.term) qs) (filter (λ u. is_listed t u.term) qs)))) [
+      | true ↦ (before_place p q all.0, listed_later p t qs all.1)
+      | false ↦ listed_later p t qs all.1
+    ]
 
 pub listed_rising : (postings : List Posting) (t : PlainTerm) → AllPairs IsBefore postings → Rising (listed_places postings t)
 listed_rising [] t ordered = tt
 listed_rising (p ∷ ps) t ordered =
     let later = listed_later p t ps (recursion_from_All (IsBefore p) ps (pairs_head IsBefore p ps ordered)) in
     let rest = listed_rising ps t (pairs_tail IsBefore p ps ordered) in
-    elim (is_listed t p.term) as (λ b. Rising (map (λ (u : Posting). u.place) (cond b (p ∷ filter (λ u. is_listed t u.term) ps) (filter (λ u. is_listed t u.term) ps)))) [
+    elim (is_listed t p.term) as (λ b. Rising (map (λ (u : Posting). u.place)
+    (cond b (p ∷ filter (λ u. is_listed t u.term) ps) (filter (λ u. is_listed t u.term) ps)))) [
       | true ↦ (later, rest)
       | false ↦ rest
     ]
 
 pub places_rising : (postings : List Posting) → AllPairs IsBefore postings → Rising (places_of postings)
 places_rising [] ordered = tt
-places_rising (p ∷ ps) ordered = (all_places p ps (recursion_from_All (IsBefore p) ps (pairs_head IsBefore p ps ordered)), places_rising ps (pairs_tail IsBefore p ps ordered))
+places_rising (p ∷ ps) ordered =
+    (all_places p ps (recursion_from_All (IsBefore p) ps (pairs_head IsBefore p ps ordered)), places_rising ps (pairs_tail IsBefore p ps ordered))
   where
     all_places : (p : Posting) (ps : List Posting) → AllByRecursion (IsBefore p) ps → AllByRecursion (Before p.place) (places_of ps)
     all_places p [] all = tt
@@ -88,10 +92,11 @@ filter_none (x ∷ xs) = filter_none xs
 
 filter_filter : {X : Type 0} (p q : X → Bool) (xs : List X) → filter p (filter q xs) ≡ filter (λ x. q x && p x) xs
 filter_filter p q [] = refl
-filter_filter p q (x ∷ xs) = elim (q x) as (λ b. filter p (cond b (x ∷ filter q xs) (filter q xs)) ≡ cond (b && p x) (x ∷ filter (λ u. q u && p u) xs) (filter (λ u. q u && p u) xs)) [
-  | true ↦ ap (λ ls. cond (p x) (x ∷ ls) ls) (filter_filter p q xs)
-  | false ↦ filter_filter p q xs
-]
+filter_filter p q (x ∷ xs) =
+    elim (q x) as (λ b. filter p (cond b (x ∷ filter q xs) (filter q xs)) ≡ cond (b && p x) (x ∷ filter (λ u. q u && p u) xs) (filter (λ u. q u && p u) xs)) [
+      | true ↦ ap (λ ls. cond (p x) (x ∷ ls) ls) (filter_filter p q xs)
+      | false ↦ filter_filter p q xs
+    ]
 
 pub filter_alike : {X : Type 0} (p q : X → Bool) (xs : List X) → ((x : X) → p x ≡ q x) → filter p xs ≡ filter q xs
 filter_alike p q [] same = refl
@@ -106,12 +111,14 @@ one_test : (first : Bool) (i : ℕ) (starts list : List Place) → 0 < i → Ris
     → cond first [] (among i 0 starts list) ≡ filter (λ at. list_any (stands at.column (at.pos + i)) (filter (λ y. not first || y.pos == 0) list)) starts
 one_test true i starts list some rising listed =
     sym (filter_alike (λ at. list_any (stands at.column (at.pos + i)) (filter (λ y. y.pos == 0) list)) (λ at. false) starts
-    (λ at. any_filter (stands at.column (at.pos + i)) (λ y. y.pos == 0) list ∙ any_same (λ y. y.pos == 0 && stands at.column (at.pos + i) y) (λ y. false) list (λ y. not_first i at.column at.pos y some) ∙ none_any list)
+    (λ at. any_filter (stands at.column (at.pos + i)) (λ y. y.pos == 0) list ∙ any_same (λ y. y.pos == 0 && stands at.column (at.pos + i) y) (λ y. false) list
+    (λ y. not_first i at.column at.pos y some) ∙ none_any list)
     ∙ filter_none starts)
 one_test false i starts list some rising listed =
     among_is i 0 starts list rising listed
     ∙ filter_alike (λ at. list_any (meets i 0 at) list) (λ at. list_any (stands at.column (at.pos + i)) (filter (λ y. true) list)) starts
-    (λ at. any_same (meets i 0 at) (stands at.column (at.pos + i)) list (λ y. ap (λ n. y.column == at.column && n == at.pos + i) (add-zero y.pos)) ∙ sym (ap (list_any (stands at.column (at.pos + i))) (filter_all list)))
+    (λ at. any_same (meets i 0 at) (stands at.column (at.pos + i)) list (λ y. ap (λ n. y.column == at.column && n == at.pos + i) (add-zero y.pos)) ∙ sym
+    (ap (list_any (stands at.column (at.pos + i))) (filter_all list)))
 
 next_pos : (pos i : ℕ) → pos + (i + 1) ≡ pos + i + 1
 next_pos pos i = omega arith
@@ -123,11 +130,14 @@ followed_is postings i (t ∷ ts) starts ordered some rising =
     let here = λ (at : Place). list_any (stands at.column (at.pos + i)) (filter (may_take t) (listed_places postings t)) in
     let kept = filter here starts in
     let rest = map (term_places postings) ts in
-    ap (followed (i + 1) ts (map (listed_places postings) ts)) (one_test t.first i starts (listed_places postings t) some rising (listed_rising postings t ordered))
+    ap (followed (i + 1) ts (map (listed_places postings) ts))
+    (one_test t.first i starts (listed_places postings t) some rising (listed_rising postings t ordered))
     ∙ followed_is postings (i + 1) ts kept ordered (omega arith) (rising_filter here starts rising)
     ∙ filter_filter (λ at. follow rest at.column (at.pos + (i + 1))) here starts
-    ∙ filter_alike (λ at. here at && follow rest at.column (at.pos + (i + 1))) (λ at. list_any (stands at.column (at.pos + i)) (term_places postings t) && follow rest at.column (at.pos + i + 1)) starts
-    (λ at. ap (λ l. list_any (stands at.column (at.pos + i)) l && follow rest at.column (at.pos + (i + 1))) (places_by_list postings t) ∙ ap (λ n. list_any (stands at.column (at.pos + i)) (term_places postings t) && follow rest at.column n) (next_pos at.pos i))
+    ∙ filter_alike (λ at. here at && follow rest at.column (at.pos + (i + 1)))
+    (λ at. list_any (stands at.column (at.pos + i)) (term_places postings t) && follow rest at.column (at.pos + i + 1)) starts
+    (λ at. ap (λ l. list_any (stands at.column (at.pos + i)) l && follow rest at.column (at.pos + (i + 1))) (places_by_list postings t) ∙ ap
+    (λ n. list_any (stands at.column (at.pos + i)) (term_places postings t) && follow rest at.column n) (next_pos at.pos i))
 
 turned : (w m f : Bool) → ((w && m) && f) ≡ (m && (w && f))
 turned true m f = refl
@@ -135,15 +145,18 @@ turned false true f = refl
 turned false false f = refl
 
 -- the passes give a phrase's occurrences
-pub starts_are : (postings : List Posting) (only : Option ℕ) (ts : List PlainTerm) → AllPairs IsBefore postings → starts_from only ts (map (listed_places postings) ts) ≡ occurrences postings (record { filter = only; terms = ts })
+pub starts_are : (postings : List Posting) (only : Option ℕ) (ts : List PlainTerm) → AllPairs IsBefore postings
+    → starts_from only ts (map (listed_places postings) ts) ≡ occurrences postings (record { filter = only; terms = ts })
 starts_are postings only [] ordered = occurrences_by_lists postings only [] ordered
 starts_are postings only (t ∷ ts) ordered =
     let list = listed_places postings t in
     let rest = map (term_places postings) ts in
     let after = λ (at : Place). follow rest at.column (at.pos + 1) in
-    followed_is postings 1 ts (filter (may_begin only t.first) list) ordered (omega arith) (rising_filter (may_begin only t.first) list (listed_rising postings t ordered))
+    followed_is postings 1 ts (filter (may_begin only t.first) list) ordered (omega arith)
+    (rising_filter (may_begin only t.first) list (listed_rising postings t ordered))
     ∙ filter_filter after (may_begin only t.first) list
-    ∙ filter_alike (λ at. may_begin only t.first at && after at) (λ at. may_take t at && (is_within only at.column && after at)) list (λ at. turned (is_within only at.column) (may_take t at) (after at))
+    ∙ filter_alike (λ at. may_begin only t.first at && after at) (λ at. may_take t at && (is_within only at.column && after at)) list
+    (λ at. turned (is_within only at.column) (may_take t at) (after at))
     ∙ sym (filter_filter (λ at. is_within only at.column && after at) (may_take t) list)
     ∙ ap (filter (λ at. is_within only at.column && after at)) (places_by_list postings t)
     ∙ occurrences_by_lists postings only (t ∷ ts) ordered

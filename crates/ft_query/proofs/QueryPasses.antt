@@ -36,13 +36,17 @@ accepted_is postings (without p q) ordered =
     ∙ ap (λ b. b && not (is_accepted q (lists_for postings q))) (accepted_is postings p ordered)
     ∙ ap (λ b. accepts postings p && not b) (accepted_is postings q ordered)
 
-phrase_marks : (postings : List Posting) (p : PlainPhrase) → AllPairs IsBefore postings → marks_from 0 (map (listed_places postings) p.terms) (starts_of p (map (listed_places postings) p.terms)) ≡ taken_in postings 0 p.terms (occurrences postings p)
+phrase_marks : (postings : List Posting) (p : PlainPhrase) → AllPairs IsBefore postings
+    → marks_from 0 (map (listed_places postings) p.terms) (starts_of p (map (listed_places postings) p.terms))
+    ≡ taken_in postings 0 p.terms (occurrences postings p)
 phrase_marks postings p ordered =
     ap (marks_from 0 (map (listed_places postings) p.terms)) (starts_are postings p.filter p.terms ordered)
-    ∙ marks_are postings 0 p.terms (occurrences postings p) (occurrences postings p) ordered (occurrences_rising postings p ordered) (occurrences_take postings p (places_of postings)) (λ t. refl)
+    ∙ marks_are postings 0 p.terms (occurrences postings p) (occurrences postings p) ordered (occurrences_rising postings p ordered)
+    (occurrences_take postings p (places_of postings)) (λ t. refl)
 
 two_marks : (postings : List Posting) (p q : Tree) → marks_of p (lists_for postings p) ≡ taken postings p → marks_of q (lists_for postings q) ≡ taken postings q
-    → marks_of p (take (length (terms_in p)) (map (listed_places postings) (terms_in p ++ terms_in q))) ++ marks_of q (drop (length (terms_in p)) (map (listed_places postings) (terms_in p ++ terms_in q))) ≡ taken postings p ++ taken postings q
+    → marks_of p (take (length (terms_in p)) (map (listed_places postings) (terms_in p ++ terms_in q))) ++ marks_of q
+    (drop (length (terms_in p)) (map (listed_places postings) (terms_in p ++ terms_in q))) ≡ taken postings p ++ taken postings q
 two_marks postings p q left right =
     let lists = map (listed_places postings) (terms_in p ++ terms_in q) in
     ap (λ ls. marks_of p ls ++ marks_of q (drop (length (terms_in p)) lists)) (front_part (listed_places postings) (terms_in p) (terms_in q))

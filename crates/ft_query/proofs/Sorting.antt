@@ -38,7 +38,8 @@ key_flips a b =
     flips : (x y : ℕ) → (x == y) ≡ (y == x)
     flips x y = grind (arith, nat_tests)
 
-rises_by : (a b : Offset) (columns places terms : Ordering) → Compared b.column a.column columns → Compared b.place a.place places → Compared b.term a.term terms
+rises_by : (a b : Offset) (columns places terms : Ordering) → Compared b.column a.column columns → Compared b.place a.place places
+    → Compared b.term a.term terms
     → is_lt (ordering_then (ordering_then columns places) terms) ≡ false → same_key a b ≡ false → Rises a b
 rises_by a b Less places terms c p t not_before differ = cc
 rises_by a b Greater places terms c p t not_before differ = inl c
@@ -46,11 +47,14 @@ rises_by a b Equal Less terms c p t not_before differ = cc
 rises_by a b Equal Greater terms c p t not_before differ = inr (inl (sym c, p))
 rises_by a b Equal Equal Less c p t not_before differ = cc
 rises_by a b Equal Equal Greater c p t not_before differ = inr (inr (sym c, sym p, t))
-rises_by a b Equal Equal Equal c p t not_before differ = let no : same_key a b ≡ true = grind (arith, nat_tests) in let bad : true ≡ false = sym no ∙ differ in cc
+rises_by a b Equal Equal Equal c p t not_before differ =
+    let no : same_key a b ≡ true = grind (arith, nat_tests) in let bad : true ≡ false = sym no ∙ differ in cc
 
 -- one that doesn't precede another and has another key comes after it
 rises_after : (a b : Offset) → precedes b a ≡ false → same_key a b ≡ false → Rises a b
-rises_after a b not_before differ = rises_by a b (nat_cmp b.column a.column) (nat_cmp b.place a.place) (nat_cmp b.term a.term) (compared b.column a.column) (compared b.place a.place) (compared b.term a.term) not_before differ
+rises_after a b not_before differ =
+    rises_by a b (nat_cmp b.column a.column) (nat_cmp b.place a.place) (nat_cmp b.term a.term) (compared b.column a.column) (compared b.place a.place)
+    (compared b.term a.term) not_before differ
 
 rises_on : (a b c : Offset) → Rises a b → Rises b c → Rises a c
 rises_on a b c (inl h) (inl k) = inl (omega arith)
@@ -73,16 +77,20 @@ all_rise (x ∷ []) next = AllPairs-cons Rises x [] (All-nil (Rises x)) (λ i j 
 all_rise (x ∷ y ∷ os) next =
     let rest = all_rise (y ∷ os) (λ k d h. next (suc k) d (omega arith)) in
     let first = next 0 x (omega arith) in
-    AllPairs-cons Rises x (y ∷ os) (All-cons (Rises x) y os first (All-weaker (Rises y) (Rises x) (λ z. rises_on x y z first) os (pairs_head Rises y os rest))) rest
+    AllPairs-cons Rises x (y ∷ os) (All-cons (Rises x) y os first
+    (All-weaker (Rises y) (Rises x) (λ z. rises_on x y z first) os (pairs_head Rises y os rest))) rest
 
 distinct_pairs : (os : List Offset) → IsDistinct same_key os → AllPairs (λ x y. same_key x y ≡ false) os
 distinct_pairs [] distinct = λ i j d before inside. absurd (omega arith)
-distinct_pairs (x ∷ os) distinct = AllPairs-cons (λ x y. same_key x y ≡ false) x os (All-from_recursion (λ y. same_key x y ≡ false) os (IsDistinct-head same_key x os distinct)) (distinct_pairs os (IsDistinct-tail same_key x os distinct))
+distinct_pairs (x ∷ os) distinct =
+    AllPairs-cons (λ x y. same_key x y ≡ false) x os (All-from_recursion (λ y. same_key x y ≡ false) os (IsDistinct-head same_key x os distinct))
+    (distinct_pairs os (IsDistinct-tail same_key x os distinct))
 
 sorted_rise : (os : List Offset) → IsSortedBy precedes os → IsDistinct same_key os → AllPairs Rises os
 sorted_rise os sorted distinct = all_rise os (λ k d h.
     let one : k + 1 ≡ suc k = omega arith in
-    let not_before : precedes (get_or os (suc k) d) (get_or os k d) ≡ false = subst (λ n. precedes (get_or os n d) (get_or os k d) ≡ false) one (sorted k d (omega arith) (omega arith)) in
+    let not_before : precedes (get_or os (suc k) d) (get_or os k d) ≡ false =
+    subst (λ n. precedes (get_or os n d) (get_or os k d) ≡ false) one (sorted k d (omega arith) (omega arith)) in
     rises_after (get_or os k d) (get_or os (suc k) d) not_before (distinct_pairs os distinct k (suc k) d (omega arith) h))
 
 -- ---- the marks differ
@@ -111,7 +119,8 @@ all_start p (q ∷ qs) all = (starts_before p q all.0, all_start p qs all.1)
 
 starts_rise : (postings : List Posting) → AllPairs IsBefore postings → StartsRise (places_of postings)
 starts_rise [] ordered = tt
-starts_rise (p ∷ ps) ordered = (all_start p ps (recursion_from_All (IsBefore p) ps (pairs_head IsBefore p ps ordered)), starts_rise ps (pairs_tail IsBefore p ps ordered))
+starts_rise (p ∷ ps) ordered =
+    (all_start p ps (recursion_from_All (IsBefore p) ps (pairs_head IsBefore p ps ordered)), starts_rise ps (pairs_tail IsBefore p ps ordered))
 
 places_differ : (n : ℕ) (a b : Place) → StartsBefore a b → same_key (offset_at n a) (offset_at n b) ≡ false
 places_differ n a b (inl h) = grind (arith, nat_tests)
@@ -120,20 +129,25 @@ places_differ n a b (inr h) = let x = h.0 in let y = h.1 in grind (arith, nat_te
 terms_differ : (n : ℕ) (a : Place) (o : Offset) → n < o.term → same_key (offset_at n a) o ≡ false
 terms_differ n a o h = grind (arith, nat_tests)
 
-all_differ : (n : ℕ) (x : Place) (xs : List Place) (rest : List Offset) → AllByRecursion (StartsBefore x) xs → AllByRecursion (λ o. n < o.term) rest → AllByRecursion (λ o. same_key (offset_at n x) o ≡ false) (map (offset_at n) xs ++ rest)
+all_differ : (n : ℕ) (x : Place) (xs : List Place) (rest : List Offset) → AllByRecursion (StartsBefore x) xs → AllByRecursion (λ o. n < o.term) rest
+    → AllByRecursion (λ o. same_key (offset_at n x) o ≡ false) (map (offset_at n) xs ++ rest)
 all_differ n x [] [] before above = tt
 all_differ n x [] (o ∷ os) before above = (terms_differ n x o above.0, all_differ n x [] os before above.1)
 all_differ n x (y ∷ ys) rest before above = (places_differ n x y before.0, all_differ n x ys rest before.1 above)
 
-front_distinct : (n : ℕ) (m : List Place) (rest : List Offset) → StartsRise m → AllByRecursion (λ o. n < o.term) rest → IsDistinct same_key rest → IsDistinct same_key (map (offset_at n) m ++ rest)
+front_distinct : (n : ℕ) (m : List Place) (rest : List Offset) → StartsRise m → AllByRecursion (λ o. n < o.term) rest → IsDistinct same_key rest
+    → IsDistinct same_key (map (offset_at n) m ++ rest)
 front_distinct n [] rest rise above distinct = distinct
-front_distinct n (x ∷ xs) rest rise above distinct = IsDistinct-cons same_key (offset_at n x) (map (offset_at n) xs ++ rest) (all_differ n x xs rest rise.0 above) (front_distinct n xs rest rise.1 above distinct)
+front_distinct n (x ∷ xs) rest rise above distinct =
+    IsDistinct-cons same_key (offset_at n x) (map (offset_at n) xs ++ rest) (all_differ n x xs rest rise.0 above)
+    (front_distinct n xs rest rise.1 above distinct)
 
 terms_above : (k n : ℕ) (ms : List (List Place)) → k < n → AllByRecursion (λ o. k < o.term) (numbered n ms)
 terms_above k n [] h = tt
 terms_above k n (m ∷ ms) h = after m (terms_above k (n + 1) ms (omega arith))
   where
-    after : (xs : List Place) → AllByRecursion (λ o. k < o.term) (numbered (n + 1) ms) → AllByRecursion (λ o. k < o.term) (map (offset_at n) xs ++ numbered (n + 1) ms)
+    after : (xs : List Place) → AllByRecursion (λ o. k < o.term) (numbered (n + 1) ms)
+        → AllByRecursion (λ o. k < o.term) (map (offset_at n) xs ++ numbered (n + 1) ms)
     after [] rest = rest
     after (x ∷ xs) rest = (h, after xs rest)
 
@@ -158,11 +172,14 @@ numbered_marked n (m ∷ ms) o c = ⊎_elim
 
 marked_numbered : (n : ℕ) (ms : List (List Place)) (o : Offset) → Marked n ms o → Contains (numbered n ms) o
 marked_numbered n [] o is = absurd is
-marked_numbered n (m ∷ ms) o (inl is) = Contains-append_left (map (offset_at n) m) (numbered (n + 1) ms) o (subst (Contains (map (offset_at n) m)) is.2 (map_to (offset_at n) m is.0 is.1))
+marked_numbered n (m ∷ ms) o (inl is) =
+    Contains-append_left (map (offset_at n) m) (numbered (n + 1) ms) o (subst (Contains (map (offset_at n) m)) is.2 (map_to (offset_at n) m is.0 is.1))
 marked_numbered n (m ∷ ms) o (inr is) = Contains-append_right (map (offset_at n) m) (numbered (n + 1) ms) o (marked_numbered (n + 1) ms o is)
 
 abbrev from_term : ℕ → List (List Place) → Place → List Offset
-from_term n terms at = filter_map (λ t. cond (list_any (is_at at) t.1) (Some (record { column = at.column; term = t.0; place = at.start; size = at.size })) None) (enumerate_from n terms)
+from_term n terms at =
+    filter_map (λ t. cond (list_any (is_at at) t.1) (Some (record { column = at.column; term = t.0; place = at.start; size = at.size })) None)
+    (enumerate_from n terms)
 
 -- the marks are places of the document
 abbrev Among : List Place → List Place → Type 0
@@ -184,19 +201,23 @@ one_place [] rising a b c d columns positions = absurd (contains_nothing a c)
 one_place (x ∷ xs) rising a b c d columns positions = ⊎_elim
     (λ (first : x ≡ a). ⊎_elim
     (λ (second : x ≡ b). sym first ∙ second)
-    (λ (second : Contains xs b). absurd (not_before a b (subst (λ u. Before u b) first (All-contains (Before x) xs b (All-from_recursion (Before x) xs rising.0) second)) columns positions))
+    (λ (second : Contains xs b). absurd (not_before a b (subst (λ u. Before u b) first
+    (All-contains (Before x) xs b (All-from_recursion (Before x) xs rising.0) second)) columns positions))
     (contains_cases x b xs d))
     (λ (first : Contains xs a). ⊎_elim
-    (λ (second : x ≡ b). absurd (not_before b a (subst (λ u. Before u a) second (All-contains (Before x) xs a (All-from_recursion (Before x) xs rising.0) first)) (sym columns) (sym positions)))
+    (λ (second : x ≡ b). absurd (not_before b a (subst (λ u. Before u a) second
+    (All-contains (Before x) xs a (All-from_recursion (Before x) xs rising.0) first)) (sym columns) (sym positions)))
     (λ (second : Contains xs b). one_place xs rising.1 a b first second columns positions)
     (contains_cases x b xs d))
     (contains_cases x a xs c)
 
-at_place_marked : (places : List Place) → Rising places → (n : ℕ) (ms : List (List Place)) → AllByRecursion (Among places) ms → (at : Place) → Contains places at → (o : Offset) → Contains (from_term n ms at) o → Marked n ms o
+at_place_marked : (places : List Place) → Rising places → (n : ℕ) (ms : List (List Place)) → AllByRecursion (Among places) ms → (at : Place)
+    → Contains places at → (o : Offset) → Contains (from_term n ms at) o → Marked n ms o
 at_place_marked places rising n [] all at here o c = contains_nothing o c
 at_place_marked places rising n (m ∷ ms) all at here o c = by (list_any (is_at at) m) refl c (at_place_marked places rising (n + 1) ms all.1 at here o)
   where
-    by : (b : Bool) → list_any (is_at at) m ≡ b → Contains (cons_option (cond b (Some (offset_at n at)) None) (from_term (n + 1) ms at)) o → (Contains (from_term (n + 1) ms at) o → Marked (n + 1) ms o) → Marked n (m ∷ ms) o
+    by : (b : Bool) → list_any (is_at at) m ≡ b → Contains (cons_option (cond b (Some (offset_at n at)) None) (from_term (n + 1) ms at)) o
+        → (Contains (from_term (n + 1) ms at) o → Marked (n + 1) ms o) → Marked n (m ∷ ms) o
     by false is d rest = inr (rest d)
     by true is d rest = ⊎_elim
         (λ (first : offset_at n at ≡ o).
@@ -207,12 +228,17 @@ at_place_marked places rising n (m ∷ ms) all at here o c = by (list_any (is_at
         (λ (later : Contains (from_term (n + 1) ms at) o). inr (rest later))
         (contains_cases (offset_at n at) o (from_term (n + 1) ms at) d)
 
-marked_at_place : (places : List Place) (n : ℕ) (ms : List (List Place)) → AllByRecursion (Among places) ms → (o : Offset) → Marked n ms o → (at : Place) × Contains places at × Contains (from_term n ms at) o
+marked_at_place : (places : List Place) (n : ℕ) (ms : List (List Place)) → AllByRecursion (Among places) ms → (o : Offset) → Marked n ms o
+    → (at : Place) × Contains places at × Contains (from_term n ms at) o
 marked_at_place places n [] all o is = absurd is
 marked_at_place places n (m ∷ ms) all o (inl is) =
     let at = is.0 in
-    let here = any_to (is_at at) m at is.1 (is_at_itself at) in
-    (at, all.0 at is.1, subst (λ b. Contains (cons_option (cond b (Some (offset_at n at)) None) (from_term (n + 1) ms at)) o) (sym here) (subst (Contains (offset_at n at ∷ from_term (n + 1) ms at)) is.2 (contains_head (offset_at n at) (from_term (n + 1) ms at))))
+    let here = any_to (is_at at) m at is.1 (is_at_itself at) in (
+      at,
+      all.0 at is.1,
+      subst (λ b. Contains (cons_option (cond b (Some (offset_at n at)) None) (from_term (n + 1) ms at)) o) (sym here)
+          (subst (Contains (offset_at n at ∷ from_term (n + 1) ms at)) is.2 (contains_head (offset_at n at) (from_term (n + 1) ms at))),
+    )
 marked_at_place places n (m ∷ ms) all o (inr is) =
     let one = marked_at_place places (n + 1) ms all.1 o is in
     let at = one.0 in (
@@ -236,15 +262,21 @@ all_append P (x ∷ xs) ys first second = (first.0, all_append P xs ys first.1 s
 
 phrase_drawn : (postings : List Posting) (i : ℕ) (ts : List PlainTerm) (starts : List Place) → AllByRecursion (Drawn postings) (taken_in postings i ts starts)
 phrase_drawn postings i [] starts = tt
-phrase_drawn postings i (t ∷ ts) starts = ((λ at. list_any (λ start. start.column == at.column && start.pos + i == at.pos) starts, refl), phrase_drawn postings (i + 1) ts starts)
+phrase_drawn postings i (t ∷ ts) starts =
+    ((λ at. list_any (λ start. start.column == at.column && start.pos + i == at.pos) starts, refl), phrase_drawn postings (i + 1) ts starts)
 
 links_drawn : (postings : List Posting) (cs : List (List Place)) (links : List PlainLink) → AllByRecursion (Drawn postings) (taken_links postings cs links)
 links_drawn postings cs [] = tt
-links_drawn postings cs (link ∷ links) = all_append (Drawn postings) (taken_in postings 0 link.to.terms (heads cs)) (taken_links postings (map (drop 1) cs) links) (phrase_drawn postings 0 link.to.terms (heads cs)) (links_drawn postings (map (drop 1) cs) links)
+links_drawn postings cs (link ∷ links) =
+    all_append (Drawn postings) (taken_in postings 0 link.to.terms (heads cs)) (taken_links postings (map (drop 1) cs) links)
+    (phrase_drawn postings 0 link.to.terms (heads cs)) (links_drawn postings (map (drop 1) cs) links)
 
 all_drawn : (postings : List Posting) (tree : Tree) → AllByRecursion (Drawn postings) (taken postings tree)
 all_drawn postings (phrase p) = phrase_drawn postings 0 p.terms (occurrences postings p)
-all_drawn postings (chain p links) = all_append (Drawn postings) (taken_in postings 0 p.terms (heads (choices postings p links))) (taken_links postings (map (drop 1) (choices postings p links)) links) (phrase_drawn postings 0 p.terms (heads (choices postings p links))) (links_drawn postings (map (drop 1) (choices postings p links)) links)
+all_drawn postings (chain p links) =
+    all_append (Drawn postings) (taken_in postings 0 p.terms (heads (choices postings p links)))
+    (taken_links postings (map (drop 1) (choices postings p links)) links) (phrase_drawn postings 0 p.terms (heads (choices postings p links)))
+    (links_drawn postings (map (drop 1) (choices postings p links)) links)
 all_drawn postings (both p q) = all_append (Drawn postings) (taken postings p) (taken postings q) (all_drawn postings p) (all_drawn postings q)
 all_drawn postings (either p q) = all_append (Drawn postings) (taken postings p) (taken postings q) (all_drawn postings p) (all_drawn postings q)
 all_drawn postings (without p q) = all_drawn postings p
@@ -256,17 +288,22 @@ drawn_rises : (postings : List Posting) → AllPairs IsBefore postings → (m : 
 drawn_rises postings ordered m drawn = subst StartsRise (sym drawn.1) (starts_filter drawn.0 (places_of postings) (starts_rise postings ordered))
 
 -- the marks of what a query's terms take, sorted, are its offsets
-pub sorted_are : (postings : List Posting) (tree : Tree) (marks out : List Offset) → AllPairs IsBefore postings → marks ≡ numbered 0 (taken postings tree) → IsPermutation marks out → IsSortedBy precedes out → out ≡ offsets_of postings tree
+pub sorted_are : (postings : List Posting) (tree : Tree) (marks out : List Offset) → AllPairs IsBefore postings → marks ≡ numbered 0 (taken postings tree)
+    → IsPermutation marks out → IsSortedBy precedes out → out ≡ offsets_of postings tree
 sorted_are postings tree marks out ordered is permutation sorted =
     let ms = taken postings tree in
     let places = places_of postings in
     let drawn = all_drawn postings tree in
     let among = all_weaker (Drawn postings) (Among places) ms (drawn_among postings) drawn in
-    let distinct = subst (IsDistinct same_key) (sym is) (marks_distinct 0 ms (all_weaker (Drawn postings) StartsRise ms (drawn_rises postings ordered) drawn)) in
+    let distinct =
+    subst (IsDistinct same_key) (sym is) (marks_distinct 0 ms (all_weaker (Drawn postings) StartsRise ms (drawn_rises postings ordered) drawn)) in
     only_offsets postings tree out ordered (sorted_rise out sorted (IsDistinct-IsPermutation same_key key_flips marks out permutation distinct))
     (λ o c.
-    let one = marked_at_place places 0 ms among o (numbered_marked 0 ms o (subst (λ os. Contains os o) is (Contains-permutation out marks o (IsPermutation-sym marks out permutation) c))) in
+    let one =
+    marked_at_place places 0 ms among o (numbered_marked 0 ms o
+    (subst (λ os. Contains os o) is (Contains-permutation out marks o (IsPermutation-sym marks out permutation) c))) in
     flat_to (offsets_at ms) places one.0 o one.1 one.2)
     (λ o c.
     let one = flat_from (offsets_at ms) places o c in
-    Contains-permutation marks out o permutation (subst (λ os. Contains os o) (sym is) (marked_numbered 0 ms o (at_place_marked places (places_rising postings ordered) 0 ms among one.0 one.1 o one.2))))
+    Contains-permutation marks out o permutation (subst (λ os. Contains os o) (sym is)
+    (marked_numbered 0 ms o (at_place_marked places (places_rising postings ordered) 0 ms among one.0 one.1 o one.2))))

@@ -23,7 +23,8 @@ module _ {A B : Type 0} (f : A → B) (g : B → B) where
   tail_of : (a : B) (cs : List B) (b : B) (bs : List B) → (a ∷ cs) ≡ (b ∷ bs) → cs ≡ bs
   tail_of a cs b bs same = ap (λ (xs : List B). elim xs as (λ _. List B) [ [] ↦ cs | _ ∷ ys ↦ ys ]) same
 
-  sweep_on : (xs : List A) (bs : List B) (i : ℕ) (d y : A) → map f xs ≡ swept g i bs → i < length xs → f y ≡ g (f (slice_index_or xs i d)) → map f (slice_set xs i y) ≡ swept g (suc i) bs
+  sweep_on : (xs : List A) (bs : List B) (i : ℕ) (d y : A) → map f xs ≡ swept g i bs → i < length xs → f y ≡ g (f (slice_index_or xs i d))
+      → map f (slice_set xs i y) ≡ swept g (suc i) bs
   sweep_on [] bs i d y so_far within next = absurd (omega arith)
   sweep_on (x ∷ xs) [] zero d y so_far within next = let h = ap length so_far in absurd (omega arith)
   sweep_on (x ∷ xs) [] (suc i) d y so_far within next = let h = ap length so_far in absurd (omega arith)
@@ -34,7 +35,8 @@ module _ {A B : Type 0} (f : A → B) (g : B → B) where
       ∙ ap (λ cs. g b ∷ cs) (sweep_on xs bs i d y (tail_of (f x) (map f xs) (g b) (swept g i bs) so_far) (omega arith) next)
 
   -- one more
-  pub sweep_next : (xs : List A) (bs : List B) (i : ℕ) (d y : A) → map f xs ≡ swept g i bs → i < length xs → f y ≡ g (f (slice_index_or xs i d)) → map f (slice_set xs i y) ≡ swept g (i + 1) bs
+  pub sweep_next : (xs : List A) (bs : List B) (i : ℕ) (d y : A) → map f xs ≡ swept g i bs → i < length xs → f y ≡ g (f (slice_index_or xs i d))
+      → map f (slice_set xs i y) ≡ swept g (i + 1) bs
   sweep_next xs bs i d y so_far within next =
       let same : suc i ≡ i + 1 = omega arith in
       subst (λ n. map f (slice_set xs i y) ≡ swept g n bs) same (sweep_on xs bs i d y so_far within next)

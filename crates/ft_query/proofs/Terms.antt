@@ -22,7 +22,10 @@ AreWithin part (t ∷ ts) = (t.start + t.size ≤ length part) × AreWithin part
 
 all_within : (part : List ℕ) (ts : List Token) → All (λ t. t.start + t.size ≤ length part) (map plain_token ts) → AreWithin part ts
 all_within part [] h = tt
-all_within part (t ∷ ts) h = (All-head (λ t. t.start + t.size ≤ length part) (plain_token t) (map plain_token ts) h, all_within part ts (All-tail (λ t. t.start + t.size ≤ length part) (plain_token t) (map plain_token ts) h))
+all_within part (t ∷ ts) h = (
+  All-head (λ t. t.start + t.size ≤ length part) (plain_token t) (map plain_token ts) h,
+  all_within part ts (All-tail (λ t. t.start + t.size ≤ length part) (plain_token t) (map plain_token ts) h),
+)
 
 pub within_part : (part : List ℕ) (ts : List Token) → AreTokens part (map plain_token ts) → AreWithin part ts
 within_part part ts are = all_within part ts are.within

@@ -18,15 +18,20 @@ use Rattle.ft_query.proofs.Sorting.{sorted_are}
 abbrev pub answer_of : Wanted → List Posting → Tree → Option (List Offset)
 answer_of wanted postings tree = cond (accepts postings tree) (Some (if_wanted wanted (offsets_of postings tree))) None
 
-by_test : (postings : List Posting) (tree : Tree) (lists : List (List Place)) (b : Bool) → AllPairs IsBefore postings → lists ≡ map (listed_places postings) (terms_in tree) → b ≡ is_accepted tree lists → accepts postings tree ≡ b
+by_test : (postings : List Posting) (tree : Tree) (lists : List (List Place)) (b : Bool) → AllPairs IsBefore postings
+    → lists ≡ map (listed_places postings) (terms_in tree) → b ≡ is_accepted tree lists → accepts postings tree ≡ b
 by_test postings tree lists b ordered is accepted = sym (accepted ∙ ap (is_accepted tree) is ∙ accepted_is postings tree ordered)
 
-pub rejected_is : (wanted : Wanted) (postings : List Posting) (tree : Tree) (lists : List (List Place)) (b : Bool) → AllPairs IsBefore postings → lists ≡ map (listed_places postings) (terms_in tree) → b ≡ is_accepted tree lists → b ≡ false → None ≡ answer_of wanted postings tree
-rejected_is wanted postings tree lists b ordered is accepted rejected = sym (ap (λ t. cond t (Some (if_wanted wanted (offsets_of postings tree))) None) (by_test postings tree lists b ordered is accepted ∙ rejected))
+pub rejected_is : (wanted : Wanted) (postings : List Posting) (tree : Tree) (lists : List (List Place)) (b : Bool) → AllPairs IsBefore postings
+    → lists ≡ map (listed_places postings) (terms_in tree) → b ≡ is_accepted tree lists → b ≡ false → None ≡ answer_of wanted postings tree
+rejected_is wanted postings tree lists b ordered is accepted rejected =
+    sym (ap (λ t. cond t (Some (if_wanted wanted (offsets_of postings tree))) None) (by_test postings tree lists b ordered is accepted ∙ rejected))
 
 -- the offsets are in order, or there are none
-sorted_is : (wanted : Wanted) (postings : List Posting) (tree : Tree) (lists : List (List Place)) (marks out : List Offset) → AllPairs IsBefore postings → lists ≡ map (listed_places postings) (terms_in tree)
-    → marks ≡ numbered 0 (if_wanted wanted (marks_of tree lists)) → IsPermutation marks out → IsSortedBy precedes out → out ≡ if_wanted wanted (offsets_of postings tree)
+sorted_is : (wanted : Wanted) (postings : List Posting) (tree : Tree) (lists : List (List Place)) (marks out : List Offset) → AllPairs IsBefore postings
+    → lists ≡ map (listed_places postings) (terms_in tree)
+    → marks ≡ numbered 0 (if_wanted wanted (marks_of tree lists)) → IsPermutation marks out → IsSortedBy precedes out
+    → out ≡ if_wanted wanted (offsets_of postings tree)
 sorted_is Docids postings tree lists marks out ordered is marked permutation sorted = nothing out (length_permutation marks out permutation ∙ ap length marked)
   where
     nothing : (xs : List Offset) → length xs ≡ 0 → xs ≡ []
@@ -36,8 +41,10 @@ sorted_is Offsets postings tree lists marks out ordered is marked permutation so
     let taken_are = marked ∙ ap (λ ls. numbered 0 (marks_of tree ls)) is ∙ ap (numbered 0) (marked_is postings tree ordered) in
     sorted_are postings tree marks out ordered taken_are permutation sorted
 
-pub found_is : (wanted : Wanted) (postings : List Posting) (tree : Tree) (lists : List (List Place)) (b : Bool) (marks out : List Offset) → AllPairs IsBefore postings → lists ≡ map (listed_places postings) (terms_in tree) → b ≡ is_accepted tree lists → b ≡ true
-    → marks ≡ numbered 0 (if_wanted wanted (marks_of tree lists)) → IsPermutation marks out → IsSortedBy precedes out → Some out ≡ answer_of wanted postings tree
+pub found_is : (wanted : Wanted) (postings : List Posting) (tree : Tree) (lists : List (List Place)) (b : Bool) (marks out : List Offset)
+    → AllPairs IsBefore postings → lists ≡ map (listed_places postings) (terms_in tree) → b ≡ is_accepted tree lists → b ≡ true
+    → marks ≡ numbered 0 (if_wanted wanted (marks_of tree lists)) → IsPermutation marks out → IsSortedBy precedes out
+    → Some out ≡ answer_of wanted postings tree
 found_is wanted postings tree lists b marks out ordered is accepted passed marked permutation sorted =
     ap (λ os. Some os) (sorted_is wanted postings tree lists marks out ordered is marked permutation sorted)
     ∙ sym (ap (λ t. cond t (Some (if_wanted wanted (offsets_of postings tree))) None) (by_test postings tree lists b ordered is accepted ∙ passed))

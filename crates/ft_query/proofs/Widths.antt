@@ -5,7 +5,8 @@ use Rattle.std.proofs.lemmas.List.Sums.{sum_by-cons}
 use Rattle.ft_query.specs.Trees.{PlainLink, Tree, phrase, chain, both, either, without}
 use Rattle.ft_query.specs.Work.{terms_in, width}
 
-links_wide : (links : List PlainLink) → length (flat_map (λ (link : PlainLink). link.to.terms) links) ≤ sum_by (λ (link : PlainLink). max 1 (length link.to.terms)) links
+links_wide : (links : List PlainLink)
+    → length (flat_map (λ (link : PlainLink). link.to.terms) links) ≤ sum_by (λ (link : PlainLink). max 1 (length link.to.terms)) links
 links_wide [] = omega arith
 links_wide (link ∷ links) =
     let more = links_wide links in

@@ -19,4 +19,5 @@ pub record Loads {L Z : Type 0} (g : Ghosts L) (terms : List PlainTerm) (old new
   pub lists : g.is_clean new → map lists_kept after.items ≡ map lists_kept before.items ++ map (listed_for (g.documents new)) terms
   pub number : vec_len after ≡ vec_len before + length terms
   pub asked : Answers g.becomes (length terms) old new
-  pub given : (start : ℕ) → g.given_so_far old ≡ min (start + places_left before.items) (2 ^ 64 - 1) → g.given_so_far new ≡ min (start + places_left after.items) (2 ^ 64 - 1)
+  pub given : (start : ℕ) → g.given_so_far old ≡ min (start + places_left before.items) (2 ^ 64 - 1)
+      → g.given_so_far new ≡ min (start + places_left after.items) (2 ^ 64 - 1)

@@ -1,6 +1,8 @@
--- Steps. What the parser keeps between lexemes, without where it lies in memory: the states of the pass in `Pass`.
-use Rattle.std.specs.Prelude.{ℕ, ◌||◌, Bool, true, false, nat_lt, if◌then◌else◌, List, map, min, reverse, sum_by, option_map, Option, Some, None, Result}
+-- Steps. The parts of a text as the lexer finds them, byte by byte, and what the parser keeps between lexemes, without where it
+-- lies in memory: the states of the pass in `Pass`.
+use Rattle.std.specs.Prelude.{ℕ, ◌==◌, ◌||◌, Bool, true, false, nat_lt, if◌then◌else◌, List, [], ◌∷◌, ◌++◌, map, min, reverse, sum_by, option_map, Option, Some, None, Result}
 use Rattle.std.specs.List.{list_any}
+use Rattle.std.specs.Str.{byte}
 use Rattle.ft_query.specs.declared.query.QueryFault.{QueryFault}
 use Rattle.ft_query.specs.declared.query.QueryFault.TheVariants.{TooLarge}
 use Rattle.ft_query.specs.declared.lexeme.Lexeme.TheVariants as code
@@ -10,7 +12,7 @@ use Rattle.ft_query.specs.declared.machine.Last.{Last as CodeLast}
 use Rattle.ft_query.specs.declared.machine.Last.TheVariants as last
 use Rattle.ft_query.specs.declared.machine.State.{State as CodeState}
 use Rattle.ft_query.specs.Trees.{Tree, plain_term, plain_phrase, plain_link, tree_of}
-use Rattle.ft_query.specs.Lexemes.{Lexeme, open_paren, close_paren, and_word, or_word, not_word, near_word, filter_on, word, quoted, Begun, in_chunk, in_quote, Mark, quote, plain}
+use Rattle.ft_query.specs.Lexemes.{Lexeme, open_paren, close_paren, and_word, or_word, not_word, near_word, filter_on, word, quoted, Part, open_part, close_part, quoted_part, chunk_part, unclosed_part, is_space, is_quote}
 use Rattle.ft_query.specs.Reads.{term_count, is_far, nests_deep, query_unless}
 use Rattle.ft_query.specs.Pass.{Waiting, Last, State, operator, filtered, chained, near_to, near_filtered, whole}
 
@@ -38,6 +40,63 @@ asks_much ls = nat_lt 64 (sum_by term_count ls) || list_any is_far ls || nests_d
 abbrev pub query_within : Option ℕ → List Lexeme → Result (Option Tree) QueryFault
 query_within default ls = query_unless (if asks_much ls then Some TooLarge else None) default ls
 
+-- ---- parts, byte by byte
+
+-- what a byte is, outside of quoted parts
+pub data Mark : Type 0 where
+  quote : Mark
+  paren : Part → Mark
+  space : Mark
+  plain : Mark
+
+abbrev pub mark_of : ℕ → Mark
+mark_of b =
+    if is_quote b then quote
+    else (if b == byte "(" then paren open_part
+    else (if b == byte ")" then paren close_part
+    else (if is_space b then space
+    else plain)))
+
+-- what has come of a chunk, which may be nothing, or of a quoted part
+pub data Begun : Type 0 where
+  in_chunk : List ℕ → Begun
+  in_quote : List ℕ → Begun
+
+abbrev pub chunk_parts : List ℕ → List Part
+chunk_parts [] = []
+chunk_parts (b ∷ bs) = chunk_part (b ∷ bs) ∷ []
+
+-- what is begun after one more byte
+abbrev pub begun_after : Begun → Mark → ℕ → Begun
+begun_after (in_chunk bs) quote b = in_quote []
+begun_after (in_chunk bs) (paren part) b = in_chunk []
+begun_after (in_chunk bs) space b = in_chunk []
+begun_after (in_chunk bs) plain b = in_chunk (bs ++ b ∷ [])
+begun_after (in_quote bs) quote b = in_chunk []
+begun_after (in_quote bs) (paren part) b = in_quote (bs ++ b ∷ [])
+begun_after (in_quote bs) space b = in_quote (bs ++ b ∷ [])
+begun_after (in_quote bs) plain b = in_quote (bs ++ b ∷ [])
+
+-- the parts that a byte ends
+abbrev pub parts_ended : Begun → Mark → List Part
+parts_ended (in_chunk bs) quote = chunk_parts bs
+parts_ended (in_chunk bs) (paren part) = chunk_parts bs ++ part ∷ []
+parts_ended (in_chunk bs) space = chunk_parts bs
+parts_ended (in_chunk bs) plain = []
+parts_ended (in_quote bs) quote = quoted_part bs ∷ []
+parts_ended (in_quote bs) (paren part) = []
+parts_ended (in_quote bs) space = []
+parts_ended (in_quote bs) plain = []
+
+abbrev pub parts_at_end : Begun → List Part
+parts_at_end (in_chunk bs) = chunk_parts bs
+parts_at_end (in_quote bs) = unclosed_part ∷ []
+
+-- the parts that end in what is left of the text, with the one that is begun
+abbrev pub parts_from : Begun → List ℕ → List Part
+parts_from begun [] = parts_at_end begun
+parts_from begun (b ∷ bs) = parts_ended begun (mark_of b) ++ parts_from (begun_after begun (mark_of b) b) bs
+
 -- the quoted part or chunk that is begun
 abbrev pub begun : Bool → List ℕ → Begun
 begun true bytes = in_quote bytes
@@ -49,6 +108,8 @@ ends_part true quote = true
 ends_part true _ = false
 ends_part false plain = false
 ends_part false _ = true
+
+-- ---- the states of the pass
 
 abbrev pub plain_waiting : CodeWaiting → Waiting
 plain_waiting w = record { or_left = option_map tree_of w.or_left; and_left = option_map tree_of w.and_left; not_left = option_map tree_of w.not_left }

@@ -50,7 +50,10 @@ begin_near most k (a ∷ c ∷ more) m b = are_near most k a m b || are_near mos
 -- the occurrences of m terms that are near one of k terms
 abbrev pub near_those : ℕ → ℕ → List Place → ℕ → List Place → List Place
 near_those most k near m [] = []
-near_those most k near m (b ∷ bs) = let rest = skip_behind most k near b in if begin_near most k rest m b then b ∷ near_those most k rest m bs else near_those most k rest m bs
+near_those most k near m (b ∷ bs) =
+    let rest = skip_behind most k near b in
+    if begin_near most k rest m b then b ∷ near_those most k rest m bs
+    else near_those most k rest m bs
 
 -- ---- phrases
 
@@ -89,12 +92,17 @@ head_of (s ∷ ss) = s
 -- for each phrase of a chain, its occurrences that are near one of the next phrase's here
 abbrev pub linked : PlainPhrase → List PlainLink → List (List Place) → List (List Place)
 linked p [] lists = starts_of p lists ∷ []
-linked p (link ∷ links) lists = let more = linked link.to links (drop (length p.terms) lists) in near_those link.most (length link.to.terms) (head_of more) (length p.terms) (starts_of p (take (length p.terms) lists)) ∷ more
+linked p (link ∷ links) lists =
+    let more = linked link.to links (drop (length p.terms) lists) in
+    near_those link.most (length link.to.terms) (head_of more) (length p.terms) (starts_of p (take (length p.terms) lists)) ∷ more
 
 -- the marks of the phrases of these links, whose occurrences also have to be near one of the k terms before them
 abbrev pub link_marks : ℕ → List Place → List PlainLink → List (List Place) → List (List Place) → List (List Place)
 link_marks k starts [] lists all = []
-link_marks k starts (link ∷ links) lists all = let next = near_those link.most k starts (length link.to.terms) (head_of all) in marks_from 0 (take (length link.to.terms) lists) next ++ link_marks (length link.to.terms) next links (drop (length link.to.terms) lists) (drop 1 all)
+link_marks k starts (link ∷ links) lists all =
+    let next = near_those link.most k starts (length link.to.terms) (head_of all) in
+    marks_from 0 (take (length link.to.terms) lists) next
+    ++ link_marks (length link.to.terms) next links (drop (length link.to.terms) lists) (drop 1 all)
 
 -- ---- queries
 
@@ -109,7 +117,10 @@ is_accepted (without p q) lists = is_accepted p (take (length (terms_in p)) list
 -- and for each term the places that it takes in the occurrences that count
 abbrev pub marks_of : Tree → List (List Place) → List (List Place)
 marks_of (phrase p) lists = marks_from 0 lists (starts_of p lists)
-marks_of (chain p links) lists = let all = linked p links lists in marks_from 0 (take (length p.terms) lists) (head_of all) ++ link_marks (length p.terms) (head_of all) links (drop (length p.terms) lists) (drop 1 all)
+marks_of (chain p links) lists =
+    let all = linked p links lists in
+    marks_from 0 (take (length p.terms) lists) (head_of all)
+    ++ link_marks (length p.terms) (head_of all) links (drop (length p.terms) lists) (drop 1 all)
 marks_of (both p q) lists = marks_of p (take (length (terms_in p)) lists) ++ marks_of q (drop (length (terms_in p)) lists)
 marks_of (either p q) lists = marks_of p (take (length (terms_in p)) lists) ++ marks_of q (drop (length (terms_in p)) lists)
 marks_of (without p q) lists = marks_of p (take (length (terms_in p)) lists)
@@ -157,17 +168,25 @@ total (l ∷ ls) = length l + total ls
 -- the most steps back from a chain's last phrase
 abbrev pub linked_cost : PlainPhrase → List PlainLink → List (List Place) → ℕ
 linked_cost p [] lists = 2 * total lists
-linked_cost p (link ∷ links) lists = 2 * total (take (length p.terms) lists) + linked_cost link.to links (drop (length p.terms) lists) + length (head_of (linked link.to links (drop (length p.terms) lists))) + 3 * length (starts_of p (take (length p.terms) lists))
+linked_cost p (link ∷ links) lists =
+    2 * total (take (length p.terms) lists) + linked_cost link.to links (drop (length p.terms) lists)
+    + length (head_of (linked link.to links (drop (length p.terms) lists))) + 3 * length (starts_of p (take (length p.terms) lists))
 
 -- the most steps for the marks of the phrases of these links
 abbrev pub link_cost : ℕ → List Place → List PlainLink → List (List Place) → List (List Place) → ℕ
 link_cost k starts [] lists all = 0
-link_cost k starts (link ∷ links) lists all = let next = near_those link.most k starts (length link.to.terms) (head_of all) in length starts + 3 * length (head_of all) + total (take (length link.to.terms) lists) + length link.to.terms * length next + link_cost (length link.to.terms) next links (drop (length link.to.terms) lists) (drop 1 all)
+link_cost k starts (link ∷ links) lists all =
+    let next = near_those link.most k starts (length link.to.terms) (head_of all) in
+    length starts + 3 * length (head_of all) + total (take (length link.to.terms) lists) + length link.to.terms * length next
+    + link_cost (length link.to.terms) next links (drop (length link.to.terms) lists) (drop 1 all)
 
 -- the most steps for a query: one for each of its parts, and those of its phrases and chains
 abbrev pub visit_cost : Tree → List (List Place) → ℕ
 visit_cost (phrase p) lists = 1 + (3 * total lists + length lists * length (starts_of p lists))
-visit_cost (chain p links) lists = let all = linked p links lists in 1 + (linked_cost p links lists + total (take (length p.terms) lists) + length p.terms * length (head_of all) + link_cost (length p.terms) (head_of all) links (drop (length p.terms) lists) (drop 1 all))
+visit_cost (chain p links) lists =
+    let all = linked p links lists in
+    1 + (linked_cost p links lists + total (take (length p.terms) lists) + length p.terms * length (head_of all)
+    + link_cost (length p.terms) (head_of all) links (drop (length p.terms) lists) (drop 1 all))
 visit_cost (both p q) lists = 1 + (visit_cost p (take (length (terms_in p)) lists) + visit_cost q (drop (length (terms_in p)) lists))
 visit_cost (either p q) lists = 1 + (visit_cost p (take (length (terms_in p)) lists) + visit_cost q (drop (length (terms_in p)) lists))
 visit_cost (without p q) lists = 1 + (visit_cost p (take (length (terms_in p)) lists) + visit_cost q (drop (length (terms_in p)) lists))

@@ -55,7 +55,7 @@ pub fn terms_of(alloc: Global, part: &str) -> Result<Vec<QueryTerm>, AllocError>
     Ok(terms)
 }
 
-// The number that these digits write, where one past the limit of NEAR stands as the least such number.
+// The number that these digits write; one past the limit of NEAR stands as the least such number.
 fn number_of(digits: &[u8]) -> usize
     ensures { result ≡ min (number_of digits.now) 1000001 }
 {

@@ -1,9 +1,9 @@
 // The lexemes of a MATCH text.
 ghost use Rattle.std.specs.Prelude.{◌≡◌, ◌++◌, ◌==◌, ◌&&◌, not, true, false, map, flat_map, string_bytes, MatchOption, IfOk, OnOk};
 ghost use Rattle.std.specs.List.{list_any};
-ghost use Rattle.ft_query.specs.Lexemes.{mark_of, parts_ended, parts_of, lexemes_of_part, lexemes_of};
+ghost use Rattle.ft_query.specs.Lexemes.{parts_of, lexemes_of_part, lexemes_of};
 ghost use Rattle.ft_query.specs.Reads.{is_unclosed};
-ghost use Rattle.ft_query.specs.Machine.{plain_lexeme, capped, begun, ends_part};
+ghost use Rattle.ft_query.specs.Machine.{plain_lexeme, capped, mark_of, parts_ended, begun, ends_part};
 
 use crate::lexeme::{Lexeme, push_chunk, terms_of};
 use std::alloc::{AllocError, Global};

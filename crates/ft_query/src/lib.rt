@@ -13,8 +13,8 @@ mod text;
 mod walk;
 
 pub use laws::{
-    choices_of_chain, documents_of_texts, eligible_by_character, postings_of_texts, query_of_text,
-    reads_once, tokens_once,
+    choices_of_chain, documents_of_texts, eligible_by_character, parts_by_forms, postings_of_texts,
+    query_of_text, reads_once, tokens_once,
 };
 pub use lists::{DocList, ListFault, Lists, Place};
 pub use parser::parse;

@@ -73,7 +73,7 @@ fn nests_deep(lexemes: &[Lexeme]) -> bool
     false
 }
 
-/// The query is too large: it has too many terms, a number of NEAR is too great, or parentheses nest too deep.
+/// There are too many terms, a number of NEAR is too great, or parentheses nest too deep.
 #[tactic(auto, using(crate::proofs::LimitTests::numbers_tested))]
 pub fn is_too_large(lexemes: &[Lexeme]) -> bool
     ensures { result ≡ asks_much (map plain_lexeme lexemes.now) }

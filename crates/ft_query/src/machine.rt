@@ -23,8 +23,8 @@ pub struct Linked {
     pub links: Vec<Link>,
 }
 
-// What was read last: an operator or `(` or nothing, a filter, a chain that NEAR may follow, a chain and NEAR with its number,
-// the same and a filter, or any other whole operand.
+// What was read last: an operator or `(` or nothing, a filter, a chain that NEAR may follow, a
+// chain and NEAR with its number, the same and a filter, or any other whole operand.
 #[derive(Drop)]
 pub enum Last {
     Operator,
@@ -35,7 +35,8 @@ pub enum Last {
     Whole(Query),
 }
 
-// The left sides in this parenthesis, those in the parentheses around it, the outermost first, and what was read last.
+// The left sides in this parenthesis, those in the parentheses around it, the outermost first, and
+// what was read last.
 #[derive(Drop)]
 pub struct State {
     pub waiting: Waiting,

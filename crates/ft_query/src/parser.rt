@@ -41,9 +41,10 @@ fn has_zero(text: &str) -> bool
     text.as_bytes().contains(&0)
 }
 
-/// Reads a MATCH query ("Full-text Index Queries" and "Set Operations Using The Enhanced Query Syntax" of the SQLite
-/// document "SQLite FTS3 and FTS4 Extensions"). A phrase with no filter searches the default column, or all columns.
-/// `None` is a text with no lexeme, which finds nothing.
+/// Reads a MATCH query ("Full-text Index Queries" and "Set Operations Using The Enhanced Query
+/// Syntax" of the SQLite document "SQLite FTS3 and FTS4 Extensions"). A phrase with no filter
+/// searches the default column, or all columns. `None` is a text with no lexeme, which finds
+/// nothing.
 ///
 /// # Errors
 ///
@@ -51,7 +52,8 @@ fn has_zero(text: &str) -> bool
 ///
 /// 1. `TooLarge`: the text has over 10,000 bytes.
 /// 2. `Malformed`: a quote isn't closed, or the text has U+0000.
-/// 3. `TooLarge`: over 64 terms, a number of NEAR over 1,000,000, or over 32 parentheses around one place.
+/// 3. `TooLarge`: over 64 terms, a number of NEAR over 1,000,000, or over 32 parentheses around one
+///    place.
 /// 4. `Malformed`: the lexemes read as no query.
 pub fn parse(
     alloc: Global,

@@ -4,8 +4,8 @@ ghost use Rattle.std.specs.Prelude.{◌<◌, vec_len};
 use std::alloc::AllocError;
 use thiserror::Error;
 
-/// A term of a phrase, in small letters. With `prefix` it matches every term that begins so, with `first` only the
-/// first token of a column.
+/// A term of a phrase, in small letters. With `prefix` it matches every term that begins so, with
+/// `first` only the first token of a column.
 #[derive(Debug, Drop)]
 pub struct QueryTerm {
     pub text: String,

@@ -17,7 +17,8 @@ pub use matches::Matches;
 pub(crate) use matches::Steps;
 use std::alloc::{AllocError, Global};
 
-/// One term of a phrase's occurrence: its column, the term's number in the query, and its place and size in bytes.
+/// One term of a phrase's occurrence: its column, the term's number in the query, and its place and
+/// size in bytes.
 #[derive(Clone, Copy, Debug, PartialEq, Eq)]
 pub struct Offset {
     pub column: usize,
@@ -58,8 +59,8 @@ fn push_offset(text: &mut String, offset: &Offset) -> Result<(), AllocError>
 }
 
 #[tactic(auto, using(crate::proofs::OffsetTexts::text_split))]
-/// The numbers of the offsets, in decimal and separated by single spaces ("The Offsets Function" of the SQLite document
-/// "SQLite FTS3 and FTS4 Extensions").
+/// The numbers of the offsets, in decimal and separated by single spaces ("The Offsets Function" of
+/// the SQLite document "SQLite FTS3 and FTS4 Extensions").
 pub fn offsets_text(alloc: Global, offsets: &[Offset]) -> Result<String, AllocError>
     ensures { IfOk result (λ text. string_bytes text ≡ offsets_text offsets.now) }
 {

@@ -7,8 +7,8 @@ ghost use Rattle.ft_query.specs.Taken.{Takes};
 use crate::walk::{Offset, Steps};
 use std::cmp::Ordering;
 
-/// Where a token stands: its column, its number in the cell, and its place and size in bytes. Nothing but a comparison that is counted
-/// tells its number in the cell.
+/// Where a token stands: its column, its number in the cell, and its place and size in bytes.
+/// Nothing but a comparison that is counted tells its number in the cell.
 #[derive(Clone, Copy)]
 pub struct Place {
     column: usize,
@@ -38,7 +38,7 @@ impl Place {
         self.pos
     }
 
-    /// The order of this place, moved by i, and the other one, moved by j: by column and then by position.
+    /// The order of this place, moved by i, and the other, moved by j: by column, then position.
     pub(crate) fn order(&self, i: usize, other: &Place, j: usize, steps: &mut Steps) -> Ordering
         ensures order { result ≡ place_order i self.now j other.now }
         ensures step { Takes 1 steps.old steps.new }
@@ -57,8 +57,8 @@ impl Place {
         self.column < other.column || self.column == other.column && last < other.pos as u128
     }
 
-    /// This occurrence, of k terms, and the other one, of m terms, are near: they stand in one column, don't end at the same token,
-    /// and have at most so many tokens between them.
+    /// This occurrence, of k terms, and the other one, of m terms, are near: they stand in one
+    /// column, don't end at the same token, and have at most so many tokens between them.
     pub(crate) fn is_near(
         &self,
         k: usize,

@@ -40,7 +40,8 @@ fn keep(cursors: &mut [Cursor])
     }
 }
 
-/// The next hit, without offsets where they aren't wanted. The walk then stands behind it, and after an error where it stood.
+/// The next hit, without offsets where they aren't wanted. The walk then stands behind it, and
+/// after an error where it stood.
 fn advance(
     alloc: Global,
     query: &Query,
@@ -64,7 +65,8 @@ fn advance(
     Ok(hit)
 }
 
-/// The walk over the documents that a query accepts, by rising docid. It goes over the lists of the query's terms once.
+/// The walk over the documents that a query accepts, by rising docid. It goes over the lists of the
+/// query's terms once.
 #[derive(Drop)]
 pub struct Matches<'q> {
     query: &'q Query,
@@ -92,8 +94,8 @@ impl<'q> Model for Matches<'q> {
 }
 
 impl<'q> Matches<'q> {
-    /// Begins a walk: asks once for each term of the query. Where the lists are clean afterwards, the walk stands before the
-    /// documents that they mean.
+    /// Begins a walk: asks once for each term of the query. Where the lists are clean afterwards,
+    /// the walk stands before the documents that they mean.
     pub fn open<L: Lists>(
         alloc: Global,
         query: &'q Query,
@@ -134,7 +136,7 @@ impl<'q> Matches<'q> {
         advance(self.alloc, self.query, cursors, wanted, &mut self.steps)
     }
 
-    /// The next hit, or `None` where there is none left. After an error the walk stands where it stood.
+    /// The next hit, or `None` where there is none. After an error the walk stands where it stood.
     pub fn next(&mut self) -> Result<Option<Hit>, AllocError>
         ensures walked { IfOk result (λ hit. (documents : List Document)
             → StandsBefore self.old documents → Walked self.old self.new hit documents) }
@@ -147,8 +149,8 @@ impl<'q> Matches<'q> {
         self.find(Wanted::Offsets)
     }
 
-    /// The docid of the next hit, or `None` where there is none left. No offsets are made. After an error the walk stands where it
-    /// stood.
+    /// The docid of the next hit, or `None` where there is none. No offsets are made. After an
+    /// error the walk stands where it stood.
     pub fn next_docid(&mut self) -> Result<Option<i64>, AllocError>
         ensures walked { IfOk result (λ docid. (documents : List Document)
             → StandsBefore self.old documents → WalkedTo self.old self.new docid documents) }
@@ -164,8 +166,8 @@ impl<'q> Matches<'q> {
         }
     }
 
-    /// The steps that the walk has taken: docids and positions that were looked at, and parts of the query that were visited for a
-    /// document.
+    /// The steps that the walk has taken: docids and positions that were looked at, and parts of
+    /// the query that were visited for a document.
     pub fn steps(&self) -> u64
         ensures { result ≡ self.now.steps }
     {

@@ -96,7 +96,8 @@ fn consider(
     }
 }
 
-/// The next document that the query accepts, without offsets where they aren't wanted. The search then stands behind it.
+/// The next document that the query accepts, without offsets where they aren't wanted. The search
+/// then stands behind it.
 pub(crate) fn search(
     alloc: Global,
     query: &Query,

@@ -36,7 +36,8 @@ fn seek<'a>(
     }
 }
 
-// What is left of these occurrences of k terms from the first on that doesn't end too far before this place to be near it.
+// What is left of these occurrences of k terms from the first on that doesn't end too far before
+// this place to be near it.
 fn skip_behind<'a>(
     places: Places<'a>,
     k: usize,
@@ -87,7 +88,8 @@ fn begin_near(
 
 impl Starts {
     #[tactic(auto, using(crate::proofs::Passes::all_may_begin))]
-    /// The places of a phrase's first term where the phrase may begin: without a filter and `^` each of them.
+    /// The places of a phrase's first term where the phrase may begin: without a filter and `^`
+    /// each of them.
     pub(crate) fn begin(
         alloc: Global,
         places: Places<'_>,
@@ -169,7 +171,8 @@ impl Starts {
         Ok(kept)
     }
 
-    /// Adds an offset with this number for each of these places that stands i positions after an occurrence.
+    /// Adds an offset with this number for each of these places that stands i positions after an
+    /// occurrence.
     pub(crate) fn mark(
         &self,
         found: &mut Vec<Offset>,

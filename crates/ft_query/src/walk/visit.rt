@@ -18,7 +18,8 @@ use crate::walk::spine::{By, Joint, Leaf, leaf_count, spine_of, term_count};
 use crate::walk::{Offset, Steps};
 use std::alloc::{AllocError, Global};
 
-// Of these occurrences the ones that this term follows after i positions, which has this list. A first term follows nothing.
+// Of these occurrences the ones that this term follows after i positions, which has this list. A
+// first term follows nothing.
 fn follow_one(
     alloc: Global,
     starts: &Starts,
@@ -40,7 +41,8 @@ fn follow_one(
     }
 }
 
-// Of these occurrences of a phrase's first term the ones that its other terms follow, which have these lists.
+// Of these occurrences of a phrase's first term the ones that its other terms follow, which have
+// these lists.
 fn follow(
     alloc: Global,
     first: Starts,
@@ -85,8 +87,8 @@ fn starts_of(
 }
 
 #[tactic(auto, using(crate::proofs::Passes::all_may_begin))]
-// Whether a phrase occurs. A single word does so where its list has a place, and no position is looked at, unless it has to stand in
-// one column or at the front.
+// Whether a phrase occurs. A single word does so where its list has a place, and no position is
+// looked at, unless it has to stand in one column or at the front.
 fn occurs(
     alloc: Global,
     phrase: &Phrase,
@@ -114,8 +116,8 @@ pub(crate) enum Wanted {
     Offsets,
 }
 
-// What is asked, the offsets so far, the number of the next term, and where memory comes from. Where docids alone are asked for no
-// offsets are added.
+// What is asked, the offsets so far, the number of the next term, and where memory comes from.
+// Where docids alone are asked for no offsets are added.
 #[derive(Drop)]
 struct Found {
     alloc: Global,
@@ -157,8 +159,8 @@ fn mark_phrase(
     Ok(())
 }
 
-// For each phrase of a chain its occurrences that are near one of the next phrase's here: those of the first phrase, and from the
-// last one back those of the others.
+// For each phrase of a chain its occurrences that are near one of the next phrase's here: those of
+// the first phrase, and from the last one back those of the others.
 fn linked(
     alloc: Global,
     first: &Phrase,
@@ -186,8 +188,8 @@ fn linked(
     Ok((kept, rest))
 }
 
-// Adds the offsets of these links' phrases, whose occurrences also have to be near one of the k terms before them: for each phrase
-// those that are near one of the next phrase's.
+// Adds the offsets of these links' phrases, whose occurrences also have to be near one of the k
+// terms before them: for each phrase those that are near one of the next phrase's.
 fn mark_links(
     found: &mut Found,
     k: usize,
@@ -246,7 +248,8 @@ fn visit_phrase(
 }
 
 #[tactic(auto, using(crate::proofs::Marks::chain_marks_count))]
-// Adds the offsets of a chain, if they are wanted, and says whether its phrases occur near one another.
+// Adds the offsets of a chain, if they are wanted, and says whether its phrases occur near one
+// another.
 fn visit_chain(
     near: &Chain,
     lists: &[Places<'_>],
@@ -396,8 +399,8 @@ fn lists_of<'a>(
     Ok(lists)
 }
 
-/// The offsets of a document, if the query accepts it: none where they aren't wanted. The cursors are those of the query's terms, in
-/// the text's order.
+/// The offsets of a document, if the query accepts it: none where they aren't wanted. The cursors
+/// are those of the query's terms, in the text's order.
 pub(crate) fn visit(
     alloc: Global,
     query: &Query,

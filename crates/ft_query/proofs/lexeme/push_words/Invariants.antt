@@ -10,4 +10,5 @@ abbrev pub invariant-loop-term : goal.invariant-loop-term
 invariant-loop-term l =
     (goal.iterator-loop-term).can_next l.term-iterator ×
     (goal.iterator-loop-term).is_finite l.term-iterator ×
-    (map plain_lexeme l.found.items ++ map word (map plain_term (into_iter_items l.term-iterator)) ≡ map plain_lexeme l.fn.found.items ++ map word (terms_of l.part))
+    (map plain_lexeme l.found.items ++ map word (map plain_term (into_iter_items l.term-iterator)) ≡ map plain_lexeme l.fn.found.items ++ map word
+    (terms_of l.part))

@@ -6,7 +6,9 @@ use Rattle.ft_query.proofs.lexer.lexemes_of.Goals as goal
 use Rattle.ft_query.proofs.lexer.lexemes_of.Goals.{then-ends_part+in_ok-push_part, else-ends_part}
 
 pub loop-place-init : goal.loop-place-init
-loop-place-init c = subst (λ found. Lexed (map string_bytes c.args.columns.now) c.args.text.now (map plain_lexeme found) false 0 0) (sym c.new-found.ensures.items) (lexed_none (map string_bytes c.args.columns.now) c.args.text.now c.utf8.text)
+loop-place-init c =
+    subst (λ found. Lexed (map string_bytes c.args.columns.now) c.args.text.now (map plain_lexeme found) false 0 0) (sym c.new-found.ensures.items)
+    (lexed_none (map string_bytes c.args.columns.now) c.args.text.now c.utf8.text)
 
 pub loop-place-preserved : goal.loop-place-preserved
 loop-place-preserved c =

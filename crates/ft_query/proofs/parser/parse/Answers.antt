@@ -9,10 +9,13 @@ use Rattle.ft_query.proofs.Capped.{long_is_large, zero_is_malformed, open_is_mal
 use Rattle.ft_query.proofs.parser.parse.Goals as goal
 
 pub returns-then-text-gt-MOST_BYTES-clause-fault : goal.returns-then-text-gt-MOST_BYTES-clause-fault
-returns-then-text-gt-MOST_BYTES-clause-fault c _ = long_is_large (map string_bytes c.args.columns.now) c.args.default c.args.text.now c.if-text-gt-MOST_BYTES.true
+returns-then-text-gt-MOST_BYTES-clause-fault c _ =
+    long_is_large (map string_bytes c.args.columns.now) c.args.default c.args.text.now c.if-text-gt-MOST_BYTES.true
 
 pub returns-then-has_zero-clause-fault : goal.returns-then-has_zero-clause-fault
-returns-then-has_zero-clause-fault c _ = zero_is_malformed (map string_bytes c.args.columns.now) c.args.default c.args.text.now c.if-text-gt-MOST_BYTES.false (sym c.has_zero.ensures ∙ c.if-has_zero.true)
+returns-then-has_zero-clause-fault c _ =
+    zero_is_malformed (map string_bytes c.args.columns.now) c.args.default c.args.text.now c.if-text-gt-MOST_BYTES.false
+    (sym c.has_zero.ensures ∙ c.if-has_zero.true)
 
 pub returns-in-None-clause-fault : goal.returns-in-None-clause-fault
 returns-in-None-clause-fault c _ =
@@ -23,14 +26,20 @@ pub returns-in-Some-clause-ok : goal.returns-in-Some-clause-ok
 returns-in-Some-clause-ok c =
     let lexed = rw c.in-Some.is at c.in_ok-lexemes_of.ensures in
     let found = map plain_lexeme c.in-Some.lexemes.items in
-    let same = read_within (map string_bytes c.args.columns.now) c.args.default c.args.text.now found c.if-text-gt-MOST_BYTES.false (sym c.has_zero.ensures ∙ c.if-has_zero.false) lexed in
-    IfOk-weaker c.read.result (λ query. query_within c.args.default found ≡ Ok (option_map tree_of query)) (λ query. query_of (map string_bytes c.args.columns.now) c.args.default c.args.text.now ≡ Ok (option_map tree_of query))
+    let same =
+    read_within (map string_bytes c.args.columns.now) c.args.default c.args.text.now found c.if-text-gt-MOST_BYTES.false
+    (sym c.has_zero.ensures ∙ c.if-has_zero.false) lexed in
+    IfOk-weaker c.read.result (λ query. query_within c.args.default found ≡ Ok (option_map tree_of query))
+    (λ query. query_of (map string_bytes c.args.columns.now) c.args.default c.args.text.now ≡ Ok (option_map tree_of query))
     (λ query e. sym same ∙ e) c.read.ensures.ok
 
 pub returns-in-Some-clause-fault : goal.returns-in-Some-clause-fault
 returns-in-Some-clause-fault c =
     let lexed = rw c.in-Some.is at c.in_ok-lexemes_of.ensures in
     let found = map plain_lexeme c.in-Some.lexemes.items in
-    let same = read_within (map string_bytes c.args.columns.now) c.args.default c.args.text.now found c.if-text-gt-MOST_BYTES.false (sym c.has_zero.ensures ∙ c.if-has_zero.false) lexed in
-    IfErr-weaker c.read.result (λ fault. fault ≢ Memory → query_within c.args.default found ≡ Err fault) (λ fault. fault ≢ Memory → query_of (map string_bytes c.args.columns.now) c.args.default c.args.text.now ≡ Err fault)
+    let same =
+    read_within (map string_bytes c.args.columns.now) c.args.default c.args.text.now found c.if-text-gt-MOST_BYTES.false
+    (sym c.has_zero.ensures ∙ c.if-has_zero.false) lexed in
+    IfErr-weaker c.read.result (λ fault. fault ≢ Memory → query_within c.args.default found ≡ Err fault)
+    (λ fault. fault ≢ Memory → query_of (map string_bytes c.args.columns.now) c.args.default c.args.text.now ≡ Err fault)
     (λ fault e other. sym same ∙ e other) c.read.ensures.fault

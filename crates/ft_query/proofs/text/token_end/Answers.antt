@@ -21,7 +21,8 @@ returns-else-is_eligible c =
     let place = c.loop-place.place in
     let is_text = c.as_bytes-bytes.ensures.value in
     let inside : place < length text = subst (λ bytes. place < length bytes) is_text c.loop-place-test.true in
-    let other : is_eligible (get_or text place 0) ≡ false = ap (λ bytes. is_eligible (get_or bytes place 0)) (sym is_text) ∙ sym c.is_eligible.ensures ∙ c.if-is_eligible.false in
+    let other : is_eligible (get_or text place 0) ≡ false =
+    ap (λ bytes. is_eligible (get_or bytes place 0)) (sym is_text) ∙ sym c.is_eligible.ensures ∙ c.if-is_eligible.false in
     record {
       later = c.loop-place.invariant.begun;
       some = λ _ eligible. ⊎_elim

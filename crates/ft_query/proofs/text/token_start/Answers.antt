@@ -13,7 +13,8 @@ loop-place-preserved c =
     let place = c.loop-place.place in
     let is_text = c.as_bytes-bytes.ensures.value in
     let inside : place < length text = subst (λ bytes. place < length bytes) is_text c.loop-place-test.true in
-    let other : is_eligible (get_or text place 0) ≡ false = ap (λ bytes. is_eligible (get_or bytes place 0)) (sym is_text) ∙ sym c.is_eligible.ensures ∙ c.if-not-is_eligible.true in (
+    let other : is_eligible (get_or text place 0) ≡ false =
+    ap (λ bytes. is_eligible (get_or bytes place 0)) (sym is_text) ∙ sym c.is_eligible.ensures ∙ c.if-not-is_eligible.true in (
       omega (arith, c.loop-place.invariant.0),
       IsCharBoundary-after_ascii text place c.utf8.text inside (ascii _ other),
       λ count. c.loop-place.invariant.2 count ∙ left_past text count place inside other,
@@ -24,7 +25,9 @@ returns-else-not-is_eligible c = record {
   later = c.loop-place.invariant.0;
   cut = c.loop-place.invariant.1;
   same = c.loop-place.invariant.2;
-  begun = λ inside. ap (λ bytes. is_eligible (get_or bytes c.loop-place.place 0)) (sym c.as_bytes-bytes.ensures.value) ∙ sym c.is_eligible.ensures ∙ c.if-not-is_eligible.false;
+  begun =
+      λ inside. ap (λ bytes. is_eligible (get_or bytes c.loop-place.place 0)) (sym c.as_bytes-bytes.ensures.value) ∙ sym c.is_eligible.ensures
+      ∙ c.if-not-is_eligible.false;
 }
 
 pub returns-after-loop-place : goal.returns-after-loop-place

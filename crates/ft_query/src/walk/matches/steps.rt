@@ -2,8 +2,9 @@
 ghost use Rattle.std.specs.Prelude.{◌≡◌};
 ghost use Rattle.ft_query.specs.Taken.{Takes};
 
-/// The steps so far: the docids and positions that were looked at, and the parts of a query that were visited for a document. The
-/// count stays at its greatest value. A walk alone makes one, and what searches for it can only add to it.
+/// The steps so far: the docids and positions that were looked at, and the parts of a query that
+/// were visited for a document. The count stays at its greatest value. A walk alone makes one, and
+/// what searches for it can only add to it.
 #[derive(Drop)]
 pub(crate) struct Steps {
     taken: u64,

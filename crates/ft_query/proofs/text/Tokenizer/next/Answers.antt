@@ -12,5 +12,6 @@ returns-then-start-end-clause-next c =
     (λ (more : start < length text). absurd (omega (arith, c.token_end-end.ensures.some more (c.token_start-start.ensures.begun more), c.if-start-end.true)))
     (λ (past : length text ≤ start). past)
     (order start (length text)) in
-    let none : c.args.self.now ≡ [] = sym c.self.view_is ∙ c.token_start-start.ensures.same c.self.inside.count ∙ left_none text c.self.inside.count start past in
+    let none : c.args.self.now ≡ [] =
+    sym c.self.view_is ∙ c.token_start-start.ensures.same c.self.inside.count ∙ left_none text c.self.inside.count start past in
     (none, none)

@@ -13,5 +13,6 @@ returns-in_ok-load_terms-in-Near-clause-loads g c =
     let p = map plain_term c.as_slice-in-Near.result.now in
     let q = flat_map (λ link. link.to.terms) (map plain_link c.as_slice-in-Near-2.result.now) in
     let same : p ++ q ≡ terms_in (leaf_tree c.args.leaf) = search rules in
-    subst (λ (terms : List PlainTerm). OnOk c.load_links.result (Loads g.L.Lists terms c.args.lists.now c.load_links.new.lists c.args.cursors.now c.load_links.new.cursors)) same
+    subst (λ (terms : List PlainTerm). OnOk c.load_links.result
+    (Loads g.L.Lists terms c.args.lists.now c.load_links.new.lists c.args.cursors.now c.load_links.new.cursors)) same
     (loads_more g.L.Lists _ p q _ _ _ _ _ _ c.load_links.ensures.asks.clean c.in_ok-load_terms-in-Near.ensures.loads c.load_links.ensures.loads)

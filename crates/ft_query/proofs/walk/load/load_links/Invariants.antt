@@ -19,5 +19,6 @@ invariant-loop-link g l =
       clean : is_clean l.lists → is_clean l.fn.lists × (documents l.lists ≡ documents l.fn.lists);
       becomes : Reaches g.L.Lists.becomes l.fn.lists true l.lists;
       failed : g.L.Lists.has_failed l.lists ≡ g.L.Lists.has_failed l.fn.lists;
-      given : (start : ℕ) → given l.fn.lists ≡ min (start + places_left l.fn.cursors.items) (2 ^ 64 - 1) → given l.lists ≡ min (start + places_left l.cursors.items) (2 ^ 64 - 1);
+      given : (start : ℕ) → given l.fn.lists ≡ min (start + places_left l.fn.cursors.items) (2 ^ 64 - 1)
+          → given l.lists ≡ min (start + places_left l.cursors.items) (2 ^ 64 - 1);
     }

@@ -4,10 +4,16 @@ use Rattle.ft_query.proofs.Standing.{both_lists, as_kept, swept_all}
 use Rattle.ft_query.proofs.walk.matches.begin.Goals as goal
 
 pub loop-cursor-preserved : goal.loop-cursor-preserved
-loop-cursor-preserved c = sweep_next both_lists as_kept c.loop-cursor.cursors (map both_lists c.args.cursors.now) c.loop-cursor.cursor-index c.cursor-item.result c.begin.new.self c.loop-cursor.invariant (search rules) (ap₂ (λ a b. (a, b)) c.begin.ensures.left c.begin.ensures.kept)
+loop-cursor-preserved c =
+    sweep_next both_lists as_kept c.loop-cursor.cursors (map both_lists c.args.cursors.now) c.loop-cursor.cursor-index c.cursor-item.result c.begin.new.self
+    c.loop-cursor.invariant (search rules) (ap₂ (λ a b. (a, b)) c.begin.ensures.left c.begin.ensures.kept)
 
 pub returns : goal.returns
 returns c = record {
-  left = swept_all (λ p. p.0) (λ p. p.1) as_kept (λ _. refl) c.loop-cursor.cursors c.args.cursors.now c.loop-cursor.cursor-index c.loop-cursor.invariant c.loop-cursor-test.false;
-  kept = swept_all (λ p. p.1) (λ p. p.1) as_kept (λ _. refl) c.loop-cursor.cursors c.args.cursors.now c.loop-cursor.cursor-index c.loop-cursor.invariant c.loop-cursor-test.false;
+  left =
+      swept_all (λ p. p.0) (λ p. p.1) as_kept (λ _. refl) c.loop-cursor.cursors c.args.cursors.now c.loop-cursor.cursor-index c.loop-cursor.invariant
+      c.loop-cursor-test.false;
+  kept =
+      swept_all (λ p. p.1) (λ p. p.1) as_kept (λ _. refl) c.loop-cursor.cursors c.args.cursors.now c.loop-cursor.cursor-index c.loop-cursor.invariant
+      c.loop-cursor-test.false;
 }

@@ -16,7 +16,10 @@ passed_none same = true≢false (ap (λ (o : Considered). elim o [ NoDocument �
 
 pub returns-in_default-clause-considers : goal.returns-in_default-clause-considers
 returns-in_default-clause-considers c = record {
-  considers = λ documents stands. nothing_left c.args.wanted c.args.query.now (map lists_left c.args.cursors.now) c.args.steps.now.taken c.least.new.steps.taken documents stands (sym c.least.ensures.docid ∙ c.in_default.is) (c.least.ensures.steps.none c.in_default.is);
+  considers =
+      λ documents stands. nothing_left c.args.wanted c.args.query.now
+      (map lists_left c.args.cursors.now) c.args.steps.now.taken c.least.new.steps.taken documents stands (sym c.least.ensures.docid ∙ c.in_default.is)
+      (c.least.ensures.steps.none c.in_default.is);
   passes = λ never. absurd never;
 }
 
@@ -27,8 +30,11 @@ returns-in-Some-offsets-clause-considers c =
     let one = subst (λ z. least_from None (map lists_left c.args.cursors.now) ≡ Some z) same least in
     record {
       considers = λ documents stands.
-          let added = went_on c.args.wanted c.args.query.now c.args.cursors.now c.pass.new.cursors c.args.steps.now c.least.new.steps c.visit.new.steps c.pass.new.steps _ (Some c.in-Some-offsets.offsets.items) documents stands one
-          (λ postings ordered places. sym (ap (option_map (λ (o : Vec Offset Global). o.items)) c.in-Some-offsets.is) ∙ c.in_ok-offsets.ensures.offsets postings ordered places)
+          let added =
+          went_on c.args.wanted c.args.query.now c.args.cursors.now c.pass.new.cursors c.args.steps.now c.least.new.steps c.visit.new.steps c.pass.new.steps _
+          (Some c.in-Some-offsets.offsets.items) documents stands one
+          (λ postings ordered places. sym (ap (option_map (λ (o : Vec Offset Global). o.items)) c.in-Some-offsets.is)
+          ∙ c.in_ok-offsets.ensures.offsets postings ordered places)
           c.pass.ensures.go.left c.requires c.least.ensures.steps.at_least c.least.ensures.steps.at_most c.in_ok-offsets.ensures.steps c.pass.ensures.steps in
           record { offsets = added.offsets; went = added.went; told = added.told; ended = λ never. absurd (found_some never) };
       passes = λ _. fewer_left _ c.args.cursors.now c.pass.new.cursors one c.pass.ensures.go.left;
@@ -41,8 +47,11 @@ returns-in-None-clause-considers c =
     let one = subst (λ z. least_from None (map lists_left c.args.cursors.now) ≡ Some z) same least in
     record {
       considers = λ documents stands.
-          let added = went_on c.args.wanted c.args.query.now c.args.cursors.now c.pass.new.cursors c.args.steps.now c.least.new.steps c.visit.new.steps c.pass.new.steps _ None documents stands one
-          (λ postings ordered places. sym (ap (option_map (λ (o : Vec Offset Global). o.items)) c.in-None.is) ∙ c.in_ok-offsets.ensures.offsets postings ordered places)
+          let added =
+          went_on c.args.wanted c.args.query.now c.args.cursors.now c.pass.new.cursors c.args.steps.now c.least.new.steps c.visit.new.steps
+          c.pass.new.steps _ None documents stands one
+          (λ postings ordered places. sym (ap (option_map (λ (o : Vec Offset Global). o.items)) c.in-None.is)
+          ∙ c.in_ok-offsets.ensures.offsets postings ordered places)
           c.pass.ensures.go.left c.requires c.least.ensures.steps.at_least c.least.ensures.steps.at_most c.in_ok-offsets.ensures.steps c.pass.ensures.steps in
           record { offsets = added.offsets; went = added.went; told = tt; ended = λ never. absurd (passed_none never) };
       passes = λ _. fewer_left _ c.args.cursors.now c.pass.new.cursors one c.pass.ensures.go.left;

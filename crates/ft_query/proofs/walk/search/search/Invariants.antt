@@ -13,7 +13,8 @@ invariant-loop-hit l = record {
   number : length l.cursors ≡ length l.fn.cursors;
   rise : l.fn.steps.taken ≤ l.steps.taken;
   fewer : sum_by length (map lists_left l.cursors) ≤ sum_by length (map lists_left l.fn.cursors);
-  went : (documents : List Document) → StandsBefore (walk_at l.fn.query l.fn.cursors l.fn.steps.taken) documents → Went (walk_at l.fn.query l.fn.cursors l.fn.steps.taken) (walk_at l.fn.query l.cursors l.steps.taken) [] documents;
+  went : (documents : List Document) → StandsBefore (walk_at l.fn.query l.fn.cursors l.fn.steps.taken) documents
+      → Went (walk_at l.fn.query l.fn.cursors l.fn.steps.taken) (walk_at l.fn.query l.cursors l.steps.taken) [] documents;
 }
 
 abbrev pub decreases-loop-hit : goal.decreases-loop-hit

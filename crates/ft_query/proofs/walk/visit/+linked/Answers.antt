@@ -12,7 +12,9 @@ returns-clause-starts t c =
     let links = map plain_link c.in-Some.links.now in
     let lists = plain_lists c.args.lists.now in
     let behind = plain_lists c.split_at.result.1.now in
-    let all = linked_push (plain_phrase link.to) links behind c.in_ok-next.rest.items c.in_ok-next.next c.in_ok-next.ensures.starts.first c.in_ok-next.ensures.starts.rest in
+    let all =
+    linked_push (plain_phrase link.to) links behind c.in_ok-next.rest.items c.in_ok-next.next c.in_ok-next.ensures.starts.first
+    c.in_ok-next.ensures.starts.rest in
     let size : c.len-size.result ≡ length first.terms.items = search rules in
     let back = back_lists first.terms.items c.args.lists.now c.split_at.result.1.now c.len-size.result size c.split_at.ensures.back in
     let is : drop 1 (linked (plain_phrase first) (map plain_link c.args.links.now) lists) ≡ linked (plain_phrase link.to) links behind =

@@ -18,7 +18,9 @@ returns-clause-marks t c =
     let behind = c.split_at.result.1.now in
     let next = c.in_ok-next.next.places.items in
     let size : c.len-size.result ≡ length link.to.terms.items = search rules in
-    let one = link_marks_one c.args.k starts link links lists own behind others all c.len-size.result next size c.split_at.ensures.front c.split_at.ensures.back c.in_ok-next.ensures.starts in
+    let one =
+    link_marks_one c.args.k starts link links lists own behind others all c.len-size.result next size c.split_at.ensures.front c.split_at.ensures.back
+    c.in_ok-next.ensures.starts in
     let more = link_marks c.len-size.result next (map plain_link links) (plain_lists behind) (plain_starts all) in
     let old = c.args.found.now.offsets.items in
     let n = c.args.found.now.next in
@@ -27,8 +29,10 @@ returns-clause-marks t c =
     ∙ ap (λ k. old ++ numbered n (marks_from 0 (plain_lists own) next) ++ numbered k more) c.in_ok-mark_phrase.ensures.marks.next
     ∙ numbered_marks old n own next more
     ∙ ap (λ ms. old ++ numbered n ms) one
-    ∙ ap (λ ls. old ++ numbered n (link_marks c.args.k starts (map plain_link ls) (plain_lists lists) (plain_starts (others ∷ all)))) (sym c.in-Some.ensures.cases.0)
-    ∙ ap (λ ss. old ++ numbered n (link_marks c.args.k starts (map plain_link c.args.links.now) (plain_lists lists) (plain_starts ss))) (sym c.in-Some-split_first.ensures.cases.0)) in
+    ∙ ap (λ ls. old ++ numbered n (link_marks c.args.k starts (map plain_link ls) (plain_lists lists) (plain_starts (others ∷ all))))
+    (sym c.in-Some.ensures.cases.0)
+    ∙ ap (λ ss. old ++ numbered n (link_marks c.args.k starts (map plain_link c.args.links.now) (plain_lists lists) (plain_starts ss)))
+    (sym c.in-Some-split_first.ensures.cases.0)) in
     record {
       wanted = search rules;
       offsets = added;

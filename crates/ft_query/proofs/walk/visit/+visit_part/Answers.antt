@@ -34,7 +34,8 @@ visit_part-returns-in_err-accepted-clause-steps t c =
     let rest = c.split_at.result.1.now in
     let parts = parted c.leaf_count.result own rest c.args.lists.now c.split_at.ensures.front c.split_at.ensures.back in
     let count = c.split_at.ensures.front_len ∙ c.leaf_count.ensures in
-    first_failed (leaf_tree c.in_ok-leaf.leaf) own rest c.in_ok-leaf.joints.items _ c.in_ok-leaf.ensures parts count c.requires.each c.take.ensures c.in_err-accepted.ensures.steps
+    first_failed (leaf_tree c.in_ok-leaf.leaf) own rest c.in_ok-leaf.joints.items _ c.in_ok-leaf.ensures parts count c.requires.each c.take.ensures
+    c.in_err-accepted.ensures.steps
 
 pub visit_part-term_count-requires : goal.visit_part-term_count-requires
 visit_part-term_count-requires t c =

@@ -5,6 +5,8 @@ use Rattle.ft_query.proofs.walk.visit.follow.Given as goal
 
 abbrev pub invariant-loop-i : goal.invariant-loop-i
 invariant-loop-i l =
-    (followed (l.i + 1) (map plain_term (drop l.i l.terms)) (plain_lists (drop l.i l.lists)) l.starts.places.items ≡ followed 1 (map plain_term l.terms) (plain_lists l.lists) l.fn.first.places.items)
+    (followed (l.i + 1) (map plain_term (drop l.i l.terms)) (plain_lists (drop l.i l.lists)) l.starts.places.items ≡ followed 1 (map plain_term l.terms)
+    (plain_lists l.lists) l.fn.first.places.items)
     × (l.initial.steps.taken ≤ l.steps.taken)
-    × (l.steps.taken + length l.starts.places.items + 2 * total (plain_lists (drop l.i l.lists)) ≤ l.initial.steps.taken + length l.fn.first.places.items + 2 * total (plain_lists l.lists))
+    × (l.steps.taken + length l.starts.places.items + 2 * total (plain_lists (drop l.i l.lists)) ≤ l.initial.steps.taken + length l.fn.first.places.items
+    + 2 * total (plain_lists l.lists))

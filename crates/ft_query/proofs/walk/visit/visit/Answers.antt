@@ -11,7 +11,8 @@ pub returns-then-not-branch-clause-offsets : goal.returns-then-not-branch-clause
 returns-then-not-branch-clause-offsets c = λ postings ordered same.
     let lists = plain_lists c.deref.result.now in
     let is = ap plain_lists c.deref.ensures.value ∙ c.in_ok-lists.ensures.lists ∙ ap (λ z. places_in z c.args.cursors.now) (to_z-of_z c.ranges.docid) ∙ same in
-    rejected_is c.args.wanted postings (tree_of c.args.query.now) lists c.in_ok-visit_part.field-0 ordered is c.in_ok-visit_part.ensures.evaluates.accepted c.if-not-branch.true
+    rejected_is c.args.wanted postings (tree_of c.args.query.now) lists c.in_ok-visit_part.field-0 ordered is c.in_ok-visit_part.ensures.evaluates.accepted
+    c.if-not-branch.true
 
 pub returns-clause-offsets : goal.returns-clause-offsets
 returns-clause-offsets c = λ postings ordered same.
@@ -24,12 +25,17 @@ returns-clause-offsets c = λ postings ordered same.
     ∙ ap (λ os. os ++ numbered c.no_offsets-found.result.next (told c.no_offsets-found.result.wanted)) c.no_offsets-found.ensures.offsets
     ∙ ap (λ n. numbered n (told c.no_offsets-found.result.wanted)) c.no_offsets-found.ensures.next
     ∙ ap (λ wanted. numbered 0 (told wanted)) c.no_offsets-found.ensures.wanted in
-    found_is c.args.wanted postings tree lists c.in_ok-visit_part.field-0 c.visit_part.new.found.offsets.items c.sort_offsets.new.offsets.items ordered is c.in_ok-visit_part.ensures.evaluates.accepted c.if-not-branch.false marked c.sort_offsets.ensures.permutation c.sort_offsets.ensures.sorted
+    found_is c.args.wanted postings tree lists c.in_ok-visit_part.field-0 c.visit_part.new.found.offsets.items c.sort_offsets.new.offsets.items ordered is
+    c.in_ok-visit_part.ensures.evaluates.accepted c.if-not-branch.false marked c.sort_offsets.ensures.permutation c.sort_offsets.ensures.sorted
 
 pub returns-in_err-lists-clause-steps : goal.returns-in_err-lists-clause-steps
 returns-in_err-lists-clause-steps c =
     let bound = document_bound (tree_of c.args.query.now) c.args.docid c.args.cursors.now (places_in c.args.docid c.args.cursors.now) c.requires refl in
-    record { rises = c.in_err-lists.ensures.steps.at_least; at_least = c.in_err-lists.ensures.steps.refused; at_most = omega (arith, bound, c.in_err-lists.ensures.steps.at_most) }
+    record {
+      rises = c.in_err-lists.ensures.steps.at_least;
+      at_least = c.in_err-lists.ensures.steps.refused;
+      at_most = omega (arith, bound, c.in_err-lists.ensures.steps.at_most);
+    }
 
 pub returns-in_err-visit_part-clause-steps : goal.returns-in_err-visit_part-clause-steps
 returns-in_err-visit_part-clause-steps c =

@@ -26,20 +26,28 @@ returns-clause-evaluates c =
     let behind = c.split_at.result.1.now in
     let later = drop 1 (linked (plain_phrase first) (map plain_link links) (plain_lists lists)) in
     let size : c.len-size.result ≡ length first.terms.items = search rules in
-    let all = ap plain_starts (c.deref.ensures.value ∙ c.reverse.ensures.items) ∙ starts_forward c.in_ok-starts.all.items later c.in_ok-starts.ensures.starts.rest in
+    let all =
+    ap plain_starts (c.deref.ensures.value ∙ c.reverse.ensures.items) ∙ starts_forward c.in_ok-starts.all.items later c.in_ok-starts.ensures.starts.rest in
     let starts = c.in_ok-starts.starts.places.items in
-    let one = chain_marks first links lists own behind starts later c.len-size.result size c.split_at.ensures.front c.split_at.ensures.back c.in_ok-starts.ensures.starts.first refl in
+    let one =
+    chain_marks first links lists own behind starts later c.len-size.result size c.split_at.ensures.front c.split_at.ensures.back
+    c.in_ok-starts.ensures.starts.first refl in
     let old = c.args.found.now.offsets.items in
     let n = c.args.found.now.next in
     let added =
     c.in_ok-mark_links-in-Offsets.ensures.marks.offsets
-    ∙ ap (λ os. os ++ numbered c.mark_phrase.new.found.next (link_marks c.len-size.result starts (map plain_link links) (plain_lists behind) (plain_starts c.deref.result.now))) c.in_ok-mark_phrase-in-Offsets.ensures.marks.offsets
-    ∙ ap (λ k. old ++ numbered n (marks_from 0 (plain_lists own) starts) ++ numbered k (link_marks c.len-size.result starts (map plain_link links) (plain_lists behind) (plain_starts c.deref.result.now))) c.in_ok-mark_phrase-in-Offsets.ensures.marks.next
-    ∙ ap (λ ss. old ++ numbered n (marks_from 0 (plain_lists own) starts) ++ numbered (n + length own) (link_marks c.len-size.result starts (map plain_link links) (plain_lists behind) ss)) all
+    ∙ ap (λ os. os ++ numbered c.mark_phrase.new.found.next (link_marks c.len-size.result starts (map plain_link links) (plain_lists behind)
+    (plain_starts c.deref.result.now))) c.in_ok-mark_phrase-in-Offsets.ensures.marks.offsets
+    ∙ ap (λ k. old ++ numbered n (marks_from 0 (plain_lists own) starts) ++ numbered k
+    (link_marks c.len-size.result starts (map plain_link links) (plain_lists behind)
+    (plain_starts c.deref.result.now))) c.in_ok-mark_phrase-in-Offsets.ensures.marks.next
+    ∙ ap (λ ss. old ++ numbered n (marks_from 0 (plain_lists own) starts) ++ numbered (n + length own)
+    (link_marks c.len-size.result starts (map plain_link links) (plain_lists behind) ss)) all
     ∙ numbered_marks old n own starts (link_marks c.len-size.result starts (map plain_link links) (plain_lists behind) later)
     ∙ ap (λ ms. old ++ numbered n ms) one
     ∙ ap (λ ls. old ++ numbered n (marks_of (chain (plain_phrase first) (map plain_link ls)) (plain_lists lists))) c.as_slice-links.ensures.value
-    ∙ ap (λ wanted. old ++ numbered n (if_wanted wanted (marks_of (chain (plain_phrase first) (map plain_link c.args.near.now.links.items)) (plain_lists lists)))) (sym c.in-Offsets.is) in
+    ∙ ap (λ wanted. old ++ numbered n (if_wanted wanted (marks_of (chain (plain_phrase first) (map plain_link c.args.near.now.links.items))
+    (plain_lists lists)))) (sym c.in-Offsets.is) in
     let tree = chain_tree c.args.near.now in
     let told = ap (λ wanted. length (if_wanted wanted (marks_of tree (plain_lists lists)))) c.in-Offsets.is in
     let count = chain_marks_count (plain_phrase first) (map plain_link c.args.near.now.links.items) lists c.requires.each in
@@ -47,7 +55,16 @@ returns-clause-evaluates c =
       accepted = grind (arith, common_steps);
       wanted = search rules;
       offsets = added;
-      next = omega (arith, told, count, c.in_ok-mark_links-in-Offsets.ensures.marks.next, c.in_ok-mark_phrase-in-Offsets.ensures.marks.next, c.split_at.ensures.front_len, c.split_at.ensures.back_len);
+      next =
+          omega (
+            arith,
+            told,
+            count,
+            c.in_ok-mark_links-in-Offsets.ensures.marks.next,
+            c.in_ok-mark_phrase-in-Offsets.ensures.marks.next,
+            c.split_at.ensures.front_len,
+            c.split_at.ensures.back_len,
+          );
       room = grind (arith, common_steps);
     }
 
@@ -60,15 +77,28 @@ returns-in_err-mark_links-in-Offsets-clause-steps c =
     let behind = c.split_at.result.1.now in
     let later = drop 1 (linked (plain_phrase first) (map plain_link links) (plain_lists lists)) in
     let size : c.len-size.result ≡ length first.terms.items = search rules in
-    let all = ap plain_starts (c.deref.ensures.value ∙ c.reverse.ensures.items) ∙ starts_forward c.in_ok-starts.all.items later c.in_ok-starts.ensures.starts.rest in
+    let all =
+    ap plain_starts (c.deref.ensures.value ∙ c.reverse.ensures.items) ∙ starts_forward c.in_ok-starts.all.items later c.in_ok-starts.ensures.starts.rest in
     let starts = c.in_ok-starts.starts.places.items in
-    let whole = chain_cost first links lists own behind starts later c.len-size.result size c.split_at.ensures.front c.split_at.ensures.back c.in_ok-starts.ensures.starts.first refl in
+    let whole =
+    chain_cost first links lists own behind starts later c.len-size.result size c.split_at.ensures.front c.split_at.ensures.back
+    c.in_ok-starts.ensures.starts.first refl in
     let same = ap (λ ls. visit_cost (chain (plain_phrase first) (map plain_link ls)) (plain_lists lists)) c.as_slice-links.ensures.value in
     let links_too = ap (link_cost c.len-size.result starts (map plain_link links) (plain_lists behind)) all in
     let own_too = ap (λ n. n * length starts) c.split_at.ensures.front_len in
     record {
       at_least = grind arith;
-      at_most = omega (arith, whole, same, links_too, own_too, c.in_ok-starts.ensures.steps.at_most, c.in_ok-mark_phrase-in-Offsets.ensures.steps.at_most, c.in_err-mark_links-in-Offsets.ensures.steps.at_most);
+      at_most =
+          omega (
+            arith,
+            whole,
+            same,
+            links_too,
+            own_too,
+            c.in_ok-starts.ensures.steps.at_most,
+            c.in_ok-mark_phrase-in-Offsets.ensures.steps.at_most,
+            c.in_err-mark_links-in-Offsets.ensures.steps.at_most,
+          );
     }
 
 pub returns-clause-steps : goal.returns-clause-steps
@@ -80,13 +110,26 @@ returns-clause-steps c =
     let behind = c.split_at.result.1.now in
     let later = drop 1 (linked (plain_phrase first) (map plain_link links) (plain_lists lists)) in
     let size : c.len-size.result ≡ length first.terms.items = search rules in
-    let all = ap plain_starts (c.deref.ensures.value ∙ c.reverse.ensures.items) ∙ starts_forward c.in_ok-starts.all.items later c.in_ok-starts.ensures.starts.rest in
+    let all =
+    ap plain_starts (c.deref.ensures.value ∙ c.reverse.ensures.items) ∙ starts_forward c.in_ok-starts.all.items later c.in_ok-starts.ensures.starts.rest in
     let starts = c.in_ok-starts.starts.places.items in
-    let whole = chain_cost first links lists own behind starts later c.len-size.result size c.split_at.ensures.front c.split_at.ensures.back c.in_ok-starts.ensures.starts.first refl in
+    let whole =
+    chain_cost first links lists own behind starts later c.len-size.result size c.split_at.ensures.front c.split_at.ensures.back
+    c.in_ok-starts.ensures.starts.first refl in
     let same = ap (λ ls. visit_cost (chain (plain_phrase first) (map plain_link ls)) (plain_lists lists)) c.as_slice-links.ensures.value in
     let links_too = ap (link_cost c.len-size.result starts (map plain_link links) (plain_lists behind)) all in
     let own_too = ap (λ n. n * length starts) c.split_at.ensures.front_len in
     record {
       at_least = grind arith;
-      at_most = omega (arith, whole, same, links_too, own_too, c.in_ok-starts.ensures.steps.at_most, c.in_ok-mark_phrase-in-Offsets.ensures.steps.at_most, c.in_ok-mark_links-in-Offsets.ensures.steps.at_most);
+      at_most =
+          omega (
+            arith,
+            whole,
+            same,
+            links_too,
+            own_too,
+            c.in_ok-starts.ensures.steps.at_most,
+            c.in_ok-mark_phrase-in-Offsets.ensures.steps.at_most,
+            c.in_ok-mark_links-in-Offsets.ensures.steps.at_most,
+          );
     }

@@ -12,7 +12,13 @@ returns-clause-finds c =
     let inside = c.self.inside.cursors in
     let steps = c.self.inside.steps.taken in
     let later = c.advance.new.steps.taken in
-    let sliced = subst (λ (cursors : List Cursor). IfOk c.advance.result (FindsNext c.args.wanted (stands_at query cursors steps) (stands_at query c.advance.new.cursors later))) c.as_mut_slice-cursors.ensures.value c.advance.ensures.finds in
-    let same : (with_items inside c.advance.new.cursors).items ≡ c.advance.new.cursors = with_items_is inside c.advance.new.cursors (c.advance.auto.cursors ∙ c.as_mut_slice-cursors.ensures.len) in
-    let stored = subst (λ (cursors : List Cursor). IfOk c.advance.result (FindsNext c.args.wanted (stands_at query inside.items steps) (stands_at query cursors later))) (sym same) sliced in
-    subst (λ (old : Walk). IfOk c.advance.result (FindsNext c.args.wanted old (stands_at query (with_items inside c.advance.new.cursors).items later))) c.self.view_is stored
+    let sliced =
+    subst (λ (cursors : List Cursor). IfOk c.advance.result (FindsNext c.args.wanted (stands_at query cursors steps)
+    (stands_at query c.advance.new.cursors later))) c.as_mut_slice-cursors.ensures.value c.advance.ensures.finds in
+    let same : (with_items inside c.advance.new.cursors).items ≡ c.advance.new.cursors =
+    with_items_is inside c.advance.new.cursors (c.advance.auto.cursors ∙ c.as_mut_slice-cursors.ensures.len) in
+    let stored =
+    subst (λ (cursors : List Cursor). IfOk c.advance.result (FindsNext c.args.wanted (stands_at query inside.items steps) (stands_at query cursors later)))
+    (sym same) sliced in
+    subst (λ (old : Walk). IfOk c.advance.result (FindsNext c.args.wanted old (stands_at query (with_items inside c.advance.new.cursors).items later)))
+    c.self.view_is stored
