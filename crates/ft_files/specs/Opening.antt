@@ -1,5 +1,6 @@
 -- Meaning. The two databases of a command line (own choice).
-use Rattle.std.specs.Prelude.{◌≡◌, ◌⊎◌, ℕ, List, ◌++◌, codes, Result, IfOk, IfErr}
+use Rattle.std.specs.Prelude.{◌≡◌, ◌⊎◌, ℕ, List, ◌++◌, nat_eq, if◌then◌else◌, codes, Result, IfOk, IfErr}
+use Rattle.std.specs.List.{starts_with}
 use Rattle.sqlite.specs.Held.{Held, IsNew, state}
 use Rattle.sqlite.specs.State.{HasCleanDisk}
 use Rattle.sqlite.specs.Steps.{IsEmpty}
@@ -21,6 +22,10 @@ abbrev pub fault_of : StoreFault → OpenFault
 fault_of store.NotAStore = fault.NotAStore
 fault_of (store.Version n) = fault.Version n
 fault_of _ = fault.Store
+
+-- where the file of a name lies: one that begins with `file:` is no URI
+abbrev pub file_path : List ℕ → List ℕ
+file_path path = if starts_with nat_eq path (codes "file:") then codes "./" ++ path else path
 
 -- the file of the full-text store, beside that of the plain tables
 abbrev pub store_path : List ℕ → List ℕ

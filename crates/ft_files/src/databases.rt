@@ -1,6 +1,7 @@
 //! The two databases: the plain tables and the full-text store.
 
-ghost use Rattle.std.specs.Prelude.{◌≡◌, string_bytes, IfOk};
+ghost use Rattle.std.specs.Prelude.{◌≡◌, ◌<◌, length, string_bytes, Err, IfOk, IfSome};
+ghost use Rattle.std.specs.Path.{path_file_name};
 ghost use Rattle.sqlite.specs.Files.{over_files};
 ghost use Rattle.sqlite_wal.specs.Files.{image_at};
 ghost use Rattle.ft_store.specs.Opened.{IsNewFrom};
@@ -9,6 +10,7 @@ ghost use Rattle.ft_files.specs.Opening as forms;
 ghost use Rattle.ft_files.specs.declared.databases.OpenFault.TheVariants as fault;
 
 use crate::access::make_beside;
+use crate::names::{are_free, file_path, is_long};
 use ft_store::{Store, StoreFault, open_database};
 use ram_disk::{Ram, open_ram};
 use sqlite::{Connection, FileFrom, FileStore, Start};
@@ -60,18 +62,16 @@ fn open_plain<A: Start>(
 fn open_store<B: Start>(
     rt: &HostRuntime,
     path: &str,
+    beside: &str,
     held: B,
 ) -> Result<Store<FileStore<FileFrom<B>>>, OpenFault>
     ensures store { IfOk result (IsStoreFrom (image_at B.Start)) }
     ensures refused { IsNoStoreFrom (image_at B.Start) result }
 {
-    let Ok(beside) = store_path(rt.alloc(), path) else {
-        return Err(store_fault(StoreFault::Memory));
-    };
-    if make_beside(rt, path, beside.as_str()).is_err() {
+    if make_beside(rt, path, beside).is_err() {
         return Err(store_fault(StoreFault::Refused));
     }
-    match Store::open_from(rt, beside.as_str(), held) {
+    match Store::open_from(rt, beside, held) {
         Ok(store) => Ok(store),
         Err(cause) => Err(store_fault(cause)),
     }
@@ -100,8 +100,13 @@ fn store_in_memory(alloc: Global) -> Result<Store<FileStore<Ram>>, OpenFault>
     }
 }
 
+// Whether nothing is known against the names of a database's files.
+fn may_open(rt: &HostRuntime, path: &str) -> bool {
+    matches!(are_free(rt, path), Ok(true))
+}
+
 /// Both databases in files: that of the plain tables at the path, and the full-text store beside it. `A` and `B` stand for
-/// what they held.
+/// what they held. Where a name is too long or a file has a second one, no file is made.
 pub fn open_files<A: Start, B: Start>(
     rt: &HostRuntime,
     path: &str,
@@ -114,10 +119,27 @@ pub fn open_files<A: Start, B: Start>(
     ),
     OpenFault,
 >
-    ensures { OpensFiles (image_at A.Start) (image_at B.Start) result }
+    ensures opens { OpensFiles (image_at A.Start) (image_at B.Start) result }
+    ensures long { IfSome (path_file_name path.now)
+        (λ name. 242 < length name → result ≡ Err fault.Database) }
 {
-    let plain = open_plain(rt, path, tables)?;
-    let store = open_store(rt, path, texts)?;
+    if is_long(path) {
+        return Err(OpenFault::Database);
+    }
+    let Ok(path) = file_path(rt.alloc(), path) else {
+        return Err(OpenFault::Database);
+    };
+    let Ok(beside) = store_path(rt.alloc(), path.as_str()) else {
+        return Err(store_fault(StoreFault::Memory));
+    };
+    if !may_open(rt, path.as_str()) {
+        return Err(OpenFault::Database);
+    }
+    if !may_open(rt, beside.as_str()) {
+        return Err(store_fault(StoreFault::Refused));
+    }
+    let plain = open_plain(rt, path.as_str(), tables)?;
+    let store = open_store(rt, path.as_str(), beside.as_str(), texts)?;
     Ok((plain, store))
 }
 

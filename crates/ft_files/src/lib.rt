@@ -3,6 +3,7 @@
 
 mod access;
 mod databases;
+mod names;
 mod source;
 
 pub use databases::{OpenFault, open_files, open_in_memory};
