@@ -92,7 +92,8 @@ none_left {K} {V} p (e ∷ es) = go (p e.0) refl (none_left p es)
     go true is none = ap (λ b. filter (λ (e : K × V). p e.0) (cond (not b) (e ∷ rest) rest)) is ∙ none
     go false is none = ap (λ b. filter (λ (e : K × V). p e.0) (cond (not b) (e ∷ rest) rest)) is ∙ ap (λ b. cond b (e ∷ filter (λ (e : K × V). p e.0) rest) (filter (λ (e : K × V). p e.0) rest)) is ∙ none
 
--- so of rows without those of a table, and then with new ones in order, the new ones are the table's
+-- so of rows without those of a table, and then with new ones in order, the new ones are the
+-- table's
 own_new : {V : Type 0} (id : ℤ) (new rows : List (ColumnKey × V)) → AllByRecursion (λ (e : ColumnKey × V). int_eq id e.0.0 ≡ true) new → IsTrue (is_sorted column_key_cmp new) → IsTrue (is_sorted column_key_cmp rows) →
     where_key column_key_cmp (λ k. int_eq id k.0) (put_all column_key_cmp new (where_key column_key_cmp (λ k. not (int_eq id k.0)) rows)) ≡ new
 own_new id new rows passes sorted order =

@@ -251,7 +251,8 @@ lists_group test ds order =
 -- ---- the rows' lists
 
 module _ (ds : List Document) (order : AreDocuments ds) (test : List ℕ → Bool) (lists : List (Key × List StoredSpot)) where
-  -- rows of the lists of some terms give what a walk wants, where these mean it and none of their entries comes twice
+  -- rows of the lists of some terms give what a walk wants, where these mean it and none of their
+  -- entries comes twice
   pub rows_answer : lists_with test ds ≡ map all_places (documents_in (lists_of_terms test lists)) → place_count (lists_with test ds) ≡ length (entries_in (lists_of_terms test lists)) →
       (rows : List ListRow) → all_in (map list_of rows) ≡ map bare (entries_in (lists_of_terms test lists)) → (found : List PlaceList) → AreListsOf rows found → found ≡ lists_with test ds
   unfolding documents_in

@@ -1,4 +1,5 @@
--- Terms put in order are the same terms: what stands under a term is found in both, and a term that joins the one joins the other.
+-- Terms put in order are the same terms: what stands under a term is found in both, and a term that
+-- joins the one joins the other.
 use Rattle.std.proofs.Common.{◌≡◌, ◌≢◌, ⊎_elim, Bool, true, false, cond, List, [], ◌∷◌, ◌++◌, Option, Some, None, refl, sym, ap, ◌∙◌, String, Vec, string_bytes}
 use Rattle.std.specs.Option.{option_or, is_some, unwrap_or}
 use Rattle.std.specs.declared.alloc.Global.{Global}

@@ -1,4 +1,5 @@
--- The row changes of documents that are written anew group by group, one group's behind the other's.
+-- The row changes of documents that are written anew group by group, one group's behind the
+-- other's.
 use Rattle.std.proofs.Common.{◌≡◌, ℕ, Less, Equal, Greater, true, false, cond, ◌&&◌, not, List, [], ◌∷◌, ◌++◌, length, Option, Some, None, ℤ, refl, sym, ap, subst, ◌∙◌}
 use Rattle.std.specs.Prelude.{All, Contains, IfSome, IsTrue}
 use Rattle.std.specs.List.{flat_map, list_all, AllByRecursion}

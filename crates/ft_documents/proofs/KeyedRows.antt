@@ -229,7 +229,8 @@ module _ {K V : Type 0} (R : K → K → Ordering) (o : IsTotalOrder R) (exact :
         | false ↦ λ _. refl
       ] refl
 
-  -- What is found after the rows that are gone or differ are dropped and the changed ones are put, where the old ones were there.
+  -- What is found after the rows that are gone or differ are dropped and the changed ones are put,
+  -- where the old ones were there.
   pub find_renewed : (same : V → V → Bool) → ((v w : V) → same v w ≡ true → v ≡ w) → (q : K) (old new rows : List (K × V)) → is_sorted R old ≡ true → is_sorted R new ≡ true → ((v : V) → find R q old ≡ Some v → find R q rows ≡ Some v) →
       find R q (all_put R (changed R same old new) (all_dropped (changed R same new old) rows)) ≡ replaced (find R q old) (find R q new) (find R q rows)
   find_renewed same sound q old new rows g h there =
@@ -239,7 +240,8 @@ module _ {K V : Type 0} (R : K → K → Ordering) (o : IsTotalOrder R) (exact :
       ∙ (λ i. or_else (changed_found same q old new h i) (left i))
       ∙ renewed same sound (find R q old) (find R q new) (find R q rows) there
 
-  -- What is found after the gone rows are dropped and the changed ones are put, where the old ones were there.
+  -- What is found after the gone rows are dropped and the changed ones are put, where the old ones
+  -- were there.
   pub find_replaced : (same : V → V → Bool) → ((v w : V) → same v w ≡ true → v ≡ w) → (q : K) (old new rows : List (K × V)) → is_sorted R old ≡ true → is_sorted R new ≡ true → ((v : V) → find R q old ≡ Some v → find R q rows ≡ Some v) →
       find R q (all_put R (changed R same old new) (all_dropped (gone R old new) rows)) ≡ replaced (find R q old) (find R q new) (find R q rows)
   find_replaced same sound q old new rows g h there =

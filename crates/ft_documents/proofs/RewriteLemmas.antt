@@ -107,7 +107,8 @@ before_found docid documents (x ∷ xs) r h =
 
 -- ---- rows that come of documents
 
--- Rows of documents: in order, and what is found at a key is what comes of the one document of its docid.
+-- Rows of documents: in order, and what is found at a key is what comes of the one document of its
+-- docid.
 pub record AreRowsOf {K V : Type 0} (S : K → K → Ordering) (docid_of : K → ℤ) (rows : Documents → List (K × V)) (one : K → Cells → Option V) : Type 0 where
   pub sorted : (documents : Documents) → is_sorted int_cmp documents ≡ true → is_sorted S (rows documents) ≡ true
   pub found : (q : K) (documents : Documents) → is_sorted int_cmp documents ≡ true → find S q (rows documents) ≡ one q (find int_cmp (docid_of q) documents)
@@ -164,7 +165,8 @@ module _ {K V : Type 0} (S : K → K → Ordering) (o : IsTotalOrder S) (exact :
       settled (Some v) None = refl
       settled a (Some w) = refl
 
-  -- Rows of rewrites: where the gone ones are dropped and the changed ones are put, the rows are those of the documents as they are to be.
+  -- Rows of rewrites: where the gone ones are dropped and the changed ones are put, the rows are
+  -- those of the documents as they are to be.
   pub rows_replaced : (same : V → V → Bool) → ((v w : V) → same v w ≡ true → v ≡ w) →
       all_put S (changed S same (rows (befores rewrites)) (rows (afters rewrites))) (all_dropped S o exact (gone S (rows (befores rewrites)) (rows (afters rewrites))) (rows documents)) ≡ rows (rewritten rewrites documents)
   rows_replaced same sound =
@@ -174,7 +176,8 @@ module _ {K V : Type 0} (S : K → K → Ordering) (o : IsTotalOrder S) (exact :
       (of_true _ (are.sorted (rewritten rewrites documents) (sorted_rewritten rewrites documents ordered)))
       (λ q. find_replaced S o exact same sound q old new (rows documents) (are.sorted (befores rewrites) (sorted_held (λ r. r.before) rewrites rising)) (are.sorted (afters rewrites) (sorted_held (λ r. r.after) rewrites rising)) (old_there q) ∙ replaced_by q)
 
-  -- Rows of rewrites: where those that are gone or differ are dropped and the changed ones are put, the rows are those of the documents as they are to be.
+  -- Rows of rewrites: where those that are gone or differ are dropped and the changed ones are put,
+  -- the rows are those of the documents as they are to be.
   pub rows_renewed : (same : V → V → Bool) → ((v w : V) → same v w ≡ true → v ≡ w) →
       all_put S (changed S same (rows (befores rewrites)) (rows (afters rewrites))) (all_dropped S o exact (changed S same (rows (afters rewrites)) (rows (befores rewrites))) (rows documents)) ≡ rows (rewritten rewrites documents)
   rows_renewed same sound =

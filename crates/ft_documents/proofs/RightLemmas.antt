@@ -1,4 +1,5 @@
--- The row changes of rewrites lead to the rows and the index rows of the documents as they are to be.
+-- The row changes of rewrites lead to the rows and the index rows of the documents as they are to
+-- be.
 use Rattle.std.proofs.Common.{◌≡◌, ℕ, true, false, cond, ◌&&◌, List, [], ◌∷◌, ◌++◌, map, length, Option, Some, None, ℤ, refl, sym, ap, subst, ◌∙◌, arith}
 use Rattle.std.specs.Prelude.{filter, All, ◌==◌}
 use Rattle.std.specs.List.{flat_map, list_all}

@@ -1,4 +1,5 @@
--- Rows are a content where their columns, the numbers of those that aren't indexed, and their cells are those of one.
+-- Rows are a content where their columns, the numbers of those that aren't indexed, and their cells
+-- are those of one.
 use Rattle.std.proofs.Common.{◌≡◌, ℕ, ◌+◌, ◌<◌, ◌≤◌, Bool, true, not, ◌&&◌, ◌||◌, List, [], ◌∷◌, map, length, ℤ, pos, refl, sym, ap, subst, ◌∙◌, ltb-true, lt-ltb, le-leb, nat_lt, nat_le}
 use Rattle.std.specs.Prelude.{IsTrue}
 use Rattle.std.specs.List.{list_any, list_all, enumerate_from}

@@ -21,8 +21,8 @@ use Rattle.ft_documents.proofs.FoundLists.{made_sorted}
 use Rattle.ft_documents.proofs.IndexOf.{lists_with-append, lists_made}
 use Rattle.ft_documents.proofs.JoinedLists.{lower, lower_lists}
 
--- Some documents came and others are left. The sizes that are left are theirs as all are of all, and the lists so far are those of the documents
--- that came.
+-- Some documents came and others are left. The sizes that are left are theirs as all are of all,
+-- and the lists so far are those of the documents that came.
 pub record Left (columns : List Column) (width : ℕ) (rows : List CellRow) (sizes : List ((ℤ × ℤ) × ℤ)) (lists : List (Key × List StoredSpot)) (all : Documents) (right : Bool) : Type 0 where
   pub before : Documents
   pub documents : Documents

@@ -14,7 +14,8 @@ shown_document d = (d.docid, map shown_value d.cells.items)
 abbrev pub shown_row : source.CellRow → CellRow
 shown_row row = record { docid = row.docid; column = row.column; value = shown_value row.value }
 
--- the documents with one more cell, which joins the last document, if that has its docid (own choice)
+-- the documents with one more cell, which joins the last document, if that has its docid (own
+-- choice)
 abbrev pub with_last : CellRow → Documents → Documents
 with_last row [] = (row.docid, row.value ∷ []) ∷ []
 with_last row (d ∷ []) = if int_eq d.0 row.docid then ((d.0, d.1 ++ row.value ∷ []) ∷ []) else (d ∷ (row.docid, row.value ∷ []) ∷ [])

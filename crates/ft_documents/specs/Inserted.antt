@@ -1,4 +1,5 @@
--- Steps. The rows of an Insert, as documents beside those that a table has. All of it is our own choice.
+-- Steps. The rows of an Insert, as documents beside those that a table has. All of it is our own
+-- choice.
 use Rattle.std.specs.Prelude.{◌≡◌, ◌⊎◌, ℕ, Bool, false, List, map, slice_get, unwrap_or, IfSome, Some, None, Result, Ok, Err, IsTrue, Vec}
 use Rattle.std.specs.declared.alloc.Global.{Global}
 use Rattle.std.specs.List.{AllByRecursion}
@@ -16,9 +17,11 @@ use Rattle.ft_documents.specs.NewDocuments.{with_new, AreBeside}
 
 -- Of each row it is known whether a document has the docid that the row gives.
 abbrev pub AreKnown : Documents → List (List (List ℕ × Cell)) → List Bool → Type 0
-AreKnown documents rows stored = (k : ℕ) (values : List (List ℕ × Cell)) → slice_get rows k ≡ Some values → IfSome (slice_get (docids_in values) 0) (λ docid. has_docid documents docid ≡ unwrap_or (slice_get stored k) false)
+AreKnown documents rows stored = (k : ℕ) (values : List (List ℕ × Cell)) → slice_get rows k ≡ Some values
+    → IfSome (slice_get (docids_in values) 0) (λ docid. has_docid documents docid ≡ unwrap_or (slice_get stored k) false)
 
--- What comes of rows: the documents with theirs, or the fault of the first row that fails, but for want of memory.
+-- What comes of rows: the documents with theirs, or the fault of the first row that fails, but for
+-- want of memory.
 abbrev pub Makes : Documents → Result Documents Fault → Result NewDocuments Fault → Type 0
 Makes documents inserted (Ok new) = AreBeside documents new × (inserted ≡ Ok (with_new new documents))
 Makes documents inserted (Err fault) = (fault ≡ faults.Memory) ⊎ (inserted ≡ Err fault)
@@ -27,7 +30,8 @@ Makes documents inserted (Err fault) = (fault ≡ faults.Memory) ⊎ (inserted �
 abbrev pub IsNewIn : Documents → Rewrite → Type 0
 IsNewIn documents r = (find int_cmp r.docid documents ≡ None) × ((cells : List Cell) × (r.after ≡ Some cells))
 
--- The rewrites of an Insert: by rising docid, each of a document that was not there, and together they make the documents of its rows.
+-- The rewrites of an Insert: by rising docid, each of a document that was not there, and together
+-- they make the documents of its rows.
 pub record AreInserts (documents : Documents) (rewrites : List Rewrite) (inserted : Result Documents Fault) : Type 0 where
   pub rising : IsTrue (is_sorted int_cmp (by_docid rewrites))
   pub befores : AllByRecursion (λ (r : Rewrite). r.before ≡ find int_cmp r.docid documents) rewrites

@@ -1,4 +1,5 @@
--- Steps. What calls make of an index that is kept in memory, its lists and its sizes together. All of it is our own choice.
+-- Steps. What calls make of an index that is kept in memory, its lists and its sizes together. All
+-- of it is our own choice.
 use Rattle.std.specs.Prelude.{◌≡◌, ◌<◌, ◌^◌, ℕ, ℤ, List, [], ◌∷◌, length, All, IsTrue}
 use Rattle.std.specs.Ordering.{int_cmp}
 use Rattle.std.specs.FinMap.Entries.{is_sorted}

@@ -25,7 +25,8 @@ chosen_hits content f = map (hit_read content (query_in content f)) (chosen cont
 abbrev pub told : Bool → PlainHit → PlainHit
 told wanted hit = record { docid = hit.docid; offsets = if wanted then hit.offsets else [] }
 
--- From before these documents the walk went on to stand before the rest, with this hit between, as it is told. Without one there is no rest.
+-- From before these documents the walk went on to stand before the rest, with this hit between, as
+-- it is told. Without one there is no rest.
 pub record Tells (wanted : Bool) (old new : Walk) (hit : Option Hit) (documents : List Document) : Type 0 where
   pub rest : List Document
   pub stands : StandsBefore new rest

@@ -1,4 +1,5 @@
--- Steps. Documents that rows of an Insert make, beside those that a table has. All of it is our own choice.
+-- Steps. Documents that rows of an Insert make, beside those that a table has. All of it is our own
+-- choice.
 use Rattle.std.specs.Prelude.{◌≡◌, ◌⊎◌, ℤ, Option, List, [], map, Some, None, IsTrue}
 use Rattle.std.specs.List.{AllByRecursion}
 use Rattle.std.specs.Ordering.{int_cmp}
@@ -26,7 +27,8 @@ documents_in new = map shown_entry new.documents.entries
 abbrev pub with_new : NewDocuments → Documents → Documents
 with_new new documents = all_put int_cmp (documents_in new) documents
 
--- New documents for a table with these documents: none has a docid that is there, and the last docid of all is known.
+-- New documents for a table with these documents: none has a docid that is there, and the last
+-- docid of all is known.
 pub record AreBeside (documents : Documents) (new : NewDocuments) : Type 0 where
   pub sorted : IsTrue (is_sorted int_cmp documents)
   pub rising : IsTrue (is_sorted int_cmp (documents_in new))
@@ -38,7 +40,8 @@ pub record BeginsAfter (last : Option ℤ) (new : NewDocuments) : Type 0 where
   pub none : documents_in new ≡ []
   pub beside : (documents : Documents) → IsTrue (is_sorted int_cmp documents) → last_docid documents ≡ last → AreBeside documents new
 
--- What comes of a row: the documents with its document, or the fault of its docid, but for want of memory.
+-- What comes of a row: the documents with its document, or the fault of its docid, but for want of
+-- memory.
 abbrev pub Places : Documents → Result Documents Fault → NewDocuments → Result (Unit {0}) Fault → Type 0
 Places documents placed new (Ok u) = AreBeside documents new × (placed ≡ Ok (with_new new documents))
 Places documents placed new (Err fault) = (fault ≡ faults.Memory) ⊎ (placed ≡ Err fault)

@@ -66,7 +66,8 @@ list_with first ps = record { docid = first.docid; places = map place_in ps }
 abbrev pub run_with : Placed → List Placed → ℕ
 run_with first ps = prefix_len (λ p. int_eq p.docid first.docid) ps
 
--- Places one after another, as lists of documents: a place joins the list after it, if that has its docid.
+-- Places one after another, as lists of documents: a place joins the list after it, if that has its
+-- docid.
 abbrev pub with_placed : Placed → List PlaceList → List PlaceList
 with_placed p [] = list_with p (p ∷ []) ∷ []
 with_placed p (l ∷ ls) = if int_eq p.docid l.docid then (record { docid = p.docid; places = place_in p ∷ l.places } ∷ ls) else (list_with p (p ∷ []) ∷ l ∷ ls)

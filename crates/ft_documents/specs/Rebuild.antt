@@ -1,4 +1,5 @@
--- Steps. The row changes that make the index of a table again ("The "rebuild" command"); their rows are an own choice.
+-- Steps. The row changes that make the index of a table again ("The "rebuild" command"); their rows
+-- are an own choice.
 use Rattle.std.specs.Prelude.{◌≡◌, ℕ, true, false, if◌then◌else◌, List, map, ℤ}
 use Rattle.std.specs.Ordering.{int_eq}
 use Rattle.ft_values.specs.Cells.{Cell}
@@ -12,9 +13,11 @@ use Rattle.ft_documents.specs.Tables.{table_rows, table_index}
 abbrev pub shown_document : Document → ℤ × List Cell
 shown_document d = (d.docid, cells_of d.cells)
 
--- Whatever index rows a table has that holds these documents: its rows stay, and its index rows are those made from scratch.
+-- Whatever index rows a table has that holds these documents: its rows stay, and its index rows are
+-- those made from scratch.
 abbrev pub MakesIndex : ℤ → List Column → Documents → List Change → Type 0
-MakesIndex tab columns documents changes = (name : List ℕ) (content : Content) (store : StoreValue) → AreInOrder store → IsContent name content → content.columns ≡ columns → content.documents ≡ documents → table_rows tab store ≡ content_rows content →
+MakesIndex tab columns documents changes = (name : List ℕ) (content : Content) (store : StoreValue) → AreInOrder store → IsContent name content
+    → content.columns ≡ columns → content.documents ≡ documents → table_rows tab store ≡ content_rows content →
     (table_rows tab (all_applied changes store) ≡ content_rows content) × (table_index tab (all_applied changes store) ≡ index_rows content)
 
 -- the rows of every other table stay

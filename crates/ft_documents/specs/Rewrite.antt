@@ -1,4 +1,5 @@
--- Steps. Documents that are written anew, and what row changes of them do. All of it is our own choice.
+-- Steps. Documents that are written anew, and what row changes of them do. All of it is our own
+-- choice.
 use Rattle.std.specs.Prelude.{◌≡◌, ◌≢◌, ℕ, List, [], ◌∷◌, map, length, Option, Some, None, option_map, ℤ, IsTrue, IsSome, IfSome, All}
 use Rattle.std.specs.List.{flat_map}
 use Rattle.std.specs.Ordering.{int_cmp}
@@ -13,7 +14,8 @@ use Rattle.ft_content.specs.Views.{cells_of}
 use Rattle.ft_documents.specs.declared.rewrite.Rewrite as source
 use Rattle.ft_documents.specs.Tables.{table_rows, table_index}
 
--- a document that is written anew: the cells that it had, if it was there, and those that it gets, if it stays
+-- a document that is written anew: the cells that it had, if it was there, and those that it gets,
+-- if it stays
 pub record Rewrite : Type 0 where
   pub docid : ℤ
   pub before : Option (List Cell)
@@ -57,7 +59,8 @@ docids_of rewrites = map (λ (r : Rewrite). r.docid) rewrites
 abbrev pub FitIfAny : ℕ → Rewrite → Type 0
 FitIfAny width r = IfSome r.after (λ cells. IsTrue (is_document width (r.docid, cells)))
 
--- Rewrites of a content by rising docid: each knows what its document was, and makes a document of it.
+-- Rewrites of a content by rising docid: each knows what its document was, and makes a document of
+-- it.
 pub record AreOf (content : Content) (rewrites : List Rewrite) : Type 0 where
   pub rising : IsTrue (is_sorted int_cmp (by_docid rewrites))
   pub befores : All (λ (r : Rewrite). r.before ≡ find int_cmp r.docid content.documents) rewrites
@@ -73,12 +76,16 @@ pub record HasContent (name : List ℕ) (content : Content) (tab : ℤ) (store :
 abbrev pub rewritten_content : List Rewrite → Content → Content
 rewritten_content rewrites content = record content { documents = rewritten rewrites content.documents }
 
--- Row changes of rewrites are right: they lead to the rows and the index rows made from scratch out of the new content.
+-- Row changes of rewrites are right: they lead to the rows and the index rows made from scratch out
+-- of the new content.
 abbrev pub AreRight : ℤ → List Column → List Rewrite → List Change → Type 0
-AreRight tab columns rewrites changes = (name : List ℕ) (content : Content) (store : StoreValue) → HasContent name content tab store → content.columns ≡ columns → AreOf content rewrites →
-    (table_rows tab (all_applied changes store) ≡ content_rows (rewritten_content rewrites content)) × (table_index tab (all_applied changes store) ≡ index_rows (rewritten_content rewrites content))
+AreRight tab columns rewrites changes = (name : List ℕ) (content : Content) (store : StoreValue) → HasContent name content tab store
+    → content.columns ≡ columns → AreOf content rewrites →
+    (table_rows tab (all_applied changes store) ≡ content_rows (rewritten_content rewrites content))
+    × (table_index tab (all_applied changes store) ≡ index_rows (rewritten_content rewrites content))
 
--- A change names what is new: it puts no row that stands as it is, and drops no list or size that isn't there.
+-- A change names what is new: it puts no row that stands as it is, and drops no list or size that
+-- isn't there.
 abbrev pub IsNew : StoreValue → Change → Type 0
 IsNew store (AddTable tab name columns skipped) = Unit {0}
 IsNew store (DropTable tab) = Unit {0}
@@ -93,7 +100,8 @@ IsNew store (Note name) = Unit {0}
 
 -- What stands as it was is not named.
 abbrev pub AreNew : ℤ → List Column → List Rewrite → List Change → Type 0
-AreNew tab columns rewrites changes = (name : List ℕ) (content : Content) (store : StoreValue) → HasContent name content tab store → content.columns ≡ columns → AreOf content rewrites → All (IsNew store) changes
+AreNew tab columns rewrites changes = (name : List ℕ) (content : Content) (store : StoreValue) → HasContent name content tab store
+    → content.columns ≡ columns → AreOf content rewrites → All (IsNew store) changes
 
 -- places that are put can be packed
 abbrev pub IsPackable : Change → Type 0

@@ -1,4 +1,5 @@
--- Steps. The row changes that follow from documents which are written anew. All of it is our own choice.
+-- Steps. The row changes that follow from documents which are written anew. All of it is our own
+-- choice.
 use Rattle.std.specs.Prelude.{◌≡◌, ◌≤◌, length, ℕ, zero, suc, Bool, true, false, not, ◌&&◌, List, [], ◌∷◌, ◌++◌, map, filter, Option, Some, None, ℤ, pos, is_some, unwrap_or, bytes_eq, string_bytes, String, Vec}
 use Rattle.std.specs.List.{flat_map, enumerate_from}
 use Rattle.std.specs.declared.cmp.Ordering.{Ordering}
@@ -135,8 +136,8 @@ lists_of columns documents = (index_rows (content_with columns documents)).lists
 abbrev pub sizes_of : List Column → Documents → List ((ℤ × ℤ) × ℤ)
 sizes_of columns documents = all_put column_key_cmp (sized (index_rows (content_with columns documents)).sizes) []
 
--- The row changes from one index to another: kind by kind, each by rising keys. A list that differs is dropped first, so that no list is put
--- under a key that is there.
+-- The row changes from one index to another: kind by kind, each by rising keys. A list that differs
+-- is dropped first, so that no list is put under a key that is there.
 abbrev pub list_changes : ℤ → List (Key × List StoredSpot) → List (Key × List StoredSpot) → List Change
 list_changes tab old new = dropped_lists tab (changed key_cmp same_spots new old) ++ put_lists tab (changed key_cmp same_spots old new)
 

@@ -1,4 +1,5 @@
--- Meaning. What a store holds of one table. The store's value and its row changes are those of the crate below.
+-- Meaning. What a store holds of one table. The store's value and its row changes are those of the
+-- crate below.
 use Rattle.std.specs.Prelude.{◌≡◌, ℕ, List, map, ℤ, Contains}
 use Rattle.std.specs.Ordering.{int_eq}
 use Rattle.std.specs.FinMap.Entries.{where_key}

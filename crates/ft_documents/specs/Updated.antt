@@ -22,7 +22,8 @@ coming r docid = record { docid = docid; before = None; after = r.after }
 
 -- the rewrites of a document that gets this docid, by rising docid
 abbrev pub moved_from : Rewrite → ℤ → List Rewrite
-moved_from r docid = if int_eq r.docid docid then (r ∷ []) else (if is_lt (int_cmp r.docid docid) then (leaving r ∷ coming r docid ∷ []) else (coming r docid ∷ leaving r ∷ []))
+moved_from r docid = if int_eq r.docid docid then (r ∷ [])
+    else (if is_lt (int_cmp r.docid docid) then (leaving r ∷ coming r docid ∷ []) else (coming r docid ∷ leaving r ∷ []))
 
 -- Where one rewrite alone is there, its document gets this docid.
 pub record MovesOnly (docid : ℤ) (old new : List Rewrite) : Type 0 where

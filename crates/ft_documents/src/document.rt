@@ -1,4 +1,4 @@
-// A document that is held in memory.
+//! A document that is held in memory.
 use ft_content::Value;
 
 /// A document: its docid, and a cell for each column.

@@ -10,8 +10,9 @@ use std::alloc::{AllocError, Global};
 /// With so many bytes of text a group is full.
 const GROUP_BYTES: usize = 524_288;
 
-/// Documents that are written anew in groups, in their order. A group ends with the document that fills it, so that the row changes of a
-/// group take few megabytes, however many documents there are.
+/// Documents that are written anew in groups, in their order. A group ends with the document that
+/// fills it, so that the row changes of a group take few megabytes, however many documents there
+/// are.
 pub fn in_groups(alloc: Global, rewrites: Vec<Rewrite>) -> Result<Vec<Vec<Rewrite>>, AllocError>
     ensures { IfOk result (λ groups. flat_map vec_items groups.items ≡ rewrites.items) }
 {

@@ -1,4 +1,5 @@
-//! Documents as rows, and what commands on full-text tables do with them in memory: what needs no store.
+//! Documents as rows, and what commands on full-text tables do with them in memory: what needs no
+//! store.
 #![tactic(auto)]
 
 mod columns;

@@ -1,4 +1,4 @@
-// Index rows, as lists of places by document.
+//! Index rows, as lists of places by document.
 ghost use Rattle.std.specs.Prelude.{◌≡◌, ◌++◌, map, nat_abs, IfOk, OnOk, IsPermutation, IsSorted};
 ghost use Rattle.std.specs.List.{list_all};
 ghost use Rattle.ft_query.specs.Documents.{plain_list};

@@ -1,4 +1,4 @@
-// Finding tables by their names.
+//! Finding tables by their names.
 ghost use Rattle.std.specs.Prelude.{MatchResult, map};
 ghost use Rattle.ft_content.specs.Views.{shown_info};
 ghost use Rattle.ft_documents.specs.Found.{IsSoundAt, IsSoundNamed, IsUnfit};

@@ -43,7 +43,8 @@ impl NewDocuments {
         }
     }
 
-    /// Adds the document of a row, whose docid, if it gives one, may be that of a document of the table.
+    /// Adds the document of a row, whose docid, if it gives one, may be that of a document of the
+    /// table.
     pub(crate) fn add(
         &mut self,
         columns: &[Column],
@@ -107,8 +108,9 @@ impl NewDocuments {
     }
 }
 
-/// The documents that rows make in a table with this last docid, or the fault of the first row that fails. At the place of each row
-/// stands whether the table has a document with the docid that the row gives.
+/// The documents that rows make in a table with this last docid, or the fault of the first row that
+/// fails. At the place of each row stands whether the table has a document with the docid that the
+/// row gives.
 pub fn made_documents(
     alloc: Global,
     last: Option<i64>,

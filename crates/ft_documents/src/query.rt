@@ -10,8 +10,8 @@ use ft_content::{Column, Fault, Filter, read_query};
 use ft_query::Query;
 use std::alloc::Global;
 
-/// The query that the text of a MATCH reads as over columns of these names. There is none in another filter, and none in a text without
-/// lexemes.
+/// The query that the text of a MATCH reads as over columns of these names. There is none in
+/// another filter, and none in a text without lexemes.
 ///
 /// # Errors
 ///

@@ -19,7 +19,8 @@ use ft_values::RowChange;
 use std::alloc::{AllocError, Global};
 use std::collections::BTreeMap;
 
-/// The row changes that make the index of a table again out of its documents, which stand by rising docid.
+/// The row changes that make the index of a table again out of its documents, which stand by rising
+/// docid.
 pub fn index_changes(
     alloc: Global,
     tab: i64,

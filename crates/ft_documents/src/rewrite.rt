@@ -15,7 +15,8 @@ use ft_content::{Column, Value};
 use ft_values::RowChange;
 use std::alloc::{AllocError, Global};
 
-/// A document that is written anew: the cells that it had, if it was there, and those that it gets, if it stays.
+/// A document that is written anew: the cells that it had, if it was there, and those that it gets,
+/// if it stays.
 #[derive(Drop)]
 pub struct Rewrite {
     pub docid: i64,

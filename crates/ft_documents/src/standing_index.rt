@@ -28,7 +28,8 @@ fn is_size(sizes: &[SizeRow], count: usize, docid: i64, place: usize, n: usize) 
     }
 }
 
-// How many of these sizes came, where that of a cell is next, if the cell has tokens; none where another is.
+// How many of these sizes came, where that of a cell is next, if the cell has tokens; none where
+// another is.
 fn past_size(sizes: &[SizeRow], count: usize, docid: i64, place: usize, n: usize) -> Option<usize>
     requires { FitsSize place n }
     ensures { PassesSize sizes.now count docid place n result }
@@ -43,7 +44,8 @@ fn past_size(sizes: &[SizeRow], count: usize, docid: i64, place: usize, n: usize
     }
 }
 
-// Adds the postings of a document behind those of others. How many of the first of these sizes are its own; none where others stand there.
+// Adds the postings of a document behind those of others. How many of the first of these sizes are
+// its own; none where others stand there.
 fn add_document(
     lists: &mut TermIndex,
     columns: &[Column],
@@ -107,7 +109,8 @@ fn lists_of_documents(
     }
 }
 
-/// The postings of a content that has these cells, made from scratch, by their terms; none where these aren't the sizes of its cells.
+/// The postings of a content that has these cells, made from scratch, by their terms; none where
+/// these aren't the sizes of its cells.
 pub fn index_lists(
     alloc: Global,
     columns: &[Column],

@@ -19,7 +19,8 @@ fn is_cell(value: &Value) -> bool
     !is_too_long(value) && !has_nul(value)
 }
 
-// Whether a cell of this docid may be the one at this place of a document, after a cell of the docid `last`.
+// Whether a cell of this docid may be the one at this place of a document, after a cell of the
+// docid `last`.
 fn stands_after(place: usize, last: Option<i64>, docid: i64) -> bool
     ensures { result ≡ standing.stands_after place last docid }
 {

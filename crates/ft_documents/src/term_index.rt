@@ -14,8 +14,9 @@ use itoa::Buffer;
 use std::alloc::{AllocError, Global};
 use std::collections::HashMap;
 
-/// The postings of documents, which come by rising docid, under their terms. A term is found by its hash, and the terms
-/// are sorted once, at the end: there is a step for each posting, and far fewer terms.
+/// The postings of documents, which come by rising docid, under their terms. A term is found by its
+/// hash, and the terms are sorted once, at the end: there is a step for each posting, and far fewer
+/// terms.
 #[derive(Drop)]
 pub(crate) struct TermIndex {
     alloc: Global,
@@ -44,7 +45,8 @@ impl TermIndex {
         }
     }
 
-    /// Adds the tokens of a cell that is indexed, of the last document or one behind it. How many they are.
+    /// Adds the tokens of a cell that is indexed, of the last document or one behind it. How many
+    /// they are.
     pub(crate) fn add_cell(
         &mut self,
         docid: i64,

@@ -1,4 +1,4 @@
-// The list of tables that is kept beside a store.
+//! The list of tables that is kept beside a store.
 ghost use Rattle.std.specs.Prelude.{◌≡◌, ◌<◌, map, vec_len, IfOk, remove, OnErr};
 ghost use Rattle.ft_content.specs.Views.{shown_info};
 ghost use Rattle.ft_documents.specs.Found.{with_told, without_told, IsPlaceFor};

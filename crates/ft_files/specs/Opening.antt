@@ -17,7 +17,8 @@ use Rattle.ft_store.specs.Opened.{IsNewFrom, IsNotTakenFrom, IsOpenedFrom}
 use Rattle.ft_files.specs.declared.databases.OpenFault.{OpenFault}
 use Rattle.ft_files.specs.declared.databases.OpenFault.TheVariants as fault
 
--- what is told of a store that is not opened: that it is none, its version where that is not taken, or no more than that
+-- what is told of a store that is not opened: that it is none, its version where that is not taken,
+-- or no more than that
 abbrev pub fault_of : StoreFault → OpenFault
 fault_of store.NotAStore = fault.NotAStore
 fault_of (store.Version n) = fault.Version n
@@ -53,7 +54,8 @@ pub record IsStoreFrom {D : Type 0} {g : disk.Ghosts D} (image : Image) (store :
   pub opened : IsOpenedFrom image store.held
   pub unread : store.rows_read ≡ 0
 
--- why it is not opened: a plain fault, or the database that is found in them is not taken as a store
+-- why it is not opened: a plain fault, or the database that is found in them is not taken as a
+-- store
 abbrev pub IsNoStoreFor : {D : Type 0} → disk.Ghosts D → Image → OpenFault → Type 0
 IsNoStoreFor g image f = (cause : StoreFault) × (f ≡ fault_of cause) × (IsPlainFault cause ⊎ IsNotTakenFrom g image cause)
 
@@ -61,7 +63,8 @@ abbrev pub IsNoStoreFrom : {D : Type 0} {g : disk.Ghosts D} → Image → Result
 IsNoStoreFrom {D} {g} image result = IfErr result (IsNoStoreFor g image)
 
 -- both databases, in files which held these images
-pub record OpensFiles {D E : Type 0} {g : disk.Ghosts D} {h : disk.Ghosts E} (tables texts : Image) (result : Result (Held (FileStore D g) × StoreState (FileStore E h)) OpenFault) : Type 0 where
+pub record OpensFiles {D E : Type 0} {g : disk.Ghosts D} {h : disk.Ghosts E} (tables texts : Image)
+    (result : Result (Held (FileStore D g) × StoreState (FileStore E h)) OpenFault) : Type 0 where
   pub plain : IfOk result (λ both. IsNewFrom tables both.0)
   pub store : IfOk result (λ both. IsStoreFrom texts both.1)
   pub refused : IfErr result (λ f. (f ≡ fault.Database) ⊎ IsNoStoreFor h texts f)

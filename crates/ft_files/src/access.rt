@@ -1,4 +1,5 @@
-//! Who may read the file of the full-text store: no more than may read the file of the plain tables.
+//! Who may read the file of the full-text store: no more than may read the file of the plain
+//! tables.
 
 use std::fs::{self, File, Metadata, OpenOptions, Permissions};
 use std::io::{self, ErrorKind};
@@ -20,7 +21,8 @@ fn unless_denied(outcome: io::Result<()>) -> io::Result<()> {
     }
 }
 
-// Gives a new file the group, the owner and the mode of another. The group's bits are left out where the group stays its own.
+// Gives a new file the group, the owner and the mode of another. The group's bits are left out
+// where the group stays its own.
 fn copy_access(of: &Metadata, to: &File) -> io::Result<()> {
     unless_denied(fchown(to, None, Some(of.gid())))?;
     unless_denied(fchown(to, Some(of.uid()), None))?;
@@ -32,8 +34,8 @@ fn copy_access(of: &Metadata, to: &File) -> io::Result<()> {
     to.set_permissions(Permissions::from_mode(of.mode() & bits))
 }
 
-/// Makes an empty file at `beside`, where none is, with the access that the file at `path` has, as SQLite makes the log of a
-/// database. It is never open to more.
+/// Makes an empty file at `beside`, where none is, with the access that the file at `path` has, as
+/// SQLite makes the log of a database. It is never open to more.
 pub(crate) fn make_beside(rt: &HostRuntime, path: &str, beside: &str) -> io::Result<()> {
     let of = fs::metadata(rt, path)?;
     match OpenOptions::new()

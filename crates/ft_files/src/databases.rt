@@ -43,7 +43,8 @@ fn store_path(alloc: Global, path: &str) -> Result<String, AllocError>
     format!(in alloc; "{path}-fts4")
 }
 
-// The plain tables in a file, which is made where it isn't there. `A` stands for what the file and its log held.
+// The plain tables in a file, which is made where it isn't there. `A` stands for what the file and
+// its log held.
 fn open_plain<A: Start>(
     rt: &HostRuntime,
     path: &str,
@@ -57,8 +58,8 @@ fn open_plain<A: Start>(
     }
 }
 
-// The full-text store in the file beside that of the plain tables, which is made where it isn't there, with the access that
-// the other has. `B` stands for what the file and its log held.
+// The full-text store in the file beside that of the plain tables, which is made where it isn't
+// there, with the access that the other has. `B` stands for what the file and its log held.
 fn open_store<B: Start>(
     rt: &HostRuntime,
     path: &str,
@@ -105,8 +106,9 @@ fn may_open(rt: &HostRuntime, path: &str) -> bool {
     matches!(are_free(rt, path), Ok(true))
 }
 
-/// Both databases in files: that of the plain tables at the path, and the full-text store beside it. `A` and `B` stand for
-/// what they held. Where a name is too long or a file has a second one, no file is made.
+/// Both databases in files: that of the plain tables at the path, and the full-text store beside
+/// it. `A` and `B` stand for what they held. Where a name is too long or a file has a second one,
+/// no file is made.
 pub fn open_files<A: Start, B: Start>(
     rt: &HostRuntime,
     path: &str,

@@ -13,7 +13,8 @@ use std::path::{Path, PathBuf};
 // The most bytes of a file's name, since those of `NAME-fts4-journal` are 255 at the most.
 const MOST_BYTES: usize = 242;
 
-// The end of the name of a database's file, of its log and of its rollback journal, and how many hard links each may have.
+// The end of the name of a database's file, of its log and of its rollback journal, and how many
+// hard links each may have.
 const FILES: [(&str, u64); 3] = [("", 1), ("-wal", 1), ("-journal", u64::MAX)];
 
 /// Where the file of this name lies: one that begins with `file:` is no URI.

@@ -1,5 +1,5 @@
--- How many rows searches read. The two messages are those of the SQLite document "SQLite FTS3 and FTS4 Extensions", "The Offsets
--- Function"; the searches are own examples.
+-- How many rows searches read. The two messages are those of the SQLite document "SQLite FTS3 and
+-- FTS4 Extensions", "The Offsets Function"; the searches are own examples.
 use Rattle.std.specs.Prelude.{◌≡◌, ℕ, true, List, [], ◌∷◌, Option, Some, None, pos, codes, refl}
 use Rattle.ft_query.specs.Reads.{query_of}
 use Rattle.ft_values.specs.Cells.{Text}
@@ -41,7 +41,8 @@ pub two_words : search all (codes "hello OR mail") None 0 ∷ search all (codes 
 unfolding rows_asked query_of reading chosen
 two_words = refl
 
--- a term is read as often as it is written, and a word that no document has, and a text without words, have no entry
+-- a term is read as often as it is written, and a word that no document has, and a text without
+-- words, have no entry
 pub each_term : search docid (codes "hello hello") None 0 ∷ search docid (codes "hello NOT mail") None 0 ∷ search docid (codes "absent") None 0 ∷ search all (codes " ") None 0 ∷ []
     ≡ 4 ∷ 4 ∷ 0 ∷ 0 ∷ []
 unfolding rows_asked query_of reading chosen

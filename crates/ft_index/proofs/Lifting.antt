@@ -69,7 +69,8 @@ leaves_rest id docids (change ∷ changes) store near =
       noted = rest.noted ∙ kept.1;
     }
 
--- So where the rows of a sound table become those of other documents, the store holds the contents with these documents.
+-- So where the rows of a sound table become those of other documents, the store holds the contents
+-- with these documents.
 pub lifts : (store new : StoreValue) (tables : List TableInfo) (contents : Contents) (name : List ℕ) (known : TableInfo) (t : IsSoundTable contents name known) (change : Content → Documents) →
     AreInOrder store → AreHeld store tables contents → LeavesRest t.table.0 store new →
     IsContent t.table.1.name (record t.content { documents = change t.content }) →

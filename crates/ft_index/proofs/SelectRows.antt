@@ -102,7 +102,8 @@ plain_rows : (columns : List Column) (content : Content) (items : List Item) (ce
 plain_rows columns content items cells [] same = refl
 plain_rows columns content items cells (h ∷ hs) same = λ i. cells_bare (Text (offsets_text h.offsets.items)) columns content (h.docid, cells h.docid) items same i ∷ plain_rows columns content items cells hs same i
 
--- The rows of the documents that hits are of, which are told with their offsets where an item asks for them.
+-- The rows of the documents that hits are of, which are told with their offsets where an item asks
+-- for them.
 module _ (name : List ℕ) (content : Content) (f : Filter) (columns : List Column) (items : List Item) (limit : Option ℕ) (offset : ℕ) (is : IsContent name content) (same : content.columns ≡ columns) (wanted : Bool) (asks : wanted ≡ list_any is_offsets items) where
   abbrev query : Option Tree
   query = query_in content f

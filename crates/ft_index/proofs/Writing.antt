@@ -21,7 +21,8 @@ use Rattle.ft_index.proofs.KnownLemmas.{IsSoundTable, sound_table, sound_is, unf
 use Rattle.ft_index.proofs.InsertHolds.{sound_rows}
 use Rattle.ft_index.proofs.Lifting.{leaves_rest, lifts}
 
--- A command that writes documents of the table of a name: what it deserves where that table is sound, the documents after it, and the docids that it touches.
+-- A command that writes documents of the table of a name: what it deserves where that table is
+-- sound, the documents after it, and the docids that it touches.
 pub record IsWrite (command : Command) (name : List ℕ) (due : List ℕ → Content → Option Fault) (change : Content → Documents) (touch : Content → List ℤ) : Type 0 where
   pub deserves : (contents : Contents) → deserved contents command ≡ on_sound contents name due
   pub leaves : (contents : Contents) → after contents command ≡ on_table contents name (with_documents change)

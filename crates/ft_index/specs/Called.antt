@@ -1,4 +1,5 @@
--- Meaning. Calls of full-text tables one after another, and what is promised of them. All of it is our own choice.
+-- Meaning. Calls of full-text tables one after another, and what is promised of them. All of it is
+-- our own choice.
 use Rattle.std.specs.Prelude.{◌≡◌, ◌⊎◌, ℕ, Bool, true, false, if◌then◌else◌, List, [], ◌∷◌, ◌++◌, map, Result, Err, ℤ, IsTrue, is_ok}
 use Rattle.std.specs.List.{list_any}
 use Rattle.std.specs.Ordering.{int_eq}
@@ -57,15 +58,17 @@ noted_by names [] = names
 noted_by names (Executed command answer ∷ calls) = noted_by names calls
 noted_by names (Noted name is_done ∷ calls) = noted_by (if is_done then with_name name names else names) calls
 
--- Each answer is that of the definitions over the contents that the accepted commands before it left, or a refusal from outside.
+-- Each answer is that of the definitions over the contents that the accepted commands before it
+-- left, or a refusal from outside.
 unfoldable pub AreAnswered : Contents → List Call → Type 0
 AreAnswered first [] = Unit {0}
 AreAnswered first (Executed command answer ∷ calls) =
     (IsTrue (is_outside answer) ⊎ (answer ≡ (step first command).0)) × AreAnswered (if is_ok answer then after first command else first) calls
 AreAnswered first (Noted name is_done ∷ calls) = AreAnswered first calls
 
--- The store is up after these calls, and holds what the accepted commands made of the contents before them: so the index rows of each sound
--- table are exactly those made from scratch. And each command was answered by the definitions.
+-- The store is up after these calls, and holds what the accepted commands made of the contents
+-- before them: so the index rows of each sound table are exactly those made from scratch. And each
+-- command was answered by the definitions.
 pub record StandsAfter {S : Type 0} (g : Ghosts S) (first : Contents) (names : List Name) (calls : List Call) (known : FullText S) : Type 0 where
   pub up : IsUp g known
   pub holds : Holds g known (left_by first (accepted calls))
@@ -81,8 +84,8 @@ abbrev pub names_with : Call → List Name → List Name
 names_with (Executed command answer) names = names
 names_with (Noted name is_done) names = with_name name names
 
--- What a crash may leave after calls: what the answered ones leave, whole; or that and one call more, which was running, of which no call was
--- answered since.
+-- What a crash may leave after calls: what the answered ones leave, whole; or that and one call
+-- more, which was running, of which no call was answered since.
 pub data LeftAfter (first : Contents) (names : List Name) (calls : List Call) (db : Trees) : Type 0 where
   at_rest : HoldsLeft (left_by first (accepted calls)) (noted_by names calls) db → LeftAfter first names calls db
   running : (front more : List Call) (call : Call) → calls ≡ front ++ call ∷ more → list_any is_answered (call ∷ more) ≡ false
@@ -103,7 +106,8 @@ pub record CallsKept {S : Type 0} (g : Ghosts S) (first : Contents) (start : Ful
 
 -- After any calls it is so, whatever contents the store held before them.
 abbrev pub KeptByCalls : {S : Type 0} → Ghosts S → Type 0
-KeptByCalls {S} g = (start end : FullText S) (calls : List Call) (first : Contents) → HasCleanDisk (shows g end.store) → Holds g start first → IsSettled g start → Runs g start calls end → CallsKept g first start calls end
+KeptByCalls {S} g = (start end : FullText S) (calls : List Call) (first : Contents) → HasCleanDisk (shows g end.store) → Holds g start first
+    → IsSettled g start → Runs g start calls end → CallsKept g first start calls end
 
 -- What a store holds are one contents: so its tables' marks are settled.
 abbrev pub HoldsOneContents : Type 0
@@ -112,13 +116,16 @@ HoldsOneContents = (store : StoreValue) (one other : Contents) → StoreHolds st
 abbrev pub is_unsound : ℤ → ℤ × Table → Bool
 is_unsound id table = if is_sound table.1.held then false else int_eq id table.0
 
--- Commands leave no table unsound that wasn't: a sound one stays so, and one that is made or rebuilt is sound.
+-- Commands leave no table unsound that wasn't: a sound one stays so, and one that is made or
+-- rebuilt is sound.
 abbrev pub NoneGetsUnsound : Type 0
-NoneGetsUnsound = (first : Contents) (commands : List Command) (id : ℤ) → IsTrue (list_any (is_unsound id) (left_by first commands)) → IsTrue (list_any (is_unsound id) first)
+NoneGetsUnsound = (first : Contents) (commands : List Command) (id : ℤ) → IsTrue (list_any (is_unsound id) (left_by first commands))
+    → IsTrue (list_any (is_unsound id) first)
 
 abbrev pub table_names : Contents → List (List ℕ)
 table_names contents = map (λ (t : ℤ × Table). t.1.name) contents
 
 -- Commands give no two tables one name.
 abbrev pub NamesStayApart : Type 0
-NamesStayApart = (first : Contents) (commands : List Command) → repeats_name (table_names first) ≡ false → repeats_name (table_names (left_by first commands)) ≡ false
+NamesStayApart = (first : Contents) (commands : List Command) → repeats_name (table_names first) ≡ false
+    → repeats_name (table_names (left_by first commands)) ≡ false

@@ -30,7 +30,8 @@ HoldsAfter old first command db = HoldsLeft (step first command).1 old.noted db
 abbrev pub CommitsCommand : {S : Type 0} → Ghosts S → FullText S → Command → Trees → Type 0
 CommitsCommand g old command db = IsUp g old → (first : Contents) → Holds g old first → HoldsAfter (value_of g old) first command db
 
--- As the call ends a crash leaves what it could leave before, or that, where the store is clean. Nothing is forgotten of what the disk did.
+-- As the call ends a crash leaves what it could leave before, or that, where the store is clean.
+-- Nothing is forgotten of what the disk did.
 abbrev pub CommandSurvives : {S : Type 0} → Ghosts S → FullText S → Command → FullText S → Type 0
 CommandSurvives g old command new = Survives (shows g old.store) (shows g new.store) (CommitsCommand g old command)
 
@@ -42,8 +43,9 @@ CommitsNote g old name db = IsUp g old → IsStored db (applied (Note name) (val
 abbrev pub IsSettled : {S : Type 0} → Ghosts S → FullText S → Type 0
 IsSettled g known = IsUp g known → (db : Trees) → (shows g known.store).may_leave db → IsStored db (value_of g known)
 
--- What a call leaves, whatever it is answered: an answer says that the store is open; of an open store a crash leaves what it holds; and else
--- what it could leave before the call, or what the call commits, which only a store does that was up.
+-- What a call leaves, whatever it is answered: an answer says that the store is open; of an open
+-- store a crash leaves what it holds; and else what it could leave before the call, or what the
+-- call commits, which only a store does that was up.
 pub record Leaves {S : Type 0} (g : Ghosts S) (old new : FullText S) (is_answered : Bool) (Commits : Trees → Type 0) : Type 0 where
   pub live : HasCleanDisk (shows g new.store) → is_answered ≡ true → IsTrue (shows g new.store).is_open
   pub settled : IsSettled g new

@@ -22,25 +22,29 @@ pub record FullText (S : Type 0) : Type 0 where
   pub tables : List TableInfo
 
 abbrev pub column_code : Coded Column
-column_code = code_by (List ℕ × Bool) (coded× (coded_list coded_ℕ) coded_bool) (λ c. (c.name, c.indexed)) (λ p. record { name = p.0; indexed = p.1 }) (λ _. refl)
+column_code = code_by (List ℕ × Bool) (coded× (coded_list coded_ℕ) coded_bool) (λ c. (c.name, c.indexed)) (λ p. record { name = p.0; indexed = p.1 })
+    (λ _. refl)
 
 abbrev pub table_code : Coded TableInfo
-table_code = code_by (ℤ × (List ℕ × (List Column × Bool))) (coded× coded_ℤ (coded× (coded_list coded_ℕ) (coded× (coded_list column_code) coded_bool))) (λ t. (t.id, (t.name, (t.columns, t.sound)))) (λ p. record { id = p.0; name = p.1.0; columns = p.1.1.0; sound = p.1.1.1 }) (λ _. refl)
+table_code = code_by (ℤ × (List ℕ × (List Column × Bool))) (coded× coded_ℤ (coded× (coded_list coded_ℕ) (coded× (coded_list column_code) coded_bool)))
+    (λ t. (t.id, (t.name, (t.columns, t.sound)))) (λ p. record { id = p.0; name = p.1.0; columns = p.1.1.0; sound = p.1.1.1 }) (λ _. refl)
 
 abbrev pub full_text_code : {S : Type 0} → Coded S → Coded (FullText S)
-full_text_code {S} s = code_by (StoreState S × List TableInfo) (coded× (store_code s) (coded_list table_code)) (λ k. (k.store, k.tables)) (λ p. record { store = p.0; tables = p.1 }) (λ _. refl)
+full_text_code {S} s = code_by (StoreState S × List TableInfo) (coded× (store_code s) (coded_list table_code)) (λ k. (k.store, k.tables))
+    (λ p. record { store = p.0; tables = p.1 }) (λ _. refl)
 
 -- what its store holds
 abbrev pub value_of : {S : Type 0} → Ghosts S → FullText S → StoreValue
 value_of g known = value_in g known.store
 
--- So far the disk returned what was written, and the store is open. What is said of rows is said then. In memory it is always so, as
--- long as the store is open.
+-- So far the disk returned what was written, and the store is open. What is said of rows is said
+-- then. In memory it is always so, as long as the store is open.
 pub record IsUp {S : Type 0} (g : Ghosts S) (known : FullText S) : Type 0 where
   pub clean : HasCleanDisk (shows g known.store)
   pub is_open : IsTrue (shows g known.store).is_open
 
--- How a table's rows stand: they are a content with exactly the index rows made from scratch, a content with others, or no content.
+-- How a table's rows stand: they are a content with exactly the index rows made from scratch, a
+-- content with others, or no content.
 abbrev pub Stands : List ℕ → TableRows → IndexRows → TableState → Type 0
 Stands name rows index (Sound content) = IsContent name content × (rows ≡ content_rows content) × (index ≡ index_rows content)
 Stands name rows index (Stale content) = IsContent name content × (rows ≡ content_rows content) × (index ≢ index_rows content)
@@ -60,7 +64,8 @@ pub record HoldsTable (named : ℤ × List ℕ) (rows : TableRows) (index : Inde
 
 -- The store holds these contents: each sound table with exactly the index rows made from scratch.
 abbrev pub StoreHolds : StoreValue → Contents → Type 0
-StoreHolds store contents = AllZip (λ (named : ℤ × List ℕ) (table : ℤ × Table). HoldsTable named (table_rows named.0 store) (table_index named.0 store) table) store.tables contents
+StoreHolds store contents = AllZip (λ (named : ℤ × List ℕ) (table : ℤ × Table). HoldsTable named (table_rows named.0 store)
+    (table_index named.0 store) table) store.tables contents
 
 -- what is told of a table
 abbrev pub held_columns : TableState → List Column
@@ -71,7 +76,8 @@ held_columns (Loose rows) = (content_in rows).columns
 abbrev pub told_table : ℤ × Table → TableInfo
 told_table table = record { id = table.0; name = table.1.name; columns = held_columns table.1.held; sound = is_sound table.1.held }
 
--- What a store holds, and the tables that are told of it with their marks, are these contents. No two tables have one name.
+-- What a store holds, and the tables that are told of it with their marks, are these contents. No
+-- two tables have one name.
 pub record AreHeld (store : StoreValue) (tables : List TableInfo) (contents : Contents) : Type 0 where
   pub named_once : repeats_name (map (λ (t : ℤ × Table). t.1.name) contents) ≡ false
   pub held : StoreHolds store contents
@@ -104,11 +110,13 @@ is_outside (Err faults.Store) = true
 is_outside (Err faults.Memory) = true
 is_outside (Err fault) = false
 
--- What a command may be answered over contents, and the contents after it: a refusal from outside that leaves them, or the one step.
+-- What a command may be answered over contents, and the contents after it: a refusal from outside
+-- that leaves them, or the one step.
 abbrev pub Answers : Contents → Command → Result Reply Fault → Contents → Type 0
 Answers old command answer new = (IsTrue (is_outside answer) × (new ≡ old)) ⊎ (step old command ≡ (answer, new))
 
--- What a call of `execute` does, where it is up as the call ends: contents that were held before are answered by the definitions, and what they leave is held.
+-- What a call of `execute` does, where it is up as the call ends: contents that were held before
+-- are answered by the definitions, and what they leave is held.
 pub record Executes {S : Type 0} (g : Ghosts S) (old : FullText S) (command : Command) (answer : Result Reply Fault) (new : FullText S) : Type 0 where
   pub was_up : IsUp g new → IsUp g old
   pub steps : IsUp g new → (first : Contents) → Holds g old first → (last : Contents) × Holds g new last × Answers first command answer last
@@ -134,7 +142,8 @@ StaysNear contents (Optimize table) changes = changes ≡ []
 
 -- What a plan is: row changes that lead to what the command leaves, or the fault that it deserves.
 abbrev pub PlansFrom : Contents → Command → StoreValue → Result (List Change) Fault → Type 0
-PlansFrom contents command store (Ok changes) = (deserved contents command ≡ None) × StoreHolds (all_applied changes store) (after contents command) × ((all_applied changes store).noted ≡ store.noted) × StaysNear contents command changes
+PlansFrom contents command store (Ok changes) = (deserved contents command ≡ None) × StoreHolds (all_applied changes store) (after contents command)
+    × ((all_applied changes store).noted ≡ store.noted) × StaysNear contents command changes
 PlansFrom contents command store (Err fault) = IsTrue (is_outside (Err fault)) ⊎ (deserved contents command ≡ Some fault)
 
 abbrev pub Plans : {S : Type 0} → Ghosts S → FullText S → Command → Result (List Change) Fault → Type 0

@@ -52,8 +52,8 @@ pub record IsMarked (store : StoreValue) (named : ℤ × List ℕ) (known : Tabl
 abbrev pub AreMarked : StoreValue → List (ℤ × List ℕ) → List TableInfo → Type 0
 AreMarked store named known = AllZip (IsMarked store) named known
 
--- A store is taken as it is. Where it is up, what it holds are some contents, and each table has the mark that it has in them; they are
--- the only ones.
+-- A store is taken as it is. Where it is up, what it holds are some contents, and each table has
+-- the mark that it has in them; they are the only ones.
 pub record Opens {S : Type 0} (g : Ghosts S) (old : StoreState S) (made : FullText S) : Type 0 where
   pub looks : Looks g old made.store
   pub live : HasCleanDisk (shows g made.store) → IsTrue (shows g made.store).is_open
@@ -62,4 +62,5 @@ pub record Opens {S : Type 0} (g : Ghosts S) (old : StoreState S) (made : FullTe
 
 -- A store that holds contents is opened with the marks that they give its tables.
 abbrev pub OpensWhatIsLeft : {S : Type 0} → Ghosts S → Type 0
-OpensWhatIsLeft {S} g = (left : StoreValue) (contents : Contents) → StoreHolds left contents → (old : StoreState S) (made : FullText S) → value_in g old ≡ left → Opens g old made → IsUp g made → Holds g made contents
+OpensWhatIsLeft {S} g = (left : StoreValue) (contents : Contents) → StoreHolds left contents → (old : StoreState S) (made : FullText S)
+    → value_in g old ≡ left → Opens g old made → IsUp g made → Holds g made contents

@@ -19,9 +19,11 @@ abbrev pub changes_of : Result (Vec RowChange Global) Fault → Result (List Cha
 changes_of (Ok list) = Ok (map shown_change list.items)
 changes_of (Err fault) = Err fault
 
--- It is a plan whatever the store holds, as long as the tables that are told are those of what it holds.
+-- It is a plan whatever the store holds, as long as the tables that are told are those of what it
+-- holds.
 abbrev pub PlansOver : List TableInfo → Command → Result (Vec RowChange Global) Fault → Type 0
-PlansOver tables command answer = (store : StoreValue) (contents : Contents) → AreInOrder store → AreHeld store (map shown_info tables) contents → PlansFrom contents command store (changes_of answer)
+PlansOver tables command answer = (store : StoreValue) (contents : Contents) → AreInOrder store → AreHeld store (map shown_info tables) contents
+    → PlansFrom contents command store (changes_of answer)
 
 -- the table that a Create makes
 pub record IsMade (contents : Contents) (table : List ℕ) (options : List (List ℕ × List ℕ)) (names : List (List ℕ)) (made : TableInfo) : Type 0 where
@@ -36,6 +38,9 @@ table_change made = AddTable made.id (string_bytes made.name) (names_of (map col
 
 -- What a Create makes: a table, or nothing where one of its name is there; or its fault.
 abbrev pub Makes : Contents → List ℕ → List ℕ → List (List ℕ × List ℕ) → List (List ℕ) → Bool → Result (Option TableInfo) Fault → Type 0
-Makes contents table module_name options columns if_new (Ok (Some made)) = (deserved contents (Create table module_name options columns if_new) ≡ None) × (table_named contents table ≡ None) × IsMade contents table options columns made
-Makes contents table module_name options columns if_new (Ok None) = (deserved contents (Create table module_name options columns if_new) ≡ None) × IsTrue (is_some (table_named contents table))
-Makes contents table module_name options columns if_new (Err fault) = (fault ≡ faults.Memory) ⊎ (deserved contents (Create table module_name options columns if_new) ≡ Some fault)
+Makes contents table module_name options columns if_new (Ok (Some made)) = (deserved contents (Create table module_name options columns if_new) ≡ None)
+    × (table_named contents table ≡ None) × IsMade contents table options columns made
+Makes contents table module_name options columns if_new (Ok None) = (deserved contents (Create table module_name options columns if_new) ≡ None)
+    × IsTrue (is_some (table_named contents table))
+Makes contents table module_name options columns if_new (Err fault) = (fault ≡ faults.Memory)
+    ⊎ (deserved contents (Create table module_name options columns if_new) ≡ Some fault)

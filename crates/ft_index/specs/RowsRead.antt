@@ -28,7 +28,8 @@ abbrev pub entries_asked : Content → Option Tree → ℕ
 entries_asked content None = 0
 entries_asked content (Some tree) = entry_count tree (content_documents content)
 
--- The entries of the query's terms and, where an item is a column, one row for each column of each document that is answered.
+-- The entries of the query's terms and, where an item is a column, one row for each column of each
+-- document that is answered.
 unfoldable pub rows_asked : Content → Items → Filter → Option ℕ → ℕ → ℕ
 rows_asked content items f limit offset =
     entries_asked content (query_in content f)
@@ -44,7 +45,8 @@ CountsFound offset old new items f limit None = Unit {0}
 CountsFound offset old new items f limit (Some t) = CountsHeld offset old new items f limit t.1.held
 
 abbrev pub CountsCommand : {S : Type 0} → Contents → FullText S → FullText S → Command → Type 0
-CountsCommand contents old new (Select table items (Match name text) limit offset) = CountsFound offset old new items (Match name text) limit (table_named contents table)
+CountsCommand contents old new (Select table items (Match name text) limit offset) = CountsFound offset old new items (Match name text) limit
+    (table_named contents table)
 CountsCommand contents old new _ = Unit {0}
 
 abbrev pub CountsIfRows : {S : Type 0} → Contents → FullText S → FullText S → Command → Result Reply Fault → Type 0

@@ -17,15 +17,19 @@ use Rattle.ft_documents.specs.Chosen.{ReadsAs}
 
 -- the row of a hit, where these are the cells of documents
 abbrev pub hit_cells : List Column → List Item → (ℤ → List Cell) → Hit → List Cell
-hit_cells columns items cells hit = flat_map (cells_with (Text (offsets_text hit.offsets.items)) (record { columns = columns; documents = [] }) (hit.docid, cells hit.docid)) items
+hit_cells columns items cells hit = flat_map (cells_with (Text (offsets_text hit.offsets.items)) (record { columns = columns; documents = [] })
+    (hit.docid, cells hit.docid)) items
 
--- The rows and the index rows of a table were those of a content, and the store is up as the call ends.
+-- The rows and the index rows of a table were those of a content, and the store is up as the call
+-- ends.
 pub record IsOf {S : Type 0} (g : Ghosts S) (tab : ℤ) (old new : StoreState S) (content : Content) : Type 0 where
   pub rows : HasRows g tab old new content
   pub index : IsIndexed g tab old new content
 
--- They were those of a content with these columns, the text of a MATCH reads as this query, and offsets are asked for with a MATCH alone.
-pub record IsAsked {S : Type 0} (g : Ghosts S) (tab : ℤ) (named : List Column) (items : Items) (f : Filter) (query : Option Tree) (old new : StoreState S) (content : Content) : Type 0 where
+-- They were those of a content with these columns, the text of a MATCH reads as this query, and
+-- offsets are asked for with a MATCH alone.
+pub record IsAsked {S : Type 0} (g : Ghosts S) (tab : ℤ) (named : List Column) (items : Items) (f : Filter) (query : Option Tree) (old new : StoreState S)
+    (content : Content) : Type 0 where
   pub held : IsOf g tab old new content
   pub columns : content.columns ≡ named
   pub reads : ReadsAs content f query

@@ -14,8 +14,9 @@ use Rattle.ft_documents.specs.Tables.{table_index}
 unfoldable pub table_documents : {S : Type 0} → Ghosts S → ℤ → StoreState S → List Document
 table_documents g tab store = documents_in (table_index tab (value_in g store)).lists
 
--- The lists of a table can be relied on: the disk returned what was written, the store is open, and the table's index rows are those
--- of a content. So what they mean is in order, as it is of each content.
+-- The lists of a table can be relied on: the disk returned what was written, the store is open, and
+-- the table's index rows are those of a content. So what they mean is in order, as it is of each
+-- content.
 pub record AreReliable {S : Type 0} (g : Ghosts S) (tab : ℤ) (store : StoreState S) : Type 0 where
   pub clean : HasCleanDisk (shows g store)
   pub is_open : IsTrue (shows g store).is_open
@@ -25,8 +26,9 @@ pub record AreReliable {S : Type 0} (g : Ghosts S) (tab : ℤ) (store : StoreSta
   pub index : table_index tab (value_in g store) ≡ index_rows content
   pub in_order : AreDocuments (table_documents g tab store)
 
--- What reads do to a store, of which the last one may be refused where `all` is false: what is seen stays, and nothing is committed.
--- Where all are answered, the store counts as many rows more as `given` grows.
+-- What reads do to a store, of which the last one may be refused where `all` is false: what is seen
+-- stays, and nothing is committed. Where all are answered, the store counts as many rows more as
+-- `given` grows.
 pub record Reads {S : Type 0} (g : Ghosts S) (old : StoreState S) (given : ℕ) (all : Bool) (new : StoreState S) (given_now : ℕ) : Type 0 where
   pub kept : HasCleanDisk (shows g new) → Keeps (shows g old) (shows g new)
   pub live : HasCleanDisk (shows g new) → IsTrue all → IsTrue (shows g new).is_open

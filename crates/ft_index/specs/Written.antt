@@ -21,7 +21,8 @@ use Rattle.ft_index.specs.Kept.{IsUp, AreHeld, PlansFrom}
 use Rattle.ft_index.specs.Planned.{changes_of}
 use Rattle.ft_index.specs.Changed.{with_tables, MakesRows}
 
--- The rows and index rows of a table were those of a content with these columns, and the store is up as the call ends.
+-- The rows and index rows of a table were those of a content with these columns, and the store is
+-- up as the call ends.
 pub record HasAll {S : Type 0} (g : Ghosts S) (tab : ℤ) (name : List ℕ) (columns : List Column) (old new : StoreState S) (content : Content) : Type 0 where
   pub clean : HasCleanDisk (shows g new)
   pub is_open : IsTrue (shows g new).is_open
@@ -34,14 +35,17 @@ pub record LeadsTo (content : Content) (documents : Documents) (touched : List �
   pub made : rewritten rewrites content.documents ≡ documents
   pub near : AllByRecursion (λ (r : Rewrite). Contains touched r.docid) rewrites
 
--- What comes of a command on a content, which may deserve a fault: rewrites that lead to its documents, or the fault, but for one from outside.
+-- What comes of a command on a content, which may deserve a fault: rewrites that lead to its
+-- documents, or the fault, but for one from outside.
 abbrev pub Writes : Content → Option Fault → Documents → List ℤ → Result (Vec source.Rewrite Global) Fault → Type 0
 Writes content due documents touched (Ok rewrites) = (due ≡ None) × LeadsTo content documents touched (map shown_rewrite rewrites.items)
 Writes content due documents touched (Err fault) = ((fault ≡ faults.Store) ⊎ (fault ≡ faults.Memory)) ⊎ (due ≡ Some fault)
 
--- What reads lead to, where the store is up as they end: changes that are a plan of the command, or its fault.
+-- What reads lead to, where the store is up as they end: changes that are a plan of the command, or
+-- its fault.
 abbrev pub PlansTo : {S : Type 0} → Ghosts S → List TableInfo → StoreState S → StoreState S → Command → Result (List Change) Fault → Type 0
-PlansTo g tables old new command answer = IsUp g (with_tables new tables) → (contents : Contents) → AreHeld (value_in g old) tables contents → PlansFrom contents command (value_in g old) answer
+PlansTo g tables old new command answer = IsUp g (with_tables new tables) → (contents : Contents) → AreHeld (value_in g old) tables contents
+    → PlansFrom contents command (value_in g old) answer
 
 abbrev pub PlansIn : {S : Type 0} → Ghosts S → List TableInfo → StoreState S → StoreState S → Command → Result (Vec RowChange Global) Fault → Type 0
 PlansIn g tables old new command answer = PlansTo g tables old new command (changes_of answer)
@@ -52,12 +56,14 @@ AreOfWritten written changes =
     AreRight written.table.now.id (map column_of written.table.now.columns.items) (map shown_rewrite written.rewrites.items) changes
     × All (IsOfDocids written.table.now.id (docids_of (map shown_rewrite written.rewrites.items))) changes
 
--- What reads lead to: documents whose row changes, as long as they are right, are a plan of the command, or its fault.
+-- What reads lead to: documents whose row changes, as long as they are right, are a plan of the
+-- command, or its fault.
 abbrev pub WritesIn : {S : Type 0} → Ghosts S → List TableInfo → StoreState S → StoreState S → Command → Result Written Fault → Type 0
 WritesIn g tables old new command (Ok written) = (changes : List Change) → AreOfWritten written changes → PlansTo g tables old new command (Ok changes)
 WritesIn g tables old new command (Err fault) = PlansTo g tables old new command (Err fault)
 
--- What the writing of documents does: the store holds all of some right changes of its rows, or none.
+-- What the writing of documents does: the store holds all of some right changes of its rows, or
+-- none.
 pub record MakesWritten {S X : Type 0} (g : Ghosts S) (written : Written) (old new : StoreState S) (result : Result X Fault) : Type 0 where
   pub changes : List Change
   pub of_written : AreOfWritten written changes

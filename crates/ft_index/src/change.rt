@@ -1,4 +1,4 @@
-// Row changes of a store.
+//! Row changes of a store.
 ghost use Rattle.std.specs.Prelude.{◌≡◌, ◌∷◌, [], map, IfOk};
 ghost use Rattle.sqlite.specs.State.{HasCleanDisk};
 ghost use Rattle.ft_rows.specs.Shown.{shown_note};

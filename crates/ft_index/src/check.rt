@@ -21,8 +21,8 @@ use ft_values::table_place;
 use sqlite::Alter;
 use std::alloc::Global;
 
-// Whether the rows of the table of an id are documents with exactly the index rows made from scratch. The store is only read, whatever
-// is answered.
+// Whether the rows of the table of an id are documents with exactly the index rows made from
+// scratch. The store is only read, whatever is answered.
 fn is_right<S: Alter>(alloc: Global, store: &mut Store<S>, id: i64) -> Result<bool, StoreFault>
     ensures { LooksTo S.Store store.old store.new result
         ((named : ℤ × List ℕ) (held : TableState) → HasCleanDisk (shows S.Store store.new)
@@ -70,7 +70,8 @@ fn are_sound(tables: &[TableInfo]) -> bool
     tables.iter().all(|table| table.sound)
 }
 
-/// Whether every table is sound, by the rows as they are read. The store is only read, whatever is answered.
+/// Whether every table is sound, by the rows as they are read. The store is only read, whatever is
+/// answered.
 pub(crate) fn check_all<S: Alter>(alloc: Global, store: &mut Store<S>) -> Result<bool, Fault>
     ensures all { HasCleanDisk (shows S.Store store.new)
         → IfOk result (λ all. (contents : Contents)

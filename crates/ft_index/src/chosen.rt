@@ -23,8 +23,9 @@ use ft_store::Store;
 use sqlite::Alter;
 use std::alloc::Global;
 
-/// The documents that a filter chooses, by rising docid, where the text of a MATCH reads as this query. The table is read once for all
-/// documents, and otherwise each chosen document is. The store is only read, whatever is answered.
+/// The documents that a filter chooses, by rising docid, where the text of a MATCH reads as this
+/// query. The table is read once for all documents, and otherwise each chosen document is. The
+/// store is only read, whatever is answered.
 pub(crate) fn chosen_documents<S: Alter>(
     alloc: Global,
     store: &mut Store<S>,

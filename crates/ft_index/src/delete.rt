@@ -73,7 +73,8 @@ fn delete_written<'t, S: Alter>(
     })
 }
 
-// The rewrites of a Delete from a sound table, or its fault. The store is only read, whatever is answered.
+// The rewrites of a Delete from a sound table, or its fault. The store is only read, whatever is
+// answered.
 fn written_by_delete<S: Alter>(
     alloc: Global,
     store: &mut Store<S>,

@@ -31,7 +31,8 @@ pub(crate) fn last_docid<S: Alter>(store: &mut Store<S>, tab: i64) -> Result<Opt
     Ok(last)
 }
 
-/// The cells of the document of a docid, if there is one. The store is only read, whatever is answered.
+/// The cells of the document of a docid, if there is one. The store is only read, whatever is
+/// answered.
 pub(crate) fn document<S: Alter>(
     alloc: Global,
     store: &mut Store<S>,
@@ -69,7 +70,8 @@ pub(crate) fn all_documents<S: Alter>(
     Ok(documents)
 }
 
-/// Whether the table has a document of the docid that is given. The store is only read, whatever is answered.
+/// Whether the table has a document of the docid that is given. The store is only read, whatever is
+/// answered.
 pub(crate) fn has_document<S: Alter>(
     alloc: Global,
     store: &mut Store<S>,

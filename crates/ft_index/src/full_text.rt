@@ -1,4 +1,4 @@
-// Full-text tables over a store.
+//! Full-text tables over a store.
 use crate::change::{note_name, noted_names};
 use crate::check::check_all;
 use crate::execute::execute_asked;
@@ -12,8 +12,8 @@ use std::marker::Model;
 
 /// Full-text tables over a store.
 ///
-/// What a call says of rows holds where it is up as the call ends: so far the disk returned what was written, and the
-/// store is open. After a fault tables, documents and index are as they were.
+/// What a call says of rows holds where it is up as the call ends: so far the disk returned what
+/// was written, and the store is open. After a fault tables, documents and index are as they were.
 #[derive(Drop)]
 pub struct FullText<S: Alter> {
     store: Store<S>,
@@ -61,8 +61,8 @@ impl<S: Alter> FullText<S> {
     ghost use Rattle.ft_index.specs.Kept.{IsUp, value_of, Holds, AreSound, OnlyLooks, Executes, Plans, Notes};
     ghost use Rattle.ft_index.specs.Called.{KeptByCalls, NoneGetsUnsound, NamesStayApart, HoldsOneContents};
 
-    /// Takes a store, and marks each table whose rows aren't documents with exactly the index rows made from scratch. The
-    /// store is only read; where a read is refused it is handed back.
+    /// Takes a store, and marks each table whose rows aren't documents with exactly the index rows
+    /// made from scratch. The store is only read; where a read is refused it is handed back.
     pub fn new(alloc: Global, store: Store<S>) -> Result<FullText<S>, NewFault<S>>
         ensures opened { IfOk result (λ made. Opens S.Store store made) }
 
@@ -91,19 +91,21 @@ impl<S: Alter> FullText<S> {
         self.tables.as_slice()
     }
 
-    /// Executes a command. One that is refused leaves everything as it was. The store is asked first whether it is open.
+    /// Executes a command. One that is refused leaves everything as it was. The store is asked
+    /// first whether it is open.
     ///
     /// # Errors
     ///
-    /// The first fault that the command deserves, in the order of the causes of `Fault`; or `Store` or `Memory`, where the
-    /// store or memory refused it.
+    /// The first fault that the command deserves, in the order of the causes of `Fault`; or `Store`
+    /// or `Memory`, where the store or memory refused it.
     pub fn execute(&mut self, command: &Command) -> Result<Reply, Fault>
         ensures executes { Executes S.Store self.old (command_of command.now) (answer_of result)
             self.new }
         ensures leaves { LeavesCommand S.Store self.old (command_of command.now) (is_ok result)
             self.new }
 
-        // A Select with MATCH reads the entries of its terms, and where an item is a column the documents that it answers.
+        // A Select with MATCH reads the entries of its terms, and where an item is a column the
+        // documents that it answers.
         ensures counts { CountsRows S.Store self.old (command_of command.now) (answer_of result)
             self.new }
     {
@@ -126,7 +128,8 @@ impl<S: Alter> FullText<S> {
         planned_changes(self.alloc, &mut self.store, tables, command)
     }
 
-    /// Whether each table's rows are documents with exactly the index rows made from scratch. They are read and compared.
+    /// Whether each table's rows are documents with exactly the index rows made from scratch. They
+    /// are read and compared.
     pub fn check_all(&mut self) -> Result<bool, Fault>
         ensures all { IsUp S.Store self.new
             → IfOk result (λ all. (contents : Contents) → Holds S.Store self.old contents
@@ -177,23 +180,24 @@ impl<S: Alter> FullText<S> {
         store
     }
 
-    /// After any calls of `execute` and `note` the contents are those of the accepted commands, the index rows of each
-    /// sound table are exactly those made from scratch, and each command was answered by the definitions. No table gets
-    /// unsound, and no two get one name.
+    /// After any calls of `execute` and `note` the contents are those of the accepted commands, the
+    /// index rows of each sound table are exactly those made from scratch, and each command was
+    /// answered by the definitions. No table gets unsound, and no two get one name.
     pub fn kept_by_calls()
         ensures kept { KeptByCalls S.Store }
         ensures sound { NoneGetsUnsound }
         ensures names { NamesStayApart }
     {}
 
-    /// What a store holds is settled: no two contents are held by one store. So `new` gives each table one mark, and of what a
-    /// crash left the marks of the contents before the command or after it.
+    /// What a store holds is settled: no two contents are held by one store. So `new` gives each
+    /// table one mark, and of what a crash left the marks of the contents before the command or
+    /// after it.
     pub fn one_store_holds_one_contents()
         ensures { HoldsOneContents }
     {}
 
-    /// A store that holds contents, as one that a crash left behind `execute`, `note` or the making of a store, is opened by
-    /// `new` with their marks: what was sound is sound.
+    /// A store that holds contents, as one that a crash left behind `execute`, `note` or the making
+    /// of a store, is opened by `new` with their marks: what was sound is sound.
     pub fn opens_what_is_left()
         ensures { OpensWhatIsLeft S.Store }
     {}

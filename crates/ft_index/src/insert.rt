@@ -97,7 +97,8 @@ fn lists_twice(alloc: Global, columns: Option<&[String]>) -> bool
     }
 }
 
-// The rewrites of an Insert into a sound table, or its fault. The store is only read, whatever is answered.
+// The rewrites of an Insert into a sound table, or its fault. The store is only read, whatever is
+// answered.
 fn written_by_insert<S: Alter>(
     alloc: Global,
     store: &mut Store<S>,
@@ -129,8 +130,8 @@ fn written_by_insert<S: Alter>(
     Ok(rewrites)
 }
 
-/// The rewrites of the documents that rows make in a table, by rising docid, or the fault of the first row that fails. The store is
-/// only read, whatever is answered.
+/// The rewrites of the documents that rows make in a table, by rising docid, or the fault of the
+/// first row that fails. The store is only read, whatever is answered.
 pub(crate) fn insert_rewrites<S: Alter>(
     alloc: Global,
     store: &mut Store<S>,
@@ -151,8 +152,8 @@ pub(crate) fn insert_rewrites<S: Alter>(
     Ok(rewrites)
 }
 
-/// Of each row, whether the table has a document with the docid that the row gives. The store, which is open if it is clean, is only
-/// read, whatever is answered.
+/// Of each row, whether the table has a document with the docid that the row gives. The store,
+/// which is open if it is clean, is only read, whatever is answered.
 fn stored_docids<S: Alter>(
     alloc: Global,
     store: &mut Store<S>,

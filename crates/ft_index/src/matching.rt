@@ -1,4 +1,4 @@
-// What a MATCH finds in a table's index.
+//! What a MATCH finds in a table's index.
 ghost use Rattle.std.specs.Prelude.{◌≡◌, ◌^◌, ◌<◌, ◌⊎◌, ℕ, List, map, option_map, Ok, IfOk, OnOk};
 ghost use Rattle.ft_query.specs.Trees.{tree_of};
 ghost use Rattle.ft_query.specs.Work.{entry_count};
@@ -56,8 +56,9 @@ fn fault_of(fault: ListFault) -> Fault
     }
 }
 
-/// The documents that a query finds by the lists of a table's index, the first ones where a number is given, each with its offsets where
-/// they are wanted. One read for each term of the query. The store is only read, whatever is answered.
+/// The documents that a query finds by the lists of a table's index, the first ones where a number
+/// is given, each with its offsets where they are wanted. One read for each term of the query. The
+/// store is only read, whatever is answered.
 pub(crate) fn hits<S: Alter>(
     store: &mut Store<S>,
     alloc: Global,
@@ -85,7 +86,8 @@ pub(crate) fn hits<S: Alter>(
     }
 }
 
-/// The documents that a MATCH chooses, as `hits` gives them, by its text's query. Without a query there are none, and nothing is read.
+/// The documents that a MATCH chooses, as `hits` gives them, by its text's query. Without a query
+/// there are none, and nothing is read.
 pub(crate) fn matched<S: Alter>(
     store: &mut Store<S>,
     alloc: Global,

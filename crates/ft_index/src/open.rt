@@ -36,7 +36,8 @@ fn opened_table<S: Alter>(
     })
 }
 
-/// All tables of a store by rising id, each with its mark. The store is only read, whatever is answered.
+/// All tables of a store by rising id, each with its mark. The store is only read, whatever is
+/// answered.
 pub(crate) fn opened_tables<S: Alter>(
     alloc: Global,
     store: &mut Store<S>,

@@ -1,4 +1,4 @@
-// Optimize, which changes nothing.
+//! Optimize, which changes nothing.
 ghost use Rattle.std.specs.Prelude.{◌≡◌, map};
 ghost use Rattle.ft_content.specs.Command as plain;
 ghost use Rattle.ft_content.specs.Views.{shown_info, answer_of};

@@ -20,7 +20,8 @@ use ft_store::{RowChange, Store};
 use sqlite::Alter;
 use std::alloc::Global;
 
-/// The row changes that a command asks for, or its fault. The store is only read, whatever is answered.
+/// The row changes that a command asks for, or its fault. The store is only read, whatever is
+/// answered.
 pub(crate) fn planned_changes<S: Alter>(
     alloc: Global,
     store: &mut Store<S>,
@@ -90,7 +91,8 @@ pub(crate) fn planned_changes<S: Alter>(
     }
 }
 
-// The row changes of a Check, which are none, or its fault. The store is only read, whatever is answered.
+// The row changes of a Check, which are none, or its fault. The store is only read, whatever is
+// answered.
 fn check_changes<S: Alter>(
     alloc: Global,
     store: &mut Store<S>,

@@ -29,8 +29,8 @@ pub(crate) struct TableContent {
     documents: Vec<Document>,
 }
 
-// What a table that is listed holds, None where its rows are no content. Its index rows aren't read. The store is only read, whatever is
-// answered.
+// What a table that is listed holds, None where its rows are no content. Its index rows aren't
+// read. The store is only read, whatever is answered.
 fn read_content<S: Alter>(
     alloc: Global,
     store: &mut Store<S>,

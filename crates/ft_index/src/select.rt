@@ -269,8 +269,8 @@ fn document_rows(
     Ok(rows)
 }
 
-/// The rows of the documents that a MATCH chooses. The walk stops where no more hits are answered, and a document is read only where an
-/// item is a column and its row is answered.
+/// The rows of the documents that a MATCH chooses. The walk stops where no more hits are answered,
+/// and a document is read only where an item is a column and its row is answered.
 fn matched_rows<S: Alter>(
     alloc: Global,
     store: &mut Store<S>,

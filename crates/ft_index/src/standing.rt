@@ -22,8 +22,8 @@ use ft_store::{CellRow, Store, StoreFault, TabRow};
 use sqlite::Alter;
 use std::alloc::Global;
 
-/// How the rows of a table stand: they are a content with exactly the index rows made from scratch, a content with others,
-/// or no content.
+/// How the rows of a table stand: they are a content with exactly the index rows made from scratch,
+/// a content with others, or no content.
 #[derive(Clone, Copy, Debug)]
 pub(crate) enum Standing {
     Sound,
@@ -48,7 +48,8 @@ fn table_under(tables: Vec<TabRow>, id: i64) -> Option<TabRow>
     tables.into_iter().find(|table| table.id == id)
 }
 
-/// The table of an id as the store lists it, if it does. The store is only read, whatever is answered.
+/// The table of an id as the store lists it, if it does. The store is only read, whatever is
+/// answered.
 pub(crate) fn listed_table<S: Alter>(
     store: &mut Store<S>,
     id: i64,
@@ -86,8 +87,9 @@ pub(crate) fn read_standing<S: Alter>(
     }
 }
 
-// Whether the index rows of a table are those made from scratch out of the content that has these cells. A posting list that can't be
-// read is none of them. The store is only read, whatever is answered.
+// Whether the index rows of a table are those made from scratch out of the content that has these
+// cells. A posting list that can't be read is none of them. The store is only read, whatever is
+// answered.
 fn has_right_index<S: Alter>(
     alloc: Global,
     store: &mut Store<S>,

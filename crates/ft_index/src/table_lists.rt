@@ -1,4 +1,4 @@
-// The posting lists of one table.
+//! The posting lists of one table.
 ghost use Rattle.std.specs.Prelude.{◌≡◌, ◌+◌, ◌-◌, ◌^◌, ◌||◌, false, min, map, Err, IfOk, OnOk, OnErr};
 ghost use Rattle.ft_query.specs.Documents.{plain_list, place_count};
 ghost use Rattle.ft_query.specs.Lists.{is_failed};

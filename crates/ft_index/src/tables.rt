@@ -1,4 +1,4 @@
-// Making and removing tables.
+//! Making and removing tables.
 ghost use Rattle.std.specs.Prelude.{◌≡◌, ◌∷◌, [], if◌then◌else◌, map, string_bytes, is_ok, IfOk};
 ghost use Rattle.ft_rows.specs.Changes.{shown_change};
 ghost use Rattle.ft_content.specs.Command as plain;

@@ -86,7 +86,8 @@ fn update_written<'t, S: Alter>(
     })
 }
 
-// The rewrites of an Update of a sound table, or its fault. The store is only read, whatever is answered.
+// The rewrites of an Update of a sound table, or its fault. The store is only read, whatever is
+// answered.
 fn written_by_update<S: Alter>(
     alloc: Global,
     store: &mut Store<S>,
@@ -114,7 +115,8 @@ fn written_by_update<S: Alter>(
     Ok(rewrites)
 }
 
-// Whether chosen documents may get the docid that is given. The store is only read, whatever is answered.
+// Whether chosen documents may get the docid that is given. The store is only read, whatever is
+// answered.
 fn test_move<S: Alter>(
     alloc: Global,
     store: &mut Store<S>,

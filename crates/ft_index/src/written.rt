@@ -38,7 +38,8 @@ impl Written<'_> {
         Ok(changes)
     }
 
-    /// Makes all their row changes or none, group by group, so that the changes of one group are in memory at a time.
+    /// Makes all their row changes or none, group by group, so that the changes of one group are in
+    /// memory at a time.
     pub(crate) fn make<S: Alter>(self, alloc: Global, store: &mut Store<S>) -> Result<(), Fault>
         ensures { MakesWritten S.Store self.entry store.old store.new result }
     {

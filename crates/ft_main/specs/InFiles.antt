@@ -1,4 +1,5 @@
--- Meaning. What the program does over a FILE (own choice). Of the four files, two logs and two databases, it is said for whatever they held.
+-- Meaning. What the program does over a FILE (own choice). Of the four files, two logs and two
+-- databases, it is said for whatever they held.
 use Rattle.std.specs.Prelude.{ℕ, ◌≡◌, ◌⊎◌, List, Option}
 use Rattle.std.specs.Borrow.{RattleType}
 use Rattle.sqlite_disk.specs.declared.Disk as disk
@@ -30,9 +31,11 @@ FileOf B held = Modelled Host B.Denot host.ghosts held
 abbrev pub file_ghosts : (B : RattleType) (held : first.Ghosts B.Denot) → disk.Ghosts (FileOf B held)
 file_ghosts B held = modelled.ghosts the_row B host.ghosts modelled.no_dict held modelled.no_dict modelled.no_dict
 
--- Two databases are opened over files that held these images: the plain tables that are found in the one, and the full-text store that is found
--- in the other. The inputs are run over them, and then both are closed.
-pub record FromFiles {D E : Type 0} (g : disk.Ghosts D) (h : disk.Ghosts E) (tables texts : Image) (settings : Settings) (inputs : List (Option (List ℕ))) (old new : Outputs) (status : ℕ) : Type 0 where
+-- Two databases are opened over files that held these images: the plain tables that are found in
+-- the one, and the full-text store that is found in the other. The inputs are run over them, and
+-- then both are closed.
+pub record FromFiles {D E : Type 0} (g : disk.Ghosts D) (h : disk.Ghosts E) (tables texts : Image) (settings : Settings) (inputs : List (Option (List ℕ)))
+    (old new : Outputs) (status : ℕ) : Type 0 where
   pub plain : Held (FileStore D g)
   pub tables_found : IsNewFrom tables plain
   pub store : StoreState (FileStore E h)
@@ -42,7 +45,8 @@ pub record FromFiles {D E : Type 0} (g : disk.Ghosts D) (h : disk.Ghosts E) (tab
   -- what a crash or the close leaves of the store is what the next start finds
   pub again : FindsWhatIsLeft h
 
--- why one of them is not opened: there is no telling of the plain tables; or the full-text store is not taken, or can't be read
+-- why one of them is not opened: there is no telling of the plain tables; or the full-text store is
+-- not taken, or can't be read
 abbrev pub IsCause : {E : Type 0} → disk.Ghosts E → Image → OpenFault → Type 0
 IsCause h texts why = (why ≡ opening.Database) ⊎ ((why ≡ opening.Store) ⊎ IsNoStoreFor h texts why)
 
@@ -53,4 +57,5 @@ RunsFromFiles g h tables texts settings inputs old new status =
 
 -- and that over files of the system
 abbrev pub RunsInFiles : (A B : RattleType) → first.Ghosts A.Denot → first.Ghosts B.Denot → Settings → List (Option (List ℕ)) → Outputs → Outputs → ℕ → Type 0
-RunsInFiles A B tables texts settings inputs old new status = RunsFromFiles (file_ghosts A tables) (file_ghosts B texts) (image_at tables) (image_at texts) settings inputs old new status
+RunsInFiles A B tables texts settings inputs old new status = RunsFromFiles (file_ghosts A tables) (file_ghosts B texts) (image_at tables)
+    (image_at texts) settings inputs old new status

@@ -1,4 +1,5 @@
--- Meaning. The inputs of a command line, run in turn over two databases, and what is told of how that ends (own choice).
+-- Meaning. The inputs of a command line, run in turn over two databases, and what is told of how
+-- that ends (own choice).
 use Rattle.std.specs.Prelude.{ℕ, ◌≡◌, ◌⊎◌, ◌^◌, ◌-◌, ◌++◌, ◌==◌, min, if◌then◌else◌, MatchBool, MatchResult, List, [], ◌∷◌, map, codes, Option, Some, None, Result, Ok, Err}
 use Rattle.sqlite.specs.Store.{Ghosts}
 use Rattle.sqlite.specs.Held.{Held}
@@ -56,18 +57,20 @@ module _ {P S : Type 0} (g : Ghosts P) (h : Ghosts S) where
   abbrev pub RunsOne : Option (List ℕ) → Result Status RunFault → Stage P S → Stage P S → Deeds → Type 0
   RunsOne input ended old new own = (left : Option (List ℕ)) × Ran g h ended (console old input) (console new left) own
 
-  -- Inputs are run in turn, each from what the one before it left, with what all their turns told and called. A quit ends it, and so does a
-  -- fault of a run.
+  -- Inputs are run in turn, each from what the one before it left, with what all their turns told
+  -- and called. A quit ends it, and so does a fault of a run.
   abbrev pub InTurn : List (Option (List ℕ)) → Option RunFault → Stage P S → Stage P S → Deeds → Type 0
   InTurn [] cause old new all = (cause ≡ None) × (new ≡ old) × (all ≡ idle)
   InTurn (input ∷ inputs) cause old new all = (ended : Result Status RunFault) × (mid : Stage P S) × (own : Deeds) × RunsOne input ended old mid own
       × MatchResult ended
-      (λ status. MatchBool own.ends ((cause ≡ None) × (new ≡ mid) × (all ≡ own)) ((rest : Deeds) × InTurn inputs cause mid new rest × (all ≡ and_then own rest)))
+      (λ status. MatchBool own.ends ((cause ≡ None) × (new ≡ mid) × (all ≡ own)) ((rest : Deeds) × InTurn inputs cause mid new rest
+      × (all ≡ and_then own rest)))
       (λ fault. (cause ≡ Some fault) × (new ≡ mid) × (all ≡ own))
 
 -- ---- the end
 
--- what is answered of inputs that were run: their fault lines are counted together, up to 2 ^ 64 - 1
+-- what is answered of inputs that were run: their fault lines are counted together, up to 2 ^ 64 -
+-- 1
 abbrev pub EndsAs : Result Status RunFault → Option RunFault → Deeds → Type 0
 EndsAs (Ok status) cause all = (cause ≡ None) × (status.faults ≡ min all.faults (2 ^ 64 - 1)) × (status.quit ≡ all.ends)
 EndsAs (Err fault) cause all = cause ≡ Some fault
@@ -75,10 +78,12 @@ EndsAs (Err fault) cause all = cause ≡ Some fault
 abbrev pub RunsInTurn : {P S : Type 0} → Ghosts P → Ghosts S → List (Option (List ℕ)) → Result Status RunFault → Stage P S → Stage P S → Type 0
 RunsInTurn g h inputs ended old new = (cause : Option RunFault) × (all : Deeds) × InTurn g h inputs cause old new all × EndsAs ended cause all
 
--- They are runs one after another: so what any runs leave of the full-text tables is left by them, too.
+-- They are runs one after another: so what any runs leave of the full-text tables is left by them,
+-- too.
 abbrev pub RunsAndKeeps : {P S : Type 0} → Ghosts P → Ghosts S → List (Option (List ℕ)) → Result Status RunFault → Stage P S → Stage P S → Type 0
 RunsAndKeeps g h inputs ended old new = (cause : Option RunFault) × (all : Deeds) × InTurn g h inputs cause old new all × EndsAs ended cause all
-    × AllRan g h old.parts all new.parts × ((first : Contents) → Holds h old.parts.full_text first → IsSettled h old.parts.full_text → IsClean h new.parts.full_text → PromiseKept g h first old.parts all new.parts)
+    × AllRan g h old.parts all new.parts × ((first : Contents) → Holds h old.parts.full_text first → IsSettled h old.parts.full_text
+    → IsClean h new.parts.full_text → PromiseKept g h first old.parts all new.parts)
 
 -- the program's own line for a fault that ended a run
 abbrev pub own_line : RunFault → List ℕ
@@ -116,9 +121,11 @@ pub record NotOpened (why : OpenFault) (old new : Outputs) (status : ℕ) : Type
   pub ends : status ≡ 1
 
 module _ {P S : Type 0} (g : Ghosts P) (h : Ghosts S) where
-  -- The inputs are run in turn from plain tables and a full-text store as it is taken, and then the program's own line is written. They are
-  -- runs one after another: of whatever contents the store held the promise is kept, where the disk returned what was written.
-  pub record RunsOver (settings : Settings) (plain : Held P) (store : StoreState S) (inputs : List (Option (List ℕ))) (old new : Outputs) (status : ℕ) : Type 0 where
+  -- The inputs are run in turn from plain tables and a full-text store as it is taken, and then the
+  -- program's own line is written. They are runs one after another: of whatever contents the store
+  -- held the promise is kept, where the disk returned what was written.
+  pub record RunsOver (settings : Settings) (plain : Held P) (store : StoreState S) (inputs : List (Option (List ℕ))) (old new : Outputs)
+      (status : ℕ) : Type 0 where
     pub made : FullText S
     pub opened : Opens h store made
     pub cause : Option RunFault
@@ -129,11 +136,13 @@ module _ {P S : Type 0} (g : Ghosts P) (h : Ghosts S) where
     pub err : WritesOwn cause last.on.err new.err
     pub ends : status ≡ exit_status cause all
     pub ran : AllRan g h (record { settings = settings; plain = plain; full_text = made }) all last.parts
-    pub kept : (first : Contents) → StoreHolds (value_in h store) first → IsClean h last.parts.full_text → PromiseKept g h first (record { settings = settings; plain = plain; full_text = made }) all last.parts
+    pub kept : (first : Contents) → StoreHolds (value_in h store) first → IsClean h last.parts.full_text
+        → PromiseKept g h first (record { settings = settings; plain = plain; full_text = made }) all last.parts
 
   -- and both are closed so; or the store can't be read
   abbrev pub OpensAndRuns : (Parts P S → Type 0) → Settings → Held P → StoreState S → List (Option (List ℕ)) → Outputs → Outputs → ℕ → Type 0
-  OpensAndRuns AreClosed settings plain store inputs old new status = NotOpened opening.Store old new status ⊎ ((it : RunsOver settings plain store inputs old new status) × AreClosed it.last.parts)
+  OpensAndRuns AreClosed settings plain store inputs old new status = NotOpened opening.Store old new status
+      ⊎ ((it : RunsOver settings plain store inputs old new status) × AreClosed it.last.parts)
 
   -- or a database isn't opened
   abbrev pub RunsOn : (Parts P S → Type 0) → Settings → Result (Held P × StoreState S) OpenFault → List (Option (List ℕ)) → Outputs → Outputs → ℕ → Type 0

@@ -1,4 +1,5 @@
--- Meaning. What the program does over two empty databases in memory, without a FILE, and so by its words (own choice).
+-- Meaning. What the program does over two empty databases in memory, without a FILE, and so by its
+-- words (own choice).
 use Rattle.std.specs.Prelude.{ℕ, ◌≡◌, ◌⊎◌, List, [], map, Option, Some, None, String, string_bytes, Ok, Err}
 use Rattle.std.specs.declared.alloc.Global.{Global}
 use Rattle.std.specs.Borrow.{RattleType}
@@ -40,25 +41,31 @@ IsOfMemory why = (why ≡ opening.Database) ⊎ (why ≡ opening.Store)
 
 -- so it is in memory, or a database isn't opened
 abbrev pub RunsInMemory : Settings → List (Option (List ℕ)) → Outputs → Outputs → ℕ → Type 0
-RunsInMemory settings inputs old new status = ((why : OpenFault) × IsOfMemory why × NotOpened why old new status) ⊎ FromNothing ghosts settings inputs old new status
+RunsInMemory settings inputs old new status = ((why : OpenFault) × IsOfMemory why × NotOpened why old new status)
+    ⊎ FromNothing ghosts settings inputs old new status
 
 -- what a command line with this FILE does, or with none
-abbrev pub RunsIn : (A B : RattleType) → first.Ghosts A.Denot → first.Ghosts B.Denot → Option (String Global) → Settings → List (Option (List ℕ)) → Outputs → Outputs → ℕ → Type 0
+abbrev pub RunsIn : (A B : RattleType) → first.Ghosts A.Denot → first.Ghosts B.Denot → Option (String Global) → Settings → List (Option (List ℕ)) → Outputs
+    → Outputs → ℕ → Type 0
 RunsIn A B tables texts None settings inputs old new status = RunsInMemory settings inputs old new status
 RunsIn A B tables texts (Some path) settings inputs old new status = RunsInFiles A B tables texts settings inputs old new status
 
 -- what a command line does
 abbrev pub RunsLine : (A B : RattleType) → first.Ghosts A.Denot → first.Ghosts B.Denot → Line → Option (List ℕ) → Outputs → Outputs → ℕ → Type 0
-RunsLine A B tables texts line standard old new status = RunsIn A B tables texts line.file line.settings (due (map string_bytes line.inputs.items) standard) old new status
+RunsLine A B tables texts line standard old new status = RunsIn A B tables texts line.file line.settings
+    (due (map string_bytes line.inputs.items) standard) old new status
 
--- Nothing is run of words that mean no line. The status is 2, but for the help, and nothing goes to the output but what `clap` says.
+-- Nothing is run of words that mean no line. The status is 2, but for the help, and nothing goes to
+-- the output but what `clap` says.
 abbrev pub RefusesLine : LineFault → Outputs → Outputs → ℕ → Type 0
 RefusesLine (lines.Words e) old new status = (status ≡ 0) ⊎ (status ≡ 2)
 RefusesLine lines.Conflict old new status = (status ≡ 2) × (new.out ≡ old.out)
 RefusesLine lines.BadSeparator old new status = (status ≡ 2) × (new.out ≡ old.out)
 RefusesLine lines.Memory old new status = (status ≡ 2) × (new.out ≡ old.out)
 
--- The words mean a line, and it is run, whatever the files held; or they mean none, or memory lacks to read them.
+-- The words mean a line, and it is run, whatever the files held; or they mean none, or memory lacks
+-- to read them.
 abbrev pub Starts : (A B : RattleType) → first.Ghosts A.Denot → first.Ghosts B.Denot → List (List ℕ) → Option (List ℕ) → Outputs → Outputs → ℕ → Type 0
 Starts A B tables texts words standard old new status =
-    ((why : LineFault) × ReadsLine words (Err why) × RefusesLine why old new status) ⊎ ((line : Line) × ReadsLine words (Ok line) × RunsLine A B tables texts line standard old new status)
+    ((why : LineFault) × ReadsLine words (Err why) × RefusesLine why old new status)
+    ⊎ ((line : Line) × ReadsLine words (Ok line) × RunsLine A B tables texts line standard old new status)

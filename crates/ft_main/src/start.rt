@@ -29,9 +29,10 @@ const FAULTY: u8 = 1;
 
 const NOT_UNDERSTOOD: u8 = 2;
 
-/// Runs the program on words without its own name, and gives its status: 0; 1 where a fault line was written, a database
-/// wasn't opened or the run ended early; 2 where the words aren't understood. `A` and `B` stand for what the files of the
-/// plain tables and of the full-text store held.
+/// Runs the program on words without its own name, and gives its status: 0; 1 where a fault line
+/// was written, a database wasn't opened or the run ended early; 2 where the words aren't
+/// understood. `A` and `B` stand for what the files of the plain tables and of the full-text store
+/// held.
 pub fn start<A: Start, B: Start, R: Read, O: Write, E: Write>(
     rt: &HostRuntime,
     words: &[&str],
@@ -175,7 +176,8 @@ fn on_databases<D: Disk + Drop, F: Disk + Drop, R: Read, O: Write, E: Write>(
     }
 }
 
-// Runs the inputs over both databases, and closes them: what was committed goes from the log into each file.
+// Runs the inputs over both databases, and closes them: what was committed goes from the log into
+// each file.
 fn over<D: Disk + Drop, F: Disk + Drop, R: Read, O: Write, E: Write>(
     rt: &HostRuntime,
     plain: Connection<FileStore<D>>,
@@ -225,10 +227,12 @@ fn parts_over<D: Disk + Drop, S: Alter>(
     session.into_parts()
 }
 
-// What a close leaves: the two files of a database, or the store that they are in where it is refused.
+// What a close leaves: the two files of a database, or the store that they are in where it is
+// refused.
 type Left<D> = Result<Files<D>, FileStore<D>>;
 
-// Closes both databases. Where that is refused their logs keep what was committed, and the next open finds it.
+// Closes both databases. Where that is refused their logs keep what was committed, and the next
+// open finds it.
 fn close<D: Disk + Drop, F: Disk + Drop>(
     session: Session<FileStore<D>, FileStore<F>>,
 ) -> (Left<D>, Left<F>)
@@ -315,8 +319,8 @@ fn status_of<E: Write>(ended: Result<Status, RunFault>, err: &mut E) -> u8
     }
 }
 
-// Runs the inputs over a plain database in files. Of the two stores one is named at a time: to name both in one call takes more
-// steps than the checker has.
+// Runs the inputs over a plain database in files. Of the two stores one is named at a time: to name
+// both in one call takes more steps than the checker has.
 fn run_all_on<S: Alter, D: Disk + Drop, R: Read, O: Write, E: Write>(
     session: &mut Session<FileStore<D>, S>,
     inputs: &[String],

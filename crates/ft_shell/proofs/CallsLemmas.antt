@@ -1,4 +1,5 @@
--- What the calls are like that the turns of a session make of the full-text tables, and that they are all that changes these.
+-- What the calls are like that the turns of a session make of the full-text tables, and that they
+-- are all that changes these.
 use Rattle.std.proofs.Common.{◌≡◌, ℕ, Bool, true, false, List, [], ◌∷◌, ◌++◌, Option, Some, None, refl, sym, ap, subst, ◌⊎◌, inl, inr}
 use Rattle.std.specs.Prelude.{MatchBool, codes, map, is_ok}
 use Rattle.sqlite.specs.Store.{Ghosts}

@@ -49,7 +49,8 @@ keeps_same (Some p) = refl
 -- ---- pieces
 
 module _ {P S : Type 0} (g : Ghosts P) (h : Ghosts S) where
-  -- So many bytes were read. They are taken, as far as there is room; without any the input is at its end, and what was left of it is done.
+  -- So many bytes were read. They are taken, as far as there is room; without any the input is at
+  -- its end, and what was left of it is done.
   pub record HasRead (room n : ℕ) (before after : Option (List ℕ)) (fed left : Fed) (old new : Moment P S) : Type 0 where
     pub bytes : List ℕ
     pub consumed : Consumes before after bytes
@@ -57,7 +58,8 @@ module _ {P S : Type 0} (g : Ghosts P) (h : Ghosts S) where
     pub goes : 0 < n → Passes g h (λ (rest : List ℕ). members_left fed (take room bytes ++ rest)) (λ rest. members_left left rest) old new
     pub ends : n ≡ 0 → IsAtEnd after × Passes g h (λ (_ : Unit {0}). members_left fed []) (λ _. []) old new
 
-  -- Bytes were read, and the run is cut short: in the part of them that there is room for, or at the end of the input.
+  -- Bytes were read, and the run is cut short: in the part of them that there is room for, or at
+  -- the end of the input.
   pub record Interrupted (fault : RunFault) (room : ℕ) (before after : Option (List ℕ)) (fed : Fed) (old new : Moment P S) : Type 0 where
     pub bytes : List ℕ
     pub consumed : Consumes before after bytes

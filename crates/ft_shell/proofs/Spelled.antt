@@ -1,5 +1,5 @@
--- What is so of the calls that a member's turn makes of the full-text tables: the command that a full-text statement spells, or the one
--- Insert of an import.
+-- What is so of the calls that a member's turn makes of the full-text tables: the command that a
+-- full-text statement spells, or the one Insert of an import.
 use Rattle.std.specs.Prelude.{ℕ, ◌≡◌, ◌⊎◌, Bool, false, MatchBool, List, [], ◌∷◌, map, Option, Some, None, Result}
 use Rattle.csv.specs.Reading.{AreRecords, strip_bom}
 use Rattle.csv.specs.declared.parser.State.TheVariants as csv
@@ -44,20 +44,23 @@ pub record HasRecords (settings : Settings) (holds : Files) (what : Import) (fou
   pub are : AreRecords (csv_reader delimiter) csv.StartRecord (strip_bom bytes) found
 
 module _ (settings : Settings) (line : ℕ) (told : Told) (calls : List Call) where
-  -- the command is executed once, and this is told of its answer; or nothing is called, and a fault line says why
+  -- the command is executed once, and this is told of its answer; or nothing is called, and a fault
+  -- line says why
   abbrev pub OneCommand : Command → (Result Reply Cause → Told) → Type 0
   OneCommand command due = (answer : Result Reply Cause) × (calls ≡ Executed command answer ∷ []) × Tells settings line (due answer) told
 
   abbrev pub NoCall : Type 0
   NoCall = (calls ≡ []) × (why : List ℕ) × (told ≡ blames settings line why)
 
-  -- a full-text statement's command is executed, and the name of the table that a plain one makes is noted
+  -- a full-text statement's command is executed, and the name of the table that a plain one makes
+  -- is noted
   abbrev pub CallsOfClass : Option (List ℕ) → Option Class → Type 0
   CallsOfClass made None = calls ≡ []
   CallsOfClass made (Some Plain) = MayNote made calls
   CallsOfClass made (Some (FullText command)) = OneCommand command (reply_told settings line) ⊎ NoCall
 
-  -- the records go into a full-text table by one Insert; a plain table that is made for them is noted
+  -- the records go into a full-text table by one Insert; a plain table that is made for them is
+  -- noted
   abbrev pub CallsOfImport : Files → Import → Option ℕ → Type 0
   CallsOfImport holds what None = MayNote (Some what.table) calls
   CallsOfImport holds what (Some n) =

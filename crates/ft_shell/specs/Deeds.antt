@@ -1,4 +1,5 @@
--- Meaning. What turns of a session tell, and which calls they make of the full-text tables (own choice).
+-- Meaning. What turns of a session tell, and which calls they make of the full-text tables (own
+-- choice).
 use Rattle.std.specs.Prelude.{ℕ, Bool, false, List, [], ◌++◌, ◌+◌}
 use Rattle.ft_index.specs.Called.{Call}
 use Rattle.plain_shell.specs.Told.{Told}
@@ -22,4 +23,10 @@ deeds_of told calls = record { out = told.out; err = told.err; faults = told.fau
 
 -- what turns do, and then what the turns after them do
 abbrev pub and_then : Deeds → Deeds → Deeds
-and_then first rest = record { out = first.out ++ rest.out; err = first.err ++ rest.err; faults = first.faults + rest.faults; ends = rest.ends; calls = first.calls ++ rest.calls }
+and_then first rest = record {
+  out = first.out ++ rest.out;
+  err = first.err ++ rest.err;
+  faults = first.faults + rest.faults;
+  ends = rest.ends;
+  calls = first.calls ++ rest.calls;
+}

@@ -16,7 +16,8 @@ abbrev pub reply_told : Settings → ℕ → Result Reply Fault → Told
 reply_told settings line (Ok reply) = says (reply_text settings reply)
 reply_told settings line (Err fault) = blames settings line (fault_text fault)
 
--- The command is executed once, and its answer is told; where memory refuses the print, it was executed all the same.
+-- The command is executed once, and its answer is told; where memory refuses the print, it was
+-- executed all the same.
 pub record FullTextTurn {S : Type 0} (h : Ghosts S) (settings : Settings) (line : ℕ) (command : Command) (old new : FullText S) (told : Told) : Type 0 where
   pub answer : Result Reply Fault
   pub does : DoesCall h old (Executed command answer) new

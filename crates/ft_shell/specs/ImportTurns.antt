@@ -1,5 +1,6 @@
--- Meaning. What `.import` does in a session ("Importing files as CSV or other formats" of "Command Line Shell For SQLite"; that an import is one
--- command, whole or not at all, and each refusal, are own choices).
+-- Meaning. What `.import` does in a session ("Importing files as CSV or other formats" of "Command
+-- Line Shell For SQLite"; that an import is one command, whole or not at all, and each refusal, are
+-- own choices).
 use Rattle.std.specs.Prelude.{ℕ, ◌≡◌, ◌⊎◌, ◌<◌, ◌≤◌, List, [], ◌∷◌, length, map, true, false, codes, Option, Some, None, option_map, Result, Ok, Err}
 use Rattle.csv.specs.Reading.{AreRecords, strip_bom}
 use Rattle.csv.specs.declared.parser.State.TheVariants as csv
@@ -37,14 +38,18 @@ insert_told settings line lines (Ok reply) = warned lines
 insert_told settings line lines (Err fault) = blames settings line (fault_text fault)
 
 -- The one command is executed, and its answer is told.
-pub record InsertTurn {S : Type 0} (h : Ghosts S) (settings : Settings) (line : ℕ) (command : Command) (lines : List ℕ) (before after : FullText S) (told : Told) : Type 0 where
+pub record InsertTurn {S : Type 0} (h : Ghosts S) (settings : Settings) (line : ℕ) (command : Command) (lines : List ℕ) (before after : FullText S)
+    (told : Told) : Type 0 where
   pub answer : Result Reply Fault
   pub does : DoesCall h before (Executed command answer) after
   pub tells : Tells settings line (insert_told settings line lines answer) told
 
--- All records go in by one Insert, or none does. Where memory is wanting before it, nothing is done.
-pub data TextImport {S : Type 0} (h : Ghosts S) (settings : Settings) (line : ℕ) (what : Import) (n : ℕ) (rows : List (ℕ × List (List ℕ))) (before after : FullText S) (told : Told) : Type 0 where
-  executed : InsertTurn h settings line (Insert what.table None (map (row_cells n) (records_in rows))) (warnings what.file n rows) before after told → TextImport h settings line what n rows before after told
+-- All records go in by one Insert, or none does. Where memory is wanting before it, nothing is
+-- done.
+pub data TextImport {S : Type 0} (h : Ghosts S) (settings : Settings) (line : ℕ) (what : Import) (n : ℕ) (rows : List (ℕ × List (List ℕ)))
+    (before after : FullText S) (told : Told) : Type 0 where
+  executed : InsertTurn h settings line (Insert what.table None (map (row_cells n) (records_in rows))) (warnings what.file n rows) before after told
+      → TextImport h settings line what n rows before after told
   no_memory : after ≡ before → told ≡ lacks_memory settings line → TextImport h settings line what n rows before after told
 
 -- ---- into a plain table
@@ -54,7 +59,8 @@ abbrev pub NotesAfter : {S : Type 0} → Ghosts S → Settings → ℕ → List 
 NotesAfter h settings line name lines before after told = (end : Told) × NoteTurn h settings line name before after end × (told ≡ followed (warned lines) end)
 
 module _ {P : Type 0} (g : Ghosts P) (settings : Settings) (line : ℕ) (what : Import) (rows : List (ℕ × List (List ℕ))) where
-  -- Into a table that the first record left names the columns of: it is made in the same transaction, and noted after the warnings.
+  -- Into a table that the first record left names the columns of: it is made in the same
+  -- transaction, and noted after the warnings.
   module _ {S : Type 0} (h : Ghosts S) where
     pub data IntoNew (old new : Held P) (before after : FullText S) (told : Told) : Type 0 where
       no_header : rows ≡ [] → new ≡ old → after ≡ before → told ≡ blames settings line (codes "no header record") → IntoNew old new before after told
@@ -70,13 +76,15 @@ module _ {P : Type 0} (g : Ghosts P) (settings : Settings) (line : ℕ) (what : 
 
     -- the table is there where `sqlite` answers a reading of it
     pub data PlainImport (old new : Held P) (before after : FullText S) (told : Told) : Type 0 where
-      there : (found : Held P) → Tries g what.table (Some true) old found → after ≡ before → IntoTable g settings line what rows found new told → PlainImport old new before after told
+      there : (found : Held P) → Tries g what.table (Some true) old found → after ≡ before → IntoTable g settings line what rows found new told
+          → PlainImport old new before after told
       new_table : (found : Held P) → Tries g what.table (Some false) old found → IntoNew found new before after told → PlainImport old new before after told
       untried : Tries g what.table None old new → after ≡ before → told ≡ lacks_memory settings line → PlainImport old new before after told
 
 -- ---- the file
 
-module _ {P S : Type 0} (g : Ghosts P) (h : Ghosts S) (settings : Settings) (line : ℕ) (what : Import) (old new : Held P) (before after : FullText S) (told : Told) where
+module _ {P S : Type 0} (g : Ghosts P) (h : Ghosts S) (settings : Settings) (line : ℕ) (what : Import) (old new : Held P) (before after : FullText S)
+    (told : Told) where
   -- nothing is done, and this is the fault line
   abbrev pub Declined : List ℕ → Type 0
   Declined why = (new ≡ old) × (after ≡ before) × (told ≡ blames settings line why)
@@ -92,11 +100,13 @@ module _ {P S : Type 0} (g : Ghosts P) (h : Ghosts S) (settings : Settings) (lin
 
   -- the file's bytes are read as records of CSV, if they are a text
   pub data BytesTurn (delimiter : ℕ) (bytes : List ℕ) : Type 0 where
-    read : (found : List (List (List ℕ))) → AreRecords (csv_reader delimiter) csv.StartRecord (strip_bom bytes) found → RecordsTurn found → BytesTurn delimiter bytes
+    read : (found : List (List (List ℕ))) → AreRecords (csv_reader delimiter) csv.StartRecord (strip_bom bytes) found → RecordsTurn found
+        → BytesTurn delimiter bytes
     no_text : IsNoText (csv_reader delimiter) bytes → Declined (codes "file is not UTF-8") → BytesTurn delimiter bytes
     no_memory : Declined (codes "out of memory") → BytesTurn delimiter bytes
 
-  -- the file's bytes are those that its name holds, if they are there, or a fault of their fetch is told
+  -- the file's bytes are those that its name holds, if they are there, or a fault of their fetch is
+  -- told
   pub data FileTurn (holds : Files) (delimiter : ℕ) : Type 0 where
     fetched : (bytes : List ℕ) → Gives holds what.file bytes → BytesTurn delimiter bytes → FileTurn holds delimiter
     unfetched : (fault : SourceFault) → Refuses holds what.file fault → Declined (fetch_words fault) → FileTurn holds delimiter

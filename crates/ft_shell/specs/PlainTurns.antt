@@ -1,5 +1,5 @@
--- Meaning. What a statement of plain SQL does in a session ("Command Line Shell For SQLite"; that the name of a table that is made is noted is an
--- own choice).
+-- Meaning. What a statement of plain SQL does in a session ("Command Line Shell For SQLite"; that
+-- the name of a table that is made is noted is an own choice).
 use Rattle.std.specs.Prelude.{ℕ, ◌≡◌, ◌⊎◌, List, [], Option, Ok, Err, MatchBool}
 use Rattle.sqlite.specs.Store.{Ghosts}
 use Rattle.sqlite.specs.Held.{Held, state}
@@ -15,9 +15,12 @@ use Rattle.ft_shell.specs.FullTextTurns.{MaybeNotes}
 
 module _ {P S : Type 0} (g : Ghosts P) (h : Ghosts S) where
   -- CREATE, INSERT and whatever is no query; the name of a table that is made is noted
-  pub data CommandTurn (settings : Settings) (line : ℕ) (text : List ℕ) (made : Option (List ℕ)) (old new : Held P) (before after : FullText S) (told : Told) : Type 0 where
-    done : (count : ℕ) → IfClean g old new (Executes text [] (state g old) (state g new) (Ok count)) → MaybeNotes h settings line made before after told → CommandTurn settings line text made old new before after told
-    refused : (e : Error) → IfClean g old new (Executes text [] (state g old) (state g new) (Err e)) → after ≡ before → TellsRefusal settings line e told → CommandTurn settings line text made old new before after told
+  pub data CommandTurn (settings : Settings) (line : ℕ) (text : List ℕ) (made : Option (List ℕ)) (old new : Held P) (before after : FullText S)
+      (told : Told) : Type 0 where
+    done : (count : ℕ) → IfClean g old new (Executes text [] (state g old) (state g new) (Ok count)) → MaybeNotes h settings line made before after told
+        → CommandTurn settings line text made old new before after told
+    refused : (e : Error) → IfClean g old new (Executes text [] (state g old) (state g new) (Err e)) → after ≡ before → TellsRefusal settings line e told
+        → CommandTurn settings line text made old new before after told
 
   -- a plain statement: a query, or a command
   abbrev pub PlainTurn : Settings → ℕ → List ℕ → Held P → Held P → FullText S → FullText S → Told → Type 0

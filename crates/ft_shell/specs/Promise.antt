@@ -26,19 +26,23 @@ abbrev pub parts_of : {P S : Type 0} → Shell P S → Parts P S
 parts_of shell = record { settings = shell.settings; plain = shell.plain; full_text = shell.full_text }
 
 module _ {P S : Type 0} (g : Ghosts P) (h : Ghosts S) where
-  -- A run, however it ended, with what its turns told and the calls that they made of the full-text tables.
+  -- A run, however it ended, with what its turns told and the calls that they made of the full-text
+  -- tables.
   abbrev pub Ran : Result Status RunFault → Console P S → Console P S → Deeds → Type 0
   Ran (Ok status) old new all = (it : Completes g h status old new) × (all ≡ it.deeds)
   Ran (Err fault) old new all = (it : Stops g h fault old new) × (all ≡ it.deeds)
 
-  -- Any runs one after another, or none, with what all their turns told and called. Each has an input, writers and files of its own, and
-  -- begins with what the one before it left.
+  -- Any runs one after another, or none, with what all their turns told and called. Each has an
+  -- input, writers and files of its own, and begins with what the one before it left.
   pub data AllRan : Parts P S → Deeds → Parts P S → Type 0 where
     none_ran : (parts : Parts P S) → AllRan parts idle parts
-    last_ran : (ended : Result Status RunFault) (old new : Console P S) (all : Deeds) → Ran ended old new all → AllRan (parts_of old.shell) all (parts_of new.shell)
-    first_ran : (ended : Result Status RunFault) (old new : Console P S) (all rest : Deeds) (last : Parts P S) → Ran ended old new all → AllRan (parts_of new.shell) rest last → AllRan (parts_of old.shell) (and_then all rest) last
+    last_ran : (ended : Result Status RunFault) (old new : Console P S) (all : Deeds) → Ran ended old new all
+        → AllRan (parts_of old.shell) all (parts_of new.shell)
+    first_ran : (ended : Result Status RunFault) (old new : Console P S) (all rest : Deeds) (last : Parts P S) → Ran ended old new all
+        → AllRan (parts_of new.shell) rest last → AllRan (parts_of old.shell) (and_then all rest) last
 
-  -- Turns from the first of runs up to one of their shells: all those of some runs, and then a front of the turns of one more.
+  -- Turns from the first of runs up to one of their shells: all those of some runs, and then a
+  -- front of the turns of one more.
   pub record Reached (old : Parts P S) (earlier : Deeds) (was : Shell P S) : Type 0 where
     pub whole : Deeds
     pub start : Shell P S
@@ -59,8 +63,9 @@ IsAny known = Unit {0}
 -- ---- the promise
 
 module _ {P S : Type 0} (g : Ghosts P) (h : Ghosts S) where
-  -- The turn of a Select among all calls, of which it is the one of its turn. What it tells is the reply by the settings that are in force
-  -- there, or that it lacks memory for it, and stands on both outputs between what the turns before it and those after it tell.
+  -- The turn of a Select among all calls, of which it is the one of its turn. What it tells is the
+  -- reply by the settings that are in force there, or that it lacks memory for it, and stands on
+  -- both outputs between what the turns before it and those after it tell.
   pub record Lists (old : Parts P S) (all : Deeds) (before : List Call) (select : Command) (reply : Reply) (more : List Call) (new : Parts P S) : Type 0 where
     pub line : ℕ
     pub text : List ℕ
@@ -75,26 +80,34 @@ module _ {P S : Type 0} (g : Ghosts P) (h : Ghosts S) where
     pub one_call : own.calls ≡ Executed select (Ok reply) ∷ []
     pub calls_behind : later.calls ≡ more
     pub goes_on : Runs h now.full_text more new.full_text
-    pub prints : (told_by own ≡ echoed was.settings text (says (reply_text was.settings reply))) ⊎ (told_by own ≡ echoed was.settings text (lacks_memory was.settings line))
+    pub prints : (told_by own ≡ echoed was.settings text (says (reply_text was.settings reply)))
+        ⊎ (told_by own ≡ echoed was.settings text (lacks_memory was.settings line))
     pub out : all.out ≡ earlier.out ++ (own.out ++ later.out)
     pub err : all.err ≡ earlier.err ++ (own.err ++ later.err)
 
   -- What runs leave of full-text tables that held these contents before them.
   pub record PromiseKept (first : Contents) (old : Parts P S) (all : Deeds) (new : Parts P S) : Type 0 where
-    -- Behind each call that is answered each table's content is that of the accepted commands, and the index rows of each sound table are
-    -- exactly those made from scratch. A refused command changes nothing, and so does a crash but for the command that was running.
+    -- Behind each call that is answered each table's content is that of the accepted commands, and
+    -- the index rows of each sound table are exactly those made from scratch. A refused command
+    -- changes nothing, and so does a crash but for the command that was running.
     pub calls : CallsKept h first old.full_text all.calls new.full_text
     -- no table gets unsound
     pub sound : (id : ℤ) → IsTrue (list_any (is_unsound id) (left_by first (accepted all.calls))) → IsTrue (list_any (is_unsound id) first)
-    -- each Select that is accepted, with MATCH too, lists the reply that is defined over what the accepted commands before it left
-    pub lists : (before more : List Call) (table : List ℕ) (items : Items) (filter : Filter) (limit : Option ℕ) (offset : ℕ) (reply : Reply) → all.calls ≡ before ++ Executed (Select table items filter limit offset) (Ok reply) ∷ more →
-        (reply ≡ reply_to (left_by first (accepted before)) (Select table items filter limit offset)) × Lists old all before (Select table items filter limit offset) reply more new
+    -- each Select that is accepted, with MATCH too, lists the reply that is defined over what the
+    -- accepted commands before it left
+    pub lists : (before more : List Call) (table : List ℕ) (items : Items) (filter : Filter) (limit : Option ℕ) (offset : ℕ) (reply : Reply)
+        → all.calls ≡ before ++ Executed (Select table items filter limit offset) (Ok reply) ∷ more →
+        (reply ≡ reply_to (left_by first (accepted before)) (Select table items filter limit offset))
+        × Lists old all before (Select table items filter limit offset) reply more new
 
-  -- After any runs the full-text tables are what the accepted commands make of them, where the disk returned what was written.
+  -- After any runs the full-text tables are what the accepted commands make of them, where the disk
+  -- returned what was written.
   abbrev pub KeptByRuns : (FullText S → Type 0) → Type 0
-  KeptByRuns IsClean = (first : Contents) (old new : Parts P S) (all : Deeds) → Holds h old.full_text first → IsSettled h old.full_text → AllRan g h old all new → IsClean new.full_text → PromiseKept first old all new
+  KeptByRuns IsClean = (first : Contents) (old new : Parts P S) (all : Deeds) → Holds h old.full_text first → IsSettled h old.full_text
+      → AllRan g h old all new → IsClean new.full_text → PromiseKept first old all new
 
   -- So it is after one run.
   abbrev pub RanAndKept : Result Status RunFault → Console P S → Console P S → Type 0
   RanAndKept ended old new = (all : Deeds) × Ran g h ended old new all
-      × ((first : Contents) → Holds h old.shell.full_text first → IsClean h new.shell.full_text → PromiseKept first (parts_of old.shell) all (parts_of new.shell))
+      × ((first : Contents) → Holds h old.shell.full_text first → IsClean h new.shell.full_text
+      → PromiseKept first (parts_of old.shell) all (parts_of new.shell))

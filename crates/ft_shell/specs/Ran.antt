@@ -21,7 +21,8 @@ pub record Moment (P S : Type 0) : Type 0 where
   pub out : Option (List ℕ)
   pub err : Option (List ℕ)
 
--- such a moment, of a shell and the outputs of its run, whose writers hold what these functions read
+-- such a moment, of a shell and the outputs of its run, whose writers hold what these functions
+-- read
 abbrev pub moment : {P S O E : Type 0} → (O → Option (List ℕ)) → (E → Option (List ℕ)) → Shell P S → Outputs O E → Moment P S
 moment out_of err_of shell outputs = record { shell = shell; status = outputs.status; out = out_of outputs.out.now; err = err_of outputs.err.now }
 
@@ -34,8 +35,8 @@ abbrev pub GoesOn : Status → Fed → Type 0
 GoesOn status fed = (status.quit ≡ false) × (fed.splitting.waiting ≡ [])
 
 module _ {P S : Type 0} (g : Ghosts P) (h : Ghosts S) where
-  -- The members' turns were done one after the other, and what they tell was written and counted. The count of fault lines stays at
-  -- 2 ^ 64 - 1 once there.
+  -- The members' turns were done one after the other, and what they tell was written and counted.
+  -- The count of fault lines stays at 2 ^ 64 - 1 once there.
   pub record Did (members : List Member) (old new : Moment P S) : Type 0 where
     pub deeds : Deeds
     pub turns : Turns g h members old.shell new.shell deeds
@@ -44,14 +45,16 @@ module _ {P S : Type 0} (g : Ghosts P) (h : Ghosts S) where
     pub faults : min new.status.faults (2 ^ 64 - 1) ≡ min (old.status.faults + deeds.faults) (2 ^ 64 - 1)
     pub quit : new.status.quit ≡ (old.status.quit || deeds.ends)
 
-  -- The members' turns were done and told whole, and then what they are part of was cut short, before these.
+  -- The members' turns were done and told whole, and then what they are part of was cut short,
+  -- before these.
   pub record Cut (fault : RunFault) (members next : List Member) (old new : Moment P S) : Type 0 where
     pub mid : Moment P S
     pub did : Did members old mid
     pub deeds : Deeds
     pub broken : Broken g h fault did.deeds mid.shell new.shell mid.out new.out mid.err new.err next deeds
 
-  -- Of the members that are due, however the input goes on, a front was done. Where the session goes on, the others are left.
+  -- Of the members that are due, however the input goes on, a front was done. Where the session
+  -- goes on, the others are left.
   pub record Passes {W : Type 0} (due left : W → List Member) (old new : Moment P S) : Type 0 where
     pub done : List Member
     pub front : (way : W) → (more : List Member) × (due way ≡ done ++ more) × (new.status.quit ≡ false → more ≡ left way)
@@ -73,7 +76,8 @@ module _ {P S : Type 0} (g : Ghosts P) (h : Ghosts S) where
   Runs (Ok _) due left old new = Passes due left old new
   Runs (Err fault) due left old new = Breaks fault due old new × IsInside fault
 
-  -- The bytes that were read are taken, as far as there is room. Without any the input is at its end, and what is left of it is done.
+  -- The bytes that were read are taken, as far as there is room. Without any the input is at its
+  -- end, and what is left of it is done.
   pub record TakesRead {T : Type 0} (result : Result T RunFault) (room : ℕ) (bytes : List ℕ) (fed left : Fed) (old new : Moment P S) : Type 0 where
     pub goes : 0 < length bytes → Runs result (λ (rest : List ℕ). members_left fed (take room bytes ++ rest)) (λ rest. members_left left rest) old new
     pub ends : length bytes ≡ 0 → Runs result (λ (_ : Unit {0}). members_left fed []) (λ _. []) old new

@@ -1,4 +1,5 @@
--- Meaning. What a run of a session does: the turns of its input one after the other, or of a front of it where the run is cut short (own choice).
+-- Meaning. What a run of a session does: the turns of its input one after the other, or of a front
+-- of it where the run is cut short (own choice).
 use Rattle.std.specs.Prelude.{ℕ, ◌≡◌, ◌⊎◌, ◌<◌, ◌≤◌, ◌-◌, ◌^◌, min, true, List, ◌++◌, length, take, Option}
 use Rattle.std.specs.Io.KnownBytes.{Appends, Consumes, IsAtEnd}
 use Rattle.sqlite.specs.Store.{Ghosts}
@@ -11,7 +12,8 @@ use Rattle.ft_shell.specs.Deeds.{Deeds}
 use Rattle.ft_shell.specs.Turns.{Session, Begins}
 use Rattle.ft_shell.specs.Broken.{Broken}
 
--- a shell with the bytes that its reader has left and those that its two writers hold, where they are known
+-- a shell with the bytes that its reader has left and those that its two writers hold, where they
+-- are known
 pub record Console (P S : Type 0) : Type 0 where
   pub shell : Shell P S
   pub input : Option (List ℕ)
@@ -23,17 +25,19 @@ abbrev pub console_of : {P S : Type 0} → Shell P S → Option (List ℕ) → O
 console_of shell input out err = record { shell = shell; input = input; out = out; err = err }
 
 module _ {P S : Type 0} (g : Ghosts P) (h : Ghosts S) where
-  -- The input of which these bytes were read was run whole: there is no more of it, and it isn't too much; or a turn ended the session that
-  -- isn't past 2 ^ 30 bytes, whatever more there is.
+  -- The input of which these bytes were read was run whole: there is no more of it, and it isn't
+  -- too much; or a turn ended the session that isn't past 2 ^ 30 bytes, whatever more there is.
   abbrev pub IsWhole : Option (List ℕ) → List ℕ → Shell P S → Shell P S → Deeds → Type 0
-  IsWhole left read old new all = (IsAtEnd left × (length read ≤ 2 ^ 30) × Session g h read old new all) ⊎ ((all.ends ≡ true) × ((rest : List ℕ) → Session g h (take (2 ^ 30) read ++ rest) old new all))
+  IsWhole left read old new all = (IsAtEnd left × (length read ≤ 2 ^ 30) × Session g h read old new all)
+      ⊎ ((all.ends ≡ true) × ((rest : List ℕ) → Session g h (take (2 ^ 30) read ++ rest) old new all))
 
-  -- A front of the turns of the input of which these bytes were read was done, before these members: there is no more of it, or whatever
-  -- more there is.
+  -- A front of the turns of the input of which these bytes were read was done, before these
+  -- members: there is no more of it, or whatever more there is.
   abbrev pub IsFront : Option (List ℕ) → List ℕ → Shell P S → Shell P S → Deeds → List Member → Type 0
   IsFront left read old new all next = (IsAtEnd left × Begins g h read old new all next) ⊎ ((rest : List ℕ) → Begins g h (read ++ rest) old new all next)
 
-  -- The input was run whole, and all that its turns tell was written. The count of fault lines stays at 2 ^ 64 - 1 once there.
+  -- The input was run whole, and all that its turns tell was written. The count of fault lines
+  -- stays at 2 ^ 64 - 1 once there.
   pub record Completes (status : Status) (old new : Console P S) : Type 0 where
     pub read : List ℕ
     pub consumed : Consumes old.input new.input read
@@ -44,8 +48,9 @@ module _ {P S : Type 0} (g : Ghosts P) (h : Ghosts S) where
     pub faults : status.faults ≡ min deeds.faults (2 ^ 64 - 1)
     pub quit : status.quit ≡ deeds.ends
 
-  -- A front of the input's turns was done and told whole, and then the run was cut short. An input is too much only past 2 ^ 30 bytes, and
-  -- what is done then doesn't hang on what is past them; past them no more is read.
+  -- A front of the input's turns was done and told whole, and then the run was cut short. An input
+  -- is too much only past 2 ^ 30 bytes, and what is done then doesn't hang on what is past them;
+  -- past them no more is read.
   pub record Stops (fault : RunFault) (old new : Console P S) : Type 0 where
     pub read : List ℕ
     pub consumed : Consumes old.input new.input read

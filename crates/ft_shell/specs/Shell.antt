@@ -7,8 +7,8 @@ use Rattle.shell_text.specs.contracts.settings.Settings as settings
 use Rattle.ft_index.specs.Kept.{FullText, full_text_code}
 use Rattle.plain_shell.specs.Sources.{Files}
 
--- The settings, the connection to the plain database over a store P, the full-text tables over a store S, and what is known of the files
--- that can be imported.
+-- The settings, the connection to the plain database over a store P, the full-text tables over a
+-- store S, and what is known of the files that can be imported.
 pub record Shell (P S : Type 0) : Type 0 where
   pub settings : Settings
   pub plain : Held P
@@ -26,7 +26,8 @@ pub record Parts (P S : Type 0) : Type 0 where
   pub full_text : FullText S
 
 abbrev pub parts_code : {P S : Type 0} → Coded P → Coded S → Coded (Parts P S)
-parts_code {P} {S} p s = code_by (Settings × (Held P × FullText S)) (coded× settings.the_row.coded (coded× (held_code p) (full_text_code s))) (λ a. (a.settings, (a.plain, a.full_text))) (λ t. record { settings = t.0; plain = t.1.0; full_text = t.1.1 }) (λ _. refl)
+parts_code {P} {S} p s = code_by (Settings × (Held P × FullText S)) (coded× settings.the_row.coded (coded× (held_code p) (full_text_code s)))
+    (λ a. (a.settings, (a.plain, a.full_text))) (λ t. record { settings = t.0; plain = t.1.0; full_text = t.1.1 }) (λ _. refl)
 
 -- a session with the files that it is lent
 abbrev pub lent : {P S : Type 0} → Parts P S → Files → Shell P S

@@ -1,5 +1,6 @@
--- Meaning. What a statement does in a session: plain SQL or full-text, by its class. That a full-text statement that spells no command, or a
--- text in which something is open, is refused is an own choice.
+-- Meaning. What a statement does in a session: plain SQL or full-text, by its class. That a
+-- full-text statement that spells no command, or a text in which something is open, is refused is
+-- an own choice.
 use Rattle.std.specs.Prelude.{ℕ, ◌≡◌, List, map, codes, Option, Some, None, MatchBool}
 use Rattle.sqlite.specs.Store.{Ghosts}
 use Rattle.sqlite.specs.Held.{Held}
@@ -17,7 +18,8 @@ use Rattle.plain_shell.specs.Told.{Told, blames}
 abbrev pub table_names : {S : Type 0} → FullText S → List (List ℕ)
 table_names known = map (λ (t : TableInfo). t.name) known.tables
 
-module _ {P S : Type 0} (g : Ghosts P) (h : Ghosts S) (settings : Settings) (line : ℕ) (text : List ℕ) (old new : Held P) (before after : FullText S) (told : Told) where
+module _ {P S : Type 0} (g : Ghosts P) (h : Ghosts S) (settings : Settings) (line : ℕ) (text : List ℕ) (old new : Held P) (before after : FullText S)
+    (told : Told) where
   -- nothing is done, and this is the fault line
   abbrev pub Declines : List ℕ → Type 0
   Declines why = (new ≡ old) × (after ≡ before) × (told ≡ blames settings line why)
@@ -29,4 +31,5 @@ module _ {P S : Type 0} (g : Ghosts P) (h : Ghosts S) (settings : Settings) (lin
 
   -- the turn of a statement's class; or, for want of memory, nothing
   abbrev pub StatementTurn : Type 0
-  StatementTurn = OrNothing (MatchBool (is_unclosed text) (Declines (codes "incomplete input")) (ClassTurn (class_of (table_names before) (tokens_of text)))) settings line old new before after told
+  StatementTurn = OrNothing (MatchBool (is_unclosed text) (Declines (codes "incomplete input"))
+      (ClassTurn (class_of (table_names before) (tokens_of text)))) settings line old new before after told

@@ -1,5 +1,5 @@
--- Meaning. The calls that a turn makes of the full-text tables, read off the turn: each command that it executes, with the answer that it has, and
--- each note. All of it is our own choice.
+-- Meaning. The calls that a turn makes of the full-text tables, read off the turn: each command
+-- that it executes, with the answer that it has, and each note. All of it is our own choice.
 use Rattle.std.proofs.Common.{inl, inr}
 use Rattle.std.specs.Prelude.{ℕ, ◌≡◌, Bool, true, false, MatchBool, List, [], ◌∷◌, map, codes, Option, Some, None, is_ok}
 use Rattle.sqlite.specs.Store.{Ghosts}
@@ -33,7 +33,8 @@ module _ {S : Type 0} (h : Ghosts S) (settings : Settings) (line : ℕ) where
   note_in (Some name) before after told it = Noted name (is_ok it.answer) ∷ []
 
   -- all records go into a full-text table by one Insert
-  abbrev pub text_in : (what : Import) (n : ℕ) (rows : List (ℕ × List (List ℕ))) (before after : FullText S) (told : Told) → TextImport h settings line what n rows before after told → List Call
+  abbrev pub text_in : (what : Import) (n : ℕ) (rows : List (ℕ × List (List ℕ))) (before after : FullText S) (told : Told)
+      → TextImport h settings line what n rows before after told → List Call
   text_in what n rows before after told (imports.executed it) = Executed (Insert what.table None (map (row_cells n) (records_in rows))) it.answer ∷ []
   text_in what n rows before after told (imports.no_memory same is) = []
 
@@ -45,7 +46,8 @@ module _ {P S : Type 0} (g : Ghosts P) (h : Ghosts S) (settings : Settings) (lin
     command_in name (done count is notes) = note_in h settings line name before after told notes
     command_in name (refused e is same tells) = []
 
-    abbrev pub plain_in : (is_query : Bool) → MatchBool is_query (QueryTurn g settings line text old new told × (after ≡ before)) (CommandTurn g h settings line text (made_name (tokens_of text)) old new before after told) → List Call
+    abbrev pub plain_in : (is_query : Bool) → MatchBool is_query (QueryTurn g settings line text old new told × (after ≡ before))
+        (CommandTurn g h settings line text (made_name (tokens_of text)) old new before after told) → List Call
     plain_in true it = []
     plain_in false it = command_in (made_name (tokens_of text)) it
 
@@ -55,7 +57,8 @@ module _ {P S : Type 0} (g : Ghosts P) (h : Ghosts S) (settings : Settings) (lin
     class_in (Some Plain) it = plain_in (asks (tokens_of text)) it
     class_in (Some (FullTextClass command)) it = Executed command it.1.answer ∷ []
 
-    abbrev pub closed_in : (is_open : Bool) → MatchBool is_open (Declines g h settings line text old new before after told (codes "incomplete input")) (ClassTurn g h settings line text old new before after told (class_of (table_names before) (tokens_of text))) → List Call
+    abbrev pub closed_in : (is_open : Bool) → MatchBool is_open (Declines g h settings line text old new before after told (codes "incomplete input"))
+        (ClassTurn g h settings line text old new before after told (class_of (table_names before) (tokens_of text))) → List Call
     closed_in true it = []
     closed_in false it = class_in (class_of (table_names before) (tokens_of text)) it
 
@@ -95,7 +98,8 @@ module _ {P S : Type 0} (g : Ghosts P) (h : Ghosts S) (settings : Settings) (lin
     file_in holds delimiter (imports.fetched bytes gives it) = bytes_in delimiter bytes it
     file_in holds delimiter (imports.unfetched fault allowed nothing) = []
 
-    abbrev pub delimited_in : (holds : Files) (delimiter : Option ℕ) → DelimitedTurn g h settings line what old new before after told holds delimiter → List Call
+    abbrev pub delimited_in : (holds : Files) (delimiter : Option ℕ) → DelimitedTurn g h settings line what old new before after told holds delimiter
+        → List Call
     delimited_in holds None nothing = []
     delimited_in holds (Some delimiter) it = file_in holds delimiter it
 
@@ -104,7 +108,8 @@ module _ {P S : Type 0} (g : Ghosts P) (h : Ghosts S) (settings : Settings) (lin
 module _ {P S : Type 0} (g : Ghosts P) (h : Ghosts S) (line : ℕ) (old new : Shell P S) (told : Told) where
   -- `.tables` reads the noted names, which leaves what a note leaves that is refused
   abbrev pub dot_in : (command : DotCommand) → DotTurn g h line old new told command → List Call
-  dot_in (Importing what) it = delimited_in g h old.settings line what old.plain new.plain old.full_text new.full_text told old.holds (delimiter_of what.csv old.settings) it.1
+  dot_in (Importing what) it = delimited_in g h old.settings line what old.plain new.plain old.full_text new.full_text told old.holds
+      (delimiter_of what.csv old.settings) it.1
   dot_in Tables it = Noted [] false ∷ []
   dot_in Nothing it = []
   dot_in (SetMode mode) it = []

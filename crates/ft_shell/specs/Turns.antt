@@ -1,5 +1,6 @@
--- Meaning. A session: the turns of an input's members, one after the other, each from what the turn before it left. What a unit is told as is
--- that of its kind; echo and bail are of the section "Special commands to sqlite3 (dot-commands)" of "Command Line Shell For SQLite".
+-- Meaning. A session: the turns of an input's members, one after the other, each from what the turn
+-- before it left. What a unit is told as is that of its kind; echo and bail are of the section
+-- "Special commands to sqlite3 (dot-commands)" of "Command Line Shell For SQLite".
 use Rattle.std.proofs.Common.{inl, inr}
 use Rattle.std.specs.Prelude.{ℕ, ◌≡◌, ◌⊎◌, MatchBool, List, [], ◌∷◌, ◌++◌, take, drop}
 use Rattle.sqlite.specs.Store.{Ghosts}
@@ -31,7 +32,8 @@ module _ {P S : Type 0} (g : Ghosts P) (h : Ghosts S) where
   -- what is done with a unit or a fault of the input
   abbrev pub Body : Member → Shell P S → Shell P S → Told → Type 0
   Body (Fault line fault) old new told = (new ≡ old) × (told ≡ blames old.settings line (split_text fault))
-  Body (Sql line text) old new told = (new.settings ≡ old.settings) × (new.holds ≡ old.holds) × StatementTurn g h old.settings line text old.plain new.plain old.full_text new.full_text told
+  Body (Sql line text) old new told = (new.settings ≡ old.settings) × (new.holds ≡ old.holds)
+      × StatementTurn g h old.settings line text old.plain new.plain old.full_text new.full_text told
   Body (Dot line text) old new told = DotOrLacks line old new told (dot_command_of (dot_words_of (behind_stop text)))
 
   -- the calls that this makes of the full-text tables
@@ -66,4 +68,5 @@ module _ {P S : Type 0} (g : Ghosts P) (h : Ghosts S) where
 
   -- a front of an input's turns, before these members
   abbrev pub Begins : List ℕ → Shell P S → Shell P S → Deeds → List Member → Type 0
-  Begins input old new all next = (count : ℕ) × Turns (take count (members_of input)) old new all × (more : List Member) × (drop count (members_of input) ≡ next ++ more)
+  Begins input old new all next = (count : ℕ) × Turns (take count (members_of input)) old new all × (more : List Member)
+      × (drop count (members_of input) ≡ next ++ more)

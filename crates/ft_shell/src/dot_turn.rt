@@ -1,4 +1,4 @@
-// What a dot-command does in a session.
+//! What a dot-command does in a session.
 ghost use Rattle.shell_text.specs.Dot.{dot_words_of};
 ghost use Rattle.plain_shell.specs.ToldViews.{told_as};
 ghost use Rattle.ft_statements.specs.DotViews.{command_as};

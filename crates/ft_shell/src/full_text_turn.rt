@@ -1,4 +1,4 @@
-// What a full-text statement does in a session.
+//! What a full-text statement does in a session.
 ghost use Rattle.std.specs.Prelude.{option_map};
 ghost use Rattle.ft_content.specs.Views as views;
 ghost use Rattle.plain_shell.specs.ToldViews.{told_as};

@@ -1,4 +1,4 @@
-// What `.import` does in a session.
+//! What `.import` does in a session.
 ghost use Rattle.std.specs.Prelude.{◌≡◌, ◌+◌, ◌^◌, ◌<◌, ◌∷◌, [], ℕ, List, true, length, map, string_bytes};
 ghost use Rattle.std.specs.List.{enumerate_from};
 ghost use Rattle.shell_text.specs.Print.{is_csv_separator};
@@ -257,7 +257,8 @@ fn into_new_table<P: Alter, S: Alter>(
     }
 }
 
-// Records into a plain table that is made, with columns of these names. The record of the names has this number.
+// Records into a plain table that is made, with columns of these names. The record of the names has
+// this number.
 fn into_made_table<P: Alter, S: Alter>(
     alloc: Global,
     settings: &Settings,
@@ -288,7 +289,8 @@ fn into_made_table<P: Alter, S: Alter>(
     }
 }
 
-// What is told of an import that made a table: its warnings, and then that its name is noted or isn't.
+// What is told of an import that made a table: its warnings, and then that its name is noted or
+// isn't.
 fn noted_told<S: Alter>(
     alloc: Global,
     settings: &Settings,

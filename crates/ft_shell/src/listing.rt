@@ -1,4 +1,4 @@
-// What `.tables` does in a session.
+//! What `.tables` does in a session.
 ghost use Rattle.ft_shell.specs.TablesTurns.{TablesTurn};
 ghost use Rattle.plain_shell.specs.ToldViews.{told_as};
 

@@ -1,4 +1,4 @@
-// What a statement of plain SQL does in a session.
+//! What a statement of plain SQL does in a session.
 ghost use Rattle.std.specs.Prelude.{◌≡◌, string_bytes, option_map};
 ghost use Rattle.plain_shell.specs.ToldViews.{told_as};
 ghost use Rattle.ft_shell.specs.PlainTurns.{CommandTurn, PlainTurn, OrNothing};

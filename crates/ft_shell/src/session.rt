@@ -1,4 +1,4 @@
-// A session: the units of an input in turn, and what is written for them.
+//! A session: the units of an input in turn, and what is written for them.
 ghost use Rattle.std.specs.Prelude.{◌≡◌, ◌<◌, ◌∷◌, ◌++◌, ℕ, List, [], ⊤, length, OnOk};
 ghost use Rattle.shell_text.specs.Units.{Fault, Member};
 ghost use Rattle.shell_text.specs.Splitting.{member_of_unit};
@@ -84,15 +84,17 @@ impl<P: Alter, S: Alter> Session<P, S> {
         (plain, full_text)
     }
 
-    /// Runs the units of an input in turn, up to one that ends the session. Whatever a unit is refused for, the run goes
-    /// on. However the run ends, the full-text tables are what the accepted commands make of them. The output is flushed
-    /// before each read of the input, so that whoever waits for an answer has it, before each fault line, and at the end.
-    /// The status of the outputs begins anew.
+    /// Runs the units of an input in turn, up to one that ends the session. Whatever a unit is
+    /// refused for, the run goes on. However the run ends, the full-text tables are what the
+    /// accepted commands make of them. The output is flushed before each read of the input, so that
+    /// whoever waits for an answer has it, before each fault line, and at the end. The status of
+    /// the outputs begins anew.
     ///
     /// # Errors
     ///
-    /// `Read` or `Write` where the reader or a writer fails, `TooMuch` past 2^30 bytes of input, and `Memory` where there is
-    /// none to read a line. What was done before stands. A unit whose echo is refused is not run.
+    /// `Read` or `Write` where the reader or a writer fails, `TooMuch` past 2^30 bytes of input,
+    /// and `Memory` where there is none to read a line. What was done before stands. A unit whose
+    /// echo is refused is not run.
     pub fn run<R: Read, O: Write, E: Write, F: Source>(
         &mut self,
         reader: &mut R,
@@ -112,9 +114,10 @@ impl<P: Alter, S: Alter> Session<P, S> {
         self.run_pieces(reader, source, &mut Outputs::new(out, err))
     }
 
-    /// After any runs, however each ended, each full-text table's content is that of the accepted commands, and the index
-    /// rows of each sound table are exactly those made from scratch. Each command, a Select with MATCH too, was answered by
-    /// the definitions, and a refused one changed neither content nor index.
+    /// After any runs, however each ended, each full-text table's content is that of the accepted
+    /// commands, and the index rows of each sound table are exactly those made from scratch. Each
+    /// command, a Select with MATCH too, was answered by the definitions, and a refused one changed
+    /// neither content nor index.
     pub fn kept_by_runs()
         ensures { KeptByRuns P.Store S.Store (IsClean S.Store) }
     {
@@ -163,8 +166,8 @@ impl<P: Alter, S: Alter> Session<P, S> {
         Err(RunFault::TooMuch)
     }
 
-    // Takes of the bytes that were read as many as there is room for. There are none only at the end of the input, and then
-    // what is left of it is run.
+    // Takes of the bytes that were read as many as there is room for. There are none only at the
+    // end of the input, and then what is left of it is run.
     fn take_read<O: Write, E: Write, F: Source>(
         &mut self,
         feed: &mut Feed,

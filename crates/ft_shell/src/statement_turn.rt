@@ -1,4 +1,4 @@
-// What a statement does in a session.
+//! What a statement does in a session.
 ghost use Rattle.std.specs.Prelude.{◌≡◌};
 ghost use Rattle.shell_text.specs.Words.{words_of};
 ghost use Rattle.plain_shell.specs.ToldViews.{told_as};

@@ -1,4 +1,4 @@
-// What a unit of the input does in a session.
+//! What a unit of the input does in a session.
 ghost use Rattle.shell_text.specs.Splitting.{member_of_unit};
 ghost use Rattle.plain_shell.specs.ToldViews.{told_as};
 ghost use Rattle.ft_shell.specs.Turns.{Body};

@@ -1,5 +1,6 @@
-//! Trials over empty databases and stores. What databases stand on is named here alone: of a call that names it the checker follows each
-//! way out into the parts of a disk. So a trial is generic in it, and what makes a database or a store promises nothing.
+//! Trials over empty databases and stores. What databases stand on is named here alone: of a call
+//! that names it the checker follows each way out into the parts of a disk. So a trial is generic
+//! in it, and what makes a database or a store promises nothing.
 
 use ft_store::Store;
 use ram_disk::{Honest, Ram, execute_in_ram, is_always_clean, open_ram_with, ram_options};

@@ -1,4 +1,5 @@
-//! The tests of the store and of the full-text tables, by the names that they offer: what no script can show.
+//! The tests of the store and of the full-text tables, by the names that they offer: what no script
+//! can show.
 #![tactic(auto)]
 
 #[cfg(test)]

@@ -30,7 +30,8 @@ pub(crate) fn begun<S: Begins>(alloc: Global, texts: &str) -> Result<Store<S>, F
     adopted(alloc, conn)
 }
 
-// A change of the table 1, `d`, of one column `x`. What is copied has no way out of a function to be followed.
+// A change of the table 1, `d`, of one column `x`. What is copied has no way out of a function to
+// be followed.
 #[derive(Clone, Copy)]
 enum Step {
     MakeTable,

@@ -1,4 +1,5 @@
--- Meaning. The parts of dot-commands that need no table ("Special commands to sqlite3 (dot-commands)" of "Command Line Shell For SQLite").
+-- Meaning. The parts of dot-commands that need no table ("Special commands to sqlite3
+-- (dot-commands)" of "Command Line Shell For SQLite").
 use Rattle.std.specs.Prelude.{ℕ, ◌≡◌, ◌==◌, true, if◌then◌else◌, MatchBool, List, [], ◌∷◌, codes}
 use Rattle.shell_text.specs.Print.{Settings}
 use Rattle.ft_statements.specs.Dots.{DotCommand}
@@ -16,4 +17,5 @@ quits = record silent { ends = true }
 
 -- a setting is changed, but for a separator that may not be set
 abbrev pub Sets : ℕ → DotCommand → Settings → Settings → Told → Type 0
-Sets line command old new told = MatchBool (may_set command old) ((new ≡ settings_after command old) × (told ≡ silent)) ((new ≡ old) × (told ≡ blames old line (codes "bad separator")))
+Sets line command old new told = MatchBool (may_set command old) ((new ≡ settings_after command old) × (told ≡ silent)) ((new ≡ old)
+    × (told ≡ blames old line (codes "bad separator")))

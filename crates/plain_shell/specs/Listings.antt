@@ -1,5 +1,6 @@
--- Meaning. How tables are listed ("Querying the database schema" of "Command Line Shell For SQLite"; that plain tables are listed by their noted
--- names, and only those that can be read, is an own choice).
+-- Meaning. How tables are listed ("Querying the database schema" of "Command Line Shell For
+-- SQLite"; that plain tables are listed by their noted names, and only those that can be read, is
+-- an own choice).
 use Rattle.std.specs.Prelude.{ℕ, ◌≡◌, ◌⊎◌, Bool, true, false, List, [], ◌∷◌, Option, Some, None}
 use Rattle.sqlite.specs.Store.{Ghosts}
 use Rattle.sqlite_value.specs.Order.{Row}
@@ -14,8 +15,8 @@ use Rattle.ft_statements.specs.Replies.{AreSorted, listed}
 use Rattle.plain_shell.specs.Told.{Told, says, lacks_memory, Tells}
 
 module _ {P : Type 0} (g : Ghosts P) where
-  -- Whether a table can be read: `sqlite` answers a reading of it, or refuses that for another cause than memory. Where it is not known
-  -- nothing was tried, or memory was wanting.
+  -- Whether a table can be read: `sqlite` answers a reading of it, or refuses that for another
+  -- cause than memory. Where it is not known nothing was tried, or memory was wanting.
   abbrev pub TellsTable : List ℕ → Held P → Held P → Option Bool → Type 0
   TellsTable name old new (Some true) = (rows : List Row) × Shown (reading_of name) [] (state g old) (state g new) rows
   TellsTable name old new (Some false) = (e : Error) × (is_memory_error e ≡ false) × FailsToQuery (reading_of name) [] (state g old) (state g new) e
@@ -34,10 +35,13 @@ module _ {P : Type 0} (g : Ghosts P) where
   -- a front of these names was tried, each in turn; then memory was wanting
   abbrev pub StopsTrying : List (List ℕ) → Held P → Held P → Type 0
   StopsTrying [] old new = new ≡ old
-  StopsTrying (name ∷ names) old new = (new ≡ old) ⊎ (Tries name None old new ⊎ ((mid : Held P) × (can_read : Bool) × Tries name (Some can_read) old mid × StopsTrying names mid new))
+  StopsTrying (name ∷ names) old new = (new ≡ old) ⊎ (Tries name None old new
+      ⊎ ((mid : Held P) × (can_read : Bool) × Tries name (Some can_read) old mid × StopsTrying names mid new))
 
-  -- The names of full-text tables and, of the noted names, those of tables that can be read, sorted and printed; or memory was wanting.
+  -- The names of full-text tables and, of the noted names, those of tables that can be read, sorted
+  -- and printed; or memory was wanting.
   pub data Lists (settings : Settings) (line : ℕ) (own noted : List (List ℕ)) (old new : Held P) (told : Told) : Type 0 where
-    tables : (found names : List (List ℕ)) → Finds noted old new found → AreSorted (listed own found) names → Tells settings line (says (print.listed names)) told → Lists settings line own noted old new told
+    tables : (found names : List (List ℕ)) → Finds noted old new found → AreSorted (listed own found) names
+        → Tells settings line (says (print.listed names)) told → Lists settings line own noted old new told
     unsorted : (found : List (List ℕ)) → Finds noted old new found → told ≡ lacks_memory settings line → Lists settings line own noted old new told
     untried : StopsTrying noted old new → told ≡ lacks_memory settings line → Lists settings line own noted old new told

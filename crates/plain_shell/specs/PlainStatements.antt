@@ -1,5 +1,6 @@
--- Meaning. What a query of plain SQL does in a session, and what is told of a refusal ("Command Line Shell For SQLite"; that a query is prepared
--- for its names and then executed once, and how a refusal is told, are own choices).
+-- Meaning. What a query of plain SQL does in a session, and what is told of a refusal ("Command
+-- Line Shell For SQLite"; that a query is prepared for its names and then executed once, and how a
+-- refusal is told, are own choices).
 use Rattle.std.specs.Prelude.{ℕ, ◌≡◌, List, [], Bool, true, false, MatchBool}
 use Rattle.sqlite.specs.Store.{Ghosts}
 use Rattle.sqlite_value.specs.Order.{Row}
@@ -24,8 +25,9 @@ abbrev pub TellsRefusal : Settings → ℕ → Error → Told → Type 0
 TellsRefusal settings line e told = MatchBool (is_memory_error e) (told ≡ lacks_memory settings line) ((words : List ℕ) × (told ≡ blames settings line words))
 
 module _ {P : Type 0} (g : Ghosts P) where
-  -- A step of the plain database. All that `sqlite` says has the premise that the disk is clean as the step ends; then it was
-  -- clean as the step began, so that no step is an unclean one of which nothing is said.
+  -- A step of the plain database. All that `sqlite` says has the premise that the disk is clean as
+  -- the step ends; then it was clean as the step began, so that no step is an unclean one of which
+  -- nothing is said.
   abbrev pub IfClean : Held P → Held P → Type 0 → Type 0
   IfClean old new Step = HasCleanDisk (state g new) → HasCleanDisk (state g old) × Step
 
@@ -54,5 +56,6 @@ module _ {P : Type 0} (g : Ghosts P) where
     refused : (prepared : Held P) (names : List (List ℕ)) → Prepares text old prepared names → Refuses text prepared new e → FailsToAnswer text old new e
 
   pub data QueryTurn (settings : Settings) (line : ℕ) (text : List ℕ) (old new : Held P) (told : Told) : Type 0 where
-    answered : (names : List (List ℕ)) (rows : List Row) → Answers text old new names rows → Tells settings line (rows_told settings line names rows) told → QueryTurn settings line text old new told
+    answered : (names : List (List ℕ)) (rows : List Row) → Answers text old new names rows → Tells settings line (rows_told settings line names rows) told
+        → QueryTurn settings line text old new told
     refused : (e : Error) → FailsToAnswer text old new e → TellsRefusal settings line e told → QueryTurn settings line text old new told

@@ -1,5 +1,6 @@
--- Meaning. The records of an import: those that are not skipped, brought to the columns of its table, full-text or plain. Short ones are filled
--- with NULL and long ones cut, each with a warning (own choice).
+-- Meaning. The records of an import: those that are not skipped, brought to the columns of its
+-- table, full-text or plain. Short ones are filled with NULL and long ones cut, each with a warning
+-- (own choice).
 use Rattle.std.specs.Prelude.{ℕ, ◌==◌, List, [], ◌∷◌, ◌++◌, length, map, take, drop, replicate, Option, Some, None, unwrap_or, if◌then◌else◌, codes, decimal}
 use Rattle.std.specs.List.{enumerate_from, flat_map}
 
@@ -18,7 +19,8 @@ fitted n fields = take n (map Some fields ++ replicate n None)
 abbrev pub warning : List ℕ → ℕ → ℕ × List (List ℕ) → List ℕ
 warning file n record_at =
     if length record_at.1 == n then []
-    else codes "Warning: " ++ (file ++ (codes ":" ++ (decimal record_at.0 ++ (codes ": fields " ++ (decimal (length record_at.1) ++ (codes ", columns " ++ (decimal n ++ 10 ∷ [])))))))
+    else codes "Warning: " ++ (file ++ (codes ":" ++ (decimal record_at.0
+    ++ (codes ": fields " ++ (decimal (length record_at.1) ++ (codes ", columns " ++ (decimal n ++ 10 ∷ [])))))))
 
 -- the lines for those of the records that don't fit, each with its number
 abbrev pub warnings : List ℕ → ℕ → List (ℕ × List (List ℕ)) → List ℕ

@@ -1,10 +1,12 @@
--- Meaning. What turns of a session write. The form of fault lines, and that a fault ends the session only where bail is on, are own choices
--- beside the section "Special commands to sqlite3" of "Command Line Shell For SQLite".
+-- Meaning. What turns of a session write. The form of fault lines, and that a fault ends the
+-- session only where bail is on, are own choices beside the section "Special commands to sqlite3"
+-- of "Command Line Shell For SQLite".
 use Rattle.std.specs.Prelude.{ℕ, ◌≡◌, ◌⊎◌, Bool, false, if◌then◌else◌, List, [], ◌∷◌, ◌++◌, ◌+◌, codes}
 use Rattle.shell_text.specs.Print.{Settings}
 use Rattle.ft_statements.specs.Texts.{fault_line}
 
--- what one or more turns write on the two outputs, how many fault lines are among it, and whether the session ends there
+-- what one or more turns write on the two outputs, how many fault lines are among it, and whether
+-- the session ends there
 pub record Told : Type 0 where
   pub out : List ℕ
   pub err : List ℕ

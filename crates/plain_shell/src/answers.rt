@@ -1,4 +1,4 @@
-// The rows that `sqlite` answers, as they are printed.
+//! The rows that `sqlite` answers, as they are printed.
 ghost use Rattle.std.specs.Prelude.{◌≡◌, true, false, map, string_bytes, IfOk, IfSome, IfNone};
 ghost use Rattle.std.specs.Str.{is_utf8};
 ghost use Rattle.std.specs.List.{list_any};

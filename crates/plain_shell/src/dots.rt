@@ -1,4 +1,4 @@
-// What dot-commands do that need no table.
+//! What dot-commands do that need no table.
 ghost use Rattle.std.specs.Prelude.{◌≡◌, ◌⊎◌, codes, map, string_bytes};
 ghost use Rattle.plain_shell.specs.ToldViews.{told_as};
 ghost use Rattle.plain_shell.specs.Told.{Tells, says, blames, lacks_memory};

@@ -1,4 +1,4 @@
-// An input that is read piece by piece.
+//! An input that is read piece by piece.
 ghost use Rattle.std.specs.Prelude.{◌≡◌, ◌≢◌, true, false, ◌∷◌, ◌++◌, ◌<◌, [], ℕ, List, length, IfOk, OnOk, IfSome, IfNone};
 ghost use Rattle.shell_text.specs.Units.{start};
 ghost use Rattle.shell_text.specs.Splitting.{member_of_unit};
@@ -27,7 +27,8 @@ pub fn is_memory(fault: &SplitFault) -> bool
 // The most bytes of a line that are told apart.
 const MOST_BYTES: usize = 1_000_000;
 
-/// What was read of an input. Of a line that is too long the front is kept, so that it stays too long.
+/// What was read of an input. Of a line that is too long the front is kept, so that it stays too
+/// long.
 #[derive(Drop)]
 pub struct Feed {
     splitter: Splitter,

@@ -1,4 +1,4 @@
-// The parts of an import.
+//! The parts of an import.
 ghost use Rattle.std.specs.Prelude.{◌≡◌, ◌++◌, None, map, option_map, codes, chars, string_bytes, replicate, IfOk, OnOk};
 ghost use Rattle.std.specs.List.{flat_map};
 ghost use Rattle.ft_values.specs.Cells.{shown_value};
@@ -174,7 +174,8 @@ pub fn insert_of(
     })
 }
 
-/// What parts the fields of a file: a comma where that is said, or else the separator, if it may part fields.
+/// What parts the fields of a file: a comma where that is said, or else the separator, if it may
+/// part fields.
 pub fn delimiter_of(csv: bool, settings: &Settings) -> Option<u8>
     ensures { result ≡ forms.delimiter_of csv settings.now }
 {

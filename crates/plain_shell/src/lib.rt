@@ -1,5 +1,5 @@
-//! The shell without full-text tables: what a turn tells, plain statements, imports into plain tables, and the reading and
-//! writing of a run.
+//! The shell without full-text tables: what a turn tells, plain statements, imports into plain
+//! tables, and the reading and writing of a run.
 #![tactic(auto)]
 
 mod answers;

@@ -1,4 +1,4 @@
-// How tables are listed.
+//! How tables are listed.
 ghost use Rattle.std.specs.Prelude.{map, string_bytes, IfOk, OnErr};
 ghost use Rattle.shell_text.specs.Print as print;
 ghost use Rattle.ft_content.specs.Views.{info_names};

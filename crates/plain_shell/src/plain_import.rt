@@ -1,4 +1,4 @@
-// Records into a table of the plain database, in one transaction.
+//! Records into a table of the plain database, in one transaction.
 ghost use Rattle.std.specs.Prelude.{ℕ, List, ◌≡◌, ◌+◌, ◌≤◌, [], ◌∷◌, map, if◌then◌else◌, option_map, string_bytes, IfOk, OnOk, OnErr, IsErrOf, MatchResult};
 ghost use Rattle.sqlite_value.specs.Value.{owned};
 ghost use Rattle.sqlite.specs.Values.{bound};
@@ -55,8 +55,8 @@ impl From<Error> for ImportFault {
     }
 }
 
-/// Puts records into a plain table with so many columns, all of them or none. Where names for its columns are given the
-/// table is made too.
+/// Puts records into a plain table with so many columns, all of them or none. Where names for its
+/// columns are given the table is made too.
 pub fn import_records<P: Alter>(
     alloc: Global,
     plain: &mut Connection<P>,

@@ -1,4 +1,4 @@
-// What a query does in a session, and what is told of a refusal.
+//! What a query does in a session, and what is told of a refusal.
 ghost use Rattle.std.specs.Prelude.{◌≡◌, IfOk, IfErr};
 ghost use Rattle.plain_shell.specs.ToldViews.{told_as};
 ghost use Rattle.plain_shell.specs.PlainStatements as turns;

@@ -1,4 +1,4 @@
-// The records of an import: those that are not skipped, brought to the columns of its table.
+//! The records of an import: those that are not skipped, brought to the columns of its table.
 ghost use Rattle.std.specs.Prelude.{◌≡◌, ◌+◌, ◌^◌, ◌<◌, ◌++◌, drop, length, map, min, option_map, slice_get, string_bytes, unwrap_or, IfOk, OnOk};
 ghost use Rattle.std.specs.List.{enumerate_from};
 ghost use Rattle.plain_shell.specs.Records as forms;
@@ -55,7 +55,8 @@ fn push_warning(
     Ok(())
 }
 
-/// The lines for those of the records that don't fit so many columns. The first of the records has this number.
+/// The lines for those of the records that don't fit so many columns. The first of the records has
+/// this number.
 pub fn warnings(
     alloc: Global,
     file: &str,

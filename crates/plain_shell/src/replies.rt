@@ -1,4 +1,4 @@
-// What is told of the answers of full-text commands.
+//! What is told of the answers of full-text commands.
 ghost use Rattle.ft_content.specs.Views as views;
 ghost use Rattle.ft_statements.specs.Texts as texts;
 ghost use Rattle.ft_statements.specs.Replies.{reply_text};

@@ -1,4 +1,4 @@
-// How a run goes on from turn to turn, and how it ends.
+//! How a run goes on from turn to turn, and how it ends.
 ghost use Rattle.std.specs.Prelude.{◌≡◌, ◌⊎◌, ◌≤◌, ◌<◌, ◌+◌, ◌-◌, ◌^◌, [], min, true, false, length, IfOk, IfErr, OnErr};
 ghost use Rattle.std.specs.Io.KnownBytes.{Consumes, IsAtEnd, Keeps};
 ghost use Rattle.plain_shell.specs.declared.run.RunFault.TheVariants.{Memory, Write};
@@ -124,7 +124,8 @@ pub fn tell<O: Write, E: Write>(
     Ok(())
 }
 
-/// Writes the text of a unit where echo is on, and flushes the output, so that who watches sees what is running.
+/// Writes the text of a unit where echo is on, and flushes the output, so that who watches sees
+/// what is running.
 pub fn echo_text<O: Write>(echo: bool, text: &str, out: &mut O) -> Result<(), RunFault>
     ensures out { Sends result (O.contents out.old) (O.contents out.new)
         (forms.echo_text echo text.now) }

@@ -1,4 +1,4 @@
-// Where an import's file comes from.
+//! Where an import's file comes from.
 ghost use Rattle.std.specs.Prelude.{◌≡◌, ℕ, List, IfOk, IfErr};
 ghost use Rattle.plain_shell.specs.Sources.{Files, Gives, Refuses, fetch_words};
 ghost use Rattle.plain_shell.specs.Told.{blames};

@@ -1,4 +1,4 @@
-// What a turn of a session tells, held in memory until the session writes it.
+//! What a turn of a session tells, held in memory until the session writes it.
 ghost use Rattle.std.specs.Prelude.{◌≡◌, true, string_bytes};
 ghost use Rattle.plain_shell.specs.Told as forms;
 ghost use Rattle.plain_shell.specs.ToldViews.{told_as, text_as};
@@ -20,8 +20,8 @@ pub(crate) struct FaultLine {
     pub(crate) text: FaultText,
 }
 
-/// What a turn tells: bytes for standard output; then, for standard error, warnings and at most one fault line. It may end
-/// the session.
+/// What a turn tells: bytes for standard output; then, for standard error, warnings and at most one
+/// fault line. It may end the session.
 #[derive(Debug, Drop)]
 pub struct Told {
     pub(crate) out: Vec<u8>,

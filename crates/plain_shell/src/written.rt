@@ -1,4 +1,4 @@
-// What is told, written to the two outputs.
+//! What is told, written to the two outputs.
 ghost use Rattle.std.specs.Prelude.{◌≡◌, ◌∷◌, ◌++◌, []};
 ghost use Rattle.plain_shell.specs.ToldViews.{told_as, text_as};
 ghost use Rattle.ft_statements.specs.Texts.{fault_line};

@@ -1,4 +1,5 @@
-//! The tests of tokens, MATCH queries and walks, by the names that `ft_query` offers: what no script can show.
+//! The tests of tokens, MATCH queries and walks, by the names that `ft_query` offers: what no
+//! script can show.
 #![tactic(auto)]
 
 #[cfg(test)]

@@ -1,5 +1,6 @@
-//! Walks over the words of some documents: what they find, in how many steps, and that a call without memory may be made again.
-//! `tests/memory_of_queries` refuses each of their allocations alone.
+//! Walks over the words of some documents: what they find, in how many steps, and that a call
+//! without memory may be made again. `tests/memory_of_queries` refuses each of their allocations
+//! alone.
 use crate::expected::expect;
 use crate::words::{Texts, words_of};
 use ft_query::{Hit, ListFault, Lists, Matches, Offset, Query, QueryFault, offsets_text, parse};
@@ -288,7 +289,8 @@ fn a_list_that_fails_fails_the_walk(rt: HostRuntime) -> Result<(), Fail> {
     Ok(())
 }
 
-// The hits are this many. After each the steps are no more than `most`, and at the end no fewer than the hits.
+// The hits are this many. After each the steps are no more than `most`, and at the end no fewer
+// than the hits.
 fn counted(matches: &mut Matches<'_>, most: u64) -> Result<u64, Fail> {
     let mut hits: u64 = 0;
     for _ in 0..u64::MAX {

@@ -117,8 +117,8 @@ fn a_plan_is_what_is_done(rt: HostRuntime) -> Result<(), Fail> {
     Ok(())
 }
 
-// What an order is answered after an input, and the rows then. A shell never gives such an order: a statement has rows, and one on a
-// table that isn't there is taken for a plain one.
+// What an order is answered after an input, and the rows then. A shell never gives such an order: a
+// statement has rows, and one on a table that isn't there is taken for a plain one.
 #[derive(Clone, Copy)]
 struct AfterOrder(&'static str, Order);
 

@@ -44,7 +44,8 @@ impl Trial for Damaged {
     }
 }
 
-// A list is taken from the one table, which is mended, and from one of two, of which the other answers each command.
+// A list is taken from the one table, which is mended, and from one of two, of which the other
+// answers each command.
 const DAMAGES: [(Damaged, &str); 2] = [
     (
         Damaged {

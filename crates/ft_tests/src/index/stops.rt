@@ -1,5 +1,6 @@
-//! Stops at each call of a file, of which each write is one. The two files that are left are taken again, with what was not synced and
-//! without it: each table is sound, and all is as before the command or as after it, and as after it where it was answered.
+//! Stops at each call of a file, of which each write is one. The two files that are left are taken
+//! again, with what was not synced and without it: each table is sound, and all is as before the
+//! command or as after it, and as after it where it was answered.
 
 use super::commands::are_done;
 use super::{are_sound, taken};
@@ -157,7 +158,8 @@ fn write_cells(told: &mut String, cells: &[CellRow]) -> Result<(), AllocError> {
     Ok(())
 }
 
-// The version of a database, its noted names, its tables and their texts. Each table has to be sound.
+// The version of a database, its noted names, its tables and their texts. Each table has to be
+// sound.
 fn told<S: Alter + Drop>(alloc: Global, conn: Connection<S>) -> Result<String, Fail> {
     let mut conn = conn;
     let version = number(&mut conn, "SELECT version FROM meta")?;
@@ -244,7 +246,8 @@ fn calls_of_opening<D: Stops>(alloc: Global, first: &Image, part: Part) -> Resul
     Ok(enough)
 }
 
-// A stop behind each number of calls of a file that opens the database, up to that of all its calls, and what is left then.
+// A stop behind each number of calls of a file that opens the database, up to that of all its
+// calls, and what is left then.
 fn each_stopped<D: Stops>(alloc: Global, case: &Case<'_>, part: Part) -> Result<Image, Fail> {
     for calls in calls_of_opening::<D>(alloc, case.first, part)?..NEVER {
         if let Some(left) = stopped::<D>(alloc, case, part, calls)? {
@@ -267,7 +270,8 @@ fn begun<D: Stops>(alloc: Global) -> Result<Image, Fail> {
 
 const EMPTY: &str = "3 true []";
 
-// What is done in turn, and what is there after each. At last the store becomes one of version 2, and is taken.
+// What is done in turn, and what is there after each. At last the store becomes one of version 2,
+// and is taken.
 const DEEDS: [(Deed, &str); 8] = [
     (
         Deed::Execute("CREATE VIRTUAL TABLE d USING fts4(x);"),

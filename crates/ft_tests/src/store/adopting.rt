@@ -29,7 +29,8 @@ fn begun<S: Begins>(alloc: Global, is_store: bool) -> Result<Connection<S>, Fail
 
 const META: &str = "SELECT count(*) FROM sqlite_schema WHERE name = 'meta'";
 
-// Why such a database isn't taken after these statements, and how many tables called `meta` it still has.
+// Why such a database isn't taken after these statements, and how many tables called `meta` it
+// still has.
 #[derive(Clone, Copy)]
 struct Other<'a> {
     is_store: bool,
@@ -50,7 +51,8 @@ impl<'a> Trial for Other<'a> {
 
 const BARE: &str = "CREATE TABLE meta (one INTEGER PRIMARY KEY, version INTEGER NOT NULL)";
 
-// Whether a database holds a store first, statements, why it isn't taken then, and how many tables called `meta` it has.
+// Whether a database holds a store first, statements, why it isn't taken then, and how many tables
+// called `meta` it has.
 const REFUSED: [(bool, &str, StoreFault, i64); 11] = [
     (false, BARE, StoreFault::NotAStore, 1),
     (

@@ -98,7 +98,8 @@ fn terms_of(alloc: Global, terms: &[Term]) -> Result<Vec<TermLists>, AllocError>
     Ok(found)
 }
 
-// Whether a store of these rows has exactly these lists in its table 1, and how many rows were read then.
+// Whether a store of these rows has exactly these lists in its table 1, and how many rows were read
+// then.
 #[derive(Clone, Copy)]
 struct Asked {
     rows: &'static str,

@@ -13,7 +13,8 @@ const WORDS: [&str; 17] = [
     "a", "b", "c", "d", "e", "f", "g", "h", "i", "j", "k", "l", "m", "n", "o", "p", "q",
 ];
 
-// A word at the front of the only document, with a size in bytes. A place without a byte can't be packed.
+// A word at the front of the only document, with a size in bytes. A place without a byte can't be
+// packed.
 fn put_word(number: usize, size: i64) -> Step {
     match WORDS.get(number) {
         Some(word) => Step::PutTerm(word, 1, size),
@@ -138,8 +139,9 @@ fn put_replaces_what_is_there(rt: HostRuntime) -> Result<(), Fail> {
     Ok(())
 }
 
-// All words are put again, as they are and then with other lists; of one word that is put eight times by one call the last list stays;
-// what comes behind eight words of which one is there is done too.
+// All words are put again, as they are and then with other lists; of one word that is put eight
+// times by one call the last list stays; what comes behind eight words of which one is there is
+// done too.
 #[test]
 fn words_are_put_again(rt: HostRuntime) -> Result<(), Fail> {
     let alloc = rt.alloc();
