@@ -53,5 +53,5 @@ sends_err Q (Err e) a b x is front = front
 
 -- ---- the writers that a run is lent
 
-pub same_then : {O E : Type 0} {a b c : Outputs O E} → SameWriters a b → SameWriters b c → SameWriters a c
-same_then h k = (k.0 ∙ h.0, k.1 ∙ h.1)
+pub same_then : {O E : Type 0} (a b c : Outputs O E) → SameWriters a b → SameWriters b c → SameWriters a c
+same_then a b c h k = (k.0 ∙ h.0, k.1 ∙ h.1)
