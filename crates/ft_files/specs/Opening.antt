@@ -1,6 +1,8 @@
 -- Meaning. The two databases of a command line (own choice).
-use Rattle.std.specs.Prelude.{◌≡◌, ◌⊎◌, ℕ, List, ◌++◌, nat_eq, if◌then◌else◌, codes, Result, IfOk, IfErr}
+use Rattle.std.specs.Prelude.{◌≡◌, ◌⊎◌, ℕ, List, ◌++◌, Bool, false, length, nat_eq, nat_lt, if◌then◌else◌, codes, Result, IfOk, IfErr}
 use Rattle.std.specs.List.{starts_with}
+use Rattle.std.specs.Option.{option_map_or}
+use Rattle.std.specs.Path.{path_file_name}
 use Rattle.sqlite.specs.Held.{Held, IsNew, state}
 use Rattle.sqlite.specs.State.{HasCleanDisk}
 use Rattle.sqlite.specs.Steps.{IsEmpty}
@@ -27,6 +29,10 @@ fault_of _ = fault.Store
 -- where the file of a name lies: one that begins with `file:` is no URI
 abbrev pub file_path : List ℕ → List ℕ
 file_path path = if starts_with nat_eq path (codes "file:") then codes "./" ++ path else path
+
+-- the name of the file at a path has over 242 bytes: that of NAME-fts4-journal would have over 255
+abbrev pub has_long_name : List ℕ → Bool
+has_long_name path = option_map_or (λ name. nat_lt 242 (length name)) (path_file_name path) false
 
 -- the file of the full-text store, beside that of the plain tables
 abbrev pub store_path : List ℕ → List ℕ

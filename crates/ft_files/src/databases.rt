@@ -1,7 +1,6 @@
 //! The two databases: the plain tables and the full-text store.
 
-ghost use Rattle.std.specs.Prelude.{◌≡◌, ◌<◌, length, string_bytes, Err, IfOk, IfSome};
-ghost use Rattle.std.specs.Path.{path_file_name};
+ghost use Rattle.std.specs.Prelude.{◌≡◌, true, string_bytes, Err, IfOk};
 ghost use Rattle.sqlite.specs.Files.{over_files};
 ghost use Rattle.sqlite_wal.specs.Files.{image_at};
 ghost use Rattle.ft_store.specs.Opened.{IsNewFrom};
@@ -122,8 +121,7 @@ pub fn open_files<A: Start, B: Start>(
     OpenFault,
 >
     ensures opens { OpensFiles (image_at A.Start) (image_at B.Start) result }
-    ensures long { IfSome (path_file_name path.now)
-        (λ name. 242 < length name → result ≡ Err fault.Database) }
+    ensures long { forms.has_long_name path.now ≡ true → result ≡ Err fault.Database }
 {
     if is_long(path) {
         return Err(OpenFault::Database);

@@ -1,7 +1,6 @@
 //! The names of a database's files: what is refused for a name is refused before a file is made.
 
-ghost use Rattle.std.specs.Prelude.{◌≡◌, length, nat_lt, string_bytes, IfOk, IfSome};
-ghost use Rattle.std.specs.Path.{path_file_name};
+ghost use Rattle.std.specs.Prelude.{◌≡◌, string_bytes, IfOk};
 ghost use Rattle.ft_files.specs.Opening as forms;
 
 use std::alloc::{AllocError, Global};
@@ -30,7 +29,7 @@ pub(crate) fn file_path(alloc: Global, path: &str) -> Result<String, AllocError>
 
 /// Whether the name of the file at a path is too long for those of the files beside it.
 pub(crate) fn is_long(path: &str) -> bool
-    ensures { IfSome (path_file_name path.now) (λ name. result ≡ nat_lt 242 (length name)) }
+    ensures { result ≡ forms.has_long_name path.now }
 {
     match Path::new(path).file_name() {
         Some(name) => name.len() > MOST_BYTES,
