@@ -109,9 +109,7 @@ impl<P: Alter, S: Alter> Session<P, S> {
             (O.contents out.new) (E.contents err.new)) }
         ensures source { (name : List ℕ) → F.holds source.new name ≡ F.holds source.old name }
     {
-        Session::<P, S>::kept_by_runs();
-        self.is_settled();
-        self.run_pieces(reader, source, &mut Outputs::new(out, err))
+        self.run_kept(reader, source, &mut Outputs::new(out, err))
     }
 
     /// After any runs, however each ended, each full-text table's content is that of the accepted
@@ -129,6 +127,26 @@ impl<P: Alter, S: Alter> Session<P, S> {
         ensures { IsSettled S.Store self.now.full_text }
     {
         self.full_text.is_settled();
+    }
+
+    // Such a run, on both writers together.
+    fn run_kept<R: Read, O: Write, E: Write, F: Source>(
+        &mut self,
+        reader: &mut R,
+        source: &mut F,
+        outputs: &mut Outputs<'_, O, E>,
+    ) -> Result<Status, RunFault>
+        ensures ran { RanAndKept P.Store S.Store result
+            (console_of (lent self.old (F.holds source.old)) (R.remaining reader.old)
+            (O.contents outputs.old.out.now) (E.contents outputs.old.err.now))
+            (console_of (lent self.new (F.holds source.new)) (R.remaining reader.new)
+            (O.contents outputs.new.out.now) (E.contents outputs.new.err.now)) }
+        ensures source { (name : List ℕ) → F.holds source.new name ≡ F.holds source.old name }
+        ensures writers { SameWriters outputs.old outputs.new }
+    {
+        Session::<P, S>::kept_by_runs();
+        self.is_settled();
+        self.run_pieces(reader, source, outputs)
     }
 
     fn run_pieces<R: Read, O: Write, E: Write, F: Source>(

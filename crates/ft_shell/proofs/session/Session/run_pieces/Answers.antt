@@ -74,7 +74,7 @@ loop-total-preserved g c =
           chunk_kept c.loop-total.chunk.len _ c.loop-total.chunk.items full some;
       waits = c.in_ok-take_read.ensures.waiting goes.0 goes.1;
       goes = goes.1;
-      writers = same_then _ _ _ c.loop-total.invariant.writers c.in_ok-take_read.ensures.writers;
+      writers = same_then c.args.outputs.now c.loop-total.outputs c.take_read.new.outputs c.loop-total.invariant.writers c.in_ok-take_read.ensures.writers;
     }
 
 pub returns-clause-runs : goal.returns-clause-runs

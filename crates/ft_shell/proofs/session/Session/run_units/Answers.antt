@@ -33,7 +33,7 @@ loop-outputs-preserved g c =
           (passes_as g.P.Store g.S.Store (λ (rest : List Member). unit ∷ rest) (λ (rest : List Member). rest) (λ (rest : List ℕ). members_left c.loop-outputs.feed rest) (λ rest. members_left c.next.new.self rest) (λ rest. members_left c.next.new.self rest) _ _
           (λ rest. c.in-Some.ensures.some.0 rest) (λ rest goes. refl) c.in_ok-run_unit.ensures.runs);
       line = c.in-Some.ensures.some.2 ∙ c.loop-outputs.invariant.line;
-      writers = same_then _ _ _ c.loop-outputs.invariant.writers c.in_ok-run_unit.ensures.writers;
+      writers = same_then c.args.outputs.now c.loop-outputs.outputs c.run_unit.new.outputs c.loop-outputs.invariant.writers c.in_ok-run_unit.ensures.writers;
     }
 
 pub returns-in_default-clause-runs : goal.returns-in_default-clause-runs

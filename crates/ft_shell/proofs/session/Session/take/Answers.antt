@@ -41,7 +41,7 @@ loop-byte-preserved g c =
           (passes_as g.P.Store g.S.Store (λ (rest : List ℕ). members_left c.loop-byte.feed (byte ∷ rest)) (λ (rest : List ℕ). members_left c.take_byte.new.feed rest) (λ (rest : List ℕ). members_left c.loop-byte.feed (drop i bytes ++ rest)) (λ (rest : List ℕ). members_left c.take_byte.new.feed (drop (i + 1) bytes ++ rest)) (λ rest. drop (i + 1) bytes ++ rest) _ _
           (λ rest. ap (λ xs. members_left c.loop-byte.feed (xs ++ rest)) (drop_more bytes i 0 c.loop-byte-test.true)) (λ rest goes. refl) c.in_ok-take_byte.ensures.runs);
       waits = c.in_ok-take_byte.ensures.waiting;
-      writers = same_then _ _ _ c.loop-byte.invariant.writers c.in_ok-take_byte.ensures.writers;
+      writers = same_then c.args.outputs.now c.loop-byte.outputs c.take_byte.new.outputs c.loop-byte.invariant.writers c.in_ok-take_byte.ensures.writers;
     }
 
 pub returns-clause-runs : goal.returns-clause-runs
