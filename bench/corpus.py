@@ -12,6 +12,7 @@ import sys
 
 VOCABULARY = 50_000
 ROWS = 500  # in one INSERT of many rows
+SINGLES = 2_000  # documents that are loaded by an INSERT each
 CREATE = "CREATE VIRTUAL TABLE mail USING fts4(subject, body);\n"
 SYLLABLES = [a + b for a in "bdfghklmnprstvz" for b in ("a", "e", "i", "o", "u", "an", "er", "il", "or", "us")]
 
@@ -62,7 +63,7 @@ def main(folder, kind, count):
     values = [row(it) for it in rows]
     with open(f"{folder}/singles.sql", "w", encoding="utf-8") as out:
         out.write(CREATE)
-        out.writelines(f"INSERT INTO mail VALUES{value};\n" for value in values)
+        out.writelines(f"INSERT INTO mail VALUES{value};\n" for value in values[:SINGLES])
     with open(f"{folder}/rows.sql", "w", encoding="utf-8") as out:
         out.write(CREATE)
         for at in range(0, len(values), ROWS):

@@ -13,7 +13,7 @@ import sys
 import time
 
 import pages
-from corpus import documents, row, word
+from corpus import SINGLES, documents, row, word
 
 REPEATS = 5
 WRITES = 100
@@ -231,7 +231,7 @@ def measured(name, folder, programs):
     with open(f"{folder}/corpus.csv", newline="", encoding="utf-8") as given:
         rows = list(csv.reader(given))
     pair = Pair(folder, programs)
-    pair.load("singles", "single INSERTs")
+    pair.load("singles", f"{SINGLES} single INSERTs")
     pair.load("rows", "INSERTs of 500 rows")
     pair.load("import", ".import")
     pair.open()
