@@ -1,8 +1,9 @@
-"""Measures both shells over the inputs that corpus.py wrote, by turns, and prints tables: measure.py LAUNCH PROGRAM SQLITE3 NAME=FOLDER ..
+"""Measures both shells over the inputs that corpus.py wrote, by turns, and prints tables: measure.py PROGRAM SQLITE3 NAME=FOLDER ..
 
 A shell reads its statements from a pipe. To know when it is done with some of them, an unknown dot-command is sent behind them: both
-shells answer it by a line on standard error. Times are processor time of the shell, user's and system's. Memory is the most that a shell
-has: launch.c makes the shell and tells it, since a process counts in that figure what its parent had.
+shells answer it by a line on standard error. A table has for each corpus what ft4sh takes, and how many times sqlite3's that is. Times are
+processor time of the shell, user's and system's. Memory is the most that a shell has: launch.c makes the shell and tells it, since a process
+counts in that figure what its parent had.
 """
 import csv
 import glob
@@ -244,15 +245,20 @@ def measured(name, folder, programs):
     return pair.lines, differing
 
 
+def rounded(ratio):
+    """Two digits of a ratio."""
+    return f"{float(f'{ratio:.2g}'):,g}"
+
+
 def main(program, sqlite3, *corpora):
     launcher(corpora[0].split("=", 1)[1])
     told = [measured(*corpus.split("=", 1), (program, sqlite3)) for corpus in corpora]
     for unit in ("s", "ms", "MiB"):
-        print("\n| " + unit + " |" + "".join(f" {it.split('=', 1)[0]} | sqlite3 | times |" for it in corpora) + "\n|---" + "|---|---|---" * len(corpora) + "|")
+        print(f"\n| {unit} |" + "".join(f" {it.split('=', 1)[0]} | times |" for it in corpora) + "\n|---" + "|---|---" * len(corpora) + "|")
         for name in told[0][0]:
             if name.endswith(f", {unit}"):
                 figures = (lines[name] for lines, _ in told)
-                print(f"| {name[: -len(unit) - 2]} |" + "".join(f" {ours:.3g} | {other:.3g} | {ours / other:.2g} |" for ours, other in figures), flush=True)
+                print(f"| {name[: -len(unit) - 2]} |" + "".join(f" {ours:.3g} | {rounded(ours / other)} |" for ours, other in figures), flush=True)
     return 1 if any(differing for _, differing in told) else 0
 
 
