@@ -156,12 +156,12 @@ class Pair:
         ran = self.both(lambda program, at: run(program, self.path(at), text))
         self.lines[f"{told}, s"] = [seconds for seconds, _ in ran]
         self.lines[f"{told}, memory, MiB"] = [memory for _, memory in ran]
-        self.lines[f"{told}, files, MiB"] = [sum(os.path.getsize(it) for it in files(self.path(at))) / 2**20 for at in range(2)]
 
     def open(self):
         """A run with one SELECT of one document, three times."""
         ran = [self.both(lambda program, at: run(program, self.path(at), ONE)) for _ in range(3)]
         self.lines["opening, s"] = [median([turn[at][0] for turn in ran]) for at in range(2)]
+        self.lines["files, MiB"] = [sum(os.path.getsize(it) for it in files(self.path(at))) / 2**20 for at in range(2)]
         self.lines["opening, memory, MiB"] = [median([turn[at][1] for turn in ran]) for at in range(2)]
 
     def ask(self, asked):
@@ -199,7 +199,8 @@ class Pair:
         for shell in shells:
             shell.seconds(ONE)
         self.lines[f"{name}, s"] = [shell.seconds(text) for shell in shells]
-        self.lines[f"{name}, memory, MiB"] = [shell.end() for shell in shells]
+        for shell in shells:
+            shell.end()
 
 
 def changes(rows):
