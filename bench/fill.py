@@ -10,18 +10,17 @@ import sys
 TOP = os.path.dirname(os.path.dirname(os.path.abspath(__file__)))
 # The lines of README.md, each with what it is called there.
 LINES = {
-    "opening": "an opening",
-    "frequent word, ten rows": "ten documents of a frequent word",
-    "DROP TABLE": "DROP of all documents",
-    "opening, memory": "memory of an opening",
+    "opening": "opening",
+    "frequent word, ten rows": "ten rows of a frequent word",
+    "DROP TABLE": "DROP",
+    "opening, memory": "opening, memory",
     "rebuild": "`rebuild`",
-    ".import, memory": "memory of an import",
-    ".import": "an import",
-    "phrase of frequent words": "a phrase",
+    ".import, memory": "import, memory",
+    ".import": "import",
+    "phrase of frequent words": "phrase",
     "AND": "AND",
-    "files": "the files",
-    "100 UPDATEs": "an UPDATE",
-    "rare word": "a rare word",
+    "files": "files",
+    "rare word": "rare word",
 }
 
 
