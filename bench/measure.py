@@ -146,6 +146,11 @@ class Pair:
     def both(self, work):
         return [work(program, at) for at, program in enumerate(self.programs)]
 
+    def tell(self, name, figures):
+        """Keeps a line of both, and shows it on standard error."""
+        self.lines[name] = figures
+        print(name, *(f"{it:.3g}" for it in figures), file=sys.stderr, flush=True)
+
     def load(self, way, told):
         """Loads the corpus, which makes the files anew."""
         with open(f"{self.folder}/{way}.sql", encoding="utf-8") as given:
@@ -154,15 +159,15 @@ class Pair:
             for file in files(self.path(at)):
                 os.remove(file)
         ran = self.both(lambda program, at: run(program, self.path(at), text))
-        self.lines[f"{told}, s"] = [seconds for seconds, _ in ran]
-        self.lines[f"{told}, memory, MiB"] = [memory for _, memory in ran]
+        self.tell(f"{told}, s", [seconds for seconds, _ in ran])
+        self.tell(f"{told}, memory, MiB", [memory for _, memory in ran])
 
     def open(self):
         """A run with one SELECT of one document, three times."""
         ran = [self.both(lambda program, at: run(program, self.path(at), ONE)) for _ in range(3)]
-        self.lines["opening, s"] = [median([turn[at][0] for turn in ran]) for at in range(2)]
-        self.lines["files, MiB"] = [sum(os.path.getsize(it) for it in files(self.path(at))) / 2**20 for at in range(2)]
-        self.lines["opening, memory, MiB"] = [median([turn[at][1] for turn in ran]) for at in range(2)]
+        self.tell("opening, s", [median([turn[at][0] for turn in ran]) for at in range(2)])
+        self.tell("files, MiB", [sum(os.path.getsize(it) for it in files(self.path(at))) / 2**20 for at in range(2)])
+        self.tell("opening, memory, MiB", [median([turn[at][1] for turn in ran]) for at in range(2)])
 
     def ask(self, asked):
         """Each query some times, in two runs that are open together; gives the names of those that were answered differently."""
@@ -174,8 +179,8 @@ class Pair:
             for shell in shells:
                 shell.seconds(f".print == {name}")
             turns = [[shell.seconds(query) for shell in shells] for _ in range(REPEATS)]
-            self.lines[f"{name}, ms"] = [1000 * median([turn[at] for turn in turns]) for at in range(2)]
-        self.lines["all queries, memory, MiB"] = [shell.end() for shell in shells]
+            self.tell(f"{name}, ms", [1000 * median([turn[at] for turn in turns]) for at in range(2)])
+        self.tell("all queries, memory, MiB", [shell.end() for shell in shells])
         told = [answers(output) for output in outputs]
         return [name for name, _, _ in asked if told[0].get(name) != told[1].get(name)]
 
@@ -185,8 +190,8 @@ class Pair:
         for shell in shells:
             shell.seconds(ONE)
         for name, text in changes(rows):
-            self.lines[f"{name}, s"] = [shell.seconds(text) for shell in shells]
-        self.lines["all changes, memory, MiB"] = [shell.end() for shell in shells]
+            self.tell(f"{name}, s", [shell.seconds(text) for shell in shells])
+        self.tell("all changes, memory, MiB", [shell.end() for shell in shells])
 
     def empty(self, name, text):
         """A statement that takes all documents away, on a copy of the files."""
@@ -198,7 +203,7 @@ class Pair:
         shells = self.both(lambda program, at: Shell(program, self.path(at, "copy"), os.devnull))
         for shell in shells:
             shell.seconds(ONE)
-        self.lines[f"{name}, s"] = [shell.seconds(text) for shell in shells]
+        self.tell(f"{name}, s", [shell.seconds(text) for shell in shells])
         for shell in shells:
             shell.end()
 
