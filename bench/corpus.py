@@ -12,6 +12,7 @@ import sys
 
 VOCABULARY = 50_000
 ROWS = 500  # in one INSERT of many rows
+BYTES = 900_000  # of one such INSERT at most, since a statement may have 1,000,000
 SINGLES = 2_000  # documents that are loaded by an INSERT each
 CREATE = "CREATE VIRTUAL TABLE mail USING fts4(subject, body);\n"
 SYLLABLES = [a + b for a in "bdfghklmnprstvz" for b in ("a", "e", "i", "o", "u", "an", "er", "il", "or", "us")]
@@ -50,6 +51,19 @@ def row(document):
     return f"({literal(document[0])}, {literal(document[1])})"
 
 
+def groups(values):
+    """The rows of each INSERT of many."""
+    group, size = [], 0
+    for value in values:
+        bytes_of = len(value.encode()) + 2
+        if len(group) == ROWS or size + bytes_of > BYTES:
+            yield group
+            group, size = [], 0
+        group.append(value)
+        size += bytes_of
+    yield group
+
+
 def write_csv(path, rows):
     with open(path, "w", newline="", encoding="utf-8") as out:
         csv.writer(out, lineterminator="\n").writerows(rows)
@@ -66,8 +80,8 @@ def main(folder, kind, count):
         out.writelines(f"INSERT INTO mail VALUES{value};\n" for value in values[:SINGLES])
     with open(f"{folder}/rows.sql", "w", encoding="utf-8") as out:
         out.write(CREATE)
-        for at in range(0, len(values), ROWS):
-            out.write("INSERT INTO mail VALUES" + ",\n".join(values[at : at + ROWS]) + ";\n")
+        for group in groups(values):
+            out.write("INSERT INTO mail VALUES" + ",\n".join(group) + ";\n")
     with open(f"{folder}/import.sql", "w", encoding="utf-8") as out:
         out.write(CREATE + f".import --csv '{folder}/corpus.csv' mail\n")
 
