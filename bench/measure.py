@@ -8,6 +8,7 @@ counts in that figure what its parent had.
 import csv
 import glob
 import os
+import re
 import shutil
 import subprocess
 import sys
@@ -221,8 +222,8 @@ def changes(rows):
 def answers(path):
     """What was answered to each query, by its name."""
     with open(path, encoding="utf-8") as given:
-        parts = given.read().split("== ")[1:]
-    return dict(part.split("\n", 1) for part in parts)
+        parts = re.split(r"^== ([\w ,]+)\n", given.read(), flags=re.M)[1:]
+    return dict(zip(parts[::2], parts[1::2]))
 
 
 def asked_of(name, rows):
