@@ -252,9 +252,9 @@ def measured(name, folder, programs):
     return pair.lines, differing
 
 
-def rounded(ratio):
-    """Two digits of a ratio."""
-    return f"{float(f'{ratio:.2g}'):,g}"
+def rounded(number, digits):
+    """A number with so many digits."""
+    return f"{float(f'{number:.{digits}g}'):,g}"
 
 
 def main(program, sqlite3, *corpora):
@@ -265,7 +265,7 @@ def main(program, sqlite3, *corpora):
         for name in told[0][0]:
             if name.endswith(f", {unit}"):
                 figures = (lines[name] for lines, _ in told)
-                print(f"| {name[: -len(unit) - 2]} |" + "".join(f" {ours:.3g} | {rounded(ours / other)} |" for ours, other in figures), flush=True)
+                print(f"| {name[: -len(unit) - 2]} |" + "".join(f" {rounded(ours, 3)} | {rounded(ours / other, 2)} |" for ours, other in figures), flush=True)
     return 1 if any(differing for _, differing in told) else 0
 
 
