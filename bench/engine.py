@@ -2,15 +2,14 @@
 
 The table is loaded into a file by .import. A copy of that file's full-text store is then opened by the same program as a plain file, so
 that the engine's part stands by itself: its reading of the rows of a term, and its opening of the file, to which the opening of the
-table's file is compared, and the statements that look at the whole table behind it.
+table's file is compared, and the statements that look at the whole table behind it. Times are processor time, as in measure.py.
 """
 import os
 import shutil
 import sys
-import time
 
 from corpus import CREATE, documents, word, write_csv
-from measure import REPEATS, Shell, median
+from measure import ONE, REPEATS, Shell, launcher, median, run
 
 TERM = word(0)
 ENGINE = f"SELECT count(list) FROM posting WHERE tab = 1 AND term = '{TERM}';"
@@ -42,38 +41,30 @@ def answered(program, path, queries):
     return told
 
 
-def opened(program, path, query):
-    """Seconds and MiB of a run with one statement."""
-    begun = time.perf_counter()
-    shell = Shell(program, path, os.devnull)
-    shell.seconds(query)
-    memory = shell.end()
-    return time.perf_counter() - begun, memory
-
-
 def in_turns(program, *runs):
     """Seconds and MiB of runs with one statement, one after the other, three times: the median of each."""
-    told = [[opened(program, path, query) for path, query in runs] for _ in range(3)]
+    told = [[run(program, path, query) for path, query in runs] for _ in range(3)]
     return [tuple(median(figures) for figures in zip(*one)) for one in zip(*told)]
 
 
 def checked(program, path):
     """Seconds of the two statements that look at a whole table, behind the opening."""
     shell = Shell(program, path, os.devnull)
-    shell.seconds("SELECT docid FROM mail WHERE docid = 1;")
+    shell.seconds(ONE)
     told = [(name, shell.seconds(f"INSERT INTO mail(mail) VALUES('{name}');")) for name in ("integrity-check", "rebuild")]
     shell.end()
     return told
 
 
 def main(folder, program, count, words):
+    launcher(folder)
     path, rows = loaded(program, folder, int(count), int(words))
     (engine,) = answered(program, rows, [ENGINE])
     ours = answered(program, path, [query for _, query in QUERIES])
     print(f"| {count} documents of {words} words | ft4sh | engine | ratio |\n|---|---|---|---|")
     for (name, _), seconds in zip(QUERIES, ours):
         print(f"| a frequent word, {name}, ms | {1000 * seconds:.3g} | {1000 * engine:.3g} | {seconds / engine:.2g} |")
-    ours, engine = in_turns(program, (path, "SELECT docid FROM mail WHERE docid = 1;"), (rows, "SELECT 1;"))
+    ours, engine = in_turns(program, (path, ONE), (rows, "SELECT 1;"))
     for name, one, other in zip(("opening, s", "opening, most memory, MiB"), ours, engine):
         print(f"| {name} | {one:.3g} | {other:.3g} | {one / other:.3g} |")
     for name, seconds in checked(program, path):
