@@ -38,7 +38,7 @@ demo: build
 	@cd examples && ../bin/ft4sh < search.sql
 
 # Every proof from nothing, the tests, the program as two compilers build it, and the edits that must fail of each crate where something
-# changed since they were refused; then what the program that this left writes for the scripts of tests/, the examples of the manual and the
+# changed since they were refused; then what the program that this left writes for the cases of tests/, the examples of the manual and the
 # demonstration; and, where there are a C compiler and Python, the program with each of its allocations refused, stopped at each of its
 # writes, killed, and over damaged files.
 test:
