@@ -47,10 +47,27 @@ pub fn start<A: Start, B: Start, R: Read, O: Write, E: Write>(
         (record { out = O.contents out.old; err = E.contents err.old })
         (record { out = O.contents out.new; err = E.contents err.new }) result }
 {
-    let mut outputs = Outputs::new(out, err);
+    run_words(rt, words, tables, texts, input, &mut Outputs::new(out, err))
+}
+
+// Runs the program on words, with both writers together.
+fn run_words<A: Start, B: Start, R: Read, O: Write, E: Write>(
+    rt: &HostRuntime,
+    words: &[&str],
+    tables: A,
+    texts: B,
+    input: &mut R,
+    outputs: &mut Outputs<'_, O, E>,
+) -> u8
+    ensures runs { Starts A.row B.row A.Start B.Start
+        (map (λ word. word.now) words.now) (R.remaining input.old)
+        (outputs_of O.contents E.contents outputs.old)
+        (outputs_of O.contents E.contents outputs.new) result }
+    ensures writers { SameWriters outputs.old outputs.new }
+{
     match read_line(rt.alloc(), words) {
-        Ok(line) => run_line(rt, line, tables, texts, input, &mut outputs),
-        Err(fault) => refuse_line(&fault, &mut outputs),
+        Ok(line) => run_line(rt, line, tables, texts, input, outputs),
+        Err(fault) => refuse_line(&fault, outputs),
     }
 }
 

@@ -1,6 +1,10 @@
--- the words mean a line, which is run
-use Rattle.std.proofs.Common.{inr}
+-- on the two writers that it is given
+use Rattle.std.proofs.Common.{rules, map, subst₂}
+use Rattle.ft_main.specs.Inputs.{Outputs}
+use Rattle.ft_main.specs.Memory.{Starts}
 use Rattle.ft_main.proofs.start.start.Goals as goal
 
-pub returns-in-Ok : goal.returns-in-Ok
-returns-in-Ok g c = inr (c.in-Ok.line, c.in-Ok.ensures, c.run_line.ensures.runs)
+pub returns : goal.returns
+returns g c =
+    subst₂ (λ (old : Outputs) (new : Outputs). Starts g.row.A g.row.B g.A.Start g.B.Start (map (λ word. word.now) c.args.words.now) (g.R.Read.remaining c.args.input.now) old new c.run_words.result)
+    (search rules) (search rules) c.run_words.ensures.runs
