@@ -156,7 +156,8 @@ pub data AreArguments : List Token → List Argument → Type 0 where
   some_arguments : {ts : List Token} {given : List Argument} →
       InParens (Separated IsArgument) ts given → AreArguments ts given
 
--- ---- CREATE VIRTUAL TABLE [IF NOT EXISTS] name USING name arguments          ("Creating and Destroying FTS Tables")
+-- ---- CREATE VIRTUAL TABLE [IF NOT EXISTS] name USING name arguments
+-- ("Creating and Destroying FTS Tables")
 
 -- [IF NOT EXISTS]          (our own choice)
 pub data IsIfNew : List Token → Bool → Type 0 where
@@ -244,7 +245,8 @@ pub data IsDelete : List Token → Command → Type 0 where
       IsKeyword (codes "DELETE") a → IsKeyword (codes "FROM") b → IsName name n → IsWhere behind filter →
       IsDelete (a ∷ b ∷ name ∷ behind) (Delete n filter)
 
--- ---- SELECT items FROM name [WHERE filter] [ORDER BY key [ASC]] [LIMIT n [OFFSET n]]          ("Simple FTS Queries")
+-- ---- SELECT items FROM name [WHERE filter] [ORDER BY key [ASC]] [LIMIT n [OFFSET n]]
+-- ("Simple FTS Queries")
 
 -- * | offsets ( name ) | name          ("Simple FTS Queries", "The Offsets Function")
 pub data IsItem : List Token → Item → Type 0 where
