@@ -97,7 +97,8 @@ pub no_docid_left : answers_to [] (
 unfolding query_of reading chosen answer insert_rows deserved after reply_to step
 no_docid_left = refl
 
--- the first row that fails decides: a docid that is taken, before one for which none is left, and the other way round
+-- the first row that fails decides: a docid that is taken, before one for which none is left, and
+-- the other way round
 pub first_row_decides : answers_to [] (
     create_d
     ∷ Insert (codes "d") (Some (codes "rowid" ∷ codes "x" ∷ [])) ((Int (pos 9223372036854775807) ∷ Null ∷ []) ∷ (Int (pos 9223372036854775807) ∷ Null ∷ []) ∷ (Null ∷ Null ∷ []) ∷ [])
@@ -250,7 +251,8 @@ pub order_of_faults : answers_to [] (
 unfolding query_of reading chosen answer insert_rows deserved after reply_to step
 order_of_faults = refl
 
--- A table whose index rows are wrong: only Drop, Rebuild and Check see it, and Rebuild makes it sound.
+-- A table whose index rows are wrong: only Drop, Rebuild and Check see it, and Rebuild makes it
+-- sound.
 abbrev pub stale_d : Contents
 stale_d = (pos 1, record { name = codes "d"; held = Stale (record { columns = record { name = codes "x"; indexed = true } ∷ []; documents = (pos 1, Text (codes "red") ∷ []) ∷ (pos 2, Text (codes "red blue") ∷ []) ∷ [] }) }) ∷ []
 

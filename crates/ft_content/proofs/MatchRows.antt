@@ -1,5 +1,6 @@
--- MATCH by commands, with what it answers. The texts and answers of the table mail are those of the SQLite document "SQLite FTS3
--- and FTS4 Extensions", "The Offsets Function", those of the table docs of "Full-text Index Queries"; the others are own examples.
+-- MATCH by commands, with what it answers. The texts and answers of the table mail are those of the
+-- SQLite document "SQLite FTS3 and FTS4 Extensions", "The Offsets Function", those of the table
+-- docs of "Full-text Index Queries"; the others are own examples.
 use Rattle.std.specs.Prelude.{◌≡◌, ℕ, false, List, [], ◌∷◌, ◌++◌, Some, None, Result, Ok, Err, ℤ, pos, negsuc, codes, refl}
 use Rattle.std.specs.Fmt.{digits}
 use Rattle.ft_query.specs.Reads.{query_of}
@@ -122,7 +123,8 @@ pub past_ascii_found : answers_to (after_all [] past_ascii) (
 unfolding query_of reading chosen answer insert_rows deserved after reply_to step digits
 past_ascii_found = refl
 
--- texts without lexemes or with a phrase without tokens find nothing, and texts that do not read are malformed
+-- texts without lexemes or with a phrase without tokens find nothing, and texts that do not read
+-- are malformed
 abbrev pub a_b : List Command
 a_b = create_d ∷ texts_into_d ((Text (codes "a b") ∷ []) ∷ []) ∷ []
 

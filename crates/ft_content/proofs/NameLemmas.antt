@@ -6,7 +6,8 @@ use Rattle.ft_content.proofs.Lists.{any_of_map}
 
 -- things that have names
 module _ {X : Type 0} (name_of : X → List ℕ) where
-  -- from a place on a name repeats where that name stands again behind it, or one of the later names does
+  -- from a place on a name repeats where that name stands again behind it, or one of the later
+  -- names does
   repeats_from : (xs : List X) (k : ℕ) (x : X) → k < length xs → x ≡ get_or xs k x →
       repeats_name (map name_of (drop k xs)) ≡ (list_any (λ o. same_name (name_of x) (name_of o)) (drop (k + 1) xs) || repeats_name (map name_of (drop (k + 1) xs)))
   repeats_from xs k x h e =

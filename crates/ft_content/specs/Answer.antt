@@ -12,12 +12,14 @@ use Rattle.ft_content.specs.Content.{Documents, Content, same_name, is_docid, na
 use Rattle.ft_content.specs.Index.{document_postings}
 use Rattle.ft_content.specs.Command.{Filter, All, Docid, Match, Item, AllColumns, Named, OffsetsOf, Items, Counted, Listed, Grid}
 
--- the column with this name. A MATCH name that is no column is the table, and stands for every column ("Simple FTS Queries")
+-- the column with this name. A MATCH name that is no column is the table, and stands for every
+-- column ("Simple FTS Queries")
 abbrev pub column_place : Content → List ℕ → Option ℕ
 column_place content name = position (same_name name) (names_of content.columns)
 
--- What the text of a MATCH reads as over a content's columns: a query, none where it has no lexeme, or a fault. A phrase
--- without filter is of the column that the MATCH names, and of any column where it names the table.
+-- What the text of a MATCH reads as over a content's columns: a query, none where it has no lexeme,
+-- or a fault. A phrase without filter is of the column that the MATCH names, and of any column
+-- where it names the table.
 unfoldable pub reading : Content → List ℕ → List ℕ → Result (Option Tree) QueryFault
 reading content name text = query_of (names_of content.columns) (column_place content name) text
 
@@ -79,7 +81,8 @@ item_cells query content document (OffsetsOf name) = offsets_cell query content 
 abbrev pub item_rows : Option Tree → Content → List Item → Documents → List (List Cell)
 item_rows query content items documents = map (λ (document : ℤ × List Cell). flat_map (item_cells query content document) items) documents
 
--- First offset rows are dropped, then at most limit kept. The one row of a count is cut in the same way (own choice).
+-- First offset rows are dropped, then at most limit kept. The one row of a count is cut in the same
+-- way (own choice).
 abbrev pub cut : {A : Type 0} → Option ℕ → ℕ → List A → List A
 cut None offset rows = drop offset rows
 cut (Some limit) offset rows = take limit (drop offset rows)

@@ -1,5 +1,5 @@
--- Meaning. Which fault a command deserves. Which faults there are, their limits, and the order in which they are tested over a whole command
--- are own choices, but where a section is named.
+-- Meaning. Which fault a command deserves. Which faults there are, their limits, and the order in
+-- which they are tested over a whole command are own choices, but where a section is named.
 use Rattle.std.specs.Prelude.{ℕ, ◌-◌, ◌^◌, Bool, true, false, if◌then◌else◌, not, ◌&&◌, ◌||◌, List, [], ◌∷◌, map, length, zip, Option, Some, None, Result, Ok, Err, ℤ, pos, ◌+ℤ◌, codes, nat_lt, nat_le, ◌==◌, unwrap_or, option_map, is_some, is_none}
 use Rattle.std.specs.List.{list_any, list_all, find, flat_map}
 use Rattle.std.specs.Ordering.{int_cmp, int_eq}
@@ -14,7 +14,8 @@ use Rattle.ft_content.specs.Content.{Column, Documents, Content, TableRows, same
 use Rattle.ft_content.specs.Command.{Filter, All, Docid, Match, Item, AllColumns, Named, OffsetsOf, Items, Counted, Listed, Command, Create, Drop, Insert, Update, Delete, Select, Rebuild, Check, Optimize}
 use Rattle.ft_content.specs.Answer.{reading, chosen}
 
--- What the rows of a table are: a content with the right index rows, a content with other index rows, or no content.
+-- What the rows of a table are: a content with the right index rows, a content with other index
+-- rows, or no content.
 pub data TableState : Type 0 where
   Sound : (content : Content) → TableState
   Stale : (content : Content) → TableState
@@ -121,7 +122,8 @@ with_values values columns cells = map (λ (c : Column × Cell). value_under val
 abbrev pub new_cells : List (List ℕ × Cell) → List Column → List Cell
 new_cells values columns = map (λ column. value_under values column Null) columns
 
--- the docid of a row that gives none: one more than the largest, 1 where there is no document (own choice)
+-- the docid of a row that gives none: one more than the largest, 1 where there is no document (own
+-- choice)
 abbrev pub next_docid : Documents → Option ℤ
 next_docid [] = Some (pos 1)
 next_docid (d ∷ []) = if (int_eq d.0 (pos (2 ^ 63 - 1))) then None else (Some (d.0 +ℤ pos 1))
@@ -137,7 +139,8 @@ abbrev pub append_document : Documents → Option ℤ → List Cell → Result D
 append_document documents None cells = Err faults.DocidFull
 append_document documents (Some docid) cells = Ok (put int_cmp docid cells documents)
 
--- The documents after one row, with the docids that it gives. One that exists is refused ("Populating FTS Tables").
+-- The documents after one row, with the docids that it gives. One that exists is refused
+-- ("Populating FTS Tables").
 abbrev pub insert_row : Documents → List ℤ → List Cell → Result Documents Fault
 insert_row documents [] cells = append_document documents (next_docid documents) cells
 insert_row documents (docid ∷ docids) cells = place_document documents docid cells
@@ -146,7 +149,8 @@ abbrev pub then_rows : Result Documents Fault → (Documents → Result Document
 then_rows (Ok documents) rest = rest documents
 then_rows (Err fault) rest = Err fault
 
--- the documents after rows, each given as its values under names, or the fault of the first row that fails
+-- the documents after rows, each given as its values under names, or the fault of the first row
+-- that fails
 unfoldable pub insert_rows : List Column → List (List (List ℕ × Cell)) → Documents → Result Documents Fault
 insert_rows columns [] documents = Ok documents
 insert_rows columns (values ∷ rows) documents = then_rows (insert_row documents (docids_in values) (new_cells values columns)) (insert_rows columns rows)
@@ -247,7 +251,8 @@ select_tests table content items f = first_of (
 abbrev pub select_fault : List ℕ → Content → Items → Filter → Option Fault
 select_fault table content items f = or_else (select_tests table content items f) (query_fault content f)
 
--- Rebuild wants a content ("The "rebuild" command"), and Check wants its index rows to be right ("The "integrity-check" command").
+-- Rebuild wants a content ("The "rebuild" command"), and Check wants its index rows to be right
+-- ("The "integrity-check" command").
 abbrev pub rebuild_fault : List ℕ → TableState → Option Fault
 rebuild_fault table (Sound content) = None
 rebuild_fault table (Stale content) = None
@@ -258,7 +263,8 @@ check_fault table (Sound content) = None
 check_fault table (Stale content) = Some faults.Corrupt
 check_fault table (Loose rows) = Some faults.Corrupt
 
--- The first fault that applies to a command, None where it is to be done. Two docids for one row are refused ("Populating FTS Tables").
+-- The first fault that applies to a command, None where it is to be done. Two docids for one row
+-- are refused ("Populating FTS Tables").
 unfoldable pub deserved : Contents → Command → Option Fault
 deserved contents (Create table module_name options columns if_new) = create_fault contents table module_name options (made_columns columns) if_new
 deserved contents (Drop table if_there) = first_of ((is_none (table_named contents table) && not if_there, faults.NoSuchTable) ∷ [])

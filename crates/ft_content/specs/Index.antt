@@ -1,5 +1,5 @@
--- Meaning. The index of a content: its entries, the rows that hold them, and the sizes of its cells. Its rows are an own choice; the document's
--- own are those of "Data Structures".
+-- Meaning. The index of a content: its entries, the rows that hold them, and the sizes of its
+-- cells. Its rows are an own choice; the document's own are those of "Data Structures".
 use Rattle.std.specs.Prelude.{if◌then◌else◌, ℕ, List, [], ◌∷◌, map, length, filter, ℤ, pos, nat_lt, unwrap_or}
 use Rattle.std.specs.List.{flat_map, enumerate_from}
 use Rattle.std.specs.declared.cmp.Ordering.{Ordering}
@@ -12,7 +12,8 @@ use Rattle.ft_query.specs.Documents.{Posting, postings_of}
 use Rattle.ft_values.specs.Cells.{Cell}
 use Rattle.ft_content.specs.Content.{Column, Content, cell_text}
 
--- the text of a cell that is indexed: none in a column that is not indexed ("The notindexed= option")
+-- the text of a cell that is indexed: none in a column that is not indexed ("The notindexed=
+-- option")
 abbrev pub indexed_text : Column → Cell → List ℕ
 indexed_text column cell = if column.indexed then cell_text cell else []
 
@@ -90,7 +91,8 @@ document_sizes columns document =
 unfoldable pub sizes : Content → List Size
 sizes content = flat_map (document_sizes content.columns) content.documents
 
--- A table's index rows as the store shows them: under each key its spots, and sizes under docid and column.
+-- A table's index rows as the store shows them: under each key its spots, and sizes under docid and
+-- column.
 abbrev pub StoredSpot : Type 0
 StoredSpot = stored.Spot
 

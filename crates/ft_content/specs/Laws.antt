@@ -26,7 +26,8 @@ other_sizes docid ss = filter (λ (s : Size). not (int_eq docid s.docid)) ss
 abbrev pub content_with : List Column → Documents → Content
 content_with columns documents = record { columns = columns; documents = documents }
 
--- A document that is put: of its docid exactly its own entries and sizes, of the others those that were there.
+-- A document that is put: of its docid exactly its own entries and sizes, of the others those that
+-- were there.
 pub record PutsDocument (columns : List Column) (documents : Documents) (docid : ℤ) (cells : List Cell) : Type 0 where
   pub own : entries_of docid (entries (content_with columns (put int_cmp docid cells documents))) ≡ document_entries columns (docid, cells)
   pub others : other_entries docid (entries (content_with columns (put int_cmp docid cells documents))) ≡ other_entries docid (entries (content_with columns documents))
@@ -51,7 +52,8 @@ some_if_any (s ∷ ss) = Some (s ∷ ss)
 abbrev pub ListsAreEntries : Type 0
 ListsAreEntries = (es : List Entry) (term : List ℕ) (docid : ℤ) → find key_cmp (term, docid) (spot_lists es) ≡ some_if_any (spots_in (term, docid) es)
 
--- Each list after a document is put: of its docid those of its own entries, of the others those that were there.
+-- Each list after a document is put: of its docid those of its own entries, of the others those
+-- that were there.
 abbrev pub PutsLists : Type 0
 PutsLists = (columns : List Column) (documents : Documents) (docid : ℤ) (cells : List Cell) → IsTrue (is_sorted int_cmp documents) → (term : List ℕ) (other : ℤ) →
     find key_cmp (term, other) (spot_lists (entries (content_with columns (put int_cmp docid cells documents))))
@@ -84,7 +86,8 @@ abbrev pub put_lists : SpotLists → SpotLists → SpotLists
 put_lists [] lists = lists
 put_lists (l ∷ ls) lists = put key_cmp l.0 l.1 (put_lists ls lists)
 
--- Where the lists that a document had are dropped and those that it has now are put, the lists are those made from scratch.
+-- Where the lists that a document had are dropped and those that it has now are put, the lists are
+-- those made from scratch.
 abbrev pub PlanIsRight : Type 0
 PlanIsRight = (columns : List Column) (documents : Documents) (docid : ℤ) (cells : List Cell) → IsTrue (is_sorted int_cmp documents) →
     put_lists (document_lists columns docid (Some cells)) (drop_lists (document_lists columns docid (find int_cmp docid documents)) (spot_lists (entries (content_with columns documents))))

@@ -71,8 +71,8 @@ rebuilt (Loose rows) = Loose rows
 abbrev pub on_table : Contents → List ℕ → (TableState → TableState) → Contents
 on_table contents name change = map (λ (t : ℤ × Table). if same_name t.1.name name then (t.0, record { name = t.1.name; held = change t.1.held }) else t) contents
 
--- The contents after a command that deserves no fault. Update and Delete choose on the content as it was, and Optimize changes
--- nothing (own choices).
+-- The contents after a command that deserves no fault. Update and Delete choose on the content as
+-- it was, and Optimize changes nothing (own choices).
 unfoldable pub after : Contents → Command → Contents
 after contents (Create table module_name options columns if_new) = created contents table options (made_columns columns)
 after contents (Drop table if_there) = dropped contents table
@@ -109,7 +109,8 @@ abbrev pub step_by : Option Fault → Contents → Command → Result Reply Faul
 step_by (Some fault) contents command = (Err fault, contents)
 step_by None contents command = (Ok (reply_to contents command), after contents command)
 
--- What a command answers, and the contents after it. One that is refused changes nothing (own choice).
+-- What a command answers, and the contents after it. One that is refused changes nothing (own
+-- choice).
 unfoldable pub step : Contents → Command → Result Reply Fault × Contents
 step contents command = step_by (deserved contents command) contents command
 

@@ -1,4 +1,4 @@
-// The columns of a table by their names.
+//! The columns of a table by their names.
 ghost use Rattle.std.specs.Prelude.{◌≡◌, ◌||◌, ◌++◌, OnOk};
 ghost use Rattle.std.specs.List.{list_any};
 ghost use Rattle.ft_content.specs.Content as content;

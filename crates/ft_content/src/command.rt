@@ -1,4 +1,4 @@
-// Commands on full-text tables and their replies.
+//! Commands on full-text tables and their replies.
 use ft_values::Value;
 
 /// Which documents are meant.
@@ -35,8 +35,9 @@ pub enum Items {
 /// A command on full-text tables. Names are compared without ASCII case.
 #[derive(Debug, Drop)]
 pub enum Command {
-    /// Makes a table of these columns, or of one named `content` where there is none. An option is a name and a value.
-    /// With `if_new` a table of that name may be there, and then nothing is made.
+    /// Makes a table of these columns, or of one named `content` where there is none. An option is
+    /// a name and a value. With `if_new` a table of that name may be there, and then nothing is
+    /// made.
     Create {
         table: String,
         module: String,
@@ -49,7 +50,8 @@ pub enum Command {
         table: String,
         if_there: bool,
     },
-    /// Adds a document for each row. A row has a value for each of `columns`, or for each column of the table.
+    /// Adds a document for each row. A row has a value for each of `columns`, or for each column of
+    /// the table.
     Insert {
         table: String,
         columns: Option<Vec<String>>,
@@ -66,7 +68,8 @@ pub enum Command {
         table: String,
         filter: Filter,
     },
-    /// Answers items of the documents that are chosen, by rising docid, without the first `offset` and at most `limit`.
+    /// Answers items of the documents that are chosen, by rising docid, without the first `offset`
+    /// and at most `limit`.
     Select {
         table: String,
         items: Items,

@@ -1,4 +1,4 @@
-// What a Create makes, and the tests that refuse it.
+//! What a Create makes, and the tests that refuse it.
 ghost use Rattle.std.specs.Prelude.{◌≡◌, ◌-◌, ◌^◌, ◌<◌, ◌&&◌, ◌||◌, not, map, length, codes, string_bytes, IfOk};
 ghost use Rattle.std.specs.List.{list_any};
 ghost use Rattle.ft_content.specs.Calls.{IsFreeId};
@@ -142,8 +142,8 @@ fn create_tests(
     None
 }
 
-/// The fault of a Create of a table with columns of these names, if it deserves one. The tables are those that are
-/// there.
+/// The fault of a Create of a table with columns of these names, if it deserves one. The tables are
+/// those that are there.
 pub fn create_fault(
     alloc: Global,
     tables: &[TableInfo],

@@ -1,4 +1,4 @@
-// Docids that rows and Updates give.
+//! Docids that rows and Updates give.
 ghost use Rattle.std.specs.Prelude.{◌≡◌, ℤ, List, slice_get, IfSome, IsTrue};
 ghost use Rattle.std.specs.Ordering.{int_cmp};
 ghost use Rattle.std.specs.FinMap.Entries.{put, is_sorted};
@@ -10,8 +10,8 @@ ghost use Rattle.ft_content.specs.Views.{last_docid, placed};
 
 use ft_values::Fault;
 
-// The docid of a document that is given none, where this is the last one's: one more, or 1 where there is no document.
-// There is none behind the largest of all.
+// The docid of a document that is given none, where this is the last one's: one more, or 1 where
+// there is no document. There is none behind the largest of all.
 fn next_docid(last: Option<i64>) -> Option<i64>
     ensures { (documents : Documents) → last_docid documents ≡ last
         → result ≡ deserved.next_docid documents }
@@ -22,12 +22,13 @@ fn next_docid(last: Option<i64>) -> Option<i64>
     }
 }
 
-/// Under which docid a row is put among documents of which this is the last docid. The row may give a docid, which may be
-/// taken.
+/// Under which docid a row is put among documents of which this is the last docid. The row may give
+/// a docid, which may be taken.
 ///
 /// # Errors
 ///
-/// `DocidTaken` where the docid that is given is taken, and `DocidFull` where none is given and none is left.
+/// `DocidTaken` where the docid that is given is taken, and `DocidFull` where none is given and
+/// none is left.
 pub fn docid_for_row(last: Option<i64>, given: Option<i64>, is_taken: bool) -> Result<i64, Fault>
     ensures { (documents : Documents) (docids : List ℤ) (cells : List Cell)
         → last_docid documents ≡ last → slice_get docids 0 ≡ given
@@ -48,8 +49,8 @@ pub fn docid_for_row(last: Option<i64>, given: Option<i64>, is_taken: bool) -> R
     }
 }
 
-/// The fault of an Update that chooses the documents of these docids and may set one, if it deserves a fault. The docid
-/// that is set may be taken by a document of the table.
+/// The fault of an Update that chooses the documents of these docids and may set one, if it
+/// deserves a fault. The docid that is set may be taken by a document of the table.
 pub fn moves_fault(chosen: &[i64], given: Option<i64>, is_taken: bool) -> Option<Fault>
     ensures { (documents picked : Documents) (docids : List ℤ) → step.docids_of picked ≡ chosen.now
         → slice_get docids 0 ≡ given

@@ -1,4 +1,4 @@
-// What an Insert makes of its rows, and the tests that refuse them.
+//! What an Insert makes of its rows, and the tests that refuse them.
 ghost use Rattle.std.specs.Prelude.{◌≡◌, ◌∷◌, ◌&&◌, ◌==◌, [], if◌then◌else◌, not, nat_lt, map, length, zip, find, slice_get, option_map, string_bytes, IfOk};
 ghost use Rattle.std.specs.List.{list_any, list_all};
 ghost use Rattle.ft_values.specs.Cells.{shown_value};

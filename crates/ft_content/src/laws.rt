@@ -1,4 +1,4 @@
-// Laws of the definitions.
+//! Laws of the definitions.
 ghost use Rattle.ft_content.specs.Content.{RowsHoldContent};
 ghost use Rattle.ft_content.specs.Laws.{CommandsKeepContent, IndexGoesByDocument, GoInPieces};
 ghost use Rattle.ft_content.specs.Meaning.{ListsMeanContent};
@@ -13,7 +13,8 @@ pub fn rows_hold_one_content()
     ensures { RowsHoldContent }
 {}
 
-/// A command may be done in pieces: row by row, and with the documents cut off before their rows are made.
+/// A command may be done in pieces: row by row, and with the documents cut off before their rows
+/// are made.
 pub fn commands_in_pieces()
     ensures { GoInPieces }
 {}
@@ -23,7 +24,8 @@ pub fn index_by_document()
     ensures { IndexGoesByDocument }
 {}
 
-/// The posting lists of a content mean its documents, so a query over the lists finds the documents that a MATCH chooses.
+/// The posting lists of a content mean its documents, so a query over the lists finds the documents
+/// that a MATCH chooses.
 pub fn lists_mean_documents()
     ensures { ListsMeanContent }
 {

@@ -1,4 +1,4 @@
-// Which rows of an answer are given.
+//! Which rows of an answer are given.
 ghost use Rattle.std.specs.Prelude.{◌≡◌, drop, take};
 ghost use Rattle.ft_content.specs.Answer as answer;
 

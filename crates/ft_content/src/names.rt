@@ -1,4 +1,4 @@
-// Names of tables and columns. They are compared without ASCII case.
+//! Names of tables and columns. They are compared without ASCII case.
 ghost use Rattle.std.specs.Prelude.{◌≡◌, ◌++◌, ◌∷◌, [], ℕ, List, map, not, string_bytes, IfOk, OnOk};
 ghost use Rattle.std.specs.List.{list_any, list_all};
 ghost use Rattle.ft_content.specs.Content as content;
@@ -84,7 +84,8 @@ fn repeats_behind(names: &[String]) -> bool
     false
 }
 
-/// Whether a name stands twice among these. Where there is no memory for a set, it takes time in the square of their number.
+/// Whether a name stands twice among these. Where there is no memory for a set, it takes time in
+/// the square of their number.
 pub fn repeats_name(alloc: Global, names: &[String]) -> bool
     ensures { result ≡ content.repeats_name (map string_bytes names.now) }
 {

@@ -1,4 +1,4 @@
-// MATCH texts as queries over a table's columns.
+//! MATCH texts as queries over a table's columns.
 ghost use Rattle.std.specs.Prelude.{◌≡◌, map, string_bytes, Err, IfOk, Some};
 ghost use Rattle.ft_content.specs.Content.{names_of};
 ghost use Rattle.ft_content.specs.Deserved.{reading_fault};
@@ -30,8 +30,8 @@ fn named_columns(alloc: Global, columns: &[Column]) -> Result<Vec<String>, Alloc
     Ok(names)
 }
 
-/// The query of a MATCH on this name, where the name is the table's or a column's. There is none in a text without
-/// lexemes.
+/// The query of a MATCH on this name, where the name is the table's or a column's. There is none in
+/// a text without lexemes.
 ///
 /// # Errors
 ///

@@ -1,4 +1,4 @@
-// What a Select answers, and the tests of its names.
+//! What a Select answers, and the tests of its names.
 ghost use Rattle.std.specs.Prelude.{◌≡◌, ◌∷◌, ◌++◌, ◌&&◌, ◌||◌, [], false, not, Option, map, codes, slice_get, unwrap_or, string_bytes, IfOk, OnOk};
 ghost use Rattle.std.specs.List.{list_any, flat_map};
 ghost use Rattle.ft_values.specs.Cells as stored;
@@ -261,7 +261,8 @@ fn push_item(
     Ok(())
 }
 
-/// The row of a document, where the offsets of the query in it are this text. They need not be where none are asked for.
+/// The row of a document, where the offsets of the query in it are this text. They need not be
+/// where none are asked for.
 pub fn item_row(
     alloc: Global,
     columns: &[Column],

@@ -1,4 +1,4 @@
-// What an Update makes of a document, and the tests that refuse it.
+//! What an Update makes of a document, and the tests that refuse it.
 ghost use Rattle.std.specs.Prelude.{◌≡◌, ◌&&◌, ◌||◌, not, map, find, length, slice_get, option_map, string_bytes, IfOk};
 ghost use Rattle.std.specs.List.{list_any, list_all};
 ghost use Rattle.ft_values.specs.Cells.{shown_value};
@@ -48,8 +48,8 @@ fn repeats_behind(sets: &[(String, Value)]) -> bool
     false
 }
 
-/// Whether two of these values stand under one name. Where there is no memory for a set, it takes time in the square of their
-/// number.
+/// Whether two of these values stand under one name. Where there is no memory for a set, it takes
+/// time in the square of their number.
 pub fn repeats_set(alloc: Global, sets: &[(String, Value)]) -> bool
     ensures { result ≡ content.repeats_name (map (λ s. s.0) (map set_of sets.now)) }
 {

@@ -1,4 +1,4 @@
-// Values of cells.
+//! Values of cells.
 ghost use Rattle.std.specs.Prelude.{◌≡◌, [], if◌then◌else◌, slice_get, IfOk};
 ghost use Rattle.ft_values.specs.Cells.{shown_value};
 ghost use Rattle.ft_content.specs.Content as content;

@@ -26,8 +26,9 @@ pub struct Line {
     pub inputs: Vec<String>,
 }
 
-/// Why a command line says nothing. What it displays is the program's own line, but for the words that the command
-/// refuses: then it is the text of `clap`, which is the help where that was asked for.
+/// Why a command line says nothing. What it displays is the program's own line, but for the words
+/// that the command refuses: then it is the text of `clap`, which is the help where that was asked
+/// for.
 #[derive(Debug, Drop, Error)]
 pub enum LineFault {
     #[error("{0}")]
@@ -366,8 +367,8 @@ fn meaning_of(alloc: Global, matches: &ArgMatches<'_>) -> Result<Line, LineFault
     })
 }
 
-/// Reads the words of a command line, without the program's own name. A word of one dash and at least two ASCII letters
-/// is read with two dashes, up to a word of two dashes.
+/// Reads the words of a command line, without the program's own name. A word of one dash and at
+/// least two ASCII letters is read with two dashes, up to a word of two dashes.
 pub fn read_line(alloc: Global, words: &[&str]) -> Result<Line, LineFault>
     ensures { ReadsLine (map (λ word. word.now) words.now) result }
 {

@@ -1,5 +1,5 @@
--- The tests say of the lexemes as the parser holds them what they say of the text's, and where no number is too great they are
--- the text's.
+-- The tests say of the lexemes as the parser holds them what they say of the text's, and where no
+-- number is too great they are the text's.
 use Rattle.std.proofs.Common.{◌≡◌, ℕ, ◌+◌, ◌<◌, ◌≤◌, Bool, true, false, cond, List, [], ◌∷◌, length, map, refl, sym, ap, ◌∙◌, arith}
 use Rattle.std.specs.Prelude.{◌||◌, ◌==◌, nat_lt, min, sum_by, Option, Some, None, Err}
 use Rattle.std.specs.List.{list_any}

@@ -157,7 +157,8 @@ choice_of_reach postings p (link ∷ links) at c =
     let rest = choice_of_reach postings link.to links next.0 next.1 in
     (next.0 ∷ rest.0, (here.0, next.2, rest.1))
 
--- a chain has a choice where its first phrase has an occurrence from which the others can be reached
+-- a chain has a choice where its first phrase has an occurrence from which the others can be
+-- reached
 chain_accepted : (postings : List Posting) (p : PlainPhrase) (links : List PlainLink)
     → is_filled (reach postings p links) ≡ is_filled (choices postings p links)
 chain_accepted postings p links = same_bool (is_filled (reach postings p links)) (is_filled (choices postings p links))

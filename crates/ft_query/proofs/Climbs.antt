@@ -157,7 +157,8 @@ part_cost (j ∷ js) p front rest same all =
     let parts : front ++ near ++ far ≡ front ++ rest = append_assoc front near far ∙ ap (λ l. front ++ l) (take-append-drop k rest) in
     subst (λ l. visit_cost p (plain_lists front) ≤ visit_cost (joined w j.by q) (plain_lists l)) parts (omega (arith, inner, cost))
 
--- A part with its joints is the query, and its lists are the front. It is evaluated, and whether it accepts is told.
+-- A part with its joints is the query, and its lists are the front. It is evaluated, and whether it
+-- accepts is told.
 pub record Climbs (query : Tree) (lists rest : List Places) (joints : List Joint) (accepted : Bool) (old now : Found) (begun steps : Steps) : Type 0 where
   pub part : Tree
   pub front : List Places

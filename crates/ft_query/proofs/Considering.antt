@@ -70,7 +70,8 @@ nothing_left wanted q ls s t documents stands none same_steps = by (next_of (tre
 one_more : (n : ℕ) → 1 + n ≡ suc n
 one_more n = omega arith
 
--- What an answer of offsets for the document of this docid adds: its hit, if there is one, of whose offsets the wanted ones are told.
+-- What an answer of offsets for the document of this docid adds: its hit, if there is one, of whose
+-- offsets the wanted ones are told.
 pub record Adds (wanted : Wanted) (old new : Walk) (docid : ℤ) (answer : Option (List Offset)) (documents : List Document) : Type 0 where
   pub offsets : List Offset
   pub went : Went old new (hit_at (option_map (λ (o : List Offset). docid) answer) offsets) documents

@@ -33,7 +33,8 @@ range_empty text place =
 
 -- ---- one byte that ends what is begun
 
--- what is begun after a byte that ends something is empty, and a quoted part only after a quote that ends a chunk
+-- what is begun after a byte that ends something is empty, and a quoted part only after a quote
+-- that ends a chunk
 after_by : (q : Bool) (bytes : List ℕ) (b : ℕ) (is_quote is_open is_close is_space : Bool)
     → ends_part q (mark_by is_quote is_open is_close is_space) ≡ true
     → begun_after (begun q bytes) (mark_by is_quote is_open is_close is_space) b ≡ begun (not q && is_quote) []
@@ -99,7 +100,8 @@ ends_ascii q b ends = ⊎_elim
 
 -- ---- what is left of a text
 
--- the parts that end in what is left of the text from place on, where a quoted part or a chunk began at start
+-- the parts that end in what is left of the text from place on, where a quoted part or a chunk
+-- began at start
 abbrev pub parts_left : List ℕ → Bool → ℕ → ℕ → List Part
 parts_left text q start place = parts_from (begun q (slice_range text start place)) (drop place text)
 
@@ -132,7 +134,8 @@ held-append columns xs ys =
     ap (map capped) (flat_map-append (lexemes_of_part columns) xs ys)
     ∙ map-append capped (flat_map (lexemes_of_part columns) xs) (flat_map (lexemes_of_part columns) ys)
 
--- Before place these lexemes ended, and a quoted part or a chunk began at start: they and those of what is left are the text's.
+-- Before place these lexemes ended, and a quoted part or a chunk began at start: they and those of
+-- what is left are the text's.
 pub record Lexed (columns : List (List ℕ)) (text : List ℕ) (found : List Lexeme) (q : Bool) (start place : ℕ) : Type 0 where
   pub before : start ≤ place
   pub cut : IsCharBoundary text start

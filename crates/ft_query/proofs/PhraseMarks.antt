@@ -1,4 +1,5 @@
--- The passes over the lists of a phrase's terms give the places that the terms take in the occurrences that count.
+-- The passes over the lists of a phrase's terms give the places that the terms take in the
+-- occurrences that count.
 use Rattle.std.proofs.Common.{◌≡◌, ℕ, ◌+◌, ◌==◌, ◌&&◌, ◌||◌, Bool, true, false, not, cond, List, [], ◌∷◌, map, refl, sym, ap, ◌∙◌, subst, arith, add-zero}
 use Rattle.std.specs.Prelude.{filter, AllPairs}
 use Rattle.std.specs.List.{list_any, AllByRecursion}

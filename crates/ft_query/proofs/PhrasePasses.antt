@@ -1,4 +1,5 @@
--- The passes over the lists of a phrase's terms give its occurrences, and the places of its terms in them.
+-- The passes over the lists of a phrase's terms give its occurrences, and the places of its terms
+-- in them.
 use Rattle.std.proofs.Common.{◌≡◌, ℕ, ◌+◌, ◌<◌, ◌==◌, ◌&&◌, ◌||◌, Bool, true, false, not, cond, List, [], ◌∷◌, inl, inr, map, refl, sym, ap, ◌∙◌, arith, add-zero}
 use Rattle.std.specs.Prelude.{filter, AllPairs, Option}
 use Rattle.std.specs.List.{list_any, AllByRecursion}

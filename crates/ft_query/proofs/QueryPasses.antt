@@ -1,4 +1,5 @@
--- From the lists of its terms in one document, what a query accepts and the places that its terms take.
+-- From the lists of its terms in one document, what a query accepts and the places that its terms
+-- take.
 use Rattle.std.proofs.Common.{◌≡◌, ◌&&◌, ◌||◌, not, List, ◌++◌, length, map, take, drop, refl, ap, ◌∙◌}
 use Rattle.std.specs.Prelude.{AllPairs}
 use Rattle.ft_query.specs.declared.lists.place.Place.{Place}

@@ -21,8 +21,8 @@ width (both p q) = width p + width q
 width (either p q) = width p + width q
 width (without p q) = width p + width q
 
--- For each term its list: of the term itself, or of all that begins so where it is a prefix term. A first term's list is that of
--- the term in every position.
+-- For each term its list: of the term itself, or of all that begins so where it is a prefix term. A
+-- first term's list is that of the term in every position.
 abbrev pub lists_of : Tree → List Document → List (List PlaceList)
 lists_of tree documents = map (λ t. lists_with (is_listed t) documents) (terms_in tree)
 

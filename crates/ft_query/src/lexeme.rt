@@ -1,4 +1,4 @@
-// The lexemes of a part of a MATCH text.
+//! The lexemes of a part of a MATCH text.
 ghost use Rattle.std.specs.Prelude.{◌≡◌, ◌+◌, ◌≤◌, ◌==◌, ◌&&◌, ◌++◌, ◌∷◌, [], ℕ, List, map, min, drop, length, codes, nat_eq, slice_index, string_bytes, if◌then◌else◌, true, false, position, None, Some, MatchOption, IfOk, OnOk};
 ghost use Rattle.std.specs.List.{before_first, after_first, list_any, list_all, starts_with};
 ghost use Rattle.std.specs.Char.{is_ascii_digit};

@@ -1,4 +1,4 @@
-// The lexemes of a MATCH text.
+//! The lexemes of a MATCH text.
 ghost use Rattle.std.specs.Prelude.{◌≡◌, ◌++◌, ◌==◌, ◌&&◌, not, true, false, map, flat_map, string_bytes, MatchOption, IfOk, OnOk};
 ghost use Rattle.std.specs.List.{list_any};
 ghost use Rattle.ft_query.specs.Lexemes.{parts_of, lexemes_of_part, lexemes_of};

@@ -1,4 +1,4 @@
-// The limits on what a query may ask for.
+//! The limits on what a query may ask for.
 ghost use Rattle.std.specs.Prelude.{◌≡◌, nat_lt, map, sum_by};
 ghost use Rattle.std.specs.List.{list_any};
 ghost use Rattle.ft_query.specs.Reads.{term_count, is_far, nests_deep};

@@ -1,4 +1,4 @@
-// One pass over the lexemes, with a stack of what waits for a right side.
+//! One pass over the lexemes, with a stack of what waits for a right side.
 ghost use Rattle.std.specs.Prelude.{◌≡◌, [], ◌∷◌, ◌++◌, map, option_map, IfOk};
 ghost use Rattle.ft_query.specs.Trees.{plain_phrase, plain_link, tree_of, tree_of_chain, both, either, without};
 ghost use Rattle.ft_query.specs.Pass.{chained, operator, nothing_waits, last_state, join, or_whole, not_state, and_state, or_state, begin, close, after_operand, phrase_of, step, finish, tree_from};

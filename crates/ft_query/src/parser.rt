@@ -1,4 +1,4 @@
-// The parser of MATCH queries.
+//! The parser of MATCH queries.
 ghost use Rattle.std.specs.Prelude.{◌≡◌, ◌≢◌, ◌==◌, map, string_bytes, option_map, Ok, Err, IfOk, IfErr};
 ghost use Rattle.std.specs.List.{list_any};
 ghost use Rattle.ft_query.specs.Trees.{tree_of};

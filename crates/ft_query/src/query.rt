@@ -1,4 +1,4 @@
-// MATCH queries.
+//! MATCH queries.
 ghost use Rattle.std.specs.Prelude.{◌<◌, vec_len};
 
 use std::alloc::AllocError;

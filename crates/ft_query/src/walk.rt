@@ -1,4 +1,4 @@
-// What a walk over the documents that a query accepts gives.
+//! What a walk over the documents that a query accepts gives.
 ghost use Rattle.std.specs.Prelude.{◌≡◌, ◌∷◌, ◌++◌, map, decimal, string_bytes, IfOk, OnOk};
 ghost use Rattle.std.specs.List.{join_with_byte};
 ghost use Rattle.ft_query.specs.Occurs.{offset_numbers, offsets_text};

@@ -1,4 +1,5 @@
--- Steps. How a packed list is read: its numbers from the last byte on, and then its places from the first on, each tested as it comes.
+-- Steps. How a packed list is read: its numbers from the last byte on, and then its places from the
+-- first on, each tested as it comes.
 use Rattle.std.specs.Prelude.{◌≡◌, ℕ, MatchOption, ◌+◌, Bool, false, ◌&&◌, ◌||◌, ◌==◌, List, [], ◌∷◌, Option, Some, None, nat_lt, if◌then◌else◌}
 use Rattle.std.specs.Borrow.{Bor}
 use Rattle.std.specs.Option.{option_and_then}

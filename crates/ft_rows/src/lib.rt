@@ -1,5 +1,5 @@
-//! The rows of a store as a value, what row changes make of it, the packed list of a term's places in a document, and postings by their
-//! terms.
+//! The rows of a store as a value, what row changes make of it, the packed list of a term's places
+//! in a document, and postings by their terms.
 #![tactic(auto)]
 
 mod packed;

@@ -184,7 +184,8 @@ pub fn is_list_of(bytes: &[u8], postings: &[Posting]) -> bool
 
 // ---- unpacking
 
-/// Takes a byte before the numbers so far, the first of which is at the end. False where no list has them.
+/// Takes a byte before the numbers so far, the first of which is at the end. False where no list
+/// has them.
 fn add_byte(numbers: &mut Vec<u32>, byte: u8) -> Result<bool, AllocError>
     ensures goes { IfOk result (λ more. more ≡ true
         → next_numbers byte (reverse numbers.old.items) ≡ Some (reverse numbers.new.items)) }

@@ -1,4 +1,5 @@
--- The worked statements over the words of the grammar: the class that each has, or that it has none.
+-- The worked statements over the words of the grammar: the class that each has, or that it has
+-- none.
 use Rattle.std.proofs.Common.{[], ◌∷◌, codes, Some, None, true, false}
 use Rattle.std.specs.Prelude.{pos, negsuc, encode_utf8_all}
 use Rattle.ft_content.specs.Content.{Null, Int, Text}

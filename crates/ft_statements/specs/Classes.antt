@@ -13,7 +13,8 @@ abbrev pub class_as : Class → forms.Class
 class_as classes.Plain = forms.Plain
 class_as (classes.FullText command) = forms.FullText (command_of command)
 
--- the class of a statement, where these full-text tables are there, as it is read and as the grammar spells it; or it has none
+-- the class of a statement, where these full-text tables are there, as it is read and as the
+-- grammar spells it; or it has none
 pub record ReadsClass (tables : List (List ℕ)) (ts : List Token) (result : Result Class StatementFault) : Type 0 where
   pub class : IfOk result (λ class. forms.class_of tables ts ≡ Some (class_as class))
   pub syntax : IsErrOf result fault.Syntax → forms.class_of tables ts ≡ None

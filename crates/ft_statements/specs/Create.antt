@@ -1,5 +1,6 @@
--- Meaning. CREATE VIRTUAL TABLE and DROP TABLE, read step by step ("Creating and Destroying FTS Tables" of the SQLite document "SQLite FTS3
--- and FTS4 Extensions"). That the forms of Grammar are read so, and no others, is a law.
+-- Meaning. CREATE VIRTUAL TABLE and DROP TABLE, read step by step ("Creating and Destroying FTS
+-- Tables" of the SQLite document "SQLite FTS3 and FTS4 Extensions"). That the forms of Grammar are
+-- read so, and no others, is a law.
 use Rattle.std.specs.Prelude.{ℕ, List, [], ◌∷◌, map, Option, Some, None, codes}
 use Rattle.std.specs.List.{join_with_byte}
 use Rattle.std.specs.Option.{option_or}
@@ -20,8 +21,8 @@ abbrev pub tokenizer_of : List Token → Option Argument
 tokenizer_of [] = None
 tokenizer_of (t ∷ ts) = Some (Setting (codes "tokenize") (joined (t ∷ ts)))
 
--- `tokenize` with the words of a tokenizer, behind an equals sign if there is one ("Tokenizers"; that the sign may be missing is an
--- own choice)
+-- `tokenize` with the words of a tokenizer, behind an equals sign if there is one ("Tokenizers";
+-- that the sign may be missing is an own choice)
 abbrev pub tokenizer : List Token → Option Argument
 tokenizer ts = keyword_at (codes "tokenize") ts >>= λ rest. tokenizer_of (optional (symbol_at (codes "=") rest) rest).1
 
@@ -29,7 +30,8 @@ tokenizer ts = keyword_at (codes "tokenize") ts >>= λ rest. tokenizer_of (optio
 abbrev pub setting : List Token → Option Argument
 setting ts = name_at ts >>= λ name. symbol_at (codes "=") name.1 >>= λ value. Some (Setting name.0 (joined value))
 
--- a column: a name or a text. What follows, such as a type or a constraint, is ignored ("Creating and Destroying FTS Tables").
+-- a column: a name or a text. What follows, such as a type or a constraint, is ignored ("Creating
+-- and Destroying FTS Tables").
 abbrev pub column : List Token → Option Argument
 column ts = token_at (λ t. option_or (name_of t) (literal_of t)) ts >>= λ name. Some (Column name.0)
 

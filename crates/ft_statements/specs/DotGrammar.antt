@@ -1,5 +1,6 @@
--- Meaning. Which words of a dot line make which command, case by case. A section named in quotes is one of the SQLite document "Command Line
--- Shell For SQLite". That names are exact, and that each command has just these words, is our own choice.
+-- Meaning. Which words of a dot line make which command, case by case. A section named in quotes is
+-- one of the SQLite document "Command Line Shell For SQLite". That names are exact, and that each
+-- command has just these words, is our own choice.
 use Rattle.std.specs.Prelude.{◌≡◌, ◌≢◌, ℕ, ◌≤◌, Bool, true, false, List, [], ◌∷◌, ◌++◌, length, Option, Some, None, codes}
 use Rattle.std.specs.List.{list_all}
 use Rattle.std.specs.Char.{is_ascii_digit}
@@ -74,8 +75,8 @@ pub data IsUsed : List ℕ → List ℕ → Type 0 where
   uses_quit : IsUsed (codes "quit") (codes ".quit")
   uses_exit : IsUsed (codes "exit") (codes ".exit")
 
--- what a dot line says: nothing without words, the command that its words make, how its name is used where they make none, and
--- nothing known where its name is none of these
+-- what a dot line says: nothing without words, the command that its words make, how its name is
+-- used where they make none, and nothing known where its name is none of these
 pub data Says : List (List ℕ) → DotCommand → Type 0 where
   no_words : Says [] Nothing
   command : {words : List (List ℕ)} {c : DotCommand} → Makes words c → Says words c

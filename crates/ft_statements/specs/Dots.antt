@@ -1,5 +1,6 @@
--- Meaning. Which dot-command a line's words are ("Command Line Shell For SQLite": the sections "Special commands to sqlite3", "Changing
--- Output Formats", "Importing files as CSV or other formats"). Names are exact, and each command has just these words: own choices.
+-- Meaning. Which dot-command a line's words are ("Command Line Shell For SQLite": the sections
+-- "Special commands to sqlite3", "Changing Output Formats", "Importing files as CSV or other
+-- formats"). Names are exact, and each command has just these words: own choices.
 use Rattle.std.specs.Prelude.{ℕ, nat_le, nat_lt, Bool, true, false, ◌&&◌, ◌||◌, List, [], ◌∷◌, length, Option, Some, None, option_map, if◌then◌else◌, codes, bytes_eq}
 use Rattle.std.specs.List.{list_all}
 use Rattle.std.specs.Char.{is_ascii_digit}
@@ -9,7 +10,8 @@ use Rattle.shell_text.specs.declared.settings.Mode.TheVariants as mode
 use Rattle.ft_statements.specs.Values.{digits_value}
 use Rattle.ft_statements.specs.Reading.{◌>>=◌}
 
--- what `.import` is told: whether a comma parts fields, how many records are skipped, and a file's and a table's name
+-- what `.import` is told: whether a comma parts fields, how many records are skipped, and a file's
+-- and a table's name
 pub record Import : Type 0 where
   pub csv : Bool
   pub skip : Option ℕ

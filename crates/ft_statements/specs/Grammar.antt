@@ -1,7 +1,8 @@
--- Meaning. The grammar of full-text statements: which words spell which command, which statements are full-text, and the class of a
--- statement. A section named in quotes is one of the SQLite document "SQLite FTS3 and FTS4 Extensions"; what has none is our own
--- choice, and so it is that just these forms are read. Tables are made and dropped as in "Creating and Destroying FTS Tables",
--- written as in "Populating FTS Tables", and read as in "Simple FTS Queries".
+-- Meaning. The grammar of full-text statements: which words spell which command, which statements
+-- are full-text, and the class of a statement. A section named in quotes is one of the SQLite
+-- document "SQLite FTS3 and FTS4 Extensions"; what has none is our own choice, and so it is that
+-- just these forms are read. Tables are made and dropped as in "Creating and Destroying FTS
+-- Tables", written as in "Populating FTS Tables", and read as in "Simple FTS Queries".
 use Rattle.std.specs.Prelude.{◌≡◌, ℕ, ◌^◌, ◌<◌, ◌≤◌, ◌⊎◌, ℤ, pos, neg_ℤ, Bool, true, false, ◌||◌, List, [], ◌∷◌, ◌++◌, Option, Some, None, codes}
 use Rattle.std.specs.List.{Any}
 use Rattle.std.specs.Str.{str_eq_ignore_ascii_case}
@@ -135,12 +136,14 @@ pub data IsSetting : List Token → Argument → Type 0 where
   setting : {name sign : Token} {ts : List Token} {n : List ℕ} →
       IsName name n → IsSymbol (codes "=") sign → IsSetting (name ∷ sign ∷ ts) (Setting n (joined ts))
 
--- (name | text) {word}          a column; what stands behind its name is ignored ("Creating and Destroying FTS Tables")
+-- (name | text) {word}          a column; what stands behind its name is ignored ("Creating and
+-- Destroying FTS Tables")
 pub data IsColumn : List Token → Argument → Type 0 where
   named_column : {name : Token} {ts : List Token} {n : List ℕ} → IsName name n → IsColumn (name ∷ ts) (Column n)
   text_column : {text : Token} {ts : List Token} {n : List ℕ} → IsText text n → IsColumn (text ∷ ts) (Column n)
 
--- the first of the three that the words are. Their parentheses are balanced, and a comma in them ends nothing (our own choice).
+-- the first of the three that the words are. Their parentheses are balanced, and a comma in them
+-- ends nothing (our own choice).
 pub data IsArgument : List Token → Argument → Type 0 where
   argument : {ts : List Token} {a : Argument} →
       IsPart ts → FirstOf IsTokenizer (FirstOf IsSetting IsColumn) ts a → IsArgument ts a
@@ -153,7 +156,8 @@ pub data AreArguments : List Token → List Argument → Type 0 where
   some_arguments : {ts : List Token} {given : List Argument} →
       InParens (Separated IsArgument) ts given → AreArguments ts given
 
--- ---- CREATE VIRTUAL TABLE [IF NOT EXISTS] name USING name arguments          ("Creating and Destroying FTS Tables")
+-- ---- CREATE VIRTUAL TABLE [IF NOT EXISTS] name USING name arguments
+-- ("Creating and Destroying FTS Tables")
 
 -- [IF NOT EXISTS]          (our own choice)
 pub data IsIfNew : List Token → Bool → Type 0 where
@@ -241,7 +245,8 @@ pub data IsDelete : List Token → Command → Type 0 where
       IsKeyword (codes "DELETE") a → IsKeyword (codes "FROM") b → IsName name n → IsWhere behind filter →
       IsDelete (a ∷ b ∷ name ∷ behind) (Delete n filter)
 
--- ---- SELECT items FROM name [WHERE filter] [ORDER BY key [ASC]] [LIMIT n [OFFSET n]]          ("Simple FTS Queries")
+-- ---- SELECT items FROM name [WHERE filter] [ORDER BY key [ASC]] [LIMIT n [OFFSET n]]
+-- ("Simple FTS Queries")
 
 -- * | offsets ( name ) | name          ("Simple FTS Queries", "The Offsets Function")
 pub data IsItem : List Token → Item → Type 0 where
@@ -325,7 +330,8 @@ pub data IsFullText (tables : List (List ℕ)) : List Token → Type 0 where
   names_one : (before : List Token) {lead table : Token} (behind : List Token) →
       IsLead lead → IsTable tables table → IsFullText tables (before ++ lead ∷ table ∷ behind)
 
--- a statement that isn't full-text is plain; one that is has the class of its command, and none where it spells none
+-- a statement that isn't full-text is plain; one that is has the class of its command, and none
+-- where it spells none
 pub data HasClass (tables : List (List ℕ)) : List Token → Class → Type 0 where
   plain_class : {ts : List Token} → ¬ IsFullText tables ts → HasClass tables ts Plain
   full_text_class : {ts : List Token} {c : Command} →

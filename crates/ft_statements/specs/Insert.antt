@@ -1,5 +1,5 @@
--- Meaning. INSERT ("Populating FTS Tables") and the special commands ("Special Commands For FTS3 and FTS4"), read step by step. That the forms
--- of Grammar are read so, and no others, is a law.
+-- Meaning. INSERT ("Populating FTS Tables") and the special commands ("Special Commands For FTS3
+-- and FTS4"), read step by step. That the forms of Grammar are read so, and no others, is a law.
 use Rattle.std.specs.Prelude.{ℕ, List, [], ◌∷◌, Option, Some, None, if◌then◌else◌, codes}
 use Rattle.std.specs.Str.{str_eq_ignore_ascii_case}
 use Rattle.ft_content.specs.Content.{Cell}
@@ -25,7 +25,8 @@ only_name ts = only name_of ts
 abbrev pub only_literal : List Token → Option (List ℕ)
 only_literal ts = only literal_of ts
 
--- the one column is named as the table, and the one value is the word of a special command, in any case of ASCII letters
+-- the one column is named as the table, and the one value is the word of a special command, in any
+-- case of ASCII letters
 abbrev pub special : List Token → Option Command
 special ts = do
   rest ← keywords_at (codes "INSERT" ∷ codes "INTO" ∷ []) ts

@@ -11,7 +11,8 @@ begins_query t = is_keyword (codes "SELECT") t || is_keyword (codes "VALUES") t 
 abbrev pub may_return : Token → Bool
 may_return t = is_keyword (codes "INSERT") t || is_keyword (codes "UPDATE") t || is_keyword (codes "DELETE") t || is_keyword (codes "REPLACE") t
 
--- Whether a plain statement is run as a query: its first word says so, or that it writes and RETURNING stands behind it (own choice)
+-- Whether a plain statement is run as a query: its first word says so, or that it writes and
+-- RETURNING stands behind it (own choice)
 abbrev pub asks : List Token → Bool
 asks [] = false
 asks (t ∷ ts) = begins_query t || (may_return t && list_any (is_keyword (codes "RETURNING")) ts)

@@ -1,5 +1,5 @@
--- Meaning. SELECT ("Simple FTS Queries", "The Offsets Function"), read step by step. That the form of Grammar is read so, and no other, is a
--- law.
+-- Meaning. SELECT ("Simple FTS Queries", "The Offsets Function"), read step by step. That the form
+-- of Grammar is read so, and no other, is a law.
 use Rattle.std.specs.Prelude.{ℕ, List, [], ◌∷◌, Option, Some, None, codes}
 use Rattle.std.specs.Option.{option_or}
 use Rattle.ft_content.specs.Command.{Command, Item, Items, AllColumns, Named, OffsetsOf, Counted, Listed, Select}

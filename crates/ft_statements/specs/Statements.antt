@@ -17,7 +17,8 @@ without_end [] = []
 without_end (t ∷ []) = if is_symbol (codes ";") t then [] else t ∷ []
 without_end (t ∷ next ∷ more) = t ∷ without_end (next ∷ more)
 
--- the command that words spell, if they spell one; of a special command and an INSERT the special command is read
+-- the command that words spell, if they spell one; of a special command and an INSERT the special
+-- command is read
 unfoldable pub command_of : List Token → Option Command
 command_of ts =
     option_or (create ts) (option_or (drop_table ts) (option_or (special ts) (option_or (insert ts)
@@ -42,7 +43,8 @@ names_table tables [] = false
 names_table tables (t ∷ []) = false
 names_table tables (t ∷ next ∷ more) = (leads t && is_table tables next) || names_table tables (next ∷ more)
 
--- A statement is full-text where it makes a virtual table or names a full-text table that is there (own choice).
+-- A statement is full-text where it makes a virtual table or names a full-text table that is there
+-- (own choice).
 abbrev pub is_full_text : List (List ℕ) → List Token → Bool
 is_full_text tables ts = is_some (keywords_at (codes "CREATE" ∷ codes "VIRTUAL" ∷ []) ts) || names_table tables ts
 
@@ -50,7 +52,8 @@ pub data Class : Type 0 where
   Plain : Class
   FullText : (command : Command) → Class
 
--- the class of a statement, where full-text tables of these names are there; a full-text statement that spells no command has none
+-- the class of a statement, where full-text tables of these names are there; a full-text statement
+-- that spells no command has none
 unfoldable pub class_of : List (List ℕ) → List Token → Option Class
 class_of tables ts =
     if is_full_text tables ts then option_map FullText (command_of (without_end ts)) else Some Plain

@@ -1,4 +1,5 @@
--- Meaning. Values of a statement: NULL, a text, or a number within 64 bits (own choice: no other literals).
+-- Meaning. Values of a statement: NULL, a text, or a number within 64 bits (own choice: no other
+-- literals).
 use Rattle.std.specs.Prelude.{ℕ, ◌+◌, ◌-◌, ◌*◌, ◌^◌, nat_le, ℤ, pos, neg_ℤ, Bool, true, false, List, fold, Option, Some, None, if◌then◌else◌, codes}
 use Rattle.std.specs.Option.{option_or}
 use Rattle.shell_text.specs.declared.words.SqlKind.{SqlKind}

@@ -1,5 +1,6 @@
--- Meaning. The words of a statement with their texts: keywords, names, texts and numbers. Names and literals are those of the SQLite
--- document "SQL Language Expressions" (section "Literal Values (Constants)") and of its page "SQLite Keywords".
+-- Meaning. The words of a statement with their texts: keywords, names, texts and numbers. Names and
+-- literals are those of the SQLite document "SQL Language Expressions" (section "Literal Values
+-- (Constants)") and of its page "SQLite Keywords".
 use Rattle.std.specs.Prelude.{ℕ, ◌+◌, ◌-◌, Bool, true, false, ◌==◌, ◌&&◌, List, [], ◌∷◌, map, length, take, slice_range, Option, Some, None, if◌then◌else◌, bytes_eq, chars, encode_utf8_all}
 use Rattle.std.specs.Str.{str_eq_ignore_ascii_case}
 use Rattle.shell_text.specs.Words.{words_of}
@@ -27,7 +28,8 @@ abbrev pub is_mark : SqlKind → Bool
 is_mark kinds.Symbol = true
 is_mark _ = false
 
--- the word is this keyword: it stands without marks, in any case of ASCII letters ("SQLite Keywords")
+-- the word is this keyword: it stands without marks, in any case of ASCII letters ("SQLite
+-- Keywords")
 abbrev pub is_keyword : List ℕ → Token → Bool
 is_keyword keyword t = is_bare t.kind && str_eq_ignore_ascii_case t.text keyword
 
@@ -35,7 +37,8 @@ is_keyword keyword t = is_bare t.kind && str_eq_ignore_ascii_case t.text keyword
 abbrev pub is_symbol : List ℕ → Token → Bool
 is_symbol symbol t = is_mark t.kind && bytes_eq t.text symbol
 
--- without the second mark of each two that stand side by side; `after` says that the character before was the first of two
+-- without the second mark of each two that stand side by side; `after` says that the character
+-- before was the first of two
 abbrev pub halved : ℕ → Bool → List ℕ → List ℕ
 halved mark after [] = []
 halved mark after (c ∷ cs) = if after && c == mark then halved mark false cs else c ∷ halved mark (c == mark) cs
@@ -47,8 +50,8 @@ closing mark = if mark == 0x5B then 0x5D else mark
 abbrev pub all_but_last : {A : Type 0} → List A → List A
 all_but_last xs = take (length xs - 1) xs
 
--- the characters between two marks, where the closing one is doubled ("Literal Values (Constants)"; no closing bracket stands
--- between brackets)
+-- the characters between two marks, where the closing one is doubled ("Literal Values (Constants)";
+-- no closing bracket stands between brackets)
 abbrev pub between_marks : List ℕ → List ℕ
 between_marks [] = []
 between_marks (mark ∷ rest) = halved (closing mark) false (all_but_last rest)
@@ -66,7 +69,8 @@ bare_text _ text = text
 abbrev pub bare : Token → List ℕ
 bare t = bare_text t.kind t.text
 
--- a name is any word without marks, or a quoted one ("SQLite Keywords"; that a keyword may be a name is an own choice)
+-- a name is any word without marks, or a quoted one ("SQLite Keywords"; that a keyword may be a
+-- name is an own choice)
 abbrev pub is_name : SqlKind → Bool
 is_name kinds.Word = true
 is_name kinds.Quoted = true

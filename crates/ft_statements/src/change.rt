@@ -1,4 +1,4 @@
-// Filters, UPDATE and DELETE.
+//! Filters, UPDATE and DELETE.
 ghost use Rattle.std.specs.Prelude.{◌≡◌, ◌∷◌, [], codes, map, string_bytes, option_map, IfOk};
 ghost use Rattle.ft_content.specs.Views as views;
 ghost use Rattle.ft_statements.specs.Change as forms;

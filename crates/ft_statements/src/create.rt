@@ -1,4 +1,4 @@
-// CREATE VIRTUAL TABLE and DROP TABLE.
+//! CREATE VIRTUAL TABLE and DROP TABLE.
 ghost use Rattle.std.specs.Prelude.{◌≡◌, ◌∷◌, [], codes, OnOk, map, string_bytes, option_map, IfOk};
 ghost use Rattle.ft_content.specs.Views as views;
 ghost use Rattle.ft_statements.specs.Create as forms;

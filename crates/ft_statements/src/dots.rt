@@ -1,4 +1,4 @@
-// Which dot-command a line's words are.
+//! Which dot-command a line's words are.
 ghost use Rattle.std.specs.Prelude.{◌≡◌, codes, map, string_bytes, option_map, IfOk};
 ghost use Rattle.std.specs.Char.{is_ascii_digit};
 ghost use Rattle.std.specs.List.{list_all};
@@ -39,8 +39,9 @@ pub enum DotCommand {
     Unknown,
 }
 
-/// The command that a dot line's words make, as their grammar says. A line without words is none; a known name with a wrong
-/// number or form of words is told how it is used; any other name is unknown.
+/// The command that a dot line's words make, as their grammar says. A line without words is none; a
+/// known name with a wrong number or form of words is told how it is used; any other name is
+/// unknown.
 pub fn dot_command(alloc: Global, words: &[String]) -> Result<DotCommand, AllocError>
     ensures { IfOk result (IsSaid (map string_bytes words.now)) }
 {

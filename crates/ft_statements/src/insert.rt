@@ -1,4 +1,4 @@
-// INSERT and the special commands.
+//! INSERT and the special commands.
 ghost use Rattle.std.specs.Prelude.{◌≡◌, ◌∷◌, [], codes, map, string_bytes, option_map, IfOk};
 ghost use Rattle.ft_content.specs.Views as views;
 ghost use Rattle.ft_values.specs.Cells.{shown_value};

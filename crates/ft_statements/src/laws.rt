@@ -1,4 +1,4 @@
-// Laws of the definitions.
+//! Laws of the definitions.
 ghost use Rattle.std.specs.Prelude.{◌≡◌, ◌↔◌, ℕ, List, Some, None};
 ghost use Rattle.ft_content.specs.Command.{Command};
 ghost use Rattle.ft_statements.specs.Words.{Token};
@@ -7,8 +7,9 @@ ghost use Rattle.ft_statements.specs.Grammar.{IsCommand, HasClass};
 ghost use Rattle.ft_statements.specs.Dots.{DotCommand, dot_command_of};
 ghost use Rattle.ft_statements.specs.DotGrammar.{Says};
 
-/// What is read of words is what the grammar spells: the command, and the class of a statement where full-text tables of
-/// these names are there. None is read exactly where the grammar spells none.
+/// What is read of words is what the grammar spells: the command, and the class of a statement
+/// where full-text tables of these names are there. None is read exactly where the grammar spells
+/// none.
 pub fn statements_by_grammar()
     ensures command { (ts : List Token) (c : Command) → (command_of ts ≡ Some c) ↔ IsCommand ts c }
     ensures class { (tables : List (List ℕ)) (ts : List Token) (class : Class) →

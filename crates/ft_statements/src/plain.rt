@@ -1,4 +1,4 @@
-// What is asked of a plain statement.
+//! What is asked of a plain statement.
 ghost use Rattle.std.specs.Prelude.{◌≡◌, ◌∷◌, [], codes, string_bytes, option_map, IfOk};
 ghost use Rattle.std.specs.List.{list_any};
 ghost use Rattle.shell_text.specs.Words.{words_of};
@@ -88,8 +88,8 @@ fn made_name(alloc: Global, words: &[Piece<'_>]) -> Result<Option<String>, Alloc
     }
 }
 
-/// How a plain statement is run: as a query where its first word is SELECT, VALUES or WITH, or where it writes and RETURNING
-/// stands behind its first word. The words are those of the text.
+/// How a plain statement is run: as a query where its first word is SELECT, VALUES or WITH, or
+/// where it writes and RETURNING stands behind its first word. The words are those of the text.
 pub fn read_plain(
     alloc: Global,
     text: &str,

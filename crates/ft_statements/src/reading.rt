@@ -1,4 +1,4 @@
-// Reading words from the front of a statement.
+//! Reading words from the front of a statement.
 ghost use Rattle.std.specs.Prelude.{◌≡◌, ◌≤◌, ◌+◌, ◌==◌, ◌&&◌, codes, ◌<◌, ◌++◌, ◌∷◌, [], OnOk, ◌-◌, ◌^◌, string_bytes, option_map, IfOk};
 ghost use Rattle.ft_statements.specs.Words.{is_symbol};
 ghost use Rattle.ft_statements.specs.Reading as forms;

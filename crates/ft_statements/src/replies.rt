@@ -1,4 +1,4 @@
-// What is printed for a reply, and the names of tables.
+//! What is printed for a reply, and the names of tables.
 ghost use Rattle.std.specs.Prelude.{◌≡◌, map, IfOk};
 ghost use Rattle.shell_text.specs.Print as print;
 ghost use Rattle.shell_text.specs.Print.{Prints};
@@ -55,8 +55,8 @@ fn grid_of(alloc: Global, grid: ft_content::Grid) -> Result<Grid, AllocError>
     })
 }
 
-/// Prints a reply as the settings say. The text is made whole before the first byte goes out: after `Memory` nothing was
-/// written, after `Write` a front of it and not the whole.
+/// Prints a reply as the settings say. The text is made whole before the first byte goes out: after
+/// `Memory` nothing was written, after `Write` a front of it and not the whole.
 pub fn write_reply<W: Write>(
     alloc: Global,
     settings: &Settings,

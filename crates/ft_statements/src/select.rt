@@ -1,4 +1,4 @@
-// SELECT.
+//! SELECT.
 ghost use Rattle.std.specs.Prelude.{◌≡◌, ◌∷◌, [], codes, map, string_bytes, option_map, is_some, IfOk};
 ghost use Rattle.ft_content.specs.Views as views;
 ghost use Rattle.ft_statements.specs.Select as forms;

@@ -1,4 +1,4 @@
-// Which class a statement is of.
+//! Which class a statement is of.
 ghost use Rattle.std.specs.Prelude.{◌≡◌, ◌∷◌, [], ◌||◌, codes, map, string_bytes, option_map, is_some, IfOk};
 ghost use Rattle.std.specs.List.{list_any};
 ghost use Rattle.shell_text.specs.Words.{words_of};
@@ -157,10 +157,11 @@ fn is_full_text(
     names_table(alloc, tables, words)
 }
 
-/// The class of a statement, where these full-text tables are there, as the grammar of full-text statements spells it. A
-/// full-text statement is one that begins with CREATE VIRTUAL or names one of the tables directly behind FROM, INTO, UPDATE,
-/// TABLE, JOIN or EXISTS; one that spells no command has no class and is refused as `Syntax`. Any other is plain. The words
-/// are those of the text.
+/// The class of a statement, where these full-text tables are there, as the grammar of full-text
+/// statements spells it. A full-text statement is one that begins with CREATE VIRTUAL or names one
+/// of the tables directly behind FROM, INTO, UPDATE, TABLE, JOIN or EXISTS; one that spells no
+/// command has no class and is refused as `Syntax`. Any other is plain. The words are those of the
+/// text.
 #[tactic(auto, unfolding(crate::specs::Statements::class_of), using(crate::proofs::GrammarClass::class_sound, crate::proofs::GrammarClass::no_class_is))]
 pub fn read_statement(
     alloc: Global,

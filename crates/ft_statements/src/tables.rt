@@ -1,4 +1,4 @@
-// The names that `.tables` lists.
+//! The names that `.tables` lists.
 ghost use Rattle.std.specs.Prelude.{◌≡◌, ◌++◌, map, not, filter, string_bytes, IfOk};
 ghost use Rattle.ft_content.specs.Views as views;
 ghost use Rattle.ft_statements.specs.Replies as forms;
@@ -37,8 +37,8 @@ fn all_names(
     Ok(names)
 }
 
-/// The names that `.tables` lists, in the order of their bytes: those of the full-text tables, and those of the plain tables
-/// that were found, but for names that a full-text table has too.
+/// The names that `.tables` lists, in the order of their bytes: those of the full-text tables, and
+/// those of the plain tables that were found, but for names that a full-text table has too.
 pub fn listed_tables(
     alloc: Global,
     tables: &[TableInfo],

@@ -1,4 +1,4 @@
-// The texts of fault lines.
+//! The texts of fault lines.
 ghost use Rattle.std.specs.Prelude.{◌≡◌, codes, string_bytes, IfOk};
 ghost use Rattle.ft_statements.specs.Texts as forms;
 

@@ -1,4 +1,4 @@
-// Values of a statement.
+//! Values of a statement.
 ghost use Rattle.std.specs.Prelude.{◌≡◌, ◌+◌, ◌^◌, min, string_bytes, option_map, IfOk};
 ghost use Rattle.ft_values.specs.Cells.{shown_value};
 ghost use Rattle.ft_statements.specs.Values as forms;
@@ -14,7 +14,8 @@ use std::alloc::{AllocError, Global};
 // The size of the least number of 64 bits.
 const MOST_BELOW_ZERO: u64 = 9_223_372_036_854_775_808;
 
-// The number that digits write, where one that is too large for 64 bits with a sign stands as the least such number.
+// The number that digits write, where one that is too large for 64 bits with a sign stands as the
+// least such number.
 pub(crate) fn digits_value(digits: &[u8]) -> u64
     ensures { result ≡ min (forms.digits_value digits.now) 9223372036854775809 }
 {

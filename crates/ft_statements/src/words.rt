@@ -1,4 +1,4 @@
-// Words of a statement with their texts.
+//! Words of a statement with their texts.
 ghost use Rattle.std.specs.Prelude.{◌≡◌, ◌-◌, false, take, length, string_bytes, option_map, encode_utf8_all, IfOk};
 ghost use Rattle.shell_text.specs.Words.{words_of};
 ghost use Rattle.ft_statements.specs.Words as forms;

@@ -1,4 +1,5 @@
--- A query in a transaction that is undone changes nothing; why a database with the tables of a store is not taken.
+-- A query in a transaction that is undone changes nothing; why a database with the tables of a
+-- store is not taken.
 use Rattle.std.proofs.Common.{◌≡◌, ◌⊎◌, inl, inr, true, false, List, [], ◌∷◌, ℕ, ℤ, length, Option, Some, None, Result, Ok, Err, refl, sym, ap, ◌∙◌, arith, IsTrue, cond}
 use Rattle.std.specs.Prelude.{Bool, if◌then◌else◌, Vec, IfOk, IfErr, OnErr}
 use Rattle.std.specs.declared.alloc.Global.{Global}

@@ -1,4 +1,5 @@
--- The rowids of the tables of a file that was opened: the trees of a file are in the order of their rowids.
+-- The rowids of the tables of a file that was opened: the trees of a file are in the order of their
+-- rowids.
 use Rattle.std.proofs.Common.{◌≡◌, ◌≢◌, ◌∙◌, ℕ, List, [], ◌∷◌, filter, sym, ap, subst, inl, inr, Less}
 use Rattle.std.proofs.Math.Logic.{∥∥₁_elim}
 use Rattle.std.specs.List.{AllZip}

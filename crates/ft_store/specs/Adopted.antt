@@ -81,12 +81,14 @@ IsOtherVersion n = (n ≢ pos 2) × (n ≢ pos 3)
 abbrev pub IsOfVersion : ℤ → Trees → Type 0
 IsOfVersion n db = (map (λ (r : Row). column r 2) (db 0) ≡ Int n ∷ []) × IsOtherVersion n
 
--- What is made of a database: of one without objects the empty store, and of a store of version 2 a store that holds the same.
+-- What is made of a database: of one without objects the empty store, and of a store of version 2 a
+-- store that holds the same.
 abbrev pub IsMadeOf : Database → Trees → Type 0
 IsMadeOf old db =
     ((old.schema ≡ no_schema) × IsStored db nothing_held) ⊎ ((old.schema ≡ older_schema) × IsOlder old.trees × IsStored db (older_value old.trees))
 
--- A database is taken as a store, and is open: one that has the tables of a store stays as it is, and of any other a store is made.
+-- A database is taken as a store, and is open: one that has the tables of a store stays as it is,
+-- and of any other a store is made.
 pub record IsTaken {S : Type 0} (g : Ghosts S) (old new : Held S) : Type 0 where
   pub live : HasCleanDisk (state g new) → IsTrue (state g new).is_open
   pub held : HasCleanDisk (state g new) → IsTrue (state g new).is_open → old.schema ≡ store_schema → (state g new).now ≡ (state g old).now

@@ -1,4 +1,5 @@
--- Steps. What the functions of a transaction do, each as one relation: what it made, and the frame of all of them.
+-- Steps. What the functions of a transaction do, each as one relation: what it made, and the frame
+-- of all of them.
 use Rattle.std.specs.Prelude.{ℕ, Bool, true, MatchBool, Result, Ok, All, List, map, IsTrue, IfOk, OnOk}
 use Rattle.std.specs.Borrow.{MutBor}
 use Rattle.sqlite.specs.Order.{Row}
@@ -17,7 +18,8 @@ use Rattle.ft_store.specs.Calls.{StepsOnOk, AddsOnOk, StepsIfOpen, StaysInside, 
 use Rattle.ft_store.specs.Groups.{GoesOnOk}
 use Rattle.ft_store.specs.Made.{IsEmptyOf, Makes, MakesOnOk}
 
--- What a function of a transaction does: what it made where it is answered Ok, and what it leaves whatever it is answered.
+-- What a function of a transaction does: what it made where it is answered Ok, and what it leaves
+-- whatever it is answered.
 pub record DoneInside {S X : Type 0} (g : Ghosts S) (old new : MutBor (Held S)) (result : Result X StoreFault) (Made : Type 0) : Type 0 where
   pub steps : Made
   pub stays : StaysUncommitted g old new result
@@ -56,7 +58,8 @@ CreatesOnOk g old new result sql =
     → OnOk result ((s : Schema) (table : Table) → Makes s sql table → (IsTrue (state g old).is_open → IsEmptyOf s (state g old).now)
     → IsEmptyOf (created s table) (state g new).now × Shows (state g old) (state g new) (state g new).now (state g old).committed true)
 
--- What a function that makes row changes does in a transaction: the same, where they can be made, and otherwise it may be refused as damaged.
+-- What a function that makes row changes does in a transaction: the same, where they can be made,
+-- and otherwise it may be refused as damaged.
 pub record ChangesInside {S X : Type 0} (g : Ghosts S) (old new : MutBor (Held S)) (result : Result X StoreFault) (CanBeMade Made : Type 0) : Type 0 where
   pub packable : OnOk result CanBeMade
   pub steps : Made

@@ -1,4 +1,5 @@
--- Steps. What is seen of a database that has the tables of a store, before it is taken for one (own choice).
+-- Steps. What is seen of a database that has the tables of a store, before it is taken for one (own
+-- choice).
 use Rattle.std.specs.Prelude.{◌≡◌, ◌≢◌, ℕ, ℤ, ◌-◌, ◌*◌, ◌≤ℤ◌, pos, negsuc, false, List, [], ◌∷◌, Option, None, Some}
 use Rattle.std.specs.List.{AllByRecursion}
 use Rattle.sqlite.specs.declared.types.Value.TheVariants.{Int}

@@ -18,7 +18,8 @@ use sqlite::{Alter, Connection, Error as SqlError, ErrorCode, Row};
 use sqlite_schema::names::same_name;
 use sqlite_schema::schema::Schema;
 
-/// What the database answers when it is asked for its version, whatever its tables are. It changes nothing.
+/// What the database answers when it is asked for its version, whatever its tables are. It changes
+/// nothing.
 fn version_answer<S: Alter>(conn: &mut Connection<S>) -> Result<Vec<Row>, SqlError>
     requires settled { (state S.Store conn.old).in_transaction ≡ false }
     ensures told { HasCleanDisk (state S.Store conn.new) → TellsAs S.Store conn.old result }
@@ -112,8 +113,8 @@ fn foreign<S: Alter>(conn: &mut Connection<S>) -> StoreFault
     }
 }
 
-/// Takes a database as a store. One without objects becomes an empty store, and one of version 2 becomes one of version 3,
-/// each in one transaction.
+/// Takes a database as a store. One without objects becomes an empty store, and one of version 2
+/// becomes one of version 3, each in one transaction.
 pub(crate) fn take<S: Alter>(conn: &mut Connection<S>, rowids: Rowids) -> Result<(), StoreFault>
     requires settled { (state S.Store conn.old).in_transaction ≡ false }
     requires known { AreAsKnown rowids (state S.Store conn.old) }

@@ -151,7 +151,8 @@ fn judge(found: Option<i64>, layout: Layout) -> Result<(), StoreFault>
     }
 }
 
-/// Whether a database with the tables of a store is a store. Nothing changes. Rowids that are known to be apart aren't read.
+/// Whether a database with the tables of a store is a store. Nothing changes. Rowids that are known
+/// to be apart aren't read.
 pub(crate) fn examine<S: Alter>(
     conn: &mut Connection<S>,
     layout: Layout,

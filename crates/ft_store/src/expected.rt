@@ -73,8 +73,8 @@ fn has_spots(row: &Row, postings: &[Posting]) -> Result<bool, StoreFault>
     Ok(is_list_of(bytes, postings))
 }
 
-/// Whether a row, in which docid and packed list come before the term, is this list of the term. No row is the list of
-/// no postings.
+/// Whether a row, in which docid and packed list come before the term, is this list of the term. No
+/// row is the list of no postings.
 fn is_list(row: &Row, term: &str, list: &[Posting]) -> Result<bool, StoreFault>
     ensures { Finds result (λ b. (tab : ℤ)
         → IsTrue b ↔ IsList tab row.now term.now list.now) }

@@ -1,3 +1,4 @@
+//! Why a call of the store is refused.
 ghost use Rattle.std.specs.Prelude.{◌≡◌};
 ghost use Rattle.ft_store.specs.Calls.{IsPlainFault, fault_of, fault_of_read};
 ghost use Rattle.ft_store.specs.declared.fault.StoreFault.TheVariants as fault;

@@ -31,8 +31,9 @@ const LEAST_CACHE: u64 = 2000;
 
 const MOST_CACHE: u64 = 20_000;
 
-// How many pages are logged before they are written into the database: a change of a document logs some 100 to 200, and each that
-// is written back costs once more. So the log has some 16 MB at the most, beside what the last command wrote.
+// How many pages are logged before they are written into the database: a change of a document logs
+// some 100 to 200, and each that is written back costs once more. So the log has some 16 MB at the
+// most, beside what the last command wrote.
 const CHECKPOINT_FRAMES: usize = 4000;
 
 // The files of a database, as they are opened.
@@ -56,7 +57,8 @@ fn open_pair<S: Start>(rt: &HostRuntime, path: &str, start: S) -> Result<Files<F
     }
 }
 
-// How many pages that were read are kept: those of the file, in bounds. Each costs time at the open.
+// How many pages that were read are kept: those of the file, in bounds. Each costs time at the
+// open.
 fn cache_pages(rt: &HostRuntime, path: &str) -> usize {
     let pages = match fs::metadata(rt, path) {
         Ok(found) => found.len() / PAGE,
@@ -65,7 +67,8 @@ fn cache_pages(rt: &HostRuntime, path: &str) -> usize {
     pages.clamp(LEAST_CACHE, MOST_CACHE) as usize
 }
 
-// The options that suit a file (our own choice): what a command writes stays in memory up to its end, as far as that holds it.
+// The options that suit a file (our own choice): what a command writes stays in memory up to its
+// end, as far as that holds it.
 fn file_options(rt: &HostRuntime, path: &str) -> Result<Options, Error>
     ensures { IfErr result (λ e. e ≡ Error.SqliteFailure ErrorCode.CannotOpen) }
 {
@@ -79,8 +82,8 @@ fn file_options(rt: &HostRuntime, path: &str) -> Result<Options, Error>
     Ok(options)
 }
 
-/// The database in a file, which is made where it isn't there, with a page cache that fits it. `:memory:` and a URI are
-/// refused. `S` stands for what the files held.
+/// The database in a file, which is made where it isn't there, with a page cache that fits it.
+/// `:memory:` and a URI are refused. `S` stands for what the files held.
 pub fn open_database<S: Start>(
     rt: &HostRuntime,
     path: &str,

@@ -176,8 +176,8 @@ impl Gathered for EntriesOf {
     }
 }
 
-/// The entries of the lists that a query gives, in the order of its rows. Damaged bytes are Damaged, and so is a term
-/// that is no text.
+/// The entries of the lists that a query gives, in the order of its rows. Damaged bytes are
+/// Damaged, and so is a term that is no text.
 fn select_entries<S: Alter>(
     conn: &mut Connection<S>,
     alloc: Global,

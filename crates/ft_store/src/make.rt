@@ -82,7 +82,8 @@ pub(crate) fn make<S: Alter>(conn: &mut Connection<S>) -> Result<(), StoreFault>
     Ok(())
 }
 
-/// The same, of a database that is taken and handed on: where it can't be, what it stands on is let go here alone.
+/// The same, of a database that is taken and handed on: where it can't be, what it stands on is let
+/// go here alone.
 pub(crate) fn made<S: Alter + Drop>(conn: Connection<S>) -> Result<Connection<S>, StoreFault>
     requires { IsSettled IsBare (state S.Store conn) }
     ensures { Finds result (λ new. HasMade IsEmptyStore (state S.Store new)) }

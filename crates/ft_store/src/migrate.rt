@@ -54,7 +54,8 @@ fn migrate<S: Alter>(conn: &mut Connection<S>) -> Result<(), StoreFault>
     Ok(())
 }
 
-/// Takes a database with the tables of version 2 as a store. All of it is looked at before anything changes.
+/// Takes a database with the tables of version 2 as a store. All of it is looked at before anything
+/// changes.
 pub(crate) fn take_older<S: Alter>(
     conn: &mut Connection<S>,
     rowids: Rowids,

@@ -42,7 +42,8 @@ pub(crate) fn select<S: Alter>(
     Ok(conn.query_all(sql, params)?)
 }
 
-/// A text of a cell or a column, as it is shown: bytes that aren't UTF-8 as a character that no content has.
+/// A text of a cell or a column, as it is shown: bytes that aren't UTF-8 as a character that no
+/// content has.
 fn shown_text(alloc: Global, stored: &[u8]) -> Result<String, AllocError>
     ensures { IfOk result (λ text. string_bytes text ≡ text_in stored.now) }
 {

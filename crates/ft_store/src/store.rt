@@ -1,3 +1,4 @@
+//! The store: what its tables hold is one value, read by key and changed in transactions.
 ghost use Rattle.sqlite.specs.Held.{state};
 ghost use Rattle.ft_rows.specs.Store.{StoreValue};
 ghost use Rattle.std.specs.Prelude.{◌≡◌, ◌≢◌, ◌↔◌, if◌then◌else◌, ℤ, ◌&&◌, false, codes, Err, MatchResult, IfErr, map, vec_len, length, option_to_list, nat_eq, All, IsTrue, IfOk, OnOk, OnErr};
@@ -40,8 +41,8 @@ const UNREAD: u64 = 0;
 
 /// Rows of full-text tables, in a database that holds nothing else.
 ///
-/// What a call says of rows holds where the database is clean and open as the call ends: so far the disk returned what
-/// was written, and nobody else wrote it. Over memory that is always so.
+/// What a call says of rows holds where the database is clean and open as the call ends: so far the
+/// disk returned what was written, and nobody else wrote it. Over memory that is always so.
 #[derive(Drop)]
 pub struct Store<S: Alter> {
     conn: Connection<S>,
@@ -90,8 +91,9 @@ impl Store<FileStore<Ram>> {
 }
 
 impl Store<FileStore<File>> {
-    /// The store in a file, which is made where it isn't there. `:memory:` is refused. Nothing is supposed of what a file
-    /// that isn't empty held: where something is known of it, `open_from` says what is found.
+    /// The store in a file, which is made where it isn't there. `:memory:` is refused. Nothing is
+    /// supposed of what a file that isn't empty held: where something is known of it, `open_from`
+    /// says what is found.
     pub fn open_file(rt: &HostRuntime, path: &str) -> Result<Store<FileStore<File>>, StoreFault>
         ensures memory { path.now ≡ codes ":memory:" → result ≡ Err StoreFault.Refused }
         ensures unread { IfOk result (λ store. store.rows_read ≡ 0) }
@@ -104,7 +106,8 @@ impl<B: Start> Store<FileStore<FileFrom<B>>> {
     ghost use Rattle.sqlite.specs.Files.{over_files};
     ghost use Rattle.ft_store.specs.Opened.{IsOpenedFrom, IsRefusedFrom};
 
-    /// The same, where `B` stands for what the files held: the database that they hold is taken as a store.
+    /// The same, where `B` stands for what the files held: the database that they hold is taken as
+    /// a store.
     pub fn open_from(
         rt: &HostRuntime,
         path: &str,
@@ -121,7 +124,8 @@ impl<B: Start> Store<FileStore<FileFrom<B>>> {
 }
 
 impl<S: Alter + Drop> Store<S> {
-    // The database, whose rowids are apart, as a store, or why it is not taken: then what it stands on is let go here alone.
+    // The database, whose rowids are apart, as a store, or why it is not taken: then what it stands
+    // on is let go here alone.
     fn taken(alloc: Global, conn: Connection<S>) -> Result<Store<S>, StoreFault>
         requires settled { conn.in_transaction ≡ false }
         requires known { AreAsKnown Apart (state S.Store conn) }
@@ -142,9 +146,10 @@ impl<S: Alter + Drop> Store<S> {
 impl<S: Alter> Store<S> {
     ghost use Rattle.ft_store.specs.Kept.{shows, value_in, AreCommitted, Pings, ReadsRows};
 
-    /// Takes a database that holds a store, as it is, or one without objects, which becomes an empty store in one
-    /// transaction. A store of version 2 becomes one of version 3 that holds the same, also in one transaction. Any other
-    /// is handed back as it was, outside a transaction. One in a transaction is refused, and handed back in it.
+    /// Takes a database that holds a store, as it is, or one without objects, which becomes an
+    /// empty store in one transaction. A store of version 2 becomes one of version 3 that holds the
+    /// same, also in one transaction. Any other is handed back as it was, outside a transaction.
+    /// One in a transaction is refused, and handed back in it.
     pub fn adopt(alloc: Global, conn: Connection<S>) -> Result<Store<S>, AdoptFault<S>>
         ensures taken { conn.in_transaction ≡ false
             → IfOk result (λ store. IsTaken S.Store conn store.held × (store.rows_read ≡ 0)) }
@@ -197,7 +202,8 @@ impl<S: Alter> Store<S> {
         Ok(())
     }
 
-    /// All tables, by rising number, each with its columns and the numbers of those that aren't indexed.
+    /// All tables, by rising number, each with its columns and the numbers of those that aren't
+    /// indexed.
     pub fn tables(&mut self) -> Result<Vec<TabRow>, StoreFault>
         ensures rows { HasCleanDisk (shows S.Store self.new)
             → IfOk result (λ found. map shown_table found.items
@@ -246,7 +252,8 @@ impl<S: Alter> Store<S> {
         Ok(last)
     }
 
-    /// The entries of one term, by rising docid, then column and position. Damaged where one of its lists is.
+    /// The entries of one term, by rising docid, then column and position. Damaged where one of its
+    /// lists is.
     pub fn term(&mut self, tab: i64, term: &str) -> Result<Vec<EntryRow>, StoreFault>
         ensures rows { HasCleanDisk (shows S.Store self.new)
             → IfOk result (λ found. let asked = where_key list_key_cmp
@@ -263,7 +270,8 @@ impl<S: Alter> Store<S> {
         Ok(found)
     }
 
-    /// The lists of one term, by rising docid. Damaged where one of them is. Each place counts as a row.
+    /// The lists of one term, by rising docid. Damaged where one of them is. Each place counts as a
+    /// row.
     pub fn term_lists(&mut self, tab: i64, term: &str) -> Result<Vec<ListRow>, StoreFault>
         ensures rows { HasCleanDisk (shows S.Store self.new)
             → IfOk result (λ found. AreRead (lists_of_term tab term.now (value_in S.Store self.old))
@@ -278,8 +286,8 @@ impl<S: Alter> Store<S> {
         Ok(found)
     }
 
-    /// The entries of the terms that begin so, by term, then docid, column and position. Damaged where one of their
-    /// lists is, or a term is no text.
+    /// The entries of the terms that begin so, by term, then docid, column and position. Damaged
+    /// where one of their lists is, or a term is no text.
     pub fn prefix(&mut self, tab: i64, begin: &str) -> Result<Vec<EntryRow>, StoreFault>
         ensures rows { HasCleanDisk (shows S.Store self.new)
             → IfOk result (λ found. let asked = where_key list_key_cmp
@@ -297,8 +305,8 @@ impl<S: Alter> Store<S> {
         Ok(found)
     }
 
-    /// The lists of the terms that begin so, by term and then docid. Damaged where one of them is. Each place counts as
-    /// a row.
+    /// The lists of the terms that begin so, by term and then docid. Damaged where one of them is.
+    /// Each place counts as a row.
     pub fn prefix_lists(&mut self, tab: i64, begin: &str) -> Result<Vec<ListRow>, StoreFault>
         ensures rows { HasCleanDisk (shows S.Store self.new)
             → IfOk result (λ found. AreRead (lists_of_prefix tab begin.now
@@ -313,8 +321,8 @@ impl<S: Alter> Store<S> {
         Ok(found)
     }
 
-    /// All entries of a table, by term, then docid, column and position. Damaged where one of its lists is, or a
-    /// term is no text.
+    /// All entries of a table, by term, then docid, column and position. Damaged where one of its
+    /// lists is, or a term is no text.
     pub fn entries(&mut self, tab: i64) -> Result<Vec<EntryRow>, StoreFault>
         ensures rows { HasCleanDisk (shows S.Store self.new)
             → IfOk result (λ found. let asked = where_key list_key_cmp (λ k. int_eq tab k.0)
@@ -332,8 +340,8 @@ impl<S: Alter> Store<S> {
         Ok(found)
     }
 
-    /// Whether the lists of a table are exactly these, by term and docid. Where they are, each place counts as a row, else
-    /// none.
+    /// Whether the lists of a table are exactly these, by term and docid. Where they are, each
+    /// place counts as a row, else none.
     pub fn has_lists(&mut self, tab: i64, terms: Vec<TermLists>) -> Result<bool, StoreFault>
         ensures same { HasCleanDisk (shows S.Store self.new)
             → IfOk result (λ b. IsTrue b ↔ (where_key list_key_cmp (λ k. int_eq tab k.0)
@@ -393,8 +401,9 @@ impl<S: Alter> Store<S> {
         Ok(())
     }
 
-    /// Makes all changes of all parts that come, in their order, in one transaction, or none: as they come one part stands in memory at a
-    /// time. A part that is not made for want of memory is `Memory`; the other causes are those of `change`.
+    /// Makes all changes of all parts that come, in their order, in one transaction, or none: as
+    /// they come one part stands in memory at a time. A part that is not made for want of memory is
+    /// `Memory`; the other causes are those of `change`.
     pub fn change_parts<P: Parts>(&mut self, parts: &mut P) -> Result<(), StoreFault>
         ensures packable { OnOk result (All CanMake (changes_in (P.Parts.to_come parts.old))) }
         ensures causes { IfErr result
@@ -413,7 +422,8 @@ impl<S: Alter> Store<S> {
         Ok(())
     }
 
-    /// The law that rows stand in the order of their keys, each key once, and that no two tables have one name.
+    /// The law that rows stand in the order of their keys, each key once, and that no two tables
+    /// have one name.
     pub fn is_in_order(&self)
         ensures order { AreInOrder (value_in S.Store self.now) }
         ensures names { HasCleanDisk (shows S.Store self.now)

@@ -1,4 +1,4 @@
-// Why a full-text command is refused.
+//! Why a full-text command is refused.
 ghost use Rattle.std.specs.Prelude.{◌≡◌};
 ghost use Rattle.ft_values.specs.declared.fault.Fault.TheVariants.{Memory};
 

@@ -1,4 +1,5 @@
-//! What the crates of full-text tables say to each other: values, rows, tables by their names, and faults.
+//! What the crates of full-text tables say to each other: values, rows, tables by their names, and
+//! faults.
 #![tactic(auto)]
 
 mod fault;

@@ -1,4 +1,4 @@
-// Names, and tables by their names. Names are compared without ASCII case.
+//! Names, and tables by their names. Names are compared without ASCII case.
 ghost use Rattle.std.specs.Prelude.{◌≡◌, position, string_bytes};
 ghost use Rattle.std.specs.List.{list_any};
 ghost use Rattle.ft_values.specs.Names as forms;

@@ -8,8 +8,8 @@ pub enum Value {
     Text(String),
 }
 
-/// A full-text table. Its columns stand by their numbers, which begin at 0; `skipped` has the numbers of those that
-/// aren't indexed.
+/// A full-text table. Its columns stand by their numbers, which begin at 0; `skipped` has the
+/// numbers of those that aren't indexed.
 #[derive(Debug, Drop)]
 pub struct TabRow {
     pub id: i64,
@@ -26,7 +26,8 @@ pub struct CellRow {
     pub value: Value,
 }
 
-/// Where a term stands in a document: the column and the position from 0, the place and the size in bytes.
+/// Where a term stands in a document: the column and the position from 0, the place and the size in
+/// bytes.
 #[derive(Clone, Copy, Debug, PartialEq, Eq)]
 pub struct Spot {
     pub column: i64,
@@ -61,8 +62,8 @@ pub struct SizeRow {
 /// A change of the rows of a store. The first number is the table's.
 #[derive(Debug, Drop)]
 pub enum RowChange {
-    /// The table with its name, its columns in order, and the numbers of those that aren't indexed. No other row of the
-    /// table stays.
+    /// The table with its name, its columns in order, and the numbers of those that aren't indexed.
+    /// No other row of the table stays.
     AddTable(i64, String, Vec<String>, Vec<i64>),
     /// The table and all its rows.
     DropTable(i64),

@@ -1,4 +1,4 @@
-// What is known of tables without their rows.
+//! What is known of tables without their rows.
 
 /// A column of a table.
 #[derive(Debug, Drop)]
@@ -14,6 +14,7 @@ pub struct TableInfo {
     pub id: i64,
     pub name: String,
     pub columns: Vec<Column>,
-    /// Whether its rows are those of documents, with exactly the index rows made from scratch out of them.
+    /// Whether its rows are those of documents, with exactly the index rows made from scratch out
+    /// of them.
     pub sound: bool,
 }

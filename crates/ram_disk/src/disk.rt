@@ -1,4 +1,5 @@
-//! A file in memory that never lies and never loses anything: a crash leaves exactly what was written.
+//! A file in memory that never lies and never loses anything: a crash leaves exactly what was
+//! written.
 ghost use Rattle.std.specs.Prelude.{◌≡◌, [], length, true, false, refl, is_ok, OnOk};
 ghost use Rattle.sqlite_disk.specs.Disk.{Holds, Torn, Cut, CountsFault};
 ghost use Rattle.sqlite_disk.specs.Refusal.{finds_no_room};

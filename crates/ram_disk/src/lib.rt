@@ -1,5 +1,5 @@
-//! A database in memory over B-trees, as pages in two byte vectors: as fast as a file, clean at all times,
-//! and a crash leaves what was written.
+//! A database in memory over B-trees, as pages in two byte vectors: as fast as a file, clean at all
+//! times, and a crash leaves what was written.
 #![tactic(auto)]
 
 ghost use Rattle.std.specs.Prelude.{◌≡◌, [], IfOk, IfErr};
@@ -21,9 +21,10 @@ mod honest;
 pub use disk::Ram;
 pub use honest::{Honest, execute_honest};
 
-/// The options that suit memory (measured, our own choice). A read is a copy that no digest tests, so a small cache serves, and
-/// each of its pages costs about 4 microseconds at the open. A transaction never spills, since one that
-/// does writes its pages to the log again and again, which then only grows.
+/// The options that suit memory (measured, our own choice). A read is a copy that no digest tests,
+/// so a small cache serves, and each of its pages costs about 4 microseconds at the open. A
+/// transaction never spills, since one that does writes its pages to the log again and again, which
+/// then only grows.
 pub fn ram_options() -> Options {
     let mut options = Options::new(1);
     options.cache_pages = 64;

@@ -1,4 +1,5 @@
--- Reading each block whole gives the members that reading only what follows the last statement gives.
+-- Reading each block whole gives the members that reading only what follows the last statement
+-- gives.
 use Rattle.std.proofs.Common.{◌≡◌, refl, sym, ap, ◌∙◌, ℕ, ◌+◌, Bool, true, false, List, [], ◌∷◌, ◌++◌, Option, Some, None}
 use Rattle.std.specs.Prelude.{if◌then◌else◌, length, nat_lt, not, ◌==◌, ◌&&◌}
 use Rattle.std.specs.Str.{is_utf8}

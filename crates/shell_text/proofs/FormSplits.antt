@@ -209,7 +209,8 @@ pub by_test : {X : Type 0} (c : Bool) → (c ≡ true → X) → (c ≡ false �
 by_test true found more = found refl
 by_test false found more = more refl
 
--- the tests of `begun`, one after another: what passes one has its form, and what passes none is a symbol
+-- the tests of `begun`, one after another: what passes one has its form, and what passes none is a
+-- symbol
 pub first_piece : (b : ℕ) (text : List ℕ) → Begins b text
 unfolding begun
 first_piece b text =

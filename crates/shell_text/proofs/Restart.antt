@@ -177,7 +177,8 @@ parts_of-onto b (p ∷ ps) h =
 
 -- ---- cuts
 
--- a text from a place is one part; or some statements end in it, and what follows the last of them is read anew, whatever comes behind it
+-- a text from a place is one part; or some statements end in it, and what follows the last of them
+-- is read anew, whatever comes behind it
 pub data Cuts (at : Place) (text : List ℕ) : Type 0 where
   uncut : parts_of (pieces_from at text) ≡ pieces_from at text ∷ [] → Cuts at text
   cut : (first : List Piece) (ended : List (List Piece)) (tail : List ℕ)

@@ -51,7 +51,8 @@ escaped_mark : dot_word_chars (codes "\"a\\\"b\"") ≡ codes "a\"b" ∷ []
 unfolding dot_words_from dot_turn
 escaped_mark = refl
 
--- a backslash that is itself escaped escapes nothing, and what follows a closing mark begins the next word
+-- a backslash that is itself escaped escapes nothing, and what follows a closing mark begins the
+-- next word
 escaped_backslash : dot_word_chars (codes "\"a\\\\\"b") ≡ codes "a\\" ∷ codes "b" ∷ []
 unfolding dot_words_from dot_turn
 escaped_backslash = refl

@@ -1,7 +1,8 @@
--- Meaning. The units of a shell's input. Each block of lines is read whole.
--- The rules are those of "Command Line Shell For SQLite", section "Line Structure": statements end with a semicolon and may go
--- over lines, a dot-command is one line that begins with a full stop, does not stand inside a statement and knows no comments.
--- Own choice: the largest size of a statement, which lines are refused, what is left open at the end, and the numbers of lines.
+-- Meaning. The units of a shell's input. Each block of lines is read whole. The rules are those of
+-- "Command Line Shell For SQLite", section "Line Structure": statements end with a semicolon and
+-- may go over lines, a dot-command is one line that begins with a full stop, does not stand inside
+-- a statement and knows no comments. Own choice: the largest size of a statement, which lines are
+-- refused, what is left open at the end, and the numbers of lines.
 use Rattle.std.specs.Prelude.{ℕ, ◌+◌, ◌-◌, ◌^◌, min, nat_lt, Bool, not, ◌==◌, ◌&&◌, List, [], ◌∷◌, ◌++◌, length, drop, count_by, Option, Some, None, is_some, unwrap_or, if◌then◌else◌}
 use Rattle.std.specs.List.{list_any, list_all, onto_first, prefix_len, take_while}
 use Rattle.std.specs.Str.{is_utf8}
@@ -10,7 +11,8 @@ use Rattle.shell_text.specs.Words.{Piece, first_byte, is_gap, is_open, is_symbol
 use Rattle.shell_text.specs.declared.units.SplitFault.{SplitFault}
 use Rattle.shell_text.specs.declared.units.SplitFault.TheVariants as fault
 
--- the parts that line feeds end, and what follows the last of them, if anything does; a line keeps its carriage return
+-- the parts that line feeds end, and what follows the last of them, if anything does; a line keeps
+-- its carriage return
 abbrev pub lines_of : List ℕ → List (List ℕ)
 lines_of [] = []
 lines_of (b ∷ rest) = if b == 0x0A then [] ∷ lines_of rest else onto_first b (lines_of rest)
@@ -33,7 +35,8 @@ pub data Member : Type 0 where
   Dot : (line : ℕ) (text : List ℕ) → Member
   Fault : (line : ℕ) (fault : SplitFault) → Member
 
--- a semicolon outside literals, quoted names and comments ends a statement (section "Line Structure")
+-- a semicolon outside literals, quoted names and comments ends a statement (section "Line
+-- Structure")
 abbrev pub ends_statement : Piece → Bool
 ends_statement p = is_symbol_kind p.kind && next_is (λ b. b == 0x3B) (first_byte p.text)
 
@@ -58,7 +61,8 @@ line_of n ps = line_behind n (text_of (gaps_before ps))
 abbrev pub unit_of : ℕ → List Piece → Member
 unit_of n ps = Sql (line_of n ps) (text_of (from_first_word ps))
 
--- the unit of a part that ends with a semicolon, if it has another word: a statement without words is none (own choice)
+-- the unit of a part that ends with a semicolon, if it has another word: a statement without words
+-- is none (own choice)
 abbrev pub ended_unit : ℕ → List Piece → List Member
 ended_unit n ps = if nat_lt 1 (count_by is_word ps) then unit_of n ps ∷ [] else []
 
@@ -99,7 +103,8 @@ units_in r = ended_units r.first (parts_in r)
 abbrev pub tail_in : Reading → ℕ × List Piece
 tail_in r = tail_of r.first (parts_in r)
 
--- whether what follows the last statement is only white space and closed comments; it counts as nothing then
+-- whether what follows the last statement is only white space and closed comments; it counts as
+-- nothing then
 abbrev pub is_idle : Reading → Bool
 is_idle r = list_all is_gap (tail_in r).1
 
@@ -121,8 +126,8 @@ pub data Role : Type 0 where
 abbrev pub size_with : Reading → List ℕ → ℕ
 size_with r line = (if is_idle r then 0 else length (pending_in r) + 1) + length line
 
--- the tests of a line in their order: too long, not UTF-8, U+0000 (own choice), a full stop where nothing is pending (section
--- "Line Structure")
+-- the tests of a line in their order: too long, not UTF-8, U+0000 (own choice), a full stop where
+-- nothing is pending (section "Line Structure")
 abbrev pub role_of : Reading → List ℕ → Role
 role_of r line =
     if nat_lt most_bytes (size_with r line) then Refused fault.TooLong
@@ -152,7 +157,8 @@ at_line n = record { line = n; first = n; block = None }
 abbrev pub without_block : Reading → Reading
 without_block r = at_line (numbered (r.line + 1))
 
--- how reading goes on behind a line of a role; in a block a line has lost the carriage return at its end, if it had one
+-- how reading goes on behind a line of a role; in a block a line has lost the carriage return at
+-- its end, if it had one
 abbrev pub after_role : Role → Reading → List ℕ → Reading
 after_role (Refused why) r line = without_block r
 after_role Command r line = without_block r
@@ -177,7 +183,8 @@ closed_by _ r = units_in r
 abbrev pub told_by : Reading → List ℕ → List Member
 told_by r line = closed_by (role_of r line) r ++ member_of (role_of r line) r line
 
--- the text that no semicolon ends: incomplete where something in it is open, and else a unit if it has a word (own choice)
+-- the text that no semicolon ends: incomplete where something in it is open, and else a unit if it
+-- has a word (own choice)
 abbrev pub last_member : ℕ × List Piece → List Member
 last_member tail =
     if list_any is_open tail.1 then Fault (line_of tail.0 tail.1) (fault.Incomplete (line_of tail.0 tail.1)) ∷ []

@@ -47,8 +47,8 @@ impl Mode {
     }
 }
 
-/// Whether a text may part the fields of CSV: one byte from U+0001 to U+007F other than a quotation mark, CR and LF. That
-/// is our own choice, since RFC 4180 has the comma alone.
+/// Whether a text may part the fields of CSV: one byte from U+0001 to U+007F other than a quotation
+/// mark, CR and LF. That is our own choice, since RFC 4180 has the comma alone.
 pub fn is_csv_separator(text: &str) -> bool
     ensures { result ≡ is_csv_separator text.now }
 {
@@ -116,8 +116,8 @@ impl Settings {
         self.headers = Some(shown);
     }
 
-    /// Sets whether each unit of the input is printed before it runs, from the next one on. At first
-    /// it is not. It is `.echo` of "Command Line Shell For SQLite".
+    /// Sets whether each unit of the input is printed before it runs, from the next one on. At
+    /// first it is not. It is `.echo` of "Command Line Shell For SQLite".
     pub fn set_echo(&mut self, on: bool)
         ensures { self.new ≡ record self.old { echo = on } }
     {

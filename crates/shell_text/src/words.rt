@@ -260,7 +260,8 @@ pub fn words_on_characters()
         (words_of text) }
 {}
 
-/// A text falls into pieces of the forms in one way, which is the computed one: its words are those of that reading.
+/// A text falls into pieces of the forms in one way, which is the computed one: its words are those
+/// of that reading.
 pub fn words_by_forms()
     ensures computed { (text : List ℕ) → ArePieces text (pieces_of text) }
     ensures once { (text : List ℕ) (ps : List Piece) → ArePieces text ps → ps ≡ pieces_of text }

@@ -1,4 +1,4 @@
-// A place in one document, whose position is seen here alone: each comparison of one is a step.
+//! A place in one document, whose position is seen here alone: each comparison of one is a step.
 ghost use Rattle.std.specs.Prelude.{◌≡◌};
 ghost use Rattle.ft_query.specs.Occurs.{are_near};
 ghost use Rattle.ft_query.specs.Visit.{place_order, is_behind, may_begin, offset_at};

@@ -1,4 +1,4 @@
-// One term's list of documents, passed from front to back.
+//! One term's list of documents, passed from front to back.
 ghost use Rattle.std.specs.Prelude.{◌≡◌, map};
 ghost use Rattle.ft_query.specs.Documents.{plain_list};
 ghost use Rattle.ft_query.specs.Cursors.{lists_left, lists_kept, next_docid, is_next, next_places, after_next};

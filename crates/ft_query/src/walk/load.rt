@@ -1,4 +1,4 @@
-// The lists of a query's terms.
+//! The lists of a query's terms.
 ghost use Rattle.std.specs.Prelude.{◌≡◌, true, ◌+◌, ◌-◌, ◌^◌, map, min, flat_map, IfOk, OnOk};
 ghost use Rattle.ft_query.specs.Documents.{place_count};
 ghost use Rattle.ft_query.specs.Trees.{plain_term, plain_link, tree_of};

@@ -1,4 +1,4 @@
-// The documents that a query accepts, one after the other.
+//! The documents that a query accepts, one after the other.
 ghost use Rattle.std.specs.Prelude.{◌≡◌, ◌+◌, ◌-◌, ◌^◌, ◌<◌, ◌≤◌, ◌||◌, List, length, map, min, is_ok, IfOk, IfSome, OnOk, OnErr};
 ghost use Rattle.ft_query.specs.Documents.{Document};
 ghost use Rattle.ft_query.specs.Trees.{tree_of};

@@ -1,4 +1,4 @@
-// Places of tokens in one document, passed from front to back.
+//! Places of tokens in one document, passed from front to back.
 ghost use Rattle.std.specs.Prelude.{◌≡◌, ◌∷◌, ◌++◌, [], length, MatchOption, IfOk, OnOk};
 ghost use Rattle.ft_query.specs.Documents.{is_filled};
 ghost use Rattle.ft_query.specs.Taken.{Takes};

@@ -1,4 +1,4 @@
-// The search for the next document that a query accepts.
+//! The search for the next document that a query accepts.
 ghost use Rattle.std.specs.Prelude.{◌≡◌, ◌≤◌, None, map, length, IfOk};
 ghost use Rattle.ft_query.specs.Trees.{tree_of};
 ghost use Rattle.ft_query.specs.Work.{terms_in};

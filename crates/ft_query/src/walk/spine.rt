@@ -1,5 +1,5 @@
-// A query as its first operand and a list of what is joined to it: a text can join thousands of
-// phrases from the left, and so no call goes down the left sides.
+//! A query as its first operand and a list of what is joined to it: a text can join thousands of
+//! phrases from the left, and so no call goes down the left sides.
 ghost use Rattle.std.specs.Prelude.{◌≡◌, ◌<◌, ◌+◌, ◌^◌, length, map, vec_len, flat_map, IfOk};
 ghost use Rattle.ft_query.specs.Trees.{plain_phrase, plain_link, tree_of, chain};
 ghost use Rattle.ft_query.specs.Marked.{chain_tree};

@@ -1,4 +1,4 @@
-// Where phrases occur in one document.
+//! Where phrases occur in one document.
 ghost use Rattle.std.specs.Prelude.{◌≡◌, ◌+◌, ◌*◌, ◌++◌, length, filter, map, IfOk, OnOk};
 ghost use Rattle.ft_query.specs.Visit.{seek, among, skip_behind, begin_near, near_those, may_begin, offset_at};
 ghost use Rattle.ft_query.specs.Taken.{TakesAtMost, TakesOf};

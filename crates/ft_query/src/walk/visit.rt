@@ -1,4 +1,4 @@
-// The evaluation of a query in one document.
+//! The evaluation of a query in one document.
 ghost use Rattle.std.specs.Prelude.{◌≡◌, ◌≤◌, ◌<◌, ◌+◌, ◌*◌, ◌^◌, [], if◌then◌else◌, length, map, flat_map, vec_len, option_map, sum_by, List, AllPairs, Some, None, IfOk, OnErr};
 ghost use Rattle.std.specs.List.Sorted.{IsPermutation, IsSortedBy};
 ghost use Rattle.ft_query.specs.Cursors.{lists_left, places_at};

@@ -1,4 +1,4 @@
-// How much work a walk has done.
+//! How much work a walk has done.
 ghost use Rattle.std.specs.Prelude.{◌≡◌};
 ghost use Rattle.ft_query.specs.Taken.{Takes};
 

@@ -1,4 +1,5 @@
--- the parts so far, and those of the other words, the first of which goes on from where the last comma stands
+-- the parts so far, and those of the other words, the first of which goes on from where the last
+-- comma stands
 use Rattle.std.proofs.Common.{◌≡◌, ◌≤◌, ◌++◌, drop}
 use Rattle.std.specs.Prelude.{slice_range}
 use Rattle.ft_statements.specs.Reading.{parts, parts_at}
