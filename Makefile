@@ -1,6 +1,6 @@
 # ft4sh: `make` proves and builds the program and runs the demonstration, `make test` is every proof and test, with the edits that must fail
 # of the crates where something changed, `make wrong-bodies` tries such edits alone, `make test-all` is everything from nothing, and
-# `make install` copies the program and its manual page.
+# `make install` copies the program, its manual and its manual page.
 PREFIX ?= /usr/local
 export RT ?= rt
 # How many checks `make` and `make wrong-bodies` run side by side: one a processor, where 7 GB of memory are free for each. `make test` hands
@@ -56,9 +56,10 @@ wrong-bodies:
 	! tests/gate/tests --stale || tests/gate/tests
 
 install: build
-	mkdir -p "$(DESTDIR)$(PREFIX)/bin" "$(DESTDIR)$(PREFIX)/share/man/man1"
+	mkdir -p "$(DESTDIR)$(PREFIX)/bin" "$(DESTDIR)$(PREFIX)/share/man/man1" "$(DESTDIR)$(PREFIX)/share/doc/ft4sh"
 	cp bin/ft4sh "$(DESTDIR)$(PREFIX)/bin/ft4sh"
 	cp docs/ft4sh.1 "$(DESTDIR)$(PREFIX)/share/man/man1/ft4sh.1"
+	cp docs/MANUAL.md examples/documents.sql "$(DESTDIR)$(PREFIX)/share/doc/ft4sh/"
 
 clean:
 	rm -rf bin crates/*/out
