@@ -17,7 +17,7 @@ LINES = {
     "rebuild": "`rebuild`",
     ".import, memory": "import, memory",
     ".import": "import",
-    "phrase of frequent words": "phrase",
+    "all changes, memory": "all changes, memory",
     "AND": "AND",
     "files": "files",
     "rare word": "rare word",
