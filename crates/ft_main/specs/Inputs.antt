@@ -69,8 +69,8 @@ module _ {P S : Type 0} (g : Ghosts P) (h : Ghosts S) where
 
 -- ---- the end
 
--- what is answered of inputs that were run: their fault lines are counted together, up to 2 ^ 64 -
--- 1
+-- what is answered of inputs that were run: their fault lines are counted together, up to
+-- 2 ^ 64 - 1
 abbrev pub EndsAs : Result Status RunFault → Option RunFault → Deeds → Type 0
 EndsAs (Ok status) cause all = (cause ≡ None) × (status.faults ≡ min all.faults (2 ^ 64 - 1)) × (status.quit ≡ all.ends)
 EndsAs (Err fault) cause all = cause ≡ Some fault
