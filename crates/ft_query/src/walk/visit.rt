@@ -160,7 +160,8 @@ fn mark_phrase(
 }
 
 // For each phrase of a chain its occurrences that are near one of the next phrase's here: those of
-// the first phrase, and from the last one back those of the others.
+// the first phrase, and from the last one back those of the others. It goes back by a loop, since a
+// text can join more than a thousand phrases by NEAR.
 fn linked(
     alloc: Global,
     first: &Phrase,
@@ -175,17 +176,29 @@ fn linked(
     ensures steps { TakesAtMost (linked_cost (plain_phrase first.now) (map plain_link links.now)
         (plain_lists lists.now)) steps.old steps.new }
 {
-    let Some((link, links)) = links.split_first() else {
-        let starts = starts_of(alloc, first, lists, steps)?;
-        return Ok((starts, Vec::new(alloc)));
+    let last = match links.split_last() {
+        Some((link, _)) => &link.to,
+        None => first,
     };
-    let size = first.terms.len();
-    let (own, lists) = lists.split_at(size);
-    let starts = starts_of(alloc, first, own, steps)?;
-    let (next, mut rest) = linked(alloc, &link.to, links, lists, steps)?;
-    let kept = next.near(alloc, link.to.terms.len(), &starts, size, link.most, steps)?;
-    rest.push(next)?;
-    Ok((kept, rest))
+    let (mut front, own) = lists.split_at(lists.len() - last.terms.len());
+    let mut next = starts_of(alloc, last, own, steps)?;
+    let mut rest = Vec::new(alloc);
+    let mut left = links;
+    while let Some((link, before)) = left.split_last() {
+        let phrase = match before.split_last() {
+            Some((link, _)) => &link.to,
+            None => first,
+        };
+        let size = phrase.terms.len();
+        let (ahead, own) = front.split_at(front.len() - size);
+        let starts = starts_of(alloc, phrase, own, steps)?;
+        let kept = next.near(alloc, link.to.terms.len(), &starts, size, link.most, steps)?;
+        rest.push(next)?;
+        next = kept;
+        left = before;
+        front = ahead;
+    }
+    Ok((next, rest))
 }
 
 // Adds the offsets of these links' phrases, whose occurrences also have to be near one of the k
@@ -209,17 +222,20 @@ fn mark_links(
         (link_cost k starts.now.places.items (map plain_link links.now) (plain_lists lists.now)
         (plain_starts all.now)) steps.old steps.new }
 {
-    let Some((link, links)) = links.split_first() else {
-        return Ok(());
-    };
-    let Some((others, all)) = all.split_first() else {
-        return Ok(());
-    };
-    let size = link.to.terms.len();
-    let (own, lists) = lists.split_at(size);
-    let next = starts.near(found.alloc, k, others, size, link.most, steps)?;
-    mark_phrase(found, &next, own, steps)?;
-    mark_links(found, size, &next, links, lists, all, steps)
+    let mut k = k;
+    let mut at = 0;
+    let mut kept: Option<Starts> = None;
+    for (i, link) in links.iter().enumerate() {
+        let size = link.to.terms.len();
+        let own = &lists[at..at + size];
+        let starts = kept.as_ref().unwrap_or(starts);
+        let next = starts.near(found.alloc, k, &all[i], size, link.most, steps)?;
+        mark_phrase(found, &next, own, steps)?;
+        k = size;
+        at += size;
+        kept = Some(next);
+    }
+    Ok(())
 }
 
 #[tactic(auto, using(crate::proofs::Marks::phrase_marks_count))]

@@ -1,0 +1,182 @@
+use Rattle.std.proofs.Common.{◌≡◌, ℕ, ◌+◌, ◌-◌, ◌*◌, ◌≤◌, Bor, Option, Some, None, List, ◌∷◌, ◌++◌, map, take, drop, length, unwrap_or, refl, sym, ap, ◌∙◌, subst, append-nil, rules, arith}
+use Rattle.std.specs.Prelude.{flat_map}
+use Rattle.std.specs.Option.{option_copied}
+use Rattle.std.proofs.lemmas.List.{drop_more, drop_all, drop-drop, length-append, length-map, length-take-le, length-drop}
+use Rattle.ft_query.specs.declared.query.Link.{Link}
+use Rattle.ft_query.specs.declared.lists.place.Place.{Place}
+use Rattle.ft_query.specs.declared.walk.matches.steps.Steps.{Steps}
+use Rattle.ft_query.specs.declared.walk.places.Places.{Places}
+use Rattle.ft_query.specs.declared.walk.places.Starts.{Starts}
+use Rattle.ft_query.specs.declared.walk.visit.Found.{Found}
+use Rattle.ft_query.specs.Trees.{plain_term, plain_link}
+use Rattle.ft_query.specs.Taken.{TakesAtMost}
+use Rattle.ft_query.specs.Visit.{near_those, link_marks, link_cost, numbered, marks_from, total, plain_lists, plain_starts}
+use Rattle.ft_query.proofs.Marks.{count_more}
+use Rattle.ft_query.proofs.Passes.{numbered_marks, link_marks_one, back_lists, map-take}
+use Rattle.ft_query.proofs.walk.visit.mark_links.Invariants.{AreMarked}
+use Rattle.ft_query.proofs.walk.visit.mark_links.Goals.{After-len-size, After-near}
+use Rattle.ft_query.proofs.walk.visit.mark_links.Goals as goal
+
+-- ---- one link
+
+-- the steps for the marks of one link, and those for the links behind it
+cost_one : (k : ℕ) (starts : List Place) (link : Link) (links : List Link) (lists own behind : List Places) (others : Starts) (all : List Starts) (size : ℕ)
+    (next : List Place) → size ≡ length link.to.terms.items → own ≡ take size lists → behind ≡ drop size lists
+    → next ≡ near_those link.most k starts size others.places.items
+    → length starts + 3 * length others.places.items + total (plain_lists own) + size * length next
+    + link_cost size next (map plain_link links) (plain_lists behind) (plain_starts all)
+    ≡ link_cost k starts (map plain_link (link ∷ links)) (plain_lists lists) (plain_starts (others ∷ all))
+cost_one k starts link links lists own behind others all size next is_size is_own is_behind is_next =
+    let terms = link.to.terms.items in
+    let n = length (map plain_term terms) in
+    let same : size ≡ n = is_size ∙ sym (length-map terms plain_term) in
+    let near : ℕ → List Place = λ m. near_those link.most k starts m others.places.items in
+    let front : plain_lists own ≡ take n (plain_lists lists) =
+    ap plain_lists is_own ∙ sym (map-take size lists) ∙ ap (λ m. take m (plain_lists lists)) same in
+    let back = sym (back_lists terms lists behind size is_size is_behind) in
+    let cost : ℕ → List Place → List (List Place) → List (List Place) → ℕ =
+    λ m s own rest. length starts + 3 * length others.places.items + total own + m * length s + link_cost m s (map plain_link links) rest (plain_starts all) in
+    ap (λ s. cost size s (plain_lists own) (plain_lists behind)) is_next
+    ∙ ap (λ m. cost m (near m) (plain_lists own) (plain_lists behind)) same
+    ∙ ap (λ ls. cost n (near n) ls (plain_lists behind)) front
+    ∙ ap (λ ls. cost n (near n) (take n (plain_lists lists)) ls) back
+
+terms_one : (link : Link) (links : List Link)
+    → length (flat_map (λ l. l.to.terms) (map plain_link (link ∷ links)))
+    ≡ length link.to.terms.items + length (flat_map (λ l. l.to.terms) (map plain_link links))
+terms_one link links =
+    length-append (map plain_term link.to.terms.items) (flat_map (λ l. l.to.terms) (map plain_link links))
+    ∙ ap (λ n. n + length (flat_map (λ l. l.to.terms) (map plain_link links))) (length-map link.to.terms.items plain_term)
+
+-- one link more
+marked_on : {marks : List (List Place)} {count cost at k : ℕ} {starts : List Place} {link : Link} {links : List Link} {lists : List Places} {others : Starts}
+    {all : List Starts} {old mid : Found} {begun steps : Steps}
+    → AreMarked marks count cost at k starts (link ∷ links) lists (others ∷ all) old mid begun steps
+    → (own behind : List Places) (size : ℕ) (next : List Place) (new : Found) (between after : Steps)
+    → size ≡ length link.to.terms.items → own ≡ take size lists → behind ≡ drop size lists
+    → next ≡ near_those link.most k starts size others.places.items
+    → new.wanted ≡ mid.wanted → new.offsets.items ≡ mid.offsets.items ++ numbered mid.next (marks_from 0 (plain_lists own) next)
+    → new.next ≡ mid.next + length own
+    → TakesAtMost (length starts + 3 * length others.places.items) steps between
+    → TakesAtMost (total (plain_lists own) + length own * length next) between after
+    → AreMarked marks count cost (at + size) size next links behind all old new begun after
+marked_on {marks} {count} {cost} {at} {k} {starts} {link} {links} {lists} {others} {all} {old} {mid} {begun} {steps} so_far own behind size next new between
+    after is_size is_own is_behind is_next wanted offsets number one two =
+    let more = link_marks size next (map plain_link links) (plain_lists behind) (plain_starts all) in
+    let sum = terms_one link links in
+    let enough : size ≤ length lists = omega (arith, is_size, sum, so_far.each) in
+    let short : length own ≡ size = ap length is_own ∙ length-take-le size lists enough in
+    let long = ap length is_behind ∙ length-drop size lists in
+    let marked = link_marks_one k starts link links lists own behind others all size next is_size is_own is_behind is_next in
+    let costs = cost_one k starts link links lists own behind others all size next is_size is_own is_behind is_next in
+    let own_too = ap (λ n. n * length next) short in
+    record {
+      wanted = wanted ∙ so_far.wanted;
+      next = omega (arith, number, so_far.next, short);
+      left = omega (arith, so_far.left, long, enough);
+      each = omega (arith, sum, so_far.each, is_size, long);
+      offsets =
+          ap (λ os. os ++ numbered new.next more) offsets
+          ∙ ap (λ n. mid.offsets.items ++ numbered mid.next (marks_from 0 (plain_lists own) next) ++ numbered n more) number
+          ∙ numbered_marks mid.offsets.items mid.next own next more
+          ∙ ap (λ ms. mid.offsets.items ++ numbered mid.next ms) marked
+          ∙ so_far.offsets;
+      taken = record {
+        at_least = omega (arith, so_far.taken.at_least, one.at_least, two.at_least);
+        at_most = omega (arith, so_far.taken.at_most, one.at_most, two.at_most, own_too, costs);
+      };
+    }
+
+moved : {marks : List (List Place)} {count cost at k : ℕ} {starts now : List Place} {links more : List Link} {lists : List Places} {all rest : List Starts}
+    {old new : Found} {begun steps : Steps} → now ≡ starts → links ≡ more → all ≡ rest
+    → AreMarked marks count cost at k starts links lists all old new begun steps
+    → AreMarked marks count cost at k now more lists rest old new begun steps
+moved {marks} {count} {cost} {at} {k} {starts} {now} {links} {more} {lists} {all} {rest} {old} {new} {begun} {steps} is_starts is_links is_all so_far =
+    subst (λ s. AreMarked marks count cost at k s more lists rest old new begun steps) (sym is_starts)
+    (subst (λ ls. AreMarked marks count cost at k starts ls lists rest old new begun steps) is_links
+    (subst (λ ss. AreMarked marks count cost at k starts links lists ss old new begun steps) is_all so_far))
+
+-- ---- answers
+
+-- the occurrences of the phrase before, which are kept or passed in
+held : (o : Option (Bor Starts)) (p : Option Starts) (s : Bor Starts) → option_copied o ≡ p → (unwrap_or o s).now ≡ unwrap_or p s.now
+held None p s is = ap (λ q. unwrap_or q s.now) is
+held (Some x) p s is = ap (λ q. unwrap_or q s.now) is
+
+enough : (c : After-len-size) → c.loop-i.at + c.len-size.result ≤ length c.args.lists.now
+enough c =
+    let size : c.len-size.result ≡ length c.index-links-i.result.to.terms.items = search rules in
+    let is = ap (λ l. length l.to.terms.items) c.index-links-i.is in
+    let more = count_more c.args.links.now c.loop-i.i c.index-links-i.result c.loop-i-test.true in
+    omega (arith, size, is, more, c.loop-i.invariant.each, c.loop-i.invariant.left)
+
+pub slice_bounds-own-end : goal.slice_bounds-own-end
+slice_bounds-own-end c = let h = enough c in omega arith
+
+pub mark_phrase-requires : goal.mark_phrase-requires
+mark_phrase-requires c =
+    let before = enough (goal.at.mark_phrase-requires c).After-len-size in
+    let same : c.loop-i.at + c.len-size.result - c.loop-i.at ≡ c.len-size.result = omega arith in
+    let left = length-drop c.loop-i.at c.args.lists.now in
+    let few = length-take-le c.len-size.result (drop c.loop-i.at c.args.lists.now) (omega (arith, before, left)) in
+    let own = ap (λ n. length (take n (drop c.loop-i.at c.args.lists.now))) same in
+    omega (arith, before, few, own, c.loop-i.invariant.next, c.requires.lists.fits)
+
+-- what is marked so far, with the next link
+here : (c : After-near)
+    → AreMarked (link_marks c.args.k c.args.starts.now.places.items (map plain_link c.args.links.now) (plain_lists c.args.lists.now)
+    (plain_starts c.args.all.now)) (length c.args.lists.now)
+    (link_cost c.args.k c.args.starts.now.places.items (map plain_link c.args.links.now) (plain_lists c.args.lists.now) (plain_starts c.args.all.now))
+    c.loop-i.at c.loop-i.k c.unwrap_or-starts.result.now.places.items (c.index-links-i.result ∷ drop (c.loop-i.i + 1) c.args.links.now)
+    (drop c.loop-i.at c.args.lists.now) (c.index-all-i.result ∷ drop (c.loop-i.i + 1) c.args.all.now) c.args.found.now c.loop-i.found c.args.steps.now
+    c.loop-i.steps
+here c =
+    let i = c.loop-i.i in
+    let links = c.args.links.now in
+    let all = c.args.all.now in
+    moved (ap (λ b. b.now.places.items) c.unwrap_or-starts.ensures
+    ∙ ap (λ s. s.places.items) (held c.as_ref.result c.loop-i.kept c.args.starts c.as_ref.ensures.value))
+    (drop_more links i c.index-links-i.result c.loop-i-test.true ∙ ap (λ l. l ∷ drop (i + 1) links) (sym c.index-links-i.is))
+    (drop_more all i c.index-all-i.result (omega arith) ∙ ap (λ s. s ∷ drop (i + 1) all) (sym c.index-all-i.is)) c.loop-i.invariant
+
+pub returns-in_err-mark_phrase-clause-steps : goal.returns-in_err-mark_phrase-clause-steps
+returns-in_err-mark_phrase-clause-steps c =
+    let at = c.loop-i.at in
+    let lists = c.args.lists.now in
+    let size : c.len-size.result ≡ length c.index-links-i.result.to.terms.items = search rules in
+    let same : at + c.len-size.result - at ≡ c.len-size.result = omega arith in
+    let own = ap (λ n. take n (drop at lists)) same in
+    let before = enough (goal.at.returns-in_err-mark_phrase-clause-steps c).After-len-size in
+    let left = length-drop at lists in
+    let few = ap length own ∙ length-take-le c.len-size.result (drop at lists) (omega (arith, before, left)) in
+    let own_too = ap (λ n. n * length c.in_ok-next.next.places.items) few in
+    let costs =
+    cost_one c.loop-i.k c.unwrap_or-starts.result.now.places.items c.index-links-i.result (drop (c.loop-i.i + 1) c.args.links.now) (drop at lists)
+    (take (at + c.len-size.result - at) (drop at lists)) (drop c.len-size.result (drop at lists)) c.index-all-i.result
+    (drop (c.loop-i.i + 1) c.args.all.now) c.len-size.result c.in_ok-next.next.places.items size own refl c.in_ok-next.ensures.starts in
+    let so_far = (here (goal.at.returns-in_err-mark_phrase-clause-steps c).After-near).taken in
+    record {
+      at_least = omega (arith, so_far.at_least, c.in_ok-next.ensures.steps.at_least, c.in_err-mark_phrase.ensures.steps.at_least);
+      at_most = omega (arith, so_far.at_most, costs, own_too, c.in_ok-next.ensures.steps.at_most, c.in_err-mark_phrase.ensures.steps.at_most);
+    }
+
+pub loop-i-preserved : goal.loop-i-preserved
+loop-i-preserved c =
+    let at = c.loop-i.at in
+    let lists = c.args.lists.now in
+    let size : c.len-size.result ≡ length c.index-links-i.result.to.terms.items = search rules in
+    let same : at + c.len-size.result - at ≡ c.len-size.result = omega arith in
+    marked_on (here (goal.at.loop-i-preserved c).After-near) (take (at + c.len-size.result - at) (drop at lists)) (drop (at + c.len-size.result) lists)
+    c.len-size.result c.in_ok-next.next.places.items c.mark_phrase.new.found c.near.new.steps c.mark_phrase.new.steps size
+    (ap (λ n. take n (drop at lists)) same) (sym (drop-drop c.len-size.result at lists)) c.in_ok-next.ensures.starts c.in_ok-mark_phrase.ensures.marks.wanted
+    c.in_ok-mark_phrase.ensures.marks.offsets c.in_ok-mark_phrase.ensures.marks.next c.in_ok-next.ensures.steps c.in_ok-mark_phrase.ensures.steps
+
+pub returns-clause-marks : goal.returns-clause-marks
+returns-clause-marks c =
+    let none = drop_all c.loop-i.i c.args.links.now c.loop-i-test.false in
+    let at = moved refl none refl c.loop-i.invariant in
+    record {
+      wanted = at.wanted;
+      offsets = sym (append-nil c.loop-i.found.offsets.items) ∙ at.offsets;
+      next = omega (arith, at.next, at.left, at.each);
+    }
