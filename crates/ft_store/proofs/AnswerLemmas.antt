@@ -133,7 +133,7 @@ module _ {K X : Type 0} (R : K → K → Ordering) (total : IsTotalOrder R) (tie
       ∙ found_outputs db tree typed apart terms show order params p (λ o. decode o.1) tests shows orders rows answer
 
   -- The same, where rows are ordered by their keys alone: no two have one.
-  keyed_outputs : (db : Trees) (tree : ℕ) → AllByRecursion P (db tree) → AreApart R (map entry (db tree)) → (terms : List Term) (show : List ℕ) (order : List (Term × Key)) (params : Row) (p : K → Bool) (back : Output → K × X)
+  pub keyed_outputs : (db : Trees) (tree : ℕ) → AllByRecursion P (db tree) → AreApart R (map entry (db tree)) → (terms : List Term) (show : List ℕ) (order : List (Term × Key)) (params : Row) (p : K → Bool) (back : Output → K × X)
       → ((r : Row) → P r → list_all (holds (params ∷ r ∷ [])) terms ≡ p (entry r).0)
       → ((r : Row) → P r → p (entry r).0 ≡ true → back (output (query_by tree terms show order no_limit) (params ∷ r ∷ [])) ≡ entry r)
       → ((a b : Row) → P a → P b → output_cmp (query_by tree terms show order no_limit) (output (query_by tree terms show order no_limit) (params ∷ a ∷ [])) (output (query_by tree terms show order no_limit) (params ∷ b ∷ [])) ≡ R (entry a).0 (entry b).0)

@@ -87,10 +87,10 @@ module _ {X : Type 0} (cmp : X → X → Ordering) (total : IsTotalOrder cmp) (t
 
 -- ---- keys alone
 
-abbrev key_alone : CellKey × Cell → CellKey × Unit {0}
+abbrev pub key_alone : CellKey × Cell → CellKey × Unit {0}
 key_alone = at_value cell_key_cmp (λ _. tt)
 
-abbrev key_entry : Row → CellKey × Unit {0}
+abbrev pub key_entry : Row → CellKey × Unit {0}
 key_entry r = (cell_key r, tt)
 
 still_none : (k : CellKey) (es : List (CellKey × Cell)) → find cell_key_cmp k es ≡ None → find cell_key_cmp k (map key_alone es) ≡ None
@@ -101,12 +101,15 @@ still_apart : (es : List (CellKey × Cell)) → AreApart cell_key_cmp es → Are
 still_apart [] apart = tt
 still_apart (e ∷ es) apart = (still_none e.0 es apart.0, still_apart es apart.1)
 
+pub keys_apart : (rows : List Row) → AreApart cell_key_cmp (map cell_entry rows) → AreApart cell_key_cmp (map key_entry rows)
+keys_apart rows apart = subst (AreApart cell_key_cmp) (map-map key_alone cell_entry rows) (still_apart (map cell_entry rows) apart)
+
+pub keyed_keys : (rows : List Row) → keyed cell_key_cmp (map key_entry rows) ≡ map key_alone (keyed cell_key_cmp (map cell_entry rows))
+keyed_keys rows = ap (keyed cell_key_cmp) (sym (map-map key_alone cell_entry rows)) ∙ keyed-map cell_key_cmp (λ _. tt) (map cell_entry rows)
+
 keys_are : (rows : List Row) → AreApart cell_key_cmp (map cell_entry rows)
     → sort_by (whole_cmp cell_key_cmp cell_key_total tied_cell_keys all_tie) (map key_entry rows) ≡ map key_alone (keyed cell_key_cmp (map cell_entry rows))
-keys_are rows apart =
-    ap (sort_by (whole_cmp cell_key_cmp cell_key_total tied_cell_keys all_tie)) (sym (map-map key_alone cell_entry rows))
-    ∙ sorted-keyed cell_key_cmp cell_key_total tied_cell_keys all_tie (map key_alone (map cell_entry rows)) (still_apart (map cell_entry rows) apart)
-    ∙ keyed-map cell_key_cmp (λ _. tt) (map cell_entry rows)
+keys_are rows apart = sorted-keyed cell_key_cmp cell_key_total tied_cell_keys all_tie (map key_entry rows) (keys_apart rows apart) ∙ keyed_keys rows
 
 abbrev found_key : ℤ → Row → CellKey × Unit {0}
 found_key tab row = ((tab, id_in (column row 0), id_in (column row 1)), tt)

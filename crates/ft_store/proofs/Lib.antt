@@ -5,6 +5,7 @@ pub mod ApplyLemmas
 pub mod CallLemmas
 pub mod ChainLemmas
 pub mod ChangeLemmas
+pub mod DocidLemmas
 pub mod EntryLemmas
 pub mod ExpectedLemmas
 pub mod FoundLemmas

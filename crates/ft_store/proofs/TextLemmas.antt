@@ -15,7 +15,7 @@ use Rattle.sqlite_value.specs.Keys.{ascending}
 use Rattle.sqlite_value.specs.declared.keys.Key.{Key}
 use Rattle.sqlite.specs.Source.TheVariants.{Values}
 use Rattle.sqlite.proofs.Callers.{IsPlain, command_of}
-use Rattle.ft_store.proofs.Texts.{drop_name_text, drop_columns_text, drop_column_text, drop_contents_text, drop_cells_text, drop_cell_text, drop_lists_text, drop_list_text, drop_sizes_text, drop_size_text, drop_note_text, drop_skips_text, drop_skip_text, add_name_text, add_column_text, add_cell_text, add_list_text, add_lists_text, add_size_text, add_note_text, add_skip_text, names_text, columns_text, skips_text, cells_text, document_text, last_text, term_text, prefix_text, bare_prefix_text, lists_text, bare_lists_text, sizes_text, noted_text}
+use Rattle.ft_store.proofs.Texts.{drop_name_text, drop_columns_text, drop_column_text, drop_contents_text, drop_cells_text, drop_cell_text, drop_lists_text, drop_list_text, drop_sizes_text, drop_size_text, drop_note_text, drop_skips_text, drop_skip_text, add_name_text, add_column_text, add_cell_text, add_list_text, add_lists_text, add_size_text, add_note_text, add_skip_text, names_text, columns_text, skips_text, cells_text, document_text, docids_text, has_document_text, last_text, term_text, prefix_text, bare_prefix_text, lists_text, bare_lists_text, sizes_text, noted_text}
 use Rattle.ft_store.specs.Tables.{store_schema}
 
 abbrev pub compares : CompareOp → ℕ → ℕ → Term
@@ -23,6 +23,9 @@ compares op at param = op2 (Compare op Binary) (col 1 at) (col 0 param)
 
 abbrev pub is_param : ℕ → ℕ → Term
 is_param = compares Eq
+
+abbrev pub no_offset : Term
+no_offset = lit (Int (pos 0))
 
 -- one table, columns of its rows, in the order of some columns
 abbrev pub query_by : ℕ → List Term → List ℕ → List (Term × Key) → Term → Query
@@ -35,7 +38,7 @@ query_by tree filter shown order limit = record {
   collations = [];
   order = order;
   limit = limit;
-  offset = lit (Int (pos 0));
+  offset = no_offset;
 }
 
 abbrev pub rising : List ℕ → List (Term × Key)
@@ -375,6 +378,40 @@ document_unlisted = refl
 pub document_plain : IsPlain (understood store_schema document_text)
 unfolding understood everything
 document_plain = (refl, refl)
+
+-- the docids of cells, in the order of their keys
+abbrev pub docid_query : List Term → Term → Term → Query
+docid_query filter limit offset = record (query_by 5 filter (2 ∷ []) (rising cell_order) limit) { offset = offset }
+
+abbrev pub docids_query : Query
+docids_query = docid_query (is_param 1 0 ∷ op2 (Compare Eq Binary) (col 1 3) (lit (Int (pos 0))) ∷ []) (col 0 1) (col 0 2)
+
+pub docids_is : command_of (understood store_schema docids_text) ≡ Select (record { lets = []; body = docids_query }) (codes "docid" ∷ [])
+unfolding understood everything
+docids_is = refl
+
+pub docids_unlisted : reads_listing store_schema docids_text ≡ false
+unfolding understood everything
+docids_unlisted = refl
+
+pub docids_plain : IsPlain (understood store_schema docids_text)
+unfolding understood everything
+docids_plain = (refl, refl)
+
+abbrev pub has_document_query : Query
+has_document_query = docid_query (is_param 1 0 ∷ is_param 2 1 ∷ []) (lit (Int (pos 1))) no_offset
+
+pub has_document_is : command_of (understood store_schema has_document_text) ≡ Select (record { lets = []; body = has_document_query }) (codes "docid" ∷ [])
+unfolding understood everything
+has_document_is = refl
+
+pub has_document_unlisted : reads_listing store_schema has_document_text ≡ false
+unfolding understood everything
+has_document_unlisted = refl
+
+pub has_document_plain : IsPlain (understood store_schema has_document_text)
+unfolding understood everything
+has_document_plain = (refl, refl)
 
 abbrev pub last_query : Query
 last_query = query_by 5 (is_param 1 0 ∷ []) (2 ∷ 3 ∷ []) (falling (1 ∷ 2 ∷ 3 ∷ [])) (lit (Int (pos 1)))

@@ -83,6 +83,12 @@ cells_text = codes "SELECT docid, col, num, txt FROM cell WHERE tab = ?1 ORDER B
 abbrev pub document_text : List ℕ
 document_text = codes "SELECT docid, col, num, txt FROM cell WHERE tab = ?1 AND docid = ?2 ORDER BY tab, docid, col"
 
+abbrev pub docids_text : List ℕ
+docids_text = codes "SELECT docid FROM cell WHERE tab = ?1 AND col = 0 ORDER BY tab, docid, col LIMIT ?2 OFFSET ?3"
+
+abbrev pub has_document_text : List ℕ
+has_document_text = codes "SELECT docid FROM cell WHERE tab = ?1 AND docid = ?2 ORDER BY tab, docid, col LIMIT 1"
+
 abbrev pub last_text : List ℕ
 last_text = codes "SELECT docid, col FROM cell WHERE tab = ?1 ORDER BY tab DESC, docid DESC, col DESC LIMIT 1"
 

@@ -1,9 +1,11 @@
 //! Queries, each with the rows of the store's value that it gives.
-ghost use Rattle.std.specs.Prelude.{◌≡◌, ℤ, ◌&&◌, map, slice_get, option_map, string_bytes, IsTrue, IfOk};
+ghost use Rattle.std.specs.Prelude.{◌≡◌, ℤ, ◌&&◌, map, slice_get, is_some, option_map, string_bytes, IsTrue, IfOk};
 ghost use Rattle.std.specs.Ordering.{int_eq};
 ghost use Rattle.std.specs.FinMap.Entries.{where_key};
 ghost use Rattle.sqlite.specs.State.{Shown};
 ghost use Rattle.sqlite.specs.Values.{bound};
+ghost use Rattle.sqlite.specs.declared.types.Value.TheVariants.{Int};
+ghost use Rattle.sqlite.specs.Query.{as_count};
 ghost use Rattle.sqlite.specs.Held.{state};
 ghost use Rattle.sqlite.specs.Order as order;
 ghost use Rattle.sqlite.specs.Order.{column};
@@ -13,6 +15,7 @@ ghost use Rattle.ft_values.specs.Cells.{shown_value};
 ghost use Rattle.ft_store.specs.Rows.{text_in, cell_in, value_of};
 ghost use Rattle.ft_store.specs.Found.{found_table, found_column, found_skip, found_cell, found_size, found_note};
 ghost use Rattle.ft_rows.specs.Shown.{shown_cell, shown_size, shown_name, shown_column, shown_skip, shown_note, last_docid_of};
+ghost use Rattle.ft_store.specs.Docids.{docids_in, cut_to};
 ghost use Rattle.ft_store.specs.Calls.{IsAtRest};
 ghost use Rattle.ft_store.specs.Settled.{IsSettled, IsPlainIn, Finds, ReadsFor, GivesRows};
 
@@ -121,6 +124,27 @@ fn select_cells<S: Alter>(
     };
     gather(conn, sql, params, &mut found)?;
     Ok(found.cells)
+}
+
+/// Docids, as their rows come.
+#[derive(Drop)]
+struct DocidsOf {
+    docids: Vec<i64>,
+}
+
+impl Gathered for DocidsOf {
+    ghost use Rattle.std.specs.Prelude.{◌≡◌, map, IsTrue};
+    ghost use Rattle.sqlite.specs.Order.{column};
+    ghost use Rattle.sqlite_rules.specs.Edit.{id_in};
+
+    ghost is_made_of = { λ made whole rows.
+        IsTrue whole × (made.docids.items ≡ map (λ row. id_in (column row 0)) rows) };
+
+    fn add(&mut self, whole: bool, row: &Row) -> Result<bool, StoreFault> {
+        let docid: i64 = row.get(0)?;
+        self.docids.push(docid)?;
+        Ok(whole)
+    }
 }
 
 /// The size of a cell, of its row.
@@ -317,6 +341,62 @@ pub(crate) fn document<S: Alter>(
         "SELECT docid, col, num, txt FROM cell WHERE tab = ?1 AND docid = ?2 ORDER BY tab, docid, col",
         params![tab, docid],
     )
+}
+
+/// A limit on rows as SQL has it, where -1 stands for none.
+fn limit_of(most: Option<u32>) -> i64
+    ensures { as_count (Int result) ≡ most }
+{
+    match most {
+        Some(count) => i64::from(count),
+        None => -1,
+    }
+}
+
+/// The docids of a table's cells of column 0, from an offset on and at most so many.
+pub(crate) fn docids<S: Alter>(
+    conn: &mut Connection<S>,
+    alloc: Global,
+    tab: i64,
+    most: Option<u32>,
+    offset: u32,
+) -> Result<Vec<i64>, StoreFault>
+    requires { IsAtRest (state S.Store conn.old) }
+    ensures { ReadsFor S.Store conn.old conn.new result
+        (λ found. found.items ≡ cut_to most offset
+        (docids_in tab (value_of (state S.Store conn.old).now.trees).cells)) }
+{
+    let limit = limit_of(most);
+    let mut found = DocidsOf {
+        docids: Vec::new(alloc),
+    };
+    gather(
+        conn,
+        "SELECT docid FROM cell WHERE tab = ?1 AND col = 0 ORDER BY tab, docid, col LIMIT ?2 OFFSET ?3",
+        params![tab, limit, offset],
+        &mut found,
+    )?;
+    Ok(found.docids)
+}
+
+/// Whether a table has a cell under a docid.
+pub(crate) fn has_document<S: Alter>(
+    conn: &mut Connection<S>,
+    tab: i64,
+    docid: i64,
+) -> Result<bool, StoreFault>
+    requires { IsAtRest (state S.Store conn.old) }
+    ensures { ReadsFor S.Store conn.old conn.new result
+        (λ found. found ≡ is_some (slice_get
+        (where_key cell_key_cmp (λ k. int_eq tab k.0 && int_eq docid k.1)
+        (value_of (state S.Store conn.old).now.trees).cells) 0)) }
+{
+    let rows = select(
+        conn,
+        "SELECT docid FROM cell WHERE tab = ?1 AND docid = ?2 ORDER BY tab, docid, col LIMIT 1",
+        params![tab, docid],
+    )?;
+    Ok(!rows.is_empty())
 }
 
 /// The docid of the first row, where there is one.

@@ -1,7 +1,7 @@
 //! The store: what its tables hold is one value, read by key and changed in transactions.
 ghost use Rattle.sqlite.specs.Held.{state};
 ghost use Rattle.ft_rows.specs.Store.{StoreValue};
-ghost use Rattle.std.specs.Prelude.{◌≡◌, ◌≢◌, ◌↔◌, if◌then◌else◌, ℤ, ◌&&◌, false, codes, Err, MatchResult, IfErr, map, vec_len, length, option_to_list, nat_eq, All, IsTrue, IfOk, OnOk, OnErr};
+ghost use Rattle.std.specs.Prelude.{◌≡◌, ◌≢◌, ◌↔◌, if◌then◌else◌, ℤ, ◌&&◌, false, codes, Err, MatchResult, IfErr, map, vec_len, length, option_to_list, slice_get, is_some, nat_eq, All, IsTrue, IfOk, OnOk, OnErr};
 ghost use Rattle.std.specs.Ordering.{int_eq, is_eq};
 ghost use Rattle.std.specs.List.{starts_with};
 ghost use Rattle.std.specs.FinMap.Entries.{where_key};
@@ -12,6 +12,7 @@ ghost use Rattle.ft_rows.specs.Store.{cell_key_cmp, list_key_cmp, name_cmp, noth
 ghost use Rattle.ft_rows.specs.Changes.{shown_change, CanApply};
 ghost use Rattle.ft_rows.specs.Shown.{shown_cell, shown_size, shown_note, shown_list, shown_entry, lists_of_term, lists_of_prefix, spot_count, tables_listed, shown_table, last_docid_of, entries_of, AreWhole, AreRead, SomeDamaged, AreNamedApart};
 ghost use Rattle.ft_rows.specs.Terms.{lists_by_terms};
+ghost use Rattle.ft_store.specs.Docids.{docids_in, cut_to};
 ghost use Rattle.ft_store.specs.Expected.{place_count};
 ghost use Rattle.ft_store.specs.Calls.{AreTold, IsPlainFault, IsReadFault, IsChangeFault, IsStored, Keeps, MakesAllOrNone};
 ghost use Rattle.ft_store.specs.declared.examine.Rowids.TheVariants.{Apart};
@@ -238,6 +239,38 @@ impl<S: Alter> Store<S> {
         let found = read::document(&mut self.conn, self.alloc, tab, docid)?;
         self.rows_read = self.rows_read.saturating_add(found.len() as u64);
         Ok(found)
+    }
+
+    /// The docids of a table, rising: those of its cells of column 0, from an offset on and at most
+    /// so many.
+    pub fn docids(
+        &mut self,
+        tab: i64,
+        most: Option<u32>,
+        offset: u32,
+    ) -> Result<Vec<i64>, StoreFault>
+        ensures rows { HasCleanDisk (shows S.Store self.new)
+            → IfOk result (λ found. found.items
+            ≡ cut_to most offset (docids_in tab (value_in S.Store self.old).cells)) }
+        ensures read { ReadsRows S.Store self.old self.new result vec_len IsPlainFault }
+    {
+        let found = read::docids(&mut self.conn, self.alloc, tab, most, offset)?;
+        self.rows_read = self.rows_read.saturating_add(found.len() as u64);
+        Ok(found)
+    }
+
+    /// Whether a table has a cell under a docid. Where it has, that counts as one row, else none.
+    pub fn has_document(&mut self, tab: i64, docid: i64) -> Result<bool, StoreFault>
+        ensures there { HasCleanDisk (shows S.Store self.new)
+            → IfOk result (λ found. found ≡ is_some (slice_get
+            (where_key cell_key_cmp (λ k. int_eq tab k.0 && int_eq docid k.1)
+            (value_in S.Store self.old).cells) 0)) }
+        ensures read { ReadsRows S.Store self.old self.new result
+            (λ found. if found then 1 else 0) IsPlainFault }
+    {
+        let is_there = read::has_document(&mut self.conn, tab, docid)?;
+        self.rows_read = self.rows_read.saturating_add(u64::from(is_there));
+        Ok(is_there)
     }
 
     /// The greatest docid of a table's cells, None where it has none.

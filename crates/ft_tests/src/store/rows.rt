@@ -22,13 +22,18 @@ fn some_read<S: Alter>(store: &mut Store<S>, alloc: Global) -> Result<String, St
     Ok(format!(in alloc; "{document:?} {term:?} {prefix:?}")?)
 }
 
-// The last docids of two tables, the noted names, and how many rows that were.
+// The last docids of two tables, all docids, those behind the first, whether two documents are
+// there, the noted names, and how many rows that were.
 fn rest_read<S: Alter>(store: &mut Store<S>, alloc: Global) -> Result<String, StoreFault> {
     let first = store.last_docid(1)?;
     let second = store.last_docid(2)?;
+    let docids = store.docids(1, None, 0)?;
+    let behind = store.docids(1, Some(1), 1)?;
+    let (there, missing) = (store.has_document(1, 2)?, store.has_document(1, 3)?);
     let names = store.noted()?;
     let count = store.rows_read();
-    Ok(format!(in alloc; "{first:?} {second:?} {names:?} {count}")?)
+    let ends = format!(in alloc; "{first:?} {second:?} {docids:?} {behind:?}")?;
+    Ok(format!(in alloc; "{ends} {there} {missing} {names:?} {count}")?)
 }
 
 // What is read then.
@@ -99,7 +104,7 @@ const TRIALS: [(&[&[Step]], Read, &str); 6] = [
     (
         &[&[Step::Note("Plain")], &[Step::Note("PLAIN")]],
         Read::Rest,
-        "Some(2) None [\"PLAIN\"] 2",
+        "Some(2) None [1, 2] [2] true false [\"PLAIN\"] 6",
     ),
     (
         BOTH,
