@@ -14,13 +14,14 @@ LINES = {
     "frequent word, ten rows": "ten rows of a frequent word",
     "DROP TABLE": "DROP",
     "opening, memory": "opening, memory",
-    "rebuild": "`rebuild`",
+    "DELETE of all documents": "DELETE of all documents",
     ".import, memory": "import, memory",
     ".import": "import",
     "all changes, memory": "all changes, memory",
     "AND": "AND",
     "files": "files",
     "rare word": "rare word",
+    "all documents, counted": "all documents, counted",
 }
 
 

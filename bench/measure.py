@@ -54,6 +54,8 @@ def queries(words, frequent, middle, letters):
         ("column filter", match(f"subject:{of_rank(3)}"), [of(of_rank(3))]),
         ("one document by its docid", "SELECT subject FROM mail WHERE docid = 77;", []),
         ("all documents, counted", "SELECT count(*) FROM mail;", []),
+        ("all documents, ten docids", "SELECT docid FROM mail LIMIT 10;", []),
+        ("all documents, ten texts behind a thousand", "SELECT * FROM mail LIMIT 10 OFFSET 1000;", []),
     ]
 
 
@@ -215,6 +217,8 @@ def changes(rows):
     yield f"{WRITES} UPDATEs", "\n".join(updates)
     yield f"{WRITES} DELETEs", "\n".join(f"DELETE FROM mail WHERE docid = {7 * at + 3};" for at in range(WRITES))
     yield f"{WRITES} INSERTs", "\n".join(f"INSERT INTO mail VALUES{row(it)};" for it in rows[WRITES:])
+    with_docid = lambda at, it: f"INSERT INTO mail(docid, subject, body) VALUES({1_000_000 + at}, {row(it)[1:]};"
+    yield f"{WRITES} INSERTs with a docid", "\n".join(with_docid(at, it) for at, it in enumerate(rows[:WRITES]))
     yield "integrity-check", "INSERT INTO mail(mail) VALUES('integrity-check');"
     yield "rebuild", "INSERT INTO mail(mail) VALUES('rebuild');"
 

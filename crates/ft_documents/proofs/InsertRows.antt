@@ -48,7 +48,7 @@ known_from documents names f (row ∷ rows) (suc k) values is = known_from docum
 
 -- ---- the rewrites of new documents
 
-rewritten_new : (new documents : Documents) → rewritten (map new_rewrite new) documents ≡ all_put int_cmp new documents
+pub rewritten_new : (new documents : Documents) → rewritten (map new_rewrite new) documents ≡ all_put int_cmp new documents
 rewritten_new [] documents = refl
 rewritten_new (d ∷ ds) documents = rewritten_new ds (put int_cmp d.0 d.1 documents)
 
@@ -56,11 +56,11 @@ below_new : (x : ℤ) (new : Documents) → below_all int_cmp x (by_docid (map n
 below_new x [] = refl
 below_new x (d ∷ ds) = ap (λ b. is_lt (int_cmp x d.0) && b) (below_new x ds)
 
-sorted_new : (new : Documents) → is_sorted int_cmp (by_docid (map new_rewrite new)) ≡ is_sorted int_cmp new
+pub sorted_new : (new : Documents) → is_sorted int_cmp (by_docid (map new_rewrite new)) ≡ is_sorted int_cmp new
 sorted_new [] = refl
 sorted_new (d ∷ ds) = λ i. below_new d.0 ds i && sorted_new ds i
 
-befores_new : (documents new : Documents) → AllByRecursion (λ (d : ℤ × List Cell). find int_cmp d.0 documents ≡ None) new → AllByRecursion (λ (r : Rewrite). r.before ≡ find int_cmp r.docid documents) (map new_rewrite new)
+pub befores_new : (documents new : Documents) → AllByRecursion (λ (d : ℤ × List Cell). find int_cmp d.0 documents ≡ None) new → AllByRecursion (λ (r : Rewrite). r.before ≡ find int_cmp r.docid documents) (map new_rewrite new)
 befores_new documents [] h = tt
 befores_new documents (d ∷ ds) h = (sym h.0, befores_new documents ds h.1)
 

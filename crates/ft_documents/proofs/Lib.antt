@@ -33,7 +33,6 @@ pub mod PackLemmas
 pub mod PackedChanges
 pub mod PlacedLemmas
 pub mod ReadRows
-pub mod RebuildLemmas
 pub mod RewriteLemmas
 pub mod RightLemmas
 pub mod RisingRows

@@ -81,7 +81,7 @@ content_cells name content is =
     let few = and_parts (nat_lt 0 width && nat_le width 100) (list_all is_name names) named.0 in
     have_cells width content.documents (and_parts (nat_lt 0 width) (nat_le width 100) few.0).0 is.documents
 
-abbrev rows_in : Documents → List CellRow
+abbrev pub rows_in : Documents → List CellRow
 rows_in documents = flat_map document_rows documents
 
 abbrev row_of : ℤ → ℕ × Cell → CellRow
@@ -117,13 +117,13 @@ last_read tab store name content is rows =
 
 -- ---- the rows of one docid
 
-abbrev is_of : ℤ → CellRow → Bool
+abbrev pub is_of : ℤ → CellRow → Bool
 is_of docid row = int_eq docid row.docid
 
-abbrev value_of_row : CellRow → Cell
+abbrev pub value_of_row : CellRow → Cell
 value_of_row row = row.value
 
-abbrev values_at : ℤ → List CellRow → List Cell
+abbrev pub values_at : ℤ → List CellRow → List Cell
 values_at docid rows = map value_of_row (filter (is_of docid) rows)
 
 values-append : (docid : ℤ) (xs ys : List CellRow) → values_at docid (xs ++ ys) ≡ values_at docid xs ++ values_at docid ys
@@ -139,7 +139,7 @@ values_of_document docid k false n (cell ∷ cells) is =
     let rest : List CellRow = filter (is_of docid) (map (row_of k) (enumerate_from (n + 1) cells)) in
     ap (λ b. map value_of_row (cond b (row_of k (n, cell) ∷ rest) rest)) is ∙ values_of_document docid k false (n + 1) cells is
 
-values_found : (docid : ℤ) (documents : Documents) → is_sorted int_cmp documents ≡ true → values_at docid (rows_in documents) ≡ unwrap_or (find int_cmp docid documents) []
+pub values_found : (docid : ℤ) (documents : Documents) → is_sorted int_cmp documents ≡ true → values_at docid (rows_in documents) ≡ unwrap_or (find int_cmp docid documents) []
 values_found docid [] h = refl
 values_found docid (d ∷ ds) h =
     let parts = and_parts (below_all int_cmp d.0 ds) (is_sorted int_cmp ds) h in
@@ -150,7 +150,7 @@ values_found docid (d ∷ ds) h =
       | false ↦ λ is. (λ i. values_of_document docid d.0 false 0 d.1 is i ++ rest i)
     ] refl
 
-asked_values : (tab docid : ℤ) (cells : List (CellKey × Cell)) →
+pub asked_values : (tab docid : ℤ) (cells : List (CellKey × Cell)) →
     map (λ (c : CellKey × Cell). c.1) (where_key cell_key_cmp (λ k. int_eq tab k.0 && int_eq docid k.1) cells) ≡ values_at docid (map (λ (c : CellKey × Cell). record { docid = c.0.1; column = c.0.2; value = c.1 }) (where_key cell_key_cmp (λ k. int_eq tab k.0) cells))
 asked_values tab docid [] = refl
 asked_values tab docid (e ∷ es) =

@@ -1,5 +1,5 @@
 -- Meaning. The table of a name among those that are told.
-use Rattle.std.specs.Prelude.{◌≡◌, ◌≤◌, ◌⊎◌, ℕ, ℤ, not, if◌then◌else◌, filter, length, map, List, [], ◌∷◌, Option, Some, None, slice_get, IsTrue, false}
+use Rattle.std.specs.Prelude.{◌≡◌, ◌≤◌, ◌⊎◌, ℕ, ℤ, true, not, if◌then◌else◌, filter, length, map, List, [], ◌∷◌, Option, Some, None, slice_get, IsTrue, false}
 use Rattle.std.specs.List.{find, insert}
 use Rattle.std.specs.Ordering.{int_cmp, int_eq, is_lt}
 use Rattle.ft_values.specs.declared.table.TableInfo.{TableInfo as Known}
@@ -41,3 +41,10 @@ pub record IsPlaceFor (id : ℤ) (tables : List Known) (n : ℕ) : Type 0 where
 -- the tables without the one of an id
 abbrev pub without_told : ℤ → List TableInfo → List TableInfo
 without_told id tables = filter (λ (t : TableInfo). not (int_eq id t.id)) tables
+
+-- the tables, the one of an id marked sound
+abbrev pub sound_if : ℤ → TableInfo → TableInfo
+sound_if id table = if int_eq id table.id then (record table { sound = true }) else table
+
+abbrev pub with_sound : ℤ → List TableInfo → List TableInfo
+with_sound id tables = map (sound_if id) tables

@@ -10,8 +10,7 @@ use Rattle.ft_query.specs.Tokens.{tokens_of}
 use Rattle.ft_content.specs.Content.{Column, cell_text}
 use Rattle.ft_content.specs.Index.{Key, key_cmp, StoredSpot}
 use Rattle.ft_documents.specs.declared.term_index.TermIndex.{TermIndex}
-use Rattle.ft_documents.specs.MadeIndex.{HaveShortNumbers}
-use Rattle.ft_documents.specs.RewriteRows.{with_entries, cell_entries, cell_sizes, sized, lists_with, sizes_with, IsShortNumber}
+use Rattle.ft_documents.specs.RewriteRows.{with_entries, cell_entries, cell_sizes, sized, lists_with}
 use Rattle.ft_documents.specs.Standing.{shown_size, same_size, after_first, own_sizes}
 use Rattle.ft_documents.specs.Terms.{lists_in_terms}
 
@@ -27,13 +26,6 @@ pub record JoinsCell (docid : ℤ) (place : ℕ) (cell : Cell) (old new : TermIn
       (lists_in_terms old)
   pub counted : count ≡ length (tokens_of (cell_text cell))
   pub few : count < 2 ^ 63
-  pub number : IsShortNumber cell
-
--- the lists and sizes of a document join those of others
-pub record Joins (columns : List Column) (document : ℤ × List Cell) (old new : TermIndex) (old_sizes new_sizes : List ((ℤ × ℤ) × ℤ)) : Type 0 where
-  pub lists : CanJoin document.0 (lists_in_terms old) → lists_in_terms new ≡ lists_with columns (document ∷ []) (lists_in_terms old)
-  pub sizes : new_sizes ≡ sizes_with columns (document ∷ []) old_sizes
-  pub numbers : HaveShortNumbers columns (document ∷ [])
 
 -- the size of a cell under its key
 abbrev pub cell_size : ℤ → ℕ → ℕ → (ℤ × ℤ) × ℤ

@@ -10,7 +10,6 @@ pub mod MadeIndex
 pub mod Matched
 pub mod NewDocuments
 pub mod Placed
-pub mod Rebuild
 pub mod Rewrite
 pub mod RewriteRows
 pub mod RowLaws

@@ -1,8 +1,6 @@
 -- Steps. What calls make of an index that is kept in memory, its lists and its sizes together. All
 -- of it is our own choice.
-use Rattle.std.specs.Prelude.{◌≡◌, ◌<◌, ◌^◌, ℕ, ℤ, List, [], ◌∷◌, length, All, IsTrue}
-use Rattle.std.specs.Ordering.{int_cmp}
-use Rattle.std.specs.FinMap.Entries.{is_sorted}
+use Rattle.std.specs.Prelude.{◌≡◌, ◌<◌, ◌^◌, ℕ, ℤ, List, [], ◌∷◌, length, All}
 use Rattle.ft_values.specs.Cells.{Cell}
 use Rattle.ft_query.specs.declared.text.Token.{Token}
 use Rattle.ft_query.specs.Tokens.{PlainToken, tokens_of}
@@ -11,7 +9,8 @@ use Rattle.ft_content.specs.Content.{Column, Documents, cell_text}
 use Rattle.ft_content.specs.Index.{Key, StoredSpot, stored_spot}
 use Rattle.ft_documents.specs.declared.document_index.DocumentIndex.{DocumentIndex}
 use Rattle.ft_documents.specs.Rewrite.{Rewrite, afters}
-use Rattle.ft_documents.specs.RewriteRows.{rewrite_changes, lists_in, sizes_in, lists_with, sizes_with, lists_of, sizes_of, with_entries, cell_entries, cell_sizes, sized, all_put, IsShortNumber, AreShortNumbers}
+use Rattle.ft_documents.specs.RewriteRows.{rewrite_changes, lists_in, sizes_in, lists_with, sizes_with, lists_of, sizes_of, with_entries}
+use Rattle.ft_documents.specs.RewriteRows.{cell_entries, cell_sizes, sized, all_put, IsShortNumber, AreShortNumbers}
 
 -- an index has these lists and these sizes
 pub record Shows (index : DocumentIndex) (its_lists : List (Key × List StoredSpot)) (its_sizes : List ((ℤ × ℤ) × ℤ)) : Type 0 where
@@ -38,12 +37,6 @@ pub record IsIndexOf (columns : List Column) (documents : Documents) (index : Do
 pub record Plans (tab : ℤ) (columns : List Column) (rewrites : List Rewrite) (changes : List Change) : Type 0 where
   pub plan : changes ≡ rewrite_changes tab columns rewrites
   pub numbers : HaveShortNumbers columns (afters rewrites)
-
--- lists and sizes are those of documents: the lists, where the documents stand by rising docid
-pub record AreIndexOf (columns : List Column) (documents : Documents) (its_lists : List (Key × List StoredSpot)) (its_sizes : List ((ℤ × ℤ) × ℤ)) : Type 0 where
-  pub lists : IsTrue (is_sorted int_cmp documents) → its_lists ≡ lists_of columns documents
-  pub sizes : its_sizes ≡ sizes_of columns documents
-  pub numbers : HaveShortNumbers columns documents
 
 -- the tokens of an indexed cell join an index, with the cell's size
 pub record AddsCell (docid : ℤ) (place : ℕ) (cell : Cell) (old new : DocumentIndex) : Type 0 where

@@ -6,7 +6,8 @@ use Rattle.std.specs.Ordering.{int_cmp}
 use Rattle.std.specs.FinMap.Entries.{put, find, is_sorted}
 use Rattle.ft_rows.specs.Packed.{CanPack}
 use Rattle.ft_values.specs.Cells.{Cell}
-use Rattle.ft_rows.specs.Store.{StoreValue, AreInOrder, cell_key_cmp, list_key_cmp, Change, AddTable, DropTable, PutCell, DropCells, PutEntries, DropEntries, PutSize, DropSize, ClearIndex, Note, all_applied}
+use Rattle.ft_rows.specs.Store.{StoreValue, AreInOrder, cell_key_cmp, list_key_cmp, Change, AddTable, DropTable, PutCell, DropCells}
+use Rattle.ft_rows.specs.Store.{PutEntries, DropEntries, PutSize, DropSize, ClearIndex, Note, all_applied}
 use Rattle.ft_content.specs.Content.{Column, Documents, Content, IsContent, content_rows, is_document}
 use Rattle.ft_content.specs.Index.{index_rows}
 use Rattle.ft_content.specs.Step.{without_docid}

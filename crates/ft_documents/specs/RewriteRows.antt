@@ -1,6 +1,7 @@
 -- Steps. The row changes that follow from documents which are written anew. All of it is our own
 -- choice.
-use Rattle.std.specs.Prelude.{◌≡◌, ◌≤◌, length, ℕ, zero, suc, Bool, true, false, not, ◌&&◌, List, [], ◌∷◌, ◌++◌, map, filter, Option, Some, None, ℤ, pos, is_some, unwrap_or, bytes_eq, string_bytes, String, Vec}
+use Rattle.std.specs.Prelude.{◌≡◌, ◌≤◌, length, ℕ, zero, suc, Bool, true, false, not, ◌&&◌, List, [], ◌∷◌, ◌++◌, map, filter, Option}
+use Rattle.std.specs.Prelude.{Some, None, ℤ, pos, is_some, unwrap_or, bytes_eq, string_bytes, String, Vec}
 use Rattle.std.specs.List.{flat_map, enumerate_from}
 use Rattle.std.specs.declared.cmp.Ordering.{Ordering}
 use Rattle.std.specs.Fmt.{signed_decimal}
@@ -8,12 +9,13 @@ use Rattle.std.specs.Ordering.{int_cmp, int_eq}
 use Rattle.std.specs.Cmp.Lexicographic.{pointwise}
 use Rattle.std.specs.FinMap.Entries.{put, find}
 use Rattle.ft_values.specs.Cells.{Cell, Null, Int, Text}
-use Rattle.ft_rows.specs.Store.{column_key_cmp, Change, PutCell, DropCells, PutEntries, DropEntries, PutSize, DropSize, ClearIndex}
+use Rattle.ft_rows.specs.Store.{column_key_cmp, Change, PutCell, DropCells, PutEntries, DropEntries, PutSize, DropSize}
 use Rattle.std.specs.declared.alloc.Global.{Global}
 use Rattle.ft_query.specs.Tokens.{PlainToken}
 use Rattle.ft_query.specs.Documents.{posting}
 use Rattle.ft_content.specs.Content.{Column, Documents}
-use Rattle.ft_content.specs.Index.{Entry, document_entries, document_sizes, entry_at, Key, key_cmp, key_of, StoredSpot, stored_spot, SizeRow, size_row, index_rows}
+use Rattle.ft_content.specs.Index.{Entry, document_entries, document_sizes, entry_at, Key, key_cmp, key_of, StoredSpot, stored_spot}
+use Rattle.ft_content.specs.Index.{SizeRow, size_row, index_rows}
 use Rattle.ft_values.specs.declared.rows.Spot.{Spot}
 use Rattle.ft_documents.specs.declared.document_index.DocumentIndex.{DocumentIndex}
 use Rattle.ft_content.specs.Laws.{content_with}
@@ -143,10 +145,6 @@ list_changes tab old new = dropped_lists tab (changed key_cmp same_spots new old
 
 abbrev pub size_changes : ℤ → List ((ℤ × ℤ) × ℤ) → List ((ℤ × ℤ) × ℤ) → List Change
 size_changes tab old new = dropped_sizes tab (gone column_key_cmp old new) ++ put_sizes tab (changed column_key_cmp int_eq old new)
-
--- The row changes that make an index again: no index row of before, and then all lists and sizes.
-abbrev pub rebuild_changes : ℤ → List (Key × List StoredSpot) → List ((ℤ × ℤ) × ℤ) → List Change
-rebuild_changes tab lists sizes = ClearIndex tab ∷ (put_lists tab lists ++ put_sizes tab sizes)
 
 -- The row changes of rewrites.
 unfoldable pub rewrite_changes : ℤ → List Column → List Rewrite → List Change

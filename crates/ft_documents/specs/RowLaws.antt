@@ -1,7 +1,8 @@
 -- Steps. What row changes do to the rows of one table.
 use Rattle.std.specs.Prelude.{◌≡◌, false, Option, Some, None, ℤ}
 use Rattle.std.specs.Ordering.{int_eq}
-use Rattle.ft_rows.specs.Store.{StoreValue, Change, AddTable, DropTable, PutCell, DropCells, PutEntries, DropEntries, PutSize, DropSize, ClearIndex, Note, applied}
+use Rattle.ft_rows.specs.Store.{StoreValue, Change, AddTable, DropTable, PutCell, DropCells, PutEntries, DropEntries, PutSize}
+use Rattle.ft_rows.specs.Store.{DropSize, ClearIndex, Note, applied}
 use Rattle.ft_documents.specs.Tables.{table_rows, table_index}
 
 -- the table that a row change is of

@@ -4,7 +4,8 @@ use Rattle.std.specs.Prelude.{◌≡◌, ℕ, List, map, ℤ, Contains}
 use Rattle.std.specs.Ordering.{int_eq}
 use Rattle.std.specs.FinMap.Entries.{where_key}
 use Rattle.ft_values.specs.Cells.{Cell}
-use Rattle.ft_rows.specs.Store.{StoreValue, CellKey, ListKey, ColumnKey, cell_key_cmp, list_key_cmp, column_key_cmp, Change, AddTable, DropTable, PutCell, DropCells, PutEntries, DropEntries, PutSize, DropSize, ClearIndex, Note}
+use Rattle.ft_rows.specs.Store.{StoreValue, CellKey, ListKey, ColumnKey, cell_key_cmp, list_key_cmp, column_key_cmp, Change, AddTable}
+use Rattle.ft_rows.specs.Store.{DropTable, PutCell, DropCells, PutEntries, DropEntries, PutSize, DropSize, ClearIndex, Note}
 use Rattle.ft_content.specs.Content.{TableRows}
 use Rattle.ft_content.specs.Index.{StoredSpot, IndexRows}
 

@@ -128,13 +128,8 @@ impl DocumentIndex {
     }
 }
 
-/// Adds the size of a cell to those of others, if it has tokens.
-pub(crate) fn add_size(
-    sizes: &mut Sizes,
-    docid: i64,
-    place: usize,
-    n: usize,
-) -> Result<(), AllocError>
+// Adds the size of a cell to those of others, if it has tokens.
+fn add_size(sizes: &mut Sizes, docid: i64, place: usize, n: usize) -> Result<(), AllocError>
     requires { FitsSize place n }
     ensures { OnOk result (sizes.new.entries
         ≡ all_put column_key_cmp (sized (cell_sizes docid place n)) sizes.old.entries) }

@@ -1,10 +1,23 @@
 //! Finding tables by their names.
-ghost use Rattle.std.specs.Prelude.{MatchResult, map};
+ghost use Rattle.std.specs.Prelude.{◌≡◌, MatchResult, map, Some, None};
+ghost use Rattle.ft_values.specs.declared.fault.Fault.TheVariants as faults;
 ghost use Rattle.ft_content.specs.Views.{shown_info};
-ghost use Rattle.ft_documents.specs.Found.{IsSoundAt, IsSoundNamed, IsUnfit};
+ghost use Rattle.ft_documents.specs.Found.{info_named, IsSoundAt, IsSoundNamed, IsUnfit};
 
 use ft_content::{Fault, TableInfo};
 use ft_values::table_place;
+
+/// The table of this name.
+pub fn named_table<'a>(tables: &'a [TableInfo], name: &str) -> Result<&'a TableInfo, Fault>
+    ensures { MatchResult result (λ table. info_named (map shown_info tables.now) name.now
+        ≡ Some (shown_info table.now)) (λ fault. (fault ≡ faults.NoSuchTable)
+        × (info_named (map shown_info tables.now) name.now ≡ None)) }
+{
+    match table_place(tables, name) {
+        Some(place) => Ok(&tables[place]),
+        None => Err(Fault::NoSuchTable),
+    }
+}
 
 /// The place of the table of this name, which has to be sound.
 pub fn sound_place(tables: &[TableInfo], name: &str) -> Result<usize, Fault>

@@ -1,15 +1,9 @@
 //! The postings of documents by their terms.
-ghost use Rattle.std.specs.Prelude.{◌≡◌, ◌++◌, map, IfOk, OnOk};
-ghost use Rattle.ft_rows.specs.Changes.{shown_change};
-ghost use Rattle.ft_rows.specs.Terms.{spot_of};
-ghost use Rattle.ft_documents.specs.RewriteRows.{put_lists};
-ghost use Rattle.ft_documents.specs.Terms.{lists_of_term};
 
 use crate::tokens::{spot_of, text_of};
 use ft_content::Value;
 use ft_query::{Token, Tokenizer};
-use ft_rows::{Posting, TermLists, first_list};
-use ft_values::{RowChange, Spot};
+use ft_rows::{Posting, TermLists};
 use itoa::Buffer;
 use std::alloc::{AllocError, Global};
 use std::collections::HashMap;
@@ -24,11 +18,10 @@ pub(crate) struct TermIndex {
 }
 
 impl TermIndex {
-    ghost use Rattle.std.specs.Prelude.{◌≡◌, ◌<◌, ◌^◌, [], ◌∷◌, ◌++◌, map, string_bytes, unwrap_or, IfOk, OnOk};
+    ghost use Rattle.std.specs.Prelude.{◌≡◌, ◌<◌, ◌^◌, [], ◌∷◌, ◌++◌, string_bytes, unwrap_or, IfOk, OnOk};
     ghost use Rattle.std.specs.FinMap.Entries.{put, find};
     ghost use Rattle.ft_values.specs.Cells.{shown_value};
     ghost use Rattle.ft_query.specs.Tokens.{plain_token};
-    ghost use Rattle.ft_rows.specs.Changes.{shown_change};
     ghost use Rattle.ft_content.specs.Index.{key_cmp};
     ghost use Rattle.ft_documents.specs.MadeIndex.{FitsSpot};
     ghost use Rattle.ft_documents.specs.Joins.{CanJoin, JoinsCell};
@@ -109,53 +102,4 @@ impl TermIndex {
         found.sort_unstable_by(|one, other| one.term.cmp(&other.term));
         Ok(found)
     }
-
-    /// Puts all lists, by rising terms and docids.
-    pub(crate) fn put_lists(self, changes: &mut Vec<RowChange>, tab: i64) -> Result<(), AllocError>
-        ensures { OnOk result (map shown_change changes.new.items
-            ≡ map shown_change changes.old.items ++ rows.put_lists tab
-            (terms.lists_in_terms self)) }
-    {
-        let alloc = self.alloc;
-        for lists in self.into_lists()? {
-            put_term(
-                alloc,
-                changes,
-                tab,
-                lists.term.as_str(),
-                lists.postings.as_slice(),
-            )?;
-        }
-        Ok(())
-    }
-}
-
-// Puts the lists of a term.
-fn put_term(
-    alloc: Global,
-    changes: &mut Vec<RowChange>,
-    tab: i64,
-    term: &str,
-    postings: &[Posting],
-) -> Result<(), AllocError>
-    ensures { OnOk result (map shown_change changes.new.items
-        ≡ map shown_change changes.old.items ++ put_lists tab
-        (lists_of_term term.now postings.now)) }
-{
-    let mut rest = postings;
-    while let Some(first) = rest.first() {
-        let docid = first.docid;
-        let (own, others) = rest.split_at(first_list(rest));
-        let term = String::from_str(alloc, term)?;
-        changes.push(RowChange::PutEntries(tab, term, docid, spots_of(alloc, own)?))?;
-        rest = others;
-    }
-    Ok(())
-}
-
-// The places of postings.
-fn spots_of(alloc: Global, postings: &[Posting]) -> Result<Vec<Spot>, AllocError>
-    ensures { IfOk result (λ spots. spots.items ≡ map spot_of postings.now) }
-{
-    postings.iter().map(|p| p.spot).collect(alloc)
 }

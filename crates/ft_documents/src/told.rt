@@ -1,8 +1,7 @@
 //! The list of tables that is kept beside a store.
 ghost use Rattle.std.specs.Prelude.{◌≡◌, ◌<◌, map, vec_len, IfOk, remove, OnErr};
 ghost use Rattle.ft_content.specs.Views.{shown_info};
-ghost use Rattle.ft_documents.specs.Found.{with_told, without_told, IsPlaceFor};
-ghost use Rattle.ft_documents.specs.Rebuild.{sound_if, with_sound};
+ghost use Rattle.ft_documents.specs.Found.{sound_if, with_sound, with_told, without_told, IsPlaceFor};
 
 use ft_content::TableInfo;
 use std::alloc::AllocError;

@@ -1,7 +1,8 @@
-//! The rewrites that a Delete and an Update make of documents.
+//! The rewrites that a Delete, an Update and a Rebuild make of documents.
 ghost use Rattle.std.specs.Prelude.{◌≡◌, map, IfOk, OnOk};
 ghost use Rattle.ft_content.specs.Views.{column_of, set_of};
 ghost use Rattle.ft_documents.specs.Gathered.{shown_document};
+ghost use Rattle.ft_documents.specs.NewDocuments.{new_rewrite};
 ghost use Rattle.ft_documents.specs.Rewrite.{shown_rewrite, removal};
 ghost use Rattle.ft_documents.specs.Updated.{changing, leaving, coming, MovesOnly, MayMove};
 
@@ -22,6 +23,23 @@ pub fn removals(alloc: Global, documents: Vec<Document>) -> Result<Vec<Rewrite>,
             docid,
             before: Some(cells),
             after: None,
+        })?;
+    }
+    Ok(rewrites)
+}
+
+/// The rewrites that make documents.
+pub fn additions(alloc: Global, documents: Vec<Document>) -> Result<Vec<Rewrite>, AllocError>
+    ensures { IfOk result (λ rewrites. map shown_rewrite rewrites.items
+        ≡ map new_rewrite (map shown_document documents.items)) }
+{
+    let mut rewrites = Vec::new(alloc);
+    for document in documents {
+        let Document { docid, cells } = document;
+        rewrites.push(Rewrite {
+            docid,
+            before: None,
+            after: Some(cells),
         })?;
     }
     Ok(rewrites)

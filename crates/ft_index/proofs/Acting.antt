@@ -1,11 +1,11 @@
 -- Commands that read, and then change rows.
-use Rattle.std.proofs.Common.{◌≡◌, ◌⊎◌, inl, inr, ℕ, Bool, true, false, cond, List, [], ◌∷◌, map, Some, Result, Ok, Err, ℤ, refl, sym, ap, subst, ◌∙◌, arith}
+use Rattle.std.proofs.Common.{◌≡◌, ◌⊎◌, inl, inr, ℕ, Bool, true, false, cond, List, [], ◌∷◌, map, None, Some, Result, Ok, Err, ℤ, refl, sym, ap, subst, ◌∙◌, arith}
 use Rattle.std.specs.Prelude.{IsTrue}
 use Rattle.sqlite_trees.specs.View.{doubt}
 use Rattle.sqlite.specs.Effect.{Database}
 use Rattle.sqlite.specs.Store.{Ghosts}
 use Rattle.ft_store.specs.Rows.{value_of as value_in_trees}
-use Rattle.ft_rows.specs.Store.{Change, all_applied}
+use Rattle.ft_rows.specs.Store.{StoreValue, Change, all_applied}
 use Rattle.ft_store.specs.Kept.{StoreState, shows, value_in}
 use Rattle.ft_values.specs.declared.fault.Fault.{Fault}
 use Rattle.ft_values.specs.declared.fault.Fault.TheVariants as faults
@@ -15,12 +15,11 @@ use Rattle.ft_content.specs.Views.{TableInfo}
 use Rattle.ft_content.specs.Deserved.{TableState, Sound, Stale, Loose, Table, Contents, deserved}
 use Rattle.ft_content.specs.Step.{after, reply_to, with_documents, on_table}
 use Rattle.ft_index.specs.DocumentsRead.{Looks}
-use Rattle.ft_index.specs.Kept.{IsUp, AreHeld, PlansFrom, Executes, Answers, is_outside, told_table}
+use Rattle.ft_index.specs.Kept.{IsUp, AreHeld, Executes, Answers, is_outside, told_table}
 use Rattle.ft_index.specs.Changed.{Changed, with_tables}
 use Rattle.ft_index.specs.Written.{PlansTo}
 use Rattle.ft_index.proofs.CreateLemmas.{refused_answers}
-use Rattle.ft_index.proofs.NameLemmas.{apart_after}
-use Rattle.ft_index.proofs.Executing.{done_answers, executes_refused}
+use Rattle.ft_index.proofs.Executing.{reached, executes_planned, executes_refused}
 
 -- ---- the tables that are told stay
 
@@ -35,6 +34,11 @@ told_written name change (t ∷ ts) = λ i. here i ∷ told_written name change 
   where
     here : told_table (cond (same_name t.1.name name) (t.0, record { name = t.1.name; held = with_documents change t.1.held }) t) ≡ told_table t
     here = elim (same_name t.1.name name) as (λ b. told_table (cond b (t.0, record { name = t.1.name; held = with_documents change t.1.held }) t) ≡ told_table t) [ true ↦ same_told t change t.1.held refl | false ↦ refl ]
+
+-- after a command that leaves other documents
+pub told_kept : (store : StoreValue) (tables : List TableInfo) (command : Command) (name : List ℕ) (change : Content → Documents) → ((contents : Contents) → after contents command ≡ on_table contents name (with_documents change)) →
+    (contents : Contents) → AreHeld store tables contents → deserved contents command ≡ None → tables ≡ map told_table (after contents command)
+told_kept store tables command name change leaves contents held fine = held.told ∙ sym (told_written name change contents) ∙ ap (map told_table) (sym (leaves contents))
 
 module _ {S : Type 0} (g : Ghosts S) where
   pub looks_up : (old new : StoreState S) (tables others : List TableInfo) → Looks g old new → IsUp g (with_tables new tables) → IsUp g (with_tables old others)
@@ -78,23 +82,6 @@ module _ {S : Type 0} (g : Ghosts S) where
   -- a plan that is carried out, and leaves the tables that are told
   pub executes_written : (old mid new : StoreState S) (tables : List TableInfo) (changes : List Change) (command : Command) (name : List ℕ) (change : Content → Documents) →
       ((contents : Contents) → after contents command ≡ on_table contents name (with_documents change)) → ((contents : Contents) → reply_to contents command ≡ Done) → Looks g old mid → PlansTo g tables old mid command (Ok changes) → Changed g mid new changes true → Executes g (with_tables old tables) command (Ok Done) (with_tables new tables)
-  executes_written old mid new tables changes command name change leaves replies looks plans changed = record {
-    was_up = λ up. all.was_up tables tables up;
-    steps = λ up first holds. (
-      after first command,
-      subst (λ v. AreHeld v tables (after first command)) (sym (all.value tables up)) (record {
-        named_once = apart_after first command holds.named_once;
-        held = (planned up first holds).1;
-        told = holds.told ∙ sym (told_written name change first) ∙ ap (map told_table) (sym (leaves first));
-      }),
-      inr (done_answers first command (planned up first holds).0 (replies first)),
-    );
-    noted = λ up first holds. ap (λ v. v.noted) (all.value tables up) ∙ (planned up first holds).2;
-    unchanged = λ no up. absurd (let wrong = no in cc);
-  }
-    where
-      all : Changed g old new changes true
-      all = then_changed old mid new changes true looks changed
-
-      planned : IsUp g (with_tables new tables) → (first : Contents) → AreHeld (value_in g old) tables first → PlansFrom first command (value_in g old) (Ok changes)
-      planned up first holds = plans (changed.was_up tables tables up) first holds
+  executes_written old mid new tables changes command name change leaves replies looks plans changed =
+      executes_planned g old new tables tables changes command (λ up first holds. reached first command (value_in g old) changes (plans (changed.was_up tables tables up) first holds)) (then_changed old mid new changes true looks changed)
+      (told_kept (value_in g old) tables command name change leaves) replies

@@ -1,26 +1,20 @@
 -- What is answered to a Check, and whether all tables are sound.
-use Rattle.std.proofs.Common.{◌≡◌, ℕ, Bool, true, false, cond, List, [], ◌∷◌, map, Option, Some, None, Result, Ok, Err, ℤ, refl, sym, ap, subst, ◌∙◌, arith}
+use Rattle.std.proofs.Common.{◌≡◌, ℕ, Bool, true, false, cond, List, [], ◌∷◌, map, Option, Some, None, Ok, Err, ℤ, refl, sym, ap, ◌∙◌}
 use Rattle.std.specs.Prelude.{IsTrue}
 use Rattle.std.specs.List.{AllByRecursion, find, list_all}
 use Rattle.std.specs.Ordering.{int_eq}
 use Rattle.std.proofs.lemmas.List.Sums.{AllPass-from_list_all, list_all-from_AllPass}
 use Rattle.std.proofs.lemmas.List.Folds.{list_all-map}
-use Rattle.sqlite.specs.Effect.{Database}
-use Rattle.sqlite.specs.Store.{Ghosts}
-use Rattle.ft_store.specs.Rows.{value_of}
 use Rattle.ft_rows.specs.Store.{StoreValue, AreInOrder}
-use Rattle.ft_store.specs.Kept.{StoreState, value_in}
 use Rattle.ft_values.specs.declared.fault.Fault.{Fault}
 use Rattle.ft_values.specs.declared.fault.Fault.TheVariants as faults
 use Rattle.ft_values.specs.declared.table.TableInfo.{TableInfo as RustTableInfo}
-use Rattle.ft_content.specs.Command.{Command, Check, Reply, Done}
+use Rattle.ft_content.specs.Command.{Check, Done}
 use Rattle.ft_content.specs.Views.{TableInfo, shown_info}
 use Rattle.ft_content.specs.Deserved.{TableState, Sound, Stale, Loose, Table, Contents, table_named, on_found, check_fault, deserved}
 use Rattle.ft_content.specs.Step.{step, step_by, reply_to, after}
-use Rattle.ft_index.specs.Changed.{with_tables}
-use Rattle.ft_index.specs.DocumentsRead.{Looks}
 use Rattle.ft_documents.specs.Found.{info_named}
-use Rattle.ft_index.specs.Kept.{IsUp, AreHeld, StoreHolds, Stands, AreSound, Holds, Executes, Answers, is_sound, told_table}
+use Rattle.ft_index.specs.Kept.{AreHeld, StoreHolds, Stands, AreSound, is_sound, told_table}
 use Rattle.ft_index.specs.Opened.{IsNamed, AreMarked}
 use Rattle.ft_documents.specs.Tables.{table_rows, table_index}
 use Rattle.ft_index.proofs.HeldLemmas.{holds_one_contents}
@@ -28,20 +22,6 @@ use Rattle.ft_index.proofs.InsertHolds.{found_stands}
 use Rattle.ft_index.proofs.KnownLemmas.{none_named, some_named}
 use Rattle.ft_index.proofs.OneTable.{IsOne, one_named, ids_sorted, AreHeldIn}
 use Rattle.ft_index.proofs.OpenedTables.{marked_contents}
-
--- ---- a call that only reads
-
-pub executes_read : {S : Type 0} (g : Ghosts S) (old new : StoreState S) (tables : List TableInfo) (command : Command) (answer : Result Reply Fault) → Looks g old new →
-    (IsUp g (with_tables new tables) → (first : Contents) → Holds g (with_tables old tables) first → Answers first command answer first) → Executes g (with_tables old tables) command answer (with_tables new tables)
-executes_read g old new tables command answer looks answers = record {
-  was_up = λ up. record { clean = (let c = up.clean in omega (arith, looks.survives.clean, c)); is_open = (looks.kept up.clean up.is_open).2 };
-  steps = λ up first holds. (first, subst (λ v. AreHeld v tables first) (sym (same up)) holds, answers up first holds);
-  noted = λ up first holds. ap (λ v. v.noted) (same up);
-  unchanged = λ no up. (same up, refl);
-}
-  where
-    same : IsUp g (with_tables new tables) → value_in g new ≡ value_in g old
-    same up = ap (λ (d : Database). value_of d.trees) (looks.kept up.clean up.is_open).0
 
 -- ---- the table of a name
 

@@ -19,6 +19,7 @@ use Rattle.ft_index.specs.Changed.{with_tables}
 use Rattle.ft_index.specs.Written.{PlansTo}
 use Rattle.ft_index.specs.Crashes.{CommandSurvives}
 use Rattle.ft_index.proofs.Acting.{looks_same}
+use Rattle.ft_index.proofs.Executing.{Reaches, reached}
 use Rattle.ft_index.proofs.ReadsLemmas.{nothing_done}
 
 -- what may be committed may be said otherwise
@@ -52,23 +53,28 @@ module _ {S : Type 0} (g : Ghosts S) where
 
   -- row changes that lead to what the command leaves
   pub crash_changed : (old new : StoreState S) (tables others : List TableInfo) (command : Command) (changes : List Change) →
-      (IsUp g (with_tables old tables) → (first : Contents) → AreHeld (value_in g old) tables first → (deserved first command ≡ None) × StoreHolds (all_applied changes (value_in g old)) (after first command) × ((all_applied changes (value_in g old)).noted ≡ (value_in g old).noted)) →
+      (IsUp g (with_tables old tables) → (first : Contents) → AreHeld (value_in g old) tables first → Reaches first command (value_in g old) changes) →
       Survives (shows g old) (shows g new) (CommitsRows old changes) → CommandSurvives g (with_tables old tables) command (with_tables new others)
   crash_changed old new tables others command changes leads survives = survives_as (shows g old) (shows g new) _ _ (λ clean db commits up first holds.
       record { left = all_applied changes (value_in g old); stored = commits up.is_open; held = subst (StoreHolds (all_applied changes (value_in g old))) (left_is first command (leads up first holds).0) (leads up first holds).1; noted = (leads up first holds).2 }) survives
 
-  -- a plan that was made by reads, and is carried out
-  pub crash_written : (old mid new : StoreState S) (tables others : List TableInfo) (command : Command) (changes : List Change) → Looks g old mid → (HasCleanDisk (shows g mid) → IsTrue (shows g old).is_open → IsTrue (shows g mid).is_open) →
-      PlansTo g tables old mid command (Ok changes) → Survives (shows g mid) (shows g new) (CommitsRows mid changes) → CommandSurvives g (with_tables old tables) command (with_tables new others)
-  crash_written old mid new tables others command changes looks live plans survives =
+  -- row changes behind reads that lead to it
+  pub crash_reached : (old mid new : StoreState S) (tables others : List TableInfo) (command : Command) (changes : List Change) → Looks g old mid → (HasCleanDisk (shows g mid) → IsTrue (shows g old).is_open → IsTrue (shows g mid).is_open) →
+      (IsUp g (with_tables mid tables) → (first : Contents) → AreHeld (value_in g old) tables first → Reaches first command (value_in g old) changes) → Survives (shows g mid) (shows g new) (CommitsRows mid changes) → CommandSurvives g (with_tables old tables) command (with_tables new others)
+  crash_reached old mid new tables others command changes looks live reaches survives =
       survives_then (shows g old) (shows g mid) (shows g new) _ _ _ (λ clean db none up first holds. absurd (none up.is_open)) (λ clean db commits up first holds.
       let c : doubt (shows g new).is_clean ≡ 0 = clean in
       let mid_clean : HasCleanDisk (shows g mid) = omega (arith, c, survives.clean) in
       let mid_up : IsUp g (with_tables mid tables) = record { clean = mid_clean; is_open = live mid_clean up.is_open } in
-      let planned = plans mid_up first holds in
+      let planned = reaches mid_up first holds in
       record {
         left = all_applied changes (value_in g old);
         stored = subst (λ (v : StoreValue). IsStored db (all_applied changes v)) (looks_same g old mid tables looks mid_up) (commits mid_up.is_open);
         held = subst (StoreHolds (all_applied changes (value_in g old))) (left_is first command planned.0) planned.1;
         noted = planned.2;
       }) looks.survives survives
+
+  -- a plan that was made by reads, and is carried out
+  pub crash_written : (old mid new : StoreState S) (tables others : List TableInfo) (command : Command) (changes : List Change) → Looks g old mid → (HasCleanDisk (shows g mid) → IsTrue (shows g old).is_open → IsTrue (shows g mid).is_open) →
+      PlansTo g tables old mid command (Ok changes) → Survives (shows g mid) (shows g new) (CommitsRows mid changes) → CommandSurvives g (with_tables old tables) command (with_tables new others)
+  crash_written old mid new tables others command changes looks live plans = crash_reached old mid new tables others command changes looks live (λ up first holds. reached first command (value_in g old) changes (plans up first holds))

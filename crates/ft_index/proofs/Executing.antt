@@ -2,7 +2,7 @@
 use Rattle.std.proofs.Common.{◌≡◌, ◌⊎◌, inl, inr, ℕ, Bool, true, false, List, [], ◌∷◌, map, Option, Some, None, Result, Ok, Err, refl, sym, ap, subst, ◌∙◌}
 use Rattle.std.specs.Prelude.{IsTrue}
 use Rattle.sqlite.specs.Store.{Ghosts}
-use Rattle.ft_rows.specs.Store.{AreInOrder, Change}
+use Rattle.ft_rows.specs.Store.{StoreValue, AreInOrder, Change, all_applied}
 use Rattle.ft_store.specs.Kept.{StoreState, value_in}
 use Rattle.ft_values.specs.declared.fault.Fault.{Fault}
 use Rattle.ft_values.specs.declared.fault.Fault.TheVariants as faults
@@ -14,7 +14,7 @@ use Rattle.ft_content.specs.Step.{after, reply_to, step, step_by}
 use Rattle.ft_documents.specs.Found.{with_told}
 use Rattle.ft_index.specs.Planned.{Makes, table_change}
 use Rattle.ft_index.specs.Changed.{Changed, with_tables}
-use Rattle.ft_index.specs.Kept.{FullText, PlansFrom, AreHeld, Holds, Executes, Answers, is_outside, told_table}
+use Rattle.ft_index.specs.Kept.{FullText, IsUp, PlansFrom, AreHeld, StoreHolds, Holds, Executes, Answers, is_outside, told_table}
 use Rattle.ft_index.proofs.NameLemmas.{apart_after}
 use Rattle.ft_index.proofs.CreateLemmas.{made_is_held, create_answers, refused_answers, nothing_made}
 
@@ -80,23 +80,30 @@ pub done_answers : (contents : Contents) (command : Command) → deserved conten
 unfolding step
 done_answers contents command fine done = ap (λ due. step_by due contents command) fine ∙ ap (λ r. (Ok r, after contents command)) done
 
--- Row changes that a plan names, and the tables that are told as they are then.
+-- Row changes that lead to what a command leaves, which deserves no fault.
+abbrev pub Reaches : Contents → Command → StoreValue → List Change → Type 0
+Reaches contents command store changes = (deserved contents command ≡ None) × StoreHolds (all_applied changes store) (after contents command) × ((all_applied changes store).noted ≡ store.noted)
+
+pub reached : (contents : Contents) (command : Command) (store : StoreValue) (changes : List Change) → PlansFrom contents command store (Ok changes) → Reaches contents command store changes
+reached contents command store changes plans = (plans.0, plans.1, plans.2)
+
+-- Such changes that are made, and the tables that are told as they are then.
 pub executes_planned : {S : Type 0} (g : Ghosts S) (old new : StoreState S) (tables after_tables : List TableInfo) (changes : List Change) (command : Command) →
-    ((contents : Contents) → AreHeld (value_in g old) tables contents → PlansFrom contents command (value_in g old) (Ok changes)) → Changed g old new changes true →
-    ((contents : Contents) → AreHeld (value_in g old) tables contents → (after_tables ≡ map told_table (after contents command)) × (reply_to contents command ≡ Done)) →
+    (IsUp g (with_tables new after_tables) → (contents : Contents) → AreHeld (value_in g old) tables contents → Reaches contents command (value_in g old) changes) → Changed g old new changes true →
+    ((contents : Contents) → AreHeld (value_in g old) tables contents → deserved contents command ≡ None → after_tables ≡ map told_table (after contents command)) → ((contents : Contents) → reply_to contents command ≡ Done) →
     Executes g (with_tables old tables) command (Ok Done) (with_tables new after_tables)
-executes_planned g old new tables after_tables changes command plans changed told = record {
+executes_planned g old new tables after_tables changes command reaches changed told replies = record {
   was_up = λ up. changed.was_up after_tables tables up;
   steps = λ up first holds. (
     after first command,
     subst (λ v. AreHeld v after_tables (after first command)) (sym (changed.value after_tables up)) (record {
       named_once = apart_after first command holds.named_once;
-      held = (plans first holds).1;
-      told = (told first holds).0;
+      held = (reaches up first holds).1;
+      told = told first holds (reaches up first holds).0;
     }),
-    inr (done_answers first command (plans first holds).0 (told first holds).1),
+    inr (done_answers first command (reaches up first holds).0 (replies first)),
   );
-  noted = λ up first holds. ap (λ v. v.noted) (changed.value after_tables up) ∙ (plans first holds).2;
+  noted = λ up first holds. ap (λ v. v.noted) (changed.value after_tables up) ∙ (reaches up first holds).2;
   unchanged = λ no up. absurd (let wrong = no in cc);
 }
 

@@ -1,5 +1,5 @@
 -- Documents that are written group by group.
-use Rattle.std.proofs.Common.{◌≡◌, inr, Err, List, [], ◌∷◌, ◌++◌, map, ℤ, refl, sym, ap, subst, ◌∙◌, append-nil}
+use Rattle.std.proofs.Common.{◌≡◌, inr, Ok, Err, Result, List, [], ◌∷◌, ◌++◌, map, Option, Some, None, ℤ, refl, sym, ap, subst, ◌∙◌, append-nil}
 use Rattle.std.specs.Prelude.{All, Vec}
 use Rattle.std.specs.declared.alloc.Global.{Global}
 use Rattle.std.specs.List.{flat_map}
@@ -9,6 +9,8 @@ use Rattle.sqlite.specs.Store.{Ghosts}
 use Rattle.ft_rows.specs.Store.{Change}
 use Rattle.ft_store.specs.Kept.{StoreState, shows}
 use Rattle.ft_store.specs.Parts.{changes_in}
+use Rattle.ft_values.specs.declared.rows.RowChange.{RowChange}
+use Rattle.ft_values.specs.declared.fault.Fault.{Fault}
 use Rattle.ft_values.specs.declared.fault.Fault.TheVariants as faults
 use Rattle.ft_content.specs.Content.{Column}
 use Rattle.ft_content.specs.Views.{column_of}
@@ -18,7 +20,8 @@ use Rattle.ft_documents.specs.RewriteRows.{rewrite_changes}
 use Rattle.ft_documents.specs.Tables.{IsOfDocids}
 use Rattle.ft_documents.proofs.GroupsRight.{groups_right, groups_near}
 use Rattle.ft_index.specs.declared.written.Written.{Written}
-use Rattle.ft_index.specs.Written.{AreOfWritten, MakesWritten}
+use Rattle.ft_index.specs.Planned.{table_change}
+use Rattle.ft_index.specs.Written.{first_parts, AreOfWritten, MakesWritten, MakesAnew}
 use Rattle.ft_index.proofs.ReadsLemmas.{nothing_done}
 use Rattle.ft_index.proofs.Crashing.{survives_as}
 
@@ -40,6 +43,11 @@ parts_are : (tab : ℤ) (columns : List Column) (groups : Groups) → flat_map (
 parts_are tab columns [] = refl
 parts_are tab columns (group ∷ groups) = ap (λ l. rewrite_changes tab columns (map shown_rewrite group.items) ++ l) (parts_are tab columns groups)
 
+-- a change that comes first, and the parts behind it
+pub parts_behind : (first : Option RowChange) (parts : List (List Change)) → changes_in (first_parts first ++ parts) ≡ changes_in (first_parts first) ++ changes_in parts
+parts_behind None parts = refl
+parts_behind (Some change) parts = refl
+
 module _ (written : Written) where
   abbrev tab : ℤ
   tab = written.table.now.id
@@ -55,8 +63,8 @@ module _ (written : Written) where
       (subst (P (flat_map (λ group. group) (shown groups))) (parts_are tab columns groups) (groups_right tab columns (shown groups), groups_near tab columns (shown groups)))
 
   -- where nothing is made, for want of memory
-  pub makes_nothing : {S : Type 0} (g : Ghosts S) (store : StoreState S) → MakesWritten {X = Unit {0}} g written store store (Err faults.Memory)
-  makes_nothing g store = record {
+  pub makes_nothing : {S : Type 0} (g : Ghosts S) (first : List Change) (store : StoreState S) → MakesWritten {X = Unit {0}} g first written store store (Err faults.Memory)
+  makes_nothing g first store = record {
     changes = changes_in (parts_of tab columns (written.rewrites ∷ []));
     of_written = of_groups (written.rewrites ∷ []) (append-nil written.rewrites.items);
     makes = record {
@@ -67,3 +75,21 @@ module _ (written : Written) where
       unread = refl;
     };
   }
+
+  -- a table that is made first is made anew
+  pub makes_anew : {S : Type 0} (g : Ghosts S) (old new : StoreState S) (result : Result (Unit {0}) Fault) → MakesWritten g (table_change written.table.now ∷ []) written old new result → MakesAnew g (Some written) old new result
+  makes_anew g old new result made = record { changes = table_change written.table.now ∷ made.changes; of_anew = record { rest = made.changes; are = refl; of_written = made.of_written }; makes = made.makes }
+
+-- where nothing is to be made
+pub made_already : {S : Type 0} (g : Ghosts S) (store : StoreState S) → MakesAnew {X = Unit {0}} g None store store (Ok tt)
+made_already g store = record {
+  changes = [];
+  of_anew = refl;
+  makes = record {
+    changed = record { was_up = λ tables others up. record { clean = up.clean; is_open = up.is_open }; value = λ tables up. refl };
+    crash = survives_as (shows g store) (shows g store) _ _ (λ clean db none is_open. absurd (none is_open)) (nothing_done (shows g store));
+    live = λ clean is_open. is_open;
+    cause = tt;
+    unread = refl;
+  };
+}

@@ -46,7 +46,7 @@ pub record IsSoundTable (contents : Contents) (name : List ℕ) (known : TableIn
   pub held : table.1.held ≡ Sound content
   pub told : told_table table ≡ known
 
-sound_held : (held : TableState) → is_sound held ≡ true → (content : Content) × (held ≡ Sound content)
+pub sound_held : (held : TableState) → is_sound held ≡ true → (content : Content) × (held ≡ Sound content)
 sound_held (Sound content) h = (content, refl)
 sound_held (Stale content) h = absurd (let no = h in cc)
 sound_held (Loose rows) h = absurd (let no = h in cc)

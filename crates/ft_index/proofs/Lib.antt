@@ -29,9 +29,12 @@ pub mod DeleteWrites
 pub mod WholeReads
 pub mod UpdateWrites
 pub mod UpdateDue
+pub mod DocidReads
 pub mod SelectRows
 pub mod SelectAnswers
 pub mod Crashing
 pub mod AskedRows
 pub mod PlanAnswers
 pub mod Counting
+pub mod Anew
+pub mod Doing

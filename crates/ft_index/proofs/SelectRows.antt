@@ -23,7 +23,8 @@ use Rattle.ft_documents.specs.Chosen.{cells_at, document_at}
 use Rattle.ft_documents.specs.Matched.{hit_read, chosen_hits, told}
 use Rattle.ft_index.specs.RowsRead.{is_column, has_column_item, entries_asked, rows_asked}
 use Rattle.ft_index.specs.Selected.{hit_cells}
-use Rattle.ft_documents.proofs.ChosenLemmas.{chosen_again}
+use Rattle.ft_documents.proofs.ChosenLemmas.{chosen_again, chosen_all}
+use Rattle.sqlite_keyed.proofs.ListLemmas.{map-map}
 
 -- ---- enough hits
 
@@ -237,3 +238,26 @@ document_rows_are content f columns items limit offset plainly same documents an
     ∙ rows_bare columns content items (cut limit offset (chosen content f)) same
     ∙ sym (cut_of_map (λ (d : ℤ × List Cell). flat_map (item_cells None content d) items) limit offset (chosen content f))
     ∙ ap (λ q. cut limit offset (item_rows q content items (chosen content f))) (sym (no_query content f plainly))
+
+-- the rows of all documents, of which these are answered
+pub listed_rows_are : (content : Content) (columns : List Column) (items : List Item) (limit : Option ℕ) (offset : ℕ) → content.columns ≡ columns → (ds : Documents) → ds ≡ cut limit offset (chosen content All) →
+    item_rows None (record { columns = columns; documents = [] }) items ds ≡ cut limit offset (item_rows (query_in content All) content items (chosen content All))
+listed_rows_are content columns items limit offset same ds is =
+    ap (item_rows None (record { columns = columns; documents = [] }) items) is
+    ∙ rows_bare columns content items (cut limit offset (chosen content All)) same
+    ∙ sym (cut_of_map (λ (d : ℤ × List Cell). flat_map (item_cells None content d) items) limit offset (chosen content All))
+
+-- of documents nothing but the docid is read where no item is a column
+pub rows_unread : (content : Content) (items : List Item) (ds : Documents) → list_any is_column items ≡ false → item_rows None content items (map (λ (k : ℤ). (k, [])) (map (λ (d : ℤ × List Cell). d.0) ds)) ≡ item_rows None content items ds
+rows_unread content items [] none = refl
+rows_unread content items (d ∷ ds) none =
+    let one = item_cells_are None content (d.0, []) items ∙ cells_unread (Text (offsets_text [])) content d.0 [] d.1 items none ∙ sym (item_cells_are None content d items) in
+    λ i. one i ∷ rows_unread content items ds none i
+
+-- the documents of docids that are answered
+pub documents_again : (name : List ℕ) (content : Content) (limit : Option ℕ) (offset : ℕ) → IsContent name content → (docids : List ℤ) → docids ≡ cut limit offset (map (λ (d : ℤ × List Cell). d.0) content.documents) →
+    map (document_at content) docids ≡ cut limit offset (chosen content All)
+documents_again name content limit offset is docids are =
+    ap (map (document_at content)) (are ∙ ap (λ (ds : Documents). cut limit offset (map (λ (d : ℤ × List Cell). d.0) ds)) (sym (chosen_all content)))
+    ∙ sym (cut_of_map (document_at content) limit offset (map (λ (d : ℤ × List Cell). d.0) (chosen content All)))
+    ∙ ap (cut limit offset) (map-map (document_at content) (λ (d : ℤ × List Cell). d.0) (chosen content All) ∙ chosen_again name content All is)

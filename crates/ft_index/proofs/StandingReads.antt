@@ -32,7 +32,6 @@ use Rattle.ft_documents.specs.Standing.{shown_size, shown_row, listed_rows, colu
 use Rattle.ft_documents.specs.Terms.{under_term, lists_of_terms}
 use Rattle.ft_rows.specs.Terms.{lists_of_postings, lists_under, lists_by_terms}
 use Rattle.ft_rows.specs.declared.terms.TermLists.{TermLists}
-use Rattle.ft_values.specs.declared.rows.ListRow.{ListRow}
 use Rattle.ft_documents.specs.Tables.{table_rows, table_index}
 use Rattle.ft_documents.proofs.KeyedRows.{same_int}
 use Rattle.ft_documents.proofs.StandingSizes.{sized_back}

@@ -142,7 +142,7 @@ joins id name table new (n ∷ ns) (c ∷ cs) own free h =
     go Equal is rest = absurd (let no = sym free.0 ∙ ap is_eq is in cc)
     go Greater is rest = (h.0, rest)
 
-add_spares : (id : ℤ) (name : List ℕ) (columns : List (List ℕ)) (skipped : List ℤ) (old : StoreValue) → SparesAllBut id old (applied (AddTable id name columns skipped) old)
+pub add_spares : (id : ℤ) (name : List ℕ) (columns : List (List ℕ)) (skipped : List ℤ) (old : StoreValue) → SparesAllBut id old (applied (AddTable id name columns skipped) old)
 add_spares id name columns skipped old = record { rows = λ other apart. (others other apart).0; index = λ other apart. (others other apart).1 }
   where
     others : (other : ℤ) → int_eq id other ≡ false → (table_rows other (applied (AddTable id name columns skipped) old) ≡ table_rows other old) × (table_index other (applied (AddTable id name columns skipped) old) ≡ table_index other old)

@@ -4,7 +4,7 @@ use Rattle.sqlite.specs.Tree.{Trees}
 use Rattle.sqlite.specs.State.{HasCleanDisk, Survives}
 use Rattle.sqlite.specs.Store.{Ghosts}
 use Rattle.ft_store.specs.Calls.{IsStored}
-use Rattle.ft_rows.specs.Store.{StoreValue, Note, applied}
+use Rattle.ft_rows.specs.Store.{StoreValue, with_note}
 use Rattle.ft_store.specs.Kept.{shows}
 use Rattle.ft_content.specs.Command.{Command}
 use Rattle.ft_content.specs.Deserved.{Contents}
@@ -37,7 +37,7 @@ CommandSurvives g old command new = Survives (shows g old.store) (shows g new.st
 
 -- what a call of `note` may commit: the name alone
 abbrev pub CommitsNote : {S : Type 0} → Ghosts S → FullText S → List ℕ → Trees → Type 0
-CommitsNote g old name db = IsUp g old → IsStored db (applied (Note name) (value_of g old))
+CommitsNote g old name db = IsUp g old → IsStored db (with_note name (value_of g old))
 
 -- a crash leaves what an open store holds, and nothing else
 abbrev pub IsSettled : {S : Type 0} → Ghosts S → FullText S → Type 0

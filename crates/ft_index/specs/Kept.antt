@@ -1,10 +1,11 @@
 -- Meaning. What stays true of full-text tables, whatever is called.
-use Rattle.std.specs.Prelude.{◌≡◌, ◌≢◌, ◌⊎◌, ℕ, Bool, true, false, if◌then◌else◌, List, [], map, Option, Some, None, Result, Ok, Err, ℤ, IsTrue, is_ok, All, refl}
+use Rattle.std.specs.Prelude.{◌≡◌, ◌≢◌, ◌⊎◌, ℕ, Bool, true, false, if◌then◌else◌, List, [], map, Option, Some, None, Result, Ok}
+use Rattle.std.specs.Prelude.{Err, ℤ, IsTrue, is_ok, All, refl}
 use Rattle.std.specs.List.{AllZip}
 use Rattle.std.specs.Coded.{Coded, code_by, coded×, coded_ℤ, coded_ℕ, coded_bool, coded_list}
 use Rattle.sqlite.specs.State.{HasCleanDisk, Survives}
 use Rattle.sqlite.specs.Store.{Ghosts}
-use Rattle.ft_rows.specs.Store.{StoreValue, Change, Note, applied, all_applied}
+use Rattle.ft_rows.specs.Store.{StoreValue, Change, with_note, all_applied}
 use Rattle.ft_store.specs.Kept.{StoreState, store_code, shows, value_in}
 use Rattle.ft_values.specs.declared.fault.Fault.{Fault}
 use Rattle.ft_values.specs.declared.fault.Fault.TheVariants as faults
@@ -152,5 +153,5 @@ Plans g known command answer = (contents : Contents) → Holds g known contents 
 -- what a call of `note` does, where it is up as the call ends
 pub record Notes {S : Type 0} (g : Ghosts S) (old : FullText S) (name : List ℕ) (is_done : Bool) (new : FullText S) : Type 0 where
   pub was_up : IsUp g new → IsUp g old
-  pub noted : IsUp g new → value_of g new ≡ (if is_done then applied (Note name) (value_of g old) else value_of g old)
+  pub noted : IsUp g new → value_of g new ≡ (if is_done then with_note name (value_of g old) else value_of g old)
   pub tables : new.tables ≡ old.tables

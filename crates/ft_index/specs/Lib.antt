@@ -7,7 +7,6 @@ pub mod Opened
 pub mod Crashes
 pub mod Called
 -- Steps
-pub mod Rebuild
 pub mod Walked
 pub mod Changed
 pub mod Written

@@ -1,11 +1,12 @@
 -- Steps. Commands that write documents of one table anew. All of it is our own choice.
-use Rattle.std.specs.Prelude.{◌≡◌, ◌⊎◌, ℕ, List, map, Option, Some, None, Result, Ok, Err, ℤ, IsTrue, All, Contains, Vec}
+use Rattle.std.specs.Prelude.{◌≡◌, ◌⊎◌, ℕ, List, [], ◌∷◌, ◌++◌, map, Option, Some, None, Result, Ok, Err, ℤ, IsTrue, All, Contains, Vec}
 use Rattle.std.specs.declared.alloc.Global.{Global}
 use Rattle.std.specs.List.{AllByRecursion}
 use Rattle.sqlite.specs.State.{HasCleanDisk}
 use Rattle.sqlite.specs.Store.{Ghosts}
 use Rattle.ft_values.specs.declared.rows.RowChange.{RowChange}
 use Rattle.ft_rows.specs.Store.{Change}
+use Rattle.ft_rows.specs.Changes.{shown_change}
 use Rattle.ft_store.specs.Kept.{StoreState, shows, value_in}
 use Rattle.ft_values.specs.declared.fault.Fault.{Fault}
 use Rattle.ft_values.specs.declared.fault.Fault.TheVariants as faults
@@ -18,7 +19,7 @@ use Rattle.ft_documents.specs.Rewrite.{Rewrite, AreOf, AreRight, HasContent, sho
 use Rattle.ft_documents.specs.Tables.{IsOfDocids}
 use Rattle.ft_index.specs.declared.written.Written.{Written}
 use Rattle.ft_index.specs.Kept.{IsUp, AreHeld, PlansFrom}
-use Rattle.ft_index.specs.Planned.{changes_of}
+use Rattle.ft_index.specs.Planned.{changes_of, table_change}
 use Rattle.ft_index.specs.Changed.{with_tables, MakesRows}
 
 -- The rows and index rows of a table were those of a content with these columns, and the store is
@@ -62,9 +63,38 @@ abbrev pub WritesIn : {S : Type 0} → Ghosts S → List TableInfo → StoreStat
 WritesIn g tables old new command (Ok written) = (changes : List Change) → AreOfWritten written changes → PlansTo g tables old new command (Ok changes)
 WritesIn g tables old new command (Err fault) = PlansTo g tables old new command (Err fault)
 
--- What the writing of documents does: the store holds all of some right changes of its rows, or
--- none.
-pub record MakesWritten {S X : Type 0} (g : Ghosts S) (written : Written) (old new : StoreState S) (result : Result X Fault) : Type 0 where
+-- a change that comes first, if there is one, as a part of its own
+abbrev pub first_parts : Option RowChange → List (List Change)
+first_parts None = []
+first_parts (Some change) = (shown_change change ∷ []) ∷ []
+
+-- What the writing of documents behind other changes does: the store holds these and all of some
+-- right changes of its rows, or none.
+pub record MakesWritten {S X : Type 0} (g : Ghosts S) (first : List Change) (written : Written) (old new : StoreState S)
+    (result : Result X Fault) : Type 0 where
   pub changes : List Change
   pub of_written : AreOfWritten written changes
+  pub makes : MakesRows g old new (first ++ changes) result
+
+-- Row changes that make a table anew, with documents behind it.
+pub record MakeTable (written : Written) (changes : List Change) : Type 0 where
+  pub rest : List Change
+  pub are : changes ≡ table_change written.table.now ∷ rest
+  pub of_written : AreOfWritten written rest
+
+-- and none where no table is to be made
+abbrev pub AreOfAnew : Option Written → List Change → Type 0
+AreOfAnew None changes = changes ≡ []
+AreOfAnew (Some written) changes = MakeTable written changes
+
+-- the store holds all of some such changes, or none
+pub record MakesAnew {S X : Type 0} (g : Ghosts S) (anew : Option Written) (old new : StoreState S) (result : Result X Fault) : Type 0 where
+  pub changes : List Change
+  pub of_anew : AreOfAnew anew changes
   pub makes : MakesRows g old new changes result
+
+-- What reads of a Rebuild lead to: a table that is to be made anew, or none, whose row changes are
+-- a plan of the command; or its fault.
+abbrev pub RebuildsIn : {S : Type 0} → Ghosts S → List TableInfo → StoreState S → StoreState S → Command → Result (Option Written) Fault → Type 0
+RebuildsIn g tables old new command (Ok anew) = (changes : List Change) → AreOfAnew anew changes → PlansTo g tables old new command (Ok changes)
+RebuildsIn g tables old new command (Err fault) = PlansTo g tables old new command (Err fault)

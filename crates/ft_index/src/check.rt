@@ -1,43 +1,23 @@
 //! Comparing the rows of tables with those that they should have.
-ghost use Rattle.std.specs.Prelude.{◌≡◌, ◌⊎◌, ◌↔◌, ℤ, ℕ, List, map, IsTrue, IfOk, IfErr};
+ghost use Rattle.std.specs.Prelude.{◌≡◌, ◌⊎◌, ◌↔◌, map, IsTrue, IfOk, IfErr};
 ghost use Rattle.std.specs.List.{list_all};
 ghost use Rattle.sqlite.specs.State.{HasCleanDisk};
 ghost use Rattle.ft_store.specs.Kept.{shows, value_in};
 ghost use Rattle.ft_values.specs.declared.fault.Fault.TheVariants as faults;
 ghost use Rattle.ft_content.specs.Command as plain;
 ghost use Rattle.ft_content.specs.Views.{shown_info, answer_of};
-ghost use Rattle.ft_content.specs.Deserved.{TableState, Contents};
+ghost use Rattle.ft_content.specs.Deserved.{Contents};
 ghost use Rattle.ft_index.specs.Changed.{with_tables};
 ghost use Rattle.ft_index.specs.DocumentsRead.{Looks, LooksTo};
-ghost use Rattle.ft_index.specs.Kept.{Stands, StoreHolds, AreSound, Executes, is_sound};
-ghost use Rattle.ft_index.specs.Opened.{IsNamed};
-ghost use Rattle.ft_documents.specs.Tables.{table_rows, table_index};
+ghost use Rattle.ft_index.specs.Kept.{StoreHolds, AreSound, Executes};
 
 use crate::open::opened_tables;
-use crate::standing::{listed_table, read_standing};
+use crate::standing::standing_under;
 use ft_content::{Fault, Reply, TableInfo};
-use ft_store::{Store, StoreFault};
-use ft_values::table_place;
+use ft_documents::named_table;
+use ft_store::Store;
 use sqlite::Alter;
 use std::alloc::Global;
-
-// Whether the rows of the table of an id are documents with exactly the index rows made from
-// scratch. The store is only read, whatever is answered.
-fn is_right<S: Alter>(alloc: Global, store: &mut Store<S>, id: i64) -> Result<bool, StoreFault>
-    ensures { LooksTo S.Store store.old store.new result
-        ((named : ℤ × List ℕ) (held : TableState) → HasCleanDisk (shows S.Store store.new)
-        → IsNamed (value_in S.Store store.old) id named → Stands named.1 (table_rows named.0
-        (value_in S.Store store.old)) (table_index named.0 (value_in S.Store store.old)) held
-        → IfOk result (λ b. b ≡ is_sound held)) }
-{
-    match listed_table(store, id)? {
-        Some(table) => {
-            let standing = read_standing(alloc, store, &table)?;
-            Ok(standing.is_sound())
-        }
-        None => Ok(false),
-    }
-}
 
 /// Answers a Check, by the rows as they are read.
 pub(crate) fn check_table<S: Alter>(
@@ -52,11 +32,9 @@ pub(crate) fn check_table<S: Alter>(
         (map shown_info tables.now))) }
 {
     store.is_in_order();
-    let Some(place) = table_place(tables, table) else {
-        return Err(Fault::NoSuchTable);
-    };
-    let id = tables[place].id;
-    if is_right(alloc, store, id)? {
+    let known = named_table(tables, table)?;
+    let standing = standing_under(alloc, store, known.id)?;
+    if standing.is_sound() {
         Ok(Reply::Done)
     } else {
         Err(Fault::Corrupt)

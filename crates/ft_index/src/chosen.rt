@@ -21,7 +21,7 @@ use ft_documents::Document;
 use ft_query::{Hit, Query};
 use ft_store::Store;
 use sqlite::Alter;
-use std::alloc::Global;
+use std::alloc::{AllocError, Global};
 
 /// The documents that a filter chooses, by rising docid, where the text of a MATCH reads as this
 /// query. The table is read once for all documents, and otherwise each chosen document is. The
@@ -45,7 +45,8 @@ pub(crate) fn chosen_documents<S: Alter>(
         Filter::Docid(docid) => one_document(alloc, store, tab, *docid),
         Filter::Match { .. } => {
             let hits = matched(store, alloc, tab, query, false, None)?;
-            documents_of_hits(alloc, store, tab, hits.as_slice())
+            let docids = docids_of(alloc, hits.as_slice())?;
+            documents_under(alloc, store, tab, docids.as_slice())
         }
     }
 }
@@ -70,30 +71,37 @@ fn one_document<S: Alter>(
     Ok(documents)
 }
 
-// The documents of hits. One that isn't there is a refusal by the store.
-fn documents_of_hits<S: Alter>(
+// The docids of hits.
+fn docids_of(alloc: Global, hits: &[Hit]) -> Result<Vec<i64>, AllocError>
+    ensures { IfOk result (λ docids. docids.items ≡ map (λ h. h.docid) hits.now) }
+{
+    hits.iter().map(|hit| hit.docid).collect(alloc)
+}
+
+/// The documents of docids. One that isn't there is a refusal by the store.
+pub(crate) fn documents_under<S: Alter>(
     alloc: Global,
     store: &mut Store<S>,
     tab: i64,
-    hits: &[Hit],
+    docids: &[i64],
 ) -> Result<Vec<Document>, Fault>
     ensures { LooksFor S.Store store.old store.new result IsOutside
         (IfOk result (λ found. (content : Content)
         → HasRows S.Store tab store.old store.new content → map shown_document found.items
-        ≡ map (λ h. document_at content h.docid) hits.now)) }
+        ≡ map (document_at content) docids.now)) }
 {
     let mut documents = Vec::new(alloc);
-    for hit in hits {
-        let cells = found_cells(alloc, store, tab, hit.docid)?;
+    for docid in docids {
+        let cells = found_cells(alloc, store, tab, *docid)?;
         documents.push(Document {
-            docid: hit.docid,
+            docid: *docid,
             cells,
         })?;
     }
     Ok(documents)
 }
 
-/// The cells of a document that a walk found. Where it isn't there, the store is taken to refuse.
+/// The cells of a document that is known to be there. Where it isn't, the store is taken to refuse.
 pub(crate) fn found_cells<S: Alter>(
     alloc: Global,
     store: &mut Store<S>,

@@ -11,7 +11,7 @@ ghost use Rattle.ft_index.specs.DocumentsRead.{LooksTo};
 ghost use Rattle.ft_index.specs.Written.{HasAll, Writes, PlansIn, WritesIn};
 
 use crate::chosen::chosen_documents;
-use crate::written::Written;
+use crate::written::{Written, make_anew};
 use ft_content::{Fault, Filter, Reply, TableInfo, delete_tests};
 use ft_documents::{Document, Rewrite, filter_query, removals, sound_table};
 use ft_store::{RowChange, Store};
@@ -30,8 +30,32 @@ pub(crate) fn delete_from<S: Alter>(
         (plain.Delete table.now (filter_of filter.now)) result (with_tables store.new
         (map shown_info tables.now)) }
 {
+    if let Filter::All = filter {
+        return delete_all(alloc, store, tables, table);
+    }
     let written = delete_written(alloc, store, tables, table, filter)?;
     written.make(alloc, store)?;
+    Ok(Reply::Done)
+}
+
+// Answers a Delete of all documents: the table is made anew. Nothing is read of the store.
+fn delete_all<S: Alter>(
+    alloc: Global,
+    store: &mut Store<S>,
+    tables: &[TableInfo],
+    table: &str,
+) -> Result<Reply, Fault>
+    ensures { Does S.Store (with_tables store.old (map shown_info tables.now))
+        (plain.Delete table.now plain.All) result (with_tables store.new
+        (map shown_info tables.now)) }
+{
+    store.is_in_order();
+    let known = sound_table(tables, table)?;
+    let anew = Written {
+        table: known,
+        rewrites: Vec::new(alloc),
+    };
+    make_anew(alloc, store, Some(anew))?;
     Ok(Reply::Done)
 }
 

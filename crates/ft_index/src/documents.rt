@@ -1,5 +1,5 @@
 //! The documents of a table, read from a store.
-ghost use Rattle.std.specs.Prelude.{◌≡◌, ◌⊎◌, map, option_map, vec_len, IsTrue, IfOk, IfErr, OnOk};
+ghost use Rattle.std.specs.Prelude.{◌≡◌, ◌⊎◌, map, option_map, vec_len, IsTrue, IfOk, IfErr, IfSome, OnOk};
 ghost use Rattle.std.specs.Option.{option_map_or};
 ghost use Rattle.std.specs.Ordering.{int_cmp};
 ghost use Rattle.std.specs.FinMap.Entries.{find};
@@ -9,12 +9,13 @@ ghost use Rattle.ft_store.specs.Kept.{shows, more_rows};
 ghost use Rattle.ft_values.specs.declared.fault.Fault.TheVariants as faults;
 ghost use Rattle.ft_content.specs.Content as content;
 ghost use Rattle.ft_content.specs.Content.{Content};
+ghost use Rattle.ft_content.specs.Answer.{cut};
 ghost use Rattle.ft_content.specs.Views as views;
 ghost use Rattle.ft_index.specs.DocumentsRead.{HasRows, Looks, Asks};
 ghost use Rattle.ft_documents.specs.Gathered.{shown_document, has_given};
 ghost use Rattle.ft_index.specs.Kept.{IsOutside};
 
-use ft_content::{Fault, Value};
+use ft_content::{Fault, Value, cut};
 use ft_documents::{Document, gathered};
 use ft_store::{CellRow, Store};
 use sqlite::Alter;
@@ -70,10 +71,48 @@ pub(crate) fn all_documents<S: Alter>(
     Ok(documents)
 }
 
+/// The docids of a table's documents, rising: without the first `offset`, and at most `limit` of
+/// those. No others are read. The store is only read, whatever is answered.
+pub(crate) fn docids<S: Alter>(
+    alloc: Global,
+    store: &mut Store<S>,
+    tab: i64,
+    limit: Option<u64>,
+    offset: u64,
+) -> Result<Vec<i64>, Fault>
+    ensures { Asks S.Store store.old store.new result IsOutside
+        (IfOk result (λ found. (content : Content)
+        → HasRows S.Store tab store.old store.new content
+        → found.items ≡ cut limit offset (map (λ d. d.0) content.documents))) }
+{
+    if let Some((most, first)) = short(limit, offset) {
+        return Ok(store.docids(tab, most, first)?);
+    }
+    let all = store.docids(tab, None, 0)?;
+    Ok(owned(alloc, cut(all.as_slice(), limit, offset))?)
+}
+
+// A copy of docids.
+fn owned(alloc: Global, docids: &[i64]) -> Result<Vec<i64>, AllocError>
+    ensures { IfOk result (λ owned. owned.items ≡ docids.now) }
+{
+    docids.to_vec(alloc)
+}
+
+// A limit and an offset as the store takes them, if they are small enough.
+fn short(limit: Option<u64>, offset: u64) -> Option<(Option<u32>, u32)>
+    ensures { IfSome result (λ r. (r.0 ≡ limit) × (r.1 ≡ offset)) }
+{
+    let first = u32::try_from(offset).ok()?;
+    match limit {
+        Some(limit) => Some((Some(u32::try_from(limit).ok()?), first)),
+        None => Some((None, first)),
+    }
+}
+
 /// Whether the table has a document of the docid that is given. The store is only read, whatever is
 /// answered.
 pub(crate) fn has_document<S: Alter>(
-    alloc: Global,
     store: &mut Store<S>,
     tab: i64,
     given: Option<i64>,
@@ -88,10 +127,7 @@ pub(crate) fn has_document<S: Alter>(
     ensures looks { Looks S.Store store.old store.new }
 {
     match given {
-        Some(docid) => {
-            let found = document(alloc, store, tab, docid)?;
-            Ok(found.is_some())
-        }
+        Some(docid) => Ok(store.has_document(tab, docid)?),
         None => Ok(false),
     }
 }

@@ -176,7 +176,7 @@ fn stored_docids<S: Alter>(
     let mut stored = Vec::new(alloc);
     for row in rows {
         let given = row_docid(names, row.as_slice());
-        stored.push(has_document(alloc, store, tab, given)?)?;
+        stored.push(has_document(store, tab, given)?)?;
     }
     Ok(stored)
 }

@@ -1,104 +1,24 @@
 //! Making the index of a table again.
-ghost use Rattle.std.specs.Prelude.{ℤ, ℕ, List, IfOk, map};
-ghost use Rattle.sqlite.specs.State.{HasCleanDisk};
-ghost use Rattle.ft_store.specs.Kept.{shows, value_in};
+ghost use Rattle.std.specs.Prelude.{◌≡◌, ℕ, List, map, Some};
 ghost use Rattle.ft_content.specs.Command as plain;
+ghost use Rattle.ft_content.specs.Views as views;
 ghost use Rattle.ft_content.specs.Views.{shown_info};
-ghost use Rattle.ft_content.specs.Deserved.{Contents};
+ghost use Rattle.ft_documents.specs.Found.{info_named};
 ghost use Rattle.ft_index.specs.Changed.{with_tables, Does};
 ghost use Rattle.ft_index.specs.DocumentsRead.{LooksTo};
-ghost use Rattle.ft_index.specs.Kept.{AreHeld, PlansFrom};
-ghost use Rattle.ft_index.specs.Opened.{IsListed, IsNamed};
-ghost use Rattle.ft_index.specs.Planned.{changes_of};
-ghost use Rattle.ft_index.specs.Rebuild.{HoldsIfAny};
-ghost use Rattle.ft_documents.specs.Tables.{table_rows};
+ghost use Rattle.ft_index.specs.Written.{PlansIn, RebuildsIn};
 
-use crate::change::change_rows;
-use crate::standing::listed_table;
-use ft_content::{Column, Fault, Reply, TableInfo};
-use ft_documents::{Document, gathered, index_changes, is_content, listed_columns, mark_sound};
-use ft_store::{RowChange, Store, StoreFault, TabRow};
-use ft_values::table_place;
+use crate::documents::all_documents;
+use crate::standing::{Standing, standing_under};
+use crate::written::{Written, anew_changes, make_anew};
+use ft_content::{Fault, Reply, TableInfo};
+use ft_documents::{additions, mark_sound, named_table};
+use ft_store::{RowChange, Store};
 use sqlite::Alter;
-use std::alloc::{AllocError, Global};
+use std::alloc::Global;
 
-/// What a table holds: its columns, and its documents by rising docid.
-#[derive(Drop)]
-pub(crate) struct TableContent {
-    columns: Vec<Column>,
-    documents: Vec<Document>,
-}
-
-// What a table that is listed holds, None where its rows are no content. Its index rows aren't
-// read. The store is only read, whatever is answered.
-fn read_content<S: Alter>(
-    alloc: Global,
-    store: &mut Store<S>,
-    table: &TabRow,
-) -> Result<Option<TableContent>, StoreFault>
-    ensures { LooksTo S.Store store.old store.new result
-        ((named : ℤ × List ℕ) → HasCleanDisk (shows S.Store store.new)
-        → IsListed (value_in S.Store store.old) named table.now
-        → IfOk result (λ found. HoldsIfAny named.1 (table_rows named.0
-        (value_in S.Store store.old)) found)) }
-{
-    let columns = listed_columns(alloc, table)?;
-    let cells = store.cells(table.id)?;
-    if !is_content(alloc, table, columns.as_slice(), cells.as_slice())? {
-        return Ok(None);
-    }
-    let documents = gathered(alloc, cells)?;
-    Ok(Some(TableContent { columns, documents }))
-}
-
-// The same of the table of an id.
-fn content_under<S: Alter>(
-    alloc: Global,
-    store: &mut Store<S>,
-    id: i64,
-) -> Result<Option<TableContent>, StoreFault>
-    ensures { LooksTo S.Store store.old store.new result
-        ((named : ℤ × List ℕ) → HasCleanDisk (shows S.Store store.new)
-        → IsNamed (value_in S.Store store.old) id named → IfOk result (λ found. HoldsIfAny named.1
-        (table_rows named.0 (value_in S.Store store.old)) found)) }
-{
-    match listed_table(store, id)? {
-        Some(table) => read_content(alloc, store, &table),
-        None => Ok(None),
-    }
-}
-
-/// The row changes of a Rebuild. The store is only read, whatever is answered.
-pub(crate) fn rebuild_changes<S: Alter>(
-    alloc: Global,
-    store: &mut Store<S>,
-    tables: &[TableInfo],
-    table: &str,
-) -> Result<Vec<RowChange>, Fault>
-    ensures { LooksTo S.Store store.old store.new result
-        (HasCleanDisk (shows S.Store store.new) → (contents : Contents)
-        → AreHeld (value_in S.Store store.old) (map shown_info tables.now) contents
-        → PlansFrom contents (plain.Rebuild table.now) (value_in S.Store store.old)
-        (changes_of result)) }
-{
-    store.is_in_order();
-    let Some(place) = table_place(tables, table) else {
-        return Err(Fault::NoSuchTable);
-    };
-    let id = tables[place].id;
-    let Some(content) = content_under(alloc, store, id)? else {
-        return Err(Fault::Corrupt);
-    };
-    let changes = index_changes(
-        alloc,
-        id,
-        content.columns.as_slice(),
-        content.documents.as_slice(),
-    )?;
-    Ok(changes)
-}
-
-/// Answers a Rebuild. Of the store's index rows none is read.
+/// Answers a Rebuild: a table whose rows are right as they are read stays, and another is made anew
+/// with its documents. It is marked sound.
 pub(crate) fn rebuild_table<S: Alter>(
     alloc: Global,
     store: &mut Store<S>,
@@ -109,12 +29,55 @@ pub(crate) fn rebuild_table<S: Alter>(
         (plain.Rebuild table.now) result (with_tables store.new (map shown_info tables.new.items)) }
 {
     store.is_in_order();
-    let changes = rebuild_changes(alloc, store, tables.as_slice(), table)?;
-    change_rows(store, changes.as_slice())?;
-    let known = tables.as_slice();
-    if let Some(place) = table_place(known, table) {
-        let id = known[place].id;
-        mark_sound(tables, id);
-    }
+    let known = named_table(tables.as_slice(), table)?;
+    let id = known.id;
+    let anew = rebuilt(alloc, store, known)?;
+    make_anew(alloc, store, anew)?;
+    mark_sound(tables, id);
     Ok(Reply::Done)
+}
+
+/// The row changes of a Rebuild. The store is only read, whatever is answered.
+pub(crate) fn rebuild_changes<S: Alter>(
+    alloc: Global,
+    store: &mut Store<S>,
+    tables: &[TableInfo],
+    table: &str,
+) -> Result<Vec<RowChange>, Fault>
+    ensures { LooksTo S.Store store.old store.new result
+        (PlansIn S.Store (map shown_info tables.now) store.old store.new (plain.Rebuild table.now)
+        result) }
+{
+    let known = named_table(tables, table)?;
+    let anew = rebuilt(alloc, store, known)?;
+    let changes = anew_changes(alloc, &anew)?;
+    Ok(changes)
+}
+
+// The table with the documents that it is made anew with, none where its rows are right as they are
+// read; or the fault of a Rebuild. The store is only read, whatever is answered.
+fn rebuilt<'t, S: Alter>(
+    alloc: Global,
+    store: &mut Store<S>,
+    known: &'t TableInfo,
+) -> Result<Option<Written<'t>>, Fault>
+    ensures { LooksTo S.Store store.old store.new result
+        ((tables : List views.TableInfo) (name : List ℕ)
+        → info_named tables name ≡ Some (shown_info known.now)
+        → RebuildsIn S.Store tables store.old store.new (plain.Rebuild name) result) }
+{
+    store.is_in_order();
+    let standing = standing_under(alloc, store, known.id)?;
+    match standing {
+        Standing::Sound => Ok(None),
+        Standing::Stale => {
+            let documents = all_documents(alloc, store, known.id)?;
+            let rewrites = additions(alloc, documents)?;
+            Ok(Some(Written {
+                table: known,
+                rewrites,
+            }))
+        }
+        Standing::Loose => Err(Fault::Corrupt),
+    }
 }

@@ -25,7 +25,8 @@ ghost use Rattle.ft_index.specs.RowsRead.{rows_asked, CountsRows};
 ghost use Rattle.ft_documents.specs.Chosen.{ReadsAs, cells_at};
 ghost use Rattle.ft_index.specs.Selected.{hit_cells, IsOf, IsAsked};
 
-use crate::chosen::{chosen_documents, found_cells};
+use crate::chosen::{chosen_documents, documents_under, found_cells};
+use crate::documents::docids;
 use crate::matching::matched;
 use ft_content::{
     Column, Fault, Filter, Grid, Item, Items, Reply, TableInfo, Value, answer_names, any_offsets,
@@ -187,6 +188,9 @@ fn selected_rows<S: Alter>(
                 Filter::Match { .. } => matched_rows(
                     alloc, store, tab, columns, list, query, limit, offset,
                 ),
+                Filter::All if limit.is_some() || !has_column(list) => {
+                    listed_rows(alloc, store, tab, columns, list, limit, offset)
+                }
                 Filter::All | Filter::Docid(_) => {
                     read_rows(alloc, store, tab, columns, list, filter, limit, offset)
                 }
@@ -219,11 +223,56 @@ fn chosen_count<S: Alter>(
             let hits = matched(store, alloc, tab, query, false, None)?;
             Ok(hits.len() as i64)
         }
-        Filter::All | Filter::Docid(_) => {
+        Filter::All => {
+            let docids = docids(alloc, store, tab, None, 0)?;
+            Ok(docids.len() as i64)
+        }
+        Filter::Docid(_) => {
             let documents = chosen_documents(alloc, store, tab, filter, None)?;
             Ok(documents.len() as i64)
         }
     }
+}
+
+/// The rows of all documents, of which just those are read that are answered, and no text where
+/// no item is a column.
+fn listed_rows<S: Alter>(
+    alloc: Global,
+    store: &mut Store<S>,
+    tab: i64,
+    columns: &[Column],
+    items: &[Item],
+    limit: Option<u64>,
+    offset: u64,
+) -> Result<Vec<Vec<Value>>, Fault>
+    ensures { LooksFor S.Store store.old store.new result IsOutside
+        (IfOk result (λ found. (content : Content) → IsAsked S.Store tab
+        (map column_of columns.now) (plain.Listed (map item_of items.now)) plain.All None store.old
+        store.new content → rows_of found ≡ answer.cut limit offset (answer.answer_rows content
+        (plain.Listed (map item_of items.now)) plain.All))) }
+{
+    let docids = docids(alloc, store, tab, limit, offset)?;
+    if !has_column(items) {
+        let documents = bare_documents(alloc, docids.as_slice())?;
+        return Ok(document_rows(alloc, columns, items, documents.as_slice())?);
+    }
+    let documents = documents_under(alloc, store, tab, docids.as_slice())?;
+    Ok(document_rows(alloc, columns, items, documents.as_slice())?)
+}
+
+// The documents of docids without their cells.
+fn bare_documents(alloc: Global, docids: &[i64]) -> Result<Vec<Document>, AllocError>
+    ensures { IfOk result (λ documents. map shown_document documents.items
+        ≡ map (λ docid. (docid, [])) docids.now) }
+{
+    let mut documents = Vec::new(alloc);
+    for docid in docids {
+        documents.push(Document {
+            docid: *docid,
+            cells: Vec::new(alloc),
+        })?;
+    }
+    Ok(documents)
 }
 
 /// The rows of the documents that a filter without MATCH chooses.

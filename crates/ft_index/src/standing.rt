@@ -10,8 +10,8 @@ ghost use Rattle.ft_content.specs.Content.{Content};
 ghost use Rattle.ft_content.specs.Index.{index_rows};
 ghost use Rattle.ft_content.specs.Views.{column_of};
 ghost use Rattle.ft_content.specs.Deserved.{TableState};
-ghost use Rattle.ft_index.specs.DocumentsRead.{Asks};
-ghost use Rattle.ft_index.specs.Kept.{is_sound};
+ghost use Rattle.ft_index.specs.DocumentsRead.{Asks, LooksTo};
+ghost use Rattle.ft_index.specs.Kept.{Stands, is_sound};
 ghost use Rattle.ft_index.specs.Opened.{standing_of, StandsSo, IsListed, IsNamed, IsFound};
 ghost use Rattle.ft_documents.specs.Standing as standing;
 ghost use Rattle.ft_documents.specs.Tables.{table_rows, table_index};
@@ -48,12 +48,9 @@ fn table_under(tables: Vec<TabRow>, id: i64) -> Option<TabRow>
     tables.into_iter().find(|table| table.id == id)
 }
 
-/// The table of an id as the store lists it, if it does. The store is only read, whatever is
-/// answered.
-pub(crate) fn listed_table<S: Alter>(
-    store: &mut Store<S>,
-    id: i64,
-) -> Result<Option<TabRow>, StoreFault>
+// The table of an id as the store lists it, if it does. The store is only read, whatever is
+// answered.
+fn listed_table<S: Alter>(store: &mut Store<S>, id: i64) -> Result<Option<TabRow>, StoreFault>
     ensures { Asks S.Store store.old store.new result IsPlainFault
         ((named : ℤ × List ℕ) → HasCleanDisk (shows S.Store store.new)
         → IsNamed (value_in S.Store store.old) id named → IfOk result (λ found. IsFound
@@ -61,6 +58,24 @@ pub(crate) fn listed_table<S: Alter>(
 {
     let tables = store.tables()?;
     Ok(table_under(tables, id))
+}
+
+/// How the rows of the table of an id stand. The store is only read, whatever is answered.
+pub(crate) fn standing_under<S: Alter>(
+    alloc: Global,
+    store: &mut Store<S>,
+    id: i64,
+) -> Result<Standing, StoreFault>
+    ensures { LooksTo S.Store store.old store.new result
+        ((named : ℤ × List ℕ) (held : TableState) → HasCleanDisk (shows S.Store store.new)
+        → IsNamed (value_in S.Store store.old) id named → Stands named.1 (table_rows named.0
+        (value_in S.Store store.old)) (table_index named.0 (value_in S.Store store.old)) held
+        → IfOk result (λ s. s ≡ standing_of held)) }
+{
+    match listed_table(store, id)? {
+        Some(table) => read_standing(alloc, store, &table),
+        None => Ok(Standing::Loose),
+    }
 }
 
 /// How the rows of a table that is listed stand. The store is only read, whatever is answered.

@@ -133,7 +133,7 @@ fn test_move<S: Alter>(
         (map shown_document documents.now) docids ≡ Some fault))) }
 {
     let docids = numbers(alloc, documents)?;
-    let is_taken = has_document(alloc, store, tab, given)?;
+    let is_taken = has_document(store, tab, given)?;
     match moves_fault(docids.as_slice(), given, is_taken) {
         Some(fault) => Err(fault),
         None => Ok(()),

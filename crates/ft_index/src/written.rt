@@ -1,11 +1,14 @@
 //! Documents that a command writes anew.
-ghost use Rattle.std.specs.Prelude.{map};
+ghost use Rattle.std.specs.Prelude.{◌++◌, map, IfOk};
 ghost use Rattle.std.specs.Vec.Iter.{into_iter_items};
 ghost use Rattle.ft_content.specs.Views.{column_of};
 ghost use Rattle.ft_documents.specs.Rewrite.{shown_rewrite};
 ghost use Rattle.ft_documents.specs.RewriteRows.{rewrite_changes};
+ghost use Rattle.ft_rows.specs.Changes.{shown_change};
+ghost use Rattle.ft_index.specs.Written.{first_parts, AreOfAnew, MakesAnew};
 
 use crate::change::change_parts;
+use crate::tables::adding;
 use ft_content::{Fault, TableInfo};
 use ft_documents::{Rewrite, in_groups, row_changes};
 use ft_store::{Parts, RowChange, Store};
@@ -21,9 +24,10 @@ pub(crate) struct Written<'t> {
 }
 
 impl Written<'_> {
-    ghost use Rattle.std.specs.Prelude.{map, IfOk};
+    ghost use Rattle.std.specs.Prelude.{[], map, IfOk};
     ghost use Rattle.ft_rows.specs.Changes.{shown_change};
-    ghost use Rattle.ft_index.specs.Written.{AreOfWritten, MakesWritten};
+    ghost use Rattle.ft_store.specs.Parts.{changes_in};
+    ghost use Rattle.ft_index.specs.Written.{first_parts, AreOfWritten, MakesWritten};
 
     /// Their row changes.
     pub(crate) fn changes(&self, alloc: Global) -> Result<Vec<RowChange>, AllocError>
@@ -41,33 +45,86 @@ impl Written<'_> {
     /// Makes all their row changes or none, group by group, so that the changes of one group are in
     /// memory at a time.
     pub(crate) fn make<S: Alter>(self, alloc: Global, store: &mut Store<S>) -> Result<(), Fault>
-        ensures { MakesWritten S.Store self.entry store.old store.new result }
+        ensures { MakesWritten S.Store [] self.entry store.old store.new result }
+    {
+        self.make_behind(alloc, store, None)
+    }
+
+    // The same behind a change that comes first, if there is one.
+    fn make_behind<S: Alter>(
+        self,
+        alloc: Global,
+        store: &mut Store<S>,
+        first: Option<RowChange>,
+    ) -> Result<(), Fault>
+        ensures { MakesWritten S.Store (changes_in (first_parts first)) self.entry store.old
+            store.new result }
     {
         let Written { table, rewrites } = self;
         let groups = in_groups(alloc, rewrites)?;
         let mut parts = GroupChanges {
             alloc,
             table,
+            first,
             groups: groups.into_iter(),
         };
         change_parts(store, &mut parts)
     }
 }
 
-/// The row changes of documents, a part for each group.
+/// The row changes that make a table anew with documents, none where nothing is to be made.
+pub(crate) fn anew_changes(
+    alloc: Global,
+    anew: &Option<Written>,
+) -> Result<Vec<RowChange>, AllocError>
+    ensures { IfOk result (λ changes. AreOfAnew anew.now (map shown_change changes.items)) }
+{
+    let Some(written) = anew else {
+        return Ok(Vec::new(alloc));
+    };
+    let mut changes = written.changes(alloc)?;
+    changes.insert(0, adding(alloc, written.table)?)?;
+    Ok(changes)
+}
+
+/// Makes a table anew with documents, or nothing where nothing is to be made. All of it is made or
+/// nothing, group by group.
+pub(crate) fn make_anew<S: Alter>(
+    alloc: Global,
+    store: &mut Store<S>,
+    anew: Option<Written>,
+) -> Result<(), Fault>
+    ensures { MakesAnew S.Store anew.entry store.old store.new result }
+{
+    match anew {
+        Some(written) => {
+            let first = adding(alloc, written.table)?;
+            written.make_behind(alloc, store, Some(first))
+        }
+        None => Ok(()),
+    }
+}
+
+/// The row changes of documents, a part for each group, behind the change that comes first.
 #[derive(Drop)]
 struct GroupChanges<'t> {
     alloc: Global,
     table: &'t TableInfo,
+    first: Option<RowChange>,
     groups: IntoIter<Vec<Rewrite>>,
 }
 
 impl Parts for GroupChanges<'_> {
-    ghost to_come = { λ changes. map (λ group. rewrite_changes changes.table.now.id
-        (map column_of changes.table.now.columns.items) (map shown_rewrite group.items))
-        (into_iter_items changes.groups) };
+    ghost to_come = { λ changes. first_parts changes.first ++ map (λ group. rewrite_changes
+        changes.table.now.id (map column_of changes.table.now.columns.items)
+        (map shown_rewrite group.items)) (into_iter_items changes.groups) };
 
     fn next(&mut self) -> Result<Option<Vec<RowChange>>, AllocError> {
+        if let Some(first) = self.first.take() {
+            let mut part = Vec::new(self.alloc);
+            part.push(first)?;
+            return Ok(Some(part));
+        }
         let Some(group) = self.groups.next() else {
             return Ok(None);
         };

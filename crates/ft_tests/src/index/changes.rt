@@ -193,6 +193,25 @@ fn rows_read_after(alloc: Global, last: &str) -> Result<u64, Fail> {
 }
 
 #[test]
+fn statements_without_match_read_what_they_answer(rt: HostRuntime) -> Result<(), Fail> {
+    let alloc = rt.alloc();
+    let before = rows_read_after(alloc, "")?;
+    for (last, more) in [
+        ("SELECT docid FROM d LIMIT 10;\n", 10),
+        ("SELECT docid FROM d LIMIT 10 OFFSET 995;\n", 5),
+        ("SELECT docid FROM d LIMIT 4294967296 OFFSET 990;\n", 1000),
+        ("SELECT x FROM d LIMIT 3 OFFSET 1;\n", 6),
+        ("SELECT count(*) FROM d;\n", 1000),
+        ("INSERT INTO d(docid, x) VALUES(2000, 'a');\n", 1),
+        ("DELETE FROM d;\n", 0),
+    ] {
+        let after = rows_read_after(alloc, last)?;
+        assert_eq!(&rt; after.checked_sub(before), Some(more));
+    }
+    Ok(())
+}
+
+#[test]
 fn a_match_reads_what_it_answers(rt: HostRuntime) -> Result<(), Fail> {
     let alloc = rt.alloc();
     let before = rows_read_after(alloc, "")?;

@@ -2,7 +2,7 @@
 use Rattle.std.proofs.Common.{map, ap, ◌∙◌, rules, w64, to_z, of_z, to_z-of_z}
 use Rattle.ft_query.proofs.Sweeps.{sweep_next, sweep_end}
 use Rattle.ft_content.specs.Views.{shown_info}
-use Rattle.ft_documents.specs.Rebuild.{sound_if, with_sound}
+use Rattle.ft_documents.specs.Found.{sound_if, with_sound}
 use Rattle.ft_documents.proofs.told.mark_among.Goals as goal
 
 pub loop-table-preserved : goal.loop-table-preserved

@@ -2,7 +2,7 @@
 use Rattle.std.proofs.Common.{◌≡◌, map}
 use Rattle.ft_query.proofs.Sweeps.{swept}
 use Rattle.ft_content.specs.Views.{shown_info}
-use Rattle.ft_documents.specs.Rebuild.{sound_if}
+use Rattle.ft_documents.specs.Found.{sound_if}
 use Rattle.ft_documents.proofs.told.mark_among.Given as goal
 
 abbrev pub invariant-loop-table : goal.invariant-loop-table

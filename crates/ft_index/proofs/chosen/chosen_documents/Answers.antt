@@ -1,6 +1,7 @@
 -- by the kind of the filter
 use Rattle.std.proofs.Common.{rules, ◌≡◌, ◌∙◌, ℤ, false, Option, map, option_map, string_bytes, Bor, refl, sym, ap, subst, to_z-of_z, to_z, of_z, w64}
 use Rattle.std.proofs.lemmas.Result.{IfOk-weaker}
+use Rattle.sqlite_keyed.proofs.ListLemmas.{map-map}
 use Rattle.ft_query.specs.declared.walk.Hit.{Hit}
 use Rattle.ft_query.specs.Trees.{Tree, tree_of}
 use Rattle.ft_query.specs.Occurs.{plain_hit}
@@ -27,15 +28,15 @@ returns-in-All g c = record {
   cause = search rules;
 }
 
-pub returns-in_ok-hits-in-Match : goal.returns-in_ok-hits-in-Match
-returns-in_ok-hits-in-Match g c = record {
+pub returns-in_ok-docids-in-Match : goal.returns-in_ok-docids-in-Match
+returns-in_ok-docids-in-Match g c = record {
   told =
-      IfOk-weaker c.documents_of_hits.result _ _ (λ found read content rows indexed reads.
+      IfOk-weaker c.documents_under.result _ _ (λ found read content rows indexed reads.
       let first = c.args.store.now in
       let middle = c.matched.new.store in
-      let last = c.documents_of_hits.new.store in
+      let last = c.documents_under.new.store in
       let one : Looks g.S.Store first middle = c.matched.ensures.looks.only in
-      let two = c.documents_of_hits.ensures.only in
+      let two = c.documents_under.ensures.only in
       let t = sym (to_z-of_z c.ranges.tab) in
       let tab : ℤ = to_z w64 (of_z w64 c.args.tab) in
       let name = string_bytes c.in-Match.name in
@@ -47,9 +48,10 @@ returns-in_ok-hits-in-Match g c = record {
       let hits : map plain_hit c.in_ok-hits-in-Match.hits.items ≡ map (told false) (chosen_hits content (Match name text)) =
       c.in_ok-hits-in-Match.ensures.looks.told content name text as_read (index_first g.S.Store first middle last one two tab content at) in
       read content (rows_then g.S.Store first middle last one two tab content here)
-      ∙ ap (map (λ (h : Hit). document_at content h.docid)) c.as_slice.ensures.value
+      ∙ ap (map (document_at content)) (c.as_slice-in-Match.ensures.value ∙ c.in_ok-docids-in-Match.ensures ∙ ap (map (λ (h : Hit). h.docid)) c.as_slice.ensures.value)
+      ∙ map-map (document_at content) (λ (h : Hit). h.docid) c.in_ok-hits-in-Match.hits.items
       ∙ of_hits (λ (h : Hit). h.docid) plain_hit (λ h. refl) rows.name content (Match name text) false c.in_ok-hits-in-Match.hits.items rows.is_content hits
-      ∙ sym (ap (λ (f : Filter). chosen content (filter_of f)) c.in-Match.is)) c.documents_of_hits.ensures.told;
+      ∙ sym (ap (λ (f : Filter). chosen content (filter_of f)) c.in-Match.is)) c.documents_under.ensures.told;
   only = search rules;
   live = search rules;
   cause = search rules;

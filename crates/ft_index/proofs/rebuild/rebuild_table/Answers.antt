@@ -1,135 +1,83 @@
--- by the plan, and what the store does
-use Rattle.std.proofs.Common.{rules, ◌≡◌, ◌⊎◌, List, map, true, Ok, Err, None, Result, Vec, Global, refl, sym, ap, subst, ◌∙◌, FitsSigned, w64, to_z, of_z, to_z-of_z}
-use Rattle.std.specs.Prelude.{is_ok}
-use Rattle.std.proofs.lemmas.Option.{slice_get_read, slice_get_within, same_Some}
-use Rattle.sqlite.specs.State.{HasCleanDisk, Survives}
-use Rattle.ft_index.specs.Written.{PlansIn}
-use Rattle.ft_index.proofs.Crashing.{CommitsRows, crash_read, crash_written}
-use Rattle.ft_rows.specs.Changes.{shown_change}
-use Rattle.ft_store.specs.Kept.{shows, value_in}
-use Rattle.ft_values.specs.declared.rows.RowChange.{RowChange}
+-- by what is to be made anew, and what the store does
+use Rattle.std.proofs.Common.{rules, ◌≡◌, List, map, Some, Ok, Err, sym, ap, subst, ◌∙◌, FitsSigned, w64, to_z-of_z}
+use Rattle.ft_store.specs.Kept.{value_in}
 use Rattle.ft_values.specs.declared.fault.Fault.{Fault}
-use Rattle.ft_values.specs.declared.fault.Fault.TheVariants as faults
-use Rattle.ft_content.specs.declared.command.Reply.{Reply}
-use Rattle.ft_values.specs.declared.table.TableInfo.{TableInfo as RustTableInfo}
-use Rattle.ft_content.specs.Content.{same_name}
+use Rattle.ft_content.specs.declared.command.Reply.TheVariants as replies
 use Rattle.ft_content.specs.Command as plain
-use Rattle.ft_content.specs.Deserved.{Contents}
-use Rattle.ft_content.specs.Views.{TableInfo, shown_info, answer_of}
-use Rattle.ft_documents.specs.Found.{info_named}
-use Rattle.ft_index.specs.Kept.{AreHeld, Executes, PlansFrom}
-use Rattle.ft_index.specs.Planned.{changes_of}
-use Rattle.ft_documents.specs.Rebuild.{with_sound}
-use Rattle.ft_index.specs.Changed.{Changed, with_tables}
-use Rattle.ft_documents.proofs.FoundLemmas.{placed, unplaced}
+use Rattle.ft_content.specs.Views.{TableInfo, shown_info}
+use Rattle.ft_documents.specs.Found.{info_named, with_sound}
+use Rattle.ft_index.specs.Changed.{Does, with_tables}
+use Rattle.ft_index.specs.Written.{RebuildsIn}
 use Rattle.ft_index.proofs.CheckLemmas.{told_here}
-use Rattle.ft_index.proofs.RebuildPlans.{refused_plan, refused_after, executes_after, told_after, rebuild_missing, rebuild_reply}
+use Rattle.ft_index.proofs.Doing.{does_failed, does_undone, does_made}
+use Rattle.ft_index.proofs.Executing.{reached}
+use Rattle.ft_index.proofs.LookLemmas.{no_look}
+use Rattle.ft_index.proofs.RebuildPlans.{plan_missing, told_after, rebuild_reply}
 use Rattle.ft_index.proofs.rebuild.rebuild_table.Goals as goal
-use Rattle.ft_index.proofs.rebuild.rebuild_table.Goals.{in-Some, in_default}
 
-pub returns-in_err-changes : goal.returns-in_err-changes
-returns-in_err-changes g c = record {
-  executes =
-      let fault : Fault = c.in_err-changes.field-0.0 in
-      let is : c.from_residual.result ≡ Err fault = search rules in
-      let planned : c.rebuild_changes.result ≡ Err fault = search rules in
-      let tables = map shown_info c.args.tables.now.items in
-      let command = plain.Rebuild c.args.table.now in
-      let value = value_in g.S.Store c.args.store.now in
-      subst (λ (a : Result Reply Fault). Executes g.S.Store (with_tables c.args.store.now tables) command (answer_of a) (with_tables c.rebuild_changes.new.store tables)) (sym is)
-      (refused_plan g.S.Store c.args.store.now c.rebuild_changes.new.store tables command fault c.rebuild_changes.ensures.only
-      (λ clean contents held. subst (λ (r : Result (Vec RowChange Global) Fault). PlansFrom contents command value (changes_of r)) planned
-      (c.rebuild_changes.ensures.told clean contents (subst (λ ts. AreHeld value (map shown_info ts) contents) (sym c.as_slice.ensures.value) held))));
-  crash =
-      let tables = map shown_info c.args.tables.now.items in
-      crash_read g.S.Store c.args.store.now c.rebuild_changes.new.store tables tables (plain.Rebuild c.args.table.now) c.rebuild_changes.ensures.only;
-  live = search rules;
-}
+pub returns-in_err-known : goal.returns-in_err-known
+returns-in_err-known g c =
+    let tables = map shown_info c.args.tables.now.items in
+    let command = plain.Rebuild c.args.table.now in
+    let old = c.args.store.now in
+    let fault : Fault = c.in_err-known.field-0.0 in
+    let is : c.from_residual.result ≡ Err fault = search rules in
+    let missing = c.in_err-known.ensures in
+    let none = ap (λ ts. info_named (map shown_info ts) c.args.table.now) (sym c.as_slice.ensures.value) ∙ missing.1 in
+    does_failed g.S.Store old old tables command (no_look g.S.Store old) fault c.from_residual.result is
+    (λ up first holds. plan_missing (value_in g.S.Store old) tables first c.args.table.now fault holds (missing.0, none))
 
-pub returns-in_err-change_rows : goal.returns-in_err-change_rows
-returns-in_err-change_rows g c = record {
-  executes =
-      let fault : Fault = c.in_err-change_rows.field-0.0 in
-      let is : c.from_residual-in_err-change_rows.result ≡ Err fault = search rules in
-      let refused : c.change_rows.result ≡ Err fault = search rules in
-      let tables = map shown_info c.args.tables.now.items in
-      let command = plain.Rebuild c.args.table.now in
-      let outside : (fault ≡ faults.Store) ⊎ (fault ≡ faults.Memory) = search rules in
-      let mid = c.rebuild_changes.new.store in
-      let changed = subst (λ (r : Result (Unit {0}) Fault). Changed g.S.Store mid c.change_rows.new.store (map shown_change c.as_slice-2.result.now) (is_ok r)) refused c.change_rows.ensures.changed in
-      subst (λ (a : Result Reply Fault). Executes g.S.Store (with_tables c.args.store.now tables) command (answer_of a) (with_tables c.change_rows.new.store tables)) (sym is)
-      (refused_after g.S.Store c.args.store.now mid c.change_rows.new.store tables (map shown_change c.as_slice-2.result.now) command c.rebuild_changes.ensures.only fault outside changed);
-  crash =
-      let tables = map shown_info c.args.tables.now.items in
-      let after = tables in
-      let command = plain.Rebuild c.args.table.now in
-      let value = value_in g.S.Store c.args.store.now in
-      let mid = c.rebuild_changes.new.store in
-      let changes = c.in_ok-changes.changes in
-      let planned : c.rebuild_changes.result ≡ Ok changes = search rules in
-      let plans : PlansIn g.S.Store tables c.args.store.now mid command (Ok changes) =
-      λ up contents held. subst (λ (r : Result (Vec RowChange Global) Fault). PlansFrom contents command value (changes_of r)) planned
-      (c.rebuild_changes.ensures.told up.clean contents (subst (λ ts. AreHeld value (map shown_info ts) contents) (sym c.as_slice.ensures.value) held)) in
-      crash_written g.S.Store c.args.store.now mid c.change_rows.new.store tables after command (map shown_change changes.items) c.rebuild_changes.ensures.only c.in_ok-changes.ensures.live plans
-      (subst (λ (cs : List RowChange). Survives (shows g.S.Store mid) (shows g.S.Store c.change_rows.new.store) (CommitsRows g.S.Store mid (map shown_change cs))) c.as_slice-2.ensures.value c.change_rows.ensures.crash);
-  live = search rules;
-}
+pub returns-in_err-anew : goal.returns-in_err-anew
+returns-in_err-anew g c =
+    let tables = map shown_info c.args.tables.now.items in
+    let command = plain.Rebuild c.args.table.now in
+    let old = c.args.store.now in
+    let mid = c.rebuilt.new.store in
+    let known = shown_info c.in_ok-known.known.now in
+    let named : info_named tables c.args.table.now ≡ Some known = ap (λ ts. info_named (map shown_info ts) c.args.table.now) (sym c.as_slice.ensures.value) ∙ c.in_ok-known.ensures in
+    let rebuilds = c.rebuilt.ensures.told tables c.args.table.now named in
+    let fault : Fault = c.in_err-anew.field-0.0 in
+    let is : c.from_residual-in_err-anew.result ≡ Err fault = search rules in
+    let failed : c.rebuilt.result ≡ Err fault = search rules in
+    does_failed g.S.Store old mid tables command c.rebuilt.ensures.only fault c.from_residual-in_err-anew.result is (subst (RebuildsIn g.S.Store tables old mid command) failed rebuilds)
+
+pub returns-in_err-make_anew : goal.returns-in_err-make_anew
+returns-in_err-make_anew g c =
+    let tables = map shown_info c.args.tables.now.items in
+    let command = plain.Rebuild c.args.table.now in
+    let old = c.args.store.now in
+    let mid = c.rebuilt.new.store in
+    let known = shown_info c.in_ok-known.known.now in
+    let named : info_named tables c.args.table.now ≡ Some known = ap (λ ts. info_named (map shown_info ts) c.args.table.now) (sym c.as_slice.ensures.value) ∙ c.in_ok-known.ensures in
+    let rebuilds = c.rebuilt.ensures.told tables c.args.table.now named in
+    let anew : c.rebuilt.result ≡ Ok c.in_ok-anew.anew = search rules in
+    let did = c.make_anew.ensures in
+    let plans = subst (RebuildsIn g.S.Store tables old mid command) anew rebuilds did.changes did.of_anew in
+    let fault : Fault = c.in_err-make_anew.field-0.0 in
+    let is : c.from_residual-in_err-make_anew.result ≡ Err fault = search rules in
+    let refused : c.make_anew.result ≡ Err fault = search rules in
+    does_undone g.S.Store old mid tables command c.rebuilt.ensures.only c.in_ok-anew.ensures.live c.make_anew.new.store did.changes c.make_anew.result did.makes
+    (λ up first holds. reached first command (value_in g.S.Store old) did.changes (plans up first holds)) fault c.from_residual-in_err-make_anew.result is refused
 
 pub returns : goal.returns
-returns g c = record {
-  executes =
-      let tables = map shown_info c.args.tables.now.items in
-      let command = plain.Rebuild c.args.table.now in
-      let value = value_in g.S.Store c.args.store.now in
-      let mid = c.rebuild_changes.new.store in
-      let changes = map shown_change c.in_ok-changes.changes.items in
-      let planned : c.rebuild_changes.result ≡ Ok c.in_ok-changes.changes = search rules in
-      let done : c.change_rows.result ≡ Ok tt = search rules in
-      let changed : Changed g.S.Store mid c.change_rows.new.store changes true =
-      subst (λ (cs : List RowChange). Changed g.S.Store mid c.change_rows.new.store (map shown_change cs) true) c.as_slice-2.ensures.value
-      (subst (λ (r : Result (Unit {0}) Fault). Changed g.S.Store mid c.change_rows.new.store (map shown_change c.as_slice-2.result.now) (is_ok r)) done c.change_rows.ensures.changed) in
-      let plans : HasCleanDisk (shows g.S.Store mid) → (contents : Contents) → AreHeld value tables contents → PlansFrom contents command value (Ok changes) =
-      λ clean contents held. subst (λ (r : Result (Vec RowChange Global) Fault). PlansFrom contents command value (changes_of r)) planned
-      (c.rebuild_changes.ensures.told clean contents (subst (λ ts. AreHeld value (map shown_info ts) contents) (sym c.as_slice.ensures.value) held)) in
-      elim c.match-table_place.branch [
-        | in-Some w ↦
-            let here : c.as_slice-known.result.now ≡ c.args.tables.now.items = c.as_slice-known.ensures.value in
-            let s = placed shown_info (λ (t : TableInfo). same_name t.name c.args.table.now) c.as_slice-known.result.now w.in-Some.place (sym c.table_place.ensures ∙ w.in-Some.is) in
-            let named = ap (λ ts. info_named (map shown_info ts) c.args.table.now) (sym here) ∙ s.found in
-            let fits : FitsSigned w64 w.index-known-place.result.id = search rules in
-            let read = slice_get_read c.as_slice-known.result.now _ w.in-Some.place w.index-known-place.result refl (slice_get_within c.as_slice-known.result.now w.in-Some.place s.item s.is) w.index-known-place.is in
-            let same : w.index-known-place.result ≡ s.item = same_Some w.index-known-place.result s.item (sym read ∙ s.is) in
-            let told : map shown_info c.match-table_place.tables.items ≡ with_sound s.item.id tables =
-            ap (λ (v : Vec RustTableInfo Global). map shown_info v.items) w.tables-is ∙ w.mark_sound.ensures
-            ∙ ap (λ (t : RustTableInfo). with_sound (to_z w64 (of_z w64 t.id)) tables) (sym w.index-known-place.is)
-            ∙ ap (λ k. with_sound k tables) (to_z-of_z fits)
-            ∙ ap (λ (t : RustTableInfo). with_sound t.id tables) same in
-            subst (λ (ts : List TableInfo). Executes g.S.Store (with_tables c.args.store.now tables) command (Ok plain.Done) (with_tables c.change_rows.new.store ts)) (sym told)
-            (executes_after g.S.Store c.args.store.now mid c.change_rows.new.store tables changes command c.rebuild_changes.ensures.only (with_sound s.item.id tables) plans changed
-            (λ contents held fine. told_after value tables contents c.args.table.now (shown_info s.item) (told_here value tables contents c.args.table.now (shown_info s.item) c.is_in_order.ensures.order held named) held.told fine)
-            (λ contents. rebuild_reply contents c.args.table.now))
-        | in_default w ↦
-            let here : c.as_slice-known.result.now ≡ c.args.tables.now.items = c.as_slice-known.ensures.value in
-            let none : c.table_place.result ≡ None = search rules in
-            let named = ap (λ ts. info_named (map shown_info ts) c.args.table.now) (sym here) ∙ unplaced shown_info (λ (t : TableInfo). same_name t.name c.args.table.now) c.as_slice-known.result.now (sym c.table_place.ensures ∙ none) in
-            let told : map shown_info c.match-table_place.tables.items ≡ tables = ap (λ (v : Vec RustTableInfo Global). map shown_info v.items) w.tables-is in
-            subst (λ (ts : List TableInfo). Executes g.S.Store (with_tables c.args.store.now tables) command (Ok plain.Done) (with_tables c.change_rows.new.store ts)) (sym told)
-            (executes_after g.S.Store c.args.store.now mid c.change_rows.new.store tables changes command c.rebuild_changes.ensures.only tables plans changed
-            (λ contents held fine. absurd (let no = sym fine ∙ rebuild_missing contents tables c.args.table.now held.told named in cc))
-            (λ contents. rebuild_reply contents c.args.table.now))
-      ];
-  crash =
-      let tables = map shown_info c.args.tables.now.items in
-      let after = map shown_info c.match-table_place.tables.items in
-      let command = plain.Rebuild c.args.table.now in
-      let value = value_in g.S.Store c.args.store.now in
-      let mid = c.rebuild_changes.new.store in
-      let changes = c.in_ok-changes.changes in
-      let planned : c.rebuild_changes.result ≡ Ok changes = search rules in
-      let plans : PlansIn g.S.Store tables c.args.store.now mid command (Ok changes) =
-      λ up contents held. subst (λ (r : Result (Vec RowChange Global) Fault). PlansFrom contents command value (changes_of r)) planned
-      (c.rebuild_changes.ensures.told up.clean contents (subst (λ ts. AreHeld value (map shown_info ts) contents) (sym c.as_slice.ensures.value) held)) in
-      crash_written g.S.Store c.args.store.now mid c.change_rows.new.store tables after command (map shown_change changes.items) c.rebuild_changes.ensures.only c.in_ok-changes.ensures.live plans
-      (subst (λ (cs : List RowChange). Survives (shows g.S.Store mid) (shows g.S.Store c.change_rows.new.store) (CommitsRows g.S.Store mid (map shown_change cs))) c.as_slice-2.ensures.value c.change_rows.ensures.crash);
-  live = search rules;
-}
+returns g c =
+    let tables = map shown_info c.args.tables.now.items in
+    let command = plain.Rebuild c.args.table.now in
+    let old = c.args.store.now in
+    let mid = c.rebuilt.new.store in
+    let known = shown_info c.in_ok-known.known.now in
+    let named : info_named tables c.args.table.now ≡ Some known = ap (λ ts. info_named (map shown_info ts) c.args.table.now) (sym c.as_slice.ensures.value) ∙ c.in_ok-known.ensures in
+    let rebuilds = c.rebuilt.ensures.told tables c.args.table.now named in
+    let anew : c.rebuilt.result ≡ Ok c.in_ok-anew.anew = search rules in
+    let did = c.make_anew.ensures in
+    let plans = subst (RebuildsIn g.S.Store tables old mid command) anew rebuilds did.changes did.of_anew in
+    let value = value_in g.S.Store old in
+    let after = with_sound known.id tables in
+    let done : c.make_anew.result ≡ Ok tt = search rules in
+    let fits : FitsSigned w64 known.id = search rules in
+    let told : map shown_info c.mark_sound.new.tables.items ≡ after = c.mark_sound.ensures ∙ ap (λ k. with_sound k tables) (to_z-of_z fits) in
+    subst (λ (ts : List TableInfo). Does g.S.Store (with_tables old tables) command (Ok replies.Done) (with_tables c.make_anew.new.store ts)) (sym told)
+    (does_made g.S.Store old mid tables command c.rebuilt.ensures.only c.in_ok-anew.ensures.live c.make_anew.new.store did.changes c.make_anew.result did.makes
+    (λ up first holds. reached first command (value_in g.S.Store old) did.changes (plans up first holds)) after done
+    (λ contents held fine. told_after value tables contents c.args.table.now known (told_here value tables contents c.args.table.now known c.is_in_order.ensures.order held named) held.told fine)
+    (λ contents. rebuild_reply contents c.args.table.now))

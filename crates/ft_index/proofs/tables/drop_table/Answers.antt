@@ -19,7 +19,7 @@ use Rattle.ft_index.specs.Planned.{changes_of}
 use Rattle.ft_index.specs.Changed.{Changed, with_tables}
 use Rattle.ft_documents.proofs.FoundLemmas.{placed, unplaced}
 use Rattle.ft_index.proofs.TablePlans.{told_dropped, told_spared, drop_done}
-use Rattle.ft_index.proofs.Executing.{executes_unplanned, executes_refused, executes_planned}
+use Rattle.ft_index.proofs.Executing.{Reaches, reached, executes_unplanned, executes_refused, executes_planned}
 use Rattle.sqlite.specs.State.{Survives}
 use Rattle.ft_store.specs.Kept.{shows}
 use Rattle.ft_index.proofs.Crashing.{CommitsRows, crash_changed}
@@ -61,10 +61,10 @@ returns-in_err-change_rows g c = record {
       let value = value_in g.S.Store c.args.store.now in
       let changes = map shown_change c.in_ok-changes.changes.items in
       let planned : c.drop_changes.result ≡ Ok c.in_ok-changes.changes = search rules in
-      let plans : (contents : Contents) → AreHeld value tables contents → PlansFrom contents command value (Ok changes) =
-      λ contents held. subst (λ (r : Result (Vec RowChange Global) Fault). PlansFrom contents command value (changes_of r)) planned
-      (c.drop_changes.ensures value contents c.is_in_order.ensures.order (subst (λ ts. AreHeld value (map shown_info ts) contents) (sym c.as_slice.ensures.value) held)) in
-      crash_changed g.S.Store c.args.store.now c.change_rows.new.store tables tables command changes (λ up first holds. ((plans first holds).0, (plans first holds).1, (plans first holds).2))
+      let reaches : (contents : Contents) → AreHeld value tables contents → Reaches contents command value changes =
+      λ contents held. reached contents command value changes (subst (λ (r : Result (Vec RowChange Global) Fault). PlansFrom contents command value (changes_of r)) planned
+      (c.drop_changes.ensures value contents c.is_in_order.ensures.order (subst (λ ts. AreHeld value (map shown_info ts) contents) (sym c.as_slice.ensures.value) held))) in
+      crash_changed g.S.Store c.args.store.now c.change_rows.new.store tables tables command changes (λ up. reaches)
       (subst (λ (cs : List RowChange). Survives (shows g.S.Store c.args.store.now) (shows g.S.Store c.change_rows.new.store) (CommitsRows g.S.Store c.args.store.now (map shown_change cs))) c.as_slice-2.ensures.value c.change_rows.ensures.crash);
   live = search rules;
 }
@@ -81,9 +81,9 @@ returns g c = record {
       let changed : Changed g.S.Store c.args.store.now c.change_rows.new.store changes true =
       subst (λ (cs : List RowChange). Changed g.S.Store c.args.store.now c.change_rows.new.store (map shown_change cs) true) c.as_slice-2.ensures.value
       (subst (λ (r : Result (Unit {0}) Fault). Changed g.S.Store c.args.store.now c.change_rows.new.store (map shown_change c.as_slice-2.result.now) (is_ok r)) done c.change_rows.ensures.changed) in
-      let plans : (contents : Contents) → AreHeld value tables contents → PlansFrom contents command value (Ok changes) =
-      λ contents held. subst (λ (r : Result (Vec RowChange Global) Fault). PlansFrom contents command value (changes_of r)) planned
-      (c.drop_changes.ensures value contents c.is_in_order.ensures.order (subst (λ ts. AreHeld value (map shown_info ts) contents) (sym c.as_slice.ensures.value) held)) in
+      let reaches : (contents : Contents) → AreHeld value tables contents → Reaches contents command value changes =
+      λ contents held. reached contents command value changes (subst (λ (r : Result (Vec RowChange Global) Fault). PlansFrom contents command value (changes_of r)) planned
+      (c.drop_changes.ensures value contents c.is_in_order.ensures.order (subst (λ ts. AreHeld value (map shown_info ts) contents) (sym c.as_slice.ensures.value) held))) in
       elim c.match-table_place.branch [
         | in-Some w ↦
             let here : c.as_slice-known.result.now ≡ c.args.tables.now.items = c.as_slice-known.ensures.value in
@@ -96,16 +96,16 @@ returns g c = record {
             ∙ ap (λ k. without_told k tables) (to_z-of_z fits)
             ∙ ap (λ (t : RustTableInfo). without_told t.id tables) (same_Some w.index-known-place.result s.item (sym (slice_get_read c.as_slice-known.result.now _ w.in-Some.place w.index-known-place.result refl (slice_get_within c.as_slice-known.result.now w.in-Some.place s.item s.is) w.index-known-place.is) ∙ s.is)) in
             subst (λ (ts : List TableInfo). Executes g.S.Store (with_tables c.args.store.now tables) command (Ok plain.Done) (with_tables c.change_rows.new.store ts)) (sym told)
-            (executes_planned g.S.Store c.args.store.now c.change_rows.new.store tables (without_told s.item.id tables) changes command plans changed
-            (λ contents held. (told_dropped value tables contents c.args.table.now c.args.if_there (shown_info s.item) c.is_in_order.ensures.order held named, drop_done contents c.args.table.now c.args.if_there)))
+            (executes_planned g.S.Store c.args.store.now c.change_rows.new.store tables (without_told s.item.id tables) changes command (λ up. reaches) changed
+            (λ contents held fine. told_dropped value tables contents c.args.table.now c.args.if_there (shown_info s.item) c.is_in_order.ensures.order held named) (λ contents. drop_done contents c.args.table.now c.args.if_there))
         | in_default w ↦
             let here : c.as_slice-known.result.now ≡ c.args.tables.now.items = c.as_slice-known.ensures.value in
             let none : c.table_place.result ≡ None = search rules in
             let named = ap (λ ts. info_named (map shown_info ts) c.args.table.now) (sym here) ∙ unplaced shown_info (λ (t : TableInfo). same_name t.name c.args.table.now) c.as_slice-known.result.now (sym c.table_place.ensures ∙ none) in
             let told : map shown_info c.match-table_place.tables.items ≡ tables = ap (λ (v : Vec RustTableInfo Global). map shown_info v.items) w.tables-is in
             subst (λ (ts : List TableInfo). Executes g.S.Store (with_tables c.args.store.now tables) command (Ok plain.Done) (with_tables c.change_rows.new.store ts)) (sym told)
-            (executes_planned g.S.Store c.args.store.now c.change_rows.new.store tables tables changes command plans changed
-            (λ contents held. (told_spared value tables contents c.args.table.now c.args.if_there held named, drop_done contents c.args.table.now c.args.if_there)))
+            (executes_planned g.S.Store c.args.store.now c.change_rows.new.store tables tables changes command (λ up. reaches) changed
+            (λ contents held fine. told_spared value tables contents c.args.table.now c.args.if_there held named) (λ contents. drop_done contents c.args.table.now c.args.if_there))
       ];
   crash =
       let tables = map shown_info c.args.tables.now.items in
@@ -113,10 +113,10 @@ returns g c = record {
       let value = value_in g.S.Store c.args.store.now in
       let changes = map shown_change c.in_ok-changes.changes.items in
       let planned : c.drop_changes.result ≡ Ok c.in_ok-changes.changes = search rules in
-      let plans : (contents : Contents) → AreHeld value tables contents → PlansFrom contents command value (Ok changes) =
-      λ contents held. subst (λ (r : Result (Vec RowChange Global) Fault). PlansFrom contents command value (changes_of r)) planned
-      (c.drop_changes.ensures value contents c.is_in_order.ensures.order (subst (λ ts. AreHeld value (map shown_info ts) contents) (sym c.as_slice.ensures.value) held)) in
-      crash_changed g.S.Store c.args.store.now c.change_rows.new.store tables tables command changes (λ up first holds. ((plans first holds).0, (plans first holds).1, (plans first holds).2))
+      let reaches : (contents : Contents) → AreHeld value tables contents → Reaches contents command value changes =
+      λ contents held. reached contents command value changes (subst (λ (r : Result (Vec RowChange Global) Fault). PlansFrom contents command value (changes_of r)) planned
+      (c.drop_changes.ensures value contents c.is_in_order.ensures.order (subst (λ ts. AreHeld value (map shown_info ts) contents) (sym c.as_slice.ensures.value) held))) in
+      crash_changed g.S.Store c.args.store.now c.change_rows.new.store tables tables command changes (λ up. reaches)
       (subst (λ (cs : List RowChange). Survives (shows g.S.Store c.args.store.now) (shows g.S.Store c.change_rows.new.store) (CommitsRows g.S.Store c.args.store.now (map shown_change cs))) c.as_slice-2.ensures.value c.change_rows.ensures.crash);
   live = search rules;
 }

@@ -49,5 +49,4 @@ returns c =
       lists = λ can. subst (λ ts. with_entries (cell_entries c.args.docid c.args.place ts) (lists_in_terms c.loop-token.self) ≡ with_entries (cell_entries c.args.docid c.args.place (tokens_of text)) (lists_in_terms c.args.self.now)) none (joined can).1;
       counted = counted;
       few = omega (arith, counted, few_tokens c.text_of.ensures);
-      number = c.text_of.ensures.number;
     }

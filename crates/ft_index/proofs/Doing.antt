@@ -1,0 +1,56 @@
+-- What commands do that read, and then change rows.
+use Rattle.std.proofs.Common.{◌≡◌, true, List, map, None, Ok, Err, Result, sym, subst, arith}
+use Rattle.std.specs.Prelude.{IsTrue}
+use Rattle.sqlite_trees.specs.View.{doubt}
+use Rattle.sqlite.specs.State.{HasCleanDisk}
+use Rattle.sqlite.specs.Store.{Ghosts}
+use Rattle.ft_rows.specs.Store.{Change}
+use Rattle.ft_store.specs.Kept.{StoreState, shows, value_in}
+use Rattle.ft_values.specs.declared.fault.Fault.{Fault}
+use Rattle.ft_content.specs.declared.command.Reply.{Reply}
+use Rattle.ft_content.specs.declared.command.Reply.TheVariants as replies
+use Rattle.ft_content.specs.Command.{Command, Done}
+use Rattle.ft_content.specs.Deserved.{Contents, deserved}
+use Rattle.ft_content.specs.Step.{after, reply_to}
+use Rattle.ft_content.specs.Views.{TableInfo}
+use Rattle.ft_index.specs.Changed.{Does, MakesRows, with_tables}
+use Rattle.ft_index.specs.DocumentsRead.{Looks}
+use Rattle.ft_index.specs.Kept.{IsUp, AreHeld, told_table}
+use Rattle.ft_index.specs.Written.{PlansTo}
+use Rattle.ft_index.proofs.Acting.{executes_failed, executes_undone, then_changed}
+use Rattle.ft_index.proofs.Crashing.{crash_read, crash_reached}
+use Rattle.ft_index.proofs.Executing.{Reaches, executes_planned}
+
+module _ {S : Type 0} (g : Ghosts S) (old mid : StoreState S) (tables : List TableInfo) (command : Command) (looks : Looks g old mid) where
+  -- reads that show its fault
+  pub does_failed : (fault : Fault) (answer : Result Reply Fault) → answer ≡ Err fault → PlansTo g tables old mid command (Err fault) → Does g (with_tables old tables) command answer (with_tables mid tables)
+  does_failed fault answer is plans = subst (λ a. Does g (with_tables old tables) command a (with_tables mid tables)) (sym is) (record {
+    executes = executes_failed g old mid tables command fault looks plans;
+    crash = crash_read g old mid tables tables command looks;
+    live = λ clean. tt;
+  })
+
+  module _ (live : HasCleanDisk (shows g mid) → IsTrue (shows g old).is_open → IsTrue (shows g mid).is_open) (new : StoreState S) (changes : List Change) (result : Result (Unit {0}) Fault) (makes : MakesRows g mid new changes result)
+      (reaches : IsUp g (with_tables mid tables) → (first : Contents) → AreHeld (value_in g old) tables first → Reaches first command (value_in g old) changes) where
+    -- row changes that are refused
+    pub does_undone : (fault : Fault) (answer : Result Reply Fault) → answer ≡ Err fault → result ≡ Err fault → Does g (with_tables old tables) command answer (with_tables new tables)
+    does_undone fault answer is refused =
+        let made = subst (MakesRows g mid new changes) refused makes in
+        subst (λ a. Does g (with_tables old tables) command a (with_tables new tables)) (sym is) (record {
+          executes = executes_undone g old mid new tables changes command fault made.cause looks made.changed;
+          crash = crash_reached g old mid new tables tables command changes looks live reaches made.crash;
+          live = λ clean. tt;
+        })
+
+    -- and those that are made
+    pub does_made : (after_tables : List TableInfo) → result ≡ Ok tt → ((contents : Contents) → AreHeld (value_in g old) tables contents → deserved contents command ≡ None → after_tables ≡ map told_table (after contents command)) →
+        ((contents : Contents) → reply_to contents command ≡ Done) → Does g (with_tables old tables) command (Ok replies.Done) (with_tables new after_tables)
+    does_made after_tables done told replies_so =
+        let made = subst (MakesRows g mid new changes) done makes in
+        record {
+          executes = executes_planned g old new tables after_tables changes command (λ up first holds. reaches (made.changed.was_up after_tables tables up) first holds) (then_changed g old mid new changes true looks made.changed) told replies_so;
+          crash = crash_reached g old mid new tables after_tables command changes looks live reaches made.crash;
+          live = λ clean is_open.
+              let c : doubt (shows g new).is_clean ≡ 0 = clean in
+              made.live clean (live (omega (arith, c, made.crash.clean)) is_open);
+        }

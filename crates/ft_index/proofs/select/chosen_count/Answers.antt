@@ -1,0 +1,23 @@
+-- all documents by their docids
+use Rattle.std.proofs.Common.{rules, ◌≡◌, ℤ, List, pos, length, to_z, w64, sym, ap, subst, ◌∙◌, to_z-of_z}
+use Rattle.std.proofs.lemmas.List.{length-map}
+use Rattle.ft_values.specs.Cells.{Cell}
+use Rattle.ft_content.specs.declared.command.Filter.{Filter}
+use Rattle.ft_content.specs.Answer.{chosen}
+use Rattle.ft_content.specs.Views.{filter_of}
+use Rattle.ft_documents.proofs.ChosenLemmas.{chosen_all}
+use Rattle.ft_index.specs.DocumentsRead.{HasRows}
+use Rattle.ft_index.proofs.select.chosen_count.Goals as goal
+
+pub returns-in_ok-docids-in-All-clause-looks : goal.returns-in_ok-docids-in-All-clause-looks
+returns-in_ok-docids-in-All-clause-looks g c = record {
+  told = λ content held reads.
+      let here = subst (λ (k : ℤ). HasRows g.S.Store k c.args.store.now c.docids.new.store content) (sym (to_z-of_z c.ranges.tab)) held.rows in
+      let count : to_z w64 c.len-in-All.result ≡ pos (length c.in_ok-docids-in-All.docids.items) = search rules in
+      count
+      ∙ ap pos (ap length (c.in_ok-docids-in-All.ensures.told content here) ∙ length-map content.documents (λ (d : ℤ × List Cell). d.0)
+      ∙ ap length (sym (ap (λ (f : Filter). chosen content (filter_of f)) c.in-All.is ∙ chosen_all content)));
+  only = search rules;
+  live = search rules;
+  cause = search rules;
+}

@@ -1,0 +1,29 @@
+-- by the groups
+use Rattle.std.proofs.Common.{rules, ◌≡◌, Err, List, map, sym, ap, subst, ◌∙◌}
+use Rattle.std.specs.List.{flat_map}
+use Rattle.std.specs.Vec.{vec_items}
+use Rattle.std.specs.Vec.Iter.{into_iter_items}
+use Rattle.ft_rows.specs.Store.{Change}
+use Rattle.ft_store.specs.Parts.{changes_in}
+use Rattle.ft_values.specs.declared.fault.Fault.TheVariants as faults
+use Rattle.ft_content.specs.Views.{column_of}
+use Rattle.ft_index.specs.Changed.{MakesRows}
+use Rattle.ft_index.specs.Written.{first_parts, MakesWritten}
+use Rattle.ft_index.proofs.GroupLemmas.{parts_of, parts_behind, of_groups, makes_nothing}
+use Rattle.ft_index.proofs.written.Written.make_behind.Goals as goal
+
+pub returns-in_err-groups : goal.returns-in_err-groups
+returns-in_err-groups g c =
+    let refused : c.from_residual.result ≡ Err faults.Memory = search rules in
+    subst (MakesWritten g.S.Store (changes_in (first_parts c.args.first)) c.args.self c.args.store.now c.args.store.now) (sym refused) (makes_nothing c.args.self g.S.Store (changes_in (first_parts c.args.first)) c.args.store.now)
+
+pub returns : goal.returns
+returns g c =
+    let table = c.args.self.table.now in
+    let groups = into_iter_items c.into_iter.result in
+    let parts = parts_of table.id (map column_of table.columns.items) groups in
+    record {
+      changes = changes_in parts;
+      of_written = of_groups c.args.self groups (ap (flat_map vec_items) c.into_iter.ensures.rest ∙ c.in_ok-groups.ensures);
+      makes = subst (λ (cs : List Change). MakesRows g.S.Store c.args.store.now c.change_parts.new.store cs c.change_parts.result) (parts_behind c.args.first parts) c.change_parts.ensures;
+    }
