@@ -1,5 +1,6 @@
 -- Meaning. What a Select answers ("Simple FTS Queries").
-use Rattle.std.specs.Prelude.{ℕ, Bool, true, false, if◌then◌else◌, List, [], ◌∷◌, ◌++◌, map, length, take, drop, filter, position, Option, Some, None, Result, Ok, Err, ℤ, pos, codes, unwrap_or, option_and_then, slice_get}
+use Rattle.std.specs.Prelude.{ℕ, Bool, true, false, if◌then◌else◌, List, [], ◌∷◌, ◌++◌, map, length, take, drop, filter, position, Option}
+use Rattle.std.specs.Prelude.{Some, None, Result, Ok, Err, ℤ, pos, codes, unwrap_or, option_and_then, slice_get}
 use Rattle.std.specs.List.{flat_map}
 use Rattle.std.specs.Option.{option_map_or}
 use Rattle.std.specs.Ordering.{int_eq}
@@ -51,7 +52,9 @@ docid_header name = if same_name name (codes "docid") then codes "docid" else co
 
 -- a column's name as declared (own choice)
 abbrev pub header : Content → List ℕ → List ℕ
-header content name = if is_docid name then docid_header name else unwrap_or (option_and_then (slice_get (names_of content.columns)) (column_place content name)) []
+header content name =
+    if is_docid name then docid_header name
+    else unwrap_or (option_and_then (slice_get (names_of content.columns)) (column_place content name)) []
 
 abbrev pub item_headers : List ℕ → Content → Item → List (List ℕ)
 item_headers table content AllColumns = names_of content.columns

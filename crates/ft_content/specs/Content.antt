@@ -73,7 +73,9 @@ is_document width document = length document.1 == width && list_all is_cell docu
 
 -- columns that a Create of this table could make: from 1 to 100 (own choice)
 abbrev pub are_columns : List ℕ → List Column → Bool
-are_columns table columns = nat_lt 0 (length columns) && nat_le (length columns) 100 && list_all is_name (names_of columns) && not (names_clash table (names_of columns))
+are_columns table columns =
+    nat_lt 0 (length columns) && nat_le (length columns) 100 && list_all is_name (names_of columns)
+    && not (names_clash table (names_of columns))
 
 -- what a table of this name may contain
 pub record IsContent (table : List ℕ) (content : Content) : Type 0 where
@@ -122,7 +124,10 @@ gathered (row ∷ rows) = with_cell row (gathered rows)
 
 -- the content that rows are of, if they are of any
 abbrev pub content_in : TableRows → Content
-content_in rows = record { columns = map (λ (c : ℤ × List ℕ). record { name = c.1; indexed = not (list_any (int_eq c.0) rows.skipped) }) rows.columns; documents = gathered rows.cells }
+content_in rows = record {
+  columns = map (λ (c : ℤ × List ℕ). record { name = c.1; indexed = not (list_any (int_eq c.0) rows.skipped) }) rows.columns;
+  documents = gathered rows.cells;
+}
 
 -- A content is read back from its rows.
 abbrev pub RowsAreRead : Type 0

@@ -1,6 +1,7 @@
 -- Meaning. Which fault a command deserves. Which faults there are, their limits, and the order in
 -- which they are tested over a whole command are own choices, but where a section is named.
-use Rattle.std.specs.Prelude.{ℕ, ◌-◌, ◌^◌, Bool, true, false, if◌then◌else◌, not, ◌&&◌, ◌||◌, List, [], ◌∷◌, map, length, zip, Option, Some, None, Result, Ok, Err, ℤ, pos, ◌+ℤ◌, codes, nat_lt, nat_le, ◌==◌, unwrap_or, option_map, is_some, is_none}
+use Rattle.std.specs.Prelude.{ℕ, ◌-◌, ◌^◌, Bool, true, false, if◌then◌else◌, not, ◌&&◌, ◌||◌, List, [], ◌∷◌, map, length, zip, Option, Some, None}
+use Rattle.std.specs.Prelude.{Result, Ok, Err, ℤ, pos, ◌+ℤ◌, codes, nat_lt, nat_le, ◌==◌, unwrap_or, option_map, is_some, is_none}
 use Rattle.std.specs.List.{list_any, list_all, find, flat_map}
 use Rattle.std.specs.Ordering.{int_cmp, int_eq}
 use Rattle.std.specs.FinMap.Entries.{put, find as cells_at}
@@ -10,8 +11,10 @@ use Rattle.ft_query.specs.declared.query.QueryFault.{QueryFault}
 use Rattle.ft_query.specs.declared.query.QueryFault.TheVariants.{Malformed, TooLarge, Memory}
 use Rattle.ft_query.specs.Trees.{Tree}
 use Rattle.ft_values.specs.Cells.{Cell, Null, Int, Text}
-use Rattle.ft_content.specs.Content.{Column, Documents, Content, TableRows, same_name, is_docid, is_name, names_of, repeats_name, names_clash, is_too_long, has_nul}
-use Rattle.ft_content.specs.Command.{Filter, All, Docid, Match, Item, AllColumns, Named, OffsetsOf, Items, Counted, Listed, Command, Create, Drop, Insert, Update, Delete, Select, Rebuild, Check, Optimize}
+use Rattle.ft_content.specs.Content.{Column, Documents, Content, TableRows, same_name, is_docid, is_name, names_of, repeats_name}
+use Rattle.ft_content.specs.Content.{names_clash, is_too_long, has_nul}
+use Rattle.ft_content.specs.Command.{Filter, All, Docid, Match, Item, AllColumns, Named, OffsetsOf, Items, Counted, Listed, Command}
+use Rattle.ft_content.specs.Command.{Create, Drop, Insert, Update, Delete, Select, Rebuild, Check, Optimize}
 use Rattle.ft_content.specs.Answer.{reading, chosen}
 
 -- What the rows of a table are: a content with the right index rows, a content with other index
@@ -81,7 +84,8 @@ create_tests is_there count table module_name options names if_new = first_of (
     ∷ [])
 
 abbrev pub create_fault : Contents → List ℕ → List ℕ → List (List ℕ × List ℕ) → List (List ℕ) → Bool → Option Fault
-create_fault contents table module_name options names if_new = create_tests (is_some (table_named contents table)) (length contents) table module_name options names if_new
+create_fault contents table module_name options names if_new =
+    create_tests (is_some (table_named contents table)) (length contents) table module_name options names if_new
 
 -- names of columns that a table has, docid among them
 abbrev pub has_column : Content → List ℕ → Bool
@@ -217,7 +221,9 @@ update_tests table content sets f = first_of (
     ∷ [])
 
 abbrev pub update_fault : List ℕ → Content → List (List ℕ × Cell) → Filter → Option Fault
-update_fault table content sets f = or_else (update_tests table content sets f) (or_else (query_fault content f) (moves_fault content.documents (chosen content f) (docids_in sets)))
+update_fault table content sets f =
+    or_else (update_tests table content sets f)
+    (or_else (query_fault content f) (moves_fault content.documents (chosen content f) (docids_in sets)))
 
 -- the test of a Delete that comes before its query
 abbrev pub delete_tests : List ℕ → Content → Filter → Option Fault

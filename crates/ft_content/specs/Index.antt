@@ -44,7 +44,11 @@ pub record Entry : Type 0 where
   pub spot : Spot
 
 abbrev pub entry_at : ℤ → Posting → Entry
-entry_at docid p = record { term = p.term; docid = docid; spot = record { column = p.place.column; pos = p.place.pos; place = p.place.start; size = p.place.size } }
+entry_at docid p = record {
+  term = p.term;
+  docid = docid;
+  spot = record { column = p.place.column; pos = p.place.pos; place = p.place.start; size = p.place.size };
+}
 
 -- one entry for each token of a document
 abbrev pub document_entries : List Column → ℤ × List Cell → List Entry
@@ -85,7 +89,8 @@ pub record Size : Type 0 where
 
 abbrev pub document_sizes : List Column → ℤ × List Cell → List Size
 document_sizes columns document =
-    filter (λ (s : Size). nat_lt 0 s.n) (map (λ (c : ℕ × List PlainToken). record { docid = document.0; column = c.0; n = length c.1 }) (enumerate_from 0 (document_tokens columns document.1)))
+    filter (λ (s : Size). nat_lt 0 s.n) (map (λ (c : ℕ × List PlainToken). record { docid = document.0; column = c.0; n = length c.1 })
+    (enumerate_from 0 (document_tokens columns document.1)))
 
 -- by rising docid and then column
 unfoldable pub sizes : Content → List Size
@@ -113,7 +118,10 @@ size_row s = record { docid = s.docid; column = pos s.column; n = pos s.n }
 
 -- the index rows made from scratch out of a content
 unfoldable pub index_rows : Content → IndexRows
-index_rows content = record { lists = map (λ (l : Key × List Spot). (l.0, map stored_spot l.1)) (spot_lists (entries content)); sizes = map size_row (sizes content) }
+index_rows content = record {
+  lists = map (λ (l : Key × List Spot). (l.0, map stored_spot l.1)) (spot_lists (entries content));
+  sizes = map size_row (sizes content);
+}
 
 -- a row for each spot, as the store reads them
 pub record EntryRow : Type 0 where

@@ -30,9 +30,11 @@ content_with columns documents = record { columns = columns; documents = documen
 -- were there.
 pub record PutsDocument (columns : List Column) (documents : Documents) (docid : ℤ) (cells : List Cell) : Type 0 where
   pub own : entries_of docid (entries (content_with columns (put int_cmp docid cells documents))) ≡ document_entries columns (docid, cells)
-  pub others : other_entries docid (entries (content_with columns (put int_cmp docid cells documents))) ≡ other_entries docid (entries (content_with columns documents))
+  pub others : other_entries docid (entries (content_with columns (put int_cmp docid cells documents)))
+      ≡ other_entries docid (entries (content_with columns documents))
   pub own_sizes : sizes_of docid (sizes (content_with columns (put int_cmp docid cells documents))) ≡ document_sizes columns (docid, cells)
-  pub others_sizes : other_sizes docid (sizes (content_with columns (put int_cmp docid cells documents))) ≡ other_sizes docid (sizes (content_with columns documents))
+  pub others_sizes : other_sizes docid (sizes (content_with columns (put int_cmp docid cells documents)))
+      ≡ other_sizes docid (sizes (content_with columns documents))
 
 -- A document that is dropped: the entries and sizes of the others, in their order.
 pub record DropsDocument (columns : List Column) (documents : Documents) (docid : ℤ) : Type 0 where
@@ -55,9 +57,11 @@ ListsAreEntries = (es : List Entry) (term : List ℕ) (docid : ℤ) → find key
 -- Each list after a document is put: of its docid those of its own entries, of the others those
 -- that were there.
 abbrev pub PutsLists : Type 0
-PutsLists = (columns : List Column) (documents : Documents) (docid : ℤ) (cells : List Cell) → IsTrue (is_sorted int_cmp documents) → (term : List ℕ) (other : ℤ) →
+PutsLists =
+    (columns : List Column) (documents : Documents) (docid : ℤ) (cells : List Cell) → IsTrue (is_sorted int_cmp documents) → (term : List ℕ) (other : ℤ) →
     find key_cmp (term, other) (spot_lists (entries (content_with columns (put int_cmp docid cells documents))))
-    ≡ (if int_eq docid other then (some_if_any (spots_in (term, docid) (document_entries columns (docid, cells)))) else (find key_cmp (term, other) (spot_lists (entries (content_with columns documents)))))
+    ≡ (if int_eq docid other then (some_if_any (spots_in (term, docid) (document_entries columns (docid, cells))))
+    else (find key_cmp (term, other) (spot_lists (entries (content_with columns documents)))))
 
 -- Each list after a document is dropped.
 abbrev pub DropsLists : Type 0
@@ -66,7 +70,9 @@ DropsLists = (columns : List Column) (documents : Documents) (docid : ℤ) (term
     ≡ (if int_eq docid other then None else (find key_cmp (term, other) (spot_lists (entries (content_with columns documents)))))
 
 abbrev pub PutsDocuments : Type 0
-PutsDocuments = (columns : List Column) (documents : Documents) (docid : ℤ) (cells : List Cell) → IsTrue (is_sorted int_cmp documents) → PutsDocument columns documents docid cells
+PutsDocuments =
+    (columns : List Column) (documents : Documents) (docid : ℤ) (cells : List Cell) → IsTrue (is_sorted int_cmp documents)
+    → PutsDocument columns documents docid cells
 
 abbrev pub DropsDocuments : Type 0
 DropsDocuments = (columns : List Column) (documents : Documents) (docid : ℤ) → DropsDocument columns documents docid
@@ -90,7 +96,8 @@ put_lists (l ∷ ls) lists = put key_cmp l.0 l.1 (put_lists ls lists)
 -- those made from scratch.
 abbrev pub PlanIsRight : Type 0
 PlanIsRight = (columns : List Column) (documents : Documents) (docid : ℤ) (cells : List Cell) → IsTrue (is_sorted int_cmp documents) →
-    put_lists (document_lists columns docid (Some cells)) (drop_lists (document_lists columns docid (find int_cmp docid documents)) (spot_lists (entries (content_with columns documents))))
+    put_lists (document_lists columns docid (Some cells))
+    (drop_lists (document_lists columns docid (find int_cmp docid documents)) (spot_lists (entries (content_with columns documents))))
     ≡ spot_lists (entries (content_with columns (put int_cmp docid cells documents)))
 
 -- The same of a document that is dropped.
@@ -112,19 +119,24 @@ pub record IndexGoesByDocument : Type 0 where
 -- ---- what a command makes of a content is a content
 
 abbrev pub InsertKeepsContent : Type 0
-InsertKeepsContent = (table : List ℕ) (content : Content) (columns : Option (List (List ℕ))) (rows : List (List Cell)) → IsContent table content → insert_fault content (listed_columns content columns) rows ≡ None →
+InsertKeepsContent =
+    (table : List ℕ) (content : Content) (columns : Option (List (List ℕ))) (rows : List (List Cell)) → IsContent table content
+    → insert_fault content (listed_columns content columns) rows ≡ None →
     IsContent table (record content { documents = inserted content columns rows })
 
 abbrev pub UpdateKeepsContent : Type 0
-UpdateKeepsContent = (table : List ℕ) (content : Content) (sets : List (List ℕ × Cell)) (f : Filter) → IsContent table content → update_fault table content sets f ≡ None →
+UpdateKeepsContent =
+    (table : List ℕ) (content : Content) (sets : List (List ℕ × Cell)) (f : Filter) → IsContent table content → update_fault table content sets f ≡ None →
     IsContent table (record content { documents = updated content sets f })
 
 abbrev pub DeleteKeepsContent : Type 0
-DeleteKeepsContent = (table : List ℕ) (content : Content) (f : Filter) → IsContent table content → IsContent table (record content { documents = deleted content f })
+DeleteKeepsContent =
+    (table : List ℕ) (content : Content) (f : Filter) → IsContent table content → IsContent table (record content { documents = deleted content f })
 
 abbrev pub CreateMakesContent : Type 0
 CreateMakesContent = (contents : Contents) (table module_name : List ℕ) (options : List (List ℕ × List ℕ)) (names : List (List ℕ)) (if_new : Bool) →
-    IsTrue (nat_lt 0 (length names)) → create_fault contents table module_name options names if_new ≡ None → IsContent table (content_with (map (made_column options) names) [])
+    IsTrue (nat_lt 0 (length names)) → create_fault contents table module_name options names if_new ≡ None
+    → IsContent table (content_with (map (made_column options) names) [])
 
 pub record CommandsKeepContent : Type 0 where
   pub create : CreateMakesContent
@@ -136,11 +148,15 @@ pub record CommandsKeepContent : Type 0 where
 
 -- After a document is put its docid is taken, and so is each that was.
 abbrev pub DocidIsTaken : Type 0
-DocidIsTaken = (documents : Documents) (docid other : ℤ) (cells : List Cell) → has_docid (put int_cmp docid cells documents) other ≡ (int_eq other docid || has_docid documents other)
+DocidIsTaken =
+    (documents : Documents) (docid other : ℤ) (cells : List Cell)
+    → has_docid (put int_cmp docid cells documents) other ≡ (int_eq other docid || has_docid documents other)
 
 -- Documents may be cut off before their rows are made.
 abbrev pub RowsAreCutFirst : Type 0
-RowsAreCutFirst = (row : ℤ × List Cell → List Cell) (limit : Option ℕ) (offset : ℕ) (documents : Documents) → cut limit offset (map row documents) ≡ map row (cut limit offset documents)
+RowsAreCutFirst =
+    (row : ℤ × List Cell → List Cell) (limit : Option ℕ) (offset : ℕ) (documents : Documents)
+    → cut limit offset (map row documents) ≡ map row (cut limit offset documents)
 
 pub record GoInPieces : Type 0 where
   pub taken : DocidIsTaken

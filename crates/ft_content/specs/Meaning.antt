@@ -50,7 +50,9 @@ posting_of e = record { term = e.term; place = record { column = e.spot.column; 
 -- if that has its docid
 abbrev pub with_entry : Entry → List Document → List Document
 with_entry e [] = record { docid = e.docid; postings = posting_of e ∷ [] } ∷ []
-with_entry e (d ∷ ds) = if int_eq e.docid d.docid then (record { docid = d.docid; postings = posting_of e ∷ d.postings } ∷ ds) else (record { docid = e.docid; postings = posting_of e ∷ [] } ∷ d ∷ ds)
+with_entry e (d ∷ ds) =
+    if int_eq e.docid d.docid then (record { docid = d.docid; postings = posting_of e ∷ d.postings } ∷ ds)
+    else (record { docid = e.docid; postings = posting_of e ∷ [] } ∷ d ∷ ds)
 
 unfoldable pub grouped : List Entry → List Document
 grouped [] = []

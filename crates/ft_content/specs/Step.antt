@@ -8,7 +8,8 @@ use Rattle.ft_values.specs.Cells.{Cell}
 use Rattle.ft_content.specs.Content.{Column, Documents, Content, same_name}
 use Rattle.ft_content.specs.Command.{Filter, Items, Command, Create, Drop, Insert, Update, Delete, Select, Rebuild, Check, Optimize, Reply, Done, Rows}
 use Rattle.ft_content.specs.Answer.{is_chosen, chosen, answer}
-use Rattle.ft_content.specs.Deserved.{TableState, Sound, Stale, Loose, Table, Contents, table_named, is_notindexed, made_columns, listed_columns, docids_in, has_docid, with_values, insert_rows, deserved}
+use Rattle.ft_content.specs.Deserved.{TableState, Sound, Stale, Loose, Table, Contents, table_named, is_notindexed, made_columns}
+use Rattle.ft_content.specs.Deserved.{listed_columns, docids_in, has_docid, with_values, insert_rows, deserved}
 
 -- the least positive id that no table has, from n on (own choice); the tables stand by rising id
 abbrev pub free_id_from : ℕ → Contents → ℕ
@@ -23,7 +24,9 @@ abbrev pub new_table : List ℕ → List (List ℕ × List ℕ) → List (List �
 new_table name options names = record { name = name; held = Sound (record { columns = map (made_column options) names; documents = [] }) }
 
 abbrev pub created : Contents → List ℕ → List (List ℕ × List ℕ) → List (List ℕ) → Contents
-created contents name options names = if is_some (table_named contents name) then contents else put int_cmp (pos (free_id_from 1 contents)) (new_table name options names) contents
+created contents name options names =
+    if is_some (table_named contents name) then contents
+    else put int_cmp (pos (free_id_from 1 contents)) (new_table name options names) contents
 
 abbrev pub dropped : Contents → List ℕ → Contents
 dropped contents name = filter (λ (t : ℤ × Table). not (same_name t.1.name name)) contents
@@ -34,7 +37,8 @@ inserted_into documents (Err fault) = documents
 
 -- the documents after an Insert ("Populating FTS Tables")
 abbrev pub inserted : Content → Option (List (List ℕ)) → List (List Cell) → Documents
-inserted content columns rows = inserted_into content.documents (insert_rows content.columns (map (zip (listed_columns content columns)) rows) content.documents)
+inserted content columns rows =
+    inserted_into content.documents (insert_rows content.columns (map (zip (listed_columns content columns)) rows) content.documents)
 
 abbrev pub without_docid : ℤ → Documents → Documents
 without_docid docid documents = where_key int_cmp (λ d. not (int_eq docid d)) documents
@@ -69,7 +73,8 @@ rebuilt (Loose rows) = Loose rows
 
 -- the tables after the one of this name changed
 abbrev pub on_table : Contents → List ℕ → (TableState → TableState) → Contents
-on_table contents name change = map (λ (t : ℤ × Table). if same_name t.1.name name then (t.0, record { name = t.1.name; held = change t.1.held }) else t) contents
+on_table contents name change =
+    map (λ (t : ℤ × Table). if same_name t.1.name name then (t.0, record { name = t.1.name; held = change t.1.held }) else t) contents
 
 -- The contents after a command that deserves no fault. Update and Delete choose on the content as
 -- it was, and Optimize changes nothing (own choices).

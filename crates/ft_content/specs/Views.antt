@@ -55,7 +55,8 @@ abbrev pub option_of : String Global × String Global → List ℕ × List ℕ
 option_of o = (string_bytes o.0, string_bytes o.1)
 
 abbrev pub command_of : Command → plain.Command
-command_of (commands.Create table module_name options columns if_new) = plain.Create (string_bytes table) (string_bytes module_name) (map option_of options.items) (names_in columns) if_new
+command_of (commands.Create table module_name options columns if_new) =
+    plain.Create (string_bytes table) (string_bytes module_name) (map option_of options.items) (names_in columns) if_new
 command_of (commands.Drop table if_there) = plain.Drop (string_bytes table) if_there
 command_of (commands.Insert table columns rows) = plain.Insert (string_bytes table) (option_map names_in columns) (rows_of rows)
 command_of (commands.Update table sets f) = plain.Update (string_bytes table) (map set_of sets.items) (filter_of f)

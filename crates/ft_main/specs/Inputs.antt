@@ -1,6 +1,7 @@
 -- Meaning. The inputs of a command line, run in turn over two databases, and what is told of how
 -- that ends (own choice).
-use Rattle.std.specs.Prelude.{ℕ, ◌≡◌, ◌⊎◌, ◌^◌, ◌-◌, ◌++◌, ◌==◌, min, if◌then◌else◌, MatchBool, MatchResult, List, [], ◌∷◌, map, codes, Option, Some, None, Result, Ok, Err}
+use Rattle.std.specs.Prelude.{ℕ, ◌≡◌, ◌⊎◌, ◌^◌, ◌-◌, ◌++◌, ◌==◌, min, if◌then◌else◌, MatchBool, MatchResult, List, [], ◌∷◌, map}
+use Rattle.std.specs.Prelude.{codes, Option, Some, None, Result, Ok, Err}
 use Rattle.sqlite.specs.Store.{Ghosts}
 use Rattle.sqlite.specs.Held.{Held}
 use Rattle.shell_text.specs.Print.{Settings}

@@ -1,6 +1,7 @@
 -- Steps. The parts of a text as the lexer finds them, byte by byte, and what the parser keeps
 -- between lexemes, without where it lies in memory: the states of the pass in `Pass`.
-use Rattle.std.specs.Prelude.{ℕ, ◌==◌, ◌||◌, Bool, true, false, nat_lt, if◌then◌else◌, List, [], ◌∷◌, ◌++◌, map, min, reverse, sum_by, option_map, Option, Some, None, Result}
+use Rattle.std.specs.Prelude.{ℕ, ◌==◌, ◌||◌, Bool, true, false, nat_lt, if◌then◌else◌, List, [], ◌∷◌, ◌++◌, map, min, reverse}
+use Rattle.std.specs.Prelude.{sum_by, option_map, Option, Some, None, Result}
 use Rattle.std.specs.List.{list_any}
 use Rattle.std.specs.Str.{byte}
 use Rattle.ft_query.specs.declared.query.QueryFault.{QueryFault}
@@ -12,7 +13,8 @@ use Rattle.ft_query.specs.declared.machine.Last.{Last as CodeLast}
 use Rattle.ft_query.specs.declared.machine.Last.TheVariants as last
 use Rattle.ft_query.specs.declared.machine.State.{State as CodeState}
 use Rattle.ft_query.specs.Trees.{Tree, plain_term, plain_phrase, plain_link, tree_of}
-use Rattle.ft_query.specs.Lexemes.{Lexeme, open_paren, close_paren, and_word, or_word, not_word, near_word, filter_on, word, quoted, Part, open_part, close_part, quoted_part, chunk_part, unclosed_part, is_space, is_quote}
+use Rattle.ft_query.specs.Lexemes.{Lexeme, open_paren, close_paren, and_word, or_word, not_word, near_word, filter_on, word, quoted, Part}
+use Rattle.ft_query.specs.Lexemes.{open_part, close_part, quoted_part, chunk_part, unclosed_part, is_space, is_quote}
 use Rattle.ft_query.specs.Reads.{term_count, is_far, nests_deep, query_unless}
 use Rattle.ft_query.specs.Pass.{Waiting, Last, State, operator, filtered, chained, near_to, near_filtered, whole}
 

@@ -1,6 +1,7 @@
 -- Meaning. The packed list: the spots of one term in one document as bytes (own choice; the numbers
 -- are not those of "Variable Length Integer (varint) Format").
-use Rattle.std.specs.Prelude.{◌≡◌, ℕ, zero, suc, ◌+◌, ◌-◌, ◌*◌, ◌/◌, ◌%◌, ◌<◌, ℤ, pos, negsuc, option_map, Bool, true, false, ◌&&◌, ◌||◌, List, [], ◌∷◌, map, Option, Some, None, nat_lt, nat_le, ◌==◌, slice_index, IsTrue, if◌then◌else◌}
+use Rattle.std.specs.Prelude.{◌≡◌, ℕ, zero, suc, ◌+◌, ◌-◌, ◌*◌, ◌/◌, ◌%◌, ◌<◌, ℤ, pos, negsuc, option_map, Bool, true, false, ◌&&◌, ◌||◌, List}
+use Rattle.std.specs.Prelude.{[], ◌∷◌, map, Option, Some, None, nat_lt, nat_le, ◌==◌, slice_index, IsTrue, if◌then◌else◌}
 use Rattle.std.specs.List.{flat_map}
 use Rattle.std.specs.Option.{option_and_then}
 use Rattle.ft_values.specs.declared.rows.Spot.{Spot as StoredSpot}
@@ -120,4 +121,5 @@ PackedIsExact = (ss ts : List Spot) → IsTrue (are_spots ss) → IsTrue (are_sp
 
 -- What is read is the packed list of spots that a posting may have, so any other bytes are damaged.
 abbrev pub OnlyPackedIsRead : Type 0
-OnlyPackedIsRead = (bytes : List ℕ) (ss : List Spot) → ((i : ℕ) → slice_index bytes i < 256) → unpacked bytes ≡ Some ss → IsTrue (are_spots ss) × (packed ss ≡ bytes)
+OnlyPackedIsRead =
+    (bytes : List ℕ) (ss : List Spot) → ((i : ℕ) → slice_index bytes i < 256) → unpacked bytes ≡ Some ss → IsTrue (are_spots ss) × (packed ss ≡ bytes)

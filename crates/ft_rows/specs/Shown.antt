@@ -1,5 +1,6 @@
 -- Meaning. The rows that reads give, as rows under their keys.
-use Rattle.std.specs.Prelude.{◌≡◌, ◌≢◌, ℕ, ℤ, Bool, false, ◌&&◌, ◌||◌, List, [], ◌∷◌, map, length, sum_by, reverse, nat_eq, slice_get, Option, option_map, string_bytes, String}
+use Rattle.std.specs.Prelude.{◌≡◌, ◌≢◌, ℕ, ℤ, Bool, false, ◌&&◌, ◌||◌, List, [], ◌∷◌, map, length, sum_by, reverse, nat_eq}
+use Rattle.std.specs.Prelude.{slice_get, Option, option_map, string_bytes, String}
 use Rattle.std.specs.List.{AllByRecursion, flat_map, list_any, starts_with}
 use Rattle.std.specs.Str.{str_eq_ignore_ascii_case}
 use Rattle.std.specs.declared.alloc.Global.{Global}

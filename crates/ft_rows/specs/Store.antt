@@ -97,13 +97,20 @@ with_skipped tab (column ∷ columns) skipped = with_skipped tab columns (put co
 abbrev pub without_key : {K X : Type 0} → (K → K → Ordering) → K → List (K × X) → List (K × X)
 without_key R key rows = where_key R (λ k. not (eq_by_cmp R key k)) rows
 
+-- with a name noted in its latest spelling
+abbrev pub with_note : List ℕ → StoreValue → StoreValue
+with_note name store = record store { noted = put name_cmp (without_case name) name store.noted }
+
 -- A table that is added has its columns, with the numbers of those that are not indexed by rising
--- number, and no other row. A row that is put replaces the one of its key. A note keeps the latest
--- spelling.
+-- number, and no other row. A row that is put replaces the one of its key.
 abbrev pub applied : Change → StoreValue → StoreValue
 applied (AddTable id name columns skipped) store =
     let bare = without_rows id store in
-    record bare { tables = put int_cmp id name bare.tables; columns = with_columns id (enumerate_from 0 columns) bare.columns; skipped = with_skipped id skipped bare.skipped }
+    record bare {
+      tables = put int_cmp id name bare.tables;
+      columns = with_columns id (enumerate_from 0 columns) bare.columns;
+      skipped = with_skipped id skipped bare.skipped;
+    }
 applied (DropTable id) store = without_rows id store
 applied (PutCell tab docid column value) store = record store { cells = put cell_key_cmp (tab, docid, column) value store.cells }
 applied (DropCells tab docid) store = record store { cells = where_key cell_key_cmp (λ k. not (int_eq tab k.0 && int_eq docid k.1)) store.cells }
@@ -112,7 +119,7 @@ applied (DropEntries tab term docid) store = record store { lists = without_key 
 applied (PutSize tab docid column n) store = record store { sizes = put cell_key_cmp (tab, docid, column) n store.sizes }
 applied (DropSize tab docid column) store = record store { sizes = without_key cell_key_cmp (tab, docid, column) store.sizes }
 applied (ClearIndex tab) store = without_index tab store
-applied (Note name) store = record store { noted = put name_cmp (without_case name) name store.noted }
+applied (Note name) store = with_note name store
 
 -- in their order
 abbrev pub all_applied : List Change → StoreValue → StoreValue

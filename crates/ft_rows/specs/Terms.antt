@@ -27,7 +27,8 @@ run_with first ps = prefix_len (λ p. int_eq p.docid first.docid) ps
 -- so many postings are the first list
 abbrev pub AreFirstList : List Posting → ℕ → Type 0
 AreFirstList [] n = n ≡ 0
-AreFirstList (p ∷ ps) n = (0 < n) × (n ≤ length (p ∷ ps)) × (lists_of_postings (p ∷ ps) ≡ (p.docid, map spot_of (take n (p ∷ ps))) ∷ lists_of_postings (drop n (p ∷ ps)))
+AreFirstList (p ∷ ps) n =
+    (0 < n) × (n ≤ length (p ∷ ps)) × (lists_of_postings (p ∷ ps) ≡ (p.docid, map spot_of (take n (p ∷ ps))) ∷ lists_of_postings (drop n (p ∷ ps)))
 
 -- the lists of one term in a table, and those of terms one after another
 abbrev pub lists_under : ℤ → TermLists → List (ListKey × List Spot)

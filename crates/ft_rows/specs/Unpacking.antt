@@ -10,7 +10,12 @@ abbrev pub next_numbers : ℕ → List ℕ → Option (List ℕ)
 next_numbers b ns = if nat_lt b 128 then Some (b ∷ ns) else going_on b ns
 
 abbrev pub spot_from : Spot → ℕ → ℕ → ℕ → ℕ → Spot
-spot_from last c p l z = record { column = last.column + c; pos = (if c == 0 then last.pos else 0) + p; place = (if c == 0 then last.place else 0) + l; size = z }
+spot_from last c p l z = record {
+  column = last.column + c;
+  pos = (if c == 0 then last.pos else 0) + p;
+  place = (if c == 0 then last.place else 0) + l;
+  size = z;
+}
 
 abbrev pub passes : Bool → Spot → Spot → Bool
 passes first last s = is_spot s && (first || is_after last s)

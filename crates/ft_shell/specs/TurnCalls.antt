@@ -12,7 +12,8 @@ use Rattle.ft_index.specs.Called.{Call, Executed, Noted}
 use Rattle.ft_statements.specs.Words.{tokens_of}
 use Rattle.ft_statements.specs.Plain.{asks, made_name}
 use Rattle.ft_statements.specs.Statements.{Class, Plain, FullText as FullTextClass, class_of}
-use Rattle.ft_statements.specs.Dots.{DotCommand, Import, Nothing, SetMode, SetHeaders, SetSeparator, SetNull, SetEcho, SetBail, Print, Importing, Tables, Quit, Usage, Unknown}
+use Rattle.ft_statements.specs.Dots.{DotCommand, Import, Nothing, SetMode, SetHeaders, SetSeparator, SetNull, SetEcho, SetBail, Print}
+use Rattle.ft_statements.specs.Dots.{Importing, Tables, Quit, Usage, Unknown}
 use Rattle.ft_shell.specs.Shell.{Shell}
 use Rattle.plain_shell.specs.Sources.{Files}
 use Rattle.plain_shell.specs.Imports.{delimiter_of, row_cells}

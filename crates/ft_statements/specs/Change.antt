@@ -1,4 +1,4 @@
--- Meaning. Filters, UPDATE and DELETE ("Populating FTS Tables", "Simple FTS Queries"), read step by
+-- Steps. Filters, UPDATE and DELETE ("Populating FTS Tables", "Simple FTS Queries"), read step by
 -- step. That the forms of Grammar are read so, and no others, is a law.
 use Rattle.std.specs.Prelude.{ℕ, List, [], ◌∷◌, Option, Some, None, codes}
 use Rattle.std.specs.Option.{option_or}

@@ -8,7 +8,8 @@ use Rattle.shell_text.specs.declared.settings.Mode.{Mode}
 use Rattle.shell_text.specs.declared.settings.Mode.TheVariants as modes
 use Rattle.ft_statements.specs.Values.{digits_value}
 use Rattle.ft_statements.specs.Grammar.{IsSame}
-use Rattle.ft_statements.specs.Dots.{Import, DotCommand, Nothing, SetMode, SetHeaders, SetSeparator, SetNull, SetEcho, SetBail, Print, Importing, Tables, Quit, Usage, Unknown}
+use Rattle.ft_statements.specs.Dots.{Import, DotCommand, Nothing, SetMode, SetHeaders, SetSeparator, SetNull, SetEcho, SetBail, Print}
+use Rattle.ft_statements.specs.Dots.{Importing, Tables, Quit, Usage, Unknown}
 
 -- list | csv | column | quote          ("Changing Output Formats")
 pub data IsMode : List ℕ → Mode → Type 0 where

@@ -1,7 +1,8 @@
 -- Meaning. Which dot-command a line's words are ("Command Line Shell For SQLite": the sections
 -- "Special commands to sqlite3", "Changing Output Formats", "Importing files as CSV or other
 -- formats"). Names are exact, and each command has just these words: own choices.
-use Rattle.std.specs.Prelude.{ℕ, nat_le, nat_lt, Bool, true, false, ◌&&◌, ◌||◌, List, [], ◌∷◌, length, Option, Some, None, option_map, if◌then◌else◌, codes, bytes_eq}
+use Rattle.std.specs.Prelude.{ℕ, nat_le, nat_lt, Bool, true, false, ◌&&◌, ◌||◌, List, [], ◌∷◌, length, Option, Some, None}
+use Rattle.std.specs.Prelude.{option_map, if◌then◌else◌, codes, bytes_eq}
 use Rattle.std.specs.List.{list_all}
 use Rattle.std.specs.Char.{is_ascii_digit}
 use Rattle.std.specs.Str.{str_eq_ignore_ascii_case}
@@ -120,7 +121,8 @@ alone command usage (word ∷ words) = Usage usage
 unfoldable pub print_command : List ℕ → List (List ℕ) → Option DotCommand
 print_command name words =
     if bytes_eq name (codes "mode") then Some (or_usage (codes ".mode list|csv|column|quote") (option_map SetMode (mode_in words)))
-    else if bytes_eq name (codes "headers") || bytes_eq name (codes "header") then Some (or_usage (codes ".headers BOOL") (option_map SetHeaders (switch_in words)))
+    else if bytes_eq name (codes "headers") || bytes_eq name (codes "header")
+    then Some (or_usage (codes ".headers BOOL") (option_map SetHeaders (switch_in words)))
     else if bytes_eq name (codes "separator") then Some (or_usage (codes ".separator TEXT") (option_map SetSeparator (lone words)))
     else if bytes_eq name (codes "nullvalue") then Some (or_usage (codes ".nullvalue TEXT") (option_map SetNull (lone words)))
     else None

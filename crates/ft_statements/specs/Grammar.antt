@@ -7,7 +7,8 @@ use Rattle.std.specs.Prelude.{◌≡◌, ℕ, ◌^◌, ◌<◌, ◌≤◌, ◌�
 use Rattle.std.specs.List.{Any}
 use Rattle.std.specs.Str.{str_eq_ignore_ascii_case}
 use Rattle.ft_content.specs.Content.{Cell, Null, Int, Text}
-use Rattle.ft_content.specs.Command.{Command, Create, Drop, Insert, Update, Delete, Select, Rebuild, Check, Optimize, Filter, All, Docid, Match, Item, AllColumns, Named, OffsetsOf, Items, Counted, Listed}
+use Rattle.ft_content.specs.Command.{Command, Create, Drop, Insert, Update, Delete, Select, Rebuild, Check, Optimize, Filter, All}
+use Rattle.ft_content.specs.Command.{Docid, Match, Item, AllColumns, Named, OffsetsOf, Items, Counted, Listed}
 use Rattle.ft_statements.specs.Words.{Token, is_keyword, is_symbol, name_of, literal_of}
 use Rattle.ft_statements.specs.Values.{number_of}
 use Rattle.ft_statements.specs.Create.{Argument, Setting, Column, joined, settings_in, columns_in}

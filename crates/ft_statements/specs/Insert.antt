@@ -1,4 +1,4 @@
--- Meaning. INSERT ("Populating FTS Tables") and the special commands ("Special Commands For FTS3
+-- Steps. INSERT ("Populating FTS Tables") and the special commands ("Special Commands For FTS3
 -- and FTS4"), read step by step. That the forms of Grammar are read so, and no others, is a law.
 use Rattle.std.specs.Prelude.{ℕ, List, [], ◌∷◌, Option, Some, None, if◌then◌else◌, codes}
 use Rattle.std.specs.Str.{str_eq_ignore_ascii_case}

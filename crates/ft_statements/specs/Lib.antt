@@ -3,9 +3,6 @@ pub mod Words
 pub mod Reading
 pub mod Values
 pub mod Create
-pub mod Insert
-pub mod Change
-pub mod Select
 pub mod Statements
 pub mod Plain
 pub mod Dots
@@ -15,6 +12,9 @@ pub mod Settings
 pub mod Grammar
 pub mod DotGrammar
 -- Steps
+pub mod Insert
+pub mod Change
+pub mod Select
 pub mod Views
 pub mod Classes
 pub mod DotViews

@@ -1,10 +1,11 @@
--- Meaning. SELECT ("Simple FTS Queries", "The Offsets Function"), read step by step. That the form
+-- Steps. SELECT ("Simple FTS Queries", "The Offsets Function"), read step by step. That the form
 -- of Grammar is read so, and no other, is a law.
 use Rattle.std.specs.Prelude.{ℕ, List, [], ◌∷◌, Option, Some, None, codes}
 use Rattle.std.specs.Option.{option_or}
 use Rattle.ft_content.specs.Command.{Command, Item, Items, AllColumns, Named, OffsetsOf, Counted, Listed, Select}
 use Rattle.ft_statements.specs.Words.{Token}
-use Rattle.ft_statements.specs.Reading.{Reads, ◌>>=◌, whole, token_at, name_at, keyword_at, keywords_at, symbol_at, optional, parenthesized, parts, with_last, only}
+use Rattle.ft_statements.specs.Reading.{Reads, ◌>>=◌, whole, token_at, name_at, keyword_at, keywords_at, symbol_at, optional}
+use Rattle.ft_statements.specs.Reading.{parenthesized, parts, with_last, only}
 use Rattle.ft_statements.specs.Values.{count_of}
 use Rattle.ft_statements.specs.Insert.{only_name}
 use Rattle.ft_statements.specs.Change.{key_at, where_at}

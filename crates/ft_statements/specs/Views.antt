@@ -55,12 +55,14 @@ abbrev pub texts_of : {A : Type 0} → Vec (String Global) A → List (List ℕ)
 texts_of texts = map string_bytes texts.items
 
 -- options and columns, as those among arguments
-pub record AreSortedOf {A B : Type 0} (all : List forms.Argument) (options : Vec (String Global × String Global) A) (names : Vec (String Global) B) : Type 0 where
+pub record AreSortedOf {A B : Type 0} (all : List forms.Argument) (options : Vec (String Global × String Global) A)
+    (names : Vec (String Global) B) : Type 0 where
   pub settings : settings_as options ≡ forms.settings_in all
   pub columns : texts_of names ≡ forms.columns_in all
 
 -- an argument is put behind the options or behind the columns
-pub record AddsArgument {A B : Type 0} (argument : forms.Argument) (options new_options : Vec (String Global × String Global) A) (names new_names : Vec (String Global) B) : Type 0 where
+pub record AddsArgument {A B : Type 0} (argument : forms.Argument) (options new_options : Vec (String Global × String Global) A)
+    (names new_names : Vec (String Global) B) : Type 0 where
   pub settings : settings_as new_options ≡ settings_as options ++ forms.settings_in (argument ∷ [])
   pub columns : texts_of new_names ≡ texts_of names ++ forms.columns_in (argument ∷ [])
 

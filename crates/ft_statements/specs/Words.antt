@@ -1,7 +1,8 @@
 -- Meaning. The words of a statement with their texts: keywords, names, texts and numbers. Names and
 -- literals are those of the SQLite document "SQL Language Expressions" (section "Literal Values
 -- (Constants)") and of its page "SQLite Keywords".
-use Rattle.std.specs.Prelude.{ℕ, ◌+◌, ◌-◌, Bool, true, false, ◌==◌, ◌&&◌, List, [], ◌∷◌, map, length, take, slice_range, Option, Some, None, if◌then◌else◌, bytes_eq, chars, encode_utf8_all}
+use Rattle.std.specs.Prelude.{ℕ, ◌+◌, ◌-◌, Bool, true, false, ◌==◌, ◌&&◌, List, [], ◌∷◌, map, length, take, slice_range, Option}
+use Rattle.std.specs.Prelude.{Some, None, if◌then◌else◌, bytes_eq, chars, encode_utf8_all}
 use Rattle.std.specs.Str.{str_eq_ignore_ascii_case}
 use Rattle.shell_text.specs.Words.{words_of}
 use Rattle.shell_text.specs.declared.words.SqlWord.{SqlWord}

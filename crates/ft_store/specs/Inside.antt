@@ -33,23 +33,27 @@ abbrev pub StepsInsideIfOpen : {S : Type 0} → Ghosts S → MutBor (Held S) →
 StepsInsideIfOpen g old new result f = DoneInside g old new result (StepsIfOpen g old.now new.now result f)
 
 -- the same, where no row has the new one's key
-abbrev pub AddsInside : {S : Type 0} → Ghosts S → MutBor (Held S) → MutBor (Held S) → Result (Unit {0}) StoreFault → (StoreValue → Type 0) → (StoreValue → StoreValue) → Type 0
+abbrev pub AddsInside : {S : Type 0} → Ghosts S → MutBor (Held S) → MutBor (Held S) → Result (Unit {0}) StoreFault → (StoreValue → Type 0)
+    → (StoreValue → StoreValue) → Type 0
 AddsInside g old new result IsFree f = DoneInside g old new result (AddsOnOk g old.now new.now result IsFree f)
 
 -- of a database with the one property one with the other is made
-abbrev pub MakesInside : {S : Type 0} → Ghosts S → MutBor (Held S) → MutBor (Held S) → Result (Unit {0}) StoreFault → (Database → Type 0) → (Database → Database → Type 0) → Type 0
+abbrev pub MakesInside : {S : Type 0} → Ghosts S → MutBor (Held S) → MutBor (Held S) → Result (Unit {0}) StoreFault → (Database → Type 0)
+    → (Database → Database → Type 0) → Type 0
 MakesInside g old new result Before After = DoneInside g old new result (MakesOnOk g old.now new.now result Before After)
 
 -- the statement is run
 abbrev pub RunsOnOk : {S : Type 0} → Ghosts S → Held S → Held S → Result (Unit {0}) StoreFault → List ℕ → Row → Type 0
 RunsOnOk g old new result sql params =
-    HasCleanDisk (state g new) → IsTrue (state g old).in_transaction → OnOk result ((count : ℕ) × ExecutesInside 0 sql params (state g old) (state g new) (Ok count))
+    HasCleanDisk (state g new) → IsTrue (state g old).in_transaction
+    → OnOk result ((count : ℕ) × ExecutesInside 0 sql params (state g old) (state g new) (Ok count))
 
 -- the statement is run, or it breaks a rule of a table and changes nothing
 abbrev pub RunsOrKeeps : {S : Type 0} → Ghosts S → Held S → Held S → Result Bool StoreFault → List ℕ → Row → Type 0
 RunsOrKeeps g old new result sql params =
     HasCleanDisk (state g new) → IsTrue (state g old).in_transaction
-    → IfOk result (λ added. MatchBool added ((count : ℕ) × ExecutesInside 0 sql params (state g old) (state g new) (Ok count)) (IsUnchanged (state g old) (state g new)))
+    → IfOk result (λ added. MatchBool added ((count : ℕ) × ExecutesInside 0 sql params (state g old) (state g new) (Ok count))
+    (IsUnchanged (state g old) (state g new)))
 
 -- the statement makes the table of its text, in a database without rows
 abbrev pub CreatesOnOk : {S : Type 0} → Ghosts S → Held S → Held S → Result (Unit {0}) StoreFault → List ℕ → Type 0

@@ -41,7 +41,8 @@ more_rows n s = min (s.rows_read + n) (2 ^ 64 - 1)
 -- What a read of a store leaves, whatever it is answered: what is seen stays, and an answer leaves
 -- the database open; a crash leaves what it could leave before; and an answer counts so many rows
 -- more. It is refused for such a reason.
-pub record ReadsRows {S X : Type 0} (g : Ghosts S) (old new : StoreState S) (result : Result X StoreFault) (count : X → ℕ) (IsFault : StoreFault → Type 0) : Type 0 where
+pub record ReadsRows {S X : Type 0} (g : Ghosts S) (old new : StoreState S) (result : Result X StoreFault) (count : X → ℕ)
+    (IsFault : StoreFault → Type 0) : Type 0 where
   pub kept : HasCleanDisk (shows g new) → Keeps (shows g old) (shows g new)
   pub live : HasCleanDisk (shows g new) → OnOk result (IsTrue (shows g new).is_open)
   pub survives : Survives (shows g old) (shows g new) (λ _. IsTrue (shows g old).is_open → ⊥)

@@ -1,6 +1,7 @@
 -- Meaning
 pub mod Adopted
 pub mod Calls
+pub mod Docids
 pub mod Kept
 pub mod Older
 pub mod Rows

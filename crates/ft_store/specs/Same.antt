@@ -8,7 +8,8 @@ IsNamed table name tree key primary = (table.name ≡ name) × (table.tree ≡ t
 
 -- nothing that tables of a store don't have
 abbrev pub HasNoMore : Table → Type 0
-HasNoMore table = (table.references ≡ []) × (table.computed ≡ []) × (table.stamps ≡ record { places = []; terms = []; formats = [] }) × (table.is_counted ≡ false)
+HasNoMore table =
+    (table.references ≡ []) × (table.computed ≡ []) × (table.stamps ≡ record { places = []; terms = []; formats = [] }) × (table.is_counted ≡ false)
 
 -- the one key that has an index
 abbrev pub IsKeyed : Table → List ℕ → ℕ → Type 0

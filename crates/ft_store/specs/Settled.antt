@@ -68,7 +68,8 @@ pub record LeavesAlone (old new : State) : Type 0 where
 -- What one transaction makes of a database, and what it leaves whatever it is answered: all of it
 -- on Ok, with the connection open, and else nothing; a crash leaves what it could leave before, or
 -- all of it. It is refused for such a reason.
-pub record MakesWhole (old new : State) (result : Result (Unit {0}) StoreFault) (IsMade : Database → Type 0) (IsLeft : Trees → Type 0) (IsFault : StoreFault → Type 0) : Type 0 where
+pub record MakesWhole (old new : State) (result : Result (Unit {0}) StoreFault) (IsMade : Database → Type 0)
+    (IsLeft : Trees → Type 0) (IsFault : StoreFault → Type 0) : Type 0 where
   pub all : HasCleanDisk new → OnOk result (IsMade new.now)
   pub none : HasCleanDisk new → OnErr result (Keeps old new)
   pub live : HasCleanDisk new → OnOk result (IsTrue new.is_open)
@@ -109,7 +110,8 @@ GivesLists g old new result asked = ReadsLists g old new result (λ found. AreRe
 
 -- each place in them, with its term, which is known
 abbrev pub GivesEntries : {S : Type 0} → Ghosts S → Held S → Held S → Result (Vec EntryRow Global) StoreFault → List (ListKey × List Spot) → Type 0
-GivesEntries g old new result asked = ReadsLists g old new result (λ found. (map shown_entry found.items ≡ entries_of asked) × AreWhole asked) (SomeDamaged asked)
+GivesEntries g old new result asked =
+    ReadsLists g old new result (λ found. (map shown_entry found.items ≡ entries_of asked) × AreWhole asked) (SomeDamaged asked)
 
 -- the same, where the terms are read: each is a text
 abbrev pub GivesTold : {S : Type 0} → Ghosts S → Held S → Held S → Result (Vec EntryRow Global) StoreFault → List (ListKey × List Spot) → Type 0

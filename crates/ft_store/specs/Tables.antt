@@ -53,14 +53,17 @@ abbrev pub meta_table : ℕ → Table
 meta_table tree = a_table tree (codes "meta") (a_column (codes "one") Integer false Binary ∷ number (codes "version") ∷ []) (Some 0) (0 ∷ []) [] [] []
 
 abbrev pub tab_table : ℕ → Table
-tab_table tree = a_table tree (codes "tab") (a_column (codes "id") Integer false Binary ∷ a_column (codes "name") Text true NoCase ∷ []) (Some 0) (0 ∷ []) ((2 ∷ []) ∷ []) (case_order ∷ []) []
+tab_table tree =
+    a_table tree (codes "tab") (a_column (codes "id") Integer false Binary ∷ a_column (codes "name") Text true NoCase ∷ []) (Some 0) (0 ∷ [])
+    ((2 ∷ []) ∷ []) (case_order ∷ []) []
 
 abbrev pub col_table : ℕ → Table
 col_table tree = keyed_table tree (codes "col") (number (codes "tab") ∷ number (codes "col") ∷ a_column (codes "name") Text true Binary ∷ []) (1 ∷ 2 ∷ []) []
 
 abbrev pub cell_table : ℕ → Table
 cell_table tree = keyed_table tree (codes "cell")
-    (number (codes "tab") ∷ number (codes "docid") ∷ number (codes "col") ∷ a_column (codes "num") Integer false Binary ∷ a_column (codes "txt") Text false Binary ∷ [])
+    (number (codes "tab") ∷ number (codes "docid") ∷ number (codes "col")
+    ∷ a_column (codes "num") Integer false Binary ∷ a_column (codes "txt") Text false Binary ∷ [])
     (1 ∷ 2 ∷ 3 ∷ []) (op2 Or (op2 (Is Binary) (col 1 4) (lit Null)) (op2 (Is Binary) (col 1 5) (lit Null)) ∷ [])
 
 abbrev pub posting_table : ℕ → Table
@@ -69,7 +72,8 @@ posting_table tree = keyed_table tree (codes "posting")
     (1 ∷ 2 ∷ 3 ∷ []) []
 
 abbrev pub sizes_table : ℕ → Table
-sizes_table tree = keyed_table tree (codes "sizes") (number (codes "tab") ∷ number (codes "docid") ∷ number (codes "col") ∷ number (codes "n") ∷ []) (1 ∷ 2 ∷ 3 ∷ []) []
+sizes_table tree =
+    keyed_table tree (codes "sizes") (number (codes "tab") ∷ number (codes "docid") ∷ number (codes "col") ∷ number (codes "n") ∷ []) (1 ∷ 2 ∷ 3 ∷ []) []
 
 abbrev pub noted_table : ℕ → Table
 noted_table tree = a_table tree (codes "noted") (a_column (codes "name") Text true NoCase ∷ []) None (1 ∷ []) ((1 ∷ []) ∷ []) (case_order ∷ []) []

@@ -2,7 +2,8 @@
 -- ("Importing files as CSV or other formats" of "Command Line Shell For SQLite"; that an import is
 -- one command is an own choice). All that is said of a step has the premise that the disk is clean
 -- as the step ends; then it was clean as the step began.
-use Rattle.std.specs.Prelude.{ℕ, Bool, ◌≡◌, ◌⊎◌, ◌<◌, ◌≤◌, List, [], ◌∷◌, ◌++◌, map, true, false, Option, Some, None, Result, Ok, Err, IfOk, OnOk, IsErrOf, is_ok, IsTrue}
+use Rattle.std.specs.Prelude.{ℕ, Bool, ◌≡◌, ◌⊎◌, ◌<◌, ◌≤◌, List, [], ◌∷◌, ◌++◌, map, true, false, Option, Some, None, Result, Ok}
+use Rattle.std.specs.Prelude.{Err, IfOk, OnOk, IsErrOf, is_ok, IsTrue}
 use Rattle.std.specs.Borrow.{MutBor}
 use Rattle.sqlite_value.specs.Order.{Row}
 use Rattle.sqlite_value.specs.declared.value.Value.{Value}

@@ -1,5 +1,6 @@
 -- Steps. What calls answer, and what they keep of what they change.
-use Rattle.std.specs.Prelude.{ℕ, ◌<◌, ◌≤◌, ◌≡◌, ◌≢◌, ◌+◌, ◌/◌, max, false, List, [], ◌++◌, length, map, take, drop, Option, Some, Result, IfOk, IfErr, OnOk, OnErr}
+use Rattle.std.specs.Prelude.{ℕ, ◌<◌, ◌≤◌, ◌≡◌, ◌≢◌, ◌+◌, ◌/◌, max, false, List, [], ◌++◌, length, map, take, drop, Option, Some}
+use Rattle.std.specs.Prelude.{Result, IfOk, IfErr, OnOk, OnErr}
 use Rattle.std.specs.Fmt.{digit_glyph}
 use Rattle.std.specs.Io.KnownBytes.{Appends}
 use Rattle.std.proofs.Common.{Vec, Global}
@@ -52,13 +53,15 @@ ReadsBehind kept number line before after old new p =
     TakesText (first_as kept number) (joined (block_as kept before) line) (map member_of_unit old) (map member_of_unit new) after p
 
 -- so a line is read; after a fault what was there is the front of what is there
-pub record Extends {F : Type 0} (kept : Option Pending) (number : ℕ) (line before after : List ℕ) (old new : List SeenUnit) (result : Result Pending F) : Type 0 where
+pub record Extends {F : Type 0} (kept : Option Pending) (number : ℕ) (line before after : List ℕ) (old new : List SeenUnit)
+    (result : Result Pending F) : Type 0 where
   pub ok : IfOk result (ReadsBehind kept number line before after old new)
   pub text : OnErr result (KeepsFront before after)
   pub waiting : OnErr result (KeepsFront old new)
 
 -- the same, where a fault changes nothing
-pub record ExtendsOrStays {F : Type 0} (kept : Option Pending) (number : ℕ) (line before after : List ℕ) (old new : List SeenUnit) (result : Result Pending F) : Type 0 where
+pub record ExtendsOrStays {F : Type 0} (kept : Option Pending) (number : ℕ) (line before after : List ℕ) (old new : List SeenUnit)
+    (result : Result Pending F) : Type 0 where
   pub ok : IfOk result (ReadsBehind kept number line before after old new)
   pub text : OnErr result (after ≡ before)
   pub waiting : OnErr result (new ≡ old)

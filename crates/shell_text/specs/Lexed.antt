@@ -1,6 +1,7 @@
--- Meaning. What a splitter keeps of the text that it has read, so that no byte is read twice. All
+-- Steps. What a splitter keeps of the text that it has read, so that no byte is read twice. All
 -- of it is our own choice: what an input means stands in Units, without any of this.
-use Rattle.std.specs.Prelude.{ℕ, ◌+◌, ◌<◌, ◌≤◌, ◌≡◌, ◌==◌, Bool, true, false, List, [], ◌∷◌, ◌++◌, length, drop, Option, Some, None, unwrap_or, IsCharBoundary, if◌then◌else◌}
+use Rattle.std.specs.Prelude.{ℕ, ◌+◌, ◌<◌, ◌≤◌, ◌≡◌, ◌==◌, Bool, true, false, List, [], ◌∷◌, ◌++◌, length, drop, Option, Some}
+use Rattle.std.specs.Prelude.{None, unwrap_or, IsCharBoundary, if◌then◌else◌}
 use Rattle.std.specs.List.{list_any}
 use Rattle.shell_text.specs.Words.{Piece, ends_line, first_byte, is_gap, is_open, onto_piece, pieces_from, pieces_of, text_of}
 use Rattle.shell_text.specs.Units.{Member, Sql, Fault, ends_statement, ended_units, line_behind, numbered, parts_of, tail_of}
@@ -25,7 +26,8 @@ IsFront _ front = 0 < length front
 -- of a text that goes on with `rest` the bytes `before` are read: the pieces `done` ended there,
 -- and `front` is read of the next; and that is so whatever lines follow
 pub record Reads (before rest : List ℕ) (place : Place) (front : List ℕ) (done : List Piece) : Type 0 where
-  pub pieces : (more : List ℕ) → ends_line (first_byte more) ≡ true → pieces_of (before ++ (rest ++ more)) ≡ done ++ onto front (pieces_from place (rest ++ more))
+  pub pieces : (more : List ℕ) → ends_line (first_byte more) ≡ true
+      → pieces_of (before ++ (rest ++ more)) ≡ done ++ onto front (pieces_from place (rest ++ more))
   pub text : before ≡ text_of done ++ front
   pub whole : list_any is_open done ≡ false
   pub begins : IsFront place front

@@ -7,7 +7,8 @@ use Rattle.std.specs.Str.{is_utf8}
 use Rattle.shell_text.specs.Words.{pieces_of, text_of}
 use Rattle.shell_text.specs.Lexed.{KeepsPending}
 use Rattle.shell_text.specs.declared.units.Pending.{Pending}
-use Rattle.shell_text.specs.Units.{Member, at_line, ended_units, parts_of, tail_of, Sql, Dot, Fault, Reading, Role, Refused, Command, Joins, after, last_member, member_of, role_of, tail_in, units_in}
+use Rattle.shell_text.specs.Units.{Member, at_line, ended_units, parts_of, tail_of, Sql, Dot, Fault, Reading, Role, Refused, Command}
+use Rattle.shell_text.specs.Units.{Joins, after, last_member, member_of, role_of, tail_in, units_in}
 use Rattle.shell_text.specs.declared.units.SplitFault.{SplitFault}
 use Rattle.shell_text.specs.declared.units.SplitFault.TheVariants as fault
 use Rattle.shell_text.specs.declared.units.Unit.{Unit as SeenUnit}

@@ -3,7 +3,8 @@
 -- may go over lines, a dot-command is one line that begins with a full stop, does not stand inside
 -- a statement and knows no comments. Own choice: the largest size of a statement, which lines are
 -- refused, what is left open at the end, and the numbers of lines.
-use Rattle.std.specs.Prelude.{ℕ, ◌+◌, ◌-◌, ◌^◌, min, nat_lt, Bool, not, ◌==◌, ◌&&◌, List, [], ◌∷◌, ◌++◌, length, drop, count_by, Option, Some, None, is_some, unwrap_or, if◌then◌else◌}
+use Rattle.std.specs.Prelude.{ℕ, ◌+◌, ◌-◌, ◌^◌, min, nat_lt, Bool, not, ◌==◌, ◌&&◌, List, [], ◌∷◌, ◌++◌, length, drop, count_by}
+use Rattle.std.specs.Prelude.{Option, Some, None, is_some, unwrap_or, if◌then◌else◌}
 use Rattle.std.specs.List.{list_any, list_all, onto_first, prefix_len, take_while}
 use Rattle.std.specs.Str.{is_utf8}
 use Rattle.std.specs.Str.Lines.{strip_carriage_return}

@@ -5,7 +5,8 @@
 -- Comment Syntax"), words, runs of digits, and single characters. That a number is a run of digits
 -- alone, and that a dollar sign may stand in a word, is our own choice. So is how a text is read:
 -- in pieces, byte by byte, each by its place and the byte after it.
-use Rattle.std.specs.Prelude.{⊤, ◌<◌, ◌≤◌, is_some, option_map, option_to_list, ℕ, ◌+◌, Bool, true, false, ◌==◌, ◌&&◌, ◌||◌, nat_le, List, [], ◌∷◌, ◌++◌, length, Option, Some, None, if◌then◌else◌, ◌≡◌, Result, IfOk, OnOk, IsErrOf}
+use Rattle.std.specs.Prelude.{⊤, ◌<◌, ◌≤◌, is_some, option_map, option_to_list, ℕ, ◌+◌, Bool, true, false, ◌==◌, ◌&&◌, ◌||◌, nat_le, List, []}
+use Rattle.std.specs.Prelude.{◌∷◌, ◌++◌, length, Option, Some, None, if◌then◌else◌, ◌≡◌, Result, IfOk, OnOk, IsErrOf}
 use Rattle.std.specs.Char.{is_ascii_alphabetic, is_ascii_digit}
 use Rattle.std.specs.List.{flat_map, list_any}
 use Rattle.std.specs.Option.{option_map_or}
@@ -16,7 +17,8 @@ use Rattle.shell_text.specs.declared.words.SqlKind.{SqlKind}
 use Rattle.shell_text.specs.declared.words.SqlKind.TheVariants as kinds
 use Rattle.shell_text.specs.declared.words.SqlWord.{SqlWord}
 use Rattle.shell_text.specs.declared.words.Place.{Place}
-use Rattle.shell_text.specs.declared.words.Place.TheVariants.{Between, InWord, InNumber, InText, TextMark, InDouble, DoubleMark, InBackquotes, BackquoteMark, InBrackets, LineComment, CommentMark, BlockComment, Star}
+use Rattle.shell_text.specs.declared.words.Place.TheVariants.{Between, InWord, InNumber, InText, TextMark, InDouble, DoubleMark, InBackquotes}
+use Rattle.shell_text.specs.declared.words.Place.TheVariants.{BackquoteMark, InBrackets, LineComment, CommentMark, BlockComment, Star}
 use Rattle.shell_text.specs.declared.words.Ended.{Ended}
 use Rattle.shell_text.specs.declared.words.Ended.TheVariants.{Word, Gap}
 use Rattle.shell_text.specs.declared.words.Turn.{Turn}
