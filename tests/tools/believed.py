@@ -26,8 +26,8 @@ CONSTRUCTOR = re.compile(r"^\s+(?:pub\s+)?(\S+)\s*:\s")
 WORD = re.compile(r"[^\s(){}\[\],;λ]+")
 
 
-def lines_of(path):
-    with open(os.path.join(ROOT, path), encoding="utf-8") as file:
+def lines_of(path, errors="strict"):
+    with open(os.path.join(ROOT, path), encoding="utf-8", errors=errors) as file:
         return file.read().split("\n")
 
 

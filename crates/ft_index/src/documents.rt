@@ -72,7 +72,8 @@ pub(crate) fn all_documents<S: Alter>(
 }
 
 /// The docids of a table's documents, rising: without the first `offset`, and at most `limit` of
-/// those. No others are read. The store is only read, whatever is answered.
+/// those. No others are read, where both numbers have at most 32 bits. The store is only read,
+/// whatever is answered.
 pub(crate) fn docids<S: Alter>(
     alloc: Global,
     store: &mut Store<S>,
