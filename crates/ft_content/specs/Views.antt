@@ -11,6 +11,11 @@ use Rattle.ft_content.specs.declared.command.Item.{Item}
 use Rattle.ft_content.specs.declared.command.Item.TheVariants as item
 use Rattle.ft_content.specs.declared.command.Items.{Items}
 use Rattle.ft_content.specs.declared.command.Items.TheVariants as items
+use Rattle.ft_content.specs.declared.command.Creation.{Creation}
+use Rattle.ft_content.specs.declared.command.Insertion.{Insertion}
+use Rattle.ft_content.specs.declared.command.Modification.{Modification}
+use Rattle.ft_content.specs.declared.command.Deletion.{Deletion}
+use Rattle.ft_content.specs.declared.command.Selection.{Selection}
 use Rattle.ft_content.specs.declared.command.Command.{Command}
 use Rattle.ft_content.specs.declared.command.Command.TheVariants as commands
 use Rattle.ft_content.specs.declared.command.Grid.{Grid}
@@ -54,14 +59,28 @@ set_of s = (string_bytes s.0, shown_value s.1)
 abbrev pub option_of : String Global × String Global → List ℕ × List ℕ
 option_of o = (string_bytes o.0, string_bytes o.1)
 
+abbrev pub creation_of : Creation → plain.Command
+creation_of c = plain.Create (string_bytes c.table) (string_bytes c.module) (map option_of c.options.items) (names_in c.columns) c.if_new
+
+abbrev pub insertion_of : Insertion → plain.Command
+insertion_of i = plain.Insert (string_bytes i.table) (option_map names_in i.columns) (rows_of i.rows)
+
+abbrev pub modification_of : Modification → plain.Command
+modification_of m = plain.Update (string_bytes m.table) (map set_of m.sets.items) (filter_of m.filter)
+
+abbrev pub deletion_of : Deletion → plain.Command
+deletion_of d = plain.Delete (string_bytes d.table) (filter_of d.filter)
+
+abbrev pub selection_of : Selection → plain.Command
+selection_of s = plain.Select (string_bytes s.table) (items_of s.items) (filter_of s.filter) s.limit s.offset
+
 abbrev pub command_of : Command → plain.Command
-command_of (commands.Create table module_name options columns if_new) =
-    plain.Create (string_bytes table) (string_bytes module_name) (map option_of options.items) (names_in columns) if_new
+command_of (commands.Create creation) = creation_of creation
 command_of (commands.Drop table if_there) = plain.Drop (string_bytes table) if_there
-command_of (commands.Insert table columns rows) = plain.Insert (string_bytes table) (option_map names_in columns) (rows_of rows)
-command_of (commands.Update table sets f) = plain.Update (string_bytes table) (map set_of sets.items) (filter_of f)
-command_of (commands.Delete table f) = plain.Delete (string_bytes table) (filter_of f)
-command_of (commands.Select table list f limit offset) = plain.Select (string_bytes table) (items_of list) (filter_of f) limit offset
+command_of (commands.Insert insertion) = insertion_of insertion
+command_of (commands.Update modification) = modification_of modification
+command_of (commands.Delete deletion) = deletion_of deletion
+command_of (commands.Select selection) = selection_of selection
 command_of (commands.Rebuild table) = plain.Rebuild (string_bytes table)
 command_of (commands.Check table) = plain.Check (string_bytes table)
 command_of (commands.Optimize table) = plain.Optimize (string_bytes table)

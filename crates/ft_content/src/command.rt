@@ -32,63 +32,75 @@ pub enum Items {
     List(Vec<Item>),
 }
 
+/// What a Create asks for: a table of these columns, or of one named `content` where there is none.
+/// An option is a name and a value. With `if_new` a table of that name may be there, and then
+/// nothing is made.
+#[derive(Debug, Drop)]
+pub struct Creation {
+    pub table: String,
+    pub module: String,
+    pub options: Vec<(String, String)>,
+    pub columns: Vec<String>,
+    pub if_new: bool,
+}
+
+/// The rows that an Insert adds. A row has a value for each of `columns`, or for each column of the
+/// table.
+#[derive(Debug, Drop)]
+pub struct Insertion {
+    pub table: String,
+    pub columns: Option<Vec<String>>,
+    pub rows: Vec<Vec<Value>>,
+}
+
+/// The values that an Update sets, each under the name of its column, and the documents that it
+/// chooses.
+#[derive(Debug, Drop)]
+pub struct Modification {
+    pub table: String,
+    pub sets: Vec<(String, Value)>,
+    pub filter: Filter,
+}
+
+/// The documents that a Delete chooses.
+#[derive(Debug, Drop)]
+pub struct Deletion {
+    pub table: String,
+    pub filter: Filter,
+}
+
+/// What a Select asks for: items of the documents that are chosen, by rising docid, without the
+/// first `offset` and at most `limit`.
+#[derive(Debug, Drop)]
+pub struct Selection {
+    pub table: String,
+    pub items: Items,
+    pub filter: Filter,
+    pub limit: Option<u64>,
+    pub offset: u64,
+}
+
 /// A command on full-text tables. Names are compared without ASCII case.
 #[derive(Debug, Drop)]
 pub enum Command {
-    /// Makes a table of these columns, or of one named `content` where there is none. An option is
-    /// a name and a value. With `if_new` a table of that name may be there, and then nothing is
-    /// made.
-    Create {
-        table: String,
-        module: String,
-        options: Vec<(String, String)>,
-        columns: Vec<String>,
-        if_new: bool,
-    },
+    /// Makes a table.
+    Create(Creation),
     /// Removes a table. With `if_there` it may be missing.
-    Drop {
-        table: String,
-        if_there: bool,
-    },
-    /// Adds a document for each row. A row has a value for each of `columns`, or for each column of
-    /// the table.
-    Insert {
-        table: String,
-        columns: Option<Vec<String>>,
-        rows: Vec<Vec<Value>>,
-    },
+    Drop { table: String, if_there: bool },
+    /// Adds a document for each row.
+    Insert(Insertion),
     /// Sets values of the documents that are chosen.
-    Update {
-        table: String,
-        sets: Vec<(String, Value)>,
-        filter: Filter,
-    },
+    Update(Modification),
     /// Removes the documents that are chosen.
-    Delete {
-        table: String,
-        filter: Filter,
-    },
-    /// Answers items of the documents that are chosen, by rising docid, without the first `offset`
-    /// and at most `limit`.
-    Select {
-        table: String,
-        items: Items,
-        filter: Filter,
-        limit: Option<u64>,
-        offset: u64,
-    },
+    Delete(Deletion),
+    /// Answers items of documents.
+    Select(Selection),
     /// Makes the index again out of the documents.
-    Rebuild {
-        table: String,
-    },
+    Rebuild { table: String },
     /// Compares the index with the documents.
-    Check {
-        table: String,
-    },
+    Check { table: String },
     /// Changes nothing.
-    Optimize {
-        table: String,
-    },
+    Optimize { table: String },
 }
 
 /// Names, and rows with a value under each.

@@ -8,6 +8,7 @@ ghost use Rattle.ft_content.specs.Deserved.{Contents};
 ghost use Rattle.ft_content.specs.Step as step;
 ghost use Rattle.ft_content.specs.Views.{option_of, column_of, table_names, info_names, info_ids};
 
+use crate::command::Creation;
 use crate::names::{are_names, has_name, is_name, names_clash};
 use ft_values::{Column, Fault, TableInfo, has_table, same_name};
 use std::alloc::{AllocError, Global};
@@ -147,26 +148,24 @@ fn create_tests(
 pub fn create_fault(
     alloc: Global,
     tables: &[TableInfo],
-    table: &str,
-    module_name: &str,
-    options: &[(String, String)],
+    creation: &Creation,
     names: &[String],
-    if_new: bool,
 ) -> Option<Fault>
     ensures { (contents : Contents) → table_names contents ≡ info_names tables.now
-        → result ≡ deserved.create_fault contents table.now module_name.now
-        (map option_of options.now) (map string_bytes names.now) if_new }
+        → result ≡ deserved.create_fault contents (string_bytes creation.now.table)
+        (string_bytes creation.now.module) (map option_of creation.now.options.items)
+        (map string_bytes names.now) creation.now.if_new }
 {
-    let is_there = has_table(tables, table);
+    let table = creation.table.as_str();
     create_tests(
         alloc,
-        is_there,
+        has_table(tables, table),
         tables.len(),
         table,
-        module_name,
-        options,
+        creation.module.as_str(),
+        creation.options.as_slice(),
         names,
-        if_new,
+        creation.if_new,
     )
 }
 

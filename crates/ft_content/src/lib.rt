@@ -15,7 +15,10 @@ mod update;
 mod value;
 
 pub use columns::has_column;
-pub use command::{Command, Filter, Grid, Item, Items, Reply};
+pub use command::{
+    Command, Creation, Deletion, Filter, Grid, Insertion, Item, Items, Modification, Reply,
+    Selection,
+};
 pub use create::{create_fault, free_id, made_columns, made_names};
 pub use docid::{docid_for_row, last_docid_after, moves_fault};
 pub use ft_values::{Column, Fault, TableInfo, Value};

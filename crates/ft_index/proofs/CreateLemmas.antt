@@ -1,5 +1,5 @@
 -- What a Create answers, and what it leaves.
-use Rattle.std.proofs.Common.{◌≡◌, ℕ, Bool, true, false, cond, List, [], ◌∷◌, map, length, Some, None, Ok, Err, ℤ, pos, refl, sym, ap, subst, ◌∙◌, arith, lt-ltb}
+use Rattle.std.proofs.Common.{◌≡◌, ℕ, Bool, true, false, cond, List, [], ◌∷◌, map, length, Some, None, Ok, Err, ℤ, pos, string_bytes, refl, sym, ap, subst, ◌∙◌, arith, lt-ltb}
 use Rattle.std.specs.Prelude.{IsTrue, is_some, nat_lt}
 use Rattle.std.specs.List.{AllByRecursion}
 use Rattle.std.specs.declared.cmp.Ordering.{Ordering}
@@ -10,8 +10,9 @@ use Rattle.ft_rows.specs.Store.{StoreValue, AreInOrder, AddTable, applied}
 use Rattle.ft_values.specs.declared.fault.Fault.{Fault}
 use Rattle.ft_values.specs.declared.table.TableInfo.{TableInfo as RustTableInfo}
 use Rattle.ft_content.specs.Content.{IsContent, names_of, skipped_from}
-use Rattle.ft_content.specs.Command.{Command, Create, Done}
-use Rattle.ft_content.specs.Views.{TableInfo, shown_info}
+use Rattle.ft_content.specs.Command.{Command, Done}
+use Rattle.ft_content.specs.declared.command.Creation.{Creation}
+use Rattle.ft_content.specs.Views.{TableInfo, shown_info, option_of, names_in, creation_of}
 use Rattle.ft_content.specs.Deserved.{Table, Contents, table_named, made_columns, deserved}
 use Rattle.ft_content.specs.Step.{free_id_from, made_column, new_table, created, after, reply_to, step, step_by}
 use Rattle.ft_documents.specs.Found.{with_told}
@@ -39,19 +40,24 @@ some_columns [] = refl
 some_columns (n ∷ ns) = lt-ltb 0 (length (n ∷ ns)) (omega arith)
 
 -- the columns that a Create without a fault makes are those of a content
-makes_content : (contents : Contents) (table module_name : List ℕ) (options : List (List ℕ × List ℕ)) (names : List (List ℕ)) (if_new : Bool) → deserved contents (Create table module_name options names if_new) ≡ None →
-    IsContent table (bare (map (made_column options) (made_columns names)))
+makes_content : (contents : Contents) (creation : Creation) → deserved contents (creation_of creation) ≡ None →
+    IsContent (string_bytes creation.table) (bare (map (made_column (map option_of creation.options.items)) (made_columns (names_in creation.columns))))
 unfolding deserved
-makes_content contents table module_name options names if_new fine = create_makes_content contents table module_name options (made_columns names) if_new (some_columns names) fine
+makes_content contents creation fine =
+    let names = names_in creation.columns in
+    create_makes_content contents (string_bytes creation.table) (string_bytes creation.module) (map option_of creation.options.items) (made_columns names) creation.if_new (some_columns names) fine
 
 -- ---- what is held after a table was made
 
-pub made_is_held : (contents : Contents) (table module_name : List ℕ) (options : List (List ℕ × List ℕ)) (names : List (List ℕ)) (if_new : Bool) (made : RustTableInfo) (store : StoreValue) (tables : List TableInfo) →
-    Makes contents table module_name options names if_new (Ok (Some made)) → AreInOrder store → AreHeld store tables contents →
-    AreHeld (applied (table_change made) store) (with_told (shown_info made) tables) (after contents (Create table module_name options names if_new))
+pub made_is_held : (contents : Contents) (creation : Creation) (made : RustTableInfo) (store : StoreValue) (tables : List TableInfo) →
+    Makes contents creation (Ok (Some made)) → AreInOrder store → AreHeld store tables contents →
+    AreHeld (applied (table_change made) store) (with_told (shown_info made) tables) (after contents (creation_of creation))
 unfolding after
-made_is_held contents table module_name options names if_new made store tables makes order held =
+made_is_held contents creation made store tables makes order held =
     let m = makes.2 in
+    let table = string_bytes creation.table in
+    let options = map option_of creation.options.items in
+    let names = names_in creation.columns in
     let id = pos (free_id_from 1 contents) in
     let columns = map (made_column options) (made_columns names) in
     let new = new_table table options (made_columns names) in
@@ -60,22 +66,24 @@ made_is_held contents table module_name options names if_new made store tables m
     let change : AddTable id table (names_of columns) (skipped_from 0 columns) ≡ table_change made = sym (λ i. AddTable (m.id i) (m.name i) (names_of (m.columns i)) (skipped_from 0 (m.columns i))) in
     let told : told_table (id, new) ≡ shown_info made = sym (λ i. record { id = m.id i; name = m.name i; columns = m.columns i; sound = m.sound i }) in
     record {
-      named_once = apart_after contents (Create table module_name options names if_new) held.named_once;
+      named_once = apart_after contents (creation_of creation) held.named_once;
       held = subst (λ cs. StoreHolds (applied (table_change made) store) cs) (sym joined)
-          (subst (λ ch. StoreHolds (applied ch store) (put int_cmp id new contents)) change (adds_one id table columns store contents order (makes_content contents table module_name options names if_new makes.0) free held.held));
+          (subst (λ ch. StoreHolds (applied ch store) (put int_cmp id new contents)) change (adds_one id table columns store contents order (makes_content contents creation makes.0) free held.held));
       told = ap (with_told (shown_info made)) held.told ∙ ap (λ k. with_told k (map told_table contents)) (sym told) ∙ sym (told_put id new contents free) ∙ ap (map told_table) (sym joined);
     }
 
-pub create_answers : (contents : Contents) (table module_name : List ℕ) (options : List (List ℕ × List ℕ)) (names : List (List ℕ)) (if_new : Bool) → deserved contents (Create table module_name options names if_new) ≡ None →
-    step contents (Create table module_name options names if_new) ≡ (Ok Done, after contents (Create table module_name options names if_new))
+pub create_answers : (contents : Contents) (creation : Creation) → deserved contents (creation_of creation) ≡ None →
+    step contents (creation_of creation) ≡ (Ok Done, after contents (creation_of creation))
 unfolding step reply_to
-create_answers contents table module_name options names if_new fine = ap (λ due. step_by due contents (Create table module_name options names if_new)) fine
+create_answers contents creation fine = ap (λ due. step_by due contents (creation_of creation)) fine
 
 pub refused_answers : (contents : Contents) (command : Command) (fault : Fault) → deserved contents command ≡ Some fault → step contents command ≡ (Err fault, contents)
 unfolding step
 refused_answers contents command fault due = ap (λ d. step_by d contents command) due
 
 -- nothing is made where a table of the name may be there and is
-pub nothing_made : (contents : Contents) (table module_name : List ℕ) (options : List (List ℕ × List ℕ)) (names : List (List ℕ)) (if_new : Bool) → IsTrue (is_some (table_named contents table)) → after contents (Create table module_name options names if_new) ≡ contents
+pub nothing_made : (contents : Contents) (creation : Creation) → IsTrue (is_some (table_named contents (string_bytes creation.table))) → after contents (creation_of creation) ≡ contents
 unfolding after
-nothing_made contents table module_name options names if_new there = ap (λ b. cond b contents (put int_cmp (pos (free_id_from 1 contents)) (new_table table options (made_columns names)) contents)) there
+nothing_made contents creation there =
+    let new = new_table (string_bytes creation.table) (map option_of creation.options.items) (made_columns (names_in creation.columns)) in
+    ap (λ b. cond b contents (put int_cmp (pos (free_id_from 1 contents)) new contents)) there

@@ -13,7 +13,7 @@ use Rattle.ft_content.specs.Deserved.{Contents, first_of, or_else, delete_tests,
 use Rattle.ft_content.specs.Step.{deleted, docids_of, with_documents, on_table, after, touched, reply_to}
 use Rattle.ft_content.proofs.ContentLemmas.{delete_keeps_content}
 use Rattle.ft_documents.specs.Rewrite.{removal}
-use Rattle.ft_index.specs.Written.{LeadsTo}
+use Rattle.ft_index.specs.Written.{LeadsTo, WritesTable}
 use Rattle.ft_documents.proofs.BareLemmas.{unknown_bare, fault_bare}
 use Rattle.ft_documents.proofs.FaultLemmas.{memory_or}
 use Rattle.ft_index.proofs.ChosenWrites.{each_rewritten, chosen_lead, own_docids}
@@ -43,6 +43,9 @@ module _ (f : Filter) where
   pub replies : (name : List ℕ) (contents : Contents) → reply_to contents (Delete name f) ≡ Done
   unfolding reply_to
   replies name contents = refl
+
+  pub writes_table : (name : List ℕ) → WritesTable (Delete name f)
+  writes_table name = record { name = name; made = made; leaves = leaves name; replies = replies name }
 
   pub is_write : (name : List ℕ) → IsWrite (Delete name f) name due made gone
   unfolding deserved touched

@@ -1,10 +1,12 @@
 -- What commands do that read, and then change rows.
-use Rattle.std.proofs.Common.{◌≡◌, true, List, map, None, Ok, Err, Result, sym, subst, arith}
+use Rattle.std.proofs.Common.{◌≡◌, inl, true, List, map, None, Ok, Err, Result, Vec, Global, sym, ap, subst, arith}
 use Rattle.std.specs.Prelude.{IsTrue}
 use Rattle.sqlite_trees.specs.View.{doubt}
 use Rattle.sqlite.specs.State.{HasCleanDisk}
 use Rattle.sqlite.specs.Store.{Ghosts}
+use Rattle.ft_values.specs.declared.rows.RowChange.{RowChange}
 use Rattle.ft_rows.specs.Store.{Change}
+use Rattle.ft_rows.specs.Changes.{shown_change}
 use Rattle.ft_store.specs.Kept.{StoreState, shows, value_in}
 use Rattle.ft_values.specs.declared.fault.Fault.{Fault}
 use Rattle.ft_content.specs.declared.command.Reply.{Reply}
@@ -15,8 +17,9 @@ use Rattle.ft_content.specs.Step.{after, reply_to}
 use Rattle.ft_content.specs.Views.{TableInfo}
 use Rattle.ft_index.specs.Changed.{Does, MakesRows, with_tables}
 use Rattle.ft_index.specs.DocumentsRead.{Looks}
-use Rattle.ft_index.specs.Kept.{IsUp, AreHeld, told_table}
-use Rattle.ft_index.specs.Written.{PlansTo}
+use Rattle.ft_index.specs.declared.written.Written.{Written}
+use Rattle.ft_index.specs.Kept.{IsUp, AreHeld, is_outside, told_table}
+use Rattle.ft_index.specs.Written.{PlansIn, PlansTo, PlansWritten, WritesIn}
 use Rattle.ft_index.proofs.Acting.{executes_failed, executes_undone, then_changed}
 use Rattle.ft_index.proofs.Crashing.{crash_read, crash_reached}
 use Rattle.ft_index.proofs.Executing.{Reaches, executes_planned}
@@ -54,3 +57,10 @@ module _ {S : Type 0} (g : Ghosts S) (old mid : StoreState S) (tables : List Tab
               let c : doubt (shows g new).is_clean ≡ 0 = clean in
               made.live clean (live (omega (arith, c, made.crash.clean)) is_open);
         }
+
+-- the row changes of what was found are a plan
+pub plans_written : {S : Type 0} (g : Ghosts S) (tables : List TableInfo) (old new : StoreState S) (command : Command) (found : Result Written Fault) (answer : Result (Vec RowChange Global) Fault) →
+    WritesIn g tables old new command found → PlansWritten found answer → PlansIn g tables old new command answer
+plans_written g tables old new command (Ok written) (Ok changes) writes planned = writes (map shown_change changes.items) planned
+plans_written g tables old new command (Ok written) (Err fault) writes planned = λ up contents held. inl (ap (λ f. is_outside (Err f)) planned)
+plans_written g tables old new command (Err fault) answer writes planned = subst (PlansIn g tables old new command) (sym planned) writes

@@ -7,8 +7,9 @@ use Rattle.ft_store.specs.Kept.{StoreState, value_in}
 use Rattle.ft_values.specs.declared.fault.Fault.{Fault}
 use Rattle.ft_values.specs.declared.fault.Fault.TheVariants as faults
 use Rattle.ft_values.specs.declared.table.TableInfo.{TableInfo as RustTableInfo}
-use Rattle.ft_content.specs.Command.{Command, Create, Reply, Done}
-use Rattle.ft_content.specs.Views.{TableInfo, shown_info}
+use Rattle.ft_content.specs.Command.{Command, Reply, Done}
+use Rattle.ft_content.specs.declared.command.Creation.{Creation}
+use Rattle.ft_content.specs.Views.{TableInfo, shown_info, creation_of}
 use Rattle.ft_content.specs.Deserved.{Contents, deserved}
 use Rattle.ft_content.specs.Step.{after, reply_to, step, step_by}
 use Rattle.ft_documents.specs.Found.{with_told}
@@ -29,12 +30,12 @@ executes_same g known command answer answers = record {
 
 -- ---- Create
 
-module _ {S : Type 0} (g : Ghosts S) (table module_name : List ℕ) (options : List (List ℕ × List ℕ)) (names : List (List ℕ)) (if_new : Bool) where
+module _ {S : Type 0} (g : Ghosts S) (creation : Creation) where
   abbrev create : Command
-  create = Create table module_name options names if_new
+  create = creation_of creation
 
   abbrev MakesAll : List TableInfo → Result (Option RustTableInfo) Fault → Type 0
-  MakesAll tables result = (contents : Contents) → tables ≡ map told_table contents → Makes contents table module_name options names if_new result
+  MakesAll tables result = (contents : Contents) → tables ≡ map told_table contents → Makes contents creation result
 
   pub create_refused : (known : FullText S) (fault : Fault) → MakesAll known.tables (Err fault) → Executes g known create (Err fault) known
   create_refused known fault makes = executes_same g known create (Err fault) (λ first holds. due first (makes first holds.told))
@@ -45,7 +46,7 @@ module _ {S : Type 0} (g : Ghosts S) (table module_name : List ℕ) (options : L
 
   pub create_nothing : (known : FullText S) → MakesAll known.tables (Ok None) → Executes g known create (Ok Done) known
   create_nothing known makes = executes_same g known create (Ok Done) (λ first holds.
-      inr (create_answers first table module_name options names if_new (makes first holds.told).0 ∙ ap (λ cs. (Ok Done, cs)) (nothing_made first table module_name options names if_new (makes first holds.told).1)))
+      inr (create_answers first creation (makes first holds.told).0 ∙ ap (λ cs. (Ok Done, cs)) (nothing_made first creation (makes first holds.told).1)))
 
   pub create_adds : (old new : StoreState S) (tables : List TableInfo) (made : RustTableInfo) → MakesAll tables (Ok (Some made)) → AreInOrder (value_in g old) → Changed g old new (table_change made ∷ []) true →
       Executes g (with_tables old tables) create (Ok Done) (with_tables new (with_told (shown_info made) tables))
@@ -53,8 +54,8 @@ module _ {S : Type 0} (g : Ghosts S) (table module_name : List ℕ) (options : L
     was_up = λ up. changed.was_up (with_told (shown_info made) tables) tables up;
     steps = λ up first holds. (
       after first create,
-      subst (λ v. AreHeld v (with_told (shown_info made) tables) (after first create)) (sym (changed.value (with_told (shown_info made) tables) up)) (made_is_held first table module_name options names if_new made (value_in g old) tables (makes first holds.told) order holds),
-      inr (create_answers first table module_name options names if_new (makes first holds.told).0),
+      subst (λ v. AreHeld v (with_told (shown_info made) tables) (after first create)) (sym (changed.value (with_told (shown_info made) tables) up)) (made_is_held first creation made (value_in g old) tables (makes first holds.told) order holds),
+      inr (create_answers first creation (makes first holds.told).0),
     );
     noted = λ up first holds. ap (λ v. v.noted) (changed.value (with_told (shown_info made) tables) up);
     unchanged = λ no up. absurd (let wrong = no in cc);

@@ -19,7 +19,7 @@ use Rattle.ft_content.proofs.ContentLemmas.{insert_keeps_content}
 use Rattle.ft_documents.specs.declared.rewrite.Rewrite as source
 use Rattle.ft_documents.specs.Rewrite.{Rewrite, shown_rewrite, by_docid, rewritten}
 use Rattle.ft_documents.specs.Inserted.{IsNewIn, Inserts}
-use Rattle.ft_index.specs.Written.{Writes}
+use Rattle.ft_index.specs.Written.{Writes, WritesTable}
 use Rattle.ft_documents.proofs.KeyedRows.{tie}
 use Rattle.ft_documents.proofs.RewriteLemmas.{written, find_rewritten}
 use Rattle.ft_documents.proofs.InsertDue.{once, inserted_is}
@@ -75,6 +75,9 @@ module _ (columns : Option (List (List ℕ))) (rows : List (List Cell)) where
   pub replies : (name : List ℕ) (contents : Contents) → reply_to contents (Insert name columns rows) ≡ Done
   unfolding reply_to
   replies name contents = refl
+
+  pub writes_table : (name : List ℕ) → WritesTable (Insert name columns rows)
+  writes_table name = record { name = name; made = made; leaves = leaves name; replies = replies name }
 
   pub is_write : (name : List ℕ) → repeats_name (unwrap_or columns []) ≡ false → IsWrite (Insert name columns rows) name (λ table content. due content) made news
   unfolding touched

@@ -5,8 +5,9 @@ use Rattle.ft_rows.specs.Store.{StoreValue, AreInOrder}
 use Rattle.ft_values.specs.declared.fault.Fault.{Fault}
 use Rattle.ft_values.specs.declared.fault.Fault.TheVariants as faults
 use Rattle.ft_values.specs.declared.table.TableInfo.{TableInfo as RustTableInfo}
-use Rattle.ft_content.specs.Command.{Command, Create, Select, Check, Optimize, Filter, Items, Reply}
-use Rattle.ft_content.specs.Views.{TableInfo}
+use Rattle.ft_content.specs.declared.command.Creation.{Creation}
+use Rattle.ft_content.specs.Command.{Command, Select, Check, Optimize, Filter, Items, Reply}
+use Rattle.ft_content.specs.Views.{TableInfo, creation_of}
 use Rattle.ft_content.specs.Deserved.{Contents, select_fault, deserved}
 use Rattle.ft_content.specs.Step.{after, step, step_by}
 use Rattle.ft_documents.specs.Found.{info_named, IsUnfit, IsSoundNamed}
@@ -23,16 +24,16 @@ plans_nothing contents command store tables held same near fine = (fine, subst (
 
 -- ---- Create
 
-module _ (contents : Contents) (table module_name : List ℕ) (options : List (List ℕ × List ℕ)) (names : List (List ℕ)) (if_new : Bool) (store : StoreValue) (tables : List TableInfo) where
-  pub create_refused : (fault : Fault) → Makes contents table module_name options names if_new (Err fault) → PlansFrom contents (Create table module_name options names if_new) store (Err fault)
+module _ (contents : Contents) (creation : Creation) (store : StoreValue) (tables : List TableInfo) where
+  pub create_refused : (fault : Fault) → Makes contents creation (Err fault) → PlansFrom contents (creation_of creation) store (Err fault)
   create_refused fault (inl memory) = inl (ap (λ f. is_outside (Err f)) memory)
   create_refused fault (inr due) = inr due
 
-  pub create_nothing : AreHeld store tables contents → Makes contents table module_name options names if_new (Ok None) → PlansFrom contents (Create table module_name options names if_new) store (Ok [])
-  create_nothing held makes = plans_nothing contents (Create table module_name options names if_new) store tables held (nothing_made contents table module_name options names if_new makes.1) tt makes.0
+  pub create_nothing : AreHeld store tables contents → Makes contents creation (Ok None) → PlansFrom contents (creation_of creation) store (Ok [])
+  create_nothing held makes = plans_nothing contents (creation_of creation) store tables held (nothing_made contents creation makes.1) tt makes.0
 
-  pub create_makes : (made : RustTableInfo) → AreInOrder store → AreHeld store tables contents → Makes contents table module_name options names if_new (Ok (Some made)) → PlansFrom contents (Create table module_name options names if_new) store (Ok (table_change made ∷ []))
-  create_makes made order held makes = (makes.0, (made_is_held contents table module_name options names if_new made store tables makes order held).held, refl, tt)
+  pub create_makes : (made : RustTableInfo) → AreInOrder store → AreHeld store tables contents → Makes contents creation (Ok (Some made)) → PlansFrom contents (creation_of creation) store (Ok (table_change made ∷ []))
+  create_makes made order held makes = (makes.0, (made_is_held contents creation made store tables makes order held).held, refl, tt)
 
 -- ---- Select
 

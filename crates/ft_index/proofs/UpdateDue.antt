@@ -16,6 +16,7 @@ use Rattle.ft_content.proofs.ContentLemmas.{update_keeps_content}
 use Rattle.ft_documents.specs.Updated.{update_touches}
 use Rattle.ft_documents.proofs.BareLemmas.{unknown_bare, fault_bare}
 use Rattle.ft_documents.proofs.FaultLemmas.{memory_or}
+use Rattle.ft_index.specs.Written.{WritesTable}
 use Rattle.ft_index.proofs.Writing.{IsWrite}
 
 module _ (sets : List (List ℕ × Cell)) (f : Filter) where
@@ -38,6 +39,9 @@ module _ (sets : List (List ℕ × Cell)) (f : Filter) where
   pub replies : (name : List ℕ) (contents : Contents) → reply_to contents (Update name sets f) ≡ Done
   unfolding reply_to
   replies name contents = refl
+
+  pub writes_table : (name : List ℕ) → WritesTable (Update name sets f)
+  writes_table name = record { name = name; made = made; leaves = leaves name; replies = replies name }
 
   pub repeats_due : (name : List ℕ) (contents : Contents) → repeats_name names ≡ true → deserved contents (Update name sets f) ≡ Some faults.DuplicateColumn
   unfolding deserved

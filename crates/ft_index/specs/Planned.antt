@@ -1,5 +1,5 @@
 -- Meaning. Plans over the tables that are told.
-use Rattle.std.specs.Prelude.{◌≡◌, ◌⊎◌, ℕ, Bool, List, map, Option, Some, None, Result, Ok, Err, pos, is_some, string_bytes, Vec, IsTrue}
+use Rattle.std.specs.Prelude.{◌≡◌, ◌⊎◌, List, map, Option, Some, None, Result, Ok, Err, pos, is_some, string_bytes, Vec, IsTrue}
 use Rattle.std.specs.declared.alloc.Global.{Global}
 use Rattle.ft_values.specs.declared.rows.RowChange.{RowChange}
 use Rattle.ft_rows.specs.Store.{StoreValue, AreInOrder, Change, AddTable}
@@ -8,8 +8,9 @@ use Rattle.ft_rows.specs.Changes.{shown_change}
 use Rattle.ft_values.specs.declared.fault.Fault.{Fault}
 use Rattle.ft_values.specs.declared.fault.Fault.TheVariants as faults
 use Rattle.ft_values.specs.declared.table.TableInfo.{TableInfo}
-use Rattle.ft_content.specs.Command.{Command, Create}
-use Rattle.ft_content.specs.Views.{shown_info, column_of}
+use Rattle.ft_content.specs.declared.command.Creation.{Creation}
+use Rattle.ft_content.specs.Command.{Command}
+use Rattle.ft_content.specs.Views.{shown_info, column_of, option_of, names_in, creation_of}
 use Rattle.ft_content.specs.Deserved.{Contents, table_named, made_columns, deserved}
 use Rattle.ft_content.specs.Step.{free_id_from, made_column}
 use Rattle.ft_index.specs.Kept.{AreHeld, PlansFrom}
@@ -26,10 +27,10 @@ PlansOver tables command answer = (store : StoreValue) (contents : Contents) →
     → PlansFrom contents command store (changes_of answer)
 
 -- the table that a Create makes
-pub record IsMade (contents : Contents) (table : List ℕ) (options : List (List ℕ × List ℕ)) (names : List (List ℕ)) (made : TableInfo) : Type 0 where
+pub record IsMade (contents : Contents) (creation : Creation) (made : TableInfo) : Type 0 where
   pub id : made.id ≡ pos (free_id_from 1 contents)
-  pub name : string_bytes made.name ≡ table
-  pub columns : map column_of made.columns.items ≡ map (made_column options) (made_columns names)
+  pub name : string_bytes made.name ≡ string_bytes creation.table
+  pub columns : map column_of made.columns.items ≡ map (made_column (map option_of creation.options.items)) (made_columns (names_in creation.columns))
   pub sound : IsTrue made.sound
 
 -- the row change that makes a table
@@ -37,10 +38,8 @@ abbrev pub table_change : TableInfo → Change
 table_change made = AddTable made.id (string_bytes made.name) (names_of (map column_of made.columns.items)) (skipped_from 0 (map column_of made.columns.items))
 
 -- What a Create makes: a table, or nothing where one of its name is there; or its fault.
-abbrev pub Makes : Contents → List ℕ → List ℕ → List (List ℕ × List ℕ) → List (List ℕ) → Bool → Result (Option TableInfo) Fault → Type 0
-Makes contents table module_name options columns if_new (Ok (Some made)) = (deserved contents (Create table module_name options columns if_new) ≡ None)
-    × (table_named contents table ≡ None) × IsMade contents table options columns made
-Makes contents table module_name options columns if_new (Ok None) = (deserved contents (Create table module_name options columns if_new) ≡ None)
-    × IsTrue (is_some (table_named contents table))
-Makes contents table module_name options columns if_new (Err fault) = (fault ≡ faults.Memory)
-    ⊎ (deserved contents (Create table module_name options columns if_new) ≡ Some fault)
+abbrev pub Makes : Contents → Creation → Result (Option TableInfo) Fault → Type 0
+Makes contents creation (Ok (Some made)) = (deserved contents (creation_of creation) ≡ None) × (table_named contents (string_bytes creation.table) ≡ None)
+    × IsMade contents creation made
+Makes contents creation (Ok None) = (deserved contents (creation_of creation) ≡ None) × IsTrue (is_some (table_named contents (string_bytes creation.table)))
+Makes contents creation (Err fault) = (fault ≡ faults.Memory) ⊎ (deserved contents (creation_of creation) ≡ Some fault)

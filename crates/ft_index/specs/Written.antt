@@ -20,7 +20,11 @@ use Rattle.ft_documents.specs.Tables.{IsOfDocids}
 use Rattle.ft_index.specs.declared.written.Written.{Written}
 use Rattle.ft_index.specs.Kept.{IsUp, AreHeld, PlansFrom}
 use Rattle.ft_index.specs.Planned.{changes_of, table_change}
-use Rattle.ft_index.specs.Changed.{with_tables, MakesRows}
+use Rattle.ft_content.specs.declared.command.Reply.{Reply}
+use Rattle.ft_content.specs.Command.{Done}
+use Rattle.ft_content.specs.Step.{after, on_table, reply_to, with_documents}
+use Rattle.ft_index.specs.Changed.{with_tables, Does, MakesRows}
+use Rattle.ft_index.specs.DocumentsRead.{LooksTo}
 
 -- The rows and index rows of a table were those of a content with these columns, and the store is
 -- up as the call ends.
@@ -98,3 +102,22 @@ pub record MakesAnew {S X : Type 0} (g : Ghosts S) (anew : Option Written) (old 
 abbrev pub RebuildsIn : {S : Type 0} → Ghosts S → List TableInfo → StoreState S → StoreState S → Command → Result (Option Written) Fault → Type 0
 RebuildsIn g tables old new command (Ok anew) = (changes : List Change) → AreOfAnew anew changes → PlansTo g tables old new command (Ok changes)
 RebuildsIn g tables old new command (Err fault) = PlansTo g tables old new command (Err fault)
+
+-- A command that writes documents of one table alone.
+pub record WritesTable (command : Command) : Type 0 where
+  pub name : List ℕ
+  pub made : Content → Documents
+  pub leaves : (contents : Contents) → after contents command ≡ on_table contents name (with_documents made)
+  pub replies : (contents : Contents) → reply_to contents command ≡ Done
+
+-- What is answered by documents that reads found to be written, or by a fault that they found: it
+-- does what any such command does that they were found for.
+abbrev pub AnswersWritten : {S : Type 0} → Ghosts S → Result Written Fault → StoreState S → StoreState S → Result Reply Fault → Type 0
+AnswersWritten {S} g found mid new answer = (old : StoreState S) (tables : List TableInfo) (command : Command) → WritesTable command
+    → LooksTo g old mid found (WritesIn g tables old mid command found) → Does g (with_tables old tables) command answer (with_tables new tables)
+
+-- the row changes of such documents, or the fault
+abbrev pub PlansWritten : Result Written Fault → Result (Vec RowChange Global) Fault → Type 0
+PlansWritten (Ok written) (Ok changes) = AreOfWritten written (map shown_change changes.items)
+PlansWritten (Ok written) (Err fault) = fault ≡ faults.Memory
+PlansWritten (Err fault) answer = answer ≡ Err fault

@@ -5,16 +5,16 @@ ghost use Rattle.ft_content.specs.Content.{Content};
 ghost use Rattle.ft_content.specs.Answer.{chosen};
 ghost use Rattle.ft_content.specs.Deserved.{delete_fault};
 ghost use Rattle.ft_content.specs.Step.{deleted, docids_of};
-ghost use Rattle.ft_content.specs.Views.{column_of, filter_of, shown_info};
+ghost use Rattle.ft_content.specs.Views.{column_of, filter_of, deletion_of, shown_info};
 ghost use Rattle.ft_index.specs.Changed.{with_tables, Does};
 ghost use Rattle.ft_index.specs.DocumentsRead.{LooksTo};
-ghost use Rattle.ft_index.specs.Written.{HasAll, Writes, PlansIn, WritesIn};
+ghost use Rattle.ft_index.specs.Written.{HasAll, Writes, WritesIn};
 
 use crate::chosen::chosen_documents;
-use crate::written::{Written, make_anew};
-use ft_content::{Fault, Filter, Reply, TableInfo, delete_tests};
+use crate::written::{Written, make_anew, write_found};
+use ft_content::{Deletion, Fault, Filter, Reply, TableInfo, delete_tests};
 use ft_documents::{Document, Rewrite, filter_query, removals, sound_table};
-use ft_store::{RowChange, Store};
+use ft_store::Store;
 use sqlite::Alter;
 use std::alloc::{AllocError, Global};
 
@@ -23,19 +23,16 @@ pub(crate) fn delete_from<S: Alter>(
     alloc: Global,
     store: &mut Store<S>,
     tables: &[TableInfo],
-    table: &str,
-    filter: &Filter,
+    deletion: &Deletion,
 ) -> Result<Reply, Fault>
     ensures { Does S.Store (with_tables store.old (map shown_info tables.now))
-        (plain.Delete table.now (filter_of filter.now)) result (with_tables store.new
-        (map shown_info tables.now)) }
+        (deletion_of deletion.now) result (with_tables store.new (map shown_info tables.now)) }
 {
-    if let Filter::All = filter {
-        return delete_all(alloc, store, tables, table);
+    if let Filter::All = &deletion.filter {
+        return delete_all(alloc, store, tables, deletion.table.as_str());
     }
-    let written = delete_written(alloc, store, tables, table, filter)?;
-    written.make(alloc, store)?;
-    Ok(Reply::Done)
+    let written = delete_written(alloc, store, tables, deletion);
+    write_found(alloc, store, written)
 }
 
 // Answers a Delete of all documents: the table is made anew. Nothing is read of the store.
@@ -59,38 +56,20 @@ fn delete_all<S: Alter>(
     Ok(Reply::Done)
 }
 
-/// The row changes of a Delete, or its fault. The store is only read, whatever is answered.
-pub(crate) fn delete_changes<S: Alter>(
-    alloc: Global,
-    store: &mut Store<S>,
-    tables: &[TableInfo],
-    table: &str,
-    filter: &Filter,
-) -> Result<Vec<RowChange>, Fault>
-    ensures { LooksTo S.Store store.old store.new result
-        (PlansIn S.Store (map shown_info tables.now) store.old store.new (plain.Delete table.now
-        (filter_of filter.now)) result) }
-{
-    let written = delete_written(alloc, store, tables, table, filter)?;
-    let changes = written.changes(alloc)?;
-    Ok(changes)
-}
-
-// The documents that a Delete removes, or its fault. The store is only read, whatever is answered.
-fn delete_written<'t, S: Alter>(
+/// The documents that a Delete removes, or its fault. The store is only read, whatever is answered.
+pub(crate) fn delete_written<'t, S: Alter>(
     alloc: Global,
     store: &mut Store<S>,
     tables: &'t [TableInfo],
-    table: &str,
-    filter: &Filter,
+    deletion: &Deletion,
 ) -> Result<Written<'t>, Fault>
     ensures { LooksTo S.Store store.old store.new result
-        (WritesIn S.Store (map shown_info tables.now) store.old store.new (plain.Delete table.now
-        (filter_of filter.now)) result) }
+        (WritesIn S.Store (map shown_info tables.now) store.old store.new
+        (deletion_of deletion.now) result) }
 {
     store.is_in_order();
-    let known = sound_table(tables, table)?;
-    let rewrites = written_by_delete(alloc, store, known, filter)?;
+    let known = sound_table(tables, deletion.table.as_str())?;
+    let rewrites = written_by_delete(alloc, store, known, &deletion.filter)?;
     Ok(Written {
         table: known,
         rewrites,

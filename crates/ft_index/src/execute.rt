@@ -1,17 +1,18 @@
 //! Commands over a store.
-ghost use Rattle.std.specs.Prelude.{◌≡◌, map, option_map, string_bytes};
-ghost use Rattle.ft_content.specs.Views.{shown_info, names_in, command_of, answer_of};
+ghost use Rattle.std.specs.Prelude.{map};
+ghost use Rattle.ft_content.specs.Views.{shown_info, command_of, answer_of};
 ghost use Rattle.ft_index.specs.Changed.{with_tables, Does, DoesAsked};
 ghost use Rattle.ft_index.specs.RowsRead.{CountsRows};
 
 use crate::check::check_table;
 use crate::delete::delete_from;
-use crate::insert::insert_into;
+use crate::insert::insert_written;
 use crate::optimize::optimize;
 use crate::rebuild::rebuild_table;
 use crate::select::select_from;
 use crate::tables::{create_table, drop_table};
-use crate::update::update_documents;
+use crate::update::update_written;
+use crate::written::write_found;
 use ft_content::{Command, Fault, Reply, TableInfo};
 use ft_store::Store;
 use sqlite::Alter;
@@ -48,80 +49,22 @@ fn execute_command<S: Alter>(
         (with_tables store.new (map shown_info tables.new.items)) }
 {
     match command {
-        Command::Create {
-            table,
-            module,
-            options,
-            columns,
-            if_new,
-        } => create_table(
-            alloc,
-            store,
-            tables,
-            table.as_str(),
-            module.as_str(),
-            options.as_slice(),
-            columns.as_slice(),
-            *if_new,
-        ),
+        Command::Create(creation) => create_table(alloc, store, tables, creation),
         Command::Drop { table, if_there } => {
             drop_table(alloc, store, tables, table.as_str(), *if_there)
         }
-        Command::Insert {
-            table,
-            columns,
-            rows,
-        } => insert_into(
-            alloc,
-            store,
-            tables.as_slice(),
-            table.as_str(),
-            listed(columns),
-            rows.as_slice(),
-        ),
-        Command::Update {
-            table,
-            sets,
-            filter,
-        } => update_documents(
-            alloc,
-            store,
-            tables.as_slice(),
-            table.as_str(),
-            sets.as_slice(),
-            filter,
-        ),
-        Command::Delete { table, filter } => {
-            delete_from(alloc, store, tables.as_slice(), table.as_str(), filter)
+        Command::Insert(insertion) => {
+            let written = insert_written(alloc, store, tables.as_slice(), insertion);
+            write_found(alloc, store, written)
         }
-        Command::Select {
-            table,
-            items,
-            filter,
-            limit,
-            offset,
-        } => select_from(
-            alloc,
-            store,
-            tables.as_slice(),
-            table.as_str(),
-            items,
-            filter,
-            *limit,
-            *offset,
-        ),
+        Command::Update(modification) => {
+            let written = update_written(alloc, store, tables.as_slice(), modification);
+            write_found(alloc, store, written)
+        }
+        Command::Delete(deletion) => delete_from(alloc, store, tables.as_slice(), deletion),
+        Command::Select(select) => select_from(alloc, store, tables.as_slice(), select),
         Command::Rebuild { table } => rebuild_table(alloc, store, tables, table.as_str()),
         Command::Check { table } => check_table(alloc, store, tables.as_slice(), table.as_str()),
         Command::Optimize { table } => optimize(tables.as_slice(), table.as_str()),
-    }
-}
-
-/// The columns that an Insert lists.
-pub(crate) fn listed(columns: &Option<Vec<String>>) -> Option<&[String]>
-    ensures { option_map (λ n. map string_bytes n.now) result ≡ option_map names_in columns.now }
-{
-    match columns {
-        Some(names) => Some(names.as_slice()),
-        None => None,
     }
 }

@@ -5,76 +5,39 @@ ghost use Rattle.sqlite.specs.State.{HasCleanDisk};
 ghost use Rattle.ft_store.specs.Kept.{shows};
 ghost use Rattle.ft_values.specs.declared.fault.Fault.TheVariants as faults;
 ghost use Rattle.ft_content.specs.Content.{Content};
-ghost use Rattle.ft_content.specs.Command as plain;
 ghost use Rattle.ft_content.specs.Deserved.{insert_rows, insert_fault, listed_columns, docids_in};
 ghost use Rattle.ft_content.specs.Step.{inserted, new_docids};
-ghost use Rattle.ft_content.specs.Views.{cells_of, column_of, shown_info};
-ghost use Rattle.ft_index.specs.Changed.{with_tables, Does};
+ghost use Rattle.ft_content.specs.Views.{cells_of, column_of, names_in, insertion_of, shown_info};
 ghost use Rattle.ft_index.specs.DocumentsRead.{HasRows, Looks, LooksTo};
 ghost use Rattle.ft_documents.specs.Gathered.{has_given};
 ghost use Rattle.ft_documents.specs.Inserted.{Inserts};
-ghost use Rattle.ft_index.specs.Written.{HasAll, Writes, PlansIn, WritesIn};
+ghost use Rattle.ft_index.specs.Written.{HasAll, Writes, WritesIn};
 
 use crate::documents::{has_document, last_docid};
 use crate::written::Written;
 use ft_content::{
-    Column, Fault, Reply, TableInfo, Value, insert_tests, listed_names, repeats_name, row_docid,
+    Column, Fault, Insertion, TableInfo, Value, insert_tests, listed_names, repeats_name, row_docid,
 };
 use ft_documents::{Rewrite, made_documents, sound_table};
-use ft_store::{RowChange, Store};
+use ft_store::Store;
 use sqlite::Alter;
 use std::alloc::Global;
 
-/// Answers an Insert.
-pub(crate) fn insert_into<S: Alter>(
-    alloc: Global,
-    store: &mut Store<S>,
-    tables: &[TableInfo],
-    table: &str,
-    columns: Option<&[String]>,
-    rows: &[Vec<Value>],
-) -> Result<Reply, Fault>
-    ensures { Does S.Store (with_tables store.old (map shown_info tables.now))
-        (plain.Insert table.now (option_map (λ n. map string_bytes n.now) columns.entry)
-        (map cells_of rows.now)) result (with_tables store.new (map shown_info tables.now)) }
-{
-    let written = insert_written(alloc, store, tables, table, columns, rows)?;
-    written.make(alloc, store)?;
-    Ok(Reply::Done)
-}
-
-/// The row changes of an Insert, or its fault. The store is only read, whatever is answered.
-pub(crate) fn insert_changes<S: Alter>(
-    alloc: Global,
-    store: &mut Store<S>,
-    tables: &[TableInfo],
-    table: &str,
-    columns: Option<&[String]>,
-    rows: &[Vec<Value>],
-) -> Result<Vec<RowChange>, Fault>
-    ensures { LooksTo S.Store store.old store.new result
-        (PlansIn S.Store (map shown_info tables.now) store.old store.new (plain.Insert table.now
-        (option_map (λ n. map string_bytes n.now) columns.entry) (map cells_of rows.now)) result) }
-{
-    let written = insert_written(alloc, store, tables, table, columns, rows)?;
-    let changes = written.changes(alloc)?;
-    Ok(changes)
-}
-
-// The documents that an Insert makes, or its fault. The store is only read, whatever is answered.
-fn insert_written<'t, S: Alter>(
+/// The documents that an Insert makes, or its fault. The store is only read, whatever is answered.
+pub(crate) fn insert_written<'t, S: Alter>(
     alloc: Global,
     store: &mut Store<S>,
     tables: &'t [TableInfo],
-    table: &str,
-    columns: Option<&[String]>,
-    rows: &[Vec<Value>],
+    insertion: &Insertion,
 ) -> Result<Written<'t>, Fault>
     ensures { LooksTo S.Store store.old store.new result
-        (WritesIn S.Store (map shown_info tables.now) store.old store.new (plain.Insert table.now
-        (option_map (λ n. map string_bytes n.now) columns.entry) (map cells_of rows.now)) result) }
+        (WritesIn S.Store (map shown_info tables.now) store.old store.new
+        (insertion_of insertion.now) result) }
 {
     store.is_in_order();
+    let table = insertion.table.as_str();
+    let columns = listed(&insertion.columns);
+    let rows = insertion.rows.as_slice();
     if lists_twice(alloc, columns) {
         return Err(Fault::DuplicateColumn);
     }
@@ -84,6 +47,16 @@ fn insert_written<'t, S: Alter>(
         table: known,
         rewrites,
     })
+}
+
+// The columns that an Insert lists.
+fn listed(columns: &Option<Vec<String>>) -> Option<&[String]>
+    ensures { option_map (λ n. map string_bytes n.now) result ≡ option_map names_in columns.now }
+{
+    match columns {
+        Some(names) => Some(names.as_slice()),
+        None => None,
+    }
 }
 
 // Whether a column is listed twice.

@@ -21,5 +21,8 @@ mod tables;
 mod update;
 mod written;
 
-pub use ft_content::{Column, Command, Fault, Filter, Grid, Item, Items, Reply, TableInfo, Value};
+pub use ft_content::{
+    Column, Command, Creation, Deletion, Fault, Filter, Grid, Insertion, Item, Items, Modification,
+    Reply, Selection, TableInfo, Value,
+};
 pub use full_text::{FullText, NewFault};

@@ -1,20 +1,20 @@
 //! The row changes that commands ask for.
-ghost use Rattle.std.specs.Prelude.{◌≡◌, map, option_map, string_bytes};
+ghost use Rattle.std.specs.Prelude.{map};
 ghost use Rattle.ft_content.specs.Command as plain;
-ghost use Rattle.ft_content.specs.Views.{shown_info, names_in, command_of};
+ghost use Rattle.ft_content.specs.Views.{shown_info, command_of};
 ghost use Rattle.ft_index.specs.DocumentsRead.{Looks};
 ghost use Rattle.ft_index.specs.Planned.{PlansOver};
 ghost use Rattle.ft_index.specs.Written.{PlansIn};
 
 use crate::check::check_table;
-use crate::delete::delete_changes;
-use crate::execute::listed;
-use crate::insert::insert_changes;
+use crate::delete::delete_written;
+use crate::insert::insert_written;
 use crate::optimize::optimize;
 use crate::rebuild::rebuild_changes;
 use crate::select::select_changes;
 use crate::tables::{create_changes, drop_changes};
-use crate::update::update_changes;
+use crate::update::update_written;
+use crate::written::found_changes;
 use ft_content::{Command, Fault, TableInfo};
 use ft_store::{RowChange, Store};
 use sqlite::Alter;
@@ -34,57 +34,21 @@ pub(crate) fn planned_changes<S: Alter>(
 {
     store.is_in_order();
     match command {
-        Command::Create {
-            table,
-            module,
-            options,
-            columns,
-            if_new,
-        } => create_changes(
-            alloc,
-            tables,
-            table.as_str(),
-            module.as_str(),
-            options.as_slice(),
-            columns.as_slice(),
-            *if_new,
-        ),
+        Command::Create(creation) => create_changes(alloc, tables, creation),
         Command::Drop { table, if_there } => {
             drop_changes(alloc, tables, table.as_str(), *if_there)
         }
-        Command::Insert {
-            table,
-            columns,
-            rows,
-        } => insert_changes(
-            alloc,
-            store,
-            tables,
-            table.as_str(),
-            listed(columns),
-            rows.as_slice(),
-        ),
-        Command::Update {
-            table,
-            sets,
-            filter,
-        } => update_changes(
-            alloc,
-            store,
-            tables,
-            table.as_str(),
-            sets.as_slice(),
-            filter,
-        ),
-        Command::Delete { table, filter } => {
-            delete_changes(alloc, store, tables, table.as_str(), filter)
+        Command::Insert(insertion) => {
+            found_changes(alloc, insert_written(alloc, store, tables, insertion))
         }
-        Command::Select {
-            table,
-            items,
-            filter,
-            ..
-        } => select_changes(alloc, tables, table.as_str(), items, filter),
+        Command::Update(modification) => {
+            found_changes(alloc, update_written(alloc, store, tables, modification))
+        }
+        Command::Delete(deletion) => found_changes(
+            alloc,
+            delete_written(alloc, store, tables, deletion),
+        ),
+        Command::Select(select) => select_changes(alloc, tables, select),
         Command::Rebuild { table } => rebuild_changes(alloc, store, tables, table.as_str()),
         Command::Check { table } => check_changes(alloc, store, tables, table.as_str()),
         Command::Optimize { table } => optimize_changes(alloc, tables, table.as_str()),

@@ -14,7 +14,7 @@ ghost use Rattle.ft_content.specs.Command.{Match};
 ghost use Rattle.ft_content.specs.Answer as answer;
 ghost use Rattle.ft_content.specs.Answer.{chosen, query_in};
 ghost use Rattle.ft_content.specs.Deserved as deserved;
-ghost use Rattle.ft_content.specs.Views.{bare_content, cells_of, rows_of, column_of, item_of, items_of, filter_of, shown_info, grid_of, answer_of};
+ghost use Rattle.ft_content.specs.Views.{bare_content, cells_of, rows_of, column_of, item_of, items_of, filter_of, selection_of, shown_info, grid_of, answer_of};
 ghost use Rattle.ft_index.specs.Kept.{Executes, OnlyLooks, IsOutside};
 ghost use Rattle.ft_index.specs.Changed.{with_tables};
 ghost use Rattle.ft_index.specs.Planned.{PlansOver};
@@ -29,10 +29,10 @@ use crate::chosen::{chosen_documents, documents_under, found_cells};
 use crate::documents::docids;
 use crate::matching::matched;
 use ft_content::{
-    Column, Fault, Filter, Grid, Item, Items, Reply, TableInfo, Value, answer_names, any_offsets,
-    count_rows, cut, is_docid, item_row, read_query, select_tests,
+    Column, Fault, Filter, Grid, Item, Items, Reply, Selection, TableInfo, Value, answer_names,
+    any_offsets, count_rows, cut, is_docid, item_row, read_query, select_tests,
 };
-use ft_documents::{Document, sound_place, sound_table};
+use ft_documents::{Document, sound_table};
 use ft_query::{Hit, Query, offsets_text};
 use ft_store::{RowChange, Store};
 use sqlite::Alter;
@@ -43,18 +43,14 @@ pub(crate) fn select_from<S: Alter>(
     alloc: Global,
     store: &mut Store<S>,
     tables: &[TableInfo],
-    table: &str,
-    items: &Items,
-    filter: &Filter,
-    limit: Option<u64>,
-    offset: u64,
+    select: &Selection,
 ) -> Result<Reply, Fault>
     ensures executes { Executes S.Store (with_tables store.old (map shown_info tables.now))
-        (plain.Select table.now (items_of items.now) (filter_of filter.now) limit offset)
-        (answer_of result) (with_tables store.new (map shown_info tables.now)) }
+        (selection_of select.now) (answer_of result)
+        (with_tables store.new (map shown_info tables.now)) }
     ensures counts { CountsRows S.Store (with_tables store.old (map shown_info tables.now))
-        (plain.Select table.now (items_of items.now) (filter_of filter.now) limit offset)
-        (answer_of result) (with_tables store.new (map shown_info tables.now)) }
+        (selection_of select.now) (answer_of result)
+        (with_tables store.new (map shown_info tables.now)) }
     ensures looks { OnlyLooks S.Store (with_tables store.old (map shown_info tables.now))
         (with_tables store.new (map shown_info tables.now)) }
     ensures live { HasCleanDisk (shows S.Store store.new)
@@ -62,19 +58,9 @@ pub(crate) fn select_from<S: Alter>(
         → IsTrue (shows S.Store store.new).is_open) }
 {
     store.is_in_order();
-    let place = sound_place(tables, table)?;
-    let info = &tables[place];
-    let query = select_query(alloc, info, items, filter)?;
-    let grid = select_grid(
-        alloc,
-        store,
-        info,
-        items,
-        filter,
-        query.as_ref(),
-        limit,
-        offset,
-    )?;
+    let info = sound_table(tables, select.table.as_str())?;
+    let query = select_query(alloc, info, select)?;
+    let grid = select_grid(alloc, store, info, select, query.as_ref())?;
     Ok(Reply::Rows(grid))
 }
 
@@ -82,35 +68,28 @@ pub(crate) fn select_from<S: Alter>(
 pub(crate) fn select_changes(
     alloc: Global,
     tables: &[TableInfo],
-    table: &str,
-    items: &Items,
-    filter: &Filter,
+    select: &Selection,
 ) -> Result<Vec<RowChange>, Fault>
-    ensures { (limit : Option ℕ) (offset : ℕ)
-        → PlansOver tables.now (plain.Select table.now (items_of items.now) (filter_of filter.now)
-        limit offset) result }
+    ensures { PlansOver tables.now (selection_of select.now) result }
 {
-    let info = sound_table(tables, table)?;
-    select_query(alloc, info, items, filter)?;
+    let info = sound_table(tables, select.table.as_str())?;
+    select_query(alloc, info, select)?;
     Ok(Vec::new(alloc))
 }
 
 /// The query of a Select over a table, after the tests of its names, or the fault that it deserves.
-fn select_query(
-    alloc: Global,
-    info: &TableInfo,
-    items: &Items,
-    filter: &Filter,
-) -> Result<Option<Query>, Fault>
+fn select_query(alloc: Global, info: &TableInfo, select: &Selection) -> Result<Option<Query>, Fault>
     ensures query { IfOk result (λ query. ReadsAs (bare_content info.now.columns.items)
-        (filter_of filter.now) (option_map tree_of query)) }
+        (filter_of select.now.filter) (option_map tree_of query)) }
     ensures fine { OnOk result (deserved.select_fault (string_bytes info.now.name)
-        (bare_content info.now.columns.items) (items_of items.now) (filter_of filter.now) ≡ None) }
+        (bare_content info.now.columns.items) (items_of select.now.items)
+        (filter_of select.now.filter) ≡ None) }
     ensures fault { IfErr result (λ fault. (fault ≡ faults.Memory)
         ⊎ (deserved.select_fault (string_bytes info.now.name) (bare_content info.now.columns.items)
-        (items_of items.now) (filter_of filter.now) ≡ Some fault)) }
+        (items_of select.now.items) (filter_of select.now.filter) ≡ Some fault)) }
 {
     let columns = info.columns.as_slice();
+    let Selection { items, filter, .. } = select;
     if let Some(fault) = select_tests(info.name.as_str(), columns, items, filter) {
         return Err(fault);
     }
@@ -125,30 +104,27 @@ fn select_grid<S: Alter>(
     alloc: Global,
     store: &mut Store<S>,
     info: &TableInfo,
-    items: &Items,
-    filter: &Filter,
+    select: &Selection,
     query: Option<&Query>,
-    limit: Option<u64>,
-    offset: u64,
 ) -> Result<Grid, Fault>
     ensures looks { LooksFor S.Store store.old store.new result IsOutside
         (IfOk result (λ grid. (content : Content) → IsAsked S.Store info.now.id
-        (map column_of info.now.columns.items) (items_of items.now) (filter_of filter.now)
-        (option_map (λ q. tree_of q.now) query.entry) store.old store.new content → grid_of grid
-        ≡ answer.answer (string_bytes info.now.name) content (items_of items.now)
-        (filter_of filter.now) limit offset)) }
+        (map column_of info.now.columns.items) (items_of select.now.items)
+        (filter_of select.now.filter) (option_map (λ q. tree_of q.now) query.entry) store.old
+        store.new content → grid_of grid ≡ answer.answer (string_bytes info.now.name) content
+        (items_of select.now.items) (filter_of select.now.filter) select.now.limit
+        select.now.offset)) }
     ensures counted { OnOk result ((content : Content)
-        → IsAsked S.Store info.now.id (map column_of info.now.columns.items) (items_of items.now)
-        (filter_of filter.now) (option_map (λ q. tree_of q.now) query.entry) store.old store.new
-        content → IsTrue (deserved.is_match (filter_of filter.now))
-        → store.new.rows_read ≡ more_rows (rows_asked content (items_of items.now)
-        (filter_of filter.now) limit offset) store.old) }
+        → IsAsked S.Store info.now.id (map column_of info.now.columns.items)
+        (items_of select.now.items) (filter_of select.now.filter)
+        (option_map (λ q. tree_of q.now) query.entry) store.old store.new content
+        → IsTrue (deserved.is_match (filter_of select.now.filter))
+        → store.new.rows_read ≡ more_rows (rows_asked content (items_of select.now.items)
+        (filter_of select.now.filter) select.now.limit select.now.offset) store.old) }
 {
     let columns = info.columns.as_slice();
-    let rows = selected_rows(
-        alloc, store, info.id, columns, items, filter, query, limit, offset,
-    )?;
-    let names = answer_names(alloc, info.name.as_str(), columns, items)?;
+    let rows = selected_rows(alloc, store, info.id, columns, select, query)?;
+    let names = answer_names(alloc, info.name.as_str(), columns, &select.items)?;
     Ok(Grid { names, rows })
 }
 
@@ -158,41 +134,38 @@ fn selected_rows<S: Alter>(
     store: &mut Store<S>,
     tab: i64,
     columns: &[Column],
-    items: &Items,
-    filter: &Filter,
+    select: &Selection,
     query: Option<&Query>,
-    limit: Option<u64>,
-    offset: u64,
 ) -> Result<Vec<Vec<Value>>, Fault>
     ensures looks { LooksFor S.Store store.old store.new result IsOutside
         (IfOk result (λ found. (content : Content) → IsAsked S.Store tab
-        (map column_of columns.now) (items_of items.now) (filter_of filter.now) (option_map
-        (λ q. tree_of q.now) query.entry) store.old store.new content → rows_of found
-        ≡ answer.cut limit offset (answer.answer_rows content (items_of items.now)
-        (filter_of filter.now)))) }
+        (map column_of columns.now) (items_of select.now.items) (filter_of select.now.filter)
+        (option_map (λ q. tree_of q.now) query.entry) store.old store.new content
+        → rows_of found ≡ answer.cut select.now.limit select.now.offset (answer.answer_rows content
+        (items_of select.now.items) (filter_of select.now.filter)))) }
     ensures counted { OnOk result ((content : Content)
-        → IsAsked S.Store tab (map column_of columns.now) (items_of items.now)
-        (filter_of filter.now) (option_map (λ q. tree_of q.now) query.entry) store.old store.new
-        content → IsTrue (deserved.is_match (filter_of filter.now))
-        → store.new.rows_read ≡ more_rows (rows_asked content (items_of items.now)
-        (filter_of filter.now) limit offset) store.old) }
+        → IsAsked S.Store tab (map column_of columns.now) (items_of select.now.items)
+        (filter_of select.now.filter) (option_map (λ q. tree_of q.now) query.entry) store.old
+        store.new content → IsTrue (deserved.is_match (filter_of select.now.filter))
+        → store.new.rows_read ≡ more_rows (rows_asked content (items_of select.now.items)
+        (filter_of select.now.filter) select.now.limit select.now.offset) store.old) }
 {
-    match items {
+    match &select.items {
         Items::Count => {
-            let count = chosen_count(alloc, store, tab, filter, query)?;
-            Ok(count_rows(alloc, count, limit, offset)?)
+            let count = chosen_count(alloc, store, tab, &select.filter, query)?;
+            Ok(count_rows(alloc, count, select.limit, select.offset)?)
         }
         Items::List(list) => {
             let list = list.as_slice();
-            match filter {
-                Filter::Match { .. } => matched_rows(
-                    alloc, store, tab, columns, list, query, limit, offset,
-                ),
-                Filter::All if limit.is_some() || !has_column(list) => {
-                    listed_rows(alloc, store, tab, columns, list, limit, offset)
+            match &select.filter {
+                Filter::Match { .. } => {
+                    matched_rows(alloc, store, tab, columns, list, query, select)
+                }
+                Filter::All if select.limit.is_some() || !has_column(list) => {
+                    listed_rows(alloc, store, tab, columns, list, select)
                 }
                 Filter::All | Filter::Docid(_) => {
-                    read_rows(alloc, store, tab, columns, list, filter, limit, offset)
+                    read_rows(alloc, store, tab, columns, list, select)
                 }
             }
         }
@@ -242,16 +215,15 @@ fn listed_rows<S: Alter>(
     tab: i64,
     columns: &[Column],
     items: &[Item],
-    limit: Option<u64>,
-    offset: u64,
+    select: &Selection,
 ) -> Result<Vec<Vec<Value>>, Fault>
     ensures { LooksFor S.Store store.old store.new result IsOutside
         (IfOk result (λ found. (content : Content) → IsAsked S.Store tab
         (map column_of columns.now) (plain.Listed (map item_of items.now)) plain.All None store.old
-        store.new content → rows_of found ≡ answer.cut limit offset (answer.answer_rows content
-        (plain.Listed (map item_of items.now)) plain.All))) }
+        store.new content → rows_of found ≡ answer.cut select.now.limit select.now.offset
+        (answer.answer_rows content (plain.Listed (map item_of items.now)) plain.All))) }
 {
-    let docids = docids(alloc, store, tab, limit, offset)?;
+    let docids = docids(alloc, store, tab, select.limit, select.offset)?;
     if !has_column(items) {
         let documents = bare_documents(alloc, docids.as_slice())?;
         return Ok(document_rows(alloc, columns, items, documents.as_slice())?);
@@ -282,20 +254,18 @@ fn read_rows<S: Alter>(
     tab: i64,
     columns: &[Column],
     items: &[Item],
-    filter: &Filter,
-    limit: Option<u64>,
-    offset: u64,
+    select: &Selection,
 ) -> Result<Vec<Vec<Value>>, Fault>
     ensures { LooksFor S.Store store.old store.new result IsOutside
         (IfOk result (λ found. (content : Content) → IsAsked S.Store tab
         (map column_of columns.now) (plain.Listed (map item_of items.now))
-        (filter_of filter.now) None store.old store.new content
-        → deserved.is_match (filter_of filter.now) ≡ false → rows_of found
-        ≡ answer.cut limit offset (answer.answer_rows content (plain.Listed
-        (map item_of items.now)) (filter_of filter.now)))) }
+        (filter_of select.now.filter) None store.old store.new content
+        → deserved.is_match (filter_of select.now.filter) ≡ false → rows_of found
+        ≡ answer.cut select.now.limit select.now.offset (answer.answer_rows content (plain.Listed
+        (map item_of items.now)) (filter_of select.now.filter)))) }
 {
-    let documents = chosen_documents(alloc, store, tab, filter, None)?;
-    let answered = cut(documents.as_slice(), limit, offset);
+    let documents = chosen_documents(alloc, store, tab, &select.filter, None)?;
+    let answered = cut(documents.as_slice(), select.limit, select.offset);
     Ok(document_rows(alloc, columns, items, answered)?)
 }
 
@@ -327,25 +297,24 @@ fn matched_rows<S: Alter>(
     columns: &[Column],
     items: &[Item],
     query: Option<&Query>,
-    limit: Option<u64>,
-    offset: u64,
+    select: &Selection,
 ) -> Result<Vec<Vec<Value>>, Fault>
     ensures looks { LooksFor S.Store store.old store.new result IsOutside
         (IfOk result (λ found. (content : Content) (name text : List ℕ)
         → IsAsked S.Store tab (map column_of columns.now) (plain.Listed (map item_of items.now))
         (Match name text) (option_map
         (λ q. tree_of q.now) query.entry) store.old store.new content → rows_of found
-        ≡ answer.cut limit offset (answer.answer_rows content (plain.Listed
+        ≡ answer.cut select.now.limit select.now.offset (answer.answer_rows content (plain.Listed
         (map item_of items.now)) (Match name text)))) }
     ensures counted { OnOk result ((content : Content) (name text : List ℕ)
         → IsAsked S.Store tab (map column_of columns.now) (plain.Listed (map item_of items.now))
         (Match name text) (option_map (λ q. tree_of q.now) query.entry) store.old store.new content
         → store.new.rows_read ≡ more_rows (rows_asked content (plain.Listed (map item_of items.now))
-        (Match name text) limit offset) store.old) }
+        (Match name text) select.now.limit select.now.offset) store.old) }
 {
-    let most = most_hits(limit, offset);
+    let most = most_hits(select.limit, select.offset);
     let hits = matched(store, alloc, tab, query, any_offsets(items), most)?;
-    let answered = cut(hits.as_slice(), limit, offset);
+    let answered = cut(hits.as_slice(), select.limit, select.offset);
     if has_column(items) {
         cell_rows(alloc, store, tab, columns, items, answered)
     } else {

@@ -2,7 +2,7 @@
 ghost use Rattle.std.specs.Prelude.{◌≡◌, ◌∷◌, [], if◌then◌else◌, map, string_bytes, is_ok, IfOk};
 ghost use Rattle.ft_rows.specs.Changes.{shown_change};
 ghost use Rattle.ft_content.specs.Command as plain;
-ghost use Rattle.ft_content.specs.Views.{shown_info, option_of};
+ghost use Rattle.ft_content.specs.Views.{shown_info, creation_of};
 ghost use Rattle.ft_content.specs.Deserved.{Contents};
 ghost use Rattle.ft_index.specs.Kept.{told_table};
 ghost use Rattle.ft_index.specs.Planned.{PlansOver, Makes, table_change};
@@ -11,7 +11,7 @@ ghost use Rattle.ft_documents.specs.Found.{with_told};
 
 use crate::change::change_rows;
 use ft_content::{
-    Column, Fault, Reply, TableInfo, create_fault, free_id, made_columns, made_names,
+    Column, Creation, Fault, Reply, TableInfo, create_fault, free_id, made_columns, made_names,
 };
 use ft_documents::{column_names, insert_table, remove_table, skipped};
 use ft_store::{RowChange, Store};
@@ -23,33 +23,20 @@ use std::alloc::{AllocError, Global};
 pub(crate) fn made_table(
     alloc: Global,
     tables: &[TableInfo],
-    table: &str,
-    module_name: &str,
-    options: &[(String, String)],
-    columns: &[String],
-    if_new: bool,
+    creation: &Creation,
 ) -> Result<Option<TableInfo>, Fault>
     ensures { (contents : Contents) → map shown_info tables.now ≡ map told_table contents
-        → Makes contents table.now module_name.now (map option_of options.now)
-        (map string_bytes columns.now) if_new result }
+        → Makes contents creation.now result }
 {
-    let names = made_names(alloc, columns)?;
-    if let Some(fault) = create_fault(
-        alloc,
-        tables,
-        table,
-        module_name,
-        options,
-        names.as_slice(),
-        if_new,
-    ) {
+    let names = made_names(alloc, creation.columns.as_slice())?;
+    if let Some(fault) = create_fault(alloc, tables, creation, names.as_slice()) {
         return Err(fault);
     }
-    if table_place(tables, table).is_some() {
+    if table_place(tables, creation.table.as_str()).is_some() {
         return Ok(None);
     }
-    let name = String::from_str(alloc, table)?;
-    let columns = made_columns(alloc, options, names)?;
+    let name = creation.table.clone()?;
+    let columns = made_columns(alloc, creation.options.as_slice(), names)?;
     Ok(Some(TableInfo {
         id: free_id(tables),
         name,
@@ -72,16 +59,11 @@ pub(crate) fn adding(alloc: Global, table: &TableInfo) -> Result<RowChange, Allo
 pub(crate) fn create_changes(
     alloc: Global,
     tables: &[TableInfo],
-    table: &str,
-    module_name: &str,
-    options: &[(String, String)],
-    columns: &[String],
-    if_new: bool,
+    creation: &Creation,
 ) -> Result<Vec<RowChange>, Fault>
-    ensures { PlansOver tables.now (plain.Create table.now module_name.now
-        (map option_of options.now) (map string_bytes columns.now) if_new) result }
+    ensures { PlansOver tables.now (creation_of creation.now) result }
 {
-    let made = made_table(alloc, tables, table, module_name, options, columns, if_new)?;
+    let made = made_table(alloc, tables, creation)?;
     let mut changes = Vec::new(alloc);
     if let Some(made) = made {
         changes.push(adding(alloc, &made)?)?;
@@ -94,27 +76,14 @@ pub(crate) fn create_table<S: Alter>(
     alloc: Global,
     store: &mut Store<S>,
     tables: &mut Vec<TableInfo>,
-    table: &str,
-    module_name: &str,
-    options: &[(String, String)],
-    columns: &[String],
-    if_new: bool,
+    creation: &Creation,
 ) -> Result<Reply, Fault>
     ensures { Does S.Store (with_tables store.old (map shown_info tables.old.items))
-        (plain.Create table.now module_name.now (map option_of options.now)
-        (map string_bytes columns.now) if_new) result (with_tables store.new
+        (creation_of creation.now) result (with_tables store.new
         (map shown_info tables.new.items)) }
 {
     store.is_in_order();
-    let made = made_table(
-        alloc,
-        tables.as_slice(),
-        table,
-        module_name,
-        options,
-        columns,
-        if_new,
-    )?;
+    let made = made_table(alloc, tables.as_slice(), creation)?;
     if let Some(made) = made {
         add_table(alloc, store, tables, made)?;
     }

@@ -1,85 +1,48 @@
 //! Documents that an Update changes.
 ghost use Rattle.std.specs.Prelude.{◌≡◌, ◌⊎◌, List, Option, None, Some, ℤ, map, slice_get, string_bytes, MatchResult, IfOk};
 ghost use Rattle.ft_values.specs.declared.fault.Fault.TheVariants as faults;
-ghost use Rattle.ft_content.specs.Command as plain;
 ghost use Rattle.ft_content.specs.Content.{Content};
 ghost use Rattle.ft_content.specs.Answer.{chosen};
 ghost use Rattle.ft_content.specs.Deserved as deserved;
 ghost use Rattle.ft_content.specs.Step.{updated};
-ghost use Rattle.ft_content.specs.Views.{column_of, set_of, filter_of, shown_info};
-ghost use Rattle.ft_index.specs.Changed.{with_tables, Does};
+ghost use Rattle.ft_content.specs.Views.{column_of, set_of, filter_of, modification_of, shown_info};
 ghost use Rattle.ft_index.specs.DocumentsRead.{HasRows, LooksTo};
 ghost use Rattle.ft_documents.specs.Gathered.{shown_document};
 ghost use Rattle.ft_documents.specs.Updated.{update_touches};
-ghost use Rattle.ft_index.specs.Written.{HasAll, Writes, PlansIn, WritesIn};
+ghost use Rattle.ft_index.specs.Written.{HasAll, Writes, WritesIn};
 
 use crate::chosen::chosen_documents;
 use crate::documents::has_document;
 use crate::written::Written;
 use ft_content::{
-    Column, Fault, Filter, Reply, TableInfo, Value, moves_fault, repeats_set, set_docid,
+    Column, Fault, Filter, Modification, TableInfo, Value, moves_fault, repeats_set, set_docid,
     update_tests, with_values,
 };
 use ft_documents::{Document, Rewrite, filter_query, sound_table, update_rewrites};
-use ft_store::{RowChange, Store};
+use ft_store::Store;
 use sqlite::Alter;
 use std::alloc::{AllocError, Global};
 
-/// Answers an Update.
-pub(crate) fn update_documents<S: Alter>(
-    alloc: Global,
-    store: &mut Store<S>,
-    tables: &[TableInfo],
-    table: &str,
-    sets: &[(String, Value)],
-    filter: &Filter,
-) -> Result<Reply, Fault>
-    ensures { Does S.Store (with_tables store.old (map shown_info tables.now))
-        (plain.Update table.now (map set_of sets.now) (filter_of filter.now)) result
-        (with_tables store.new (map shown_info tables.now)) }
-{
-    let written = update_written(alloc, store, tables, table, sets, filter)?;
-    written.make(alloc, store)?;
-    Ok(Reply::Done)
-}
-
-/// The row changes of an Update, or its fault. The store is only read, whatever is answered.
-pub(crate) fn update_changes<S: Alter>(
-    alloc: Global,
-    store: &mut Store<S>,
-    tables: &[TableInfo],
-    table: &str,
-    sets: &[(String, Value)],
-    filter: &Filter,
-) -> Result<Vec<RowChange>, Fault>
-    ensures { LooksTo S.Store store.old store.new result
-        (PlansIn S.Store (map shown_info tables.now) store.old store.new (plain.Update table.now
-        (map set_of sets.now) (filter_of filter.now)) result) }
-{
-    let written = update_written(alloc, store, tables, table, sets, filter)?;
-    let changes = written.changes(alloc)?;
-    Ok(changes)
-}
-
-// The documents that an Update changes, or its fault. The store is only read, whatever is answered.
-fn update_written<'t, S: Alter>(
+/// The documents that an Update changes, or its fault. The store is only read, whatever is
+/// answered.
+pub(crate) fn update_written<'t, S: Alter>(
     alloc: Global,
     store: &mut Store<S>,
     tables: &'t [TableInfo],
-    table: &str,
-    sets: &[(String, Value)],
-    filter: &Filter,
+    modification: &Modification,
 ) -> Result<Written<'t>, Fault>
     ensures { LooksTo S.Store store.old store.new result
-        (WritesIn S.Store (map shown_info tables.now) store.old store.new (plain.Update table.now
-        (map set_of sets.now) (filter_of filter.now)) result) }
+        (WritesIn S.Store (map shown_info tables.now) store.old store.new
+        (modification_of modification.now) result) }
 {
     store.is_in_order();
+    let table = modification.table.as_str();
+    let sets = modification.sets.as_slice();
     if repeats_set(alloc, sets) {
         return Err(Fault::DuplicateColumn);
     }
     let known = sound_table(tables, table)?;
-    let rewrites = written_by_update(alloc, store, known, sets, filter)?;
+    let rewrites = written_by_update(alloc, store, known, sets, &modification.filter)?;
     Ok(Written {
         table: known,
         rewrites,

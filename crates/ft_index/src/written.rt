@@ -5,11 +5,11 @@ ghost use Rattle.ft_content.specs.Views.{column_of};
 ghost use Rattle.ft_documents.specs.Rewrite.{shown_rewrite};
 ghost use Rattle.ft_documents.specs.RewriteRows.{rewrite_changes};
 ghost use Rattle.ft_rows.specs.Changes.{shown_change};
-ghost use Rattle.ft_index.specs.Written.{first_parts, AreOfAnew, MakesAnew};
+ghost use Rattle.ft_index.specs.Written.{first_parts, AnswersWritten, PlansWritten, AreOfAnew, MakesAnew};
 
 use crate::change::change_parts;
 use crate::tables::adding;
-use ft_content::{Fault, TableInfo};
+use ft_content::{Fault, Reply, TableInfo};
 use ft_documents::{Rewrite, in_groups, row_changes};
 use ft_store::{Parts, RowChange, Store};
 use sqlite::Alter;
@@ -70,6 +70,31 @@ impl Written<'_> {
         };
         change_parts(store, &mut parts)
     }
+}
+
+/// Answers a command by the documents that it was found to write, or by its fault.
+pub(crate) fn write_found<S: Alter>(
+    alloc: Global,
+    store: &mut Store<S>,
+    found: Result<Written, Fault>,
+) -> Result<Reply, Fault>
+    ensures { AnswersWritten S.Store found.entry store.old store.new result }
+{
+    let written = found?;
+    written.make(alloc, store)?;
+    Ok(Reply::Done)
+}
+
+/// The row changes of a command that was found to write documents, or its fault.
+pub(crate) fn found_changes(
+    alloc: Global,
+    found: Result<Written, Fault>,
+) -> Result<Vec<RowChange>, Fault>
+    ensures { PlansWritten found.entry result }
+{
+    let written = found?;
+    let changes = written.changes(alloc)?;
+    Ok(changes)
 }
 
 /// The row changes that make a table anew with documents, none where nothing is to be made.

@@ -4,7 +4,7 @@ use super::commands::begun;
 use super::{answer, taken};
 use crate::empty::{Begins, Trial, tried};
 use crate::store::all_read;
-use ft_index::{Command, Fault, Filter, FullText, Reply};
+use ft_index::{Command, Deletion, Fault, Filter, FullText, Insertion, Reply};
 use ft_store::{RowChange, Store};
 use sqlite::Alter;
 use std::alloc::{AllocError, Global};
@@ -23,19 +23,19 @@ enum Order {
 fn command_of(alloc: Global, order: Order) -> Result<Command, AllocError> {
     let table = "d".to_string(alloc)?;
     match order {
-        Order::InsertNone => Ok(Command::Insert {
+        Order::InsertNone => Ok(Command::Insert(Insertion {
             table,
             columns: None,
             rows: Vec::new(alloc),
-        }),
-        Order::DeleteFirst => Ok(Command::Delete {
+        })),
+        Order::DeleteFirst => Ok(Command::Delete(Deletion {
             table,
             filter: Filter::Docid(1),
-        }),
-        Order::DeleteAll => Ok(Command::Delete {
+        })),
+        Order::DeleteAll => Ok(Command::Delete(Deletion {
             table,
             filter: Filter::All,
-        }),
+        })),
         Order::Check => Ok(Command::Check { table }),
         Order::Drop { if_there } => Ok(Command::Drop { table, if_there }),
     }

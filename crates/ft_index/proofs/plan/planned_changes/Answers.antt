@@ -1,18 +1,31 @@
--- by the plan of a Select
-use Rattle.std.proofs.Common.{sym, subst}
-use Rattle.ft_store.specs.Kept.{value_in}
+-- by what each command was found to write
+use Rattle.std.proofs.Common.{sym, subst, map}
 use Rattle.ft_content.specs.declared.command.Command.{Command}
-use Rattle.ft_content.specs.Command as plain
-use Rattle.ft_content.specs.Views.{items_of, filter_of, command_of}
-use Rattle.ft_index.specs.Kept.{PlansFrom}
-use Rattle.ft_index.specs.Planned.{changes_of}
+use Rattle.ft_content.specs.Views.{shown_info, command_of, insertion_of, modification_of, deletion_of}
+use Rattle.ft_index.specs.Written.{PlansIn}
+use Rattle.ft_index.proofs.Doing.{plans_written}
 use Rattle.ft_index.proofs.plan.planned_changes.Goals as goal
 
-pub returns-in-Select-clause-plans : goal.returns-in-Select-clause-plans
-returns-in-Select-clause-plans g c up contents held =
-    let w = c.in-Select in
-    let store = value_in g.S.Store c.args.store.now in
-    let answer = changes_of c.select_changes.result in
-    let here = subst (λ name. PlansFrom contents (plain.Select name (items_of w.items) (filter_of w.filter) w.limit w.offset) store answer) c.as_str-in-Select.ensures.value
-    (c.select_changes.ensures w.limit w.offset store contents c.is_in_order.ensures.order held) in
-    subst (λ (x : Command). PlansFrom contents (command_of x) store answer) (sym w.is) here
+pub returns-in-Insert-clause-plans : goal.returns-in-Insert-clause-plans
+returns-in-Insert-clause-plans g c =
+    let tables = map shown_info c.args.tables.now in
+    let old = c.args.store.now in
+    let new = c.insert_written.new.store in
+    subst (λ (x : Command). PlansIn g.S.Store tables old new (command_of x) c.found_changes.result) (sym c.in-Insert.is)
+    (plans_written g.S.Store tables old new (insertion_of c.in-Insert.insertion) c.insert_written.result c.found_changes.result c.insert_written.ensures.told c.found_changes.ensures)
+
+pub returns-in-Update-clause-plans : goal.returns-in-Update-clause-plans
+returns-in-Update-clause-plans g c =
+    let tables = map shown_info c.args.tables.now in
+    let old = c.args.store.now in
+    let new = c.update_written.new.store in
+    subst (λ (x : Command). PlansIn g.S.Store tables old new (command_of x) c.found_changes-in-Update.result) (sym c.in-Update.is)
+    (plans_written g.S.Store tables old new (modification_of c.in-Update.modification) c.update_written.result c.found_changes-in-Update.result c.update_written.ensures.told c.found_changes-in-Update.ensures)
+
+pub returns-in-Delete-clause-plans : goal.returns-in-Delete-clause-plans
+returns-in-Delete-clause-plans g c =
+    let tables = map shown_info c.args.tables.now in
+    let old = c.args.store.now in
+    let new = c.delete_written.new.store in
+    subst (λ (x : Command). PlansIn g.S.Store tables old new (command_of x) c.found_changes-in-Delete.result) (sym c.in-Delete.is)
+    (plans_written g.S.Store tables old new (deletion_of c.in-Delete.deletion) c.delete_written.result c.found_changes-in-Delete.result c.delete_written.ensures.told c.found_changes-in-Delete.ensures)

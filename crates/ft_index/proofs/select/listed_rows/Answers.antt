@@ -27,16 +27,16 @@ returns-then-not-has_column g c = record {
       let here = subst (λ (k : ℤ). HasRows g.S.Store k c.args.store.now c.docids.new.store content) (sym (to_z-of_z c.ranges.tab)) asked.held.rows in
       let docid : ℤ × List Cell → ℤ = λ (d : ℤ × List Cell). d.0 in
       let items = map item_of c.args.items.now in
-      let answered : Documents = cut c.args.limit c.args.offset (chosen content All) in
+      let answered : Documents = cut c.args.select.now.limit c.args.select.now.offset (chosen content All) in
       let bare = bare_content c.args.columns.now in
       let none : list_any is_column items ≡ false = search rules in
       c.in_ok-document_rows.ensures (no_offsets All items refl asked.offsets)
       ∙ ap (λ (ds : List Document). item_rows None bare items (map shown_document ds)) c.as_slice-then-not-has_column.ensures.value
       ∙ ap (item_rows None bare items)
-      (c.in_ok-documents.ensures ∙ ap (map (λ (k : ℤ). (k, []))) (c.as_slice.ensures.value ∙ c.in_ok-docids.ensures.told content here ∙ ap (λ (ds : Documents). cut c.args.limit c.args.offset (map docid ds)) (sym (chosen_all content))
-      ∙ cut_of_map docid c.args.limit c.args.offset (chosen content All)))
+      (c.in_ok-documents.ensures ∙ ap (map (λ (k : ℤ). (k, []))) (c.as_slice.ensures.value ∙ c.in_ok-docids.ensures.told content here ∙ ap (λ (ds : Documents). cut c.args.select.now.limit c.args.select.now.offset (map docid ds)) (sym (chosen_all content))
+      ∙ cut_of_map docid c.args.select.now.limit c.args.select.now.offset (chosen content All)))
       ∙ rows_unread bare items answered none
-      ∙ listed_rows_are content (map column_of c.args.columns.now) items c.args.limit c.args.offset asked.columns answered refl;
+      ∙ listed_rows_are content (map column_of c.args.columns.now) items c.args.select.now.limit c.args.select.now.offset asked.columns answered refl;
   only = search rules;
   live = search rules;
   cause = search rules;
@@ -57,8 +57,8 @@ returns g c = record {
       let docids = c.as_slice-2.ensures.value ∙ c.in_ok-docids.ensures.told content (rows_first g.S.Store first middle last one two tab content here) in
       c.in_ok-document_rows-2.ensures (no_offsets All items refl asked.offsets)
       ∙ ap (λ (ds : List Document). item_rows None bare items (map shown_document ds)) c.as_slice-3.ensures.value
-      ∙ listed_rows_are content (map column_of c.args.columns.now) items c.args.limit c.args.offset asked.columns (map shown_document c.in_ok-documents-2.documents.items)
-      (c.in_ok-documents-2.ensures.told content (rows_then g.S.Store first middle last one two tab content here) ∙ documents_again here.name content c.args.limit c.args.offset here.is_content c.as_slice-2.result.now docids);
+      ∙ listed_rows_are content (map column_of c.args.columns.now) items c.args.select.now.limit c.args.select.now.offset asked.columns (map shown_document c.in_ok-documents-2.documents.items)
+      (c.in_ok-documents-2.ensures.told content (rows_then g.S.Store first middle last one two tab content here) ∙ documents_again here.name content c.args.select.now.limit c.args.select.now.offset here.is_content c.as_slice-2.result.now docids);
   only = search rules;
   live = search rules;
   cause = search rules;

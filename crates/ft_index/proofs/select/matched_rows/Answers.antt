@@ -28,11 +28,11 @@ returns-then-has_column-clause-looks g c = record {
       let here = subst (λ (k : ℤ). HasRows g.S.Store k first last content) t asked.held.rows in
       let at = subst (λ (k : ℤ). IsIndexed g.S.Store k first last content) t asked.held.index in
       let hits = c.in_ok-hits.ensures.looks.told content name text asked.reads (index_first g.S.Store first middle last one two tab content at) in
-      let answered : map plain_hit c.cut-answered.result.now ≡ cut c.args.limit c.args.offset (map (told c.any_offsets.result) (chosen_hits content (Match name text))) =
-      hits_answered c.args.limit c.most_hits-most.result c.args.offset c.in_ok-hits.hits.items c.cut-answered.result.now (map (told c.any_offsets.result) (chosen_hits content (Match name text)))
-      (c.cut-answered.ensures ∙ ap (λ (hs : List Hit). cut c.args.limit c.args.offset hs) c.as_slice.ensures.value) hits (c.most_hits-most.ensures.enough (map (told c.any_offsets.result) (chosen_hits content (Match name text)))) in
+      let answered : map plain_hit c.cut-answered.result.now ≡ cut c.args.select.now.limit c.args.select.now.offset (map (told c.any_offsets.result) (chosen_hits content (Match name text))) =
+      hits_answered c.args.select.now.limit c.most_hits-most.result c.args.select.now.offset c.in_ok-hits.hits.items c.cut-answered.result.now (map (told c.any_offsets.result) (chosen_hits content (Match name text)))
+      (c.cut-answered.ensures ∙ ap (λ (hs : List Hit). cut c.args.select.now.limit c.args.select.now.offset hs) c.as_slice.ensures.value) hits (c.most_hits-most.ensures.enough (map (told c.any_offsets.result) (chosen_hits content (Match name text)))) in
       read content (rows_then g.S.Store first middle last one two tab content here)
-      ∙ hit_rows here.name content (Match name text) (map column_of c.args.columns.now) (map item_of c.args.items.now) c.args.limit c.args.offset here.is_content asked.columns c.any_offsets.result c.any_offsets.ensures c.cut-answered.result.now answered) c.cell_rows.ensures.looks.told;
+      ∙ hit_rows here.name content (Match name text) (map column_of c.args.columns.now) (map item_of c.args.items.now) c.args.select.now.limit c.args.select.now.offset here.is_content asked.columns c.any_offsets.result c.any_offsets.ensures c.cut-answered.result.now answered) c.cell_rows.ensures.looks.told;
   only = search rules;
   live = search rules;
   cause = search rules;
@@ -51,13 +51,13 @@ returns-then-has_column-clause-counted g c = on_ok_from c.cell_rows.result _ _ (
     let at = subst (λ (k : ℤ). IsIndexed g.S.Store k first last content) t asked.held.index in
     let before = index_first g.S.Store first middle last one two tab content at in
     let hits = c.in_ok-hits.ensures.looks.told content name text asked.reads before in
-    let answered : map plain_hit c.cut-answered.result.now ≡ cut c.args.limit c.args.offset (map (told c.any_offsets.result) (chosen_hits content (Match name text))) =
-    hits_answered c.args.limit c.most_hits-most.result c.args.offset c.in_ok-hits.hits.items c.cut-answered.result.now (map (told c.any_offsets.result) (chosen_hits content (Match name text)))
-    (c.cut-answered.ensures ∙ ap (λ (hs : List Hit). cut c.args.limit c.args.offset hs) c.as_slice.ensures.value) hits (c.most_hits-most.ensures.enough (map (told c.any_offsets.result) (chosen_hits content (Match name text)))) in
-    let many = as_many here.name content (Match name text) (map column_of c.args.columns.now) (map item_of c.args.items.now) c.args.limit c.args.offset here.is_content asked.columns c.any_offsets.result c.any_offsets.ensures c.cut-answered.result.now answered in
+    let answered : map plain_hit c.cut-answered.result.now ≡ cut c.args.select.now.limit c.args.select.now.offset (map (told c.any_offsets.result) (chosen_hits content (Match name text))) =
+    hits_answered c.args.select.now.limit c.most_hits-most.result c.args.select.now.offset c.in_ok-hits.hits.items c.cut-answered.result.now (map (told c.any_offsets.result) (chosen_hits content (Match name text)))
+    (c.cut-answered.ensures ∙ ap (λ (hs : List Hit). cut c.args.select.now.limit c.args.select.now.offset hs) c.as_slice.ensures.value) hits (c.most_hits-most.ensures.enough (map (told c.any_offsets.result) (chosen_hits content (Match name text)))) in
+    let many = as_many here.name content (Match name text) (map column_of c.args.columns.now) (map item_of c.args.items.now) c.args.select.now.limit c.args.select.now.offset here.is_content asked.columns c.any_offsets.result c.any_offsets.ensures c.cut-answered.result.now answered in
     counted_both first.rows_read middle.rows_read last.rows_read _ (length content.columns * length c.cut-answered.result.now) (c.in_ok-hits.ensures.counted content name text asked.reads before)
     (counted content (rows_then g.S.Store first middle last one two tab content here))
-    ∙ ap (λ (n : ℕ). min (first.rows_read + n) (2 ^ 64 - 1)) (asked_with content (map item_of c.args.items.now) (Match name text) c.args.limit c.args.offset (length c.cut-answered.result.now) (sym c.has_column.ensures ∙ c.if-has_column.true) many)) c.cell_rows.ensures.counted
+    ∙ ap (λ (n : ℕ). min (first.rows_read + n) (2 ^ 64 - 1)) (asked_with content (map item_of c.args.items.now) (Match name text) c.args.select.now.limit c.args.select.now.offset (length c.cut-answered.result.now) (sym c.has_column.ensures ∙ c.if-has_column.true) many)) c.cell_rows.ensures.counted
 
 pub returns-clause-looks : goal.returns-clause-looks
 returns-clause-looks g c = record {
@@ -66,11 +66,11 @@ returns-clause-looks g c = record {
       let t = sym (to_z-of_z c.ranges.tab) in
       let at = subst (λ (k : ℤ). IsIndexed g.S.Store k c.args.store.now c.matched.new.store content) t asked.held.index in
       let hits = c.in_ok-hits.ensures.looks.told content name text asked.reads at in
-      let answered : map plain_hit c.cut-answered.result.now ≡ cut c.args.limit c.args.offset (map (told c.any_offsets.result) (chosen_hits content (Match name text))) =
-      hits_answered c.args.limit c.most_hits-most.result c.args.offset c.in_ok-hits.hits.items c.cut-answered.result.now (map (told c.any_offsets.result) (chosen_hits content (Match name text)))
-      (c.cut-answered.ensures ∙ ap (λ (hs : List Hit). cut c.args.limit c.args.offset hs) c.as_slice.ensures.value) hits (c.most_hits-most.ensures.enough (map (told c.any_offsets.result) (chosen_hits content (Match name text)))) in
+      let answered : map plain_hit c.cut-answered.result.now ≡ cut c.args.select.now.limit c.args.select.now.offset (map (told c.any_offsets.result) (chosen_hits content (Match name text))) =
+      hits_answered c.args.select.now.limit c.most_hits-most.result c.args.select.now.offset c.in_ok-hits.hits.items c.cut-answered.result.now (map (told c.any_offsets.result) (chosen_hits content (Match name text)))
+      (c.cut-answered.ensures ∙ ap (λ (hs : List Hit). cut c.args.select.now.limit c.args.select.now.offset hs) c.as_slice.ensures.value) hits (c.most_hits-most.ensures.enough (map (told c.any_offsets.result) (chosen_hits content (Match name text)))) in
       c.in_ok-bare_rows.ensures
-      ∙ hit_rows_unread here.name content (Match name text) (map column_of c.args.columns.now) (map item_of c.args.items.now) c.args.limit c.args.offset here.is_content asked.columns c.any_offsets.result c.any_offsets.ensures c.cut-answered.result.now (sym c.has_column.ensures ∙ c.if-has_column.false) answered;
+      ∙ hit_rows_unread here.name content (Match name text) (map column_of c.args.columns.now) (map item_of c.args.items.now) c.args.select.now.limit c.args.select.now.offset here.is_content asked.columns c.any_offsets.result c.any_offsets.ensures c.cut-answered.result.now (sym c.has_column.ensures ∙ c.if-has_column.false) answered;
   only = search rules;
   live = search rules;
   cause = search rules;
@@ -81,4 +81,4 @@ returns-clause-counted g c content name text asked =
     let t = sym (to_z-of_z c.ranges.tab) in
     let at = subst (λ (k : ℤ). IsIndexed g.S.Store k c.args.store.now c.matched.new.store content) t asked.held.index in
     c.in_ok-hits.ensures.counted content name text asked.reads at
-    ∙ ap (λ (n : ℕ). min (c.args.store.now.rows_read + n) (2 ^ 64 - 1)) (asked_without content (Listed (map item_of c.args.items.now)) (Match name text) c.args.limit c.args.offset (sym c.has_column.ensures ∙ c.if-has_column.false))
+    ∙ ap (λ (n : ℕ). min (c.args.store.now.rows_read + n) (2 ^ 64 - 1)) (asked_without content (Listed (map item_of c.args.items.now)) (Match name text) c.args.select.now.limit c.args.select.now.offset (sym c.has_column.ensures ∙ c.if-has_column.false))

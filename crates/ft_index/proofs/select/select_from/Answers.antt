@@ -1,49 +1,40 @@
 -- by the table that is found, its query, and what was read
-use Rattle.std.proofs.Common.{◌≡◌, ◌<◌, ◌∙◌, Option, Some, None, Result, Err, map, length, option_map, Bor, sym, ap, subst, rules}
+use Rattle.std.proofs.Common.{◌≡◌, ◌∙◌, ℕ, List, Option, Some, None, Result, Err, map, option_map, Bor, string_bytes, sym, ap, subst, rules}
 use Rattle.std.specs.Option.{option_copied}
 use Rattle.ft_query.specs.Trees.{Tree, tree_of}
 use Rattle.ft_values.specs.declared.fault.Fault.{Fault}
 use Rattle.ft_content.specs.declared.command.Reply.{Reply}
 use Rattle.ft_values.specs.declared.table.TableInfo.{TableInfo as RustTableInfo}
-use Rattle.ft_content.specs.Command as plain
-use Rattle.ft_content.specs.Views.{TableInfo, shown_info, column_of, items_of, filter_of, grid_of, answer_of}
+use Rattle.ft_content.specs.Views.{shown_info, column_of, items_of, filter_of, selection_of, grid_of, answer_of}
+use Rattle.ft_documents.specs.Found.{IsUnfit, IsSoundNamed}
 use Rattle.ft_index.specs.Changed.{with_tables}
 use Rattle.ft_index.specs.Kept.{Executes}
 use Rattle.ft_index.specs.Selected.{IsAsked}
-use Rattle.ft_documents.proofs.FoundLemmas.{stands_within, stands_there}
 use Rattle.ft_index.proofs.LookLemmas.{no_look}
 use Rattle.ft_index.proofs.SelectAnswers.{select_unfit, select_undone, select_done, select_counts}
 use Rattle.ft_index.proofs.select.select_from.Goals as goal
 
-pub returns-in_err-place-clause-executes : goal.returns-in_err-place-clause-executes
-returns-in_err-place-clause-executes g c =
-    let fault : Fault = c.in_err-place.field-0.0 in
+pub returns-in_err-info-clause-executes : goal.returns-in_err-info-clause-executes
+returns-in_err-info-clause-executes g c =
+    let fault : Fault = c.in_err-info.field-0.0 in
     let is : c.from_residual.result ≡ Err fault = search rules in
     let tables = map shown_info c.args.tables.now in
-    let command = plain.Select c.args.table.now (items_of c.args.items.now) (filter_of c.args.filter.now) c.args.limit c.args.offset in
-    subst (λ (a : Result Reply Fault). Executes g.S.Store (with_tables c.args.store.now tables) command (answer_of a) (with_tables c.args.store.now tables)) (sym is)
-    (select_unfit g.S.Store c.args.store.now c.args.store.now tables c.args.table.now (items_of c.args.items.now) (filter_of c.args.filter.now) c.args.limit c.args.offset (no_look g.S.Store c.args.store.now) fault c.in_err-place.ensures)
-
-pub bounds-tables-place : goal.bounds-tables-place
-bounds-tables-place g c = stands_within shown_info c.args.tables.now c.in_ok-place.place c.in_ok-place.ensures.table c.in_ok-place.ensures.stands
-
-pub offset_bounds-tables-place : goal.offset_bounds-tables-place
-offset_bounds-tables-place g c = let within : c.in_ok-place.place < length c.args.tables.now = stands_within shown_info c.args.tables.now c.in_ok-place.place c.in_ok-place.ensures.table c.in_ok-place.ensures.stands in search rules
+    let select = c.args.select.now in
+    let unfit : IsUnfit tables (string_bytes select.table) fault = subst (λ (n : List ℕ). IsUnfit tables n fault) c.as_str.ensures.value c.in_err-info.ensures in
+    subst (λ (a : Result Reply Fault). Executes g.S.Store (with_tables c.args.store.now tables) (selection_of select) (answer_of a) (with_tables c.args.store.now tables)) (sym is)
+    (select_unfit g.S.Store c.args.store.now c.args.store.now tables (string_bytes select.table) (items_of select.items) (filter_of select.filter) select.limit select.offset (no_look g.S.Store c.args.store.now) fault unfit)
 
 pub returns-in_err-query-clause-executes : goal.returns-in_err-query-clause-executes
 returns-in_err-query-clause-executes g c =
     let fault : Fault = c.in_err-query.field-0.0 in
     let is : c.from_residual-in_err-query.result ≡ Err fault = search rules in
     let tables = map shown_info c.args.tables.now in
-    let items = items_of c.args.items.now in
-    let f = filter_of c.args.filter.now in
-    let command = plain.Select c.args.table.now items f c.args.limit c.args.offset in
-    let found = c.in_ok-place.ensures in
-    let info : RustTableInfo = c.index-tables-place.result in
-    let same : shown_info info ≡ found.table = stands_there shown_info c.args.tables.now c.in_ok-place.place info found.table found.stands c.index-tables-place.is in
-    subst (λ (a : Result Reply Fault). Executes g.S.Store (with_tables c.args.store.now tables) command (answer_of a) (with_tables c.args.store.now tables)) (sym is)
-    (select_undone g.S.Store c.args.store.now c.args.store.now tables c.args.table.now items f c.args.limit c.args.offset (no_look g.S.Store c.args.store.now)
-    (shown_info info) (found.named ∙ ap Some (sym same)) (ap (λ (k : TableInfo). k.sound) same ∙ found.sound) fault c.in_err-query.ensures.fault)
+    let select = c.args.select.now in
+    let info : RustTableInfo = c.in_ok-info.info.now in
+    let named : IsSoundNamed tables (string_bytes select.table) (shown_info info) = subst (λ (n : List ℕ). IsSoundNamed tables n (shown_info info)) c.as_str.ensures.value c.in_ok-info.ensures in
+    subst (λ (a : Result Reply Fault). Executes g.S.Store (with_tables c.args.store.now tables) (selection_of select) (answer_of a) (with_tables c.args.store.now tables)) (sym is)
+    (select_undone g.S.Store c.args.store.now c.args.store.now tables (string_bytes select.table) (items_of select.items) (filter_of select.filter) select.limit select.offset (no_look g.S.Store c.args.store.now)
+    (shown_info info) named.0 named.1 fault c.in_err-query.ensures.fault)
 
 -- the query as it was passed
 passed : {A : Type 0} (f : A → Tree) (o : Option (Bor A)) (q : Option A) → option_copied o ≡ q → option_map (λ (r : Bor A). f r.now) o ≡ option_map f q
@@ -53,27 +44,27 @@ passed f (Some r) q is = ap (option_map f) is
 pub returns-clause-executes : goal.returns-clause-executes
 returns-clause-executes g c =
     let tables = map shown_info c.args.tables.now in
-    let items = items_of c.args.items.now in
-    let f = filter_of c.args.filter.now in
-    let found = c.in_ok-place.ensures in
-    let info : RustTableInfo = c.index-tables-place.result in
-    let same : shown_info info ≡ found.table = stands_there shown_info c.args.tables.now c.in_ok-place.place info found.table found.stands c.index-tables-place.is in
+    let select = c.args.select.now in
+    let items = items_of select.items in
+    let f = filter_of select.filter in
+    let info : RustTableInfo = c.in_ok-info.info.now in
+    let named : IsSoundNamed tables (string_bytes select.table) (shown_info info) = subst (λ (n : List ℕ). IsSoundNamed tables n (shown_info info)) c.as_str.ensures.value c.in_ok-info.ensures in
     let query : Option Tree = option_map tree_of c.in_ok-query.query in
     let query_is : option_map {T = Bor _} (λ q. tree_of q.now) c.as_ref.result ≡ query = passed tree_of c.as_ref.result c.in_ok-query.query c.as_ref.ensures.value in
-    select_done g.S.Store c.args.store.now c.select_grid.new.store tables c.args.table.now items f c.args.limit c.args.offset c.in_ok-grid.ensures.looks.only
-    (shown_info info) (found.named ∙ ap Some (sym same)) (ap (λ (k : TableInfo). k.sound) same ∙ found.sound) c.is_in_order.ensures.order query (grid_of c.in_ok-grid.grid) c.in_ok-query.ensures.fine c.in_ok-query.ensures.query
+    select_done g.S.Store c.args.store.now c.select_grid.new.store tables (string_bytes select.table) items f select.limit select.offset c.in_ok-grid.ensures.looks.only
+    (shown_info info) named.0 named.1 c.is_in_order.ensures.order query (grid_of c.in_ok-grid.grid) c.in_ok-query.ensures.fine c.in_ok-query.ensures.query
     (λ content asked. c.in_ok-grid.ensures.looks.told content (subst (λ (q : Option Tree). IsAsked g.S.Store info.id (map column_of info.columns.items) items f q c.args.store.now c.select_grid.new.store content) (sym query_is) asked))
 
 pub returns-clause-counts : goal.returns-clause-counts
 returns-clause-counts g c =
     let tables = map shown_info c.args.tables.now in
-    let items = items_of c.args.items.now in
-    let f = filter_of c.args.filter.now in
-    let found = c.in_ok-place.ensures in
-    let info : RustTableInfo = c.index-tables-place.result in
-    let same : shown_info info ≡ found.table = stands_there shown_info c.args.tables.now c.in_ok-place.place info found.table found.stands c.index-tables-place.is in
+    let select = c.args.select.now in
+    let items = items_of select.items in
+    let f = filter_of select.filter in
+    let info : RustTableInfo = c.in_ok-info.info.now in
+    let named : IsSoundNamed tables (string_bytes select.table) (shown_info info) = subst (λ (n : List ℕ). IsSoundNamed tables n (shown_info info)) c.as_str.ensures.value c.in_ok-info.ensures in
     let query : Option Tree = option_map tree_of c.in_ok-query.query in
     let query_is : option_map {T = Bor _} (λ q. tree_of q.now) c.as_ref.result ≡ query = passed tree_of c.as_ref.result c.in_ok-query.query c.as_ref.ensures.value in
-    select_counts g.S.Store c.args.store.now c.select_grid.new.store tables c.args.table.now items f c.args.limit c.args.offset c.in_ok-grid.ensures.looks.only
-    (shown_info info) (found.named ∙ ap Some (sym same)) (ap (λ (k : TableInfo). k.sound) same ∙ found.sound) c.is_in_order.ensures.order query (grid_of c.in_ok-grid.grid) c.in_ok-query.ensures.fine c.in_ok-query.ensures.query
+    select_counts g.S.Store c.args.store.now c.select_grid.new.store tables (string_bytes select.table) items f select.limit select.offset c.in_ok-grid.ensures.looks.only
+    (shown_info info) named.0 named.1 c.is_in_order.ensures.order query (grid_of c.in_ok-grid.grid) c.in_ok-query.ensures.fine c.in_ok-query.ensures.query
     (λ content asked. c.in_ok-grid.ensures.counted content (subst (λ (q : Option Tree). IsAsked g.S.Store info.id (map column_of info.columns.items) items f q c.args.store.now c.select_grid.new.store content) (sym query_is) asked))

@@ -14,8 +14,8 @@ returns-clause-looks g c = record {
   told = λ content asked.
       let first = c.args.store.now in
       let last = c.selected_rows.new.store in
-      let items = items_of c.args.items.now in
-      let f = filter_of c.args.filter.now in
+      let items = items_of c.args.select.now.items in
+      let f = filter_of c.args.select.now.filter in
       let query : Option Tree = option_map {T = Bor _} (λ q. tree_of q.now) c.args.query in
       let fits : FitsSigned w64 c.args.info.now.id = search rules in
       let at = subst (λ (k : ℤ). IsAsked g.S.Store k (map column_of c.args.info.now.columns.items) items f query first last content) (sym (to_z-of_z fits)) asked in

@@ -11,16 +11,16 @@ use Rattle.ft_index.proofs.select.select_query.Goals as goal
 pub returns-in-Some-clause-fault : goal.returns-in-Some-clause-fault
 returns-in-Some-clause-fault c =
     let content = bare_content c.args.info.now.columns.items in
-    let items = items_of c.args.items.now in
-    let f = filter_of c.args.filter.now in
+    let items = items_of c.args.select.now.items in
+    let f = filter_of c.args.select.now.filter in
     let tested : select_tests (string_bytes c.args.info.now.name) content items f ≡ c.select_tests.result = sym (c.select_tests.ensures ∙ (λ i. select_tests (c.as_str.ensures.value i) (bare_content (c.as_slice-columns.ensures.value i)) items f)) in
     inr (ap (λ (o : Option Fault). or_else o (query_fault content f)) (tested ∙ c.in-Some.is))
 
 pub returns-in-Match-clause-fault : goal.returns-in-Match-clause-fault
 returns-in-Match-clause-fault c =
     let content = bare_content c.args.info.now.columns.items in
-    let items = items_of c.args.items.now in
-    let f = filter_of c.args.filter.now in
+    let items = items_of c.args.select.now.items in
+    let f = filter_of c.args.select.now.filter in
     let tested : select_tests (string_bytes c.args.info.now.name) content items f ≡ c.select_tests.result = sym (c.select_tests.ensures ∙ (λ i. select_tests (c.as_str.ensures.value i) (bare_content (c.as_slice-columns.ensures.value i)) items f)) in
     let read : query_fault content f ≡ reading_fault (reading (bare_content c.as_slice-columns.result.now) c.as_str-in-Match.result.now c.as_str-in-Match-2.result.now) =
     ap (λ (x : Filter). query_fault content (filter_of x)) c.in-Match.is

@@ -12,4 +12,4 @@ returns-in_ok-count_rows-in-Count-clause-counted g c content asked matching =
     let held = subst (λ (k : ℤ). IsOf g.S.Store k c.args.store.now c.chosen_count.new.store content) (sym (to_z-of_z c.ranges.tab)) asked.held in
     c.in_ok-count-in-Count.ensures.counted content held asked.reads matching
     ∙ ap (λ (n : ℕ). min (c.args.store.now.rows_read + n) (2 ^ 64 - 1))
-    (asked_without content (items_of c.args.items.now) (filter_of c.args.filter.now) c.args.limit c.args.offset (ap (λ (x : Items). has_column_item (items_of x)) c.in-Count.is))
+    (asked_without content (items_of c.args.select.now.items) (filter_of c.args.select.now.filter) c.args.select.now.limit c.args.select.now.offset (ap (λ (x : Items). has_column_item (items_of x)) c.in-Count.is))

@@ -1,11 +1,10 @@
 -- by what is made
-use Rattle.std.proofs.Common.{rules, ◌≡◌, [], ◌∷◌, List, map, string_bytes, Ok, Err, None, Result, Vec, Global, sym, ap, subst, ◌∙◌}
+use Rattle.std.proofs.Common.{rules, ◌≡◌, [], ◌∷◌, List, map, Ok, Err, None, Result, Vec, Global, sym, ap, subst, ◌∙◌}
 use Rattle.ft_values.specs.declared.rows.RowChange.{RowChange}
 use Rattle.ft_rows.specs.Store.{Change}
 use Rattle.ft_rows.specs.Changes.{shown_change}
 use Rattle.ft_values.specs.declared.fault.Fault.{Fault}
-use Rattle.ft_content.specs.Command as plain
-use Rattle.ft_content.specs.Views.{shown_info, option_of}
+use Rattle.ft_content.specs.Views.{shown_info, creation_of}
 use Rattle.ft_index.specs.Kept.{PlansFrom}
 use Rattle.ft_index.specs.Planned.{Makes, changes_of, table_change}
 use Rattle.ft_index.proofs.PlanAnswers.{create_refused, create_nothing, create_makes}
@@ -14,31 +13,27 @@ use Rattle.ft_index.proofs.tables.create_changes.Goals.{in-Some+in_ok-adding+in_
 
 pub returns-in_err-made : goal.returns-in_err-made
 returns-in_err-made c store contents order held =
-    let options = map option_of c.args.options.now in
-    let names = map string_bytes c.args.columns.now in
     let fault : Fault = c.in_err-made.field-0.0 in
     let is : c.from_residual.result ≡ Err fault = search rules in
     let made : c.made_table.result ≡ Err fault = search rules in
-    subst (λ (r : Result (Vec RowChange Global) Fault). PlansFrom contents (plain.Create c.args.table.now c.args.module_name.now options names c.args.if_new) store (changes_of r)) (sym is)
-    (create_refused contents c.args.table.now c.args.module_name.now options names c.args.if_new store (map shown_info c.args.tables.now) fault
-    (subst (Makes contents c.args.table.now c.args.module_name.now options names c.args.if_new) made (c.made_table.ensures contents held.told)))
+    subst (λ (r : Result (Vec RowChange Global) Fault). PlansFrom contents (creation_of c.args.creation.now) store (changes_of r)) (sym is)
+    (create_refused contents c.args.creation.now store (map shown_info c.args.tables.now) fault
+    (subst (Makes contents c.args.creation.now) made (c.made_table.ensures contents held.told)))
 
 pub returns : goal.returns
 returns c store contents order held =
-    let options = map option_of c.args.options.now in
-    let names = map string_bytes c.args.columns.now in
     let tables = map shown_info c.args.tables.now in
-    let command = plain.Create c.args.table.now c.args.module_name.now options names c.args.if_new in
+    let command = creation_of c.args.creation.now in
     let made : c.made_table.result ≡ Ok c.in_ok-made.made = search rules in
-    let makes = subst (Makes contents c.args.table.now c.args.module_name.now options names c.args.if_new) made (c.made_table.ensures contents held.told) in
+    let makes = subst (Makes contents c.args.creation.now) made (c.made_table.ensures contents held.told) in
     elim c.match-made.branch [
       | in-Some+in_ok-adding+in_ok-push w ↦
           let same : map shown_change c.match-made.changes.items ≡ table_change w.in-Some.made ∷ [] = ap (λ (v : Vec RowChange Global). map shown_change v.items) w.changes-is ∙ search rules in
           subst (λ (cs : List Change). PlansFrom contents command store (Ok cs)) (sym same)
-          (create_makes contents c.args.table.now c.args.module_name.now options names c.args.if_new store tables w.in-Some.made order held (subst (λ o. Makes contents c.args.table.now c.args.module_name.now options names c.args.if_new (Ok o)) w.in-Some.is makes))
+          (create_makes contents c.args.creation.now store tables w.in-Some.made order held (subst (λ o. Makes contents c.args.creation.now (Ok o)) w.in-Some.is makes))
       | in_default w ↦
           let none : c.in_ok-made.made ≡ None = search rules in
           let same : map shown_change c.match-made.changes.items ≡ [] = ap (λ (v : Vec RowChange Global). map shown_change v.items) w.changes-is ∙ ap (map shown_change) c.new-changes.ensures.items in
           subst (λ (cs : List Change). PlansFrom contents command store (Ok cs)) (sym same)
-          (create_nothing contents c.args.table.now c.args.module_name.now options names c.args.if_new store tables held (subst (λ o. Makes contents c.args.table.now c.args.module_name.now options names c.args.if_new (Ok o)) none makes))
+          (create_nothing contents c.args.creation.now store tables held (subst (λ o. Makes contents c.args.creation.now (Ok o)) none makes))
     ]

@@ -1,11 +1,11 @@
 -- by what is made, and what the store does
-use Rattle.std.proofs.Common.{rules, ◌≡◌, ◌⊎◌, ◌∷◌, [], map, string_bytes, cond, Ok, Err, None, Some, Result, Vec, Global, refl, sym, ap, subst, ◌∙◌}
+use Rattle.std.proofs.Common.{rules, ◌≡◌, ◌⊎◌, ◌∷◌, [], map, cond, Ok, Err, None, Some, Result, Vec, Global, refl, sym, ap, subst, ◌∙◌}
 use Rattle.std.specs.Prelude.{is_ok}
 use Rattle.ft_values.specs.declared.fault.Fault.{Fault}
 use Rattle.ft_content.specs.declared.command.Reply.{Reply}
 use Rattle.ft_values.specs.declared.table.TableInfo.{TableInfo}
 use Rattle.ft_content.specs.Command as plain
-use Rattle.ft_content.specs.Views.{shown_info, option_of, answer_of}
+use Rattle.ft_content.specs.Views.{shown_info, creation_of, answer_of}
 use Rattle.ft_index.specs.Kept.{FullText, Executes, told_table}
 use Rattle.ft_content.specs.Deserved.{Contents}
 use Rattle.ft_index.specs.Planned.{Makes, table_change}
@@ -27,11 +27,9 @@ returns-in_err-made g c = record {
       let is : c.from_residual.result ≡ Err fault = search rules in
       let made : c.made_table.result ≡ Err fault = search rules in
       let old = with_tables c.args.store.now (map shown_info c.args.tables.now.items) in
-      let options = map option_of c.args.options.now in
-      let names = map string_bytes c.args.columns.now in
-      subst (λ (a : Result Reply Fault). Executes g.S.Store old (plain.Create c.args.table.now c.args.module_name.now options names c.args.if_new) (answer_of a) old) (sym is)
-      (create_refused g.S.Store c.args.table.now c.args.module_name.now options names c.args.if_new old fault
-      (λ contents told. subst (Makes contents c.args.table.now c.args.module_name.now options names c.args.if_new) made (c.made_table.ensures contents (ap (map shown_info) c.as_slice.ensures.value ∙ told))));
+      subst (λ (a : Result Reply Fault). Executes g.S.Store old (creation_of c.args.creation.now) (answer_of a) old) (sym is)
+      (create_refused g.S.Store c.args.creation.now old fault
+      (λ contents told. subst (Makes contents c.args.creation.now) made (c.made_table.ensures contents (ap (map shown_info) c.as_slice.ensures.value ∙ told))));
   crash = search rules;
   live = search rules;
 }
@@ -45,22 +43,20 @@ returns-in_err-add_table g c = record {
       let tables = map shown_info c.args.tables.now.items in
       let changed = subst (λ (r : Result (Unit {0}) Fault). Changed g.S.Store c.args.store.now c.add_table.new.store (table_change c.in-Some.made ∷ []) (is_ok r)) refused c.add_table.ensures.makes.changed in
       let told : map shown_info c.add_table.new.tables.items ≡ tables = c.add_table.ensures.told ∙ ap (λ (r : Result (Unit {0}) Fault). cond (is_ok r) (with_told (shown_info c.in-Some.made) tables) tables) refused in
-      let command = plain.Create c.args.table.now c.args.module_name.now (map option_of c.args.options.now) (map string_bytes c.args.columns.now) c.args.if_new in
+      let command = creation_of c.args.creation.now in
       let outside : (fault ≡ faults.Store) ⊎ (fault ≡ faults.Memory) = search rules in
       subst (λ ts. Executes g.S.Store (with_tables c.args.store.now tables) command (answer_of c.from_residual-in_err-add_table.result) (with_tables c.add_table.new.store ts)) (sym told)
       (subst (λ (a : Result Reply Fault). Executes g.S.Store (with_tables c.args.store.now tables) command (answer_of a) (with_tables c.add_table.new.store tables)) (sym is)
       (executes_refused g.S.Store c.args.store.now c.add_table.new.store tables (table_change c.in-Some.made ∷ []) command fault outside changed));
   crash =
       let tables = map shown_info c.args.tables.now.items in
-      let options = map option_of c.args.options.now in
-      let names = map string_bytes c.args.columns.now in
-      let command = plain.Create c.args.table.now c.args.module_name.now options names c.args.if_new in
+      let command = creation_of c.args.creation.now in
       let made : c.made_table.result ≡ Ok c.in_ok-made.made = search rules in
-      let makes : (contents : Contents) → tables ≡ map told_table contents → Makes contents c.args.table.now c.args.module_name.now options names c.args.if_new (Ok (Some c.in-Some.made)) =
-      λ contents told. subst (λ o. Makes contents c.args.table.now c.args.module_name.now options names c.args.if_new (Ok o)) c.in-Some.is
-      (subst (Makes contents c.args.table.now c.args.module_name.now options names c.args.if_new) made (c.made_table.ensures contents (ap (map shown_info) c.as_slice.ensures.value ∙ told))) in
+      let makes : (contents : Contents) → tables ≡ map told_table contents → Makes contents c.args.creation.now (Ok (Some c.in-Some.made)) =
+      λ contents told. subst (λ o. Makes contents c.args.creation.now (Ok o)) c.in-Some.is
+      (subst (Makes contents c.args.creation.now) made (c.made_table.ensures contents (ap (map shown_info) c.as_slice.ensures.value ∙ told))) in
       crash_changed g.S.Store c.args.store.now c.add_table.new.store tables (map shown_info c.add_table.new.tables.items) command (table_change c.in-Some.made ∷ [])
-      (λ up first holds. ((makes first holds.told).0, (made_is_held first c.args.table.now c.args.module_name.now options names c.args.if_new c.in-Some.made (value_in g.S.Store c.args.store.now) tables (makes first holds.told) c.is_in_order.ensures.order holds).held, refl))
+      (λ up first holds. ((makes first holds.told).0, (made_is_held first c.args.creation.now c.in-Some.made (value_in g.S.Store c.args.store.now) tables (makes first holds.told) c.is_in_order.ensures.order holds).held, refl))
       c.add_table.ensures.makes.crash;
   live = search rules;
 }
@@ -69,42 +65,38 @@ pub returns : goal.returns
 returns g c = record {
   executes =
       let tables = map shown_info c.args.tables.now.items in
-      let options = map option_of c.args.options.now in
-      let names = map string_bytes c.args.columns.now in
-      let command = plain.Create c.args.table.now c.args.module_name.now options names c.args.if_new in
+      let command = creation_of c.args.creation.now in
       let made : c.made_table.result ≡ Ok c.in_ok-made.made = search rules in
-      let makes : (contents : Contents) → tables ≡ map told_table contents → Makes contents c.args.table.now c.args.module_name.now options names c.args.if_new (Ok c.in_ok-made.made) =
-      λ contents told. subst (Makes contents c.args.table.now c.args.module_name.now options names c.args.if_new) made (c.made_table.ensures contents (ap (map shown_info) c.as_slice.ensures.value ∙ told)) in
+      let makes : (contents : Contents) → tables ≡ map told_table contents → Makes contents c.args.creation.now (Ok c.in_ok-made.made) =
+      λ contents told. subst (Makes contents c.args.creation.now) made (c.made_table.ensures contents (ap (map shown_info) c.as_slice.ensures.value ∙ told)) in
       elim c.match-made.branch [
         | in-Some+in_ok-add_table w ↦
             let added : w.add_table.result ≡ Ok tt = search rules in
             let changed = subst (λ (r : Result (Unit {0}) Fault). Changed g.S.Store c.args.store.now w.add_table.new.store (table_change w.in-Some.made ∷ []) (is_ok r)) added w.add_table.ensures.makes.changed in
             let told : map shown_info w.add_table.new.tables.items ≡ with_told (shown_info w.in-Some.made) tables = w.add_table.ensures.told ∙ ap (λ (r : Result (Unit {0}) Fault). cond (is_ok r) (with_told (shown_info w.in-Some.made) tables) tables) added in
             let here = subst (λ (k : FullText g.row.S.Denot). Executes g.S.Store (with_tables c.args.store.now tables) command (Ok plain.Done) k) (sym (λ i. with_tables (w.store-is i) ((ap (λ (v : Vec TableInfo Global). map shown_info v.items) w.tables-is ∙ told) i)))
-            (create_adds g.S.Store c.args.table.now c.args.module_name.now options names c.args.if_new c.args.store.now w.add_table.new.store tables w.in-Some.made
-            (λ contents is. subst (λ o. Makes contents c.args.table.now c.args.module_name.now options names c.args.if_new (Ok o)) w.in-Some.is (makes contents is)) c.is_in_order.ensures.order changed) in
+            (create_adds g.S.Store c.args.creation.now c.args.store.now w.add_table.new.store tables w.in-Some.made
+            (λ contents is. subst (λ o. Makes contents c.args.creation.now (Ok o)) w.in-Some.is (makes contents is)) c.is_in_order.ensures.order changed) in
             here
         | in_default w ↦
             let none : c.in_ok-made.made ≡ None = search rules in
             subst (λ (k : FullText g.row.S.Denot). Executes g.S.Store (with_tables c.args.store.now tables) command (Ok plain.Done) k) (sym (λ i. with_tables (w.store-is i) (ap (λ (v : Vec TableInfo Global). map shown_info v.items) w.tables-is i)))
-            (create_nothing g.S.Store c.args.table.now c.args.module_name.now options names c.args.if_new (with_tables c.args.store.now tables)
-            (λ contents is. subst (λ o. Makes contents c.args.table.now c.args.module_name.now options names c.args.if_new (Ok o)) none (makes contents is)))
+            (create_nothing g.S.Store c.args.creation.now (with_tables c.args.store.now tables)
+            (λ contents is. subst (λ o. Makes contents c.args.creation.now (Ok o)) none (makes contents is)))
       ];
   crash =
       let tables = map shown_info c.args.tables.now.items in
-      let options = map option_of c.args.options.now in
-      let names = map string_bytes c.args.columns.now in
-      let command = plain.Create c.args.table.now c.args.module_name.now options names c.args.if_new in
+      let command = creation_of c.args.creation.now in
       let made : c.made_table.result ≡ Ok c.in_ok-made.made = search rules in
       let after = map shown_info c.match-made.tables.items in
       elim c.match-made.branch [
         | in-Some+in_ok-add_table w ↦
-            let makes : (contents : Contents) → tables ≡ map told_table contents → Makes contents c.args.table.now c.args.module_name.now options names c.args.if_new (Ok (Some w.in-Some.made)) =
-            λ contents told. subst (λ o. Makes contents c.args.table.now c.args.module_name.now options names c.args.if_new (Ok o)) w.in-Some.is
-            (subst (Makes contents c.args.table.now c.args.module_name.now options names c.args.if_new) made (c.made_table.ensures contents (ap (map shown_info) c.as_slice.ensures.value ∙ told))) in
+            let makes : (contents : Contents) → tables ≡ map told_table contents → Makes contents c.args.creation.now (Ok (Some w.in-Some.made)) =
+            λ contents told. subst (λ o. Makes contents c.args.creation.now (Ok o)) w.in-Some.is
+            (subst (Makes contents c.args.creation.now) made (c.made_table.ensures contents (ap (map shown_info) c.as_slice.ensures.value ∙ told))) in
             subst (λ (s : StoreState g.row.S.Denot). CommandSurvives g.S.Store (with_tables c.args.store.now tables) command (with_tables s after)) (sym w.store-is)
             (crash_changed g.S.Store c.args.store.now w.add_table.new.store tables after command (table_change w.in-Some.made ∷ [])
-            (λ up first holds. ((makes first holds.told).0, (made_is_held first c.args.table.now c.args.module_name.now options names c.args.if_new w.in-Some.made (value_in g.S.Store c.args.store.now) tables (makes first holds.told) c.is_in_order.ensures.order holds).held, refl))
+            (λ up first holds. ((makes first holds.told).0, (made_is_held first c.args.creation.now w.in-Some.made (value_in g.S.Store c.args.store.now) tables (makes first holds.told) c.is_in_order.ensures.order holds).held, refl))
             w.add_table.ensures.makes.crash)
         | in_default w ↦
             subst (λ (s : StoreState g.row.S.Denot). CommandSurvives g.S.Store (with_tables c.args.store.now tables) command (with_tables s after)) (sym w.store-is)

@@ -1,40 +1,64 @@
 -- the names of the tables are those of the contents
-use Rattle.std.proofs.Common.{inr, refl, sym, ap, ◌∙◌, map, string_bytes, None, Some, FitsSigned, w64, to_z-of_z, rules}
+use Rattle.std.proofs.Common.{◌≡◌, inr, List, String, Global, refl, sym, ap, ◌∙◌, map, string_bytes, None, Some, FitsSigned, w64, to_z-of_z, rules}
 use Rattle.std.specs.Prelude.{is_some}
+use Rattle.std.specs.List.{position}
+use Rattle.ft_values.specs.declared.table.TableInfo.{TableInfo as RustTableInfo}
 use Rattle.ft_content.specs.Content.{same_name}
-use Rattle.ft_content.specs.Deserved.{create_fault}
+use Rattle.ft_content.specs.Deserved.{create_fault, made_columns}
 use Rattle.ft_content.specs.Step.{made_column}
-use Rattle.ft_content.specs.Views.{TableInfo, shown_info, option_of}
+use Rattle.ft_content.specs.Views.{TableInfo, shown_info, option_of, names_in}
 use Rattle.ft_documents.specs.Found.{info_named}
 use Rattle.ft_documents.proofs.FoundLemmas.{found_is, unplaced, not_some}
 use Rattle.ft_index.proofs.KnownLemmas.{same_names, same_ids, create_due, is_named, none_named}
 use Rattle.ft_index.proofs.tables.made_table.Goals as goal
 
 pub returns-in-Some : goal.returns-in-Some
-returns-in-Some c = λ contents told. inr (create_due contents c.args.table.now c.args.module_name.now (map option_of c.args.options.now) (map string_bytes c.args.columns.now) (map string_bytes c.in_ok-names.names.items) c.args.if_new (Some c.in-Some.fault) c.in_ok-names.ensures
+returns-in-Some c = λ contents told.
+    let t = c.args.creation.now in
+    let table = string_bytes t.table in
+    let module_name = string_bytes t.module in
+    let options = map option_of t.options.items in
+    let made : map string_bytes c.in_ok-names.names.items ≡ made_columns (names_in t.columns) = c.in_ok-names.ensures ∙ ap (λ (v : List (String Global)). made_columns (map string_bytes v)) c.as_slice.ensures.value in
+    inr (create_due contents table module_name options (names_in t.columns) (map string_bytes c.in_ok-names.names.items) t.if_new (Some c.in-Some.fault) made
     (sym c.in-Some.is ∙ c.create_fault.ensures contents (same_names c.args.tables.now contents told)
-    ∙ ap (λ ns. create_fault contents c.args.table.now c.args.module_name.now (map option_of c.args.options.now) (map string_bytes ns) c.args.if_new) c.as_slice.ensures.value))
+    ∙ ap (λ (v : List (String Global)). create_fault contents table module_name options (map string_bytes v) t.if_new) c.as_slice-2.ensures.value))
 
 pub returns-then-is_some : goal.returns-then-is_some
-returns-then-is_some c = λ contents told. (
-  create_due contents c.args.table.now c.args.module_name.now (map option_of c.args.options.now) (map string_bytes c.args.columns.now) (map string_bytes c.in_ok-names.names.items) c.args.if_new None c.in_ok-names.ensures
-      (sym c.in_default.is ∙ c.create_fault.ensures contents (same_names c.args.tables.now contents told)
-      ∙ ap (λ ns. create_fault contents c.args.table.now c.args.module_name.now (map option_of c.args.options.now) (map string_bytes ns) c.args.if_new) c.as_slice.ensures.value),
-  is_named contents c.args.table.now (info_named (map shown_info c.args.tables.now) c.args.table.now) (ap (λ ts. info_named ts c.args.table.now) (sym told))
-      ∙ found_is shown_info (λ (t : TableInfo). same_name t.name c.args.table.now) c.args.tables.now
-      ∙ ap is_some (sym c.table_place.ensures) ∙ sym c.is_some.ensures ∙ c.if-is_some.true,
-)
+returns-then-is_some c = λ contents told.
+    let t = c.args.creation.now in
+    let tables = c.args.tables.now in
+    let table = string_bytes t.table in
+    let module_name = string_bytes t.module in
+    let options = map option_of t.options.items in
+    let made : map string_bytes c.in_ok-names.names.items ≡ made_columns (names_in t.columns) = c.in_ok-names.ensures ∙ ap (λ (v : List (String Global)). made_columns (map string_bytes v)) c.as_slice.ensures.value in
+    let placed : c.table_place.result ≡ position (λ (k : RustTableInfo). same_name (string_bytes k.name) table) tables =
+    c.table_place.ensures ∙ ap (λ n. position (λ (k : RustTableInfo). same_name (string_bytes k.name) n) tables) c.as_str.ensures.value in (
+      create_due contents table module_name options (names_in t.columns) (map string_bytes c.in_ok-names.names.items) t.if_new None made
+          (sym c.in_default.is ∙ c.create_fault.ensures contents (same_names tables contents told)
+          ∙ ap (λ (v : List (String Global)). create_fault contents table module_name options (map string_bytes v) t.if_new) c.as_slice-2.ensures.value),
+      is_named contents table (info_named (map shown_info tables) table) (ap (λ ts. info_named ts table) (sym told))
+          ∙ found_is shown_info (λ (k : TableInfo). same_name k.name table) tables
+          ∙ ap is_some (sym placed) ∙ sym c.is_some.ensures ∙ c.if-is_some.true,
+    )
 
 pub returns : goal.returns
-returns c = λ contents told. (
-  create_due contents c.args.table.now c.args.module_name.now (map option_of c.args.options.now) (map string_bytes c.args.columns.now) (map string_bytes c.in_ok-names.names.items) c.args.if_new None c.in_ok-names.ensures
-      (sym c.in_default.is ∙ c.create_fault.ensures contents (same_names c.args.tables.now contents told)
-      ∙ ap (λ ns. create_fault contents c.args.table.now c.args.module_name.now (map option_of c.args.options.now) (map string_bytes ns) c.args.if_new) c.as_slice.ensures.value),
-  none_named contents c.args.table.now (ap (λ ts. info_named ts c.args.table.now) (sym told) ∙ unplaced shown_info (λ (t : TableInfo). same_name t.name c.args.table.now) c.args.tables.now (sym c.table_place.ensures ∙ not_some c.table_place.result (sym c.is_some.ensures ∙ c.if-is_some.false))),
-  record {
-    id = (let fits : FitsSigned w64 c.free_id.result = search rules in to_z-of_z fits) ∙ c.free_id.ensures.id contents (same_ids c.args.tables.now contents told);
-    name = search rules;
-    columns = c.in_ok-columns.ensures ∙ ap (map (made_column (map option_of c.args.options.now))) c.in_ok-names.ensures;
-    sound = refl;
-  },
-)
+returns c = λ contents told.
+    let t = c.args.creation.now in
+    let tables = c.args.tables.now in
+    let table = string_bytes t.table in
+    let module_name = string_bytes t.module in
+    let options = map option_of t.options.items in
+    let made : map string_bytes c.in_ok-names.names.items ≡ made_columns (names_in t.columns) = c.in_ok-names.ensures ∙ ap (λ (v : List (String Global)). made_columns (map string_bytes v)) c.as_slice.ensures.value in
+    let placed : c.table_place.result ≡ position (λ (k : RustTableInfo). same_name (string_bytes k.name) table) tables =
+    c.table_place.ensures ∙ ap (λ n. position (λ (k : RustTableInfo). same_name (string_bytes k.name) n) tables) c.as_str.ensures.value in (
+      create_due contents table module_name options (names_in t.columns) (map string_bytes c.in_ok-names.names.items) t.if_new None made
+          (sym c.in_default.is ∙ c.create_fault.ensures contents (same_names tables contents told)
+          ∙ ap (λ (v : List (String Global)). create_fault contents table module_name options (map string_bytes v) t.if_new) c.as_slice-2.ensures.value),
+      none_named contents table (ap (λ ts. info_named ts table) (sym told) ∙ unplaced shown_info (λ (k : TableInfo). same_name k.name table) tables (sym placed ∙ not_some c.table_place.result (sym c.is_some.ensures ∙ c.if-is_some.false))),
+      record {
+        id = (let fits : FitsSigned w64 c.free_id.result = search rules in to_z-of_z fits) ∙ c.free_id.ensures.id contents (same_ids tables contents told);
+        name = search rules;
+        columns = c.in_ok-columns.ensures ∙ (λ i. map (made_column (map option_of (c.as_slice-3.ensures.value i))) (made i));
+        sound = refl;
+      },
+    )
