@@ -1,10 +1,8 @@
 -- A table that is found by its place.
-use Rattle.std.proofs.Common.{◌≡◌, ℕ, suc, ◌+◌, ◌<◌, length, get_or, Bool, true, false, cond, List, [], ◌∷◌, map, Option, Some, None, refl, sym, ap, subst, ◌∙◌, arith}
-use Rattle.std.specs.Prelude.{position, slice_get, unwrap_or, is_some, option_map}
+use Rattle.std.proofs.Common.{◌≡◌, ℕ, suc, ◌+◌, Bool, true, false, cond, List, [], ◌∷◌, map, Option, Some, None, refl, sym, ap, subst, ◌∙◌, arith}
+use Rattle.std.specs.Prelude.{position, slice_get, unwrap_or, is_some}
 use Rattle.std.specs.List.{find, position_from}
 use Rattle.std.proofs.lemmas.Iterator.Adapters.{position_from-zero}
-use Rattle.std.proofs.lemmas.List.{length-map}
-use Rattle.std.proofs.lemmas.Option.{slice_get_read, slice_get-map, slice_get_within, same_Some}
 
 -- the first item that passes stands at this place
 pub record Stands {A B : Type 0} (f : A → B) (q : B → Bool) (xs : List A) (i : ℕ) : Type 0 where
@@ -47,12 +45,3 @@ found_is f q xs = go (position (λ x. q (f x)) xs) refl
     go : (at : Option ℕ) → position (λ x. q (f x)) xs ≡ at → is_some (find q (map f xs)) ≡ is_some (position (λ x. q (f x)) xs)
     go None h = ap is_some (unplaced f q xs h) ∙ sym (ap is_some h)
     go (Some i) h = ap is_some (placed f q xs i h).found ∙ sym (ap is_some h)
-
--- a place at which an item stands is one of the list's
-pub stands_within : {A B : Type 0} (f : A → B) (xs : List A) (i : ℕ) (y : B) → slice_get (map f xs) i ≡ Some y → i < length xs
-stands_within f xs i y is = subst (λ n. i < n) (length-map xs f) (slice_get_within (map f xs) i y is)
-
--- and the item there is this one
-pub stands_there : {A B : Type 0} (f : A → B) (xs : List A) (i : ℕ) (x : A) (y : B) → slice_get (map f xs) i ≡ Some y → x ≡ get_or xs i x → f x ≡ y
-stands_there f xs i x y is read =
-    same_Some (f x) y (ap (option_map f) (sym (slice_get_read xs _ i x refl (stands_within f xs i y is) read)) ∙ sym (slice_get-map f xs i) ∙ is)

@@ -1,5 +1,5 @@
 -- Meaning. The table of a name among those that are told.
-use Rattle.std.specs.Prelude.{◌≡◌, ◌≤◌, ◌⊎◌, ℕ, ℤ, true, not, if◌then◌else◌, filter, length, map, List, [], ◌∷◌, Option, Some, None, slice_get, IsTrue, false}
+use Rattle.std.specs.Prelude.{◌≡◌, ◌≤◌, ◌⊎◌, ℕ, ℤ, true, not, if◌then◌else◌, filter, length, map, List, [], ◌∷◌, Option, Some, None, IsTrue, false}
 use Rattle.std.specs.List.{find, insert}
 use Rattle.std.specs.Ordering.{int_cmp, int_eq, is_lt}
 use Rattle.ft_values.specs.declared.table.TableInfo.{TableInfo as Known}
@@ -10,13 +10,6 @@ use Rattle.ft_content.specs.Views.{TableInfo, shown_info}
 
 abbrev pub info_named : List TableInfo → List ℕ → Option TableInfo
 info_named tables name = find (λ (t : TableInfo). same_name t.name name) tables
-
--- it stands at this place, and is sound
-pub record IsSoundAt (tables : List TableInfo) (name : List ℕ) (place : ℕ) : Type 0 where
-  pub table : TableInfo
-  pub stands : slice_get tables place ≡ Some table
-  pub named : info_named tables name ≡ Some table
-  pub sound : IsTrue table.sound
 
 -- it is told so, and is sound
 abbrev pub IsSoundNamed : List TableInfo → List ℕ → TableInfo → Type 0

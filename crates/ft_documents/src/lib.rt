@@ -26,7 +26,7 @@ pub use documents::gathered;
 pub use groups::in_groups;
 pub use hits::taken;
 pub use lists::doc_lists;
-pub use names::{named_table, sound_place, sound_table};
+pub use names::{named_table, sound_table};
 pub use new_documents::{NewDocuments, made_documents};
 pub use query::filter_query;
 pub use rewrite::{Rewrite, row_changes};

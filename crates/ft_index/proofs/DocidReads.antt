@@ -1,7 +1,7 @@
 -- Docids as a store reads them, and rows of documents without their cells.
-use Rattle.std.proofs.Common.{◌≡◌, ℕ, ◌+◌, Bool, true, false, cond, ◌&&◌, List, [], ◌∷◌, ◌++◌, map, Option, Some, None, ℤ, pos, negsuc, refl, sym, ap, ◌∙◌, arith}
+use Rattle.std.proofs.Common.{◌≡◌, ℕ, ◌+◌, Bool, true, false, cond, ◌&&◌, List, [], ◌∷◌, ◌++◌, map, Option, Some, None, ℤ, pos, negsuc, refl, ap, ◌∙◌, arith}
 use Rattle.std.specs.Prelude.{filter, slice_get, is_some, unwrap_or}
-use Rattle.std.specs.List.{flat_map, list_any, enumerate_from}
+use Rattle.std.specs.List.{flat_map, enumerate_from}
 use Rattle.std.specs.Ordering.{int_cmp, int_eq}
 use Rattle.std.specs.FinMap.Entries.{find, where_key}
 use Rattle.std.proofs.lemmas.List.{map-append}
@@ -9,9 +9,8 @@ use Rattle.std.proofs.lemmas.List.Elements.{filter-append}
 use Rattle.std.proofs.lemmas.Map.Lookups.{exact_signed}
 use Rattle.ft_values.specs.Cells.{Cell}
 use Rattle.ft_rows.specs.Store.{CellKey, StoreValue, cell_key_cmp}
-use Rattle.ft_content.specs.Content.{CellRow, TableRows, Column, Content, Documents, IsContent, document_rows, content_rows}
-use Rattle.ft_content.specs.Command.{Item}
-use Rattle.ft_content.specs.Answer.{cut, item_rows}
+use Rattle.ft_content.specs.Content.{CellRow, TableRows, Content, Documents, IsContent, document_rows, content_rows}
+use Rattle.ft_content.specs.Answer.{cut}
 use Rattle.ft_documents.specs.Tables.{table_rows}
 use Rattle.ft_documents.proofs.ReadRows.{HaveCells, content_cells, values_at, asked_values, values_found}
 use Rattle.ft_documents.proofs.KeyedRows.{tie}

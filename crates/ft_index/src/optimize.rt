@@ -6,14 +6,14 @@ ghost use Rattle.ft_content.specs.Deserved.{Contents};
 ghost use Rattle.ft_index.specs.Kept.{Answers, told_table};
 
 use ft_content::{Fault, Reply, TableInfo};
-use ft_documents::sound_place;
+use ft_documents::sound_table;
 
 /// Answers an Optimize.
 pub(crate) fn optimize(tables: &[TableInfo], table: &str) -> Result<Reply, Fault>
     ensures { (contents : Contents) → map shown_info tables.now ≡ map told_table contents →
         Answers contents (plain.Optimize table.now) (answer_of result) contents }
 {
-    match sound_place(tables, table) {
+    match sound_table(tables, table) {
         Ok(_) => Ok(Reply::Done),
         Err(fault) => Err(fault),
     }

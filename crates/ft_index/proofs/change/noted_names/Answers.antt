@@ -1,5 +1,5 @@
 -- the store is asked, and then read
-use Rattle.std.proofs.Common.{◌≡◌, Result, ap, ◌∙◌, arith, rules}
+use Rattle.std.proofs.Common.{◌≡◌, ap, ◌∙◌, arith, rules}
 use Rattle.std.proofs.lemmas.Result.{IfOk-weaker}
 use Rattle.sqlite_trees.specs.View.{doubt}
 use Rattle.ft_rows.specs.Store.{StoreValue}

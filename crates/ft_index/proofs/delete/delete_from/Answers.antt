@@ -1,6 +1,5 @@
 -- all documents, or those that were found
-use Rattle.std.proofs.Common.{◌≡◌, ℕ, List, map, string_bytes, sym, subst, ◌∙◌}
-use Rattle.ft_content.specs.declared.command.Filter.{Filter}
+use Rattle.std.proofs.Common.{◌≡◌, map, string_bytes, sym, subst}
 use Rattle.ft_content.specs.Command as plain
 use Rattle.ft_content.specs.Command.{Command}
 use Rattle.ft_content.specs.Views.{filter_of, deletion_of, shown_info}

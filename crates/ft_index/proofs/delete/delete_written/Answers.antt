@@ -3,7 +3,6 @@ use Rattle.std.proofs.Common.{rules, ◌≡◌, map, Err, Ok, Result, Vec, Globa
 use Rattle.ft_values.specs.declared.fault.Fault.{Fault}
 use Rattle.ft_content.specs.Command as plain
 use Rattle.ft_content.specs.Command.{Command}
-use Rattle.ft_values.specs.declared.fault.Fault.TheVariants as faults
 use Rattle.ft_content.specs.Views.{filter_of, shown_info}
 use Rattle.ft_documents.specs.declared.rewrite.Rewrite.{Rewrite}
 use Rattle.ft_documents.specs.Found.{IsSoundNamed, IsUnfit}

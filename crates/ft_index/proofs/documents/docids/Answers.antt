@@ -1,5 +1,5 @@
 -- the docids of the content, by the limits
-use Rattle.std.proofs.Common.{rules, ◌≡◌, None, ℤ, List, map, refl, sym, ap, ◌∙◌, to_z-of_z}
+use Rattle.std.proofs.Common.{rules, ap, ◌∙◌, to_z-of_z}
 use Rattle.ft_store.specs.Kept.{value_in}
 use Rattle.ft_store.specs.Docids.{docids_in}
 use Rattle.ft_content.specs.Answer.{cut}

@@ -1,5 +1,5 @@
 -- by what each command counts, and what it was found to write
-use Rattle.std.proofs.Common.{ℕ, List, map, option_map, string_bytes, sym, subst}
+use Rattle.std.proofs.Common.{List, map, option_map, string_bytes, sym, subst}
 use Rattle.ft_content.specs.declared.command.Command.{Command}
 use Rattle.ft_values.specs.declared.table.TableInfo.{TableInfo}
 use Rattle.ft_content.specs.Command as plain

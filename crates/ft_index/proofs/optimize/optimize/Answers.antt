@@ -8,7 +8,7 @@ use Rattle.ft_index.proofs.optimize.optimize.Goals as goal
 
 pub returns-in-Ok : goal.returns-in-Ok
 returns-in-Ok c = λ contents told.
-    inr (optimize_keeps contents c.args.table.now (optimize_fine contents (map shown_info c.args.tables.now) c.args.table.now c.in-Ok.ensures.table told c.in-Ok.ensures.named c.in-Ok.ensures.sound))
+    inr (optimize_keeps contents c.args.table.now (optimize_fine contents (map shown_info c.args.tables.now) c.args.table.now (shown_info c.in-Ok.field-0.now) told c.in-Ok.ensures.0 c.in-Ok.ensures.1))
 
 pub returns-in-Err : goal.returns-in-Err
 returns-in-Err c = λ contents told.

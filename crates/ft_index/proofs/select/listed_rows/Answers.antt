@@ -8,7 +8,6 @@ use Rattle.ft_content.specs.Answer.{cut, chosen, item_rows}
 use Rattle.ft_content.specs.Views.{bare_content, column_of, item_of}
 use Rattle.ft_content.proofs.AnswerLemmas.{cut_of_map}
 use Rattle.ft_documents.specs.declared.document.Document.{Document}
-use Rattle.ft_documents.specs.Chosen.{document_at}
 use Rattle.ft_documents.specs.Gathered.{shown_document}
 use Rattle.ft_documents.proofs.ChosenLemmas.{chosen_all}
 use Rattle.ft_index.specs.DocumentsRead.{HasRows, Looks}

@@ -1,5 +1,5 @@
 -- by the table that is found, its query, and what was read
-use Rattle.std.proofs.Common.{◌≡◌, ◌∙◌, ℕ, List, Option, Some, None, Result, Err, map, option_map, Bor, string_bytes, sym, ap, subst, rules}
+use Rattle.std.proofs.Common.{◌≡◌, ℕ, List, Option, Some, None, Result, Err, map, option_map, Bor, string_bytes, sym, ap, subst, rules}
 use Rattle.std.specs.Option.{option_copied}
 use Rattle.ft_query.specs.Trees.{Tree, tree_of}
 use Rattle.ft_values.specs.declared.fault.Fault.{Fault}

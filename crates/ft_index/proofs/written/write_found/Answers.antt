@@ -1,7 +1,6 @@
 -- by what was found, and what the store does
-use Rattle.std.proofs.Common.{rules, ◌≡◌, Err, Ok, Result, sym, subst}
+use Rattle.std.proofs.Common.{rules, ◌≡◌, Err, Ok, Result, subst}
 use Rattle.std.specs.Prelude.{IsTrue, OnOk}
-use Rattle.sqlite.specs.State.{HasCleanDisk}
 use Rattle.ft_store.specs.Kept.{shows, value_in}
 use Rattle.ft_values.specs.declared.fault.Fault.{Fault}
 use Rattle.ft_index.specs.declared.written.Written.{Written}
