@@ -42,16 +42,9 @@ impl Written<'_> {
         Ok(changes)
     }
 
-    /// Makes all their row changes or none, group by group, so that the changes of one group are in
-    /// memory at a time.
-    pub(crate) fn make<S: Alter>(self, alloc: Global, store: &mut Store<S>) -> Result<(), Fault>
-        ensures { MakesWritten S.Store [] self.entry store.old store.new result }
-    {
-        self.make_behind(alloc, store, None)
-    }
-
-    // The same behind a change that comes first, if there is one.
-    fn make_behind<S: Alter>(
+    /// Makes all their row changes or none, behind the change that comes first, if there is one.
+    /// They are made group by group, so that the changes of one group are in memory at a time.
+    pub(crate) fn make<S: Alter>(
         self,
         alloc: Global,
         store: &mut Store<S>,
@@ -81,7 +74,7 @@ pub(crate) fn write_found<S: Alter>(
     ensures { AnswersWritten S.Store found.entry store.old store.new result }
 {
     let written = found?;
-    written.make(alloc, store)?;
+    written.make(alloc, store, None)?;
     Ok(Reply::Done)
 }
 
@@ -124,7 +117,7 @@ pub(crate) fn make_anew<S: Alter>(
     match anew {
         Some(written) => {
             let first = adding(alloc, written.table)?;
-            written.make_behind(alloc, store, Some(first))
+            written.make(alloc, store, Some(first))
         }
         None => Ok(()),
     }

@@ -10,7 +10,7 @@ use Rattle.ft_content.specs.Views.{column_of}
 use Rattle.ft_index.specs.Changed.{MakesRows}
 use Rattle.ft_index.specs.Written.{first_parts, MakesWritten}
 use Rattle.ft_index.proofs.GroupLemmas.{parts_of, parts_behind, of_groups, makes_nothing}
-use Rattle.ft_index.proofs.written.Written.make_behind.Goals as goal
+use Rattle.ft_index.proofs.written.Written.make.Goals as goal
 
 pub returns-in_err-groups : goal.returns-in_err-groups
 returns-in_err-groups g c =
