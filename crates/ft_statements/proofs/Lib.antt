@@ -1,6 +1,7 @@
 pub mod ReadingLemmas
 pub mod CreateLemmas
 pub mod EachLemmas
+pub mod ListLemmas
 pub mod StatementLemmas
 pub mod StatementRows
 pub mod DotRows

@@ -1,9 +1,11 @@
 //! Words of a statement with their texts.
-ghost use Rattle.std.specs.Prelude.{◌≡◌, ◌-◌, false, take, length, string_bytes, option_map, encode_utf8_all, IfOk};
+ghost use Rattle.std.specs.Prelude.{◌≡◌, ◌-◌, false, take, length, string_bytes, encode_utf8_all, IfOk};
+ghost use Rattle.std.specs.List.{list_any};
 ghost use Rattle.shell_text.specs.Words.{words_of};
 ghost use Rattle.ft_statements.specs.Words as forms;
-ghost use Rattle.ft_statements.specs.Views.{seen, plain};
+ghost use Rattle.ft_statements.specs.Views.{seen, plain, Gives};
 
+use crate::statement::StatementFault;
 use shell_text::{SqlKind, SqlWord, words_on_characters};
 use std::alloc::{AllocError, Global};
 
@@ -39,6 +41,14 @@ pub(crate) fn is_keyword(piece: &Piece<'_>, keyword: &str) -> bool
     ensures { result ≡ forms.is_keyword keyword.now (seen piece.now) }
 {
     matches!(piece.kind, SqlKind::Word) && piece.text.eq_ignore_ascii_case(keyword)
+}
+
+// Whether a word is one of these keywords.
+pub(crate) fn is_one_of(piece: &Piece<'_>, keywords: &[&str]) -> bool
+    ensures { result ≡ list_any (λ keyword. forms.is_keyword keyword.now (seen piece.now))
+        keywords.now }
+{
+    keywords.iter().any(|keyword| is_keyword(piece, keyword))
 }
 
 // Whether a word is this symbol.
@@ -105,23 +115,22 @@ pub(crate) fn bare(alloc: Global, piece: &Piece<'_>) -> Result<String, AllocErro
     }
 }
 
-// The name that a word is, if it is one.
-pub(crate) fn name_of(alloc: Global, piece: &Piece<'_>) -> Result<Option<String>, AllocError>
-    ensures { IfOk result (λ name. option_map string_bytes name ≡ forms.name_of (seen piece.now)) }
+// The name that a word is.
+pub(crate) fn name_of(alloc: Global, piece: &Piece<'_>) -> Result<String, StatementFault>
+    ensures { Gives string_bytes result (forms.name_of (seen piece.now)) }
 {
     match piece.kind {
-        SqlKind::Word | SqlKind::Quoted => Ok(Some(bare(alloc, piece)?)),
-        _ => Ok(None),
+        SqlKind::Word | SqlKind::Quoted => Ok(bare(alloc, piece)?),
+        _ => Err(StatementFault::Syntax),
     }
 }
 
-// The text of a literal, if a word is one.
-pub(crate) fn literal_of(alloc: Global, piece: &Piece<'_>) -> Result<Option<String>, AllocError>
-    ensures { IfOk result (λ text. option_map string_bytes text
-        ≡ forms.literal_of (seen piece.now)) }
+// The text of a literal.
+pub(crate) fn literal_of(alloc: Global, piece: &Piece<'_>) -> Result<String, StatementFault>
+    ensures { Gives string_bytes result (forms.literal_of (seen piece.now)) }
 {
     match piece.kind {
-        SqlKind::Text => Ok(Some(bare(alloc, piece)?)),
-        _ => Ok(None),
+        SqlKind::Text => Ok(bare(alloc, piece)?),
+        _ => Err(StatementFault::Syntax),
     }
 }
