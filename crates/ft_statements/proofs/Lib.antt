@@ -1,5 +1,6 @@
 pub mod ReadingLemmas
 pub mod CreateLemmas
+pub mod WordLemmas
 pub mod EachLemmas
 pub mod ListLemmas
 pub mod StatementLemmas

@@ -170,10 +170,7 @@ fn alone(command: DotCommand, words: &[String]) -> Option<DotCommand>
     ensures { option_map command_as result
         ≡ forms.alone (command_as command) (map string_bytes words.now) }
 {
-    match words {
-        [] => Some(command),
-        _ => None,
-    }
+    words.is_empty().then_some(command)
 }
 
 // The two options in any order, and then FILE and TABLE.

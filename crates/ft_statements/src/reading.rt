@@ -180,13 +180,10 @@ fn each<T: Spelled>(alloc: Global, parts: &[&[Piece<'_>]]) -> Result<Vec<T>, Sta
         (forms.each (λ part. forms.whole (T.form part)) (runs parts.now)) }
 {
     let mut found = Vec::new(alloc);
-    for part in parts {
-        let mut words = Reader {
-            alloc,
-            words: *part,
-        };
-        let spelled = T::read(&mut words)?;
-        words.end()?;
+    for &words in parts {
+        let mut part = Reader { alloc, words };
+        let spelled = T::read(&mut part)?;
+        part.end()?;
         found.push(spelled)?;
     }
     Ok(found)
@@ -213,15 +210,6 @@ fn ends_part(depth: usize, word: &Piece<'_>) -> bool
     is_symbol(word, ",") && depth == 0
 }
 
-// Puts a part behind others.
-#[tactic(auto, using(crate::proofs::ReadingLemmas::runs_more))]
-fn push_part<'a>(parts: &mut Vec<&'a [Piece<'a>]>, part: &'a [Piece<'a>]) -> Result<(), AllocError>
-    ensures { OnOk result (runs parts.new.items ≡ runs parts.old.items ++ plain part.now ∷ []) }
-{
-    parts.push(part)?;
-    Ok(())
-}
-
 // The parts between commas that stand in no parentheses.
 fn parts<'a>(alloc: Global, words: &'a [Piece<'a>]) -> Result<Vec<&'a [Piece<'a>]>, AllocError>
     ensures { IfOk result (λ parts. runs parts.items ≡ forms.parts (plain words.now)) }
@@ -231,11 +219,11 @@ fn parts<'a>(alloc: Global, words: &'a [Piece<'a>]) -> Result<Vec<&'a [Piece<'a>
     let mut depth = 0usize;
     for (i, word) in words.iter().enumerate() {
         if ends_part(depth, word) {
-            push_part(&mut parts, &words[start..i])?;
+            parts.push(&words[start..i])?;
             start = i + 1;
         }
         depth = depth_after(depth, word);
     }
-    push_part(&mut parts, &words[start..])?;
+    parts.push(&words[start..])?;
     Ok(parts)
 }

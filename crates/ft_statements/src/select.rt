@@ -8,7 +8,7 @@ ghost use Rattle.ft_statements.specs.Views.{rest_of, Gives, Advances, Skips};
 use crate::change::{filter, key};
 use crate::reading::{Reader, Spelled};
 use crate::statement::StatementFault;
-use crate::values::count_of;
+use crate::values::count;
 use ft_content::{Command, Item, Items};
 
 fn offsets(words: &mut Reader<'_>) -> Result<Item, StatementFault>
@@ -45,7 +45,7 @@ impl Spelled for Item {
 }
 
 // count(*) alone.
-fn count(words: &mut Reader<'_>) -> Result<Items, StatementFault>
+fn count_all(words: &mut Reader<'_>) -> Result<Items, StatementFault>
     ensures { Advances views.items_of forms.count_at words.old words.new result }
 {
     words.keyword("count")?;
@@ -60,7 +60,7 @@ fn selection(words: &mut Reader<'_>) -> Result<Items, StatementFault>
     ensures { Advances views.items_of forms.selection_at words.old words.new result }
 {
     let start = *words;
-    match count(words) {
+    match count_all(words) {
         Err(StatementFault::Syntax) => {
             *words = start;
             Ok(Items::List(words.list()?))
@@ -88,7 +88,7 @@ fn offset(mut words: Reader<'_>) -> Result<u64, StatementFault>
         return Ok(0);
     }
     words.keyword("OFFSET")?;
-    let offset = count_of(words.next()?)?;
+    let offset = count(&mut words)?;
     words.end()?;
     Ok(offset)
 }
@@ -102,7 +102,7 @@ fn limits(mut words: Reader<'_>) -> Result<(Option<u64>, u64), StatementFault>
         return Ok((None, 0));
     }
     words.keyword("LIMIT")?;
-    let limit = count_of(words.next()?)?;
+    let limit = count(&mut words)?;
     Ok((Some(limit), offset(words)?))
 }
 

@@ -1,5 +1,5 @@
 //! Values of a statement.
-ghost use Rattle.std.specs.Prelude.{◌≡◌, ◌+◌, ◌^◌, min};
+ghost use Rattle.std.specs.Prelude.{◌≡◌, ◌+◌, ◌^◌, min, option_map};
 ghost use Rattle.ft_values.specs.Cells.{shown_value};
 ghost use Rattle.ft_content.specs.Content.{Cell};
 ghost use Rattle.ft_statements.specs.Values as forms;
@@ -40,30 +40,13 @@ fn signed(negative: bool, number: u64) -> Option<i64>
     Some(if negative { -positive } else { positive })
 }
 
-fn integer_of(negative: bool, word: &Piece<'_>) -> Result<i64, StatementFault>
-    ensures { Gives (λ n. n) result (forms.integer_of negative (seen word.now)) }
+// The number that a word is, where one that is too large stands as `digits_value` has it.
+fn number_of(word: &Piece<'_>) -> Result<u64, StatementFault>
+    ensures { Gives (λ n. n) result
+        (option_map (λ n. min n 9223372036854775809) (forms.number_of (seen word.now))) }
 {
     match word.kind {
-        SqlKind::Number => {
-            signed(negative, digits_value(word.text.as_bytes())).ok_or(StatementFault::Syntax)
-        }
-        _ => Err(StatementFault::Syntax),
-    }
-}
-
-// A number of rows.
-pub(crate) fn count_of(word: &Piece<'_>) -> Result<u64, StatementFault>
-    ensures { Gives (λ n. n) result (forms.count_of (seen word.now)) }
-{
-    match word.kind {
-        SqlKind::Number => {
-            let number = digits_value(word.text.as_bytes());
-            if number < MOST_BELOW_ZERO {
-                Ok(number)
-            } else {
-                Err(StatementFault::Syntax)
-            }
-        }
+        SqlKind::Number => Ok(digits_value(word.text.as_bytes())),
         _ => Err(StatementFault::Syntax),
     }
 }
@@ -84,7 +67,20 @@ pub(crate) fn integer(words: &mut Reader<'_>) -> Result<i64, StatementFault>
     ensures { Advances (λ n. n) forms.integer_at words.old words.new result }
 {
     let negative = sign(words);
-    integer_of(negative, words.next()?)
+    let number = number_of(words.next()?)?;
+    signed(negative, number).ok_or(StatementFault::Syntax)
+}
+
+// A number of rows.
+pub(crate) fn count(words: &mut Reader<'_>) -> Result<u64, StatementFault>
+    ensures { Advances (λ n. n) forms.count_at words.old words.new result }
+{
+    let number = number_of(words.next()?)?;
+    if number < MOST_BELOW_ZERO {
+        Ok(number)
+    } else {
+        Err(StatementFault::Syntax)
+    }
 }
 
 // NULL, a text or a number.

@@ -64,12 +64,6 @@ fn closing(mark: char) -> char
     if mark == '[' { ']' } else { mark }
 }
 
-fn all_but_last(characters: &[char]) -> &[char]
-    ensures { result.now ≡ forms.all_but_last characters.now }
-{
-    &characters[..characters.len().saturating_sub(1)]
-}
-
 // The characters, with one mark for two.
 fn halved(alloc: Global, mark: char, characters: &[char]) -> Result<String, AllocError>
     ensures { IfOk result (λ found. string_bytes found
@@ -88,21 +82,15 @@ fn halved(alloc: Global, mark: char, characters: &[char]) -> Result<String, Allo
     Ok(found)
 }
 
-fn between_marks(alloc: Global, characters: &[char]) -> Result<String, AllocError>
-    ensures { IfOk result (λ found. string_bytes found
-        ≡ encode_utf8_all (forms.between_marks characters.now)) }
-{
-    match characters {
-        [mark, rest @ ..] => halved(alloc, closing(*mark), all_but_last(rest)),
-        [] => Ok(String::new(alloc)),
-    }
-}
-
+// The text between marks, of which the closing one is doubled.
 fn without_marks(alloc: Global, text: &str) -> Result<String, AllocError>
     ensures { IfOk result (λ found. string_bytes found ≡ forms.without_marks text.now) }
 {
     let characters: Vec<char> = text.chars().collect(alloc)?;
-    between_marks(alloc, characters.as_slice())
+    match characters.as_slice() {
+        [mark, inside @ .., _] => halved(alloc, closing(*mark), inside),
+        _ => Ok(String::new(alloc)),
+    }
 }
 
 // The text that a word stands for.
