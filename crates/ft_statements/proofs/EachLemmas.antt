@@ -1,12 +1,16 @@
 -- What each of a list of parts gives.
-use Rattle.std.proofs.Common.{◌≡◌, ℕ, ◌+◌, ◌<◌, ◌≤◌, List, [], ◌∷◌, ◌++◌, length, take, drop, get_or, Option, Some, None, refl, sym, ap, ◌∙◌}
+use Rattle.std.proofs.Common.{◌≡◌, ℕ, ◌+◌, ◌-◌, ◌<◌, ◌≤◌, List, [], ◌∷◌, ◌++◌, length, take, drop, get_or, Option, Some, None, refl, sym, ap, ◌∙◌, if◌then◌else◌, Result, Ok, Err}
 use Rattle.std.specs.Borrow.{Bor}
 use Rattle.std.proofs.lemmas.List.{take_more, take_all, drop_more, take-append-drop, map-append}
 use Rattle.ft_statements.specs.declared.words.Piece.{Piece}
 use Rattle.ft_statements.specs.Words.{Token}
-use Rattle.ft_statements.specs.Reading.{◌>>=◌, each}
-use Rattle.ft_statements.specs.Views.{plain, runs}
-use Rattle.ft_statements.proofs.ReadingLemmas.{runs_more}
+use Rattle.ft_statements.specs.Reading.{Reads, ◌>>=◌, is_empty, whole, each, front_and_last, with_last}
+use Rattle.ft_statements.specs.Views.{plain, runs, rest_of, Gives, Advances}
+use Rattle.ft_statements.specs.declared.reading.Reader.{Reader}
+use Rattle.std.specs.Result.{IsErr, IsErrAnd}
+use Rattle.ft_statements.specs.declared.statement.StatementFault.{StatementFault}
+use Rattle.ft_statements.specs.declared.statement.StatementFault.TheVariants.{Syntax}
+use Rattle.ft_statements.proofs.ReadingLemmas.{runs_more, last_split}
 
 -- one more behind others
 pub each_snoc : {A B : Type 0} (f : A → Option B) (xs : List A) (x : A) → each f (xs ++ x ∷ []) ≡ (each f xs >>= λ ys. f x >>= λ y. Some (ys ++ y ∷ []))
@@ -42,3 +46,48 @@ each_ends f parts i d h none =
 
 pub each_all : {B : Type 0} (f : List Token → Option B) (parts : List (Bor (List Piece))) (i : ℕ) (ys : List B) → length parts ≤ i → each f (runs (take i parts)) ≡ Some ys → each f (runs parts) ≡ Some ys
 each_all f parts i ys h all = ap (λ ps. each f (runs ps)) (sym (take_all i parts h)) ∙ all
+
+-- ---- what is read of a part, and its end
+
+abbrev ok : Unit {0} → Result (Unit {0}) StatementFault
+ok u = Ok u
+
+pub end_holds : {B : Type 0} (y : B) (rest : List Token) (u : Unit {0}) → ok u ≡ (if is_empty rest then ok tt else Err Syntax) → whole (Some (y, rest)) ≡ Some y
+end_holds y [] u e = refl
+end_holds y (t ∷ ts) u e = cc
+
+pub end_fails : {B : Type 0} (y : B) (rest : List Token) (fault : StatementFault) → Err fault ≡ (if is_empty rest then ok tt else Err Syntax) → whole (Some (y, rest)) ≡ None
+end_fails y [] fault e = cc
+end_fails y (t ∷ ts) fault e = refl
+
+-- a fault goes on as it is
+pub fault_goes : {A B : Type 0} (shown : A → B) (result : Result A StatementFault) (fault : StatementFault) (form : Option B) →
+    IsErr result → IsErrAnd result (λ other. other ≡ fault) → (fault ≡ Syntax → form ≡ None) → Gives shown result form
+fault_goes shown (Ok x) fault form is same none = absurd same
+fault_goes shown (Err other) fault form is same none = record { found = tt; none = λ e. let is_syntax : other ≡ Syntax = cc in none (sym same ∙ is_syntax) }
+
+-- the same of a reader
+pub fault_goes_at : {A B : Type 0} (shown : A → B) (form : List Token → Reads B) (before after : Reader) (result : Result A StatementFault) (fault : StatementFault) →
+    IsErr result → IsErrAnd result (λ other. other ≡ fault) → (fault ≡ Syntax → form (rest_of before) ≡ None) → Advances shown form before after result
+fault_goes_at shown form before after (Ok x) fault is same none = absurd same
+fault_goes_at shown form before after (Err other) fault is same none = record { found = tt; none = λ e. let is_syntax : other ≡ Syntax = cc in none (sym same ∙ is_syntax) }
+
+-- ---- the parts but the last, and then the last one
+
+-- where there is no part
+abbrev pub no_part : Bor (List Piece)
+no_part = record { ref_ptr = (0, 0); now = [] }
+
+abbrev joined_last : {A B : Type 0} → (List Token → Option A) → (List Token → Option (A × B)) → Option (List (List Token) × List Token) → Option (List A × B)
+joined_last f g split = split >>= λ p. each f p.0 >>= λ xs. g p.1 >>= λ r. Some (xs ++ r.0 ∷ [], r.1)
+
+abbrev pub onto_last : {A B : Type 0} → (List Token → Option (A × B)) → List Token → Option (List A) → Option (List A × B)
+onto_last g last front = front >>= λ xs. g last >>= λ r. Some (xs ++ r.0 ∷ [], r.1)
+
+abbrev pub before_last : {A B : Type 0} → List A → Option (A × B) → Option (List A × B)
+before_last xs last = last >>= λ r. Some (xs ++ r.0 ∷ [], r.1)
+
+pub last_read : {A B : Type 0} (f : List Token → Option A) (g : List Token → Option (A × B)) (all : List (List Token)) (parts : List (Bor (List Piece))) →
+    runs parts ≡ all → 1 ≤ length parts →
+    with_last f g all ≡ onto_last g (plain (get_or parts (length parts - 1) no_part).now) (each f (runs (take (length parts - 1) parts)))
+last_read f g all parts are some = ap (joined_last f g) (ap front_and_last (sym are) ∙ last_split parts no_part some)

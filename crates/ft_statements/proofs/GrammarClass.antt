@@ -30,7 +30,7 @@ statement_complete {c = c} (ended {ts} d semicolon is) = ap command_of (end_gone
 lead_sound : (t : Token) → leads t ≡ true → IsLead t
 lead_sound t e = by_test (is_keyword (codes "FROM") t) refl (is_keyword (codes "INTO") t) refl (is_keyword (codes "UPDATE") t) refl (is_keyword (codes "TABLE") t) refl (is_keyword (codes "JOIN") t) refl (is_keyword (codes "EXISTS") t) refl e where
   by_test : (a : Bool) → is_keyword (codes "FROM") t ≡ a → (b : Bool) → is_keyword (codes "INTO") t ≡ b → (c : Bool) → is_keyword (codes "UPDATE") t ≡ c →
-      (d : Bool) → is_keyword (codes "TABLE") t ≡ d → (x : Bool) → is_keyword (codes "JOIN") t ≡ x → (y : Bool) → is_keyword (codes "EXISTS") t ≡ y → (a || b || c || d || x || y) ≡ true → IsLead t
+      (d : Bool) → is_keyword (codes "TABLE") t ≡ d → (x : Bool) → is_keyword (codes "JOIN") t ≡ x → (y : Bool) → is_keyword (codes "EXISTS") t ≡ y → (a || (b || (c || (d || (x || (y || false)))))) ≡ true → IsLead t
   by_test true is b _ c _ d _ x _ y _ e1 = from_word is
   by_test false _ true is c _ d _ x _ y _ e1 = into_word is
   by_test false _ false _ true is d _ x _ y _ e1 = update_word is

@@ -8,7 +8,7 @@ use Rattle.shell_text.specs.declared.settings.Mode.{Mode}
 use Rattle.ft_statements.specs.Values.{digits_value}
 use Rattle.ft_statements.specs.Reading.{◌>>=◌}
 use Rattle.ft_statements.specs.Grammar.{IsSame}
-use Rattle.ft_statements.specs.Dots.{Import, DotCommand, SetMode, SetHeaders, SetSeparator, SetNull, SetEcho, SetBail, Print, Importing, Tables, Quit, Usage, Unknown, or_usage, lone, mode_named, mode_in, switch_named, switch_in, skip_named, is_csv_option, is_skip_option, csv_at, skip_at, csv_later, files_of, import_of, alone, print_command, run_command, table_command, dot_command_of}
+use Rattle.ft_statements.specs.Dots.{Import, DotCommand, SetMode, SetHeaders, SetSeparator, SetNull, SetEcho, SetBail, Print, Importing, Tables, Quit, Usage, Unknown, or_usage, lone, mode_named, mode_in, switch_named, switch_in, skip_named, is_csv_option, is_skip_option, csv_at, skip_at, csv_later, files_of, import_of, alone, made, usage_of, dot_command_of}
 use Rattle.ft_statements.specs.DotGrammar.{IsMode, list_mode, csv_mode, column_mode, quote_mode, IsSwitch, on_word, yes_word, one_word, off_word, no_word, zero_word, IsSkip, skip_number, AreOptions, no_options, csv_alone, skip_alone, csv_first, skip_first, IsImport, import_file, Makes, makes_mode, makes_headers, makes_header, makes_separator, makes_null, makes_print, makes_echo, makes_bail, makes_import, makes_tables, makes_quit, makes_exit, IsUsed, uses_mode, uses_headers, uses_header, uses_separator, uses_null, uses_print, uses_echo, uses_bail, uses_import, uses_tables, uses_quit, uses_exit, Says, no_words, command, wrong_words, other_name}
 use Rattle.ft_statements.proofs.GrammarBase.{finally}
 
@@ -117,6 +117,9 @@ skip_complete (skip_number {word} some few digits small) =
     let d : nat_le (digits_value word) 1000000 ≡ true = le-leb _ 1000000 small in
     λ j. cond (a j && b j && digits j && d j) (Some (digits_value word)) None
 
+abbrev with_files : Bool → Option ℕ → Option (List ℕ × List ℕ) → Option Import
+with_files csv skip files = files >>= λ f. Some (record { csv = csv; skip = skip; file = f.0; table = f.1 })
+
 -- what is left behind the options are two words, the first no option
 files_sound : (P : Import → List (List ℕ) → Type 0) (csv : Bool) (skip : Option ℕ) (fs : List (List ℕ)) (what : Import) → files_of csv skip fs ≡ Some what →
     ((file table : List ℕ) → file ≢ codes "--csv" → file ≢ codes "--skip" → P (record { csv = csv; skip = skip; file = file; table = table }) (file ∷ table ∷ [])) → P what fs
@@ -124,7 +127,7 @@ files_sound P csv skip [] what e go = cc
 files_sound P csv skip (file ∷ []) what e go = cc
 files_sound P csv skip (file ∷ table ∷ []) what e go = by_test (is_csv_option file) refl (is_skip_option file) refl e where
   by_test : (a : Bool) → is_csv_option file ≡ a → (b : Bool) → is_skip_option file ≡ b →
-      cond (a || b) None (Some (record { csv = csv; skip = skip; file = file; table = table })) ≡ Some what → P what (file ∷ table ∷ [])
+      with_files csv skip (cond (a || b) None (Some (file, table))) ≡ Some what → P what (file ∷ table ∷ [])
   by_test false a false b e1 = finally (λ w. P w (file ∷ table ∷ [])) (go file table (differs file (codes "--csv") refl a) (differs file (codes "--skip") refl b)) e1
   by_test true a b _ e1 = cc
   by_test false a true b e1 = cc
@@ -202,7 +205,7 @@ import_complete (import_file file table d no_csv no_skip) = by_options d (not_te
 -- ---- commands
 
 makes_complete : {words : List (List ℕ)} {c : DotCommand} → Makes words c → dot_command_of words ≡ c
-unfolding dot_command_of print_command run_command table_command
+unfolding dot_command_of usage_of made
 makes_complete (makes_mode is) = ap (λ o. or_usage (codes ".mode list|csv|column|quote") (option_map SetMode o)) (mode_complete is)
 makes_complete (makes_headers is) = ap (λ o. or_usage (codes ".headers BOOL") (option_map SetHeaders o)) (switch_complete is)
 makes_complete (makes_header is) = ap (λ o. or_usage (codes ".headers BOOL") (option_map SetHeaders o)) (switch_complete is)
@@ -300,16 +303,7 @@ import_found words c e = by_found (import_of words) refl e where
   by_found None none e1 = cc
   by_found (Some what) is e1 = finally (Makes (codes "import" ∷ words)) (makes_import (import_sound words what is)) e1
 
--- a command that has no words behind its name
-abbrev without_words : DotCommand → List (List ℕ) → Option DotCommand
-without_words c [] = Some c
-without_words c (word ∷ words) = None
-
-alone_is : (c : DotCommand) (usage : List ℕ) (words : List (List ℕ)) → alone c usage words ≡ or_usage usage (without_words c words)
-alone_is c usage [] = refl
-alone_is c usage (word ∷ words) = refl
-
-alone_found : (name usage : List ℕ) (d : DotCommand) → Makes (name ∷ []) d → (words : List (List ℕ)) → Found name usage words (without_words d words)
+alone_found : (name usage : List ℕ) (d : DotCommand) → Makes (name ∷ []) d → (words : List (List ℕ)) → Found name usage words (alone d words)
 alone_found name usage d makes [] c e = finally (Makes (name ∷ [])) makes e
 alone_found name usage d makes (word ∷ words) c e = cc
 
@@ -317,7 +311,7 @@ alone_found name usage d makes (word ∷ words) c e = cc
 any_name : (P : List ℕ → Type 0) → P (codes "mode") → P (codes "headers") → P (codes "header") → P (codes "separator") → P (codes "nullvalue") → P (codes "print") →
     P (codes "echo") → P (codes "bail") → P (codes "import") → P (codes "tables") → P (codes "quit") → P (codes "exit") →
     ((name : List ℕ) → ((words : List (List ℕ)) → dot_command_of (name ∷ words) ≡ Unknown) → ((usage : List ℕ) → ¬ IsUsed name usage) → P name) → (name : List ℕ) → P name
-unfolding dot_command_of print_command run_command table_command
+unfolding dot_command_of usage_of made
 any_name P mode headers header separator null print echo bail import tables quit exit other name =
     word_case P (codes "mode") name mode λ a. word_case P (codes "headers") name headers λ b. word_case P (codes "header") name header λ c.
     word_case P (codes "separator") name separator λ d. word_case P (codes "nullvalue") name null λ e. word_case P (codes "print") name print λ f.
@@ -341,23 +335,21 @@ any_name P mode headers header separator null print echo bail import tables quit
       no_use uses_quit a b c d e f g h i j k l = cc
       no_use uses_exit a b c d e f g h i j k l = cc
 
-alone_says : {name usage : List ℕ} (words : List (List ℕ)) (d : DotCommand) → IsUsed name usage → dot_command_of (name ∷ words) ≡ alone d usage words → Makes (name ∷ []) d → Says (name ∷ words) (alone d usage words)
-alone_says {name} {usage} words d used is makes =
-    subst (Says (name ∷ words)) (sym (alone_is d usage words)) (found_says words (without_words d words) used (is ∙ alone_is d usage words) (alone_found name usage d makes words))
-
 line_says : (words : List (List ℕ)) → Says words (dot_command_of words)
-unfolding dot_command_of print_command run_command table_command
+unfolding dot_command_of usage_of made
 line_says [] = no_words
 line_says (name ∷ words) =
     any_name (λ name. Says (name ∷ words) (dot_command_of (name ∷ words)))
     (found_says words _ uses_mode refl (mode_found words)) (found_says words _ uses_headers refl (headers_found words)) (found_says words _ uses_header refl (header_found words))
     (found_says words _ uses_separator refl (separator_found words)) (found_says words _ uses_null refl (null_found words)) (found_says words (Some (Print words)) uses_print refl (print_found words))
     (found_says words _ uses_echo refl (echo_found words)) (found_says words _ uses_bail refl (bail_found words)) (found_says words _ uses_import refl (import_found words))
-    (alone_says words Tables uses_tables refl makes_tables) (alone_says words Quit uses_quit refl makes_quit) (alone_says words Quit uses_exit refl makes_exit)
+    (found_says words _ uses_tables refl (alone_found (codes "tables") (codes ".tables") Tables makes_tables words))
+    (found_says words _ uses_quit refl (alone_found (codes "quit") (codes ".quit") Quit makes_quit words))
+    (found_says words _ uses_exit refl (alone_found (codes "exit") (codes ".exit") Quit makes_exit words))
     (λ name is other. subst (Says (name ∷ words)) (sym (is words)) (other_name words other)) name
 
 used_says : {name usage : List ℕ} (words : List (List ℕ)) → IsUsed name usage → ((c : DotCommand) → ¬ Makes (name ∷ words) c) → dot_command_of (name ∷ words) ≡ Usage usage
-unfolding dot_command_of print_command run_command table_command
+unfolding dot_command_of usage_of made
 used_says words uses_mode none = found_usage words _ (mode_found words) none
 used_says words uses_headers none = found_usage words _ (headers_found words) none
 used_says words uses_header none = found_usage words _ (header_found words) none
@@ -367,9 +359,9 @@ used_says words uses_print none = absurd (none (Print words) (makes_print words)
 used_says words uses_echo none = found_usage words _ (echo_found words) none
 used_says words uses_bail none = found_usage words _ (bail_found words) none
 used_says words uses_import none = found_usage words _ (import_found words) none
-used_says words uses_tables none = alone_is Tables (codes ".tables") words ∙ found_usage words (without_words Tables words) (alone_found (codes "tables") (codes ".tables") Tables makes_tables words) none
-used_says words uses_quit none = alone_is Quit (codes ".quit") words ∙ found_usage words (without_words Quit words) (alone_found (codes "quit") (codes ".quit") Quit makes_quit words) none
-used_says words uses_exit none = alone_is Quit (codes ".exit") words ∙ found_usage words (without_words Quit words) (alone_found (codes "exit") (codes ".exit") Quit makes_exit words) none
+used_says words uses_tables none = found_usage words _ (alone_found (codes "tables") (codes ".tables") Tables makes_tables words) none
+used_says words uses_quit none = found_usage words _ (alone_found (codes "quit") (codes ".quit") Quit makes_quit words) none
+used_says words uses_exit none = found_usage words _ (alone_found (codes "exit") (codes ".exit") Quit makes_exit words) none
 
 other_says : (words : List (List ℕ)) (name : List ℕ) → ((usage : List ℕ) → ¬ IsUsed name usage) → dot_command_of (name ∷ words) ≡ Unknown
 other_says words =

@@ -1,6 +1,8 @@
 pub mod ReadingLemmas
 pub mod CreateLemmas
+pub mod WordLemmas
 pub mod EachLemmas
+pub mod ListLemmas
 pub mod StatementLemmas
 pub mod StatementRows
 pub mod DotRows

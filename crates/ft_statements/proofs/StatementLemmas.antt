@@ -1,7 +1,9 @@
 -- The end of a statement, and the tables that it names.
-use Rattle.std.proofs.Common.{◌≡◌, ℕ, ◌-◌, ◌≤◌, Bool, true, false, cond, List, [], ◌∷◌, length, drop, take, get_or, refl, sym, ap, ◌∙◌, arith, codes}
-use Rattle.std.proofs.lemmas.List.{length-drop}
-use Rattle.ft_statements.specs.Words.{Token, is_symbol}
+use Rattle.std.proofs.Common.{◌≡◌, ℕ, ◌-◌, ◌≤◌, Bool, true, false, cond, ◌||◌, ◌&&◌, List, [], ◌∷◌, length, drop, take, get_or, refl, sym, ap, ◌∙◌, arith, codes}
+use Rattle.std.specs.List.{list_any}
+use Rattle.std.proofs.lemmas.List.{length-drop, take_all}
+use Rattle.ft_statements.specs.Words.{Token, is_keyword, is_symbol}
+use Rattle.ft_statements.specs.Plain.{begins_query, may_return, asks}
 use Rattle.ft_statements.specs.declared.words.Piece.{Piece}
 use Rattle.ft_statements.specs.Views.{seen, plain}
 use Rattle.ft_statements.specs.Statements.{without_end, names_table}
@@ -36,3 +38,16 @@ few_words tables (p ∷ q ∷ ps) h = absurd (omega (arith, h))
 
 pub names_end : (tables : List (List ℕ)) (ps : List Piece) (place : ℕ) → length ps ≤ place → names_table tables (plain (drop (place - 1) ps)) ≡ false
 names_end tables ps place h = few_words tables (drop (place - 1) ps) (omega (arith, h, length-drop (place - 1) ps))
+
+-- a test of words, of their pieces
+pub any_seen : (test : Token → Bool) (ps : List Piece) → list_any test (plain ps) ≡ list_any (λ p. test (seen p)) ps
+any_seen test [] = refl
+any_seen test (p ∷ ps) = ap (λ b. test (seen p) || b) (any_seen test ps)
+
+-- a statement that begins as one that writes
+pub asks_writing : (ps : List Piece) (d : Piece) → 1 ≤ length ps → begins_query (seen (get_or ps 0 d)) ≡ false → may_return (seen (get_or ps 0 d)) ≡ true →
+    asks (plain ps) ≡ list_any (λ p. is_keyword (codes "RETURNING") (seen p)) (take (length ps - 1) (drop 1 ps))
+asks_writing [] d h other writes = absurd (omega (arith, h))
+asks_writing (p ∷ ps) d h other writes =
+    (λ j. other j || (writes j && any_seen (is_keyword (codes "RETURNING")) ps j))
+    ∙ ap (list_any (λ p. is_keyword (codes "RETURNING") (seen p))) (sym (take_all (length (p ∷ ps) - 1) ps (omega arith)))

@@ -6,7 +6,7 @@ use Rattle.std.specs.List.{join_with_byte}
 use Rattle.std.specs.Option.{option_or}
 use Rattle.ft_content.specs.Command.{Command, Create, Drop}
 use Rattle.ft_statements.specs.Words.{Token, bare, name_of, literal_of}
-use Rattle.ft_statements.specs.Reading.{◌>>=◌, whole, each, token_at, name_at, keyword_at, keywords_at, symbol_at, optional, parenthesized, parts}
+use Rattle.ft_statements.specs.Reading.{Reads, ◌>>=◌, whole, each, token_at, name_at, keyword_at, keywords_at, symbol_at, optional, parenthesized, parts}
 
 -- An argument is an option with its value, or a column.
 pub data Argument : Type 0 where
@@ -37,6 +37,10 @@ column ts = token_at (λ t. option_or (name_of t) (literal_of t)) ts >>= λ name
 
 abbrev pub argument_of : List Token → Option Argument
 argument_of ts = option_or (tokenizer ts) (option_or (setting ts) (column ts))
+
+-- all of the words
+abbrev pub argument_at : List Token → Reads Argument
+argument_at ts = argument_of ts >>= λ argument. Some (argument, [])
 
 abbrev pub settings_in : List Argument → List (List ℕ × List ℕ)
 settings_in [] = []

@@ -35,6 +35,10 @@ csv_words s = (s.0, words_left s.1)
 abbrev pub skip_words : Option (Option ℕ × Bor (List (String Global))) → Option (Option ℕ × List (List ℕ))
 skip_words read = option_map (λ r. (r.0, words_left r.1)) read
 
+-- the names of a file and of a table
+abbrev pub two_words : Option (Bor (String Global) × Bor (String Global)) → Option (List ℕ × List ℕ)
+two_words files = option_map (λ f. (string_bytes f.0.now, string_bytes f.1.now)) files
+
 -- the command that a line's words make, as it is read and as the grammar says
 pub record IsSaid (words : List (List ℕ)) (result : DotCommand) : Type 0 where
   pub command : command_as result ≡ forms.dot_command_of words

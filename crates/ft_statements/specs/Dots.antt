@@ -100,55 +100,62 @@ csv_later true words = (true, words)
 csv_later false words = csv_at words
 
 -- FILE and TABLE, and nothing else; an option is no file
+abbrev pub files_in : List (List ℕ) → Option (List ℕ × List ℕ)
+files_in [] = None
+files_in (file ∷ []) = None
+files_in (file ∷ table ∷ []) = if is_csv_option file || is_skip_option file then None else Some (file, table)
+files_in (file ∷ table ∷ other ∷ more) = None
+
+-- an import of this file into this table
 abbrev pub files_of : Bool → Option ℕ → List (List ℕ) → Option Import
-files_of csv skip [] = None
-files_of csv skip (file ∷ []) = None
-files_of csv skip (file ∷ table ∷ []) =
-    if is_csv_option file || is_skip_option file then None
-    else Some (record { csv = csv; skip = skip; file = file; table = table })
-files_of csv skip (file ∷ table ∷ other ∷ more) = None
+files_of csv skip words = files_in words >>= λ files. Some (record { csv = csv; skip = skip; file = files.0; table = files.1 })
 
 -- the two options in any order, each at most once, and then FILE and TABLE
 abbrev pub import_of : List (List ℕ) → Option Import
 import_of words = skip_at (csv_at words).1 >>= λ skip. files_of (csv_later (csv_at words).0 skip.1).0 skip.0 (csv_later (csv_at words).0 skip.1).1
 
 -- a command that has no words behind it
-abbrev pub alone : DotCommand → List ℕ → List (List ℕ) → DotCommand
-alone command usage [] = command
-alone command usage (word ∷ words) = Usage usage
+abbrev pub alone : DotCommand → List (List ℕ) → Option DotCommand
+alone command [] = Some command
+alone command (word ∷ words) = None
 
--- the commands on how answers are printed
-unfoldable pub print_command : List ℕ → List (List ℕ) → Option DotCommand
-print_command name words =
-    if bytes_eq name (codes "mode") then Some (or_usage (codes ".mode list|csv|column|quote") (option_map SetMode (mode_in words)))
-    else if bytes_eq name (codes "headers") || bytes_eq name (codes "header")
-    then Some (or_usage (codes ".headers BOOL") (option_map SetHeaders (switch_in words)))
-    else if bytes_eq name (codes "separator") then Some (or_usage (codes ".separator TEXT") (option_map SetSeparator (lone words)))
-    else if bytes_eq name (codes "nullvalue") then Some (or_usage (codes ".nullvalue TEXT") (option_map SetNull (lone words)))
+-- the command of a name, where the words behind it fit
+unfoldable pub made : List ℕ → List (List ℕ) → Option DotCommand
+made name words =
+    if bytes_eq name (codes "mode") then option_map SetMode (mode_in words)
+    else if bytes_eq name (codes "headers") || bytes_eq name (codes "header") then option_map SetHeaders (switch_in words)
+    else if bytes_eq name (codes "separator") then option_map SetSeparator (lone words)
+    else if bytes_eq name (codes "nullvalue") then option_map SetNull (lone words)
+    else if bytes_eq name (codes "print") then Some (Print words)
+    else if bytes_eq name (codes "echo") then option_map SetEcho (switch_in words)
+    else if bytes_eq name (codes "bail") then option_map SetBail (switch_in words)
+    else if bytes_eq name (codes "import") then option_map Importing (import_of words)
+    else if bytes_eq name (codes "tables") then alone Tables words
+    else if bytes_eq name (codes "quit") || bytes_eq name (codes "exit") then alone Quit words
     else None
 
--- the commands on the run
-unfoldable pub run_command : List ℕ → List (List ℕ) → Option DotCommand
-run_command name words =
-    if bytes_eq name (codes "print") then Some (Print words)
-    else if bytes_eq name (codes "echo") then Some (or_usage (codes ".echo BOOL") (option_map SetEcho (switch_in words)))
-    else if bytes_eq name (codes "bail") then Some (or_usage (codes ".bail BOOL") (option_map SetBail (switch_in words)))
-    else if bytes_eq name (codes "quit") then Some (alone Quit (codes ".quit") words)
-    else if bytes_eq name (codes "exit") then Some (alone Quit (codes ".exit") words)
+-- how the command of a name is used
+unfoldable pub usage_of : List ℕ → Option (List ℕ)
+usage_of name =
+    if bytes_eq name (codes "mode") then Some (codes ".mode list|csv|column|quote")
+    else if bytes_eq name (codes "headers") || bytes_eq name (codes "header") then Some (codes ".headers BOOL")
+    else if bytes_eq name (codes "separator") then Some (codes ".separator TEXT")
+    else if bytes_eq name (codes "nullvalue") then Some (codes ".nullvalue TEXT")
+    else if bytes_eq name (codes "print") then Some (codes ".print TEXT...")
+    else if bytes_eq name (codes "echo") then Some (codes ".echo BOOL")
+    else if bytes_eq name (codes "bail") then Some (codes ".bail BOOL")
+    else if bytes_eq name (codes "import") then Some (codes ".import [--csv] [--skip N] FILE TABLE")
+    else if bytes_eq name (codes "tables") then Some (codes ".tables")
+    else if bytes_eq name (codes "quit") then Some (codes ".quit")
+    else if bytes_eq name (codes "exit") then Some (codes ".exit")
     else None
 
--- the commands on tables
-unfoldable pub table_command : List ℕ → List (List ℕ) → Option DotCommand
-table_command name words =
-    if bytes_eq name (codes "import") then Some (or_usage (codes ".import [--csv] [--skip N] FILE TABLE") (option_map Importing (import_of words)))
-    else if bytes_eq name (codes "tables") then Some (alone Tables (codes ".tables") words)
-    else None
-
-abbrev pub or_else : Option DotCommand → DotCommand → DotCommand
-or_else None other = other
-or_else (Some command) other = command
+-- a name is known where it is known how its command is used
+abbrev pub of_name : Option (List ℕ) → Option DotCommand → DotCommand
+of_name None command = Unknown
+of_name (Some usage) command = or_usage usage command
 
 -- the command that a dot line's words make: its name, and the words behind it
 unfoldable pub dot_command_of : List (List ℕ) → DotCommand
 dot_command_of [] = Nothing
-dot_command_of (name ∷ words) = or_else (print_command name words) (or_else (run_command name words) (or_else (table_command name words) Unknown))
+dot_command_of (name ∷ words) = of_name (usage_of name) (made name words)

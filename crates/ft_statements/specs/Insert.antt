@@ -1,6 +1,7 @@
 -- Steps. INSERT ("Populating FTS Tables") and the special commands ("Special Commands For FTS3
 -- and FTS4"), read step by step. That the forms of Grammar are read so, and no others, is a law.
 use Rattle.std.specs.Prelude.{ℕ, List, [], ◌∷◌, Option, Some, None, if◌then◌else◌, codes}
+use Rattle.std.specs.Option.{option_or}
 use Rattle.std.specs.Str.{str_eq_ignore_ascii_case}
 use Rattle.ft_content.specs.Content.{Cell}
 use Rattle.ft_content.specs.Command.{Command, Insert, Rebuild, Check, Optimize}
@@ -25,18 +26,22 @@ only_name ts = only name_of ts
 abbrev pub only_literal : List Token → Option (List ℕ)
 only_literal ts = only literal_of ts
 
--- the one column is named as the table, and the one value is the word of a special command, in any
--- case of ASCII letters
-abbrev pub special : List Token → Option Command
-special ts = do
-  rest ← keywords_at (codes "INSERT" ∷ codes "INTO" ∷ []) ts
-  table ← name_at rest
-  columns ← parenthesized table.1
+-- behind the table's name: the one column is named as the table, and the one value is the word of a
+-- special command, in any case of ASCII letters
+abbrev pub special_behind : List ℕ → List Token → Option Command
+special_behind table ts = do
+  columns ← parenthesized ts
   column ← only_name columns.0
   values ← keyword_at (codes "VALUES") columns.1
   row ← whole (parenthesized values)
   word ← only_literal row
-  special_where table.0 column word
+  special_where table column word
+
+abbrev pub special : List Token → Option Command
+special ts = do
+  rest ← keywords_at (codes "INSERT" ∷ codes "INTO" ∷ []) ts
+  table ← name_at rest
+  special_behind table.0 table.1
 
 abbrev pub names_of : List Token → Option (List (List ℕ))
 names_of ts = each only_name (parts ts)
@@ -56,14 +61,26 @@ columns_at ts = listed_behind (symbol_at (codes "(") ts) ts
 abbrev pub only_value : List Token → Option Cell
 only_value ts = whole (value_at ts)
 
+abbrev pub row_at : List Token → Reads (List Cell)
+row_at ts = parenthesized ts >>= λ r. each only_value (parts r.0) >>= λ row. Some (row, r.1)
+
 abbrev pub row_of : List Token → Option (List Cell)
 row_of ts = whole (parenthesized ts) >>= λ row. each only_value (parts row)
+
+-- behind the table's name: the columns, if they are named, and the rows
+abbrev pub rows_behind : List ℕ → List Token → Option Command
+rows_behind table ts = do
+  columns ← columns_at ts
+  values ← keyword_at (codes "VALUES") columns.1
+  rows ← each row_of (parts values)
+  Some (Insert table columns.0 rows)
 
 abbrev pub insert : List Token → Option Command
 insert ts = do
   rest ← keywords_at (codes "INSERT" ∷ codes "INTO" ∷ []) ts
   table ← name_at rest
-  columns ← columns_at table.1
-  values ← keyword_at (codes "VALUES") columns.1
-  rows ← each row_of (parts values)
-  Some (Insert table.0 columns.0 rows)
+  rows_behind table.0 table.1
+
+-- a special command, or else an INSERT of rows
+abbrev pub insert_first : List Token → Option Command
+insert_first ts = option_or (special ts) (insert ts)

@@ -2,14 +2,14 @@
 use Rattle.std.specs.Prelude.{ℕ, Bool, false, ◌&&◌, ◌||◌, List, [], ◌∷◌, Option, Some, codes}
 use Rattle.std.specs.List.{list_any}
 use Rattle.std.specs.Option.{option_or}
-use Rattle.ft_statements.specs.Words.{Token, is_keyword}
+use Rattle.ft_statements.specs.Words.{Token, is_keyword, is_one_of}
 use Rattle.ft_statements.specs.Reading.{◌>>=◌, keywords_at, optional, name_at}
 
 abbrev pub begins_query : Token → Bool
-begins_query t = is_keyword (codes "SELECT") t || is_keyword (codes "VALUES") t || is_keyword (codes "WITH") t
+begins_query t = is_one_of (codes "SELECT" ∷ codes "VALUES" ∷ codes "WITH" ∷ []) t
 
 abbrev pub may_return : Token → Bool
-may_return t = is_keyword (codes "INSERT") t || is_keyword (codes "UPDATE") t || is_keyword (codes "DELETE") t || is_keyword (codes "REPLACE") t
+may_return t = is_one_of (codes "INSERT" ∷ codes "UPDATE" ∷ codes "DELETE" ∷ codes "REPLACE" ∷ []) t
 
 -- Whether a plain statement is run as a query: its first word says so, or that it writes and
 -- RETURNING stands behind it (own choice)

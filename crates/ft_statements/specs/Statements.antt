@@ -1,13 +1,13 @@
 -- Meaning. Which class a statement is of, and which command a full-text statement spells.
-use Rattle.std.specs.Prelude.{ℕ, Bool, false, ◌&&◌, ◌||◌, List, [], ◌∷◌, Option, Some, is_some, option_map, if◌then◌else◌, codes}
+use Rattle.std.specs.Prelude.{ℕ, Bool, false, ◌&&◌, ◌||◌, List, [], ◌∷◌, Option, Some, None, is_some, option_map, if◌then◌else◌, codes}
 use Rattle.std.specs.List.{list_any}
-use Rattle.std.specs.Option.{option_map_or, option_or}
+use Rattle.std.specs.Option.{option_map_or}
 use Rattle.ft_values.specs.Names.{same_name}
 use Rattle.ft_content.specs.Command.{Command}
-use Rattle.ft_statements.specs.Words.{Token, is_keyword, is_symbol, name_of}
+use Rattle.ft_statements.specs.Words.{Token, is_keyword, is_one_of, is_symbol, name_of}
 use Rattle.ft_statements.specs.Reading.{keywords_at}
 use Rattle.ft_statements.specs.Create.{create, drop_table}
-use Rattle.ft_statements.specs.Insert.{special, insert}
+use Rattle.ft_statements.specs.Insert.{insert_first}
 use Rattle.ft_statements.specs.Change.{update, delete}
 use Rattle.ft_statements.specs.Select.{select}
 
@@ -17,18 +17,20 @@ without_end [] = []
 without_end (t ∷ []) = if is_symbol (codes ";") t then [] else t ∷ []
 without_end (t ∷ next ∷ more) = t ∷ without_end (next ∷ more)
 
--- the command that words spell, if they spell one; of a special command and an INSERT the special
--- command is read
+-- the command that words spell, by their first one, if they spell one
 unfoldable pub command_of : List Token → Option Command
-command_of ts =
-    option_or (create ts) (option_or (drop_table ts) (option_or (special ts) (option_or (insert ts)
-    (option_or (update ts) (option_or (delete ts) (select ts))))))
+command_of [] = None
+command_of (t ∷ ts) =
+    if is_keyword (codes "CREATE") t then create (t ∷ ts)
+    else if is_keyword (codes "DROP") t then drop_table (t ∷ ts)
+    else if is_keyword (codes "INSERT") t then insert_first (t ∷ ts)
+    else if is_keyword (codes "UPDATE") t then update (t ∷ ts)
+    else if is_keyword (codes "DELETE") t then delete (t ∷ ts)
+    else select (t ∷ ts)
 
 -- the words behind which a full-text table's name makes a statement full-text
 abbrev pub leads : Token → Bool
-leads t =
-    is_keyword (codes "FROM") t || is_keyword (codes "INTO") t || is_keyword (codes "UPDATE") t || is_keyword (codes "TABLE") t
-    || is_keyword (codes "JOIN") t || is_keyword (codes "EXISTS") t
+leads t = is_one_of (codes "FROM" ∷ codes "INTO" ∷ codes "UPDATE" ∷ codes "TABLE" ∷ codes "JOIN" ∷ codes "EXISTS" ∷ []) t
 
 abbrev pub is_named : List ℕ → List ℕ → Bool
 is_named name table = same_name table name

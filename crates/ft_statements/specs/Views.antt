@@ -1,18 +1,15 @@
 -- Steps. Words, and what was read of them, as the code holds them.
-use Rattle.std.specs.Prelude.{ℕ, ◌≡◌, ◌≤◌, ◌+◌, Bool, List, [], ◌∷◌, ◌++◌, map, Option, option_map, string_bytes, String, Vec}
+use Rattle.std.specs.Prelude.{ℕ, ◌≡◌, ◌≤◌, ◌+◌, Bool, List, [], ◌∷◌, ◌++◌, map, Option, Some, None, Result, option_map, string_bytes, String, Vec, IfOk, OnErr, IsErrOf}
 use Rattle.std.specs.declared.alloc.Global.{Global}
 use Rattle.std.specs.Borrow.{Bor}
 use Rattle.ft_statements.specs.declared.words.Piece.{Piece}
+use Rattle.ft_statements.specs.declared.reading.Reader.{Reader}
+use Rattle.ft_statements.specs.declared.statement.StatementFault.{StatementFault}
+use Rattle.ft_statements.specs.declared.statement.StatementFault.TheVariants.{Syntax}
 use Rattle.ft_statements.specs.declared.create.Argument.{Argument}
 use Rattle.ft_statements.specs.declared.create.Argument.TheVariants as arguments
-use Rattle.ft_content.specs.declared.command.Filter.{Filter}
-use Rattle.ft_content.specs.declared.command.Item.{Item}
-use Rattle.ft_content.specs.Command as commands
-use Rattle.ft_content.specs.Content.{Cell}
-use Rattle.ft_content.specs.Views.{set_of, filter_of, item_of}
-use Rattle.ft_values.specs.declared.rows.Value.{Value}
 use Rattle.ft_statements.specs.Words.{Token}
-use Rattle.ft_statements.specs.Reading.{Reads, depth_after}
+use Rattle.ft_statements.specs.Reading.{Reads, optional, depth_after}
 use Rattle.ft_statements.specs.Create as forms
 
 abbrev pub seen : Piece → Token
@@ -21,28 +18,15 @@ seen p = record { kind = p.kind; text = p.text.now }
 abbrev pub plain : List Piece → List Token
 plain pieces = map seen pieces
 
--- the words that are left
-abbrev pub left : Option (Bor (List Piece)) → Option (List Token)
-left rest = option_map (λ r. plain r.now) rest
+-- the words that are still to be read
+abbrev pub rest_of : Reader → List Token
+rest_of reader = plain reader.words.now
 
--- what was read, and the words that are left
-abbrev pub read_as : {A B : Type 0} → (A → B) → Option (A × Bor (List Piece)) → Reads B
-read_as f read = option_map (λ r. (f r.0, plain r.1.now)) read
-
--- two runs of words
-abbrev pub two_runs : Option (Bor (List Piece) × Bor (List Piece)) → Reads (List Token)
-two_runs read = option_map (λ r. (plain r.0.now, plain r.1.now)) read
+abbrev pub each_text : List (Bor (List ℕ)) → List (List ℕ)
+each_text texts = map (λ text. text.now) texts
 
 abbrev pub runs : List (Bor (List Piece)) → List (List Token)
 runs parts = map (λ p. plain p.now) parts
-
--- a sign, and the words that are left
-abbrev pub signed_words : Bool × Bor (List Piece) → Bool × List Token
-signed_words s = (s.0, plain s.1.now)
-
--- whether words stand there, and the words that are left
-abbrev pub optional_words : Bool × Bor (List Piece) → Bool × List Token
-optional_words s = (s.0, plain s.1.now)
 
 abbrev pub argument_as : Argument → forms.Argument
 argument_as (arguments.Setting name value) = forms.Setting (string_bytes name) (string_bytes value)
@@ -75,16 +59,32 @@ pub record IsDepthAfter (before : ℕ) (word : Token) (now : ℕ) : Type 0 where
 abbrev pub listed : {A : Type 0} → Option (Vec (String Global) A) → Option (List (List ℕ))
 listed names = option_map texts_of names
 
--- new values and a filter
-abbrev pub sets_as : {A : Type 0} → Vec (String Global × Value) A × Filter → List (List ℕ × Cell) × commands.Filter
-sets_as s = (map set_of s.0.items, filter_of s.1)
+-- ---- what a reader finds, or that there is no such thing; of want of memory nothing is said
 
-abbrev pub set_and_filter : (String Global × Value) × Filter → (List ℕ × Cell) × commands.Filter
-set_and_filter s = (set_of s.0, filter_of s.1)
+-- a value, as the form has it
+pub record Gives {A B : Type 0} (shown : A → B) (result : Result A StatementFault) (form : Option B) : Type 0 where
+  pub found : IfOk result (λ x. form ≡ Some (shown x))
+  pub none : IsErrOf result Syntax → form ≡ None
 
--- the parts before the last one, and that one
-abbrev pub split_parts : Option (Bor (List (Bor (List Piece))) × Bor (List Piece)) → Option (List (List Token) × List Token)
-split_parts split = option_map (λ s. (runs s.0.now, plain s.1.now)) split
+-- a value, as the form has it, and the words behind it are left
+pub record Advances {A B : Type 0} (shown : A → B) (form : List Token → Reads B) (before after : Reader)
+    (result : Result A StatementFault) : Type 0 where
+  pub found : IfOk result (λ x. form (rest_of before) ≡ Some (shown x, rest_of after))
+  pub none : IsErrOf result Syntax → form (rest_of before) ≡ None
 
-abbrev pub items_as : {A : Type 0} → Vec Item A → List commands.Item
-items_as items = map item_of items.items
+-- words whose meaning is that they stand there, and those behind them are left
+pub record Skips {A : Type 0} (form : List Token → Option (List Token)) (before after : Reader)
+    (result : Result A StatementFault) : Type 0 where
+  pub found : IfOk result (λ x. form (rest_of before) ≡ Some (rest_of after))
+  pub none : IsErrOf result Syntax → form (rest_of before) ≡ None
+
+-- the same, where all words are left if they don't stand there
+pub record Passes {A : Type 0} (form : List Token → Option (List Token)) (before after : Reader)
+    (result : Result A StatementFault) : Type 0 where
+  pub found : IfOk result (λ x. form (rest_of before) ≡ Some (rest_of after))
+  pub none : OnErr result (form (rest_of before) ≡ None)
+  pub stays : OnErr result (rest_of after ≡ rest_of before)
+
+-- words that may be missing: whether they stand there, and the words behind them
+abbrev pub Takes : (List Token → Option (List Token)) → Reader → Reader → Bool → Type 0
+Takes form before after there = (there, rest_of after) ≡ optional (form (rest_of before)) (rest_of before)

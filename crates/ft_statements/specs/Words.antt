@@ -3,6 +3,7 @@
 -- (Constants)") and of its page "SQLite Keywords".
 use Rattle.std.specs.Prelude.{ℕ, ◌+◌, ◌-◌, Bool, true, false, ◌==◌, ◌&&◌, List, [], ◌∷◌, map, length, take, slice_range, Option}
 use Rattle.std.specs.Prelude.{Some, None, if◌then◌else◌, bytes_eq, chars, encode_utf8_all}
+use Rattle.std.specs.List.{list_any}
 use Rattle.std.specs.Str.{str_eq_ignore_ascii_case}
 use Rattle.shell_text.specs.Words.{words_of}
 use Rattle.shell_text.specs.declared.words.SqlWord.{SqlWord}
@@ -33,6 +34,10 @@ is_mark _ = false
 -- Keywords")
 abbrev pub is_keyword : List ℕ → Token → Bool
 is_keyword keyword t = is_bare t.kind && str_eq_ignore_ascii_case t.text keyword
+
+-- the word is one of these keywords
+abbrev pub is_one_of : List (List ℕ) → Token → Bool
+is_one_of keywords t = list_any (λ keyword. is_keyword keyword t) keywords
 
 -- the word is this single character
 abbrev pub is_symbol : List ℕ → Token → Bool

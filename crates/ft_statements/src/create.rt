@@ -1,11 +1,11 @@
 //! CREATE VIRTUAL TABLE and DROP TABLE.
-ghost use Rattle.std.specs.Prelude.{◌≡◌, ◌∷◌, [], codes, OnOk, map, string_bytes, option_map, IfOk};
+ghost use Rattle.std.specs.Prelude.{◌≡◌, OnOk, map, string_bytes, IfOk};
 ghost use Rattle.ft_content.specs.Views as views;
 ghost use Rattle.ft_statements.specs.Create as forms;
-ghost use Rattle.ft_statements.specs.Reading as reading;
-ghost use Rattle.ft_statements.specs.Views.{plain, left, runs, optional_words, argument_as, AddsArgument, AreSortedOf};
+ghost use Rattle.ft_statements.specs.Views.{plain, rest_of, argument_as, AddsArgument, AreSortedOf, Gives};
 
-use crate::reading::{keyword_at, name_at, parenthesized, parts, symbol_at};
+use crate::reading::{Reader, Spelled};
+use crate::statement::StatementFault;
 use crate::words::{Piece, bare, literal_of, name_of};
 use ft_content::Command;
 use std::alloc::{AllocError, Global};
@@ -33,121 +33,84 @@ fn joined(alloc: Global, words: &[Piece<'_>]) -> Result<String, AllocError>
     Ok(text)
 }
 
-// The words behind an equals sign, or all words where there is none.
-fn behind_equals<'a>(words: &'a [Piece<'a>]) -> &'a [Piece<'a>]
-    ensures { plain result.now ≡ (reading.optional (reading.symbol_at (codes "=") (plain words.now))
-        (plain words.now)).1 }
+// The option `tokenize` with a tokenizer.
+#[tactic(auto, using(crate::proofs::CreateLemmas::tokenizer_is))]
+fn tokenizer(mut words: Reader<'_>) -> Result<Argument, StatementFault>
+    ensures { Gives argument_as result (forms.tokenizer (rest_of words.entry)) }
 {
-    symbol_at(words, "=").unwrap_or(words)
-}
-
-fn tokenizer_of(alloc: Global, words: &[Piece<'_>]) -> Result<Option<Argument>, AllocError>
-    ensures { IfOk result (λ argument. option_map argument_as argument
-        ≡ forms.tokenizer_of (plain words.now)) }
-{
-    if words.is_empty() {
-        return Ok(None);
+    words.keyword("tokenize")?;
+    words.takes_symbol("=");
+    if words.words.is_empty() {
+        return Err(StatementFault::Syntax);
     }
-    let name = "tokenize".to_string(alloc)?;
-    let value = joined(alloc, words)?;
-    Ok(Some(Argument::Setting { name, value }))
-}
-
-// The option `tokenize`, if it stands there with a tokenizer.
-fn tokenizer(alloc: Global, words: &[Piece<'_>]) -> Result<Option<Argument>, AllocError>
-    ensures { IfOk result (λ argument. option_map argument_as argument
-        ≡ forms.tokenizer (plain words.now)) }
-{
-    match keyword_at(words, "tokenize") {
-        Some(rest) => tokenizer_of(alloc, behind_equals(rest)),
-        None => Ok(None),
-    }
+    let name = "tokenize".to_string(words.alloc)?;
+    let value = joined(words.alloc, words.words)?;
+    Ok(Argument::Setting { name, value })
 }
 
 // Any other option.
-fn setting(alloc: Global, words: &[Piece<'_>]) -> Result<Option<Argument>, AllocError>
-    ensures { IfOk result (λ argument. option_map argument_as argument
-        ≡ forms.setting (plain words.now)) }
+fn setting(mut words: Reader<'_>) -> Result<Argument, StatementFault>
+    ensures { Gives argument_as result (forms.setting (rest_of words.entry)) }
 {
-    let Some((name, rest)) = name_at(alloc, words)? else {
-        return Ok(None);
-    };
-    let Some(rest) = symbol_at(rest, "=") else {
-        return Ok(None);
-    };
-    let value = joined(alloc, rest)?;
-    Ok(Some(Argument::Setting { name, value }))
+    let name = words.name()?;
+    words.symbol("=")?;
+    let value = joined(words.alloc, words.words)?;
+    Ok(Argument::Setting { name, value })
 }
 
 // A column by its name; what stands behind it is ignored.
-fn column(alloc: Global, words: &[Piece<'_>]) -> Result<Option<Argument>, AllocError>
-    ensures { IfOk result (λ argument. option_map argument_as argument
-        ≡ forms.column (plain words.now)) }
+fn column(mut words: Reader<'_>) -> Result<Argument, StatementFault>
+    ensures { Gives argument_as result (forms.column (rest_of words.entry)) }
 {
-    let [first, ..] = words else {
-        return Ok(None);
-    };
-    if let Some(name) = name_of(alloc, first)? {
-        return Ok(Some(Argument::Column(name)));
-    }
-    match literal_of(alloc, first)? {
-        Some(name) => Ok(Some(Argument::Column(name))),
-        None => Ok(None),
+    let word = words.next()?;
+    match name_of(words.alloc, word) {
+        Err(StatementFault::Syntax) => Ok(Argument::Column(literal_of(words.alloc, word)?)),
+        name => Ok(Argument::Column(name?)),
     }
 }
 
-fn argument_of(alloc: Global, words: &[Piece<'_>]) -> Result<Option<Argument>, AllocError>
-    ensures { IfOk result (λ argument. option_map argument_as argument
-        ≡ forms.argument_of (plain words.now)) }
+fn argument_of(words: Reader<'_>) -> Result<Argument, StatementFault>
+    ensures { Gives argument_as result (forms.argument_of (rest_of words.entry)) }
 {
-    if let Some(argument) = tokenizer(alloc, words)? {
-        return Ok(Some(argument));
+    match tokenizer(words) {
+        Err(StatementFault::Syntax) => {}
+        read => return read,
     }
-    if let Some(argument) = setting(alloc, words)? {
-        return Ok(Some(argument));
+    match setting(words) {
+        Err(StatementFault::Syntax) => column(words),
+        read => read,
     }
-    column(alloc, words)
 }
 
-// The arguments that parts are.
-fn each_argument(alloc: Global, parts: &[&[Piece<'_>]]) -> Result<Option<Vec<Argument>>, AllocError>
-    ensures { IfOk result (λ found. option_map (λ v. map argument_as v.items) found
-        ≡ reading.each forms.argument_of (runs parts.now)) }
-{
-    let mut found = Vec::new(alloc);
-    for part in parts {
-        let Some(argument) = argument_of(alloc, *part)? else {
-            return Ok(None);
-        };
-        found.push(argument)?;
-    }
-    Ok(Some(found))
-}
+// All of the words.
+impl Spelled for Argument {
+    ghost Form = { forms.Argument };
 
-#[tactic(auto, using(crate::proofs::CreateLemmas::some_arguments))]
-fn arguments_of(alloc: Global, words: &[Piece<'_>]) -> Result<Option<Vec<Argument>>, AllocError>
-    ensures { IfOk result (λ found. option_map (λ v. map argument_as v.items) found
-        ≡ forms.arguments_of (plain words.now)) }
-{
-    if words.is_empty() {
-        return Ok(Some(Vec::new(alloc)));
+    ghost shown = { argument_as };
+
+    ghost form = { forms.argument_at };
+
+    fn read(words: &mut Reader<'_>) -> Result<Argument, StatementFault> {
+        let argument = argument_of(*words)?;
+        words.words = &[];
+        Ok(argument)
     }
-    let parts = parts(alloc, words)?;
-    each_argument(alloc, parts.as_slice())
 }
 
 // Nothing, or arguments in parentheses.
-fn arguments(alloc: Global, words: &[Piece<'_>]) -> Result<Option<Vec<Argument>>, AllocError>
-    ensures { IfOk result (λ found. option_map (λ v. map argument_as v.items) found
-        ≡ forms.arguments (plain words.now)) }
+fn arguments(mut words: Reader<'_>) -> Result<Vec<Argument>, StatementFault>
+    ensures { Gives (λ found. map argument_as found.items) result
+        (forms.arguments (rest_of words.entry)) }
 {
-    if words.is_empty() {
-        return Ok(Some(Vec::new(alloc)));
+    if words.words.is_empty() {
+        return Ok(Vec::new(words.alloc));
     }
-    match parenthesized(words) {
-        Some((inside, [])) => arguments_of(alloc, inside),
-        _ => Ok(None),
+    let inside = words.parenthesized()?;
+    words.end()?;
+    if inside.words.is_empty() {
+        return Ok(Vec::new(words.alloc));
     }
+    inside.all()
 }
 
 // Puts an argument behind the options or behind the columns.
@@ -183,90 +146,32 @@ fn sorted(
     Ok((options, columns))
 }
 
-fn create_virtual_table<'a>(words: &'a [Piece<'a>]) -> Option<&'a [Piece<'a>]>
-    ensures { left result ≡ reading.keywords_at
-        (codes "CREATE" ∷ codes "VIRTUAL" ∷ codes "TABLE" ∷ []) (plain words.now) }
-{
-    let words = keyword_at(words, "CREATE")?;
-    let words = keyword_at(words, "VIRTUAL")?;
-    keyword_at(words, "TABLE")
-}
-
-pub(crate) fn if_not_exists<'a>(words: &'a [Piece<'a>]) -> Option<&'a [Piece<'a>]>
-    ensures { left result ≡ reading.keywords_at (codes "IF" ∷ codes "NOT" ∷ codes "EXISTS" ∷ [])
-        (plain words.now) }
-{
-    let words = keyword_at(words, "IF")?;
-    let words = keyword_at(words, "NOT")?;
-    keyword_at(words, "EXISTS")
-}
-
-fn if_exists<'a>(words: &'a [Piece<'a>]) -> Option<&'a [Piece<'a>]>
-    ensures { left result ≡ reading.keywords_at (codes "IF" ∷ codes "EXISTS" ∷ [])
-        (plain words.now) }
-{
-    let words = keyword_at(words, "IF")?;
-    keyword_at(words, "EXISTS")
-}
-
-// Whether words stand there that may be missing, and the words behind them.
-pub(crate) fn optional<'a>(
-    found: Option<&'a [Piece<'a>]>,
-    words: &'a [Piece<'a>],
-) -> (bool, &'a [Piece<'a>])
-    ensures { optional_words result ≡ reading.optional (left found.entry) (plain words.now) }
-{
-    match found {
-        Some(rest) => (true, rest),
-        None => (false, words),
-    }
-}
-
 /// CREATE VIRTUAL TABLE.
-pub(crate) fn create(alloc: Global, words: &[Piece<'_>]) -> Result<Option<Command>, AllocError>
-    ensures { IfOk result (λ command. option_map views.command_of command
-        ≡ forms.create (plain words.now)) }
+pub(crate) fn create(mut words: Reader<'_>) -> Result<Command, StatementFault>
+    ensures { Gives views.command_of result (forms.create (rest_of words.entry)) }
 {
-    let Some(rest) = create_virtual_table(words) else {
-        return Ok(None);
-    };
-    let (if_new, rest) = optional(if_not_exists(rest), rest);
-    let Some((table, rest)) = name_at(alloc, rest)? else {
-        return Ok(None);
-    };
-    let Some(rest) = keyword_at(rest, "USING") else {
-        return Ok(None);
-    };
-    let Some((module, rest)) = name_at(alloc, rest)? else {
-        return Ok(None);
-    };
-    let Some(arguments) = arguments(alloc, rest)? else {
-        return Ok(None);
-    };
-    let (options, columns) = sorted(alloc, arguments)?;
-    Ok(Some(Command::Create {
+    words.keywords(&["CREATE", "VIRTUAL", "TABLE"])?;
+    let if_new = words.takes(&["IF", "NOT", "EXISTS"]);
+    let table = words.name()?;
+    words.keyword("USING")?;
+    let module = words.name()?;
+    let (options, columns) = sorted(words.alloc, arguments(words)?)?;
+    Ok(Command::Create {
         table,
         module,
         options,
         columns,
         if_new,
-    }))
+    })
 }
 
 /// DROP TABLE.
-pub(crate) fn drop_table(alloc: Global, words: &[Piece<'_>]) -> Result<Option<Command>, AllocError>
-    ensures { IfOk result (λ command. option_map views.command_of command
-        ≡ forms.drop_table (plain words.now)) }
+pub(crate) fn drop_table(mut words: Reader<'_>) -> Result<Command, StatementFault>
+    ensures { Gives views.command_of result (forms.drop_table (rest_of words.entry)) }
 {
-    let Some(rest) = keyword_at(words, "DROP") else {
-        return Ok(None);
-    };
-    let Some(rest) = keyword_at(rest, "TABLE") else {
-        return Ok(None);
-    };
-    let (if_there, rest) = optional(if_exists(rest), rest);
-    match name_at(alloc, rest)? {
-        Some((table, [])) => Ok(Some(Command::Drop { table, if_there })),
-        _ => Ok(None),
-    }
+    words.keywords(&["DROP", "TABLE"])?;
+    let if_there = words.takes(&["IF", "EXISTS"]);
+    let table = words.name()?;
+    words.end()?;
+    Ok(Command::Drop { table, if_there })
 }

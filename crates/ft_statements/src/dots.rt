@@ -1,9 +1,9 @@
 //! Which dot-command a line's words are.
-ghost use Rattle.std.specs.Prelude.{◌≡◌, codes, map, string_bytes, option_map, IfOk};
+ghost use Rattle.std.specs.Prelude.{◌≡◌, map, string_bytes, option_map, IfOk};
 ghost use Rattle.std.specs.Char.{is_ascii_digit};
 ghost use Rattle.std.specs.List.{list_all};
 ghost use Rattle.ft_statements.specs.Dots as forms;
-ghost use Rattle.ft_statements.specs.DotViews.{command_as, import_as, words_left, csv_words, skip_words, IsSaid};
+ghost use Rattle.ft_statements.specs.DotViews.{command_as, import_as, csv_words, skip_words, two_words, IsSaid};
 
 use crate::values::digits_value;
 use shell_text::Mode;
@@ -57,71 +57,65 @@ fn line_command(alloc: Global, words: &[String]) -> Result<DotCommand, AllocErro
     let [name, words @ ..] = words else {
         return Ok(DotCommand::Nothing);
     };
-    let name = name.as_str();
-    if let Some(command) = print_command(alloc, name, words)? {
-        return Ok(command);
-    }
-    if let Some(command) = run_command(alloc, name, words)? {
-        return Ok(command);
-    }
-    if let Some(command) = table_command(alloc, name, words)? {
-        return Ok(command);
-    }
-    Ok(DotCommand::Unknown)
+    let Some(usage) = usage_of(name.as_str()) else {
+        return Ok(DotCommand::Unknown);
+    };
+    let command = made(alloc, name.as_str(), words)?;
+    Ok(command.unwrap_or(DotCommand::Usage(usage)))
 }
 
-// The commands on how answers are printed.
-#[tactic(auto, unfolding(crate::specs::Dots::print_command))]
-fn print_command(
-    alloc: Global,
-    name: &str,
-    words: &[String],
-) -> Result<Option<DotCommand>, AllocError>
+// How the command of a name is used.
+#[tactic(auto, unfolding(crate::specs::Dots::usage_of))]
+fn usage_of(name: &str) -> Option<&'static str>
+    ensures { option_map (λ usage. usage.now) result ≡ forms.usage_of name.now }
+{
+    match name {
+        "mode" => Some(".mode list|csv|column|quote"),
+        "headers" | "header" => Some(".headers BOOL"),
+        "separator" => Some(".separator TEXT"),
+        "nullvalue" => Some(".nullvalue TEXT"),
+        "print" => Some(".print TEXT..."),
+        "echo" => Some(".echo BOOL"),
+        "bail" => Some(".bail BOOL"),
+        "import" => Some(".import [--csv] [--skip N] FILE TABLE"),
+        "tables" => Some(".tables"),
+        "quit" => Some(".quit"),
+        "exit" => Some(".exit"),
+        _ => None,
+    }
+}
+
+// The command of a name, where the words behind it fit.
+#[tactic(auto, unfolding(crate::specs::Dots::made))]
+fn made(alloc: Global, name: &str, words: &[String]) -> Result<Option<DotCommand>, AllocError>
     ensures { IfOk result (λ command. option_map command_as command
-        ≡ forms.print_command name.now (map string_bytes words.now)) }
+        ≡ forms.made name.now (map string_bytes words.now)) }
 {
-    if name == "mode" {
-        Ok(Some(mode_command(words)))
-    } else if name == "headers" || name == "header" {
-        Ok(Some(headers_command(words)))
-    } else if name == "separator" {
-        Ok(Some(separator_command(alloc, words)?))
-    } else if name == "nullvalue" {
-        Ok(Some(null_command(alloc, words)?))
-    } else {
-        Ok(None)
+    match name {
+        "mode" => Ok(mode_in(words).map(DotCommand::Mode)),
+        "headers" | "header" => Ok(switch_in(words).map(DotCommand::Headers)),
+        "separator" => Ok(text_in(alloc, words)?.map(DotCommand::Separator)),
+        "nullvalue" => Ok(text_in(alloc, words)?.map(DotCommand::Null)),
+        "print" => Ok(Some(DotCommand::Print(copied(alloc, words)?))),
+        "echo" => Ok(switch_in(words).map(DotCommand::Echo)),
+        "bail" => Ok(switch_in(words).map(DotCommand::Bail)),
+        "import" => Ok(import_of(alloc, words)?.map(DotCommand::Import)),
+        "tables" => Ok(alone(DotCommand::Tables, words)),
+        "quit" | "exit" => Ok(alone(DotCommand::Quit, words)),
+        _ => Ok(None),
     }
 }
 
-fn mode_command(words: &[String]) -> DotCommand
-    ensures { command_as result ≡ forms.or_usage (codes ".mode list|csv|column|quote")
-        (option_map forms.SetMode (forms.mode_in (map string_bytes words.now))) }
-{
-    match mode_in(words) {
-        Some(mode) => DotCommand::Mode(mode),
-        None => DotCommand::Usage(".mode list|csv|column|quote"),
-    }
-}
-
+// The mode that is the one word.
 fn mode_in(words: &[String]) -> Option<Mode>
     ensures { result ≡ forms.mode_in (map string_bytes words.now) }
 {
-    mode_named(lone(words)?)
-}
-
-fn mode_named(word: &str) -> Option<Mode>
-    ensures { result ≡ forms.mode_named word.now }
-{
-    if word == "list" {
-        Some(Mode::List)
-    } else if word == "csv" {
-        Some(Mode::Csv)
-    } else if word == "column" {
-        Some(Mode::Column)
-    } else if word == "quote" {
-        Some(Mode::Quote)
-    } else {
-        None
+    match lone(words)? {
+        "list" => Some(Mode::List),
+        "csv" => Some(Mode::Csv),
+        "column" => Some(Mode::Column),
+        "quote" => Some(Mode::Quote),
+        _ => None,
     }
 }
 
@@ -135,91 +129,28 @@ fn lone(words: &[String]) -> Option<&str>
     }
 }
 
-// A switch's command, or how it is used.
-fn headers_command(words: &[String]) -> DotCommand
-    ensures { command_as result ≡ forms.or_usage (codes ".headers BOOL")
-        (option_map forms.SetHeaders (forms.switch_in (map string_bytes words.now))) }
-{
-    match switch_in(words) {
-        Some(shown) => DotCommand::Headers(shown),
-        None => DotCommand::Usage(".headers BOOL"),
-    }
-}
-
+// The switch that is the one word, in any case of ASCII letters.
 fn switch_in(words: &[String]) -> Option<bool>
     ensures { result ≡ forms.switch_in (map string_bytes words.now) }
 {
-    switch_named(lone(words)?)
-}
-
-fn switch_named(word: &str) -> Option<bool>
-    ensures { result ≡ forms.switch_named word.now }
-{
-    if is_on(word) {
+    let word = lone(words)?;
+    if word.eq_ignore_ascii_case("on") || word.eq_ignore_ascii_case("yes") || word == "1" {
         Some(true)
-    } else if is_off(word) {
+    } else if word.eq_ignore_ascii_case("off") || word.eq_ignore_ascii_case("no") || word == "0" {
         Some(false)
     } else {
         None
     }
 }
 
-fn is_on(word: &str) -> bool
-    ensures { result ≡ forms.is_on word.now }
-{
-    word.eq_ignore_ascii_case("on") || word.eq_ignore_ascii_case("yes") || word == "1"
-}
-
-fn is_off(word: &str) -> bool
-    ensures { result ≡ forms.is_off word.now }
-{
-    word.eq_ignore_ascii_case("off") || word.eq_ignore_ascii_case("no") || word == "0"
-}
-
-fn separator_command(alloc: Global, words: &[String]) -> Result<DotCommand, AllocError>
-    ensures { IfOk result (λ command. command_as command
-        ≡ forms.or_usage (codes ".separator TEXT")
-        (option_map forms.SetSeparator (forms.lone (map string_bytes words.now)))) }
+// The text that is the one word.
+fn text_in(alloc: Global, words: &[String]) -> Result<Option<String>, AllocError>
+    ensures { IfOk result (λ text. option_map string_bytes text
+        ≡ forms.lone (map string_bytes words.now)) }
 {
     match lone(words) {
-        Some(text) => Ok(DotCommand::Separator(String::from_str(alloc, text)?)),
-        None => Ok(DotCommand::Usage(".separator TEXT")),
-    }
-}
-
-fn null_command(alloc: Global, words: &[String]) -> Result<DotCommand, AllocError>
-    ensures { IfOk result (λ command. command_as command
-        ≡ forms.or_usage (codes ".nullvalue TEXT")
-        (option_map forms.SetNull (forms.lone (map string_bytes words.now)))) }
-{
-    match lone(words) {
-        Some(text) => Ok(DotCommand::Null(String::from_str(alloc, text)?)),
-        None => Ok(DotCommand::Usage(".nullvalue TEXT")),
-    }
-}
-
-// The commands on the run.
-#[tactic(auto, unfolding(crate::specs::Dots::run_command))]
-fn run_command(
-    alloc: Global,
-    name: &str,
-    words: &[String],
-) -> Result<Option<DotCommand>, AllocError>
-    ensures { IfOk result (λ command. option_map command_as command
-        ≡ forms.run_command name.now (map string_bytes words.now)) }
-{
-    if name == "print" {
-        Ok(Some(DotCommand::Print(copied(alloc, words)?)))
-    } else if name == "echo" {
-        Ok(Some(echo_command(words)))
-    } else if name == "bail" {
-        Ok(Some(bail_command(words)))
-    } else if name == "quit" {
-        Ok(Some(alone(DotCommand::Quit, ".quit", words)))
-    } else if name == "exit" {
-        Ok(Some(alone(DotCommand::Quit, ".exit", words)))
-    } else {
-        Ok(None)
+        Some(text) => Ok(Some(String::from_str(alloc, text)?)),
+        None => Ok(None),
     }
 }
 
@@ -234,66 +165,12 @@ fn copied(alloc: Global, words: &[String]) -> Result<Vec<String>, AllocError>
     Ok(copies)
 }
 
-fn echo_command(words: &[String]) -> DotCommand
-    ensures { command_as result ≡ forms.or_usage (codes ".echo BOOL")
-        (option_map forms.SetEcho (forms.switch_in (map string_bytes words.now))) }
-{
-    match switch_in(words) {
-        Some(on) => DotCommand::Echo(on),
-        None => DotCommand::Usage(".echo BOOL"),
-    }
-}
-
-fn bail_command(words: &[String]) -> DotCommand
-    ensures { command_as result ≡ forms.or_usage (codes ".bail BOOL")
-        (option_map forms.SetBail (forms.switch_in (map string_bytes words.now))) }
-{
-    match switch_in(words) {
-        Some(on) => DotCommand::Bail(on),
-        None => DotCommand::Usage(".bail BOOL"),
-    }
-}
-
 // A command that has no words behind it.
-fn alone(command: DotCommand, usage: &'static str, words: &[String]) -> DotCommand
-    ensures { command_as result ≡ forms.alone (command_as command) usage.now
-        (map string_bytes words.now) }
+fn alone(command: DotCommand, words: &[String]) -> Option<DotCommand>
+    ensures { option_map command_as result
+        ≡ forms.alone (command_as command) (map string_bytes words.now) }
 {
-    if words.is_empty() {
-        command
-    } else {
-        DotCommand::Usage(usage)
-    }
-}
-
-// The commands on tables.
-#[tactic(auto, unfolding(crate::specs::Dots::table_command))]
-fn table_command(
-    alloc: Global,
-    name: &str,
-    words: &[String],
-) -> Result<Option<DotCommand>, AllocError>
-    ensures { IfOk result (λ command. option_map command_as command
-        ≡ forms.table_command name.now (map string_bytes words.now)) }
-{
-    if name == "import" {
-        Ok(Some(import_command(alloc, words)?))
-    } else if name == "tables" {
-        Ok(Some(alone(DotCommand::Tables, ".tables", words)))
-    } else {
-        Ok(None)
-    }
-}
-
-fn import_command(alloc: Global, words: &[String]) -> Result<DotCommand, AllocError>
-    ensures { IfOk result (λ command. command_as command
-        ≡ forms.or_usage (codes ".import [--csv] [--skip N] FILE TABLE")
-        (option_map forms.Importing (forms.import_of (map string_bytes words.now)))) }
-{
-    match import_of(alloc, words)? {
-        Some(what) => Ok(DotCommand::Import(what)),
-        None => Ok(DotCommand::Usage(".import [--csv] [--skip N] FILE TABLE")),
-    }
+    words.is_empty().then_some(command)
 }
 
 // The two options in any order, and then FILE and TABLE.
@@ -301,48 +178,54 @@ fn import_of(alloc: Global, words: &[String]) -> Result<Option<Import>, AllocErr
     ensures { IfOk result (λ what. option_map import_as what
         ≡ forms.import_of (map string_bytes words.now)) }
 {
-    let (csv, rest) = csv_at(words);
+    let (csv, rest) = csv_at(false, words);
     let Some((skip, rest)) = skip_at(rest) else {
         return Ok(None);
     };
-    let (csv, rest) = csv_later(csv, rest);
-    files_of(alloc, csv, skip, rest)
+    let (csv, rest) = csv_at(csv, rest);
+    let Some((file, table)) = files_in(rest) else {
+        return Ok(None);
+    };
+    Ok(Some(Import {
+        csv,
+        skip,
+        file: String::from_str(alloc, file.as_str())?,
+        table: String::from_str(alloc, table.as_str())?,
+    }))
 }
 
-// Whether `--csv` stands there, and the words behind it.
-fn csv_at(words: &[String]) -> (bool, &[String])
-    ensures { csv_words result ≡ forms.csv_at (map string_bytes words.now) }
+// FILE and TABLE, and nothing else; an option is no file.
+fn files_in(words: &[String]) -> Option<(&String, &String)>
+    ensures { two_words result ≡ forms.files_in (map string_bytes words.now) }
 {
     match words {
-        [first, rest @ ..] if is_csv_option(first.as_str()) => (true, rest),
-        _ => (false, words),
+        [file, table] if file.as_str() != "--csv" && file.as_str() != "--skip" => {
+            Some((file, table))
+        }
+        _ => None,
     }
 }
 
-fn is_csv_option(word: &str) -> bool
-    ensures { result ≡ forms.is_csv_option word.now }
+// Whether `--csv` was read before, or stands there, and the words behind it.
+fn csv_at(before: bool, words: &[String]) -> (bool, &[String])
+    ensures { csv_words result ≡ forms.csv_later before (map string_bytes words.now) }
 {
-    word == "--csv"
+    match words {
+        [first, rest @ ..] if !before && first.as_str() == "--csv" => (true, rest),
+        _ => (before, words),
+    }
 }
 
 // The number behind `--skip`, if that stands there, and the words behind it.
 fn skip_at(words: &[String]) -> Option<(Option<u64>, &[String])>
     ensures { skip_words result ≡ forms.skip_at (map string_bytes words.now) }
 {
-    let [first, number, rest @ ..] = words else {
-        return Some((None, words));
-    };
-    if !is_skip_option(first.as_str()) {
-        return Some((None, words));
+    match words {
+        [first, number, rest @ ..] if first.as_str() == "--skip" => {
+            Some((Some(skip_named(number.as_str())?), rest))
+        }
+        _ => Some((None, words)),
     }
-    let skip = skip_named(number.as_str())?;
-    Some((Some(skip), rest))
-}
-
-fn is_skip_option(word: &str) -> bool
-    ensures { result ≡ forms.is_skip_option word.now }
-{
-    word == "--skip"
 }
 
 // A number of records.
@@ -354,51 +237,11 @@ fn skip_named(word: &str) -> Option<u64>
         return None;
     }
     let number = digits_value(digits);
-    if number <= 1_000_000 {
-        Some(number)
-    } else {
-        None
-    }
+    (number <= 1_000_000).then_some(number)
 }
 
 fn are_digits(bytes: &[u8]) -> bool
     ensures { result ≡ list_all is_ascii_digit bytes.now }
 {
     bytes.iter().all(|b| b.is_ascii_digit())
-}
-
-// Whether `--csv` was read before, or stands there.
-fn csv_later(before: bool, words: &[String]) -> (bool, &[String])
-    ensures { csv_words result ≡ forms.csv_later before (map string_bytes words.now) }
-{
-    if before {
-        return (true, words);
-    }
-    csv_at(words)
-}
-
-// FILE and TABLE, and nothing else.
-fn files_of(
-    alloc: Global,
-    csv: bool,
-    skip: Option<u64>,
-    words: &[String],
-) -> Result<Option<Import>, AllocError>
-    ensures { IfOk result (λ what. option_map import_as what
-        ≡ forms.files_of csv skip (map string_bytes words.now)) }
-{
-    let [file, table] = words else {
-        return Ok(None);
-    };
-    if is_csv_option(file.as_str()) || is_skip_option(file.as_str()) {
-        return Ok(None);
-    }
-    let file = String::from_str(alloc, file.as_str())?;
-    let table = String::from_str(alloc, table.as_str())?;
-    Ok(Some(Import {
-        csv,
-        skip,
-        file,
-        table,
-    }))
 }

@@ -1,77 +1,192 @@
 //! Reading words from the front of a statement.
-ghost use Rattle.std.specs.Prelude.{◌≡◌, ◌≤◌, ◌+◌, ◌==◌, ◌&&◌, codes, ◌<◌, ◌++◌, ◌∷◌, [], OnOk, ◌-◌, ◌^◌, string_bytes, option_map, IfOk};
-ghost use Rattle.ft_statements.specs.Words.{is_symbol};
+ghost use Rattle.std.specs.Prelude.{◌≡◌, ◌≤◌, ◌+◌, ◌==◌, ◌&&◌, codes, ◌<◌, ◌++◌, ◌∷◌, [], OnOk, ◌-◌, ◌^◌, string_bytes, IfOk, ℕ, List, if◌then◌else◌, Ok, Err, map};
+ghost use Rattle.ft_statements.specs.declared.statement.StatementFault.TheVariants.{Syntax};
+ghost use Rattle.ft_statements.specs.Words.{Token, is_symbol};
 ghost use Rattle.ft_statements.specs.Reading as forms;
-ghost use Rattle.ft_statements.specs.Insert as inserts;
-ghost use Rattle.ft_statements.specs.Views.{seen, plain, left, read_as, two_runs, runs, split_parts, IsDepthAfter};
+ghost use Rattle.ft_statements.specs.Views.{seen, plain, rest_of, each_text, runs, IsDepthAfter, Gives, Advances, Passes, Takes};
 
+use crate::statement::StatementFault;
 use crate::words::{Piece, is_keyword, is_symbol, literal_of, name_of};
 use std::alloc::{AllocError, Global};
 
-// The words behind this keyword, if it stands there.
-pub(crate) fn keyword_at<'a>(words: &'a [Piece<'a>], keyword: &str) -> Option<&'a [Piece<'a>]>
-    ensures { left result ≡ forms.keyword_at keyword.now (plain words.now) }
-{
-    match words {
-        [first, rest @ ..] if is_keyword(first, keyword) => Some(rest),
-        _ => None,
+/// The words of a statement that are still to be read.
+#[derive(Clone, Copy)]
+pub(crate) struct Reader<'a> {
+    pub(crate) alloc: Global,
+    pub(crate) words: &'a [Piece<'a>],
+}
+
+/// What words at the front spell.
+pub(crate) trait Spelled: Sized + Drop {
+    ghost Form: { Type 0 };
+
+    ghost shown: { Self → Form };
+
+    ghost form: { List Token → forms.Reads Form };
+
+    fn read(words: &mut Reader<'_>) -> Result<Self, StatementFault>
+        ensures { Advances shown form words.old words.new result };
+}
+
+impl Spelled for String {
+    ghost Form = { List ℕ };
+
+    ghost shown = { string_bytes };
+
+    ghost form = { forms.name_at };
+
+    fn read(words: &mut Reader<'_>) -> Result<String, StatementFault> {
+        words.name()
     }
 }
 
-// The words behind this symbol, if it stands there.
-pub(crate) fn symbol_at<'a>(words: &'a [Piece<'a>], symbol: &str) -> Option<&'a [Piece<'a>]>
-    ensures { left result ≡ forms.symbol_at symbol.now (plain words.now) }
-{
-    match words {
-        [first, rest @ ..] if is_symbol(first, symbol) => Some(rest),
-        _ => None,
-    }
-}
-
-// A name and the words behind it, if one stands there.
-pub(crate) fn name_at<'a>(
-    alloc: Global,
-    words: &'a [Piece<'a>],
-) -> Result<Option<(String, &'a [Piece<'a>])>, AllocError>
-    ensures { IfOk result (λ read. read_as string_bytes read ≡ forms.name_at (plain words.now)) }
-{
-    let [first, rest @ ..] = words else {
-        return Ok(None);
-    };
-    match name_of(alloc, first)? {
-        Some(name) => Ok(Some((name, rest))),
-        None => Ok(None),
-    }
-}
-
-// A text and the words behind it, if one stands there.
-pub(crate) fn literal_at<'a>(
-    alloc: Global,
-    words: &'a [Piece<'a>],
-) -> Result<Option<(String, &'a [Piece<'a>])>, AllocError>
-    ensures { IfOk result (λ read. read_as string_bytes read ≡ forms.literal_at (plain words.now)) }
-{
-    let [first, rest @ ..] = words else {
-        return Ok(None);
-    };
-    match literal_of(alloc, first)? {
-        Some(text) => Ok(Some((text, rest))),
-        None => Ok(None),
-    }
-}
-
-// The words up to the parenthesis that closes, and those behind it.
-fn closed<'a>(words: &'a [Piece<'a>]) -> Option<(&'a [Piece<'a>], &'a [Piece<'a>])>
-    ensures { two_runs result ≡ forms.closed 0 (plain words.now) }
-{
-    let mut depth = 0usize;
-    for (i, word) in words.iter().enumerate() {
-        if is_symbol(word, ")") && depth == 0 {
-            return Some((&words[..i], &words[i + 1..]));
+impl<'a> Reader<'a> {
+    // Passes this keyword.
+    pub(crate) fn keyword(&mut self, keyword: &str) -> Result<(), StatementFault>
+        ensures { Passes (forms.keyword_at keyword.now) self.old self.new result }
+    {
+        match self.words {
+            [first, rest @ ..] if is_keyword(first, keyword) => {
+                self.words = rest;
+                Ok(())
+            }
+            _ => Err(StatementFault::Syntax),
         }
-        depth = depth_after(depth, word);
     }
-    None
+
+    // Passes these keywords, which stand one after the other.
+    pub(crate) fn keywords(&mut self, keywords: &[&str]) -> Result<(), StatementFault>
+        ensures { Passes (forms.keywords_at (each_text keywords.now)) self.old self.new result }
+    {
+        let mut ahead = *self;
+        for keyword in keywords {
+            ahead.keyword(keyword)?;
+        }
+        *self = ahead;
+        Ok(())
+    }
+
+    // Passes this symbol.
+    pub(crate) fn symbol(&mut self, symbol: &str) -> Result<(), StatementFault>
+        ensures { Passes (forms.symbol_at symbol.now) self.old self.new result }
+    {
+        match self.words {
+            [first, rest @ ..] if is_symbol(first, symbol) => {
+                self.words = rest;
+                Ok(())
+            }
+            _ => Err(StatementFault::Syntax),
+        }
+    }
+
+    // Passes these keywords if they stand there, and says whether they do.
+    pub(crate) fn takes(&mut self, keywords: &[&str]) -> bool
+        ensures { Takes (forms.keywords_at (each_text keywords.now)) self.old self.new result }
+    {
+        self.keywords(keywords).is_ok()
+    }
+
+    // Passes this symbol if it stands there, and says whether it does.
+    pub(crate) fn takes_symbol(&mut self, symbol: &str) -> bool
+        ensures { Takes (forms.symbol_at symbol.now) self.old self.new result }
+    {
+        self.symbol(symbol).is_ok()
+    }
+
+    // The next word.
+    pub(crate) fn next(&mut self) -> Result<&'a Piece<'a>, StatementFault>
+        ensures { Advances (λ p. seen p.now) (forms.token_at Some) self.old self.new result }
+    {
+        let [first, rest @ ..] = self.words else {
+            return Err(StatementFault::Syntax);
+        };
+        self.words = rest;
+        Ok(first)
+    }
+
+    // The name that stands there.
+    pub(crate) fn name(&mut self) -> Result<String, StatementFault>
+        ensures { Advances string_bytes forms.name_at self.old self.new result }
+    {
+        name_of(self.alloc, self.next()?)
+    }
+
+    // The text that stands there.
+    pub(crate) fn literal(&mut self) -> Result<String, StatementFault>
+        ensures { Advances string_bytes forms.literal_at self.old self.new result }
+    {
+        literal_of(self.alloc, self.next()?)
+    }
+
+    // Nothing stands there.
+    pub(crate) fn end(&self) -> Result<(), StatementFault>
+        ensures { result ≡ (if forms.is_empty (rest_of self.now) then Ok tt else Err Syntax) }
+    {
+        match self.words {
+            [] => Ok(()),
+            _ => Err(StatementFault::Syntax),
+        }
+    }
+
+    // The words between two parentheses.
+    pub(crate) fn parenthesized(&mut self) -> Result<Reader<'a>, StatementFault>
+        ensures { Advances rest_of forms.parenthesized self.old self.new result }
+    {
+        self.symbol("(")?;
+        let words = self.words;
+        let mut depth = 0usize;
+        for (i, word) in words.iter().enumerate() {
+            if is_symbol(word, ")") && depth == 0 {
+                self.words = &words[i + 1..];
+                return Ok(Reader {
+                    alloc: self.alloc,
+                    words: &words[..i],
+                });
+            }
+            depth = depth_after(depth, word);
+        }
+        Err(StatementFault::Syntax)
+    }
+
+    // What the parts between commas spell, each of them whole.
+    pub(crate) fn all<T: Spelled>(self) -> Result<Vec<T>, StatementFault>
+        ensures { Gives (λ found. map T.shown found.items) result
+            (forms.each (λ part. forms.whole (T.form part)) (forms.parts (rest_of self.entry))) }
+    {
+        let parts = parts(self.alloc, self.words)?;
+        each(self.alloc, parts.as_slice())
+    }
+
+    // What the parts between commas spell; the words behind the last of them are left.
+    pub(crate) fn list<T: Spelled>(&mut self) -> Result<Vec<T>, StatementFault>
+        ensures { Advances (λ found. map T.shown found.items)
+            (λ words. forms.with_last (λ part. forms.whole (T.form part)) T.form
+            (forms.parts words)) self.old self.new result }
+    {
+        let parts = parts(self.alloc, self.words)?;
+        let [front @ .., last] = parts.as_slice() else {
+            return Err(StatementFault::Syntax);
+        };
+        let mut found = each(self.alloc, front)?;
+        self.words = *last;
+        found.push(T::read(self)?)?;
+        Ok(found)
+    }
+}
+
+// What each of the parts spells.
+fn each<T: Spelled>(alloc: Global, parts: &[&[Piece<'_>]]) -> Result<Vec<T>, StatementFault>
+    ensures { Gives (λ found. map T.shown found.items) result
+        (forms.each (λ part. forms.whole (T.form part)) (runs parts.now)) }
+{
+    let mut found = Vec::new(alloc);
+    for &words in parts {
+        let mut part = Reader { alloc, words };
+        let spelled = T::read(&mut part)?;
+        part.end()?;
+        found.push(spelled)?;
+    }
+    Ok(found)
 }
 
 // How many parentheses are open behind a word.
@@ -88,15 +203,6 @@ fn depth_after(depth: usize, word: &Piece<'_>) -> usize
     }
 }
 
-// The words between two parentheses, and those behind them.
-pub(crate) fn parenthesized<'a>(
-    words: &'a [Piece<'a>],
-) -> Option<(&'a [Piece<'a>], &'a [Piece<'a>])>
-    ensures { two_runs result ≡ forms.parenthesized (plain words.now) }
-{
-    closed(symbol_at(words, "(")?)
-}
-
 // Whether a word is a comma that stands in no parentheses.
 fn ends_part(depth: usize, word: &Piece<'_>) -> bool
     ensures { result ≡ (is_symbol (codes ",") (seen word.now) && depth == 0) }
@@ -104,20 +210,8 @@ fn ends_part(depth: usize, word: &Piece<'_>) -> bool
     is_symbol(word, ",") && depth == 0
 }
 
-// Puts a part behind others.
-#[tactic(auto, using(crate::proofs::ReadingLemmas::runs_more))]
-fn push_part<'a>(parts: &mut Vec<&'a [Piece<'a>]>, part: &'a [Piece<'a>]) -> Result<(), AllocError>
-    ensures { OnOk result (runs parts.new.items ≡ runs parts.old.items ++ plain part.now ∷ []) }
-{
-    parts.push(part)?;
-    Ok(())
-}
-
 // The parts between commas that stand in no parentheses.
-pub(crate) fn parts<'a>(
-    alloc: Global,
-    words: &'a [Piece<'a>],
-) -> Result<Vec<&'a [Piece<'a>]>, AllocError>
+fn parts<'a>(alloc: Global, words: &'a [Piece<'a>]) -> Result<Vec<&'a [Piece<'a>]>, AllocError>
     ensures { IfOk result (λ parts. runs parts.items ≡ forms.parts (plain words.now)) }
 {
     let mut parts = Vec::new(alloc);
@@ -125,45 +219,11 @@ pub(crate) fn parts<'a>(
     let mut depth = 0usize;
     for (i, word) in words.iter().enumerate() {
         if ends_part(depth, word) {
-            push_part(&mut parts, &words[start..i])?;
+            parts.push(&words[start..i])?;
             start = i + 1;
         }
         depth = depth_after(depth, word);
     }
-    push_part(&mut parts, &words[start..])?;
+    parts.push(&words[start..])?;
     Ok(parts)
-}
-
-// The parts before the last one, and that one.
-pub(crate) fn front_and_last<'a, 'b>(
-    parts: &'b [&'a [Piece<'a>]],
-) -> Option<(&'b [&'a [Piece<'a>]], &'a [Piece<'a>])>
-    ensures { split_parts result ≡ forms.front_and_last (runs parts.now) }
-{
-    match parts {
-        [front @ .., last] => Some((front, *last)),
-        [] => None,
-    }
-}
-
-// The name that the words are, if they are one.
-pub(crate) fn only_name(alloc: Global, words: &[Piece<'_>]) -> Result<Option<String>, AllocError>
-    ensures { IfOk result (λ name. option_map string_bytes name
-        ≡ inserts.only_name (plain words.now)) }
-{
-    match words {
-        [word] => name_of(alloc, word),
-        _ => Ok(None),
-    }
-}
-
-// The text that the words are, if they are one.
-pub(crate) fn only_literal(alloc: Global, words: &[Piece<'_>]) -> Result<Option<String>, AllocError>
-    ensures { IfOk result (λ text. option_map string_bytes text
-        ≡ inserts.only_literal (plain words.now)) }
-{
-    match words {
-        [word] => literal_of(alloc, word),
-        _ => Ok(None),
-    }
 }

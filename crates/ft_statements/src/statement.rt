@@ -1,21 +1,20 @@
 //! Which class a statement is of.
-ghost use Rattle.std.specs.Prelude.{◌≡◌, ◌∷◌, [], ◌||◌, codes, map, string_bytes, option_map, is_some, IfOk};
+ghost use Rattle.std.specs.Prelude.{◌≡◌, IfOk};
 ghost use Rattle.std.specs.List.{list_any};
 ghost use Rattle.shell_text.specs.Words.{words_of};
 ghost use Rattle.ft_content.specs.Views as views;
 ghost use Rattle.ft_statements.specs.declared.statement.StatementFault.TheVariants.{Memory};
 ghost use Rattle.ft_statements.specs.Words as tokens;
-ghost use Rattle.ft_statements.specs.Reading as reading;
 ghost use Rattle.ft_statements.specs.Statements as forms;
-ghost use Rattle.ft_statements.specs.Views.{seen, plain};
+ghost use Rattle.ft_statements.specs.Views.{seen, plain, rest_of, Gives};
 ghost use Rattle.ft_statements.specs.Classes.{ReadsClass};
 
 use crate::change::{delete, update};
 use crate::create::{create, drop_table};
-use crate::insert::{insert, special};
-use crate::reading::keyword_at;
+use crate::insert::insert;
+use crate::reading::Reader;
 use crate::select::select;
-use crate::words::{Piece, is_keyword, is_symbol, name_of, pieces_of};
+use crate::words::{Piece, is_keyword, is_one_of, is_symbol, name_of, pieces_of};
 use ft_content::{Command, TableInfo};
 use shell_text::SqlWord;
 use std::alloc::{AllocError, AllocFailed, Global};
@@ -63,43 +62,27 @@ fn without_end<'a>(words: &'a [Piece<'a>]) -> &'a [Piece<'a>]
     if is_symbol(last, ";") { front } else { words }
 }
 
-// The command that words spell, if they spell one.
+// The command that words spell, by their first one.
 #[tactic(auto, unfolding(crate::specs::Statements::command_of))]
-fn command_of(alloc: Global, words: &[Piece<'_>]) -> Result<Option<Command>, AllocError>
-    ensures { IfOk result (λ command. option_map views.command_of command
-        ≡ forms.command_of (plain words.now)) }
+fn command(words: Reader<'_>) -> Result<Command, StatementFault>
+    ensures { Gives views.command_of result (forms.command_of (rest_of words.entry)) }
 {
-    if let Some(command) = create(alloc, words)? {
-        return Ok(Some(command));
+    match words.words {
+        [] => Err(StatementFault::Syntax),
+        [first, ..] if is_keyword(first, "CREATE") => create(words),
+        [first, ..] if is_keyword(first, "DROP") => drop_table(words),
+        [first, ..] if is_keyword(first, "INSERT") => insert(words),
+        [first, ..] if is_keyword(first, "UPDATE") => update(words),
+        [first, ..] if is_keyword(first, "DELETE") => delete(words),
+        [..] => select(words),
     }
-    if let Some(command) = drop_table(alloc, words)? {
-        return Ok(Some(command));
-    }
-    if let Some(command) = special(alloc, words)? {
-        return Ok(Some(command));
-    }
-    if let Some(command) = insert(alloc, words)? {
-        return Ok(Some(command));
-    }
-    if let Some(command) = update(alloc, words)? {
-        return Ok(Some(command));
-    }
-    if let Some(command) = delete(alloc, words)? {
-        return Ok(Some(command));
-    }
-    select(alloc, words)
 }
 
 // Whether a full-text table's name behind this word makes a statement full-text.
 fn leads(word: &Piece<'_>) -> bool
     ensures { result ≡ forms.leads (seen word.now) }
 {
-    is_keyword(word, "FROM")
-        || is_keyword(word, "INTO")
-        || is_keyword(word, "UPDATE")
-        || is_keyword(word, "TABLE")
-        || is_keyword(word, "JOIN")
-        || is_keyword(word, "EXISTS")
+    is_one_of(word, &["FROM", "INTO", "UPDATE", "TABLE", "JOIN", "EXISTS"])
 }
 
 // Whether one of these tables has this name.
@@ -114,9 +97,10 @@ fn is_table(alloc: Global, tables: &[TableInfo], word: &Piece<'_>) -> Result<boo
     ensures { IfOk result (λ is. is ≡ forms.is_table (views.info_names tables.now)
         (seen word.now)) }
 {
-    match name_of(alloc, word)? {
-        Some(name) => Ok(has_table(tables, name.as_str())),
-        None => Ok(false),
+    match name_of(alloc, word) {
+        Ok(name) => Ok(has_table(tables, name.as_str())),
+        Err(StatementFault::Syntax) => Ok(false),
+        Err(StatementFault::Memory) => Err(AllocError),
     }
 }
 
@@ -133,28 +117,14 @@ fn names_table(alloc: Global, tables: &[TableInfo], words: &[Piece<'_>]) -> Resu
     Ok(false)
 }
 
-fn creates_virtual(words: &[Piece<'_>]) -> bool
-    ensures { result ≡ is_some (reading.keywords_at (codes "CREATE" ∷ codes "VIRTUAL" ∷ [])
-        (plain words.now)) }
-{
-    match keyword_at(words, "CREATE") {
-        Some(rest) => keyword_at(rest, "VIRTUAL").is_some(),
-        None => false,
-    }
-}
-
-fn is_full_text(
-    alloc: Global,
-    tables: &[TableInfo],
-    words: &[Piece<'_>],
-) -> Result<bool, AllocError>
+fn is_full_text(mut words: Reader<'_>, tables: &[TableInfo]) -> Result<bool, AllocError>
     ensures { IfOk result (λ is. is ≡ forms.is_full_text (views.info_names tables.now)
-        (plain words.now)) }
+        (rest_of words.entry)) }
 {
-    if creates_virtual(words) {
+    if words.takes(&["CREATE", "VIRTUAL"]) {
         return Ok(true);
     }
-    names_table(alloc, tables, words)
+    names_table(words.alloc, tables, words.words)
 }
 
 /// The class of a statement, where these full-text tables are there, as the grammar of full-text
@@ -173,12 +143,10 @@ pub fn read_statement(
     ensures { ReadsClass (views.info_names tables.now) (tokens.tokens_of text.now) result }
 {
     let pieces = pieces_of(alloc, text, words)?;
-    let pieces = pieces.as_slice();
-    if !is_full_text(alloc, tables, pieces)? {
+    let words = pieces.as_slice();
+    if !is_full_text(Reader { alloc, words }, tables)? {
         return Ok(Class::Plain);
     }
-    match command_of(alloc, without_end(pieces))? {
-        Some(command) => Ok(Class::FullText(command)),
-        None => Err(StatementFault::Syntax),
-    }
+    let words = without_end(words);
+    Ok(Class::FullText(command(Reader { alloc, words })?))
 }

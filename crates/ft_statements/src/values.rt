@@ -1,15 +1,15 @@
 //! Values of a statement.
-ghost use Rattle.std.specs.Prelude.{◌≡◌, ◌+◌, ◌^◌, min, string_bytes, option_map, IfOk};
+ghost use Rattle.std.specs.Prelude.{◌≡◌, ◌+◌, ◌^◌, min, option_map};
 ghost use Rattle.ft_values.specs.Cells.{shown_value};
+ghost use Rattle.ft_content.specs.Content.{Cell};
 ghost use Rattle.ft_statements.specs.Values as forms;
-ghost use Rattle.ft_statements.specs.Insert as inserts;
-ghost use Rattle.ft_statements.specs.Views.{seen, plain, signed_words, read_as};
+ghost use Rattle.ft_statements.specs.Views.{seen, rest_of, Gives, Advances};
 
-use crate::reading::{keyword_at, literal_at, symbol_at};
+use crate::reading::{Reader, Spelled};
+use crate::statement::StatementFault;
 use crate::words::Piece;
 use ft_content::Value;
 use shell_text::SqlKind;
-use std::alloc::{AllocError, Global};
 
 // The size of the least number of 64 bits.
 const MOST_BELOW_ZERO: u64 = 9_223_372_036_854_775_808;
@@ -40,82 +40,68 @@ fn signed(negative: bool, number: u64) -> Option<i64>
     Some(if negative { -positive } else { positive })
 }
 
-fn integer_of(negative: bool, word: &Piece<'_>) -> Option<i64>
-    ensures { result ≡ forms.integer_of negative (seen word.now) }
+// The number that a word is, where one that is too large stands as `digits_value` has it.
+fn number_of(word: &Piece<'_>) -> Result<u64, StatementFault>
+    ensures { Gives (λ n. n) result
+        (option_map (λ n. min n 9223372036854775809) (forms.number_of (seen word.now))) }
 {
     match word.kind {
-        SqlKind::Number => signed(negative, digits_value(word.text.as_bytes())),
-        _ => None,
+        SqlKind::Number => Ok(digits_value(word.text.as_bytes())),
+        _ => Err(StatementFault::Syntax),
     }
 }
 
-// A number of rows.
-pub(crate) fn count_of(word: &Piece<'_>) -> Option<u64>
-    ensures { result ≡ forms.count_of (seen word.now) }
+// Whether a minus sign stands there; a sign is passed.
+fn sign(words: &mut Reader<'_>) -> bool
+    ensures { (result, rest_of words.new) ≡ forms.sign_at (rest_of words.old) }
 {
-    match word.kind {
-        SqlKind::Number => {
-            let number = digits_value(word.text.as_bytes());
-            if number < MOST_BELOW_ZERO {
-                Some(number)
-            } else {
-                None
-            }
-        }
-        _ => None,
+    if words.takes_symbol("-") {
+        return true;
     }
-}
-
-// Whether a minus sign stands there, and the words behind a sign.
-fn sign_at<'a>(words: &'a [Piece<'a>]) -> (bool, &'a [Piece<'a>])
-    ensures { signed_words result ≡ forms.sign_at (plain words.now) }
-{
-    if let Some(rest) = symbol_at(words, "-") {
-        return (true, rest);
-    }
-    match symbol_at(words, "+") {
-        Some(rest) => (false, rest),
-        None => (false, words),
-    }
+    words.takes_symbol("+");
+    false
 }
 
 // A number with a sign or without one.
-pub(crate) fn integer_at<'a>(words: &'a [Piece<'a>]) -> Option<(i64, &'a [Piece<'a>])>
-    ensures { read_as (λ n. n) result ≡ forms.integer_at (plain words.now) }
+pub(crate) fn integer(words: &mut Reader<'_>) -> Result<i64, StatementFault>
+    ensures { Advances (λ n. n) forms.integer_at words.old words.new result }
 {
-    let (negative, number) = sign_at(words);
-    let [first, rest @ ..] = number else {
-        return None;
-    };
-    Some((integer_of(negative, first)?, rest))
+    let negative = sign(words);
+    let number = number_of(words.next()?)?;
+    signed(negative, number).ok_or(StatementFault::Syntax)
+}
+
+// A number of rows.
+pub(crate) fn count(words: &mut Reader<'_>) -> Result<u64, StatementFault>
+    ensures { Advances (λ n. n) forms.count_at words.old words.new result }
+{
+    let number = number_of(words.next()?)?;
+    if number < MOST_BELOW_ZERO {
+        Ok(number)
+    } else {
+        Err(StatementFault::Syntax)
+    }
 }
 
 // NULL, a text or a number.
-pub(crate) fn value_at<'a>(
-    alloc: Global,
-    words: &'a [Piece<'a>],
-) -> Result<Option<(Value, &'a [Piece<'a>])>, AllocError>
-    ensures { IfOk result (λ read. read_as shown_value read ≡ forms.value_at (plain words.now)) }
-{
-    if let Some(rest) = keyword_at(words, "NULL") {
-        return Ok(Some((Value::Null, rest)));
-    }
-    if let Some((text, rest)) = literal_at(alloc, words)? {
-        return Ok(Some((Value::Text(text), rest)));
-    }
-    match integer_at(words) {
-        Some((number, rest)) => Ok(Some((Value::Int(number), rest))),
-        None => Ok(None),
-    }
-}
+impl Spelled for Value {
+    ghost Form = { Cell };
 
-// The value that the words are.
-pub(crate) fn only_value(alloc: Global, words: &[Piece<'_>]) -> Result<Option<Value>, AllocError>
-    ensures { IfOk result (λ value. option_map shown_value value
-        ≡ inserts.only_value (plain words.now)) }
-{
-    match value_at(alloc, words)? {
-        Some((value, [])) => Ok(Some(value)),
-        _ => Ok(None),
+    ghost shown = { shown_value };
+
+    ghost form = { forms.value_at };
+
+    fn read(words: &mut Reader<'_>) -> Result<Value, StatementFault> {
+        if words.takes(&["NULL"]) {
+            return Ok(Value::Null);
+        }
+        let start = *words;
+        match words.literal() {
+            Err(StatementFault::Syntax) => {
+                *words = start;
+                Ok(Value::Int(integer(words)?))
+            }
+            text => Ok(Value::Text(text?)),
+        }
     }
 }

@@ -1,9 +1,11 @@
 //! Words of a statement with their texts.
-ghost use Rattle.std.specs.Prelude.{◌≡◌, ◌-◌, false, take, length, string_bytes, option_map, encode_utf8_all, IfOk};
+ghost use Rattle.std.specs.Prelude.{◌≡◌, ◌-◌, false, take, length, string_bytes, encode_utf8_all, IfOk};
+ghost use Rattle.std.specs.List.{list_any};
 ghost use Rattle.shell_text.specs.Words.{words_of};
 ghost use Rattle.ft_statements.specs.Words as forms;
-ghost use Rattle.ft_statements.specs.Views.{seen, plain};
+ghost use Rattle.ft_statements.specs.Views.{seen, plain, Gives};
 
+use crate::statement::StatementFault;
 use shell_text::{SqlKind, SqlWord, words_on_characters};
 use std::alloc::{AllocError, Global};
 
@@ -41,6 +43,14 @@ pub(crate) fn is_keyword(piece: &Piece<'_>, keyword: &str) -> bool
     matches!(piece.kind, SqlKind::Word) && piece.text.eq_ignore_ascii_case(keyword)
 }
 
+// Whether a word is one of these keywords.
+pub(crate) fn is_one_of(piece: &Piece<'_>, keywords: &[&str]) -> bool
+    ensures { result ≡ list_any (λ keyword. forms.is_keyword keyword.now (seen piece.now))
+        keywords.now }
+{
+    keywords.iter().any(|keyword| is_keyword(piece, keyword))
+}
+
 // Whether a word is this symbol.
 pub(crate) fn is_symbol(piece: &Piece<'_>, symbol: &str) -> bool
     ensures { result ≡ forms.is_symbol symbol.now (seen piece.now) }
@@ -52,12 +62,6 @@ fn closing(mark: char) -> char
     ensures { result ≡ forms.closing mark }
 {
     if mark == '[' { ']' } else { mark }
-}
-
-fn all_but_last(characters: &[char]) -> &[char]
-    ensures { result.now ≡ forms.all_but_last characters.now }
-{
-    &characters[..characters.len().saturating_sub(1)]
 }
 
 // The characters, with one mark for two.
@@ -78,21 +82,15 @@ fn halved(alloc: Global, mark: char, characters: &[char]) -> Result<String, Allo
     Ok(found)
 }
 
-fn between_marks(alloc: Global, characters: &[char]) -> Result<String, AllocError>
-    ensures { IfOk result (λ found. string_bytes found
-        ≡ encode_utf8_all (forms.between_marks characters.now)) }
-{
-    match characters {
-        [mark, rest @ ..] => halved(alloc, closing(*mark), all_but_last(rest)),
-        [] => Ok(String::new(alloc)),
-    }
-}
-
+// The text between marks, of which the closing one is doubled.
 fn without_marks(alloc: Global, text: &str) -> Result<String, AllocError>
     ensures { IfOk result (λ found. string_bytes found ≡ forms.without_marks text.now) }
 {
     let characters: Vec<char> = text.chars().collect(alloc)?;
-    between_marks(alloc, characters.as_slice())
+    match characters.as_slice() {
+        [mark, inside @ .., _] => halved(alloc, closing(*mark), inside),
+        _ => Ok(String::new(alloc)),
+    }
 }
 
 // The text that a word stands for.
@@ -105,23 +103,22 @@ pub(crate) fn bare(alloc: Global, piece: &Piece<'_>) -> Result<String, AllocErro
     }
 }
 
-// The name that a word is, if it is one.
-pub(crate) fn name_of(alloc: Global, piece: &Piece<'_>) -> Result<Option<String>, AllocError>
-    ensures { IfOk result (λ name. option_map string_bytes name ≡ forms.name_of (seen piece.now)) }
+// The name that a word is.
+pub(crate) fn name_of(alloc: Global, piece: &Piece<'_>) -> Result<String, StatementFault>
+    ensures { Gives string_bytes result (forms.name_of (seen piece.now)) }
 {
     match piece.kind {
-        SqlKind::Word | SqlKind::Quoted => Ok(Some(bare(alloc, piece)?)),
-        _ => Ok(None),
+        SqlKind::Word | SqlKind::Quoted => Ok(bare(alloc, piece)?),
+        _ => Err(StatementFault::Syntax),
     }
 }
 
-// The text of a literal, if a word is one.
-pub(crate) fn literal_of(alloc: Global, piece: &Piece<'_>) -> Result<Option<String>, AllocError>
-    ensures { IfOk result (λ text. option_map string_bytes text
-        ≡ forms.literal_of (seen piece.now)) }
+// The text of a literal.
+pub(crate) fn literal_of(alloc: Global, piece: &Piece<'_>) -> Result<String, StatementFault>
+    ensures { Gives string_bytes result (forms.literal_of (seen piece.now)) }
 {
     match piece.kind {
-        SqlKind::Text => Ok(Some(bare(alloc, piece)?)),
-        _ => Ok(None),
+        SqlKind::Text => Ok(bare(alloc, piece)?),
+        _ => Err(StatementFault::Syntax),
     }
 }
