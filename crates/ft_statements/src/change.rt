@@ -8,7 +8,7 @@ ghost use Rattle.ft_statements.specs.Views.{rest_of, Gives, Advances, Passes};
 use crate::reading::{Reader, Spelled};
 use crate::statement::StatementFault;
 use crate::values::integer;
-use ft_content::{Command, Filter, Value};
+use ft_content::{Command, Deletion, Filter, Modification, Value};
 
 // Passes one of the names of the docid.
 pub(crate) fn key(words: &mut Reader<'_>) -> Result<(), StatementFault>
@@ -81,11 +81,11 @@ pub(crate) fn update(mut words: Reader<'_>) -> Result<Command, StatementFault>
     let sets = words.list()?;
     let filter = filter(&mut words)?;
     words.end()?;
-    Ok(Command::Update {
+    Ok(Command::Update(Modification {
         table,
         sets,
         filter,
-    })
+    }))
 }
 
 /// DELETE.
@@ -96,5 +96,5 @@ pub(crate) fn delete(mut words: Reader<'_>) -> Result<Command, StatementFault>
     let table = words.name()?;
     let filter = filter(&mut words)?;
     words.end()?;
-    Ok(Command::Delete { table, filter })
+    Ok(Command::Delete(Deletion { table, filter }))
 }

@@ -7,7 +7,7 @@ ghost use Rattle.ft_statements.specs.Views.{plain, rest_of, argument_as, AddsArg
 use crate::reading::{Reader, Spelled};
 use crate::statement::StatementFault;
 use crate::words::{Piece, bare, literal_of, name_of};
-use ft_content::Command;
+use ft_content::{Command, Creation};
 use std::alloc::{AllocError, Global};
 
 /// An argument: an option with its value, or a column.
@@ -156,13 +156,13 @@ pub(crate) fn create(mut words: Reader<'_>) -> Result<Command, StatementFault>
     words.keyword("USING")?;
     let module = words.name()?;
     let (options, columns) = sorted(words.alloc, arguments(words)?)?;
-    Ok(Command::Create {
+    Ok(Command::Create(Creation {
         table,
         module,
         options,
         columns,
         if_new,
-    })
+    }))
 }
 
 /// DROP TABLE.

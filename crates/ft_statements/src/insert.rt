@@ -7,7 +7,7 @@ ghost use Rattle.ft_statements.specs.Views.{rest_of, listed, Gives, Advances};
 
 use crate::reading::{Reader, Spelled};
 use crate::statement::StatementFault;
-use ft_content::{Command, Value};
+use ft_content::{Command, Insertion, Value};
 
 // The special command of this word.
 fn special_of(table: String, word: &str) -> Result<Command, StatementFault>
@@ -73,11 +73,11 @@ fn rows(mut words: Reader<'_>, table: String) -> Result<Command, StatementFault>
     let columns = columns(&mut words)?;
     words.keyword("VALUES")?;
     let rows = words.all()?;
-    Ok(Command::Insert {
+    Ok(Command::Insert(Insertion {
         table,
         columns,
         rows,
-    })
+    }))
 }
 
 /// A special command, or else an INSERT.

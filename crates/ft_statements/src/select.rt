@@ -9,7 +9,7 @@ use crate::change::{filter, key};
 use crate::reading::{Reader, Spelled};
 use crate::statement::StatementFault;
 use crate::values::count;
-use ft_content::{Command, Item, Items};
+use ft_content::{Command, Item, Items, Selection};
 
 fn offsets(words: &mut Reader<'_>) -> Result<Item, StatementFault>
     ensures { Advances views.item_of forms.offsets_at words.old words.new result }
@@ -117,11 +117,11 @@ pub(crate) fn select(mut words: Reader<'_>) -> Result<Command, StatementFault>
     let filter = filter(&mut words)?;
     order(&mut words)?;
     let (limit, offset) = limits(words)?;
-    Ok(Command::Select {
+    Ok(Command::Select(Selection {
         table,
         items,
         filter,
         limit,
         offset,
-    })
+    }))
 }
