@@ -6,7 +6,8 @@ use Rattle.ft_statements.specs.Words.{Token, bare}
 use Rattle.ft_statements.specs.Create.{Argument, Setting, Column, joined, settings_in, columns_in, tokenizer_of, argument_of, argument_at, arguments, arguments_of}
 use Rattle.ft_statements.specs.Reading.{◌>>=◌, each, parts, whole, parenthesized}
 use Rattle.ft_statements.specs.declared.words.Piece.{Piece}
-use Rattle.ft_statements.specs.Views.{seen, plain}
+use Rattle.ft_statements.specs.declared.create.Argument.{Argument as Code}
+use Rattle.ft_statements.specs.Views.{seen, plain, argument_as}
 
 -- a word's text behind a space
 abbrev pub behind_space : Token → List ℕ
@@ -48,14 +49,19 @@ columns_more [] argument = refl
 columns_more (Setting name value ∷ more) argument = columns_more more argument
 columns_more (Column name ∷ more) argument = ap (λ s. name ∷ s) (columns_more more argument)
 
-pub texts_push : (found : List (String Global)) (text : String Global) → map string_bytes (found ++ text ∷ []) ≡ map string_bytes found ++ string_bytes text ∷ []
-texts_push found text = map-append string_bytes found (text ∷ [])
+abbrev pub two_texts : String Global × String Global → List ℕ × List ℕ
+two_texts s = (string_bytes s.0, string_bytes s.1)
 
-abbrev pair : String Global × String Global → List ℕ × List ℕ
-pair s = (string_bytes s.0, string_bytes s.1)
+-- those of one argument more
+pub one_setting : (ys : List Code) (y : Code) (a : Argument) → argument_as y ≡ a → settings_in (map argument_as (ys ++ y ∷ [])) ≡ settings_in (map argument_as ys) ++ settings_in (a ∷ [])
+one_setting ys y a is =
+    ap settings_in (map-append argument_as ys (y ∷ [])) ∙ settings_more (map argument_as ys) (argument_as y)
+    ∙ ap (λ b. settings_in (map argument_as ys) ++ settings_in (b ∷ [])) is
 
-pub settings_push : (found : List (String Global × String Global)) (setting : String Global × String Global) → map pair (found ++ setting ∷ []) ≡ map pair found ++ pair setting ∷ []
-settings_push found setting = map-append pair found (setting ∷ [])
+pub one_column : (ys : List Code) (y : Code) (a : Argument) → argument_as y ≡ a → columns_in (map argument_as (ys ++ y ∷ [])) ≡ columns_in (map argument_as ys) ++ columns_in (a ∷ [])
+one_column ys y a is =
+    ap columns_in (map-append argument_as ys (y ∷ [])) ∙ columns_more (map argument_as ys) (argument_as y)
+    ∙ ap (λ b. columns_in (map argument_as ys) ++ columns_in (b ∷ [])) is
 
 -- ---- words with a space between each two
 

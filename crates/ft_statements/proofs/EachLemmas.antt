@@ -1,7 +1,7 @@
 -- What each of a list of parts gives.
 use Rattle.std.proofs.Common.{◌≡◌, ℕ, ◌+◌, ◌-◌, ◌<◌, ◌≤◌, List, [], ◌∷◌, ◌++◌, length, take, drop, get_or, Option, Some, None, refl, sym, ap, ◌∙◌, if◌then◌else◌, Result, Ok, Err}
 use Rattle.std.specs.Borrow.{Bor}
-use Rattle.std.proofs.lemmas.List.{take_more, take_all, drop_more, take-append-drop, map-append}
+use Rattle.std.proofs.lemmas.List.{take_more, drop_more, take-append-drop, map-append}
 use Rattle.ft_statements.specs.declared.words.Piece.{Piece}
 use Rattle.ft_statements.specs.Words.{Token}
 use Rattle.ft_statements.specs.Reading.{Reads, ◌>>=◌, is_empty, whole, each, front_and_last, with_last}
@@ -43,9 +43,6 @@ each_ends f parts i d h none =
     ap (λ ps. each f (runs ps)) (sym (take-append-drop i parts) ∙ ap (λ ps. take i parts ++ ps) (drop_more parts i d h))
     ∙ ap (each f) (map-append (λ p. plain p.now) (take i parts) (get_or parts i d ∷ drop (i + 1) parts))
     ∙ each_stops f (runs (take i parts)) (runs (drop (i + 1) parts)) (plain (get_or parts i d).now) none
-
-pub each_all : {B : Type 0} (f : List Token → Option B) (parts : List (Bor (List Piece))) (i : ℕ) (ys : List B) → length parts ≤ i → each f (runs (take i parts)) ≡ Some ys → each f (runs parts) ≡ Some ys
-each_all f parts i ys h all = ap (λ ps. each f (runs ps)) (sym (take_all i parts h)) ∙ all
 
 -- ---- what is read of a part, and its end
 

@@ -50,5 +50,5 @@ value_at ts =
 abbrev pub count_of : Token → Option ℕ
 count_of t = number_of t >>= λ n. if nat_le n (2 ^ 63 - 1) then Some n else None
 
-abbrev pub count_at : List Token → Reads ℕ
-count_at ts = token_at count_of ts
+abbrev pub number_at : List Token → Reads ℕ
+number_at ts = token_at count_of ts

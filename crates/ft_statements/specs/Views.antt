@@ -1,5 +1,5 @@
 -- Steps. Words, and what was read of them, as the code holds them.
-use Rattle.std.specs.Prelude.{ℕ, ◌≡◌, ◌≤◌, ◌+◌, Bool, List, [], ◌∷◌, ◌++◌, map, Option, Some, None, Result, option_map, string_bytes, String, Vec, IfOk, OnErr, IsErrOf}
+use Rattle.std.specs.Prelude.{ℕ, ◌≡◌, ◌≤◌, ◌+◌, Bool, List, map, Option, Some, None, Result, option_map, string_bytes, String, Vec, IfOk, OnErr, IsErrOf}
 use Rattle.std.specs.declared.alloc.Global.{Global}
 use Rattle.std.specs.Borrow.{Bor}
 use Rattle.ft_statements.specs.declared.words.Piece.{Piece}
@@ -43,12 +43,6 @@ pub record AreSortedOf {A B : Type 0} (all : List forms.Argument) (options : Vec
     (names : Vec (String Global) B) : Type 0 where
   pub settings : settings_as options ≡ forms.settings_in all
   pub columns : texts_of names ≡ forms.columns_in all
-
--- an argument is put behind the options or behind the columns
-pub record AddsArgument {A B : Type 0} (argument : forms.Argument) (options new_options : Vec (String Global × String Global) A)
-    (names new_names : Vec (String Global) B) : Type 0 where
-  pub settings : settings_as new_options ≡ settings_as options ++ forms.settings_in (argument ∷ [])
-  pub columns : texts_of new_names ≡ texts_of names ++ forms.columns_in (argument ∷ [])
 
 -- so many parentheses are open behind a word, at most one more than before it
 pub record IsDepthAfter (before : ℕ) (word : Token) (now : ℕ) : Type 0 where

@@ -1,8 +1,8 @@
 //! CREATE VIRTUAL TABLE and DROP TABLE.
-ghost use Rattle.std.specs.Prelude.{◌≡◌, OnOk, map, string_bytes, IfOk};
+ghost use Rattle.std.specs.Prelude.{◌≡◌, map, string_bytes, IfOk};
 ghost use Rattle.ft_content.specs.Views as views;
 ghost use Rattle.ft_statements.specs.Create as forms;
-ghost use Rattle.ft_statements.specs.Views.{plain, rest_of, argument_as, AddsArgument, AreSortedOf, Gives};
+ghost use Rattle.ft_statements.specs.Views.{plain, rest_of, argument_as, AreSortedOf, Gives};
 
 use crate::reading::{Reader, Spelled};
 use crate::statement::StatementFault;
@@ -113,23 +113,6 @@ fn arguments(mut words: Reader<'_>) -> Result<Vec<Argument>, StatementFault>
     inside.all()
 }
 
-// Puts an argument behind the options or behind the columns.
-#[tactic(auto, using(crate::proofs::CreateLemmas::settings_push, crate::proofs::CreateLemmas::texts_push))]
-fn push_argument(
-    options: &mut Vec<(String, String)>,
-    columns: &mut Vec<String>,
-    argument: Argument,
-) -> Result<(), AllocError>
-    ensures { OnOk result (AddsArgument (argument_as argument) options.old options.new columns.old
-        columns.new) }
-{
-    match argument {
-        Argument::Setting { name, value } => options.push((name, value))?,
-        Argument::Column(name) => columns.push(name)?,
-    }
-    Ok(())
-}
-
 // The options among arguments, and the columns.
 fn sorted(
     alloc: Global,
@@ -141,7 +124,10 @@ fn sorted(
     let mut options = Vec::new(alloc);
     let mut columns = Vec::new(alloc);
     for argument in arguments {
-        push_argument(&mut options, &mut columns, argument)?;
+        match argument {
+            Argument::Setting { name, value } => options.push((name, value))?,
+            Argument::Column(name) => columns.push(name)?,
+        }
     }
     Ok((options, columns))
 }

@@ -148,10 +148,9 @@ fn text_in(alloc: Global, words: &[String]) -> Result<Option<String>, AllocError
     ensures { IfOk result (λ text. option_map string_bytes text
         ≡ forms.lone (map string_bytes words.now)) }
 {
-    match lone(words) {
-        Some(text) => Ok(Some(String::from_str(alloc, text)?)),
-        None => Ok(None),
-    }
+    lone(words)
+        .map(|text| String::from_str(alloc, text))
+        .transpose()
 }
 
 // Copies of words.

@@ -73,14 +73,12 @@ pub(crate) fn integer(words: &mut Reader<'_>) -> Result<i64, StatementFault>
 
 // A number of rows.
 pub(crate) fn count(words: &mut Reader<'_>) -> Result<u64, StatementFault>
-    ensures { Advances (λ n. n) forms.count_at words.old words.new result }
+    ensures { Advances (λ n. n) forms.number_at words.old words.new result }
 {
     let number = number_of(words.next()?)?;
-    if number < MOST_BELOW_ZERO {
-        Ok(number)
-    } else {
-        Err(StatementFault::Syntax)
-    }
+    (number < MOST_BELOW_ZERO)
+        .then_some(number)
+        .ok_or(StatementFault::Syntax)
 }
 
 // NULL, a text or a number.

@@ -1,17 +1,25 @@
 -- one argument more
-use Rattle.std.proofs.Common.{map, sym, ap, ◌∙◌, ◌∷◌, ◌++◌, []}
-use Rattle.std.proofs.lemmas.List.{map-append}
-use Rattle.ft_statements.specs.Create.{settings_in, columns_in}
+use Rattle.std.proofs.Common.{map, sym, ap, ◌∙◌, ◌∷◌, ◌++◌, [], string_bytes}
+use Rattle.std.proofs.lemmas.List.{map-append, append-nil}
 use Rattle.ft_statements.specs.Views.{argument_as}
-use Rattle.ft_statements.proofs.CreateLemmas.{settings_more, columns_more}
+use Rattle.ft_statements.proofs.CreateLemmas.{one_setting, one_column, two_texts}
 use Rattle.ft_statements.proofs.create.sorted.Goals as goal
+
+pub loop-argument-preserved-in-Continue-1 : goal.loop-argument-preserved-in-Continue-1
+loop-argument-preserved-in-Continue-1 c =
+    let ys = c.loop-argument.yielded in
+    let is = ap argument_as c.in-Setting.is in
+    let setting = two_texts (c.in-Setting.name, c.in-Setting.value) in (
+      ap (map two_texts) c.in_ok-push-in-Setting.ensures.items ∙ map-append two_texts c.loop-argument.options.items ((c.in-Setting.name, c.in-Setting.value) ∷ [])
+          ∙ ap (λ found. found ++ setting ∷ []) c.loop-argument.invariant.0 ∙ sym (one_setting ys c.in-Some.argument _ is),
+      c.loop-argument.invariant.1 ∙ sym (one_column ys c.in-Some.argument _ is ∙ append-nil _),
+    )
 
 pub loop-argument-preserved : goal.loop-argument-preserved
 loop-argument-preserved c =
-    let argument = argument_as c.in-Some.argument in
-    let more = map-append argument_as c.loop-argument.yielded (c.in-Some.argument ∷ []) in (
-      c.in_ok-push_argument.ensures.settings ∙ ap (λ found. found ++ settings_in (argument ∷ [])) c.loop-argument.invariant.0
-          ∙ sym (ap settings_in more ∙ settings_more (map argument_as c.loop-argument.yielded) argument),
-      c.in_ok-push_argument.ensures.columns ∙ ap (λ found. found ++ columns_in (argument ∷ [])) c.loop-argument.invariant.1
-          ∙ sym (ap columns_in more ∙ columns_more (map argument_as c.loop-argument.yielded) argument),
+    let ys = c.loop-argument.yielded in
+    let is = ap argument_as c.in-Column.is in (
+      c.loop-argument.invariant.0 ∙ sym (one_setting ys c.in-Some.argument _ is ∙ append-nil _),
+      ap (map string_bytes) c.in_ok-push-in-Column.ensures.items ∙ map-append string_bytes c.loop-argument.columns.items (c.in-Column.name ∷ [])
+          ∙ ap (λ found. found ++ string_bytes c.in-Column.name ∷ []) c.loop-argument.invariant.1 ∙ sym (one_column ys c.in-Some.argument _ is),
     )
