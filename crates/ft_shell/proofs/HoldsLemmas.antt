@@ -7,7 +7,7 @@ use Rattle.shell_text.specs.Dot.{dot_words_of}
 use Rattle.plain_shell.specs.declared.run.Status.{Status}
 use Rattle.plain_shell.specs.declared.run.RunFault.{RunFault}
 use Rattle.plain_shell.specs.DotParts.{behind_stop}
-use Rattle.plain_shell.specs.Told.{Told}
+use Rattle.plain_shell.specs.Told.{Answer}
 use Rattle.ft_statements.specs.Dots.{DotCommand, Nothing, SetMode, SetHeaders, SetSeparator, SetNull, SetEcho, SetBail, Print, Importing, Tables, Quit, Usage, Unknown, dot_command_of}
 use Rattle.ft_shell.specs.Shell.{Shell}
 use Rattle.ft_shell.specs.Deeds.{Deeds, and_then}
@@ -21,25 +21,25 @@ module _ {P S : Type 0} (g : Ghosts P) (h : Ghosts S) where
   shell_holds : (old new : Shell P S) → new ≡ old → new.holds ≡ old.holds
   shell_holds old new same = ap (λ (s : Shell P S). s.holds) same
 
-  dot_holds : (line : ℕ) (old new : Shell P S) (told : Told) (command : DotCommand) → DotTurn g h line old new told command → new.holds ≡ old.holds
-  dot_holds line old new told Nothing it = it.2
-  dot_holds line old new told (SetMode mode) it = it.2
-  dot_holds line old new told (SetHeaders shown) it = it.2
-  dot_holds line old new told (SetSeparator text) it = it.2
-  dot_holds line old new told (SetNull text) it = it.2
-  dot_holds line old new told (SetEcho on) it = it.2
-  dot_holds line old new told (SetBail on) it = it.2
-  dot_holds line old new told (Print words) it = shell_holds old new it.0
-  dot_holds line old new told (Importing what) it = it.0.1
-  dot_holds line old new told Tables it = it.0.1
-  dot_holds line old new told Quit it = shell_holds old new it.0
-  dot_holds line old new told (Usage text) it = shell_holds old new it.0
-  dot_holds line old new told Unknown it = shell_holds old new it.0
+  dot_holds : (old new : Shell P S) (told : Answer) (command : DotCommand) → DotTurn g h old new told command → new.holds ≡ old.holds
+  dot_holds old new told Nothing it = it.2
+  dot_holds old new told (SetMode mode) it = it.2
+  dot_holds old new told (SetHeaders shown) it = it.2
+  dot_holds old new told (SetSeparator text) it = it.2
+  dot_holds old new told (SetNull text) it = it.2
+  dot_holds old new told (SetEcho on) it = it.2
+  dot_holds old new told (SetBail on) it = it.2
+  dot_holds old new told (Print words) it = shell_holds old new it.0
+  dot_holds old new told (Importing what) it = it.0.1
+  dot_holds old new told Tables it = it.0.1
+  dot_holds old new told Quit it = shell_holds old new it.0
+  dot_holds old new told (Usage text) it = shell_holds old new it.0
+  dot_holds old new told Unknown it = shell_holds old new it.0
 
-  body_holds : (member : Member) (old new : Shell P S) (told : Told) → Body g h member old new told → new.holds ≡ old.holds
+  body_holds : (member : Member) (old new : Shell P S) (told : Answer) → Body g h member old new told → new.holds ≡ old.holds
   body_holds (Fault line fault) old new told it = shell_holds old new it.0
   body_holds (Sql line text) old new told it = it.1
-  body_holds (Dot line text) old new told (inl it) = dot_holds line old new told (dot_command_of (dot_words_of (behind_stop text))) it
+  body_holds (Dot line text) old new told (inl it) = dot_holds old new told (dot_command_of (dot_words_of (behind_stop text))) it
   body_holds (Dot line text) old new told (inr nothing) = shell_holds old new nothing.0
 
   -- turns one after the other

@@ -9,3 +9,4 @@ pub mod PromiseLemmas
 pub mod TurnsLemmas
 pub mod ImportTurnLemmas
 pub mod HoldsLemmas
+pub mod DotLemmas

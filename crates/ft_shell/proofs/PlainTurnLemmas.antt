@@ -8,16 +8,16 @@ use Rattle.ft_index.specs.Kept.{FullText}
 use Rattle.ft_statements.specs.Plain.{asks, made_name}
 use Rattle.ft_statements.specs.Words.{tokens_of}
 use Rattle.plain_shell.specs.PlainStatements.{QueryTurn}
-use Rattle.plain_shell.specs.Told.{Told}
+use Rattle.plain_shell.specs.Told.{Answer}
 use Rattle.ft_shell.specs.PlainTurns.{CommandTurn, PlainTurn}
 
-pub asks_turn : {P S : Type 0} (g : Ghosts P) (h : Ghosts S) (settings : Settings) (line : ℕ) (text : List ℕ) (old new : Held P) (before : FullText S) (told : Told) →
-    asks (tokens_of text) ≡ true → QueryTurn g settings line text old new told → PlainTurn g h settings line text old new before before told
-asks_turn g h settings line text old new before told is query =
-    subst (λ b. MatchBool b (QueryTurn g settings line text old new told × (before ≡ before)) (CommandTurn g h settings line text (made_name (tokens_of text)) old new before before told)) (sym is) (query, refl)
+pub asks_turn : {P S : Type 0} (g : Ghosts P) (h : Ghosts S) (settings : Settings) (text : List ℕ) (old new : Held P) (before : FullText S) (told : Answer) →
+    asks (tokens_of text) ≡ true → QueryTurn g settings text old new told → PlainTurn g h settings text old new before before told
+asks_turn g h settings text old new before told is query =
+    subst (λ b. MatchBool b (QueryTurn g settings text old new told × (before ≡ before)) (CommandTurn g h text (made_name (tokens_of text)) old new before before told)) (sym is) (query, refl)
 
-pub runs_turn : {P S : Type 0} (g : Ghosts P) (h : Ghosts S) (settings : Settings) (line : ℕ) (text : List ℕ) (old new : Held P) (before after : FullText S) (told : Told) (made : Option (List ℕ)) →
-    asks (tokens_of text) ≡ false → made ≡ made_name (tokens_of text) → CommandTurn g h settings line text made old new before after told → PlainTurn g h settings line text old new before after told
-runs_turn g h settings line text old new before after told made is same command =
-    subst (λ b. MatchBool b (QueryTurn g settings line text old new told × (after ≡ before)) (CommandTurn g h settings line text (made_name (tokens_of text)) old new before after told)) (sym is)
-    (subst (λ m. CommandTurn g h settings line text m old new before after told) same command)
+pub runs_turn : {P S : Type 0} (g : Ghosts P) (h : Ghosts S) (settings : Settings) (text : List ℕ) (old new : Held P) (before after : FullText S) (told : Answer) (made : Option (List ℕ)) →
+    asks (tokens_of text) ≡ false → made ≡ made_name (tokens_of text) → CommandTurn g h text made old new before after told → PlainTurn g h settings text old new before after told
+runs_turn g h settings text old new before after told made is same command =
+    subst (λ b. MatchBool b (QueryTurn g settings text old new told × (after ≡ before)) (CommandTurn g h text (made_name (tokens_of text)) old new before after told)) (sym is)
+    (subst (λ m. CommandTurn g h text m old new before after told) same command)

@@ -25,7 +25,7 @@ use Rattle.ft_shell.specs.ImportTurns.{columns_in}
 use Rattle.plain_shell.specs.Records.{kept, records_in}
 use Rattle.ft_shell.specs.FullTextTurns.{reply_told}
 use Rattle.ft_shell.specs.StatementTurns.{table_names}
-use Rattle.plain_shell.specs.Told.{Told, Tells, says, echoed, lacks_memory}
+use Rattle.plain_shell.specs.Told.{Answer, Told, Tells, says, echoed, lacks_memory, told_of}
 use Rattle.ft_shell.specs.Deeds.{Deeds, idle, and_then, told_by}
 use Rattle.plain_shell.specs.DotParts.{behind_stop}
 use Rattle.ft_shell.proofs.Spelled.{MayNote, MayRead, CallsOf, CallsOfClass, CallsOfDot, CallsOfImport}
@@ -98,40 +98,40 @@ read_of : (calls : List Call) → MayRead calls → NoCommand calls
 read_of calls (inl is) = none_of calls is
 read_of calls (inr is) = subst NoCommand (sym is) tt
 
-few_class : (settings : Settings) (line : ℕ) (told : Told) (calls : List Call) (made : Option (List ℕ)) (class : Option Class) → CallsOfClass settings line told calls made class → Few calls
-few_class settings line told calls made None it = inl (none_of calls it)
-few_class settings line told calls made (Some Plain) it = inl (note_of made calls it)
-few_class settings line told calls made (Some (FullTextClass command)) (inl it) = inr (command, it.0, it.1)
-few_class settings line told calls made (Some (FullTextClass command)) (inr it) = inl (none_of calls it.0)
+few_class : (settings : Settings) (told : Answer) (calls : List Call) (made : Option (List ℕ)) (class : Option Class) → CallsOfClass settings told calls made class → Few calls
+few_class settings told calls made None it = inl (none_of calls it)
+few_class settings told calls made (Some Plain) it = inl (note_of made calls it)
+few_class settings told calls made (Some (FullTextClass command)) (inl it) = inr (command, it.0, it.1)
+few_class settings told calls made (Some (FullTextClass command)) (inr it) = inl (none_of calls it.0)
 
-few_import : (settings : Settings) (line : ℕ) (told : Told) (calls : List Call) (holds : Files) (what : Import) (there : Option ℕ) → CallsOfImport settings line told calls holds what there → Few calls
-few_import settings line told calls holds what None it = inl (note_of (Some what.table) calls it)
-few_import settings line told calls holds what (Some n) (inl it) = inr (Insert what.table None (map (row_cells n) (records_in (kept what.skip it.0))), it.2.0, it.2.1)
-few_import settings line told calls holds what (Some n) (inr it) = inl (none_of calls it.0)
+few_import : (settings : Settings) (told : Answer) (calls : List Call) (holds : Files) (what : Import) (there : Option ℕ) → CallsOfImport settings told calls holds what there → Few calls
+few_import settings told calls holds what None it = inl (note_of (Some what.table) calls it)
+few_import settings told calls holds what (Some n) (inl it) = inr (Insert what.table None (map (row_cells n) (records_in (kept what.skip it.0))), it.2.0, it.2.1)
+few_import settings told calls holds what (Some n) (inr it) = inl (none_of calls it.0)
 
-few_dot : {P S : Type 0} (line : ℕ) (old : Shell P S) (told : Told) (calls : List Call) (command : DotCommand) → CallsOfDot line old told calls command → Few calls
-few_dot line old told calls (Importing what) it = few_import old.settings line told calls old.holds what (columns_in old.full_text.tables what.table) it
-few_dot line old told calls Nothing it = inl (none_of calls it)
-few_dot line old told calls (SetMode mode) it = inl (none_of calls it)
-few_dot line old told calls (SetHeaders shown) it = inl (none_of calls it)
-few_dot line old told calls (SetSeparator text) it = inl (none_of calls it)
-few_dot line old told calls (SetNull text) it = inl (none_of calls it)
-few_dot line old told calls (SetEcho on) it = inl (none_of calls it)
-few_dot line old told calls (SetBail on) it = inl (none_of calls it)
-few_dot line old told calls (Print words) it = inl (none_of calls it)
-few_dot line old told calls Tables it = inl (read_of calls it)
-few_dot line old told calls Quit it = inl (none_of calls it)
-few_dot line old told calls (Usage text) it = inl (none_of calls it)
-few_dot line old told calls Unknown it = inl (none_of calls it)
+few_dot : {P S : Type 0} (old : Shell P S) (told : Answer) (calls : List Call) (command : DotCommand) → CallsOfDot old told calls command → Few calls
+few_dot old told calls (Importing what) it = few_import old.settings told calls old.holds what (columns_in old.full_text.tables what.table) it
+few_dot old told calls Nothing it = inl (none_of calls it)
+few_dot old told calls (SetMode mode) it = inl (none_of calls it)
+few_dot old told calls (SetHeaders shown) it = inl (none_of calls it)
+few_dot old told calls (SetSeparator text) it = inl (none_of calls it)
+few_dot old told calls (SetNull text) it = inl (none_of calls it)
+few_dot old told calls (SetEcho on) it = inl (none_of calls it)
+few_dot old told calls (SetBail on) it = inl (none_of calls it)
+few_dot old told calls (Print words) it = inl (none_of calls it)
+few_dot old told calls Tables it = inl (read_of calls it)
+few_dot old told calls Quit it = inl (none_of calls it)
+few_dot old told calls (Usage text) it = inl (none_of calls it)
+few_dot old told calls Unknown it = inl (none_of calls it)
 
-few : {P S : Type 0} (member : Member) (old : Shell P S) (told : Told) (calls : List Call) → CallsOf member old told calls → Few calls
+few : {P S : Type 0} (member : Member) (old : Shell P S) (told : Answer) (calls : List Call) → CallsOf member old told calls → Few calls
 few (units.Fault line fault) old told calls it = inl (none_of calls it)
 few (Sql line text) old told calls it = go (is_unclosed text) it
   where
-    go : (is_open : Bool) → MatchBool is_open (calls ≡ []) (CallsOfClass old.settings line told calls (made_name (tokens_of text)) (class_of (table_names old.full_text) (tokens_of text))) → Few calls
+    go : (is_open : Bool) → MatchBool is_open (calls ≡ []) (CallsOfClass old.settings told calls (made_name (tokens_of text)) (class_of (table_names old.full_text) (tokens_of text))) → Few calls
     go true it = inl (none_of calls it)
-    go false it = few_class old.settings line told calls (made_name (tokens_of text)) (class_of (table_names old.full_text) (tokens_of text)) it
-few (Dot line text) old told calls it = few_dot line old told calls (dot_command_of (dot_words_of (behind_stop text))) it
+    go false it = few_class old.settings told calls (made_name (tokens_of text)) (class_of (table_names old.full_text) (tokens_of text)) it
+few (Dot line text) old told calls it = few_dot old told calls (dot_command_of (dot_words_of (behind_stop text))) it
 
 not_noted : (before more : List Call) (command : Command) (answer : Result Reply Fault) → NoCommand (before ++ Executed command answer ∷ more) → ⊥
 not_noted [] more command answer it = it
@@ -337,47 +337,47 @@ module _ (table : List ℕ) (items : Items) (filter : Filter) (limit : Option �
   not_none : NoCommand selected → ⊥
   not_none it = it
 
-  select_class : (settings : Settings) (line : ℕ) (told : Told) (made : Option (List ℕ)) (class : Option Class) → CallsOfClass settings line told selected made class → Tells settings line (says (reply_text settings reply)) told
-  select_class settings line told made None it = absurd (not_none (none_of selected it))
-  select_class settings line told made (Some Plain) it = absurd (not_none (note_of made selected it))
-  select_class settings line told made (Some (FullTextClass command)) (inl (answer, is, tells)) =
+  select_class : (settings : Settings) (told : Answer) (made : Option (List ℕ)) (class : Option Class) → CallsOfClass settings told selected made class → Tells (says (reply_text settings reply)) told
+  select_class settings told made None it = absurd (not_none (none_of selected it))
+  select_class settings told made (Some Plain) it = absurd (not_none (note_of made selected it))
+  select_class settings told made (Some (FullTextClass command)) (inl (answer, is, tells)) =
       let same : answer ≡ Ok reply = (let e = is in cc) in
-      subst (λ a. Tells settings line (reply_told settings line a) told) same tells
-  select_class settings line told made (Some (FullTextClass command)) (inr it) = absurd (let wrong = it.0 in cc)
+      subst (λ a. Tells (reply_told settings a) told) same tells
+  select_class settings told made (Some (FullTextClass command)) (inr it) = absurd (let wrong = it.0 in cc)
 
-  select_import : (settings : Settings) (line : ℕ) (told : Told) (holds : Files) (what : Import) (there : Option ℕ) → CallsOfImport settings line told selected holds what there → ⊥
-  select_import settings line told holds what None it = not_none (note_of (Some what.table) selected it)
-  select_import settings line told holds what (Some n) (inl it) = let wrong = it.2.1 in cc
-  select_import settings line told holds what (Some n) (inr it) = let wrong = it.0 in cc
+  select_import : (settings : Settings) (told : Answer) (holds : Files) (what : Import) (there : Option ℕ) → CallsOfImport settings told selected holds what there → ⊥
+  select_import settings told holds what None it = not_none (note_of (Some what.table) selected it)
+  select_import settings told holds what (Some n) (inl it) = let wrong = it.2.1 in cc
+  select_import settings told holds what (Some n) (inr it) = let wrong = it.0 in cc
 
-  select_dot : {P S : Type 0} (line : ℕ) (old : Shell P S) (told : Told) (command : DotCommand) → CallsOfDot line old told selected command → ⊥
-  select_dot line old told (Importing what) it = select_import old.settings line told old.holds what (columns_in old.full_text.tables what.table) it
-  select_dot line old told Nothing it = not_none (none_of selected it)
-  select_dot line old told (SetMode mode) it = not_none (none_of selected it)
-  select_dot line old told (SetHeaders shown) it = not_none (none_of selected it)
-  select_dot line old told (SetSeparator text) it = not_none (none_of selected it)
-  select_dot line old told (SetNull text) it = not_none (none_of selected it)
-  select_dot line old told (SetEcho on) it = not_none (none_of selected it)
-  select_dot line old told (SetBail on) it = not_none (none_of selected it)
-  select_dot line old told (Print words) it = not_none (none_of selected it)
-  select_dot line old told Tables it = not_none (read_of selected it)
-  select_dot line old told Quit it = not_none (none_of selected it)
-  select_dot line old told (Usage text) it = not_none (none_of selected it)
-  select_dot line old told Unknown it = not_none (none_of selected it)
+  select_dot : {P S : Type 0} (old : Shell P S) (told : Answer) (command : DotCommand) → CallsOfDot old told selected command → ⊥
+  select_dot old told (Importing what) it = select_import old.settings told old.holds what (columns_in old.full_text.tables what.table) it
+  select_dot old told Nothing it = not_none (none_of selected it)
+  select_dot old told (SetMode mode) it = not_none (none_of selected it)
+  select_dot old told (SetHeaders shown) it = not_none (none_of selected it)
+  select_dot old told (SetSeparator text) it = not_none (none_of selected it)
+  select_dot old told (SetNull text) it = not_none (none_of selected it)
+  select_dot old told (SetEcho on) it = not_none (none_of selected it)
+  select_dot old told (SetBail on) it = not_none (none_of selected it)
+  select_dot old told (Print words) it = not_none (none_of selected it)
+  select_dot old told Tables it = not_none (read_of selected it)
+  select_dot old told Quit it = not_none (none_of selected it)
+  select_dot old told (Usage text) it = not_none (none_of selected it)
+  select_dot old told Unknown it = not_none (none_of selected it)
 
-  select_sql : {P S : Type 0} (line : ℕ) (text : List ℕ) (old : Shell P S) (told : Told) → CallsOf (Sql line text) old told selected → Tells old.settings line (says (reply_text old.settings reply)) told
+  select_sql : {P S : Type 0} (line : ℕ) (text : List ℕ) (old : Shell P S) (told : Answer) → CallsOf (Sql line text) old told selected → Tells (says (reply_text old.settings reply)) told
   select_sql line text old told it = go (is_unclosed text) it
     where
-      go : (is_open : Bool) → MatchBool is_open (selected ≡ []) (CallsOfClass old.settings line told selected (made_name (tokens_of text)) (class_of (table_names old.full_text) (tokens_of text))) → Tells old.settings line (says (reply_text old.settings reply)) told
+      go : (is_open : Bool) → MatchBool is_open (selected ≡ []) (CallsOfClass old.settings told selected (made_name (tokens_of text)) (class_of (table_names old.full_text) (tokens_of text))) → Tells (says (reply_text old.settings reply)) told
       go true it = absurd (not_none (none_of selected it))
-      go false it = select_class old.settings line told (made_name (tokens_of text)) (class_of (table_names old.full_text) (tokens_of text)) it
+      go false it = select_class old.settings told (made_name (tokens_of text)) (class_of (table_names old.full_text) (tokens_of text)) it
 
   select_lists : {P S : Type 0} (g : Ghosts P) (h : Ghosts S) (old new : Parts P S) (all : Deeds) (before more : List Call) → At g h (Reached g h old) all before (Select table items filter limit offset) (Ok reply) more new.full_text → Lists g h old all before (Select table items filter limit offset) reply more new
   select_lists {P} {S} g h old new all before more it = go it.member it.turn
     where
       go : (member : Member) → Turn g h member it.was it.now it.own → Lists g h old all before (Select table items filter limit offset) reply more new
       go (units.Fault line fault) turn = absurd (not_none (none_of selected (sym it.only ∙ turn_spelled g h (units.Fault line fault) it.was it.now it.own turn)))
-      go (Dot line text) turn = absurd (select_dot line it.was turn.body (dot_command_of (dot_words_of (behind_stop text))) (subst (λ calls. CallsOfDot line it.was turn.body calls (dot_command_of (dot_words_of (behind_stop text)))) it.only (turn_spelled g h (Dot line text) it.was it.now it.own turn)))
+      go (Dot line text) turn = absurd (select_dot it.was turn.body (dot_command_of (dot_words_of (behind_stop text))) (subst (λ calls. CallsOfDot it.was turn.body calls (dot_command_of (dot_words_of (behind_stop text)))) it.only (turn_spelled g h (Dot line text) it.was it.now it.own turn)))
       go (Sql line text) turn = record {
         line = line;
         text = text;
@@ -397,9 +397,11 @@ module _ (table : List ℕ) (items : Items) (filter : Filter) (limit : Option �
         err = it.err;
       }
         where
-          told : Tells it.was.settings line (says (reply_text it.was.settings reply)) turn.body → (told_by it.own ≡ echoed it.was.settings text (says (reply_text it.was.settings reply))) ⊎ (told_by it.own ≡ echoed it.was.settings text (lacks_memory it.was.settings line))
-          told (inl is) = inl (turn.tells ∙ ap (echoed it.was.settings text) is)
-          told (inr is) = inr (turn.tells ∙ ap (echoed it.was.settings text) is)
+          shown : Answer → Told
+          shown answer = echoed it.was.settings text (told_of it.was.settings.bail line answer)
+          told : Tells (says (reply_text it.was.settings reply)) turn.body → (told_by it.own ≡ shown (says (reply_text it.was.settings reply))) ⊎ (told_by it.own ≡ shown lacks_memory)
+          told (inl is) = inl (turn.tells ∙ ap shown is)
+          told (inr is) = inr (turn.tells ∙ ap shown is)
 
 -- ---- the promise
 

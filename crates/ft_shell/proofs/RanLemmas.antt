@@ -10,7 +10,7 @@ use Rattle.shell_text.specs.Splitting.{member_as}
 use Rattle.plain_shell.specs.declared.run.RunFault.{RunFault}
 use Rattle.plain_shell.specs.declared.run.RunFault.TheVariants as causes
 use Rattle.ft_shell.specs.Shell.{Shell}
-use Rattle.plain_shell.specs.Told.{Told, echo_text, echoed}
+use Rattle.plain_shell.specs.Told.{Answer, echo_text, echoed, told_of}
 use Rattle.ft_shell.specs.Deeds.{Deeds, deeds_of, idle, and_then}
 use Rattle.ft_shell.specs.Turns.{Body, Turn, calls_in, echo_of}
 use Rattle.ft_shell.specs.Broken.{Broken, not_begun, not_echoed, not_told}
@@ -200,7 +200,8 @@ pub unit_echo : (settings : Settings) (kind : UnitKind) (line : ℕ) (text : Lis
 unit_echo settings kinds.Sql line text = refl
 unit_echo settings kinds.Dot line text = refl
 
--- a unit's turn: its text is echoed before what it tells
-pub unit_turned : {P S : Type 0} (g : Ghosts P) (h : Ghosts S) (kind : UnitKind) (line : ℕ) (text : List ℕ) (old new : Shell P S) (body : Told) → (done : Body g h (member_as kind line text) old new body) → Turn g h (member_as kind line text) old new (deeds_of (echoed old.settings text body) (calls_in g h (member_as kind line text) old new body done))
+-- a unit's turn: its text is echoed before what it answers
+pub unit_turned : {P S : Type 0} (g : Ghosts P) (h : Ghosts S) (kind : UnitKind) (line : ℕ) (text : List ℕ) (old new : Shell P S) (body : Answer) → (done : Body g h (member_as kind line text) old new body) →
+    Turn g h (member_as kind line text) old new (deeds_of (echoed old.settings text (told_of old.settings.bail line body)) (calls_in g h (member_as kind line text) old new body done))
 unit_turned g h kinds.Sql line text old new body done = record { body = body; done = done; tells = refl; calls = refl }
 unit_turned g h kinds.Dot line text old new body done = record { body = body; done = done; tells = refl; calls = refl }

@@ -24,7 +24,7 @@ use Rattle.ft_shell.specs.StatementTurns.{table_names}
 use Rattle.ft_shell.specs.ImportTurns.{columns_in, insert_told}
 use Rattle.plain_shell.specs.Records.{kept, records_in}
 use Rattle.plain_shell.specs.DotParts.{behind_stop}
-use Rattle.plain_shell.specs.Told.{Told, blames, Tells}
+use Rattle.plain_shell.specs.Told.{Answer, Tells, blames}
 
 -- nothing is called, or the table that is made, if one may be, is noted once
 abbrev pub MayNote : Option (List ℕ) → List Call → Type 0
@@ -43,21 +43,21 @@ pub record HasRecords (settings : Settings) (holds : Files) (what : Import) (fou
   pub gives : Gives holds what.file bytes
   pub are : AreRecords (csv_reader delimiter) csv.StartRecord (strip_bom bytes) found
 
-module _ (settings : Settings) (line : ℕ) (told : Told) (calls : List Call) where
+module _ (settings : Settings) (told : Answer) (calls : List Call) where
   -- the command is executed once, and this is told of its answer; or nothing is called, and a fault
   -- line says why
-  abbrev pub OneCommand : Command → (Result Reply Cause → Told) → Type 0
-  OneCommand command due = (answer : Result Reply Cause) × (calls ≡ Executed command answer ∷ []) × Tells settings line (due answer) told
+  abbrev pub OneCommand : Command → (Result Reply Cause → Answer) → Type 0
+  OneCommand command due = (answer : Result Reply Cause) × (calls ≡ Executed command answer ∷ []) × Tells (due answer) told
 
   abbrev pub NoCall : Type 0
-  NoCall = (calls ≡ []) × (why : List ℕ) × (told ≡ blames settings line why)
+  NoCall = (calls ≡ []) × (why : List ℕ) × (told ≡ blames why)
 
   -- a full-text statement's command is executed, and the name of the table that a plain one makes
   -- is noted
   abbrev pub CallsOfClass : Option (List ℕ) → Option Class → Type 0
   CallsOfClass made None = calls ≡ []
   CallsOfClass made (Some Plain) = MayNote made calls
-  CallsOfClass made (Some (FullText command)) = OneCommand command (reply_told settings line) ⊎ NoCall
+  CallsOfClass made (Some (FullText command)) = OneCommand command (reply_told settings) ⊎ NoCall
 
   -- the records go into a full-text table by one Insert; a plain table that is made for them is
   -- noted
@@ -65,15 +65,15 @@ module _ (settings : Settings) (line : ℕ) (told : Told) (calls : List Call) wh
   CallsOfImport holds what None = MayNote (Some what.table) calls
   CallsOfImport holds what (Some n) =
       ((found : List (List (List ℕ))) × HasRecords settings holds what found
-      × OneCommand (Insert what.table None (map (row_cells n) (records_in (kept what.skip found)))) (insert_told settings line (warnings what.file n (kept what.skip found)))) ⊎ NoCall
+      × OneCommand (Insert what.table None (map (row_cells n) (records_in (kept what.skip found)))) (insert_told (warnings what.file n (kept what.skip found)))) ⊎ NoCall
 
 -- what a member calls, over the tables and the files that are there, where this is told of it
-abbrev pub CallsOfDot : {P S : Type 0} → ℕ → Shell P S → Told → List Call → DotCommand → Type 0
-CallsOfDot line old told calls (Importing what) = CallsOfImport old.settings line told calls old.holds what (columns_in old.full_text.tables what.table)
-CallsOfDot line old told calls Tables = MayRead calls
-CallsOfDot line old told calls _ = calls ≡ []
+abbrev pub CallsOfDot : {P S : Type 0} → Shell P S → Answer → List Call → DotCommand → Type 0
+CallsOfDot old told calls (Importing what) = CallsOfImport old.settings told calls old.holds what (columns_in old.full_text.tables what.table)
+CallsOfDot old told calls Tables = MayRead calls
+CallsOfDot old told calls _ = calls ≡ []
 
-abbrev pub CallsOf : {P S : Type 0} → Member → Shell P S → Told → List Call → Type 0
+abbrev pub CallsOf : {P S : Type 0} → Member → Shell P S → Answer → List Call → Type 0
 CallsOf (Fault line fault) old told calls = calls ≡ []
-CallsOf (Sql line text) old told calls = MatchBool (is_unclosed text) (calls ≡ []) (CallsOfClass old.settings line told calls (made_name (tokens_of text)) (class_of (table_names old.full_text) (tokens_of text)))
-CallsOf (Dot line text) old told calls = CallsOfDot line old told calls (dot_command_of (dot_words_of (behind_stop text)))
+CallsOf (Sql line text) old told calls = MatchBool (is_unclosed text) (calls ≡ []) (CallsOfClass old.settings told calls (made_name (tokens_of text)) (class_of (table_names old.full_text) (tokens_of text)))
+CallsOf (Dot line text) old told calls = CallsOfDot old told calls (dot_command_of (dot_words_of (behind_stop text)))

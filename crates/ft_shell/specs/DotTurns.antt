@@ -9,17 +9,17 @@ use Rattle.ft_statements.specs.Dots.{Importing, Tables, Quit, Usage, Unknown}
 use Rattle.ft_statements.specs.Settings.{print_text}
 use Rattle.ft_shell.specs.TablesTurns.{TablesTurn}
 use Rattle.ft_shell.specs.ImportTurns.{ImportTurn}
-use Rattle.plain_shell.specs.DotParts.{Sets, quits}
-use Rattle.plain_shell.specs.Told.{Told, says, blames}
+use Rattle.plain_shell.specs.DotParts.{Sets}
+use Rattle.plain_shell.specs.Told.{Answer, says, blames, quits}
 
-module _ {P S : Type 0} (g : Ghosts P) (h : Ghosts S) (line : ℕ) (old new : Shell P S) (told : Told) where
-  -- nothing is done, and this is told
-  abbrev pub OnlyTells : Told → Type 0
-  OnlyTells due = (new ≡ old) × (told ≡ due)
+module _ {P S : Type 0} (g : Ghosts P) (h : Ghosts S) (old new : Shell P S) (answer : Answer) where
+  -- nothing is done, and this is the answer
+  abbrev pub OnlyTells : Answer → Type 0
+  OnlyTells due = (new ≡ old) × (answer ≡ due)
 
   -- only a setting is changed
   abbrev pub OnlySets : DotCommand → Type 0
-  OnlySets command = (new.plain ≡ old.plain) × (new.full_text ≡ old.full_text) × (new.holds ≡ old.holds) × Sets line command old.settings new.settings told
+  OnlySets command = (new.plain ≡ old.plain) × (new.full_text ≡ old.full_text) × (new.holds ≡ old.holds) × Sets command old.settings new.settings answer
 
   -- the settings and the files are as before
   abbrev pub LooksSame : Type 0
@@ -34,8 +34,8 @@ module _ {P S : Type 0} (g : Ghosts P) (h : Ghosts S) (line : ℕ) (old new : Sh
   DotTurn (SetEcho on) = OnlySets (SetEcho on)
   DotTurn (SetBail on) = OnlySets (SetBail on)
   DotTurn (Print words) = OnlyTells (says (print_text words))
-  DotTurn (Importing what) = LooksSame × ImportTurn g h old.settings line what old.plain new.plain old.full_text new.full_text told old.holds
-  DotTurn Tables = LooksSame × TablesTurn g h old.settings line old.plain new.plain old.full_text new.full_text told
+  DotTurn (Importing what) = LooksSame × ImportTurn g h old.settings what old.plain new.plain old.full_text new.full_text answer old.holds
+  DotTurn Tables = LooksSame × TablesTurn g h old.plain new.plain old.full_text new.full_text answer
   DotTurn Quit = OnlyTells quits
-  DotTurn (Usage text) = OnlyTells (blames old.settings line (usage_text text))
-  DotTurn Unknown = OnlyTells (blames old.settings line (codes "unknown dot-command"))
+  DotTurn (Usage text) = OnlyTells (blames (usage_text text))
+  DotTurn Unknown = OnlyTells (blames (codes "unknown dot-command"))

@@ -24,7 +24,7 @@ use Rattle.plain_shell.specs.Sources.{Files, Gives, Refuses, fetch_words}
 use Rattle.plain_shell.specs.declared.source.SourceFault.{SourceFault}
 use Rattle.plain_shell.specs.Listings.{Tries}
 use Rattle.ft_statements.specs.Texts.{fault_text}
-use Rattle.plain_shell.specs.Told.{Told, blames, followed, lacks_memory, warned, Tells}
+use Rattle.plain_shell.specs.Told.{Answer, blames, lacks_memory, warned, Tells}
 
 -- the number of columns of the first table that has this name, if one has
 abbrev pub columns_in : List TableInfo → List ℕ → Option ℕ
@@ -33,66 +33,60 @@ columns_in tables name = option_map (λ (t : TableInfo). length t.columns) (info
 -- ---- into a full-text table
 
 -- what is told of the answer of the one command: the warnings, or the fault it deserves
-abbrev pub insert_told : Settings → ℕ → List ℕ → Result Reply Fault → Told
-insert_told settings line lines (Ok reply) = warned lines
-insert_told settings line lines (Err fault) = blames settings line (fault_text fault)
+abbrev pub insert_told : List ℕ → Result Reply Fault → Answer
+insert_told lines (Ok reply) = warned lines
+insert_told lines (Err fault) = blames (fault_text fault)
 
 -- The one command is executed, and its answer is told.
-pub record InsertTurn {S : Type 0} (h : Ghosts S) (settings : Settings) (line : ℕ) (command : Command) (lines : List ℕ) (before after : FullText S)
-    (told : Told) : Type 0 where
+pub record InsertTurn {S : Type 0} (h : Ghosts S) (command : Command) (lines : List ℕ) (before after : FullText S) (told : Answer) : Type 0 where
   pub answer : Result Reply Fault
   pub does : DoesCall h before (Executed command answer) after
-  pub tells : Tells settings line (insert_told settings line lines answer) told
+  pub tells : told ≡ insert_told lines answer
 
 -- All records go in by one Insert, or none does. Where memory is wanting before it, nothing is
 -- done.
-pub data TextImport {S : Type 0} (h : Ghosts S) (settings : Settings) (line : ℕ) (what : Import) (n : ℕ) (rows : List (ℕ × List (List ℕ)))
-    (before after : FullText S) (told : Told) : Type 0 where
-  executed : InsertTurn h settings line (Insert what.table None (map (row_cells n) (records_in rows))) (warnings what.file n rows) before after told
-      → TextImport h settings line what n rows before after told
-  no_memory : after ≡ before → told ≡ lacks_memory settings line → TextImport h settings line what n rows before after told
+pub data TextImport {S : Type 0} (h : Ghosts S) (what : Import) (n : ℕ) (rows : List (ℕ × List (List ℕ))) (before after : FullText S)
+    (told : Answer) : Type 0 where
+  executed : InsertTurn h (Insert what.table None (map (row_cells n) (records_in rows))) (warnings what.file n rows) before after told
+      → TextImport h what n rows before after told
+  no_memory : after ≡ before → told ≡ lacks_memory → TextImport h what n rows before after told
 
 -- ---- into a plain table
 
--- a made table's name is noted, after the warnings of its import
-abbrev pub NotesAfter : {S : Type 0} → Ghosts S → Settings → ℕ → List ℕ → List ℕ → FullText S → FullText S → Told → Type 0
-NotesAfter h settings line name lines before after told = (end : Told) × NoteTurn h settings line name before after end × (told ≡ followed (warned lines) end)
-
-module _ {P : Type 0} (g : Ghosts P) (settings : Settings) (line : ℕ) (what : Import) (rows : List (ℕ × List (List ℕ))) where
+module _ {P : Type 0} (g : Ghosts P) (what : Import) (rows : List (ℕ × List (List ℕ))) where
   -- Into a table that the first record left names the columns of: it is made in the same
   -- transaction, and noted after the warnings.
   module _ {S : Type 0} (h : Ghosts S) where
-    pub data IntoNew (old new : Held P) (before after : FullText S) (told : Told) : Type 0 where
-      no_header : rows ≡ [] → new ≡ old → after ≡ before → told ≡ blames settings line (codes "no header record") → IntoNew old new before after told
+    pub data IntoNew (old new : Held P) (before after : FullText S) (told : Answer) : Type 0 where
+      no_header : rows ≡ [] → new ≡ old → after ≡ before → told ≡ blames (codes "no header record") → IntoNew old new before after told
       too_wide : (first : ℕ × List (List ℕ)) (rest : List (ℕ × List (List ℕ))) → rows ≡ first ∷ rest → 100 < length first.1 → new ≡ old → after ≡ before
-          → told ≡ blames settings line (codes "import refused") → IntoNew old new before after told
+          → told ≡ blames (codes "import refused") → IntoNew old new before after told
       made : (first : ℕ × List (List ℕ)) (rest : List (ℕ × List (List ℕ))) → rows ≡ first ∷ rest → length first.1 ≤ 100
           → CommitsAll g (import_steps (Some first.1) what.table (length first.1) (records_in rest)) old new
-          → NotesAfter h settings line what.table (warnings what.file (length first.1) rest) before after told → IntoNew old new before after told
+          → NoteTurn h (warnings what.file (length first.1) rest) what.table before after told → IntoNew old new before after told
       declined : (first : ℕ × List (List ℕ)) (rest : List (ℕ × List (List ℕ))) → rows ≡ first ∷ rest → length first.1 ≤ 100
           → Declines g (import_steps (Some first.1) what.table (length first.1) (records_in rest)) old new
-          → after ≡ before → IsLeft g settings line (codes "import refused") old new told → IntoNew old new before after told
-      no_memory : after ≡ before → IsLeft g settings line (codes "out of memory") old new told → IntoNew old new before after told
+          → after ≡ before → IsLeft g (codes "import refused") old new told → IntoNew old new before after told
+      no_memory : after ≡ before → IsLeft g (codes "out of memory") old new told → IntoNew old new before after told
 
     -- the table is there where `sqlite` answers a reading of it
-    pub data PlainImport (old new : Held P) (before after : FullText S) (told : Told) : Type 0 where
-      there : (found : Held P) → Tries g what.table (Some true) old found → after ≡ before → IntoTable g settings line what rows found new told
+    pub data PlainImport (old new : Held P) (before after : FullText S) (told : Answer) : Type 0 where
+      there : (found : Held P) → Tries g what.table (Some true) old found → after ≡ before → IntoTable g what rows found new told
           → PlainImport old new before after told
       new_table : (found : Held P) → Tries g what.table (Some false) old found → IntoNew found new before after told → PlainImport old new before after told
-      untried : Tries g what.table None old new → after ≡ before → told ≡ lacks_memory settings line → PlainImport old new before after told
+      untried : Tries g what.table None old new → after ≡ before → told ≡ lacks_memory → PlainImport old new before after told
 
 -- ---- the file
 
-module _ {P S : Type 0} (g : Ghosts P) (h : Ghosts S) (settings : Settings) (line : ℕ) (what : Import) (old new : Held P) (before after : FullText S)
-    (told : Told) where
+module _ {P S : Type 0} (g : Ghosts P) (h : Ghosts S) (what : Import) (old new : Held P) (before after : FullText S) (told : Answer) where
   -- nothing is done, and this is the fault line
   abbrev pub Declined : List ℕ → Type 0
-  Declined why = (new ≡ old) × (after ≡ before) × (told ≡ blames settings line why)
+  Declined why = (new ≡ old) × (after ≡ before) × (told ≡ blames why)
 
   -- a full-text table hides a plain one of its name
   abbrev pub IntoNamed : List (ℕ × List (List ℕ)) → Option ℕ → Type 0
-  IntoNamed rows (Some n) = (new ≡ old) × TextImport h settings line what n rows before after told
-  IntoNamed rows None = PlainImport g settings line what rows h old new before after told
+  IntoNamed rows (Some n) = (new ≡ old) × TextImport h what n rows before after told
+  IntoNamed rows None = PlainImport g what rows h old new before after told
 
   -- the file's records go into the table of that name, but for those that are skipped
   abbrev pub RecordsTurn : List (List (List ℕ)) → Type 0
@@ -116,5 +110,6 @@ module _ {P S : Type 0} (g : Ghosts P) (h : Ghosts S) (settings : Settings) (lin
   DelimitedTurn holds None = Declined (codes "bad separator")
   DelimitedTurn holds (Some delimiter) = FileTurn holds delimiter
 
-  abbrev pub ImportTurn : Files → Type 0
-  ImportTurn holds = DelimitedTurn holds (delimiter_of what.csv settings)
+-- a file's records go into a table, by the settings
+abbrev pub ImportTurn : {P S : Type 0} → Ghosts P → Ghosts S → Settings → Import → Held P → Held P → FullText S → FullText S → Answer → Files → Type 0
+ImportTurn g h settings what old new before after told holds = DelimitedTurn g h what old new before after told holds (delimiter_of what.csv settings)

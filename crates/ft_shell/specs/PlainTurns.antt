@@ -10,24 +10,23 @@ use Rattle.ft_index.specs.Kept.{FullText}
 use Rattle.ft_statements.specs.Plain.{asks, made_name}
 use Rattle.ft_statements.specs.Words.{tokens_of}
 use Rattle.plain_shell.specs.PlainStatements.{TellsRefusal, IfClean, QueryTurn}
-use Rattle.plain_shell.specs.Told.{Told, lacks_memory}
+use Rattle.plain_shell.specs.Told.{Answer, lacks_memory}
 use Rattle.ft_shell.specs.FullTextTurns.{MaybeNotes}
 
 module _ {P S : Type 0} (g : Ghosts P) (h : Ghosts S) where
   -- CREATE, INSERT and whatever is no query; the name of a table that is made is noted
-  pub data CommandTurn (settings : Settings) (line : ℕ) (text : List ℕ) (made : Option (List ℕ)) (old new : Held P) (before after : FullText S)
-      (told : Told) : Type 0 where
-    done : (count : ℕ) → IfClean g old new (Executes text [] (state g old) (state g new) (Ok count)) → MaybeNotes h settings line made before after told
-        → CommandTurn settings line text made old new before after told
-    refused : (e : Error) → IfClean g old new (Executes text [] (state g old) (state g new) (Err e)) → after ≡ before → TellsRefusal settings line e told
-        → CommandTurn settings line text made old new before after told
+  pub data CommandTurn (text : List ℕ) (made : Option (List ℕ)) (old new : Held P) (before after : FullText S) (told : Answer) : Type 0 where
+    done : (count : ℕ) → IfClean g old new (Executes text [] (state g old) (state g new) (Ok count)) → MaybeNotes h made before after told
+        → CommandTurn text made old new before after told
+    refused : (e : Error) → IfClean g old new (Executes text [] (state g old) (state g new) (Err e)) → after ≡ before → TellsRefusal e told
+        → CommandTurn text made old new before after told
 
   -- a plain statement: a query, or a command
-  abbrev pub PlainTurn : Settings → ℕ → List ℕ → Held P → Held P → FullText S → FullText S → Told → Type 0
-  PlainTurn settings line text old new before after told = MatchBool (asks (tokens_of text))
-      (QueryTurn g settings line text old new told × (after ≡ before))
-      (CommandTurn settings line text (made_name (tokens_of text)) old new before after told)
+  abbrev pub PlainTurn : Settings → List ℕ → Held P → Held P → FullText S → FullText S → Answer → Type 0
+  PlainTurn settings text old new before after told = MatchBool (asks (tokens_of text))
+      (QueryTurn g settings text old new told × (after ≡ before))
+      (CommandTurn text (made_name (tokens_of text)) old new before after told)
 
 -- a unit's turn, or, for want of memory, nothing
-abbrev pub OrNothing : {P S : Type 0} → Type 0 → Settings → ℕ → Held P → Held P → FullText S → FullText S → Told → Type 0
-OrNothing Turn settings line old new before after told = Turn ⊎ ((new ≡ old) × (after ≡ before) × (told ≡ lacks_memory settings line))
+abbrev pub OrNothing : {P S : Type 0} → Type 0 → Held P → Held P → FullText S → FullText S → Answer → Type 0
+OrNothing Turn old new before after told = Turn ⊎ ((new ≡ old) × (after ≡ before) × (told ≡ lacks_memory))

@@ -16,7 +16,7 @@ use Rattle.plain_shell.specs.declared.run.RunFault.{RunFault}
 use Rattle.ft_shell.specs.Shell.{Parts, Shell}
 use Rattle.ft_statements.specs.Replies.{reply_text}
 use Rattle.ft_shell.specs.Deeds.{Deeds, idle, and_then, told_by}
-use Rattle.plain_shell.specs.Told.{says, echoed, lacks_memory}
+use Rattle.plain_shell.specs.Told.{says, echoed, lacks_memory, told_of}
 use Rattle.ft_shell.specs.Turns.{Turn, Turns}
 use Rattle.ft_shell.specs.Runs.{Console, Completes, Stops}
 
@@ -80,8 +80,8 @@ module _ {P S : Type 0} (g : Ghosts P) (h : Ghosts S) where
     pub one_call : own.calls ≡ Executed select (Ok reply) ∷ []
     pub calls_behind : later.calls ≡ more
     pub goes_on : Runs h now.full_text more new.full_text
-    pub prints : (told_by own ≡ echoed was.settings text (says (reply_text was.settings reply)))
-        ⊎ (told_by own ≡ echoed was.settings text (lacks_memory was.settings line))
+    pub prints : (told_by own ≡ echoed was.settings text (told_of was.settings.bail line (says (reply_text was.settings reply))))
+        ⊎ (told_by own ≡ echoed was.settings text (told_of was.settings.bail line lacks_memory))
     pub out : all.out ≡ earlier.out ++ (own.out ++ later.out)
     pub err : all.err ≡ earlier.err ++ (own.err ++ later.err)
 

@@ -12,24 +12,23 @@ use Rattle.ft_statements.specs.Words.{tokens_of}
 use Rattle.ft_statements.specs.Statements.{Class, Plain, FullText as FullTextClass, class_of}
 use Rattle.ft_shell.specs.FullTextTurns.{FullTextTurn}
 use Rattle.ft_shell.specs.PlainTurns.{PlainTurn, OrNothing}
-use Rattle.plain_shell.specs.Told.{Told, blames}
+use Rattle.plain_shell.specs.Told.{Answer, blames}
 
 -- the names of the full-text tables that are there
 abbrev pub table_names : {S : Type 0} → FullText S → List (List ℕ)
 table_names known = map (λ (t : TableInfo). t.name) known.tables
 
-module _ {P S : Type 0} (g : Ghosts P) (h : Ghosts S) (settings : Settings) (line : ℕ) (text : List ℕ) (old new : Held P) (before after : FullText S)
-    (told : Told) where
+module _ {P S : Type 0} (g : Ghosts P) (h : Ghosts S) (settings : Settings) (text : List ℕ) (old new : Held P) (before after : FullText S) (told : Answer) where
   -- nothing is done, and this is the fault line
   abbrev pub Declines : List ℕ → Type 0
-  Declines why = (new ≡ old) × (after ≡ before) × (told ≡ blames settings line why)
+  Declines why = (new ≡ old) × (after ≡ before) × (told ≡ blames why)
 
   abbrev pub ClassTurn : Option Class → Type 0
   ClassTurn None = Declines (codes "unsupported full-text statement")
-  ClassTurn (Some Plain) = PlainTurn g h settings line text old new before after told
-  ClassTurn (Some (FullTextClass command)) = (new ≡ old) × FullTextTurn h settings line command before after told
+  ClassTurn (Some Plain) = PlainTurn g h settings text old new before after told
+  ClassTurn (Some (FullTextClass command)) = (new ≡ old) × FullTextTurn h settings command before after told
 
   -- the turn of a statement's class; or, for want of memory, nothing
   abbrev pub StatementTurn : Type 0
   StatementTurn = OrNothing (MatchBool (is_unclosed text) (Declines (codes "incomplete input"))
-      (ClassTurn (class_of (table_names before) (tokens_of text)))) settings line old new before after told
+      (ClassTurn (class_of (table_names before) (tokens_of text)))) old new before after told

@@ -4,19 +4,18 @@
 use Rattle.std.specs.Prelude.{ℕ, ◌≡◌, List, map, true, false, codes}
 use Rattle.sqlite.specs.Store.{Ghosts}
 use Rattle.sqlite.specs.Held.{Held}
-use Rattle.shell_text.specs.Print.{Settings}
 use Rattle.ft_index.specs.Kept.{FullText, IsUp, OnlyLooks, value_of}
 use Rattle.ft_index.specs.Crashes.{LeavesRead}
 use Rattle.plain_shell.specs.Listings.{Lists}
-use Rattle.plain_shell.specs.Told.{Told, blames, Tells}
+use Rattle.plain_shell.specs.Told.{Answer, blames, Tells}
 use Rattle.ft_shell.specs.StatementTurns.{table_names}
 
 module _ {P S : Type 0} (g : Ghosts P) (h : Ghosts S) where
   -- The noted names are read, and listed with those of the full-text tables; or the full-text store
   -- refuses to read them.
-  pub data TablesTurn (settings : Settings) (line : ℕ) (old new : Held P) (before after : FullText S) (told : Told) : Type 0 where
+  pub data TablesTurn (old new : Held P) (before after : FullText S) (told : Answer) : Type 0 where
     lists : (noted : List (List ℕ)) → OnlyLooks h before after → LeavesRead h before true after
-        → (IsUp h after → noted ≡ map (λ n. n.1) (value_of h before).noted) → Lists g settings line (table_names before) noted old new told
-        → TablesTurn settings line old new before after told
+        → (IsUp h after → noted ≡ map (λ n. n.1) (value_of h before).noted) → Lists g (table_names before) noted old new told
+        → TablesTurn old new before after told
     refused : OnlyLooks h before after → LeavesRead h before false after → new ≡ old
-        → Tells settings line (blames settings line (codes "full-text store refused")) told → TablesTurn settings line old new before after told
+        → Tells (blames (codes "full-text store refused")) told → TablesTurn old new before after told

@@ -14,7 +14,7 @@ use Rattle.plain_shell.specs.DotParts.{behind_stop}
 use Rattle.ft_shell.specs.StatementTurns.{StatementTurn}
 use Rattle.ft_index.specs.Called.{Call}
 use Rattle.ft_shell.specs.TurnCalls.{dot_in, statement_in}
-use Rattle.plain_shell.specs.Told.{Told, blames, echo_text, echoed, lacks_memory}
+use Rattle.plain_shell.specs.Told.{Answer, Told, blames, echo_text, echoed, lacks_memory, told_of}
 use Rattle.ft_shell.specs.Deeds.{Deeds, told_by, idle, and_then}
 use Rattle.shell_text.specs.Print.{Settings}
 
@@ -26,32 +26,33 @@ echo_of settings (Dot line text) = echo_text settings.echo text
 
 module _ {P S : Type 0} (g : Ghosts P) (h : Ghosts S) where
   -- a dot-command's turn, or, for want of memory, nothing
-  abbrev pub DotOrLacks : ℕ → Shell P S → Shell P S → Told → DotCommand → Type 0
-  DotOrLacks line old new told command = DotTurn g h line old new told command ⊎ ((new ≡ old) × (told ≡ lacks_memory old.settings line))
+  abbrev pub DotOrLacks : Shell P S → Shell P S → Answer → DotCommand → Type 0
+  DotOrLacks old new answer command = DotTurn g h old new answer command ⊎ ((new ≡ old) × (answer ≡ lacks_memory))
 
   -- what is done with a unit or a fault of the input
-  abbrev pub Body : Member → Shell P S → Shell P S → Told → Type 0
-  Body (Fault line fault) old new told = (new ≡ old) × (told ≡ blames old.settings line (split_text fault))
+  abbrev pub Body : Member → Shell P S → Shell P S → Answer → Type 0
+  Body (Fault line fault) old new told = (new ≡ old) × (told ≡ blames (split_text fault))
   Body (Sql line text) old new told = (new.settings ≡ old.settings) × (new.holds ≡ old.holds)
-      × StatementTurn g h old.settings line text old.plain new.plain old.full_text new.full_text told
-  Body (Dot line text) old new told = DotOrLacks line old new told (dot_command_of (dot_words_of (behind_stop text)))
+      × StatementTurn g h old.settings text old.plain new.plain old.full_text new.full_text told
+  Body (Dot line text) old new told = DotOrLacks old new told (dot_command_of (dot_words_of (behind_stop text)))
 
   -- the calls that this makes of the full-text tables
-  abbrev pub calls_in : (member : Member) (old new : Shell P S) (told : Told) → Body member old new told → List Call
+  abbrev pub calls_in : (member : Member) (old new : Shell P S) (told : Answer) → Body member old new told → List Call
   calls_in (Fault line fault) old new told it = []
-  calls_in (Sql line text) old new told it = statement_in g h old.settings line text old.plain new.plain old.full_text new.full_text told it.2
-  calls_in (Dot line text) old new told (inl it) = dot_in g h line old new told (dot_command_of (dot_words_of (behind_stop text))) it
+  calls_in (Sql line text) old new told it = statement_in g h old.settings text old.plain new.plain old.full_text new.full_text told it.2
+  calls_in (Dot line text) old new told (inl it) = dot_in g h old new told (dot_command_of (dot_words_of (behind_stop text))) it
   calls_in (Dot line text) old new told (inr nothing) = []
 
-  -- the text of a unit is echoed where echo is on
-  abbrev pub Echoed : Member → Shell P S → Told → Told → Type 0
-  Echoed (Fault line fault) old body told = told ≡ body
-  Echoed (Sql line text) old body told = told ≡ echoed old.settings text body
-  Echoed (Dot line text) old body told = told ≡ echoed old.settings text body
+  -- The answer is written with the line that the member begins on. The text of a unit is echoed
+  -- where echo is on.
+  abbrev pub Echoed : Member → Shell P S → Answer → Told → Type 0
+  Echoed (Fault line fault) old body told = told ≡ told_of old.settings.bail line body
+  Echoed (Sql line text) old body told = told ≡ echoed old.settings text (told_of old.settings.bail line body)
+  Echoed (Dot line text) old body told = told ≡ echoed old.settings text (told_of old.settings.bail line body)
 
   -- the turn of one member, with the calls that it makes of the full-text tables
   pub record Turn (member : Member) (old new : Shell P S) (all : Deeds) : Type 0 where
-    pub body : Told
+    pub body : Answer
     pub done : Body member old new body
     pub tells : Echoed member old body (told_by all)
     pub calls : all.calls ≡ calls_in member old new body done

@@ -1,46 +1,67 @@
 //! What a dot-command does in a session.
+ghost use Rattle.std.specs.Prelude.{◌≡◌, ◌⊎◌};
 ghost use Rattle.shell_text.specs.Dot.{dot_words_of};
-ghost use Rattle.plain_shell.specs.ToldViews.{told_as};
+ghost use Rattle.plain_shell.specs.OutputViews.{answer_as};
 ghost use Rattle.ft_statements.specs.DotViews.{command_as};
 ghost use Rattle.ft_statements.specs.Dots.{dot_command_of};
-ghost use Rattle.plain_shell.specs.DotParts.{behind_stop};
+ghost use Rattle.plain_shell.specs.DotParts as parts;
+ghost use Rattle.plain_shell.specs.Told.{lacks_memory};
 ghost use Rattle.ft_shell.specs.Turns.{DotOrLacks};
 ghost use Rattle.ft_shell.specs.Shell.{shell_of};
 
 use crate::import::import_turn;
 use crate::listing::tables_turn;
 use ft_index::FullText;
-use ft_statements::{DotCommand, dot_command};
-use plain_shell::{Source, Told, behind_stop, print_turn, set_turn, unknown, usage_turn};
+use ft_statements::{DotCommand, FaultText, apply, dot_command, print_text};
+use plain_shell::{Answer, Complaint, Output, Source};
 use shell_text::{Settings, dot_words};
 use sqlite::{Alter, Connection};
 use std::alloc::Global;
 
-/// Does what a dot-command says.
-pub(crate) fn dot_turn<P: Alter, S: Alter, F: Source>(
+// Does what a dot-command says.
+fn dot_turn<P: Alter, S: Alter, F: Source>(
     alloc: Global,
     settings: &mut Settings,
     plain: &mut Connection<P>,
     full_text: &mut FullText<S>,
     source: &mut F,
-    line: u64,
     command: &DotCommand,
-) -> Told
-    ensures { DotOrLacks P.Store S.Store line
+) -> Answer
+    ensures { DotOrLacks P.Store S.Store
         (shell_of settings.old plain.old full_text.old (F.holds source.old))
-        (shell_of settings.new plain.new full_text.new (F.holds source.new)) (told_as result)
+        (shell_of settings.new plain.new full_text.new (F.holds source.new)) (answer_as result)
         (command_as command.now) }
 {
     match command {
-        DotCommand::Print(words) => print_turn(alloc, settings, line, words.as_slice()),
-        DotCommand::Import(what) => import_turn(
-            alloc, settings, plain, full_text, source, what, line,
-        ),
-        DotCommand::Tables => tables_turn(alloc, settings, plain, full_text, line),
-        DotCommand::Quit => Told::quits(alloc),
-        DotCommand::Usage(usage) => usage_turn(alloc, settings, line, usage),
-        DotCommand::Unknown => unknown(alloc, settings, line),
-        _ => set_turn(alloc, settings, line, command),
+        DotCommand::Print(words) => {
+            let text = print_text(alloc, words.as_slice())?;
+            Ok(Output::Bytes(text.into_bytes()))
+        }
+        DotCommand::Import(what) => import_turn(alloc, settings, plain, full_text, source, what),
+        DotCommand::Tables => tables_turn(alloc, plain, full_text),
+        DotCommand::Quit => Ok(Output::Quit),
+        DotCommand::Usage(usage) => Err(Complaint::from(FaultText::Usage(usage))),
+        DotCommand::Unknown => Err(Complaint::fixed("unknown dot-command")),
+        _ => set_turn(settings, command),
+    }
+}
+
+// Changes a setting.
+fn set_turn(settings: &mut Settings, command: &DotCommand) -> Answer
+    ensures { parts.Sets (command_as command.now) settings.old settings.new (answer_as result)
+        ⊎ ((settings.new ≡ settings.old) × (answer_as result ≡ lacks_memory)) }
+{
+    apply(settings, command)?;
+    Ok(Output::Nothing)
+}
+
+// What stands behind the full stop at its front.
+fn behind_stop(text: &str) -> &str
+    ensures { result.now ≡ parts.behind_stop text.now }
+{
+    match text.as_bytes() {
+        [b'.', ..] => &text[1..],
+        _ => text,
     }
 }
 
@@ -51,19 +72,14 @@ pub(crate) fn dot_line_turn<P: Alter, S: Alter, F: Source>(
     plain: &mut Connection<P>,
     full_text: &mut FullText<S>,
     source: &mut F,
-    line: u64,
     text: &str,
-) -> Told
-    ensures { DotOrLacks P.Store S.Store line
+) -> Answer
+    ensures { DotOrLacks P.Store S.Store
         (shell_of settings.old plain.old full_text.old (F.holds source.old))
-        (shell_of settings.new plain.new full_text.new (F.holds source.new)) (told_as result)
-        (dot_command_of (dot_words_of (behind_stop text.now))) }
+        (shell_of settings.new plain.new full_text.new (F.holds source.new)) (answer_as result)
+        (dot_command_of (dot_words_of (parts.behind_stop text.now))) }
 {
-    let Ok(words) = dot_words(alloc, behind_stop(text)) else {
-        return Told::lacks_memory(alloc, settings, line);
-    };
-    match dot_command(alloc, words.as_slice()) {
-        Ok(command) => dot_turn(alloc, settings, plain, full_text, source, line, &command),
-        Err(_) => Told::lacks_memory(alloc, settings, line),
-    }
+    let words = dot_words(alloc, behind_stop(text))?;
+    let command = dot_command(alloc, words.as_slice())?;
+    dot_turn(alloc, settings, plain, full_text, source, &command)
 }

@@ -1,74 +1,54 @@
 //! What a statement of plain SQL does in a session.
 ghost use Rattle.std.specs.Prelude.{◌≡◌, string_bytes, option_map};
-ghost use Rattle.plain_shell.specs.ToldViews.{told_as};
+ghost use Rattle.plain_shell.specs.OutputViews.{answer_as};
 ghost use Rattle.ft_shell.specs.PlainTurns.{CommandTurn, PlainTurn, OrNothing};
 ghost use Rattle.shell_text.specs.Words.{words_of};
 
-use crate::full_text_turn::maybe_note;
+use crate::full_text_turn::note_turn;
 use ft_index::FullText;
-use ft_statements::{PlainStatement, read_plain};
-use plain_shell::{Told, query_turn, refusal};
+use ft_statements::read_plain;
+use plain_shell::{Answer, Output, query_turn, refusal};
 use shell_text::{Settings, SqlWord};
 use sqlite::{Alter, Connection};
 use std::alloc::Global;
 
+// Runs what is no query. The name of the table that it makes is noted.
 fn command_turn<P: Alter, S: Alter>(
     alloc: Global,
-    settings: &Settings,
     plain: &mut Connection<P>,
     full_text: &mut FullText<S>,
-    line: u64,
     text: &str,
-    made: Option<&str>,
-) -> Told
-    ensures { CommandTurn P.Store S.Store settings.now line text.now
-        (option_map (λ n. n.now) made.entry) plain.old plain.new full_text.old full_text.new
-        (told_as result) }
+    made: &Option<String>,
+) -> Answer
+    ensures { CommandTurn P.Store S.Store text.now (option_map string_bytes made.now) plain.old
+        plain.new full_text.old full_text.new (answer_as result) }
 {
     match plain.execute(text, &[]) {
-        Ok(_) => maybe_note(alloc, settings, full_text, line, made),
-        Err(error) => refusal(alloc, settings, line, error),
+        Ok(_) => match made {
+            Some(name) => note_turn(full_text, name.as_str(), String::new(alloc)),
+            None => Ok(Output::Nothing),
+        },
+        Err(error) => Err(refusal(alloc, error)),
     }
 }
 
-// The name of the table that it makes.
-fn made_in(statement: &PlainStatement) -> Option<&str>
-    ensures { option_map (λ n. n.now) result ≡ option_map string_bytes statement.now.made }
-{
-    match &statement.made {
-        Some(name) => Some(name.as_str()),
-        None => None,
-    }
-}
-
-/// Runs a statement of plain SQL, and tells its answer. The words are those of the text.
+/// Runs a statement of plain SQL. The words are those of the text.
 pub(crate) fn plain_turn<P: Alter, S: Alter>(
     alloc: Global,
     settings: &Settings,
     plain: &mut Connection<P>,
     full_text: &mut FullText<S>,
-    line: u64,
     text: &str,
     words: &[SqlWord],
-) -> Told
+) -> Answer
     requires { words.now ≡ words_of text.now }
-    ensures { OrNothing (PlainTurn P.Store S.Store settings.now line text.now plain.old plain.new
-        full_text.old full_text.new (told_as result)) settings.now line plain.old plain.new
-        full_text.old full_text.new (told_as result) }
+    ensures { OrNothing (PlainTurn P.Store S.Store settings.now text.now plain.old plain.new
+        full_text.old full_text.new (answer_as result)) plain.old plain.new full_text.old
+        full_text.new (answer_as result) }
 {
-    let Ok(statement) = read_plain(alloc, text, words) else {
-        return Told::lacks_memory(alloc, settings, line);
-    };
+    let statement = read_plain(alloc, text, words)?;
     if statement.asks {
-        return query_turn(alloc, settings, plain, line, text);
+        return query_turn(alloc, settings, plain, text);
     }
-    command_turn(
-        alloc,
-        settings,
-        plain,
-        full_text,
-        line,
-        text,
-        made_in(&statement),
-    )
+    command_turn(alloc, plain, full_text, text, &statement.made)
 }

@@ -15,7 +15,7 @@ use crate::unit_turn::unit_turn;
 use ft_index::FullText;
 use ft_statements::split_text;
 use plain_shell::{
-    Feed, Outputs, Refusal, RunFault, Source, Status, Told, echo_text, end_refusal, flush,
+    Complaint, Feed, Outputs, Refusal, RunFault, Source, Status, echo_text, end_refusal, flush,
     is_memory, is_over, read_chunk, tell,
 };
 use ram_disk::Honest;
@@ -320,7 +320,8 @@ impl<P: Alter, S: Alter> Session<P, S> {
         ensures writers { SameWriters outputs.old outputs.new }
     {
         echo_text(self.settings.echo(), unit.text.as_str(), outputs.out)?;
-        let told = unit_turn(
+        let bail = self.settings.bail();
+        let answer = unit_turn(
             self.alloc,
             &mut self.settings,
             &mut self.plain,
@@ -328,7 +329,7 @@ impl<P: Alter, S: Alter> Session<P, S> {
             source,
             unit,
         );
-        tell(&told, outputs)
+        tell(&answer, unit.line, bail, outputs)
     }
 
     // The fault line of a line that is refused, or of the end of the input.
@@ -344,9 +345,8 @@ impl<P: Alter, S: Alter> Session<P, S> {
             (moment O.contents E.contents (lent self.new holds) outputs.new) }
         ensures writers { SameWriters outputs.old outputs.new }
     {
-        let text = split_text(&refusal.fault);
-        let told = Told::blames(self.alloc, &self.settings, refusal.line, text);
-        tell(&told, outputs)
+        let answer = Err(Complaint::fixed(split_text(&refusal.fault)));
+        tell(&answer, refusal.line, self.settings.bail(), outputs)
     }
 
     fn refuse_some<O: Write, E: Write>(

@@ -1,5 +1,5 @@
 -- Meaning. The texts of fault lines, all of them own choices.
-use Rattle.std.specs.Prelude.{ℕ, List, [], ◌∷◌, ◌++◌, codes, decimal}
+use Rattle.std.specs.Prelude.{ℕ, ℤ, List, [], ◌∷◌, ◌++◌, codes, decimal, string_bytes}
 use Rattle.std.specs.Fmt.{signed_decimal}
 use Rattle.shell_text.specs.declared.units.SplitFault.{SplitFault}
 use Rattle.shell_text.specs.declared.units.SplitFault.TheVariants as split
@@ -7,6 +7,8 @@ use Rattle.ft_values.specs.declared.fault.Fault.{Fault}
 use Rattle.ft_values.specs.declared.fault.Fault.TheVariants as faults
 use Rattle.ft_statements.specs.declared.statement.StatementFault.{StatementFault}
 use Rattle.ft_statements.specs.declared.statement.StatementFault.TheVariants as statements
+use Rattle.ft_statements.specs.declared.texts.FaultText.{FaultText}
+use Rattle.ft_statements.specs.declared.texts.FaultText.TheVariants as texts
 
 -- the fault line of a text, for what begins on the line of this number
 abbrev pub fault_line : ℕ → List ℕ → List ℕ
@@ -29,6 +31,10 @@ abbrev pub statement_text : StatementFault → List ℕ
 statement_text statements.Syntax = codes "unsupported full-text statement"
 statement_text statements.Memory = codes "out of memory"
 
+-- a full-text command names a docid that a row has already
+abbrev pub taken_text : ℤ → List ℕ
+taken_text docid = codes "docid already exists: " ++ signed_decimal docid
+
 -- why a full-text command was refused
 abbrev pub fault_text : Fault → List ℕ
 fault_text faults.Module = codes "no such module"
@@ -50,8 +56,15 @@ fault_text faults.HasNul = codes "NUL character in value"
 fault_text faults.Context = codes "unable to use function offsets in the requested context"
 fault_text faults.Malformed = codes "malformed MATCH expression"
 fault_text faults.TooLarge = codes "MATCH expression too large"
-fault_text (faults.DocidTaken docid) = codes "docid already exists: " ++ signed_decimal docid
+fault_text (faults.DocidTaken docid) = taken_text docid
 fault_text faults.DocidFull = codes "no docid left"
 fault_text faults.Corrupt = codes "database disk image is malformed"
 fault_text faults.Store = codes "full-text store refused"
 fault_text faults.Memory = codes "out of memory"
+
+-- the text of a fault line as the code holds it
+abbrev pub text_as : FaultText → List ℕ
+text_as (texts.Fixed text) = text.now
+text_as (texts.Usage usage) = usage_text usage.now
+text_as (texts.DocidTaken docid) = taken_text docid
+text_as (texts.Made text) = string_bytes text

@@ -24,4 +24,4 @@ pub use crate::replies::write_reply;
 pub use crate::setting::{apply, print_text};
 pub use crate::statement::{Class, StatementFault, read_statement};
 pub use crate::tables::listed_tables;
-pub use crate::texts::{fault_line, fault_text, split_text, statement_text, usage_text};
+pub use crate::texts::{FaultText, fault_text, split_text, statement_text};

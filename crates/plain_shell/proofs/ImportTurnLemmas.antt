@@ -5,7 +5,6 @@ use Rattle.std.proofs.lemmas.List.{drop-map, length-map, take_all}
 use Rattle.std.specs.List.{enumerate_from}
 use Rattle.sqlite.specs.Store.{Ghosts}
 use Rattle.sqlite.specs.Held.{Held, state}
-use Rattle.shell_text.specs.Print.{Settings}
 use Rattle.plain_shell.specs.declared.plain_import.ImportFault.{ImportFault}
 use Rattle.plain_shell.specs.declared.plain_import.ImportFault.TheVariants.{Refused, Memory}
 use Rattle.ft_statements.specs.Dots.{Import}
@@ -15,7 +14,7 @@ use Rattle.plain_shell.specs.PlainImports.{HasColumns, Stays, CommitsNothing, im
 use Rattle.plain_shell.specs.IntoTables.{fault_words, IntoTable, uncounted, declined, no_memory}
 use Rattle.plain_shell.specs.Records.{kept, records_in}
 use Rattle.ft_statements.specs.Views.{texts_of}
-use Rattle.plain_shell.specs.Told.{Told, blames, warned, followed, silent}
+use Rattle.plain_shell.specs.Told.{Answer, blames}
 
 -- ---- records and their numbers
 
@@ -65,28 +64,23 @@ module _ {P : Type 0} (g : Ghosts P) where
   pub nothing_done : (a : Held P) → IfClean g a a (CommitsNothing (state g a) (state g a))
   nothing_done a clean = (clean, all_kept (state g a))
 
-  module _ (settings : Settings) (line : ℕ) (what : Import) (rows : List (ℕ × List (List ℕ))) where
-    pub count_refused : {T : Type 0} (fault : ImportFault) (old new : Held P) (told : Told) → IfClean g old new (CommitsNothing (state g old) (state g new))
-        → (◌≡◌ {A = Result T ImportFault} (Err fault) (Err Refused) → Uncounted g what.table old new) → told ≡ blames settings line (fault_words fault) → IntoTable g settings line what rows old new told
-    count_refused Refused old new told keeps why is = uncounted (why refl) (keeps, is)
-    count_refused Memory old new told keeps why is = no_memory (keeps, is)
+  module _ (what : Import) (rows : List (ℕ × List (List ℕ))) where
+    pub count_refused : {T : Type 0} (fault : ImportFault) (old new : Held P) (answer : Answer) → IfClean g old new (CommitsNothing (state g old) (state g new))
+        → (◌≡◌ {A = Result T ImportFault} (Err fault) (Err Refused) → Uncounted g what.table old new) → answer ≡ blames (fault_words fault) → IntoTable g what rows old new answer
+    count_refused Refused old new answer keeps why is = uncounted (why refl) (keeps, is)
+    count_refused Memory old new answer keeps why is = no_memory (keeps, is)
 
-    pub import_refused : {T : Type 0} (fault : ImportFault) (n : ℕ) (old counted new : Held P) (told : Told)
+    pub import_refused : {T : Type 0} (fault : ImportFault) (n : ℕ) (old counted new : Held P) (answer : Answer)
         → IfClean g old counted (Stays (state g old) (state g counted) × HasColumns (state g old).now.schema what.table n) → IfClean g counted new (CommitsNothing (state g counted) (state g new))
-        → (◌≡◌ {A = Result T ImportFault} (Err fault) (Err Refused) → Declines g (import_steps None what.table n (records_in rows)) counted new) → told ≡ blames settings line (fault_words fault) → IntoTable g settings line what rows old new told
-    import_refused Refused n old counted new told count keeps why is = declined n counted count (why refl) (counted_kept old counted new count keeps, is)
-    import_refused Memory n old counted new told count keeps why is = no_memory (counted_kept old counted new count keeps, is)
+        → (◌≡◌ {A = Result T ImportFault} (Err fault) (Err Refused) → Declines g (import_steps None what.table n (records_in rows)) counted new) → answer ≡ blames (fault_words fault) → IntoTable g what rows old new answer
+    import_refused Refused n old counted new answer count keeps why is = declined n counted count (why refl) (counted_kept old counted new count keeps, is)
+    import_refused Memory n old counted new answer count keeps why is = no_memory (counted_kept old counted new count keeps, is)
 
 -- ---- the steps of an import, said in other words
 
 pub same_steps : (names : Option (List (List ℕ))) (table_a table_b : List ℕ) (n m : ℕ) (found : List (List (List ℕ))) (from : ℕ) → table_a ≡ table_b → n ≡ m →
     import_steps names table_a n found ≡ import_steps names table_b m (records_in (enumerate_from from found))
 same_steps names table_a table_b n m found from tables counts = λ j. import_steps names (tables j) (counts j) (sym (records_numbered from found) j)
-
--- ---- warnings alone
-
-pub then_silent : (lines : List ℕ) → warned lines ≡ followed (warned lines) silent
-then_silent lines = ap (λ e. record { out = []; err = e; faults = 0; ends = false }) (sym (append-nil lines))
 
 -- ---- rows of a file
 

@@ -1,8 +1,7 @@
 -- What `sqlite` says of a query that is prepared and then run, where the disk is clean as it ends.
 use Rattle.std.proofs.Common.{◌≡◌, ℕ, List, [], refl, subst, sym, arith, inl}
 use Rattle.std.specs.Prelude.{MatchBool, false}
-use Rattle.shell_text.specs.Print.{Settings}
-use Rattle.plain_shell.specs.Told.{Told, blames, lacks_memory}
+use Rattle.plain_shell.specs.Told.{Answer, blames, lacks_memory}
 use Rattle.sqlite_trees.specs.View.{doubt}
 use Rattle.sqlite.specs.Store.{Ghosts}
 use Rattle.sqlite.specs.Tree.{Trees}
@@ -52,5 +51,5 @@ asked_answered g text old mid new s rows first same shape second shown = record 
   shows = if_clean g mid new second (λ clean. subst (λ t. Shown t [] (state g mid) (state g new) rows) (same (clean_before second clean)).0 (shown clean));
 }
 
-pub words_told : (settings : Settings) (line : ℕ) (e : Error) (told : Told) (words : List ℕ) → is_memory_error e ≡ false → told ≡ blames settings line words → TellsRefusal settings line e told
-words_told settings line e told words other is = subst (λ b. MatchBool b (told ≡ lacks_memory settings line) ((words : List ℕ) × (told ≡ blames settings line words))) (sym other) (words, is)
+pub words_told : (e : Error) (answer : Answer) (words : List ℕ) → is_memory_error e ≡ false → answer ≡ blames words → TellsRefusal e answer
+words_told e answer words other is = subst (λ b. MatchBool b (answer ≡ lacks_memory) ((words : List ℕ) × (answer ≡ blames words))) (sym other) (words, is)

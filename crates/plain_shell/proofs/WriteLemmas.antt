@@ -1,6 +1,8 @@
 -- What writers hold.
-use Rattle.std.proofs.Common.{ℕ, List, [], ◌++◌, take, drop, Option, Some, None, Result, Ok, Err, refl, ap, sym, ◌∙◌, append_assoc, append-nil}
-use Rattle.std.proofs.lemmas.List.{take-append-drop}
+use Rattle.std.proofs.Common.{◌≡◌, ◌<◌, ◌+◌, ℕ, List, [], ◌∷◌, ◌++◌, take, drop, get_or, length, codes, Option, Some, None, Result, Ok, Err, refl, ap, sym, ◌∙◌, append_assoc, append-nil, Bor}
+use Rattle.std.specs.List.{flat_map}
+use Rattle.std.proofs.lemmas.List.{take-append-drop, take_more, drop_more}
+use Rattle.std.proofs.lemmas.Grind.{flat_map-append}
 use Rattle.std.specs.Prelude.{IsErrAnd}
 use Rattle.std.specs.Io.KnownBytes.{Appends, Keeps}
 use Rattle.shell_text.specs.Print.{AppendsFront}
@@ -55,3 +57,24 @@ sends_err Q (Err e) a b x is front = front
 
 pub same_then : {O E : Type 0} (a b c : Outputs O E) → SameWriters a b → SameWriters b c → SameWriters a c
 same_then a b c h k = (k.0 ∙ h.0, k.1 ∙ h.1)
+
+-- ---- parts, one behind the other
+
+abbrev text_in : Bor (List ℕ) → List ℕ
+text_in part = part.now
+
+pub parts_more : (parts : List (Bor (List ℕ))) (i : ℕ) (d : Bor (List ℕ)) (x : List ℕ) → i < length parts → x ≡ (get_or parts i d).now → flat_map text_in (take (i + 1) parts) ≡ flat_map text_in (take i parts) ++ x
+parts_more parts i d x within is =
+    ap (flat_map text_in) (take_more parts i d within) ∙ flat_map-append text_in (take i parts) (get_or parts i d ∷ [])
+    ∙ ap (λ y. flat_map text_in (take i parts) ++ y) (append-nil (get_or parts i d).now ∙ sym is)
+
+pub parts_split : (parts : List (Bor (List ℕ))) (i : ℕ) (d : Bor (List ℕ)) (x : List ℕ) → i < length parts → x ≡ (get_or parts i d).now →
+    flat_map text_in (take i parts) ++ (x ++ flat_map text_in (drop (i + 1) parts)) ≡ flat_map text_in parts
+parts_split parts i d x within is =
+    ap (λ y. flat_map text_in (take i parts) ++ (y ++ flat_map text_in (drop (i + 1) parts))) is
+    ∙ ap (λ later. flat_map text_in (take i parts) ++ flat_map text_in later) (sym (drop_more parts i d within))
+    ∙ sym (flat_map-append text_in (take i parts) (drop i parts)) ∙ ap (flat_map text_in) (take-append-drop i parts)
+
+-- the front of a fault line, and its text
+pub line_split : (number rest : List ℕ) → (codes "Error: near line " ++ (number ++ codes ": ")) ++ rest ≡ codes "Error: near line " ++ (number ++ (codes ": " ++ rest))
+line_split number rest = ap (λ t. codes "Error: near line " ++ t) (append_assoc number (codes ": ") rest)

@@ -8,7 +8,7 @@ use Rattle.sqlite_value.specs.declared.value.Value.{Value}
 use Rattle.sqlite_value.specs.declared.value.Value.TheVariants as value
 use Rattle.shell_text.specs.Print as print
 use Rattle.shell_text.specs.Print.{Settings, Table, printed}
-use Rattle.plain_shell.specs.Told.{Told, says, blames}
+use Rattle.plain_shell.specs.Told.{Answer, says, blames}
 
 abbrev pub is_float : Value → Bool
 is_float (value.Real x) = true
@@ -44,6 +44,6 @@ abbrev pub has_float : List Row → Bool
 has_float rows = list_any (list_any is_float) rows
 
 -- An answer with a float is refused before anything is printed (own choice).
-abbrev pub rows_told : Settings → ℕ → List (List ℕ) → List Row → Told
-rows_told settings line names rows =
-    if has_float rows then blames settings line (codes "floating-point value in result") else says (printed settings (table_of names rows))
+abbrev pub rows_told : Settings → List (List ℕ) → List Row → Answer
+rows_told settings names rows =
+    if has_float rows then blames (codes "floating-point value in result") else says (printed settings (table_of names rows))

@@ -2,6 +2,7 @@
 pub mod Records
 pub mod Imports
 pub mod Told
+pub mod FaultWords
 pub mod Sources
 pub mod Answers
 pub mod PlainStatements
@@ -11,5 +12,5 @@ pub mod Writing
 pub mod PlainImports
 pub mod IntoTables
 -- Steps
-pub mod ToldViews
+pub mod OutputViews
 pub mod Feeds

@@ -8,11 +8,10 @@ use Rattle.sqlite.specs.Held.{Held, state}
 use Rattle.sqlite.specs.State.{FailsToQuery, Shown}
 use Rattle.sqlite.specs.declared.error.Error.{Error}
 use Rattle.shell_text.specs.Print as print
-use Rattle.shell_text.specs.Print.{Settings}
 use Rattle.plain_shell.specs.Imports.{reading_of}
 use Rattle.plain_shell.specs.PlainStatements.{IfClean, is_memory_error}
 use Rattle.ft_statements.specs.Replies.{AreSorted, listed}
-use Rattle.plain_shell.specs.Told.{Told, says, lacks_memory, Tells}
+use Rattle.plain_shell.specs.Told.{Answer, says, lacks_memory, Tells}
 
 module _ {P : Type 0} (g : Ghosts P) where
   -- Whether a table can be read: `sqlite` answers a reading of it, or refuses that for another
@@ -40,8 +39,8 @@ module _ {P : Type 0} (g : Ghosts P) where
 
   -- The names of full-text tables and, of the noted names, those of tables that can be read, sorted
   -- and printed; or memory was wanting.
-  pub data Lists (settings : Settings) (line : ℕ) (own noted : List (List ℕ)) (old new : Held P) (told : Told) : Type 0 where
+  pub data Lists (own noted : List (List ℕ)) (old new : Held P) (answer : Answer) : Type 0 where
     tables : (found names : List (List ℕ)) → Finds noted old new found → AreSorted (listed own found) names
-        → Tells settings line (says (print.listed names)) told → Lists settings line own noted old new told
-    unsorted : (found : List (List ℕ)) → Finds noted old new found → told ≡ lacks_memory settings line → Lists settings line own noted old new told
-    untried : StopsTrying noted old new → told ≡ lacks_memory settings line → Lists settings line own noted old new told
+        → Tells (says (print.listed names)) answer → Lists own noted old new answer
+    unsorted : (found : List (List ℕ)) → Finds noted old new found → answer ≡ lacks_memory → Lists own noted old new answer
+    untried : StopsTrying noted old new → answer ≡ lacks_memory → Lists own noted old new answer

@@ -14,15 +14,15 @@ use Rattle.sqlite.specs.declared.error.Error.TheVariants.{SqliteFailure}
 use Rattle.sqlite.specs.declared.error.ErrorCode.TheVariants as code
 use Rattle.shell_text.specs.Print.{Settings}
 use Rattle.plain_shell.specs.Answers.{rows_told}
-use Rattle.plain_shell.specs.Told.{Told, blames, lacks_memory, Tells}
+use Rattle.plain_shell.specs.Told.{Answer, blames, lacks_memory, Tells}
 
 abbrev pub is_memory_error : Error → Bool
 is_memory_error (SqliteFailure code.OutOfMemory) = true
 is_memory_error _ = false
 
 -- the fault line of a refusal: its words are those of `sqlite`, but for want of memory
-abbrev pub TellsRefusal : Settings → ℕ → Error → Told → Type 0
-TellsRefusal settings line e told = MatchBool (is_memory_error e) (told ≡ lacks_memory settings line) ((words : List ℕ) × (told ≡ blames settings line words))
+abbrev pub TellsRefusal : Error → Answer → Type 0
+TellsRefusal e answer = MatchBool (is_memory_error e) (answer ≡ lacks_memory) ((words : List ℕ) × (answer ≡ blames words))
 
 module _ {P : Type 0} (g : Ghosts P) where
   -- A step of the plain database. All that `sqlite` says has the premise that the disk is clean as
@@ -55,7 +55,7 @@ module _ {P : Type 0} (g : Ghosts P) where
     unprepared : Refuses text old new e → FailsToAnswer text old new e
     refused : (prepared : Held P) (names : List (List ℕ)) → Prepares text old prepared names → Refuses text prepared new e → FailsToAnswer text old new e
 
-  pub data QueryTurn (settings : Settings) (line : ℕ) (text : List ℕ) (old new : Held P) (told : Told) : Type 0 where
-    answered : (names : List (List ℕ)) (rows : List Row) → Answers text old new names rows → Tells settings line (rows_told settings line names rows) told
-        → QueryTurn settings line text old new told
-    refused : (e : Error) → FailsToAnswer text old new e → TellsRefusal settings line e told → QueryTurn settings line text old new told
+  pub data QueryTurn (settings : Settings) (text : List ℕ) (old new : Held P) (answer : Answer) : Type 0 where
+    answered : (names : List (List ℕ)) (rows : List Row) → Answers text old new names rows → Tells (rows_told settings names rows) answer
+        → QueryTurn settings text old new answer
+    refused : (e : Error) → FailsToAnswer text old new e → TellsRefusal e answer → QueryTurn settings text old new answer

@@ -6,11 +6,11 @@ ghost use Rattle.sqlite_value.specs.Order.{column};
 ghost use Rattle.sqlite_value.specs.Value.{owned};
 ghost use Rattle.shell_text.specs.Print as print;
 ghost use Rattle.plain_shell.specs.Told.{Tells};
-ghost use Rattle.plain_shell.specs.ToldViews.{told_as};
+ghost use Rattle.plain_shell.specs.OutputViews.{answer_as};
 ghost use Rattle.plain_shell.specs.Answers as forms;
 
-use crate::told::Told;
-use shell_text::{Cell, Grid, PrintFault, Settings, write_grid};
+use crate::output::{Answer, Complaint, Output};
+use shell_text::{Cell, Grid, Settings, write_grid};
 use sqlite::Row;
 use sqlite_value::value::{Bytes, ValueRef};
 use std::alloc::{AllocError, Global};
@@ -55,10 +55,7 @@ fn cell_of(alloc: Global, value: ValueRef<'_>) -> Result<Cell, AllocError>
 fn value_at<'r>(row: &'r Row, at: usize) -> ValueRef<'r>
     ensures { owned result ≡ column row.now at }
 {
-    match row.get_ref(at) {
-        Ok(value) => value,
-        Err(_) => ValueRef::Null,
-    }
+    row.get_ref(at).unwrap_or(ValueRef::Null)
 }
 
 fn has_float(row: &Row) -> bool
@@ -72,6 +69,12 @@ fn has_float(row: &Row) -> bool
     false
 }
 
+fn have_float(rows: &[Row]) -> bool
+    ensures { result ≡ forms.has_float rows.now }
+{
+    rows.iter().any(|row| has_float(row))
+}
+
 fn row_cells(alloc: Global, row: &Row) -> Result<Vec<Cell>, AllocError>
     ensures { IfOk result (λ cells. map print.value_of cells.items
         ≡ map forms.shown_value row.now) }
@@ -81,17 +84,6 @@ fn row_cells(alloc: Global, row: &Row) -> Result<Vec<Cell>, AllocError>
         cells.push(cell_of(alloc, value_at(row, at))?)?;
     }
     Ok(cells)
-}
-
-fn have_float(rows: &[Row]) -> bool
-    ensures { result ≡ forms.has_float rows.now }
-{
-    for row in rows {
-        if has_float(row) {
-            return true;
-        }
-    }
-    false
 }
 
 fn all_cells(alloc: Global, rows: &[Row]) -> Result<Vec<Vec<Cell>>, AllocError>
@@ -109,12 +101,10 @@ fn all_cells(alloc: Global, rows: &[Row]) -> Result<Vec<Vec<Cell>>, AllocError>
 fn column_name(alloc: Global, place: usize, name: &[u8]) -> Result<String, AllocError>
     ensures { IfOk result (λ text. string_bytes text ≡ forms.column_name place name.now) }
 {
-    if !name.is_empty() {
-        if let Some(text) = utf8_of(name) {
-            return String::from_str(alloc, text);
-        }
+    match utf8_of(name) {
+        Some(text) if !text.is_empty() => String::from_str(alloc, text),
+        _ => format!(in alloc; "column{place}"),
     }
-    format!(in alloc; "column{place}")
 }
 
 fn column_names(alloc: Global, names: &[Bytes]) -> Result<Vec<String>, AllocError>
@@ -127,40 +117,23 @@ fn column_names(alloc: Global, names: &[Bytes]) -> Result<Vec<String>, AllocErro
     Ok(texts)
 }
 
-fn printed(
+/// What is told of an answer with these columns.
+pub(crate) fn rows_told(
     alloc: Global,
     settings: &Settings,
     names: &[Bytes],
     rows: &[Row],
-) -> Result<Vec<u8>, PrintFault>
-    ensures { IfOk result (λ bytes. bytes.items
-        ≡ print.printed settings.now (forms.table_of names.now rows.now)) }
+) -> Answer
+    ensures { Tells (forms.rows_told settings.now names.now rows.now) (answer_as result) }
 {
+    if have_float(rows) {
+        return Err(Complaint::fixed("floating-point value in result"));
+    }
     let grid = Grid {
         names: column_names(alloc, names)?,
         rows: all_cells(alloc, rows)?,
     };
     let mut bytes: Vec<u8> = Vec::new(alloc);
     write_grid(alloc, settings, &grid, &mut bytes)?;
-    Ok(bytes)
-}
-
-/// What is told of an answer with these columns.
-pub(crate) fn rows_told(
-    alloc: Global,
-    settings: &Settings,
-    line: u64,
-    names: &[Bytes],
-    rows: &[Row],
-) -> Told
-    ensures { Tells settings.now line (forms.rows_told settings.now line names.now rows.now)
-        (told_as result) }
-{
-    if have_float(rows) {
-        return Told::blames(alloc, settings, line, "floating-point value in result");
-    }
-    match printed(alloc, settings, names, rows) {
-        Ok(bytes) => Told::says(alloc, bytes),
-        Err(_) => Told::lacks_memory(alloc, settings, line),
-    }
+    Ok(Output::Bytes(bytes))
 }

@@ -12,13 +12,15 @@ use ft_content::{Command, Value};
 use shell_text::{Settings, is_csv_separator};
 use std::alloc::{AllocError, Global};
 
-// Puts a name between quotation marks behind a text.
+// Puts a name between quotation marks behind a text. Each mark in it is doubled.
 fn push_identifier(text: &mut String, name: &str) -> Result<(), AllocError>
     ensures { OnOk result (string_bytes text.new
         ≡ string_bytes text.old ++ forms.identifier name.now) }
 {
     text.push('"')?;
-    push_all_doubled(text, name)?;
+    for c in name.chars() {
+        push_doubled(text, c)?;
+    }
     text.push('"')?;
     Ok(())
 }
@@ -28,21 +30,9 @@ fn push_doubled(text: &mut String, c: char) -> Result<(), AllocError>
     ensures { OnOk result (string_bytes text.new ≡ string_bytes text.old ++ forms.doubled c) }
 {
     if c == '"' {
-        text.push_str("\"\"")?;
-    } else {
         text.push(c)?;
     }
-    Ok(())
-}
-
-// Puts the characters of a name behind a text, with two quotation marks for one.
-fn push_all_doubled(text: &mut String, name: &str) -> Result<(), AllocError>
-    ensures { OnOk result (string_bytes text.new
-        ≡ string_bytes text.old ++ flat_map forms.doubled (chars name.now)) }
-{
-    for c in name.chars() {
-        push_doubled(text, c)?;
-    }
+    text.push(c)?;
     Ok(())
 }
 

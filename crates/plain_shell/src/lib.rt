@@ -1,33 +1,29 @@
-//! The shell without full-text tables: what a turn tells, plain statements, imports into plain
+//! The shell without full-text tables: what a turn answers, plain statements, imports into plain
 //! tables, and the reading and writing of a run.
 #![tactic(auto)]
 
 mod answers;
-mod dots;
 mod feed;
 mod imports;
 mod into_tables;
 mod listing;
+mod output;
 mod plain_import;
 mod queries;
 mod readable;
 mod records;
-mod replies;
 mod run;
 mod source;
-mod told;
 mod written;
 
-pub use crate::dots::{behind_stop, print_turn, set_turn, unknown, usage_turn};
 pub use crate::feed::{Feed, Refusal, end_refusal, is_memory};
 pub use crate::imports::{delimiter_of, insert_of};
-pub use crate::into_tables::{import_refusal, into_table};
+pub use crate::into_tables::into_table;
 pub use crate::listing::list_turn;
+pub use crate::output::{Answer, Complaint, Output};
 pub use crate::plain_import::{ImportFault, import_records};
 pub use crate::queries::{query_turn, refusal};
 pub use crate::readable::reads_table;
 pub use crate::records::{left_records, skipped, warnings};
-pub use crate::replies::{fault_told, reply_told};
 pub use crate::run::{Outputs, RunFault, Status, echo_text, flush, is_over, read_chunk, tell};
-pub use crate::source::{Source, SourceFault, unfetched};
-pub use crate::told::{FaultText, Told};
+pub use crate::source::{Source, SourceFault};

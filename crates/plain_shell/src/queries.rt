@@ -1,14 +1,15 @@
 //! What a query does in a session, and what is told of a refusal.
 ghost use Rattle.std.specs.Prelude.{◌≡◌, IfOk, IfErr};
-ghost use Rattle.plain_shell.specs.ToldViews.{told_as};
+ghost use Rattle.plain_shell.specs.OutputViews.{answer_as, complaint_as};
 ghost use Rattle.plain_shell.specs.PlainStatements as turns;
 ghost use Rattle.plain_shell.specs.PlainStatements.{TellsRefusal, Answers, FailsToAnswer, QueryTurn};
 
 use crate::answers::rows_told;
-use crate::told::Told;
+use crate::output::{Answer, Complaint};
+use ft_statements::FaultText;
 use shell_text::Settings;
 use sqlite::{Alter, Connection, Error, ErrorCode, Row, Statement};
-use std::alloc::Global;
+use std::alloc::{AllocError, Global};
 
 /// Whether an error is want of memory.
 pub(crate) fn is_memory_error(error: Error) -> bool
@@ -17,16 +18,16 @@ pub(crate) fn is_memory_error(error: Error) -> bool
     matches!(error, Error::SqliteFailure(ErrorCode::OutOfMemory))
 }
 
-/// The fault line of what `sqlite` refused.
-pub fn refusal(alloc: Global, settings: &Settings, line: u64, error: Error) -> Told
-    ensures { TellsRefusal settings.now line error (told_as result) }
+/// What is said of what `sqlite` refused.
+pub fn refusal(alloc: Global, error: Error) -> Complaint
+    ensures { TellsRefusal error (complaint_as result) }
 {
     if is_memory_error(error) {
-        return Told::lacks_memory(alloc, settings, line);
+        return Complaint::from(AllocError);
     }
     match format!(in alloc; "{error}") {
-        Ok(words) => Told::blames_text(alloc, settings, line, words),
-        Err(_) => Told::lacks_memory(alloc, settings, line),
+        Ok(words) => Complaint::from(FaultText::Made(words)),
+        Err(failed) => Complaint::from(failed),
     }
 }
 
@@ -46,19 +47,17 @@ pub fn query_turn<P: Alter>(
     alloc: Global,
     settings: &Settings,
     plain: &mut Connection<P>,
-    line: u64,
     text: &str,
-) -> Told
-    ensures { QueryTurn P.Store settings.now line text.now plain.old plain.new (told_as result) }
+) -> Answer
+    ensures { QueryTurn P.Store settings.now text.now plain.old plain.new (answer_as result) }
 {
     match asked(plain, text) {
         Ok((statement, rows)) => rows_told(
             alloc,
             settings,
-            line,
             statement.column_names(),
             rows.as_slice(),
         ),
-        Err(error) => refusal(alloc, settings, line, error),
+        Err(error) => Err(refusal(alloc, error)),
     }
 }

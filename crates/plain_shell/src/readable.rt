@@ -1,22 +1,25 @@
 //! Whether a plain table can be read.
+ghost use Rattle.std.specs.Result.{result_ok};
 ghost use Rattle.plain_shell.specs.Listings.{Tries};
 
 use crate::imports::reading_text;
 use crate::queries::is_memory_error;
 use sqlite::{Alter, Connection};
-use std::alloc::Global;
+use std::alloc::{AllocError, Global};
 
 /// Whether a table of this name can be read in the plain database: `sqlite` answers a reading of
-/// it. None is want of memory.
-pub fn reads_table<P: Alter>(alloc: Global, conn: &mut Connection<P>, name: &str) -> Option<bool>
-    ensures { Tries P.Store name.now result conn.old conn.new }
+/// it.
+pub fn reads_table<P: Alter>(
+    alloc: Global,
+    conn: &mut Connection<P>,
+    name: &str,
+) -> Result<bool, AllocError>
+    ensures { Tries P.Store name.now (result_ok result) conn.old conn.new }
 {
-    let Ok(text) = reading_text(alloc, name) else {
-        return None;
-    };
+    let text = reading_text(alloc, name)?;
     match conn.query_all(text.as_str(), &[]) {
-        Ok(_) => Some(true),
-        Err(error) if is_memory_error(error) => None,
-        Err(_) => Some(false),
+        Ok(_) => Ok(true),
+        Err(error) if is_memory_error(error) => Err(AllocError),
+        Err(_) => Ok(false),
     }
 }

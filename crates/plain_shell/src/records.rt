@@ -11,10 +11,7 @@ use std::fmt::Write;
 fn field_at(fields: &[String], at: usize) -> Option<&str>
     ensures { option_map (λ text. text.now) result ≡ slice_get (map string_bytes fields.now) at }
 {
-    match fields.get(at) {
-        Some(field) => Some(field.as_str()),
-        None => None,
-    }
+    fields.get(at).map(|field| field.as_str())
 }
 
 /// A record's fields in so many columns: cut, or filled with none, which is NULL.
@@ -79,10 +76,7 @@ pub fn warnings(
 pub fn skipped(skip: Option<u64>, count: usize) -> usize
     ensures { result ≡ min (unwrap_or skip 0) count }
 {
-    match skip {
-        Some(skip) => (skip as usize).min(count),
-        None => 0,
-    }
+    (skip.unwrap_or(0) as usize).min(count)
 }
 
 /// The records that are not skipped.

@@ -1,13 +1,13 @@
 //! How a run goes on from turn to turn, and how it ends.
-ghost use Rattle.std.specs.Prelude.{◌≡◌, ◌⊎◌, ◌≤◌, ◌<◌, ◌+◌, ◌-◌, ◌^◌, [], min, true, false, length, IfOk, IfErr, OnErr};
+ghost use Rattle.std.specs.Prelude.{◌≡◌, ◌⊎◌, ◌≤◌, ◌<◌, ◌^◌, [], true, false, length, IfOk, IfErr, OnErr};
 ghost use Rattle.std.specs.Io.KnownBytes.{Consumes, IsAtEnd, Keeps};
 ghost use Rattle.plain_shell.specs.declared.run.RunFault.TheVariants.{Memory, Write};
 ghost use Rattle.plain_shell.specs.Told as forms;
-ghost use Rattle.plain_shell.specs.ToldViews.{told_as};
+ghost use Rattle.plain_shell.specs.OutputViews.{answer_as};
 ghost use Rattle.plain_shell.specs.Writing.{SameWriters, Sends, Writes};
 
-use crate::told::Told;
-use crate::written::{Refused, write_echo, write_told};
+use crate::output::{Answer, Output};
+use crate::written::{Refused, write_answer, write_parts};
 use std::alloc::AllocError;
 use std::io::{Read, Write};
 use thiserror::Error;
@@ -90,36 +90,30 @@ pub fn flush<O: Write>(out: &mut O) -> Result<(), RunFault>
     ensures bytes { Keeps (O.contents out.old) (O.contents out.new) }
     ensures fault { IfErr result (λ fault. fault ≡ RunFault.Write) }
 {
-    match out.flush() {
-        Ok(()) => Ok(()),
-        Err(_) => Err(RunFault::Write),
-    }
+    out.flush().map_err(|_| RunFault::Write)
 }
 
-// How many fault lines there are with those of a turn.
-fn faults_with(faults: u64, told: &Told) -> u64
-    ensures { result ≡ min (faults + (told_as told.now).faults) (2 ^ 64 - 1) }
-{
-    match &told.fault {
-        Some(_) => faults.saturating_add(1),
-        None => faults,
-    }
-}
-
-/// Writes what a turn tells, and counts its fault line.
+/// Writes what a turn answers to what begins on this line, and counts its fault line. Where bail is
+/// on, a fault ends the session.
 pub fn tell<O: Write, E: Write>(
-    told: &Told,
+    answer: &Answer,
+    line: u64,
+    bail: bool,
     outputs: &mut Outputs<'_, O, E>,
 ) -> Result<(), RunFault>
     ensures writes { Writes O.contents E.contents result outputs.old outputs.new
-        (told_as told.now) }
+        (forms.told_of bail line (answer_as answer.now)) }
     ensures writers { SameWriters outputs.old outputs.new }
 {
-    write_told(told, outputs.out, outputs.err)?;
-    let status = outputs.status;
-    outputs.status = Status {
-        faults: faults_with(status.faults, told),
-        quit: status.quit || told.ends,
+    write_answer(answer, line, outputs.out, outputs.err)?;
+    let Status { faults, quit } = outputs.status;
+    outputs.status = match answer {
+        Ok(Output::Nothing | Output::Bytes(_) | Output::Warnings(_)) => Status { faults, quit },
+        Ok(Output::Quit) => Status { faults, quit: true },
+        Err(_) => Status {
+            faults: faults.saturating_add(1),
+            quit: quit || bail,
+        },
     };
     Ok(())
 }
@@ -132,7 +126,7 @@ pub fn echo_text<O: Write>(echo: bool, text: &str, out: &mut O) -> Result<(), Ru
     ensures fault { IfErr result (λ fault. fault ≡ RunFault.Write) }
 {
     if echo {
-        write_echo(out, text)?;
+        write_parts(out, &[text, "\n"])?;
         flush(out)?;
     }
     Ok(())

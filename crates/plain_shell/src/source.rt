@@ -1,11 +1,7 @@
 //! Where an import's file comes from.
 ghost use Rattle.std.specs.Prelude.{◌≡◌, ℕ, List, IfOk, IfErr};
-ghost use Rattle.plain_shell.specs.Sources.{Files, Gives, Refuses, fetch_words};
-ghost use Rattle.plain_shell.specs.Told.{blames};
-ghost use Rattle.plain_shell.specs.ToldViews.{told_as};
+ghost use Rattle.plain_shell.specs.Sources.{Files, Gives, Refuses};
 
-use crate::told::Told;
-use shell_text::Settings;
 use std::alloc::Global;
 use thiserror::Error;
 
@@ -33,17 +29,4 @@ pub trait Source {
         ensures bytes { IfOk result (λ bytes. Gives (holds self.old) name.now bytes.items) }
         ensures refused { IfErr result (λ fault. Refuses (holds self.old) name.now fault) }
         ensures same { (other : List ℕ) → holds self.new other ≡ holds self.old other };
-}
-
-/// The fault line of a file that is not fetched.
-pub fn unfetched(alloc: Global, settings: &Settings, line: u64, fault: SourceFault) -> Told
-    ensures { told_as result ≡ blames settings.now line (fetch_words fault) }
-{
-    match fault {
-        SourceFault::Missing | SourceFault::Read => {
-            Told::blames(alloc, settings, line, "cannot read file")
-        }
-        SourceFault::TooBig => Told::blames(alloc, settings, line, "file too big"),
-        SourceFault::Memory => Told::lacks_memory(alloc, settings, line),
-    }
 }

@@ -1,10 +1,13 @@
-//! What is told, written to the two outputs.
-ghost use Rattle.std.specs.Prelude.{◌≡◌, ◌∷◌, ◌++◌, []};
-ghost use Rattle.plain_shell.specs.ToldViews.{told_as, text_as};
-ghost use Rattle.ft_statements.specs.Texts.{fault_line};
+//! What a turn answers, written to the two outputs.
+ghost use Rattle.std.specs.Prelude.{◌++◌, ◌∷◌, []};
+ghost use Rattle.std.specs.List.{flat_map};
+ghost use Rattle.plain_shell.specs.Told.{fault_lines};
+ghost use Rattle.plain_shell.specs.OutputViews.{answer_as, lines_as};
+ghost use Rattle.ft_statements.specs.Texts.{fault_line, text_as};
 ghost use Rattle.plain_shell.specs.Writing.{Sends};
 
-use crate::told::{FaultLine, FaultText, Told};
+use crate::output::{Answer, Complaint, Output};
+use ft_statements::FaultText;
 use itoa::Buffer;
 use shell_text::write_out;
 use std::io::Write;
@@ -22,63 +25,81 @@ fn write_bytes<W: Write>(to: &mut W, bytes: &[u8]) -> Result<(), Refused>
     }
 }
 
-fn write_text<W: Write>(to: &mut W, text: &str) -> Result<(), Refused>
-    ensures { Sends result (W.contents to.old) (W.contents to.new) text.now }
+/// Writes texts, one behind the other.
+pub(crate) fn write_parts<W: Write>(to: &mut W, parts: &[&str]) -> Result<(), Refused>
+    ensures { Sends result (W.contents to.old) (W.contents to.new)
+        (flat_map (λ part. part.now) parts.now) }
 {
-    write_bytes(to, text.as_bytes())
+    for part in parts {
+        write_bytes(to, part.as_bytes())?;
+    }
+    Ok(())
 }
 
-fn fault_text_of(fault: &FaultLine) -> &str
-    ensures { result.now ≡ text_as fault.now.text }
+// A text and a line feed.
+fn write_text<W: Write>(to: &mut W, text: &FaultText) -> Result<(), Refused>
+    ensures { Sends result (W.contents to.old) (W.contents to.new) (text_as text.now ++ 10 ∷ []) }
 {
-    match &fault.text {
-        FaultText::Fixed(text) => text,
-        FaultText::Made(text) => text.as_str(),
+    match text {
+        FaultText::Fixed(text) => write_parts(to, &[text, "\n"]),
+        FaultText::Usage(usage) => write_parts(to, &["usage: ", usage, "\n"]),
+        FaultText::DocidTaken(docid) => {
+            let mut buffer = Buffer::new();
+            let docid = buffer.format(*docid);
+            write_parts(to, &["docid already exists: ", docid, "\n"])
+        }
+        FaultText::Made(text) => write_parts(to, &[text.as_str(), "\n"]),
     }
 }
 
-fn write_fault<W: Write>(to: &mut W, fault: &FaultLine) -> Result<(), Refused>
+// The fault line of what begins on the line of this number.
+fn write_fault<W: Write>(to: &mut W, line: u64, text: &FaultText) -> Result<(), Refused>
     ensures { Sends result (W.contents to.old) (W.contents to.new)
-        (fault_line fault.now.line (text_as fault.now.text)) }
+        (fault_line line (text_as text.now)) }
 {
     let mut buffer = Buffer::new();
-    write_text(to, "Error: near line ")?;
-    write_text(to, buffer.format(fault.line))?;
-    write_text(to, ": ")?;
-    write_echo(to, fault_text_of(fault))
+    let number = buffer.format(line);
+    write_parts(to, &["Error: near line ", number, ": "])?;
+    write_text(to, text)
 }
 
-/// The text of a unit, and a line feed.
-pub(crate) fn write_echo<W: Write>(to: &mut W, text: &str) -> Result<(), Refused>
-    ensures { Sends result (W.contents to.old) (W.contents to.new) (text.now ++ 10 ∷ []) }
+fn write_complaint<W: Write>(to: &mut W, line: u64, complaint: &Complaint) -> Result<(), Refused>
+    ensures { Sends result (W.contents to.old) (W.contents to.new)
+        (lines_as complaint.now.warnings ++ fault_line line (text_as complaint.now.text)) }
 {
-    write_text(to, text)?;
-    write_text(to, "\n")
-}
-
-fn write_err<W: Write>(to: &mut W, told: &Told) -> Result<(), Refused>
-    ensures { Sends result (W.contents to.old) (W.contents to.new) (told_as told.now).err }
-{
-    write_text(to, told.warnings.as_str())?;
-    match &told.fault {
-        Some(fault) => write_fault(to, fault),
-        None => Ok(()),
+    match &complaint.warnings {
+        Some(lines) => write_bytes(to, lines.as_bytes())?,
+        None => {}
     }
+    write_fault(to, line, &complaint.text)
 }
 
-/// What a turn tells. The output is flushed where something went to it, and before a fault line.
-pub(crate) fn write_told<O: Write, E: Write>(
-    told: &Told,
+/// What a turn answers to what begins on this line. The output is flushed where something went to
+/// it, and before warnings and fault lines.
+pub(crate) fn write_answer<O: Write, E: Write>(
+    answer: &Answer,
+    line: u64,
     out: &mut O,
     err: &mut E,
 ) -> Result<(), Refused>
-    ensures out { Sends result (O.contents out.old) (O.contents out.new) (told_as told.now).out }
-    ensures err { Sends result (E.contents err.old) (E.contents err.new) (told_as told.now).err }
+    ensures out { Sends result (O.contents out.old) (O.contents out.new)
+        (answer_as answer.now).out }
+    ensures err { Sends result (E.contents err.old) (E.contents err.new)
+        ((answer_as answer.now).warnings ++ fault_lines line (answer_as answer.now).fault) }
 {
-    write_bytes(out, told.out.as_slice())?;
-    if told.out.is_empty() && told.warnings.is_empty() && told.fault.is_none() {
-        return Ok(());
+    match answer {
+        Ok(Output::Bytes(bytes)) if !bytes.is_empty() => {
+            write_bytes(out, bytes.as_slice())?;
+            out.flush().map_err(|_| Refused)
+        }
+        Ok(Output::Warnings(lines)) if !lines.is_empty() => {
+            out.flush().map_err(|_| Refused)?;
+            write_bytes(err, lines.as_bytes())
+        }
+        Ok(_) => Ok(()),
+        Err(complaint) => {
+            out.flush().map_err(|_| Refused)?;
+            write_complaint(err, line, complaint)
+        }
     }
-    out.flush().map_err(|_| Refused)?;
-    write_err(err, told)
 }

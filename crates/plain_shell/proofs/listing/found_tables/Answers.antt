@@ -7,22 +7,22 @@ use Rattle.plain_shell.proofs.TablesLemmas.{finds_can, finds_cannot, stops_after
 use Rattle.plain_shell.proofs.listing.found_tables.Goals as goal
 use Rattle.plain_shell.proofs.listing.found_tables.Goals.{then-can_read+in_ok-from_str+in_ok-push, else-can_read}
 
-pub returns-in_default-clause-stops : goal.returns-in_default-clause-stops
-returns-in_default-clause-stops g c =
+pub returns-in_err-can_read-clause-stops : goal.returns-in_err-can_read-clause-stops
+returns-in_err-can_read-clause-stops g c =
     let i = c.loop-name.name-index in
-    let none : c.reads_table.result ≡ None = search rules in
-    let tries : Tries g.P.Store c.as_str.result.now None c.loop-name.plain c.reads_table.new.conn = subst (λ r. Tries g.P.Store c.as_str.result.now r c.loop-name.plain c.reads_table.new.conn) none c.reads_table.ensures in
+    let tries : Tries g.P.Store c.as_str.result.now None c.loop-name.plain c.reads_table.new.conn = c.in_err-can_read.ensures in
     let name : c.as_str.result.now ≡ string_bytes (get_or c.args.names.now i c.name-item.result) = c.as_str.ensures.value ∙ ap string_bytes c.name-item.is in
-    subst (λ names. StopsTrying g.P.Store names c.args.plain.now c.reads_table.new.conn) (names_split c.args.names.now i c.name-item.result c.as_str.result.now c.loop-name-test.true name)
+    on_err c.from_residual.result
+    (subst (λ names. StopsTrying g.P.Store names c.args.plain.now c.reads_table.new.conn) (names_split c.args.names.now i c.name-item.result c.as_str.result.now c.loop-name-test.true name)
     (stops_after g.P.Store (map string_bytes (take i c.args.names.now)) (c.as_str.result.now ∷ map string_bytes (drop (i + 1) c.args.names.now)) c.args.plain.now c.loop-name.plain c.reads_table.new.conn (texts_of c.loop-name.found)
-    c.loop-name.invariant (inr (inl tries)))
+    c.loop-name.invariant (inr (inl tries))))
 
 pub returns-in_err-from_str-clause-stops : goal.returns-in_err-from_str-clause-stops
 returns-in_err-from_str-clause-stops g c =
     let i = c.loop-name.name-index in
-    let tries : Tries g.P.Store c.as_str.result.now (Some true) c.loop-name.plain c.reads_table.new.conn = subst (λ b. Tries g.P.Store c.as_str.result.now (Some b) c.loop-name.plain c.reads_table.new.conn) c.if-can_read.true c.in-Some.ensures in
+    let tries : Tries g.P.Store c.as_str.result.now (Some true) c.loop-name.plain c.reads_table.new.conn = subst (λ b. Tries g.P.Store c.as_str.result.now (Some b) c.loop-name.plain c.reads_table.new.conn) c.if-can_read.true c.in_ok-can_read.ensures in
     let name : c.as_str.result.now ≡ string_bytes (get_or c.args.names.now i c.name-item.result) = c.as_str.ensures.value ∙ ap string_bytes c.name-item.is in
-    on_err c.from_residual.result
+    on_err c.from_residual-in_err-from_str.result
     (subst (λ names. StopsTrying g.P.Store names c.args.plain.now c.reads_table.new.conn) (names_split c.args.names.now i c.name-item.result c.as_str.result.now c.loop-name-test.true name)
     (stops_after g.P.Store (map string_bytes (take i c.args.names.now)) (c.as_str.result.now ∷ map string_bytes (drop (i + 1) c.args.names.now)) c.args.plain.now c.loop-name.plain c.reads_table.new.conn (texts_of c.loop-name.found)
     c.loop-name.invariant (inr (inr (c.reads_table.new.conn, true, tries, stops_now g.P.Store (map string_bytes (drop (i + 1) c.args.names.now)) c.reads_table.new.conn)))))
@@ -30,7 +30,7 @@ returns-in_err-from_str-clause-stops g c =
 pub returns-in_err-push-clause-stops : goal.returns-in_err-push-clause-stops
 returns-in_err-push-clause-stops g c =
     let i = c.loop-name.name-index in
-    let tries : Tries g.P.Store c.as_str.result.now (Some true) c.loop-name.plain c.reads_table.new.conn = subst (λ b. Tries g.P.Store c.as_str.result.now (Some b) c.loop-name.plain c.reads_table.new.conn) c.if-can_read.true c.in-Some.ensures in
+    let tries : Tries g.P.Store c.as_str.result.now (Some true) c.loop-name.plain c.reads_table.new.conn = subst (λ b. Tries g.P.Store c.as_str.result.now (Some b) c.loop-name.plain c.reads_table.new.conn) c.if-can_read.true c.in_ok-can_read.ensures in
     let name : c.as_str.result.now ≡ string_bytes (get_or c.args.names.now i c.name-item.result) = c.as_str.ensures.value ∙ ap string_bytes c.name-item.is in
     on_err c.from_residual-in_err-push.result
     (subst (λ names. StopsTrying g.P.Store names c.args.plain.now c.reads_table.new.conn) (names_split c.args.names.now i c.name-item.result c.as_str.result.now c.loop-name-test.true name)
@@ -51,9 +51,9 @@ loop-name-preserved g c =
           ∙ ap (λ n. texts_of c.loop-name.found ++ n ∷ []) (w.in_ok-from_str.ensures.ok ∙ w.as_str-then-can_read.ensures.value ∙ sym c.as_str.ensures.value) in
           subst (Finds g.P.Store (before ++ c.as_str.result.now ∷ []) c.args.plain.now c.reads_table.new.conn) (sym pushed)
           (finds_can g.P.Store before c.as_str.result.now c.args.plain.now c.loop-name.plain c.reads_table.new.conn (texts_of c.loop-name.found) c.loop-name.invariant
-          (subst (λ b. Tries g.P.Store c.as_str.result.now (Some b) c.loop-name.plain c.reads_table.new.conn) w.if-can_read.true c.in-Some.ensures))
+          (subst (λ b. Tries g.P.Store c.as_str.result.now (Some b) c.loop-name.plain c.reads_table.new.conn) w.if-can_read.true c.in_ok-can_read.ensures))
       | else-can_read w ↦
           subst (λ f. Finds g.P.Store (before ++ c.as_str.result.now ∷ []) c.args.plain.now c.reads_table.new.conn (texts_of f)) (sym w.found-is)
           (finds_cannot g.P.Store before c.as_str.result.now c.args.plain.now c.loop-name.plain c.reads_table.new.conn (texts_of c.loop-name.found) c.loop-name.invariant
-          (subst (λ b. Tries g.P.Store c.as_str.result.now (Some b) c.loop-name.plain c.reads_table.new.conn) w.if-can_read.false c.in-Some.ensures))
+          (subst (λ b. Tries g.P.Store c.as_str.result.now (Some b) c.loop-name.plain c.reads_table.new.conn) w.if-can_read.false c.in_ok-can_read.ensures))
     ])

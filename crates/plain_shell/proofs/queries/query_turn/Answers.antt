@@ -2,13 +2,13 @@
 use Rattle.std.proofs.Common.{rules}
 use Rattle.plain_shell.specs.Told.{Tells}
 use Rattle.plain_shell.specs.Answers.{rows_told}
-use Rattle.plain_shell.specs.ToldViews.{told_as}
+use Rattle.plain_shell.specs.OutputViews.{answer_as}
 use Rattle.plain_shell.specs.PlainStatements.{answered, refused}
 use Rattle.plain_shell.proofs.queries.query_turn.Goals as goal
 
 pub returns-in-Ok : goal.returns-in-Ok
 returns-in-Ok g c =
-    let tells : Tells c.args.settings.now c.args.line (rows_told c.args.settings.now c.args.line c.in-Ok.statement.columns c.in-Ok.rows.items) (told_as c.rows_told.result) = search rules in
+    let tells : Tells (rows_told c.args.settings.now c.in-Ok.statement.columns c.in-Ok.rows.items) (answer_as c.rows_told.result) = search rules in
     answered c.in-Ok.statement.columns c.in-Ok.rows.items c.in-Ok.ensures.answered tells
 
 pub returns-in-Err : goal.returns-in-Err

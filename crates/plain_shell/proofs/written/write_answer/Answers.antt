@@ -1,0 +1,10 @@
+-- the fault line
+use Rattle.std.proofs.Common.{◌++◌, sym, subst}
+use Rattle.plain_shell.specs.Told.{fault_lines}
+use Rattle.plain_shell.specs.OutputViews.{answer_as}
+use Rattle.plain_shell.specs.Writing.{Sends}
+use Rattle.plain_shell.proofs.written.write_answer.Goals as goal
+
+pub returns-in_ok-map_err-in-Err-clause-err : goal.returns-in_ok-map_err-in-Err-clause-err
+returns-in_ok-map_err-in-Err-clause-err g c =
+    subst (λ answer. Sends c.write_complaint.result (g.E.Write.contents c.args.err.now) (g.E.Write.contents c.write_complaint.new.to) ((answer_as answer).warnings ++ fault_lines c.args.line (answer_as answer).fault)) (sym c.in-Err.is) c.write_complaint.ensures
