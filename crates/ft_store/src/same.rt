@@ -1,15 +1,19 @@
 //! Whether a schema is that of a store.
 ghost use Rattle.std.specs.Prelude.{◌≡◌, ◌↔◌, ◌<◌, ℕ, suc, [], ◌∷◌, ◌++◌, map, drop, length, if◌then◌else◌, IsTrue, MatchOption};
+ghost use Rattle.std.specs.List.{list_any};
 ghost use Rattle.sqlite_schema.specs.Code.{term_to};
+ghost use Rattle.sqlite_schema.specs.Names.{same_name};
 ghost use Rattle.sqlite.specs.declared.types.Value.TheVariants.{Null};
 ghost use Rattle.sqlite.specs.Term.{lit, col, op2};
 ghost use Rattle.sqlite.specs.Collation.TheVariants.{Binary};
 ghost use Rattle.sqlite_sql.specs.declared.ops.BinaryOp.TheVariants.{Is};
 ghost use Rattle.ft_store.specs.Tables.{no_schema};
+ghost use Rattle.ft_store.specs.Adopted.{our_names};
 ghost use Rattle.ft_store.specs.Older.{schema_of, HasStoreTables};
 ghost use Rattle.ft_store.specs.Same.{table_of, index_of, index_name, uniques_of, orders_of, cell_test, cell_check, HasNoMore};
 
 use sqlite_schema::code::{Op, Terms};
+use sqlite_schema::names::same_name;
 use sqlite_schema::schema::{Column, Index, Kind, Schema, Table};
 use sqlite_sql::ops::BinaryOp;
 use sqlite_value::keys::Collation;
@@ -91,6 +95,20 @@ const SHAPES: [Shape; 8] = [
     Shape("noted", 11, &[TABLE_NAME], ONE_NAME, false),
     Shape("skip", 13, &[TAB, COL], TWO, false),
 ];
+
+fn has_name(shapes: &[Shape], name: &[u8]) -> bool
+    ensures { result ≡ list_any (λ s. same_name name.now s.0.now) shapes.now }
+{
+    let mut shapes = shapes.iter();
+    shapes.any(|shape| same_name(name, shape.0.as_bytes()))
+}
+
+/// Whether a table of a store has this name.
+pub(crate) fn is_our_name(name: &[u8]) -> bool
+    ensures { result ≡ list_any (same_name name.now) our_names }
+{
+    has_name(&SHAPES, name)
+}
 
 /// What a part of a schema is compared with.
 trait Shows<T> {
