@@ -18,98 +18,15 @@ ghost use Rattle.ft_store.specs.Parts.{changes_in, CanMake};
 use crate::fault::StoreFault;
 use crate::parts::Parts;
 use crate::statements::{
-    add_cell, add_column, add_list, add_lists, add_name, add_note, add_size, add_skip, drop_cell,
-    drop_cells, drop_column, drop_columns, drop_contents, drop_list, drop_lists, drop_name,
-    drop_note, drop_size, drop_sizes, drop_skip, drop_skips,
+    add_lists, add_name, drop_cells, drop_columns, drop_contents, drop_list, drop_lists, drop_name,
+    drop_size, drop_sizes, drop_skips, put_cell, put_column, put_list, put_note, put_size,
+    put_skip,
 };
 use ft_rows::{can_pack, pack};
 use ft_values::{RowChange, Spot, Value};
 use sqlite::types::ValueRef;
 use sqlite::{Alter, Connection, Transaction};
 use std::alloc::{AllocError, Global};
-
-/// Puts a column's name.
-fn put_column<S: Alter>(
-    tx: &mut Transaction<'_, S>,
-    tab: i64,
-    column: i64,
-    name: &str,
-) -> Result<(), StoreFault>
-    ensures { StepsInside S.Store tx.old.conn tx.new.conn result
-        (λ v. record v { columns = put column_key_cmp (tab, column) name.now v.columns }) }
-{
-    drop_column(tx, tab, column)?;
-    add_column(tx, tab, column, name)
-}
-
-/// Puts that a column isn't indexed.
-fn put_skip<S: Alter>(tx: &mut Transaction<'_, S>, tab: i64, column: i64) -> Result<(), StoreFault>
-    ensures { StepsInside S.Store tx.old.conn tx.new.conn result
-        (λ v. record v { skipped = put column_key_cmp (tab, column) tt v.skipped }) }
-{
-    drop_skip(tx, tab, column)?;
-    add_skip(tx, tab, column)
-}
-
-/// Puts a cell.
-fn put_cell<S: Alter>(
-    tx: &mut Transaction<'_, S>,
-    tab: i64,
-    docid: i64,
-    column: i64,
-    value: &Value,
-) -> Result<(), StoreFault>
-    ensures { StepsInside S.Store tx.old.conn tx.new.conn result
-        (λ v. record v {
-          cells = put cell_key_cmp (tab, docid, column) (shown_value value.now)
-              v.cells;
-        }) }
-{
-    drop_cell(tx, tab, docid, column)?;
-    add_cell(tx, tab, docid, column, value)
-}
-
-/// Puts a term's packed list in a document.
-fn put_list<'a, S: Alter>(
-    tx: &mut Transaction<'_, S>,
-    tab: i64,
-    term: &'a str,
-    docid: i64,
-    list: &'a [u8],
-) -> Result<(), StoreFault>
-    ensures { StepsInside S.Store tx.old.conn tx.new.conn result
-        (λ v. record v {
-          lists = put list_key_cmp (tab, term.now, docid)
-              (unwrap_or (spots_in list.now) []) v.lists;
-        }) }
-{
-    drop_list(tx, tab, term, docid)?;
-    add_list(tx, tab, term, docid, list)
-}
-
-/// Puts the size of a cell.
-fn put_size<S: Alter>(
-    tx: &mut Transaction<'_, S>,
-    tab: i64,
-    docid: i64,
-    column: i64,
-    n: i64,
-) -> Result<(), StoreFault>
-    ensures { StepsInside S.Store tx.old.conn tx.new.conn result
-        (λ v. record v { sizes = put cell_key_cmp (tab, docid, column) n v.sizes }) }
-{
-    drop_size(tx, tab, docid, column)?;
-    add_size(tx, tab, docid, column, n)
-}
-
-/// Puts a noted name.
-fn put_note<S: Alter>(tx: &mut Transaction<'_, S>, name: &str) -> Result<(), StoreFault>
-    ensures { StepsInside S.Store tx.old.conn tx.new.conn result
-        (λ v. record v { noted = put name_cmp (without_case name.now) name.now v.noted }) }
-{
-    drop_note(tx, name)?;
-    add_note(tx, name)
-}
 
 /// Puts a term's places in a document. Places that can't be packed are Damaged.
 fn put_entries<S: Alter>(
