@@ -58,15 +58,6 @@ fn cause_of_error(error: &SqlError) -> StoreFault
     }
 }
 
-fn cause_told(found: &Result<Vec<Row>, SqlError>) -> StoreFault
-    ensures { result ≡ told_cause found.now }
-{
-    match found {
-        Ok(rows) => cause_of_rows(rows.as_slice()),
-        Err(error) => cause_of_error(error),
-    }
-}
-
 /// Whether a table has the name of one of a store.
 fn names_ours(schema: &Schema) -> bool
     ensures { result ≡ has_our_name schema.now }
@@ -86,11 +77,12 @@ fn foreign<S: Alter>(conn: &mut Connection<S>) -> StoreFault
     ensures cause { IsAdoptFault result }
     ensures alone { LeavesAlone (state S.Store conn.old) (state S.Store conn.new) }
 {
-    if names_ours(conn.schema()) {
-        let found = version_answer(conn);
-        cause_told(&found)
-    } else {
-        StoreFault::Refused
+    if !names_ours(conn.schema()) {
+        return StoreFault::Refused;
+    }
+    match version_answer(conn) {
+        Ok(rows) => cause_of_rows(rows.as_slice()),
+        Err(error) => cause_of_error(&error),
     }
 }
 
@@ -109,13 +101,10 @@ pub(crate) fn take<S: Alter>(
     ensures mode { (state S.Store conn.new).in_transaction ≡ false }
     ensures crash { LeavesMade S.Store conn.old conn.new }
 {
-    let schema = conn.schema();
-    let bare = is_bare(schema);
-    let layout = layout_of(schema);
-    if bare {
+    if is_bare(conn.schema()) {
         return make(conn);
     }
-    match layout {
+    match layout_of(conn.schema()) {
         Some(Layout::Present) => examine(conn, alloc, Layout::Present, rowids),
         Some(Layout::Older) => take_older(conn, alloc, rowids),
         None => Err(foreign(conn)),

@@ -53,16 +53,6 @@ fn rowids_query(at: usize) -> &'static str
     }
 }
 
-/// Whether a number is above the one before it, where there is one.
-fn follows(last: Option<i64>, id: i64) -> bool
-    ensures { IsTrue result → IfSome last (λ before. before <ℤ id) }
-{
-    match last {
-        Some(before) => before < id,
-        None => true,
-    }
-}
-
 /// The numbers in the first column, as their rows come: whole as long as they rise.
 #[derive(Drop)]
 struct Rising {
@@ -77,7 +67,7 @@ impl Gathered for Rising {
 
     fn add(&mut self, whole: bool, row: &Row) -> Result<bool, StoreFault> {
         let id: i64 = row.get(0)?;
-        let rises = follows(self.last, id);
+        let rises = self.last.is_none_or(|last| last < id);
         self.last = Some(id);
         Ok(whole && rises)
     }

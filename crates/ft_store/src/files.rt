@@ -60,10 +60,7 @@ fn open_pair<S: Start>(rt: &HostRuntime, path: &str, start: S) -> Result<Files<F
 // How many pages that were read are kept: those of the file, in bounds. Each costs time at the
 // open.
 fn cache_pages(rt: &HostRuntime, path: &str) -> usize {
-    let pages = match fs::metadata(rt, path) {
-        Ok(found) => found.len() / PAGE,
-        Err(_) => 0,
-    };
+    let pages = fs::metadata(rt, path).map_or(0, |found| found.len() / PAGE);
     pages.clamp(LEAST_CACHE, MOST_CACHE) as usize
 }
 
@@ -117,9 +114,5 @@ pub(crate) fn open_for_store<S: Start>(
     ensures memory { path.now ≡ codes ":memory:" → result ≡ Err fault.Refused }
     ensures given { Finds result (IsNewFrom (image_at S.Start)) }
 {
-    match open_database(rt, path, start) {
-        Ok(conn) => Ok(conn),
-        Err(Error::SqliteFailure(ErrorCode::OutOfMemory)) => Err(StoreFault::Memory),
-        Err(_) => Err(StoreFault::Refused),
-    }
+    Ok(open_database(rt, path, start)?)
 }

@@ -275,10 +275,7 @@ pub(crate) fn document<S: Alter>(
 fn limit_of(most: Option<u32>) -> i64
     ensures { as_count (Int result) ≡ most }
 {
-    match most {
-        Some(count) => i64::from(count),
-        None => -1,
-    }
+    most.map_or(-1, |count| i64::from(count))
 }
 
 /// The docids of a table's cells of column 0, from an offset on and at most so many.

@@ -179,15 +179,11 @@ fn group_size(changes: &[RowChange]) -> usize
     requires { 0 < length changes.now }
     ensures { (0 < result) × (result ≤ length changes.now) }
 {
-    if changes.len() < GROUP {
-        return 1;
+    if changes.len() >= GROUP && changes[..GROUP].iter().all(puts_list) {
+        GROUP
+    } else {
+        1
     }
-    for change in &changes[..GROUP] {
-        if !puts_list(change) {
-            return 1;
-        }
-    }
-    GROUP
 }
 
 /// The packed lists of changes, if each puts one that can be packed.
