@@ -8,11 +8,7 @@ ghost use Rattle.sqlite.specs.Start.{FindsIn};
 ghost use Rattle.sqlite.specs.Opening.{is_open_error};
 ghost use Rattle.sqlite.specs.Files.{file_state, IsOpened};
 ghost use Rattle.sqlite.specs.declared.error.Error.{Error};
-ghost use Rattle.ft_store.specs.Opened.{IsNewFrom};
-ghost use Rattle.ft_store.specs.Settled.{Finds};
-ghost use Rattle.ft_store.specs.declared.fault.StoreFault.TheVariants as fault;
 
-use crate::fault::StoreFault;
 use sqlite::{Connection, Error, ErrorCode, FileFrom, FileStore, Files, Options, Start};
 use sqlite_std_file::OpenError;
 use std::fs;
@@ -103,16 +99,4 @@ pub fn open_database<S: Start>(
         }
         Err((error, _)) => Err(error),
     }
-}
-
-/// The same, with a fault of the store.
-pub(crate) fn open_for_store<S: Start>(
-    rt: &HostRuntime,
-    path: &str,
-    start: S,
-) -> Result<Connection<FileStore<FileFrom<S>>>, StoreFault>
-    ensures memory { path.now ≡ codes ":memory:" → result ≡ Err fault.Refused }
-    ensures given { Finds result (IsNewFrom (image_at S.Start)) }
-{
-    Ok(open_database(rt, path, start)?)
 }

@@ -84,48 +84,6 @@ fn text_of(value: &Value) -> ValueRef<'_>
     }
 }
 
-/// Takes a table's name out.
-pub(crate) fn drop_name<S: Alter>(tx: &mut Transaction<'_, S>, tab: i64) -> Result<(), StoreFault>
-    ensures { StepsInside S.Store tx.old.conn tx.new.conn result
-        (λ v. record v { tables = where_key int_cmp (λ k. not (int_eq tab k)) v.tables }) }
-{
-    run(tx, "DELETE FROM tab WHERE id = ?1", &[tab.to_sql()])
-}
-
-/// Takes the names of a table's columns out.
-pub(crate) fn drop_columns<S: Alter>(
-    tx: &mut Transaction<'_, S>,
-    tab: i64,
-) -> Result<(), StoreFault>
-    ensures { StepsInside S.Store tx.old.conn tx.new.conn result
-        (λ v. record v {
-          columns = where_key column_key_cmp (λ k. not (int_eq tab k.0)) v.columns;
-        }) }
-{
-    run(tx, "DELETE FROM col WHERE tab = ?1", &[tab.to_sql()])
-}
-
-/// Takes out which columns of a table aren't indexed.
-pub(crate) fn drop_skips<S: Alter>(tx: &mut Transaction<'_, S>, tab: i64) -> Result<(), StoreFault>
-    ensures { StepsInside S.Store tx.old.conn tx.new.conn result
-        (λ v. record v {
-          skipped = where_key column_key_cmp (λ k. not (int_eq tab k.0)) v.skipped;
-        }) }
-{
-    run(tx, "DELETE FROM skip WHERE tab = ?1", &[tab.to_sql()])
-}
-
-/// Takes all cells of a table out.
-pub(crate) fn drop_contents<S: Alter>(
-    tx: &mut Transaction<'_, S>,
-    tab: i64,
-) -> Result<(), StoreFault>
-    ensures { StepsInside S.Store tx.old.conn tx.new.conn result
-        (λ v. record v { cells = where_key cell_key_cmp (λ k. not (int_eq tab k.0)) v.cells }) }
-{
-    run(tx, "DELETE FROM cell WHERE tab = ?1", &[tab.to_sql()])
-}
-
 /// Takes the cells of a document out.
 pub(crate) fn drop_cells<S: Alter>(
     tx: &mut Transaction<'_, S>,
@@ -143,14 +101,6 @@ pub(crate) fn drop_cells<S: Alter>(
         "DELETE FROM cell WHERE tab = ?1 AND docid = ?2",
         &[tab.to_sql(), docid.to_sql()],
     )
-}
-
-/// Takes all lists of a table out.
-pub(crate) fn drop_lists<S: Alter>(tx: &mut Transaction<'_, S>, tab: i64) -> Result<(), StoreFault>
-    ensures { StepsInside S.Store tx.old.conn tx.new.conn result
-        (λ v. record v { lists = where_key list_key_cmp (λ k. not (int_eq tab k.0)) v.lists }) }
-{
-    run(tx, "DELETE FROM posting WHERE tab = ?1", &[tab.to_sql()])
 }
 
 /// Takes a term's list in a document out.
@@ -171,14 +121,6 @@ pub(crate) fn drop_list<S: Alter>(
         "DELETE FROM posting WHERE tab = ?1 AND term = ?2 AND docid = ?3",
         &[beside(tab, term), term.to_sql(), beside(docid, term)],
     )
-}
-
-/// Takes all sizes of a table out.
-pub(crate) fn drop_sizes<S: Alter>(tx: &mut Transaction<'_, S>, tab: i64) -> Result<(), StoreFault>
-    ensures { StepsInside S.Store tx.old.conn tx.new.conn result
-        (λ v. record v { sizes = where_key cell_key_cmp (λ k. not (int_eq tab k.0)) v.sizes }) }
-{
-    run(tx, "DELETE FROM sizes WHERE tab = ?1", &[tab.to_sql()])
 }
 
 /// Takes the size of a cell out.

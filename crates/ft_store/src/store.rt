@@ -25,7 +25,7 @@ use crate::adopt::take;
 use crate::examine::Rowids;
 use crate::expected::count_places;
 use crate::fault::StoreFault;
-use crate::files::open_for_store;
+use crate::files::open_database;
 use crate::lists::count_spots;
 use crate::make::made;
 use crate::parts::Parts;
@@ -119,7 +119,7 @@ impl<B: Start> Store<FileStore<FileFrom<B>>> {
         ensures refused { IsRefusedFrom (image_at B.Start) result }
         ensures unread { IfOk result (λ store. store.rows_read ≡ 0) }
     {
-        let conn = open_for_store(rt, path, start)?;
+        let conn = open_database(rt, path, start)?;
         Store::taken(rt.alloc(), conn)
     }
 }

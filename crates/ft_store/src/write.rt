@@ -18,13 +18,12 @@ ghost use Rattle.ft_store.specs.Parts.{changes_in, CanMake};
 use crate::fault::StoreFault;
 use crate::parts::Parts;
 use crate::statements::{
-    add_lists, add_name, drop_cells, drop_columns, drop_contents, drop_list, drop_lists, drop_name,
-    drop_size, drop_sizes, drop_skips, put_cell, put_column, put_list, put_note, put_size,
-    put_skip,
+    add_lists, add_name, drop_cells, drop_list, drop_size, put_cell, put_column, put_list,
+    put_note, put_size, put_skip, run,
 };
 use ft_rows::{can_pack, pack};
 use ft_values::{RowChange, Spot, Value};
-use sqlite::types::ValueRef;
+use sqlite::types::{ToSql, ValueRef};
 use sqlite::{Alter, Connection, Transaction};
 use std::alloc::{AllocError, Global};
 
@@ -53,8 +52,8 @@ fn clear_index<S: Alter>(tx: &mut Transaction<'_, S>, tab: i64) -> Result<(), St
     ensures { StepsInside S.Store tx.old.conn tx.new.conn result
         (λ v. without_index tab v) }
 {
-    drop_lists(tx, tab)?;
-    drop_sizes(tx, tab)
+    run(tx, "DELETE FROM posting WHERE tab = ?1", &[tab.to_sql()])?;
+    run(tx, "DELETE FROM sizes WHERE tab = ?1", &[tab.to_sql()])
 }
 
 /// Takes all rows of a table out.
@@ -63,10 +62,10 @@ fn clear_rows<S: Alter>(tx: &mut Transaction<'_, S>, tab: i64) -> Result<(), Sto
         (λ v. without_rows tab v) }
 {
     clear_index(tx, tab)?;
-    drop_contents(tx, tab)?;
-    drop_skips(tx, tab)?;
-    drop_columns(tx, tab)?;
-    drop_name(tx, tab)
+    run(tx, "DELETE FROM cell WHERE tab = ?1", &[tab.to_sql()])?;
+    run(tx, "DELETE FROM skip WHERE tab = ?1", &[tab.to_sql()])?;
+    run(tx, "DELETE FROM col WHERE tab = ?1", &[tab.to_sql()])?;
+    run(tx, "DELETE FROM tab WHERE id = ?1", &[tab.to_sql()])
 }
 
 /// Puts the names of a table's columns, which are numbered from 0.
