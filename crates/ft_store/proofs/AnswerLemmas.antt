@@ -7,7 +7,7 @@ use Rattle.std.specs.Cmp.{IsTotalOrder}
 use Rattle.std.specs.FinMap.Entries.{where_key}
 use Rattle.std.proofs.lemmas.Cmp.{on_total, then_total, int_cmp_total}
 use Rattle.sqlite.specs.declared.types.Value.{Value}
-use Rattle.sqlite.specs.declared.types.Value.TheVariants.{Null, Int, Text}
+use Rattle.sqlite.specs.declared.types.Value.TheVariants.{Null, Int, Text, Blob}
 use Rattle.sqlite.specs.Order.{Row, column}
 use Rattle.sqlite_value.specs.Order.{value_cmp, bytes}
 use Rattle.sqlite_value.specs.Keys.{without_case, by_key, ascending}
@@ -39,10 +39,10 @@ use Rattle.ft_store.specs.Rows.{num_of, txt_of}
 use Rattle.ft_store.specs.Found.{found_table, found_column, found_skip, found_cell, found_size, found_note, found_list, found_places, found_spots}
 use Rattle.ft_rows.specs.Shown.{bare_list, lists_of_term, lists_of_prefix}
 use Rattle.ft_store.specs.Calls.{IsStore}
-use Rattle.ft_store.proofs.Texts.{names_text, columns_text, skips_text, cells_text, document_text, term_text, prefix_text, bare_prefix_text, lists_text, bare_lists_text, sizes_text, noted_text}
-use Rattle.ft_store.proofs.TextLemmas.{query_by, rising, no_limit, list_shown, bare_shown, list_order, cell_order, names_query, names_is, names_plain, names_unlisted, columns_query, columns_is, columns_plain, columns_unlisted, skips_query, skips_is, skips_plain, skips_unlisted, cells_query, cells_is, cells_plain, cells_unlisted, document_query, document_is, document_plain, document_unlisted, term_query, term_is, term_plain, term_unlisted, prefix_query, prefix_is, prefix_plain, prefix_unlisted, bare_prefix_query, bare_prefix_is, bare_prefix_plain, bare_prefix_unlisted, bare_lists_query, bare_lists_is, bare_lists_plain, bare_lists_unlisted, lists_query, lists_is, lists_plain, lists_unlisted, sizes_query, sizes_is, sizes_plain, sizes_unlisted, noted_query, noted_is, noted_plain, noted_unlisted}
-use Rattle.ft_store.specs.Range.{after_last}
-use Rattle.ft_store.proofs.RangeLemmas.{in_range}
+use Rattle.ft_store.proofs.Texts.{names_text, columns_text, skips_text, cells_text, document_text, term_text, prefix_text, bare_prefix_text, lists_text, sizes_text, noted_text}
+use Rattle.ft_store.proofs.TextLemmas.{query_by, rising, no_limit, list_shown, bare_shown, list_order, cell_order, names_query, names_is, names_plain, names_unlisted, columns_query, columns_is, columns_plain, columns_unlisted, skips_query, skips_is, skips_plain, skips_unlisted, cells_query, cells_is, cells_plain, cells_unlisted, document_query, document_is, document_plain, document_unlisted, term_query, term_is, term_plain, term_unlisted, prefix_query, prefix_is, prefix_plain, prefix_unlisted, bare_prefix_query, bare_prefix_is, bare_prefix_plain, bare_prefix_unlisted, lists_query, lists_is, lists_plain, lists_unlisted, sizes_query, sizes_is, sizes_plain, sizes_unlisted, noted_query, noted_is, noted_plain, noted_unlisted}
+use Rattle.ft_store.specs.Range.{after_last, limit_of}
+use Rattle.ft_store.proofs.RangeLemmas.{in_range, is_under}
 use Rattle.ft_store.proofs.SelectLemmas.{all_selected, permuted, still_sorted}
 use Rattle.ft_store.proofs.KeyedLemmas.{AreApart, whole_cmp, whole_total, whole_tie, apart-filter, sorted_by_key, keyed-where, sorted-keyed, at_value, keyed-map}
 use Rattle.ft_store.proofs.OrderLemmas.{tied_first, tied_second, tied_ints, tied_names, tied_cell_keys, cell_key_total, tied_list_keys, list_key_total, tied_column_keys, column_key_total, name_total}
@@ -69,6 +69,17 @@ same_int a b h = tied_ints a b (equal_from (int_cmp a b) h)
 
 test_texts : (op : CompareOp) (v w : Value) (s t : List ℕ) → v ≡ Text s → w ≡ Text t → is_true (binary (Compare op Binary) v w) ≡ by_order name_cmp op s t
 test_texts op v w s t p q = ap₂ (λ a b. is_true (binary (Compare op Binary) a b)) p q ∙ at_texts false op s t
+
+-- all texts are below a blob
+below_blob : (t : List ℕ) → is_true (binary (Compare Lt Binary) (Text t) (Blob [])) ≡ true
+unfolding binary value_cmp
+below_blob t = refl
+
+-- the test of what ends a range
+test_limit : (v : Value) (t from : List ℕ) → v ≡ Text t → is_true (binary (Compare Lt Binary) v (limit_of (after_last from))) ≡ is_under t from
+test_limit v t [] p = ap (λ a. is_true (binary (Compare Lt Binary) a (Blob []))) p ∙ below_blob t
+test_limit v t (b ∷ []) p = test_texts Lt v _ t _ p refl
+test_limit v t (b ∷ c ∷ more) p = test_texts Lt v _ t _ p refl
 
 -- names are compared without case first
 cmp_cases : (v w : Value) (s t : List ℕ) → v ≡ Text s → w ≡ Text t → by_key (ascending NoCase) v w ≡ name_cmp (without_case s) (without_case t)
@@ -237,15 +248,14 @@ noted_shown old new rows if_open h =
     (λ a b p q. then_key (cmp_cases _ _ _ _ p.name q.name) (last_key (cmp_texts _ _ _ _ p.name q.name)))
     rows ((reads_as noted_text ([]) old new store_schema kept.schema _ noted_is noted_plain noted_unlisted rows h).answer Null)
 
-pub prefix_stored_shown : (tab : ℤ) (from end : List ℕ) (old new : State) (rows : List Row) → from ≢ [] → end ≡ after_last from → (IsTrue old.is_open → IsStore old.now) → Shown prefix_text (Int tab ∷ Text from ∷ Text end ∷ []) old new rows
+pub prefix_stored_shown : (tab : ℤ) (from : List ℕ) (old new : State) (rows : List Row) → (IsTrue old.is_open → IsStore old.now) → Shown prefix_text (Int tab ∷ Text from ∷ limit_of (after_last from) ∷ []) old new rows
     → map (found_list tab) rows ≡ where_key list_key_cmp (λ k. int_eq tab k.0 && starts_with nat_eq k.1 from) (keyed list_key_cmp (map stored_entry (old.now.trees 7)))
-prefix_stored_shown tab from end old new rows some past if_open h =
+prefix_stored_shown tab from old new rows if_open h =
     let kept = if_open (shown_open _ _ old new rows h) in
     let sound = sound_of old kept in
-    let params = Int tab ∷ Text from ∷ Text end ∷ [] in
+    let params = Int tab ∷ Text from ∷ limit_of (after_last from) ∷ [] in
     keyed_found list_key_cmp list_key_total tied_list_keys name_cmp name_total tied_names stored_entry IsListRow (overlay old.now.trees []) 7 (are_lists old.now.trees sound) (lists_apart old.now.trees sound kept.numbered.1.1.1.1.0) prefix_query.filter list_shown (rising list_order) params (λ k. int_eq tab k.0 && starts_with nat_eq k.1 from) (found_list tab)
-    (λ r h. then_term (turned _ _ _ _ h.tab refl) (then_term (test_texts Ge _ _ _ _ h.term refl) (last_term (test_texts Lt _ _ _ _ h.term refl)))
-    ∙ ap (λ e. int_eq tab (stored_entry r).0.0 && (is_le (name_cmp from (stored_entry r).0.1) && is_lt (name_cmp (stored_entry r).0.1 e))) past ∙ ap (λ t. int_eq tab (stored_entry r).0.0 && t) (in_range from (stored_entry r).0.1 some))
+    (λ r h. then_term (turned _ _ _ _ h.tab refl) (then_term (test_texts Ge _ _ _ _ h.term refl) (last_term (test_limit _ _ from h.term))) ∙ ap (λ t. int_eq tab (stored_entry r).0.0 && t) (in_range from (stored_entry r).0.1))
     (λ r h passed. ap (λ t. ((t, (stored_entry r).0.1, (stored_entry r).0.2), (stored_entry r).1)) (same_int tab (stored_entry r).0.0 (and_first _ _ passed)))
     (λ a b p q. then_key (cmp_ints _ _ _ _ p.tab q.tab) (then_key (cmp_texts _ _ _ _ p.term q.term) (last_key (cmp_ints _ _ _ _ p.docid q.docid))))
     rows ((reads_as prefix_text params old new store_schema kept.schema _ prefix_is prefix_plain prefix_unlisted rows h).answer Null)
@@ -314,22 +324,12 @@ term_shown tab term old new rows if_open h =
     (λ k passed. and_first _ _ passed)
     rows ((reads_as term_text (Int tab ∷ Text term ∷ []) old new store_schema kept.schema _ term_is term_plain term_unlisted rows h).answer Null)
 
-pub bare_prefix_shown : (tab : ℤ) (from end : List ℕ) (old new : State) (rows : List Row) → from ≢ [] → end ≡ after_last from → (IsTrue old.is_open → IsStore old.now) → Shown bare_prefix_text (Int tab ∷ Text from ∷ Text end ∷ []) old new rows
+pub bare_prefix_shown : (tab : ℤ) (from : List ℕ) (old new : State) (rows : List Row) → (IsTrue old.is_open → IsStore old.now) → Shown bare_prefix_text (Int tab ∷ Text from ∷ limit_of (after_last from) ∷ []) old new rows
     → map found_spots rows ≡ map bare_list (lists_of_prefix tab from (value_of old.now.trees))
-bare_prefix_shown tab from end old new rows some past if_open h =
+bare_prefix_shown tab from old new rows if_open h =
     let kept = if_open (shown_open _ _ old new rows h) in
-    let params = Int tab ∷ Text from ∷ Text end ∷ [] in
+    let params = Int tab ∷ Text from ∷ limit_of (after_last from) ∷ [] in
     bare_found tab old kept bare_prefix_query.filter params (λ k. int_eq tab k.0 && starts_with nat_eq k.1 from)
-    (λ r h. then_term (turned _ _ _ _ h.tab refl) (then_term (test_texts Ge _ _ _ _ h.term refl) (last_term (test_texts Lt _ _ _ _ h.term refl)))
-    ∙ ap (λ e. int_eq tab (stored_entry r).0.0 && (is_le (name_cmp from (stored_entry r).0.1) && is_lt (name_cmp (stored_entry r).0.1 e))) past ∙ ap (λ t. int_eq tab (stored_entry r).0.0 && t) (in_range from (stored_entry r).0.1 some))
+    (λ r h. then_term (turned _ _ _ _ h.tab refl) (then_term (test_texts Ge _ _ _ _ h.term refl) (last_term (test_limit _ _ from h.term))) ∙ ap (λ t. int_eq tab (stored_entry r).0.0 && t) (in_range from (stored_entry r).0.1))
     (λ k passed. and_first _ _ passed)
     rows ((reads_as bare_prefix_text params old new store_schema kept.schema _ bare_prefix_is bare_prefix_plain bare_prefix_unlisted rows h).answer Null)
-
-pub bare_lists_shown : (tab : ℤ) (old new : State) (rows : List Row) → (IsTrue old.is_open → IsStore old.now) → Shown bare_lists_text (Int tab ∷ []) old new rows
-    → map found_spots rows ≡ map bare_list (where_key list_key_cmp (λ k. int_eq tab k.0) (value_of old.now.trees).lists)
-bare_lists_shown tab old new rows if_open h =
-    let kept = if_open (shown_open _ _ old new rows h) in
-    bare_found tab old kept bare_lists_query.filter (Int tab ∷ []) (λ k. int_eq tab k.0)
-    (λ r h. last_term (turned _ _ _ _ h.tab refl))
-    (λ k passed. passed)
-    rows ((reads_as bare_lists_text (Int tab ∷ []) old new store_schema kept.schema _ bare_lists_is bare_lists_plain bare_lists_unlisted rows h).answer Null)

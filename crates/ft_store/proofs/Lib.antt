@@ -9,6 +9,7 @@ pub mod DocidLemmas
 pub mod EntryLemmas
 pub mod ExpectedLemmas
 pub mod FoundLemmas
+mod FoundNumbers
 pub mod GroupLemmas
 pub mod InsideLemmas
 pub mod KeyedLemmas

@@ -12,7 +12,8 @@ use Rattle.std.proofs.lemmas.Bool.Decides.{nat_tests}
 use Rattle.std.proofs.lemmas.Cmp.{nat_cmp_total, ranked}
 use Rattle.sqlite_keyed.proofs.ListLemmas.{all-append}
 use Rattle.ft_rows.specs.Store.{ListKey}
-use Rattle.ft_store.specs.Range.{after_last}
+use Rattle.sqlite.specs.Values.{bound_value}
+use Rattle.ft_store.specs.Range.{after_last, limit_of}
 
 abbrev below : List ℕ → List ℕ → Bool
 below a b = is_lt (slice_cmp nat_cmp a b)
@@ -79,9 +80,15 @@ by_begins b (d ∷ more) (c ∷ text) = go (nat_cmp b c) refl (by_begins d more 
     go Equal e deep = let same : b ≡ c = ranked b c Equal (sym e) in rw (e, turn b c Equal e, eq-eqb b c same) deep
     go Greater e deep = rw (e, greater_apart b c e) refl
 
-pub in_range : (from text : List ℕ) → from ≢ [] → (at_most from text && below text (after_last from)) ≡ starts_with nat_eq text from
-in_range [] text some = absurd (some refl)
-in_range (b ∷ more) text some = by_begins b more text ∙ sym (starts_is (b ∷ more) text)
+-- a text is below what ends the texts that begin so
+abbrev pub is_under : List ℕ → List ℕ → Bool
+is_under text [] = true
+is_under text (b ∷ more) = below text (after_last (b ∷ more))
+
+pub in_range : (from text : List ℕ) → (at_most from text && is_under text from) ≡ starts_with nat_eq text from
+in_range [] [] = refl
+in_range [] (t ∷ text) = refl
+in_range (b ∷ more) text = by_begins b more text ∙ sym (starts_is (b ∷ more) text)
 
 -- ---- the last byte is raised
 
@@ -154,3 +161,8 @@ all_begin tab from none = (λ i k. and_true (int_eq tab k.0) i) ∙ ap {B = List
 pub none_of : (xs : List ℕ) → length xs ≡ 0 → xs ≡ []
 none_of [] h = refl
 none_of (x ∷ xs) h = absurd (omega (arith, h))
+
+-- what ends a range is bound as it is
+pub bound_limit : (end : List ℕ) → bound_value (limit_of end) ≡ limit_of end
+bound_limit [] = refl
+bound_limit (b ∷ more) = refl

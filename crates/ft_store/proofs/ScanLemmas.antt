@@ -1,6 +1,6 @@
 -- What is seen of a database before it is taken as a store.
-use Rattle.std.proofs.Common.{◌≡◌, ◌≢◌, ℕ, ◌<◌, ◌≤◌, ℤ, true, false, cond, List, [], ◌∷◌, ◌++◌, map, length, refl, sym, ap, ◌∙◌, subst, arith, IsTrue, IsPermutation, codes, None, Some, ◌≤ℤ◌, ◌<ℤ◌}
-use Rattle.std.specs.Prelude.{Option, IfSome, MatchOption, nat_le, ◌-◌, ◌^◌, unwrap_or, slice_get}
+use Rattle.std.proofs.Common.{◌≡◌, ◌≢◌, ℕ, ◌<◌, ◌≤◌, ℤ, true, false, cond, List, [], ◌∷◌, ◌++◌, map, length, refl, sym, ◌∙◌, subst, arith, IsTrue, IsPermutation, codes, None, Some, ◌≤ℤ◌, ◌<ℤ◌}
+use Rattle.std.specs.Prelude.{Option, IfSome, nat_le, ◌-◌, ◌^◌, unwrap_or, slice_get}
 use Rattle.std.proofs.lemmas.Int.{ints}
 use Rattle.std.specs.List.{AllByRecursion}
 use Rattle.std.proofs.lemmas.List.{length-map}
@@ -199,8 +199,3 @@ each_numbered Older db h =
     (h 0 (omega arith), (h 1 (omega arith), (h 2 (omega arith), (h 3 (omega arith), (h 4 (omega arith), (h 5 (omega arith), (h 6 (omega arith), tt)))))))
 each_numbered Present db h =
     (h 0 (omega arith), (h 1 (omega arith), (h 2 (omega arith), (h 3 (omega arith), (h 4 (omega arith), (h 5 (omega arith), (h 6 (omega arith), (h 7 (omega arith), tt))))))))
-
-pub version_found : (o : Option ℤ) (given rows found : List Row) → given ≡ rows → (length found ≡ length rows) × ((n : ℤ) → map (λ (r : Row). column r 0) rows ≡ Int n ∷ [] → map (λ (r : Row). column r 2) found ≡ Int n ∷ [])
-    → MatchOption o (length given ≢ 1) (λ n. map (λ (r : Row). column r 0) given ≡ Int n ∷ []) → MatchOption o (length found ≢ 1) (λ n. map (λ (r : Row). column r 2) found ≡ Int n ∷ [])
-version_found None given rows found same seen h = λ e. h (ap length same ∙ sym seen.0 ∙ e)
-version_found (Some n) given rows found same seen h = seen.1 n (subst (λ l. map (λ (r : Row). column r 0) l ≡ Int n ∷ []) same h)

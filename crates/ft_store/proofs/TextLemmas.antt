@@ -15,7 +15,7 @@ use Rattle.sqlite_value.specs.Keys.{ascending}
 use Rattle.sqlite_value.specs.declared.keys.Key.{Key}
 use Rattle.sqlite.specs.Source.TheVariants.{Values}
 use Rattle.sqlite.proofs.Callers.{IsPlain, command_of}
-use Rattle.ft_store.proofs.Texts.{drop_name_text, drop_columns_text, drop_column_text, drop_contents_text, drop_cells_text, drop_cell_text, drop_lists_text, drop_list_text, drop_sizes_text, drop_size_text, drop_note_text, drop_skips_text, drop_skip_text, add_name_text, add_column_text, add_cell_text, add_list_text, add_lists_text, add_size_text, add_note_text, add_skip_text, names_text, columns_text, skips_text, cells_text, document_text, docids_text, has_document_text, last_text, term_text, prefix_text, bare_prefix_text, lists_text, bare_lists_text, sizes_text, noted_text}
+use Rattle.ft_store.proofs.Texts.{drop_name_text, drop_columns_text, drop_column_text, drop_contents_text, drop_cells_text, drop_cell_text, drop_lists_text, drop_list_text, drop_sizes_text, drop_size_text, drop_note_text, drop_skips_text, drop_skip_text, add_name_text, add_column_text, add_cell_text, add_list_text, add_lists_text, add_size_text, add_note_text, add_skip_text, names_text, columns_text, skips_text, cells_text, document_text, docids_text, has_document_text, last_text, term_text, prefix_text, bare_prefix_text, lists_text, sizes_text, noted_text}
 use Rattle.ft_store.specs.Tables.{store_schema}
 
 abbrev pub compares : CompareOp → ℕ → ℕ → Term
@@ -487,21 +487,6 @@ lists_unlisted = refl
 pub lists_plain : IsPlain (understood store_schema lists_text)
 unfolding understood everything
 lists_plain = (refl, refl)
-
-abbrev pub bare_lists_query : Query
-bare_lists_query = table_query 7 (is_param 1 0 ∷ []) bare_shown list_order
-
-pub bare_lists_is : command_of (understood store_schema bare_lists_text) ≡ Select (record { lets = []; body = bare_lists_query }) (codes "docid" ∷ codes "list" ∷ [])
-unfolding understood everything
-bare_lists_is = refl
-
-pub bare_lists_unlisted : reads_listing store_schema bare_lists_text ≡ false
-unfolding understood everything
-bare_lists_unlisted = refl
-
-pub bare_lists_plain : IsPlain (understood store_schema bare_lists_text)
-unfolding understood everything
-bare_lists_plain = (refl, refl)
 
 abbrev pub sizes_query : Query
 sizes_query = table_query 9 (is_param 1 0 ∷ []) (2 ∷ 3 ∷ 4 ∷ []) cell_order

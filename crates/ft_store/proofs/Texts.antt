@@ -104,9 +104,6 @@ bare_prefix_text = codes "SELECT docid, list FROM posting WHERE tab = ?1 AND ter
 abbrev pub lists_text : List ℕ
 lists_text = codes "SELECT docid, list, term FROM posting WHERE tab = ?1 ORDER BY tab, term, docid"
 
-abbrev pub bare_lists_text : List ℕ
-bare_lists_text = codes "SELECT docid, list FROM posting WHERE tab = ?1 ORDER BY tab, term, docid"
-
 abbrev pub sizes_text : List ℕ
 sizes_text = codes "SELECT docid, col, n FROM sizes WHERE tab = ?1 ORDER BY tab, docid, col"
 

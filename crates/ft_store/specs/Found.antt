@@ -1,6 +1,7 @@
 -- Steps. The rows that the queries of a store give, as rows under their keys.
-use Rattle.std.specs.Prelude.{ℕ, ℤ, List, [], unwrap_or}
+use Rattle.std.specs.Prelude.{ℕ, ℤ, List, [], unwrap_or, string_bytes}
 use Rattle.ft_values.specs.declared.rows.Spot.{Spot}
+use Rattle.ft_values.specs.declared.rows.TabRow.{TabRow}
 use Rattle.ft_rows.specs.Packed.{spots_in}
 use Rattle.sqlite.specs.Order.{Row, column}
 use Rattle.sqlite_value.specs.Order.{bytes}
@@ -9,6 +10,10 @@ use Rattle.sqlite_rules.specs.Edit.{id_in}
 use Rattle.ft_values.specs.Cells.{Cell}
 use Rattle.ft_rows.specs.Store.{CellKey, ListKey, ColumnKey}
 use Rattle.ft_store.specs.Rows.{text_in, cell_in}
+
+-- a table's number and name
+abbrev pub name_of : TabRow → ℤ × List ℕ
+name_of table = (table.id, string_bytes table.name)
 
 abbrev pub found_table : Row → ℤ × List ℕ
 found_table row = (id_in (column row 0), bytes (column row 1))

@@ -1,10 +1,8 @@
 //! Whether a database is taken as a store.
 ghost use Rattle.std.specs.Prelude.{◌≡◌, false, IsTrue, IfErr, OnOk};
-ghost use Rattle.std.specs.List.{list_any};
 ghost use Rattle.sqlite.specs.State.{HasCleanDisk};
 ghost use Rattle.sqlite.specs.Held.{state};
-ghost use Rattle.sqlite_schema.specs.Names.{same_name};
-ghost use Rattle.ft_store.specs.Adopted.{TellsAs, rows_cause, error_cause, told_cause, our_names, has_our_name, IsAdoptFault, IsTaken, IsNotTaken, LeavesMade};
+ghost use Rattle.ft_store.specs.Adopted.{TellsAs, rows_cause, error_cause, told_cause, has_our_name, IsAdoptFault, IsTaken, IsNotTaken, LeavesMade};
 ghost use Rattle.ft_store.specs.Calls.{IsStoreIfOpen};
 ghost use Rattle.ft_store.specs.Settled.{AreAsKnown, LeavesAlone};
 
@@ -12,11 +10,11 @@ use crate::examine::{Rowids, examine};
 use crate::fault::StoreFault;
 use crate::make::make;
 use crate::migrate::take_older;
-use crate::same::{Layout, is_bare, layout_of};
+use crate::same::{Layout, is_bare, is_our_name, layout_of};
 use sqlite::types::ValueRef;
 use sqlite::{Alter, Connection, Error as SqlError, ErrorCode, Row};
-use sqlite_schema::names::same_name;
 use sqlite_schema::schema::Schema;
+use std::alloc::Global;
 
 /// What the database answers when it is asked for its version, whatever its tables are. It changes
 /// nothing.
@@ -60,38 +58,12 @@ fn cause_of_error(error: &SqlError) -> StoreFault
     }
 }
 
-fn cause_told(found: &Result<Vec<Row>, SqlError>) -> StoreFault
-    ensures { result ≡ told_cause found.now }
-{
-    match found {
-        Ok(rows) => cause_of_rows(rows.as_slice()),
-        Err(error) => cause_of_error(error),
-    }
-}
-
-/// Whether a table of a store has this name.
-fn is_our_name(name: &[u8]) -> bool
-    ensures { result ≡ list_any (same_name name.now) our_names }
-{
-    same_name(name, b"meta")
-        || same_name(name, b"tab")
-        || same_name(name, b"col")
-        || same_name(name, b"cell")
-        || same_name(name, b"posting")
-        || same_name(name, b"sizes")
-        || same_name(name, b"noted")
-        || same_name(name, b"skip")
-}
-
+/// Whether a table has the name of one of a store.
 fn names_ours(schema: &Schema) -> bool
     ensures { result ≡ has_our_name schema.now }
 {
-    for table in schema.tables.as_slice() {
-        if is_our_name(table.name.as_slice()) {
-            return true;
-        }
-    }
-    false
+    let mut tables = schema.tables.as_slice().iter();
+    tables.any(|table| is_our_name(table.name.as_slice()))
 }
 
 /// Why a database with other tables is not taken. It changes nothing.
@@ -105,17 +77,22 @@ fn foreign<S: Alter>(conn: &mut Connection<S>) -> StoreFault
     ensures cause { IsAdoptFault result }
     ensures alone { LeavesAlone (state S.Store conn.old) (state S.Store conn.new) }
 {
-    if names_ours(conn.schema()) {
-        let found = version_answer(conn);
-        cause_told(&found)
-    } else {
-        StoreFault::Refused
+    if !names_ours(conn.schema()) {
+        return StoreFault::Refused;
+    }
+    match version_answer(conn) {
+        Ok(rows) => cause_of_rows(rows.as_slice()),
+        Err(error) => cause_of_error(&error),
     }
 }
 
 /// Takes a database as a store. One without objects becomes an empty store, and one of version 2
 /// becomes one of version 3, each in one transaction.
-pub(crate) fn take<S: Alter>(conn: &mut Connection<S>, rowids: Rowids) -> Result<(), StoreFault>
+pub(crate) fn take<S: Alter>(
+    conn: &mut Connection<S>,
+    alloc: Global,
+    rowids: Rowids,
+) -> Result<(), StoreFault>
     requires settled { (state S.Store conn.old).in_transaction ≡ false }
     requires known { AreAsKnown rowids (state S.Store conn.old) }
     ensures store { OnOk result (IsStoreIfOpen (state S.Store conn.new)) }
@@ -124,15 +101,12 @@ pub(crate) fn take<S: Alter>(conn: &mut Connection<S>, rowids: Rowids) -> Result
     ensures mode { (state S.Store conn.new).in_transaction ≡ false }
     ensures crash { LeavesMade S.Store conn.old conn.new }
 {
-    let schema = conn.schema();
-    let bare = is_bare(schema);
-    let layout = layout_of(schema);
-    if bare {
+    if is_bare(conn.schema()) {
         return make(conn);
     }
-    match layout {
-        Some(Layout::Present) => examine(conn, Layout::Present, rowids),
-        Some(Layout::Older) => take_older(conn, rowids),
+    match layout_of(conn.schema()) {
+        Some(Layout::Present) => examine(conn, alloc, Layout::Present, rowids),
+        Some(Layout::Older) => take_older(conn, alloc, rowids),
         None => Err(foreign(conn)),
     }
 }

@@ -12,10 +12,10 @@ ghost use Rattle.ft_store.specs.Calls.{HasOwnRowids, AreNumbered, Reads};
 ghost use Rattle.ft_store.specs.Settled.{AreAsKnown, IsSettled, IsLaidOut, IsJudged, Finds, ReadsFor};
 
 use crate::fault::StoreFault;
-use crate::read::select;
 use crate::same::Layout;
-use crate::stream::{Gathered, gather};
+use crate::stream::{Gathered, gather, select};
 use sqlite::{Alter, Connection, Row};
+use std::alloc::Global;
 
 /// What is known of the rowids of a database's tables.
 #[derive(Clone, Copy, PartialEq)]
@@ -53,16 +53,6 @@ fn rowids_query(at: usize) -> &'static str
     }
 }
 
-/// Whether a number is above the one before it, where there is one.
-fn follows(last: Option<i64>, id: i64) -> bool
-    ensures { IsTrue result → IfSome last (λ before. before <ℤ id) }
-{
-    match last {
-        Some(before) => before < id,
-        None => true,
-    }
-}
-
 /// The numbers in the first column, as their rows come: whole as long as they rise.
 #[derive(Drop)]
 struct Rising {
@@ -77,7 +67,7 @@ impl Gathered for Rising {
 
     fn add(&mut self, whole: bool, row: &Row) -> Result<bool, StoreFault> {
         let id: i64 = row.get(0)?;
-        let rises = follows(self.last, id);
+        let rises = self.last.is_none_or(|last| last < id);
         self.last = Some(id);
         Ok(whole && rises)
     }
@@ -99,25 +89,21 @@ fn is_numbered<S: Alter>(
 }
 
 /// The version, where `meta` has one row.
-fn only_number(rows: &[Row]) -> Result<Option<i64>, StoreFault>
-    ensures { Finds result (λ o. MatchOption o (length rows.now ≢ 1)
-        (λ n. map (λ r. column r 0) rows.now ≡ Int n ∷ [])) }
-{
-    match rows {
-        [row] => Ok(Some(row.get(0)?)),
-        _ => Ok(None),
-    }
-}
-
-/// The version, where `meta` has one row.
-fn version<S: Alter>(conn: &mut Connection<S>, layout: Layout) -> Result<Option<i64>, StoreFault>
+fn version<S: Alter>(
+    conn: &mut Connection<S>,
+    alloc: Global,
+    layout: Layout,
+) -> Result<Option<i64>, StoreFault>
     requires { IsSettled (IsLaidOut layout) (state S.Store conn.old) }
     ensures { ReadsFor S.Store conn.old conn.new result
         (λ o. MatchOption o (length ((state S.Store conn.old).now.trees 0) ≢ 1)
         (λ n. map (λ r. column r 2) ((state S.Store conn.old).now.trees 0) ≡ Int n ∷ [])) }
 {
-    let rows = select(conn, "SELECT version FROM meta", &[])?;
-    only_number(rows.as_slice())
+    let found: Vec<i64> = select(conn, alloc, "SELECT version FROM meta", &[])?;
+    if found.len() != 1 {
+        return Ok(None);
+    }
+    Ok(Some(found[0]))
 }
 
 /// Whether no two rows of any table have one rowid.
@@ -155,6 +141,7 @@ fn judge(found: Option<i64>, layout: Layout) -> Result<(), StoreFault>
 /// to be apart aren't read.
 pub(crate) fn examine<S: Alter>(
     conn: &mut Connection<S>,
+    alloc: Global,
     layout: Layout,
     rowids: Rowids,
 ) -> Result<(), StoreFault>
@@ -167,7 +154,7 @@ pub(crate) fn examine<S: Alter>(
     ensures read { Reads S.Store conn.old conn.new result IsAdoptFault }
 {
     let _schema = conn.schema();
-    judge(version(conn, layout)?, layout)?;
+    judge(version(conn, alloc, layout)?, layout)?;
     if rowids == Rowids::Apart || are_numbered(conn, layout)? {
         Ok(())
     } else {

@@ -62,17 +62,6 @@ impl Expected {
     }
 }
 
-/// Whether the second column is the packed list of these postings: no other bytes stand for them.
-fn has_spots(row: &Row, postings: &[Posting]) -> Result<bool, StoreFault>
-    ensures { Finds result (λ b. IsTrue b
-        ↔ (spots_in (bytes (column row.now 1)) ≡ Some (map spot_of postings.now))) }
-{
-    let ValueRef::Blob(bytes) = row.get_ref(1)? else {
-        return Err(StoreFault::Refused);
-    };
-    Ok(is_list_of(bytes, postings))
-}
-
 /// Whether a row, in which docid and packed list come before the term, is this list of the term. No
 /// row is the list of no postings.
 fn is_list(row: &Row, term: &str, list: &[Posting]) -> Result<bool, StoreFault>
@@ -89,7 +78,10 @@ fn is_list(row: &Row, term: &str, list: &[Posting]) -> Result<bool, StoreFault>
     if docid != first.docid || bytes != term.as_bytes() {
         return Ok(false);
     }
-    has_spots(row, list)
+    let ValueRef::Blob(packed) = row.get_ref(1)? else {
+        return Err(StoreFault::Refused);
+    };
+    Ok(is_list_of(packed, list))
 }
 
 impl Gathered for Expected {

@@ -8,11 +8,7 @@ ghost use Rattle.sqlite.specs.Start.{FindsIn};
 ghost use Rattle.sqlite.specs.Opening.{is_open_error};
 ghost use Rattle.sqlite.specs.Files.{file_state, IsOpened};
 ghost use Rattle.sqlite.specs.declared.error.Error.{Error};
-ghost use Rattle.ft_store.specs.Opened.{IsNewFrom};
-ghost use Rattle.ft_store.specs.Settled.{Finds};
-ghost use Rattle.ft_store.specs.declared.fault.StoreFault.TheVariants as fault;
 
-use crate::fault::StoreFault;
 use sqlite::{Connection, Error, ErrorCode, FileFrom, FileStore, Files, Options, Start};
 use sqlite_std_file::OpenError;
 use std::fs;
@@ -60,10 +56,7 @@ fn open_pair<S: Start>(rt: &HostRuntime, path: &str, start: S) -> Result<Files<F
 // How many pages that were read are kept: those of the file, in bounds. Each costs time at the
 // open.
 fn cache_pages(rt: &HostRuntime, path: &str) -> usize {
-    let pages = match fs::metadata(rt, path) {
-        Ok(found) => found.len() / PAGE,
-        Err(_) => 0,
-    };
+    let pages = fs::metadata(rt, path).map_or(0, |found| found.len() / PAGE);
     pages.clamp(LEAST_CACHE, MOST_CACHE) as usize
 }
 
@@ -105,21 +98,5 @@ pub fn open_database<S: Start>(
             Ok(conn)
         }
         Err((error, _)) => Err(error),
-    }
-}
-
-/// The same, with a fault of the store.
-pub(crate) fn open_for_store<S: Start>(
-    rt: &HostRuntime,
-    path: &str,
-    start: S,
-) -> Result<Connection<FileStore<FileFrom<S>>>, StoreFault>
-    ensures memory { path.now ≡ codes ":memory:" → result ≡ Err fault.Refused }
-    ensures given { Finds result (IsNewFrom (image_at S.Start)) }
-{
-    match open_database(rt, path, start) {
-        Ok(conn) => Ok(conn),
-        Err(Error::SqliteFailure(ErrorCode::OutOfMemory)) => Err(StoreFault::Memory),
-        Err(_) => Err(StoreFault::Refused),
     }
 }

@@ -10,10 +10,10 @@ ghost use Rattle.sqlite_value.specs.Order.{bytes};
 ghost use Rattle.sqlite.specs.Values.{bound};
 ghost use Rattle.sqlite.specs.Held.{state};
 ghost use Rattle.sqlite_value.specs.Value.{owned};
-ghost use Rattle.sqlite.specs.declared.types.Value.TheVariants.{Int};
+ghost use Rattle.sqlite.specs.declared.types.Value.TheVariants.{Int, Text};
 ghost use Rattle.ft_rows.specs.Store.{list_key_cmp};
 ghost use Rattle.ft_store.specs.Rows.{value_of};
-ghost use Rattle.ft_store.specs.Range.{after_last};
+ghost use Rattle.ft_store.specs.Range.{after_last, limit_of};
 ghost use Rattle.ft_store.specs.Found.{found_spots, found_places};
 ghost use Rattle.ft_rows.specs.Shown.{shown_list, shown_entry, entries_with, entries_of, lists_of_term, lists_of_prefix, spot_count, AreWhole, SomeDamaged};
 ghost use Rattle.ft_store.specs.Calls.{AreTold, IsAtRest};
@@ -52,10 +52,7 @@ fn row_term(row: &Row) -> Result<Option<&str>, StoreFault>
     let ValueRef::Text(bytes) = row.get_ref(2)? else {
         return Err(StoreFault::Refused);
     };
-    match str::from_utf8(bytes) {
-        Ok(term) => Ok(Some(term)),
-        Err(_) => Ok(None),
-    }
+    Ok(str::from_utf8(bytes).ok())
 }
 
 /// Lists, as their rows come.
@@ -253,44 +250,6 @@ pub(crate) fn term<S: Alter>(
 
 // ---- all terms, and those that begin so
 
-/// All entries of a table.
-pub(crate) fn entries<S: Alter>(
-    conn: &mut Connection<S>,
-    alloc: Global,
-    tab: i64,
-) -> Result<Vec<EntryRow>, StoreFault>
-    requires { IsAtRest (state S.Store conn.old) }
-    ensures { GivesTold S.Store conn.old conn.new result
-        (where_key list_key_cmp (λ k. int_eq tab k.0)
-        (value_of (state S.Store conn.old).now.trees).lists) }
-{
-    select_entries(
-        conn,
-        alloc,
-        "SELECT docid, list, term FROM posting WHERE tab = ?1 ORDER BY tab, term, docid",
-        params![tab],
-    )
-}
-
-/// All lists of a table.
-fn table_lists<S: Alter>(
-    conn: &mut Connection<S>,
-    alloc: Global,
-    tab: i64,
-) -> Result<Vec<ListRow>, StoreFault>
-    requires { IsAtRest (state S.Store conn.old) }
-    ensures { GivesLists S.Store conn.old conn.new result
-        (where_key list_key_cmp (λ k. int_eq tab k.0)
-        (value_of (state S.Store conn.old).now.trees).lists) }
-{
-    select_lists(
-        conn,
-        alloc,
-        "SELECT docid, list FROM posting WHERE tab = ?1 ORDER BY tab, term, docid",
-        params![tab],
-    )
-}
-
 /// The bytes with the last one raised by one.
 fn after_last(alloc: Global, bytes: &[u8]) -> Result<Vec<u8>, AllocError>
     requires { AllByRecursion (λ b. b < 255) bytes.now }
@@ -310,48 +269,23 @@ fn beside(number: i64, _bytes: &[u8]) -> ValueRef<'_>
     ValueRef::Int(number)
 }
 
-/// The entries of the terms that are at least the first text and below the second.
-fn range<'a, S: Alter>(
-    conn: &mut Connection<S>,
-    alloc: Global,
-    tab: i64,
-    from: &'a [u8],
-    end: &'a [u8],
-) -> Result<Vec<EntryRow>, StoreFault>
-    requires rest { IsAtRest (state S.Store conn.old) }
-    requires some { from.now ≢ [] }
-    requires past { end.now ≡ after_last from.now }
-    ensures { GivesTold S.Store conn.old conn.new result
-        (lists_of_prefix tab from.now (value_of (state S.Store conn.old).now.trees)) }
+/// A text as a parameter beside bytes.
+fn text_beside<'a>(text: &'a str, _bytes: &'a [u8]) -> ValueRef<'a>
+    ensures { owned result ≡ Text text.now }
 {
-    select_entries(
-        conn,
-        alloc,
-        "SELECT docid, list, term FROM posting WHERE tab = ?1 AND term >= ?2 AND term < ?3 ORDER BY tab, term, docid",
-        &[beside(tab, from), ValueRef::Text(from), ValueRef::Text(end)],
-    )
+    ValueRef::Text(text.as_bytes())
 }
 
-/// The lists of those terms.
-fn bare_range<'a, S: Alter>(
-    conn: &mut Connection<S>,
-    alloc: Global,
-    tab: i64,
-    from: &'a [u8],
-    end: &'a [u8],
-) -> Result<Vec<ListRow>, StoreFault>
-    requires rest { IsAtRest (state S.Store conn.old) }
-    requires some { from.now ≢ [] }
-    requires past { end.now ≡ after_last from.now }
-    ensures { GivesLists S.Store conn.old conn.new result
-        (lists_of_prefix tab from.now (value_of (state S.Store conn.old).now.trees)) }
+/// What the texts of a range are below: this text or, where it is empty, a blob, since all texts
+/// are below each blob.
+fn limit_of(end: &[u8]) -> ValueRef<'_>
+    ensures { owned result ≡ limit_of end.now }
 {
-    select_lists(
-        conn,
-        alloc,
-        "SELECT docid, list FROM posting WHERE tab = ?1 AND term >= ?2 AND term < ?3 ORDER BY tab, term, docid",
-        &[beside(tab, from), ValueRef::Text(from), ValueRef::Text(end)],
-    )
+    if end.is_empty() {
+        ValueRef::Blob(end)
+    } else {
+        ValueRef::Text(end)
+    }
 }
 
 /// The entries of the terms that begin so.
@@ -365,11 +299,14 @@ pub(crate) fn prefix<S: Alter>(
     ensures { GivesTold S.Store conn.old conn.new result
         (lists_of_prefix tab begin.now (value_of (state S.Store conn.old).now.trees)) }
 {
-    if begin.is_empty() {
-        return entries(conn, alloc, tab);
-    }
     let end = after_last(alloc, begin.as_bytes())?;
-    range(conn, alloc, tab, begin.as_bytes(), end.as_slice())
+    let end = end.as_slice();
+    select_entries(
+        conn,
+        alloc,
+        "SELECT docid, list, term FROM posting WHERE tab = ?1 AND term >= ?2 AND term < ?3 ORDER BY tab, term, docid",
+        &[beside(tab, end), text_beside(begin, end), limit_of(end)],
+    )
 }
 
 /// The lists of the terms that begin so.
@@ -383,9 +320,26 @@ pub(crate) fn prefix_lists<S: Alter>(
     ensures { GivesLists S.Store conn.old conn.new result
         (lists_of_prefix tab begin.now (value_of (state S.Store conn.old).now.trees)) }
 {
-    if begin.is_empty() {
-        return table_lists(conn, alloc, tab);
-    }
     let end = after_last(alloc, begin.as_bytes())?;
-    bare_range(conn, alloc, tab, begin.as_bytes(), end.as_slice())
+    let end = end.as_slice();
+    select_lists(
+        conn,
+        alloc,
+        "SELECT docid, list FROM posting WHERE tab = ?1 AND term >= ?2 AND term < ?3 ORDER BY tab, term, docid",
+        &[beside(tab, end), text_beside(begin, end), limit_of(end)],
+    )
+}
+
+/// All entries of a table.
+pub(crate) fn entries<S: Alter>(
+    conn: &mut Connection<S>,
+    alloc: Global,
+    tab: i64,
+) -> Result<Vec<EntryRow>, StoreFault>
+    requires { IsAtRest (state S.Store conn.old) }
+    ensures { GivesTold S.Store conn.old conn.new result
+        (where_key list_key_cmp (λ k. int_eq tab k.0)
+        (value_of (state S.Store conn.old).now.trees).lists) }
+{
+    prefix(conn, alloc, tab, "")
 }

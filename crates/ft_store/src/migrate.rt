@@ -17,6 +17,7 @@ use crate::make::mark;
 use crate::same::Layout;
 use crate::statements::run;
 use sqlite::{Alter, Connection, Transaction};
+use std::alloc::Global;
 
 /// Adds the table of the columns that aren't indexed, without a row.
 fn add_table<S: Alter>(tx: &mut Transaction<'_, S>) -> Result<(), StoreFault>
@@ -58,6 +59,7 @@ fn migrate<S: Alter>(conn: &mut Connection<S>) -> Result<(), StoreFault>
 /// changes.
 pub(crate) fn take_older<S: Alter>(
     conn: &mut Connection<S>,
+    alloc: Global,
     rowids: Rowids,
 ) -> Result<(), StoreFault>
     requires rest { IsSettled (IsLaidOut Older) (state S.Store conn.old) }
@@ -70,6 +72,6 @@ pub(crate) fn take_older<S: Alter>(
     ensures judged { HasCleanDisk (state S.Store conn.new)
         → IsJudged (state S.Store conn.old).now.trees result }
 {
-    examine(conn, Layout::Older, rowids)?;
+    examine(conn, alloc, Layout::Older, rowids)?;
     migrate(conn)
 }

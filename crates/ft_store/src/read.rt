@@ -13,37 +13,21 @@ ghost use Rattle.sqlite_rules.specs.Edit.{id_in};
 ghost use Rattle.ft_rows.specs.Store.{cell_key_cmp, column_key_cmp};
 ghost use Rattle.ft_values.specs.Cells.{shown_value};
 ghost use Rattle.ft_store.specs.Rows.{text_in, cell_in, value_of};
-ghost use Rattle.ft_store.specs.Found.{found_table, found_column, found_skip, found_cell, found_size, found_note};
+ghost use Rattle.ft_store.specs.Found.{name_of};
 ghost use Rattle.ft_rows.specs.Shown.{shown_cell, shown_size, shown_name, shown_column, shown_skip, shown_note, last_docid_of};
 ghost use Rattle.ft_store.specs.Docids.{docids_in, cut_to};
 ghost use Rattle.ft_store.specs.Calls.{IsAtRest};
 ghost use Rattle.ft_store.specs.Settled.{IsSettled, IsPlainIn, Finds, ReadsFor, GivesRows};
 
 use crate::fault::StoreFault;
-use crate::stream::{Gathered, gather};
-use ft_values::{CellRow, SizeRow, Value};
+use crate::stream::{InRow, select};
+use ft_values::{CellRow, SizeRow, TabRow, Value};
 use sqlite::types::ValueRef;
 use sqlite::{Alter, Connection, Row, params};
 use std::alloc::{AllocError, Global};
 
 /// What is shown of bytes that aren't UTF-8: no text of a content has it.
 const UNREADABLE: &str = "\0";
-
-/// The rows that a query gives. It changes nothing.
-pub(crate) fn select<S: Alter>(
-    conn: &mut Connection<S>,
-    sql: &str,
-    params: &[ValueRef<'_>],
-) -> Result<Vec<Row>, StoreFault>
-    requires { IsSettled (IsPlainIn sql.now) (state S.Store conn.old) }
-    ensures { ReadsFor S.Store conn.old conn.new result
-        (λ rows. Shown sql.now (bound params.now) (state S.Store conn.old)
-        (state S.Store conn.new) rows.items) }
-{
-    let _schema = conn.schema();
-    let _settled = conn.is_autocommit();
-    Ok(conn.query_all(sql, params)?)
-}
 
 /// A text of a cell or a column, as it is shown: bytes that aren't UTF-8 as a character that no
 /// content has.
@@ -70,196 +54,140 @@ fn cell_value(alloc: Global, row: &Row) -> Result<Value, StoreFault>
     }
 }
 
-/// A cell, of its row.
-fn cell_row(alloc: Global, row: &Row) -> Result<CellRow, StoreFault>
-    ensures { Finds result (λ x. (tab : _) → shown_cell tab x ≡ found_cell tab row.now) }
-{
-    let docid: i64 = row.get(0)?;
-    let column: i64 = row.get(1)?;
-    let value = cell_value(alloc, row)?;
-    Ok(CellRow {
-        docid,
-        column,
-        value,
-    })
-}
-
-/// Cells, as their rows come.
-#[derive(Drop)]
-struct CellsOf {
-    alloc: Global,
-    cells: Vec<CellRow>,
-}
-
-impl Gathered for CellsOf {
-    ghost use Rattle.std.specs.Prelude.{◌≡◌, ℤ, map, IsTrue};
-    ghost use Rattle.ft_store.specs.Found.{found_cell};
+impl InRow for CellRow {
     ghost use Rattle.ft_rows.specs.Shown.{shown_cell};
+    ghost use Rattle.ft_store.specs.Found.{found_cell};
+    ghost use Rattle.ft_rows.specs.Store.{CellKey};
+    ghost use Rattle.ft_values.specs.Cells.{Cell};
 
-    ghost is_made_of = { λ made whole rows.
-        IsTrue whole
-        × ((tab : ℤ) → map (shown_cell tab) made.cells.items ≡ map (found_cell tab) rows) };
+    ghost Shown = { CellKey × Cell };
 
-    fn add(&mut self, whole: bool, row: &Row) -> Result<bool, StoreFault> {
-        self.cells.push(cell_row(self.alloc, row)?)?;
-        Ok(whole)
+    ghost shown = { shown_cell };
+
+    ghost found = { found_cell };
+
+    fn read(alloc: Global, row: &Row) -> Result<CellRow, StoreFault> {
+        Ok(CellRow {
+            docid: row.get(0)?,
+            column: row.get(1)?,
+            value: cell_value(alloc, row)?,
+        })
     }
 }
 
-/// The cells that a query gives, in the order of its rows.
-fn select_cells<S: Alter>(
-    conn: &mut Connection<S>,
-    alloc: Global,
-    sql: &str,
-    params: &[ValueRef<'_>],
-) -> Result<Vec<CellRow>, StoreFault>
-    requires { IsSettled (IsPlainIn sql.now) (state S.Store conn.old) }
-    ensures { ReadsFor S.Store conn.old conn.new result
-        (λ cells. GivesRows S.Store conn.old conn.new sql.now (bound params.now) (λ rows.
-        (tab : ℤ) → map (shown_cell tab) cells.items ≡ map (found_cell tab) rows)) }
-{
-    let mut found = CellsOf {
-        alloc,
-        cells: Vec::new(alloc),
-    };
-    gather(conn, sql, params, &mut found)?;
-    Ok(found.cells)
+impl InRow for SizeRow {
+    ghost use Rattle.std.specs.Prelude.{ℤ};
+    ghost use Rattle.ft_rows.specs.Shown.{shown_size};
+    ghost use Rattle.ft_store.specs.Found.{found_size};
+    ghost use Rattle.ft_rows.specs.Store.{CellKey};
+
+    ghost Shown = { CellKey × ℤ };
+
+    ghost shown = { shown_size };
+
+    ghost found = { found_size };
+
+    fn read(_alloc: Global, row: &Row) -> Result<SizeRow, StoreFault> {
+        Ok(SizeRow {
+            docid: row.get(0)?,
+            column: row.get(1)?,
+            n: row.get(2)?,
+        })
+    }
 }
 
-/// Docids, as their rows come.
-#[derive(Drop)]
-struct DocidsOf {
-    docids: Vec<i64>,
+/// A table's number and name. Its columns come later.
+impl InRow for TabRow {
+    ghost use Rattle.std.specs.Prelude.{ℤ, ℕ, List};
+    ghost use Rattle.ft_store.specs.Found.{name_of, found_table};
+
+    ghost Shown = { ℤ × List ℕ };
+
+    ghost shown = { λ _. name_of };
+
+    ghost found = { λ _. found_table };
+
+    fn read(alloc: Global, row: &Row) -> Result<TabRow, StoreFault> {
+        Ok(TabRow {
+            id: row.get(0)?,
+            name: row.get(1)?,
+            columns: Vec::new(alloc),
+            skipped: Vec::new(alloc),
+        })
+    }
 }
 
-impl Gathered for DocidsOf {
-    ghost use Rattle.std.specs.Prelude.{◌≡◌, map, IsTrue};
+/// A column's number and name.
+impl InRow for (i64, String) {
+    ghost use Rattle.std.specs.Prelude.{ℕ, List};
+    ghost use Rattle.ft_rows.specs.Shown.{shown_column};
+    ghost use Rattle.ft_store.specs.Found.{found_column};
+    ghost use Rattle.ft_rows.specs.Store.{ColumnKey};
+
+    ghost Shown = { ColumnKey × List ℕ };
+
+    ghost shown = { shown_column };
+
+    ghost found = { found_column };
+
+    fn read(alloc: Global, row: &Row) -> Result<(i64, String), StoreFault> {
+        let ValueRef::Text(stored) = row.get_ref(1)? else {
+            return Err(StoreFault::Refused);
+        };
+        Ok((row.get(0)?, shown_text(alloc, stored)?))
+    }
+}
+
+/// The number in the first column.
+impl InRow for i64 {
     ghost use Rattle.sqlite.specs.Order.{column};
-    ghost use Rattle.sqlite_rules.specs.Edit.{id_in};
+    ghost use Rattle.sqlite.specs.declared.types.Value.{Value as SqlValue};
+    ghost use Rattle.sqlite.specs.declared.types.Value.TheVariants.{Int};
 
-    ghost is_made_of = { λ made whole rows.
-        IsTrue whole × (made.docids.items ≡ map (λ row. id_in (column row 0)) rows) };
+    ghost Shown = { SqlValue };
 
-    fn add(&mut self, whole: bool, row: &Row) -> Result<bool, StoreFault> {
-        let docid: i64 = row.get(0)?;
-        self.docids.push(docid)?;
-        Ok(whole)
+    ghost shown = { λ _ number. Int number };
+
+    ghost found = { λ _ row. column row 0 };
+
+    fn read(_alloc: Global, row: &Row) -> Result<i64, StoreFault> {
+        Ok(row.get(0)?)
     }
 }
 
-/// The size of a cell, of its row.
-fn size_row(row: &Row) -> Result<SizeRow, StoreFault>
-    ensures { Finds result (λ x. (tab : _) → shown_size tab x ≡ found_size tab row.now) }
-{
-    let docid: i64 = row.get(0)?;
-    let column: i64 = row.get(1)?;
-    let n: i64 = row.get(2)?;
-    Ok(SizeRow { docid, column, n })
-}
+/// A noted name.
+impl InRow for String {
+    ghost use Rattle.std.specs.Prelude.{ℕ, List};
+    ghost use Rattle.ft_rows.specs.Shown.{shown_note};
+    ghost use Rattle.ft_store.specs.Found.{found_note};
 
-fn size_rows(alloc: Global, rows: &[Row]) -> Result<Vec<SizeRow>, StoreFault>
-    ensures { Finds result (λ xs. (tab : _)
-        → map (shown_size tab) xs.items ≡ map (found_size tab) rows.now) }
-{
-    let mut found = Vec::new(alloc);
-    for row in rows {
-        found.push(size_row(row)?)?;
+    ghost Shown = { List ℕ × List ℕ };
+
+    ghost shown = { λ _. shown_note };
+
+    ghost found = { λ _. found_note };
+
+    fn read(_alloc: Global, row: &Row) -> Result<String, StoreFault> {
+        Ok(row.get(0)?)
     }
-    Ok(found)
-}
-
-/// A table's number and name, of its row.
-fn name_row(row: &Row) -> Result<(i64, String), StoreFault>
-    ensures { Finds result (λ x. shown_name x ≡ found_table row.now) }
-{
-    let id: i64 = row.get(0)?;
-    let name: String = row.get(1)?;
-    Ok((id, name))
-}
-
-fn name_rows(alloc: Global, rows: &[Row]) -> Result<Vec<(i64, String)>, StoreFault>
-    ensures { Finds result (λ xs. map shown_name xs.items ≡ map found_table rows.now) }
-{
-    let mut found = Vec::new(alloc);
-    for row in rows {
-        found.push(name_row(row)?)?;
-    }
-    Ok(found)
-}
-
-/// A column's number and name, of its row.
-fn column_row(alloc: Global, row: &Row) -> Result<(i64, String), StoreFault>
-    ensures { Finds result (λ x. (tab : _) → shown_column tab x ≡ found_column tab row.now) }
-{
-    let column: i64 = row.get(0)?;
-    let ValueRef::Text(stored) = row.get_ref(1)? else {
-        return Err(StoreFault::Refused);
-    };
-    Ok((column, shown_text(alloc, stored)?))
-}
-
-fn column_rows(alloc: Global, rows: &[Row]) -> Result<Vec<(i64, String)>, StoreFault>
-    ensures { Finds result (λ xs. (tab : _)
-        → map (shown_column tab) xs.items ≡ map (found_column tab) rows.now) }
-{
-    let mut found = Vec::new(alloc);
-    for row in rows {
-        found.push(column_row(alloc, row)?)?;
-    }
-    Ok(found)
-}
-
-/// A column's number, of its row.
-fn skip_row(row: &Row) -> Result<i64, StoreFault>
-    ensures { Finds result (λ x. (tab : _) → shown_skip tab x ≡ found_skip tab row.now) }
-{
-    Ok(row.get(0)?)
-}
-
-fn skip_rows(alloc: Global, rows: &[Row]) -> Result<Vec<i64>, StoreFault>
-    ensures { Finds result (λ xs. (tab : _)
-        → map (shown_skip tab) xs.items ≡ map (found_skip tab) rows.now) }
-{
-    let mut found = Vec::new(alloc);
-    for row in rows {
-        found.push(skip_row(row)?)?;
-    }
-    Ok(found)
-}
-
-/// A noted name, of its row.
-fn note_row(row: &Row) -> Result<String, StoreFault>
-    ensures { Finds result (λ x. shown_note x ≡ found_note row.now) }
-{
-    Ok(row.get(0)?)
-}
-
-fn note_rows(alloc: Global, rows: &[Row]) -> Result<Vec<String>, StoreFault>
-    ensures { Finds result (λ xs. map shown_note xs.items ≡ map found_note rows.now) }
-{
-    let mut found = Vec::new(alloc);
-    for row in rows {
-        found.push(note_row(row)?)?;
-    }
-    Ok(found)
 }
 
 /// The tables' numbers and names.
 pub(crate) fn names<S: Alter>(
     conn: &mut Connection<S>,
     alloc: Global,
-) -> Result<Vec<(i64, String)>, StoreFault>
+) -> Result<Vec<TabRow>, StoreFault>
     requires { IsAtRest (state S.Store conn.old) }
     ensures { ReadsFor S.Store conn.old conn.new result
-        (λ found. map shown_name found.items
+        (λ found. map name_of found.items
         ≡ (value_of (state S.Store conn.old).now.trees).tables) }
 {
-    let rows = select(
+    select(
         conn,
+        alloc,
         "SELECT id, name FROM tab ORDER BY id, name COLLATE BINARY",
         &[],
-    )?;
-    name_rows(alloc, rows.as_slice())
+    )
 }
 
 /// The columns of a table.
@@ -274,12 +202,12 @@ pub(crate) fn columns<S: Alter>(
         ≡ where_key column_key_cmp (λ k. int_eq tab k.0)
         (value_of (state S.Store conn.old).now.trees).columns) }
 {
-    let rows = select(
+    select(
         conn,
+        alloc,
         "SELECT col, name FROM col WHERE tab = ?1 ORDER BY tab, col",
         params![tab],
-    )?;
-    column_rows(alloc, rows.as_slice())
+    )
 }
 
 /// The columns of a table that aren't indexed.
@@ -294,12 +222,12 @@ pub(crate) fn skips<S: Alter>(
         ≡ where_key column_key_cmp (λ k. int_eq tab k.0)
         (value_of (state S.Store conn.old).now.trees).skipped) }
 {
-    let rows = select(
+    select(
         conn,
+        alloc,
         "SELECT col FROM skip WHERE tab = ?1 ORDER BY tab, col",
         params![tab],
-    )?;
-    skip_rows(alloc, rows.as_slice())
+    )
 }
 
 /// All cells of a table.
@@ -314,7 +242,7 @@ pub(crate) fn cells<S: Alter>(
         ≡ where_key cell_key_cmp (λ k. int_eq tab k.0)
         (value_of (state S.Store conn.old).now.trees).cells) }
 {
-    select_cells(
+    select(
         conn,
         alloc,
         "SELECT docid, col, num, txt FROM cell WHERE tab = ?1 ORDER BY tab, docid, col",
@@ -335,7 +263,7 @@ pub(crate) fn document<S: Alter>(
         ≡ where_key cell_key_cmp (λ k. int_eq tab k.0 && int_eq docid k.1)
         (value_of (state S.Store conn.old).now.trees).cells) }
 {
-    select_cells(
+    select(
         conn,
         alloc,
         "SELECT docid, col, num, txt FROM cell WHERE tab = ?1 AND docid = ?2 ORDER BY tab, docid, col",
@@ -347,10 +275,7 @@ pub(crate) fn document<S: Alter>(
 fn limit_of(most: Option<u32>) -> i64
     ensures { as_count (Int result) ≡ most }
 {
-    match most {
-        Some(count) => i64::from(count),
-        None => -1,
-    }
+    most.map_or(-1, |count| i64::from(count))
 }
 
 /// The docids of a table's cells of column 0, from an offset on and at most so many.
@@ -367,21 +292,18 @@ pub(crate) fn docids<S: Alter>(
         (docids_in tab (value_of (state S.Store conn.old).now.trees).cells)) }
 {
     let limit = limit_of(most);
-    let mut found = DocidsOf {
-        docids: Vec::new(alloc),
-    };
-    gather(
+    select(
         conn,
+        alloc,
         "SELECT docid FROM cell WHERE tab = ?1 AND col = 0 ORDER BY tab, docid, col LIMIT ?2 OFFSET ?3",
         params![tab, limit, offset],
-        &mut found,
-    )?;
-    Ok(found.docids)
+    )
 }
 
 /// Whether a table has a cell under a docid.
 pub(crate) fn has_document<S: Alter>(
     conn: &mut Connection<S>,
+    alloc: Global,
     tab: i64,
     docid: i64,
 ) -> Result<bool, StoreFault>
@@ -391,28 +313,19 @@ pub(crate) fn has_document<S: Alter>(
         (where_key cell_key_cmp (λ k. int_eq tab k.0 && int_eq docid k.1)
         (value_of (state S.Store conn.old).now.trees).cells) 0)) }
 {
-    let rows = select(
+    let found: Vec<i64> = select(
         conn,
+        alloc,
         "SELECT docid FROM cell WHERE tab = ?1 AND docid = ?2 ORDER BY tab, docid, col LIMIT 1",
         params![tab, docid],
     )?;
-    Ok(!rows.is_empty())
-}
-
-/// The docid of the first row, where there is one.
-fn first_docid(rows: &[Row]) -> Result<Option<i64>, StoreFault>
-    ensures { Finds result (λ docid. docid
-        ≡ option_map (λ row. id_in (column row 0)) (slice_get rows.now 0)) }
-{
-    match rows.first() {
-        Some(row) => Ok(Some(row.get(0)?)),
-        None => Ok(None),
-    }
+    Ok(!found.is_empty())
 }
 
 /// The greatest docid of a table.
 pub(crate) fn last_docid<S: Alter>(
     conn: &mut Connection<S>,
+    alloc: Global,
     tab: i64,
 ) -> Result<Option<i64>, StoreFault>
     requires { IsAtRest (state S.Store conn.old) }
@@ -420,12 +333,13 @@ pub(crate) fn last_docid<S: Alter>(
         (λ last. last ≡ last_docid_of tab
         (value_of (state S.Store conn.old).now.trees).cells) }
 {
-    let rows = select(
+    let found: Vec<i64> = select(
         conn,
+        alloc,
         "SELECT docid, col FROM cell WHERE tab = ?1 ORDER BY tab DESC, docid DESC, col DESC LIMIT 1",
         params![tab],
     )?;
-    first_docid(rows.as_slice())
+    Ok(found.first().copied())
 }
 
 /// The sizes of a table's cells.
@@ -440,12 +354,12 @@ pub(crate) fn sizes<S: Alter>(
         ≡ where_key cell_key_cmp (λ k. int_eq tab k.0)
         (value_of (state S.Store conn.old).now.trees).sizes) }
 {
-    let rows = select(
+    select(
         conn,
+        alloc,
         "SELECT docid, col, n FROM sizes WHERE tab = ?1 ORDER BY tab, docid, col",
         params![tab],
-    )?;
-    size_rows(alloc, rows.as_slice())
+    )
 }
 
 /// The noted names.
@@ -458,10 +372,10 @@ pub(crate) fn noted<S: Alter>(
         (λ found. map shown_note found.items
         ≡ (value_of (state S.Store conn.old).now.trees).noted) }
 {
-    let rows = select(
+    select(
         conn,
+        alloc,
         "SELECT name FROM noted ORDER BY name, name COLLATE BINARY",
         &[],
-    )?;
-    note_rows(alloc, rows.as_slice())
+    )
 }

@@ -1,16 +1,19 @@
 //! Whether a schema is that of a store.
-ghost use Rattle.std.specs.Prelude.{◌≡◌, ◌↔◌, false, ℕ, List, [], ◌∷◌, codes, IsTrue, MatchOption};
-ghost use Rattle.sqlite_schema.specs.declared.schema.Schema.{Schema};
-ghost use Rattle.ft_store.specs.Tables.{no_schema, store_schema, plain_order, case_order, a_column, a_table, number, key_index, meta_table, tab_table, col_table, cell_table, posting_table, sizes_table, noted_table, skip_table};
+ghost use Rattle.std.specs.Prelude.{◌≡◌, ◌↔◌, ◌<◌, ℕ, suc, [], ◌∷◌, ◌++◌, map, drop, length, if◌then◌else◌, IsTrue, MatchOption};
+ghost use Rattle.std.specs.List.{list_any};
 ghost use Rattle.sqlite_schema.specs.Code.{term_to};
+ghost use Rattle.sqlite_schema.specs.Names.{same_name};
 ghost use Rattle.sqlite.specs.declared.types.Value.TheVariants.{Null};
 ghost use Rattle.sqlite.specs.Term.{lit, col, op2};
 ghost use Rattle.sqlite.specs.Collation.TheVariants.{Binary};
-ghost use Rattle.sqlite_sql.specs.declared.ops.BinaryOp.TheVariants.{Or, Is};
-ghost use Rattle.ft_store.specs.Older.{older_schema, schema_of, HasStoreTables};
-ghost use Rattle.ft_store.specs.Same.{IsNamed, HasNoMore, IsKeyed, IsUnkeyed};
+ghost use Rattle.sqlite_sql.specs.declared.ops.BinaryOp.TheVariants.{Is};
+ghost use Rattle.ft_store.specs.Tables.{no_schema};
+ghost use Rattle.ft_store.specs.Adopted.{our_names};
+ghost use Rattle.ft_store.specs.Older.{schema_of, HasStoreTables};
+ghost use Rattle.ft_store.specs.Same.{table_of, index_of, index_name, uniques_of, orders_of, cell_test, cell_check, HasNoMore};
 
 use sqlite_schema::code::{Op, Terms};
+use sqlite_schema::names::same_name;
 use sqlite_schema::schema::{Column, Index, Kind, Schema, Table};
 use sqlite_sql::ops::BinaryOp;
 use sqlite_value::keys::Collation;
@@ -32,471 +35,253 @@ pub(crate) fn is_bare(schema: &Schema) -> bool
     schema.tables.len() == 0 && schema.indexes.len() == 0 && schema.views.len() == 0
 }
 
-/// Whether a column is this one.
-fn is_column(column: &Column, name: &str, kind: Kind, not_null: bool, collation: Collation) -> bool
-    ensures { IsTrue result ↔ (column.now ≡ a_column name.now kind not_null collation) }
+/// A column: its name, its type, whether it is NOT NULL, and its collation.
+#[derive(Clone, Copy)]
+struct Field(&'static str, Kind, bool, Collation);
+
+const ONE: Field = Field("one", Kind::Integer, false, Collation::Binary);
+
+const VERSION: Field = Field("version", Kind::Integer, true, Collation::Binary);
+
+const ID: Field = Field("id", Kind::Integer, false, Collation::Binary);
+
+const TABLE_NAME: Field = Field("name", Kind::Text, true, Collation::NoCase);
+
+const TAB: Field = Field("tab", Kind::Integer, true, Collation::Binary);
+
+const COL: Field = Field("col", Kind::Integer, true, Collation::Binary);
+
+const NAME: Field = Field("name", Kind::Text, true, Collation::Binary);
+
+const DOCID: Field = Field("docid", Kind::Integer, true, Collation::Binary);
+
+const NUM: Field = Field("num", Kind::Integer, false, Collation::Binary);
+
+const TXT: Field = Field("txt", Kind::Text, false, Collation::Binary);
+
+const TERM: Field = Field("term", Kind::Text, true, Collation::Binary);
+
+const LIST: Field = Field("list", Kind::Blob, true, Collation::Binary);
+
+const N: Field = Field("n", Kind::Integer, true, Collation::Binary);
+
+/// A key: the column that is the rowid, the places of the primary key, those of the key that has
+/// an index, and its order.
+#[derive(Clone, Copy)]
+struct Key(Option<usize>, &'static [usize], &'static [usize], u64);
+
+const ROWID: Key = Key(Some(0), &[0], &[], 0);
+
+const ROWID_AND_NAME: Key = Key(Some(0), &[0], &[2], 2);
+
+const ONE_NAME: Key = Key(None, &[1], &[1], 2);
+
+const TWO: Key = Key(None, &[1, 2], &[1, 2], 0);
+
+const THREE: Key = Key(None, &[1, 2, 3], &[1, 2, 3], 0);
+
+/// A table: its name, the tree of its rows, its columns, its key, and whether it has a check.
+#[derive(Clone, Copy)]
+struct Shape(&'static str, u32, &'static [Field], Key, bool);
+
+/// The tables of a store. One of version 2 has all but the last.
+const SHAPES: [Shape; 8] = [
+    Shape("meta", 0, &[ONE, VERSION], ROWID, false),
+    Shape("tab", 1, &[ID, TABLE_NAME], ROWID_AND_NAME, false),
+    Shape("col", 3, &[TAB, COL, NAME], TWO, false),
+    Shape("cell", 5, &[TAB, DOCID, COL, NUM, TXT], THREE, true),
+    Shape("posting", 7, &[TAB, TERM, DOCID, LIST], THREE, false),
+    Shape("sizes", 9, &[TAB, DOCID, COL, N], THREE, false),
+    Shape("noted", 11, &[TABLE_NAME], ONE_NAME, false),
+    Shape("skip", 13, &[TAB, COL], TWO, false),
+];
+
+fn has_name(shapes: &[Shape], name: &[u8]) -> bool
+    ensures { result ≡ list_any (λ s. same_name name.now s.0.now) shapes.now }
 {
-    column.name.as_slice() == name.as_bytes()
-        && column.kind == kind
-        && column.is_strict
-        && column.not_null == not_null
-        && matches!(column.default, Value::Null)
-        && column.collation == collation
+    let mut shapes = shapes.iter();
+    shapes.any(|shape| same_name(name, shape.0.as_bytes()))
 }
 
-fn is_number(column: &Column, name: &str) -> bool
-    ensures { IsTrue result ↔ (column.now ≡ number name.now) }
+/// Whether a table of a store has this name.
+pub(crate) fn is_our_name(name: &[u8]) -> bool
+    ensures { result ≡ list_any (same_name name.now) our_names }
 {
-    is_column(column, name, Kind::Integer, true, Collation::Binary)
+    has_name(&SHAPES, name)
 }
 
-/// Whether an index is the one of this key.
-fn is_index(
-    index: &Index,
-    name: &str,
-    tree: u32,
-    table: u32,
-    columns: &[usize],
-    digits: u64,
-) -> bool
-    ensures { IsTrue result ↔ (index.now ≡ key_index name.now tree table columns.now
-        (record { digits = digits })) }
-{
-    index.name.as_slice() == name.as_bytes()
-        && index.tree == tree
-        && index.table == table
-        && index.columns.as_slice() == columns
-        && index.order.digits == digits
-        && index.is_unique
+/// What a part of a schema is compared with.
+trait Shows<T> {
+    ghost shown: { Self → T };
+
+    fn is(&self, item: &T) -> bool
+        ensures { IsTrue result ↔ (item.now ≡ shown self.now) };
 }
 
-/// Whether a table has this name, this tree and these places of its primary key.
-fn is_named(table: &Table, name: &str, tree: u32, key: Option<usize>, primary: &[usize]) -> bool
-    ensures { IsTrue result ↔ IsNamed table.now name.now tree key primary.now }
-{
-    table.name.as_slice() == name.as_bytes()
-        && table.tree == tree
-        && table.key == key
-        && table.primary.as_slice() == primary
+impl Shows<Column> for Field {
+    ghost use Rattle.ft_store.specs.Same.{column_of};
+
+    ghost shown = { column_of };
+
+    fn is(&self, column: &Column) -> bool {
+        column.name.as_slice() == self.0.as_bytes()
+            && column.kind == self.1
+            && column.is_strict
+            && column.not_null == self.2
+            && matches!(column.default, Value::Null)
+            && column.collation == self.3
+    }
 }
 
-fn has_no_stamps(table: &Table) -> bool
-    ensures { IsTrue result ↔ (table.now.stamps
-        ≡ record { places = []; terms = []; formats = [] }) }
+/// Whether these are the values that are shown, one for one.
+fn are<T, S: Shows<T>>(items: &[T], shapes: &[S]) -> bool
+    ensures { IsTrue result ↔ (items.now ≡ map S.Shows.shown shapes.now) }
 {
-    table.stamps.places.len() == 0
-        && table.stamps.terms.roots.len() == 0
-        && table.stamps.formats.len() == 0
+    match (items, shapes) {
+        ([], []) => true,
+        ([item, items @ ..], [shape, shapes @ ..]) => shape.is(item) && are(items, shapes),
+        _ => false,
+    }
+}
+
+/// Whether the term at a place tests that a column of a row is NULL.
+fn is_null_test(nodes: &[Op], at: usize, column: usize) -> bool
+    ensures { (depth : ℕ) → IsTrue result ↔ (term_to nodes.now (suc (suc depth)) at
+        ≡ op2 (Is Binary) (col 1 column) (lit Null)) }
+{
+    let Some(Op::Binary(BinaryOp::Is(Collation::Binary), a, b)) = nodes.get(at) else {
+        return false;
+    };
+    let is_column = match nodes.get(*a) {
+        Some(Op::Column(slot, place)) => *slot == 1 && *place == column,
+        _ => false,
+    };
+    is_column && matches!(nodes.get(*b), None | Some(Op::Literal(Value::Null)))
+}
+
+/// Whether the term at a place tests that one of a cell's two values is NULL.
+fn is_cell_test(nodes: &[Op], at: usize) -> bool
+    ensures { (depth : ℕ) → IsTrue result ↔ (term_to nodes.now (suc (suc (suc depth))) at
+        ≡ cell_test) }
+{
+    match nodes.get(at) {
+        Some(Op::Binary(BinaryOp::Or, a, b)) => {
+            is_null_test(nodes, *a, 4) && is_null_test(nodes, *b, 5)
+        }
+        _ => false,
+    }
+}
+
+/// Whether the one check is that test.
+fn is_cell_check(checks: &Terms) -> bool
+    ensures { IsTrue result ↔ (checks.now ≡ cell_check) }
+{
+    let nodes = checks.nodes.as_slice();
+    match checks.roots.as_slice() {
+        [root] => nodes.len() > 2 && is_cell_test(nodes, *root),
+        _ => false,
+    }
+}
+
+fn is_keyed(table: &Table, key: &[usize], digits: u64) -> bool
+    ensures { IsTrue result ↔ ((table.now.uniques ≡ uniques_of key.now)
+        × (table.now.orders ≡ orders_of key.now digits)) }
+{
+    match (
+        key.is_empty(),
+        table.uniques.as_slice(),
+        table.orders.as_slice(),
+    ) {
+        (true, [], []) => true,
+        (false, [unique], [order]) => unique.as_slice() == key && order.digits == digits,
+        _ => false,
+    }
 }
 
 /// Whether a table has nothing that tables of a store don't have.
 fn has_no_more(table: &Table) -> bool
     ensures { IsTrue result ↔ HasNoMore table.now }
 {
-    table.references.len() == 0
-        && table.computed.len() == 0
-        && has_no_stamps(table)
+    let stamps = &table.stamps;
+    table.references.is_empty()
+        && table.computed.is_empty()
+        && stamps.places.is_empty()
+        && stamps.terms.roots.is_empty()
+        && stamps.formats.is_empty()
         && !table.is_counted
 }
 
-fn has_unique(table: &Table, key: &[usize]) -> bool
-    ensures { IsTrue result ↔ (table.now.uniques ≡ key.now ∷ []) }
+/// Whether a check is there, which is that test, or none.
+fn has_checks(checks: &Terms, is_checked: bool) -> bool
+    ensures { IsTrue result ↔ (checks.now ≡ (if is_checked then cell_check else [])) }
 {
-    match table.uniques.as_slice() {
-        [unique] => unique.as_slice() == key,
-        _ => false,
+    if is_checked {
+        is_cell_check(checks)
+    } else {
+        checks.roots.is_empty()
     }
 }
 
-fn has_order(table: &Table, digits: u64) -> bool
-    ensures { IsTrue result ↔ (table.now.orders ≡ record { digits = digits } ∷ []) }
-{
-    match table.orders.as_slice() {
-        [order] => order.digits == digits,
-        _ => false,
+impl Shows<Table> for Shape {
+    ghost use Rattle.ft_store.specs.Same.{table_of};
+
+    ghost shown = { table_of };
+
+    fn is(&self, table: &Table) -> bool {
+        let Shape(name, tree, columns, Key(key, primary, unique, digits), is_checked) = self;
+        table.name.as_slice() == name.as_bytes()
+            && table.tree == *tree
+            && are(table.columns.as_slice(), columns)
+            && table.key == *key
+            && table.primary.as_slice() == *primary
+            && is_keyed(table, unique, *digits)
+            && has_checks(&table.checks, *is_checked)
+            && has_no_more(table)
     }
 }
 
-/// Whether the one key that has an index is this one.
-fn is_keyed(table: &Table, key: &[usize], digits: u64) -> bool
-    ensures { IsTrue result ↔ IsKeyed table.now key.now digits }
+/// Whether a text is the name of the index of a table's key.
+fn is_index_name(name: &[u8], table: &str) -> bool
+    ensures { IsTrue result ↔ (name.now ≡ index_name table.now) }
 {
-    has_unique(table, key) && has_order(table, digits)
-}
-
-fn is_unkeyed(table: &Table) -> bool
-    ensures { IsTrue result ↔ IsUnkeyed table.now }
-{
-    table.uniques.len() == 0 && table.orders.len() == 0
-}
-
-/// Whether a table has no check.
-fn is_unchecked(table: &Table) -> bool
-    ensures { IsTrue result ↔ (table.now.checks ≡ []) }
-{
-    table.checks.roots.len() == 0
-}
-
-fn has_meta_columns(columns: &[Column]) -> bool
-    ensures { IsTrue result ↔ (columns.now ≡ (meta_table 0).columns) }
-{
-    match columns {
-        [one, version] => {
-            is_column(one, "one", Kind::Integer, false, Collation::Binary)
-                && is_number(version, "version")
-        }
-        _ => false,
-    }
-}
-
-fn is_meta(table: &Table) -> bool
-    ensures { IsTrue result ↔ (table.now ≡ meta_table 0) }
-{
-    let named = is_named(table, "meta", 0, Some(0), &[0]);
-    let columns = has_meta_columns(table.columns.as_slice());
-    named & columns & is_unkeyed(table) & is_unchecked(table) & has_no_more(table)
-}
-
-fn has_tab_columns(columns: &[Column]) -> bool
-    ensures { IsTrue result ↔ (columns.now ≡ (tab_table 1).columns) }
-{
-    match columns {
-        [id, name] => {
-            is_column(id, "id", Kind::Integer, false, Collation::Binary)
-                && is_column(name, "name", Kind::Text, true, Collation::NoCase)
-        }
-        _ => false,
-    }
-}
-
-fn is_tab(table: &Table) -> bool
-    ensures { IsTrue result ↔ (table.now ≡ tab_table 1) }
-{
-    let named = is_named(table, "tab", 1, Some(0), &[0]);
-    let columns = has_tab_columns(table.columns.as_slice());
-    named & columns & is_keyed(table, &[2], 2) & is_unchecked(table) & has_no_more(table)
-}
-
-fn has_col_columns(columns: &[Column]) -> bool
-    ensures { IsTrue result ↔ (columns.now ≡ (col_table 3).columns) }
-{
-    match columns {
-        [tab, col, name] => {
-            is_number(tab, "tab")
-                && is_number(col, "col")
-                && is_column(name, "name", Kind::Text, true, Collation::Binary)
-        }
-        _ => false,
-    }
-}
-
-fn is_col(table: &Table) -> bool
-    ensures { IsTrue result ↔ (table.now ≡ col_table 3) }
-{
-    let named = is_named(table, "col", 3, None, &[1, 2]);
-    let columns = has_col_columns(table.columns.as_slice());
-    named & columns & is_keyed(table, &[1, 2], 0) & is_unchecked(table) & has_no_more(table)
-}
-
-fn has_posting_columns(columns: &[Column]) -> bool
-    ensures { IsTrue result ↔ (columns.now ≡ (posting_table 7).columns) }
-{
-    match columns {
-        [tab, term, docid, list] => {
-            is_number(tab, "tab")
-                && is_column(term, "term", Kind::Text, true, Collation::Binary)
-                && is_number(docid, "docid")
-                && is_column(list, "list", Kind::Blob, true, Collation::Binary)
-        }
-        _ => false,
-    }
-}
-
-fn is_posting(table: &Table) -> bool
-    ensures { IsTrue result ↔ (table.now ≡ posting_table 7) }
-{
-    let named = is_named(table, "posting", 7, None, &[1, 2, 3]);
-    let columns = has_posting_columns(table.columns.as_slice());
-    named & columns & is_keyed(table, &[1, 2, 3], 0) & is_unchecked(table) & has_no_more(table)
-}
-
-fn has_sizes_columns(columns: &[Column]) -> bool
-    ensures { IsTrue result ↔ (columns.now ≡ (sizes_table 9).columns) }
-{
-    match columns {
-        [tab, docid, col, n] => {
-            is_number(tab, "tab")
-                && is_number(docid, "docid")
-                && is_number(col, "col")
-                && is_number(n, "n")
-        }
-        _ => false,
-    }
-}
-
-fn is_sizes(table: &Table) -> bool
-    ensures { IsTrue result ↔ (table.now ≡ sizes_table 9) }
-{
-    let named = is_named(table, "sizes", 9, None, &[1, 2, 3]);
-    let columns = has_sizes_columns(table.columns.as_slice());
-    named & columns & is_keyed(table, &[1, 2, 3], 0) & is_unchecked(table) & has_no_more(table)
-}
-
-fn has_noted_columns(columns: &[Column]) -> bool
-    ensures { IsTrue result ↔ (columns.now ≡ (noted_table 11).columns) }
-{
-    match columns {
-        [name] => { is_column(name, "name", Kind::Text, true, Collation::NoCase) }
-        _ => false,
-    }
-}
-
-fn is_noted(table: &Table) -> bool
-    ensures { IsTrue result ↔ (table.now ≡ noted_table 11) }
-{
-    let named = is_named(table, "noted", 11, None, &[1]);
-    let columns = has_noted_columns(table.columns.as_slice());
-    named & columns & is_keyed(table, &[1], 2) & is_unchecked(table) & has_no_more(table)
-}
-
-fn has_skip_columns(columns: &[Column]) -> bool
-    ensures { IsTrue result ↔ (columns.now ≡ (skip_table 13).columns) }
-{
-    match columns {
-        [tab, col] => { is_number(tab, "tab") && is_number(col, "col") }
-        _ => false,
-    }
-}
-
-fn is_skip(table: &Table) -> bool
-    ensures { IsTrue result ↔ (table.now ≡ skip_table 13) }
-{
-    let named = is_named(table, "skip", 13, None, &[1, 2]);
-    let columns = has_skip_columns(table.columns.as_slice());
-    named & columns & is_keyed(table, &[1, 2], 0) & is_unchecked(table) & has_no_more(table)
-}
-
-/// The first numbers of a cell's columns.
-fn are_cell_keys(tab: &Column, docid: &Column, col: &Column) -> bool
-    ensures { IsTrue result ↔ ((tab.now ≡ number (codes "tab"))
-        × (docid.now ≡ number (codes "docid")) × (col.now ≡ number (codes "col"))) }
-{
-    is_number(tab, "tab") && is_number(docid, "docid") && is_number(col, "col")
-}
-
-fn has_cell_columns(columns: &[Column]) -> bool
-    ensures { IsTrue result ↔ (columns.now ≡ (cell_table 5).columns) }
-{
-    match columns {
-        [tab, docid, col, num, txt] => {
-            are_cell_keys(tab, docid, col)
-                && is_column(num, "num", Kind::Integer, false, Collation::Binary)
-                && is_column(txt, "txt", Kind::Text, false, Collation::Binary)
-        }
-        _ => false,
-    }
-}
-
-/// Whether the term at a place is NULL.
-fn is_null(nodes: &[Op], depth: usize, at: usize) -> bool
-    ensures { IsTrue result ↔ (term_to nodes.now depth at ≡ lit Null) }
-{
-    if depth == 0 {
-        return true;
-    }
-    match nodes.get(at) {
-        Some(Op::Literal(value)) => matches!(value, Value::Null),
-        Some(_) => false,
-        None => true,
-    }
-}
-
-/// Whether the term at a place is a column of a row.
-fn is_row_column(nodes: &[Op], depth: usize, at: usize, column: usize) -> bool
-    ensures { IsTrue result ↔ (term_to nodes.now depth at ≡ col 1 column) }
-{
-    if depth == 0 {
+    let Some(rest) = name.strip_prefix(b"sqlite_autoindex_") else {
         return false;
-    }
-    match nodes.get(at) {
-        Some(Op::Column(slot, place)) => *slot == 1 && *place == column,
-        _ => false,
-    }
-}
-
-/// Whether the term at a place tests that a column of a row is NULL.
-fn is_null_test(nodes: &[Op], depth: usize, at: usize, column: usize) -> bool
-    ensures { IsTrue result ↔ (term_to nodes.now depth at
-        ≡ op2 (Is Binary) (col 1 column) (lit Null)) }
-{
-    if depth == 0 {
-        return false;
-    }
-    match nodes.get(at) {
-        Some(Op::Binary(BinaryOp::Is(Collation::Binary), a, b)) => {
-            is_row_column(nodes, depth - 1, *a, column) && is_null(nodes, depth - 1, *b)
-        }
-        _ => false,
+    };
+    match rest.strip_suffix(b"_1") {
+        Some(inner) => inner == table.as_bytes(),
+        None => false,
     }
 }
 
-/// Whether the term at a place tests that one of a cell's two values is NULL.
-fn is_cell_test(nodes: &[Op], depth: usize, at: usize) -> bool
-    ensures { IsTrue result ↔ (term_to nodes.now depth at
-        ≡ op2 Or (op2 (Is Binary) (col 1 4) (lit Null)) (op2 (Is Binary) (col 1 5) (lit Null))) }
-{
-    if depth == 0 {
-        return false;
-    }
-    match nodes.get(at) {
-        Some(Op::Binary(BinaryOp::Or, a, b)) => {
-            is_null_test(nodes, depth - 1, *a, 4) && is_null_test(nodes, depth - 1, *b, 5)
-        }
-        _ => false,
-    }
-}
+impl Shows<Index> for Shape {
+    ghost use Rattle.ft_store.specs.Same.{index_of};
 
-fn is_cell_check(checks: &Terms) -> bool
-    ensures { IsTrue result ↔ (checks.now ≡ op2 Or (op2 (Is Binary) (col 1 4) (lit Null))
-        (op2 (Is Binary) (col 1 5) (lit Null)) ∷ []) }
-{
-    let nodes = checks.nodes.as_slice();
-    match checks.roots.as_slice() {
-        [root] => is_cell_test(nodes, nodes.len(), *root),
-        _ => false,
+    ghost shown = { index_of };
+
+    fn is(&self, index: &Index) -> bool {
+        let Shape(name, tree, _, Key(_, _, unique, digits), _) = self;
+        is_index_name(index.name.as_slice(), name)
+            && index.table == *tree
+            && index.tree > 0
+            && index.tree - 1 == *tree
+            && index.columns.as_slice() == *unique
+            && index.order.digits == *digits
+            && index.is_unique
     }
 }
 
-fn is_cell(table: &Table) -> bool
-    ensures { IsTrue result ↔ (table.now ≡ cell_table 5) }
+/// Whether a schema has these tables, of which all but the first have an index, and nothing else.
+fn has_shapes(schema: &Schema, shapes: &[Shape]) -> bool
+    requires { 0 < length shapes.now }
+    ensures { IsTrue result ↔ (schema.now ≡ record {
+      tables = map table_of shapes.now;
+      indexes = map index_of (drop 1 shapes.now);
+      views = [];
+    }) }
 {
-    let named = is_named(table, "cell", 5, None, &[1, 2, 3]);
-    let columns = has_cell_columns(table.columns.as_slice());
-    let keyed = is_keyed(table, &[1, 2, 3], 0);
-    named & columns & keyed & is_cell_check(&table.checks) & has_no_more(table)
-}
-
-fn are_listings(meta: &Table, tab: &Table, col: &Table) -> bool
-    ensures { IsTrue result ↔ ((meta.now ≡ meta_table 0) × (tab.now ≡ tab_table 1)
-        × (col.now ≡ col_table 3)) }
-{
-    is_meta(meta) && is_tab(tab) && is_col(col)
-}
-
-fn are_contents(cell: &Table, posting: &Table, sizes: &Table) -> bool
-    ensures { IsTrue result ↔ ((cell.now ≡ cell_table 5) × (posting.now ≡ posting_table 7)
-        × (sizes.now ≡ sizes_table 9)) }
-{
-    is_cell(cell) && is_posting(posting) && is_sizes(sizes)
-}
-
-fn are_others(noted: &Table, skip: &Table) -> bool
-    ensures { IsTrue result ↔ ((noted.now ≡ noted_table 11) × (skip.now ≡ skip_table 13)) }
-{
-    is_noted(noted) && is_skip(skip)
-}
-
-fn has_tables(tables: &[Table]) -> bool
-    ensures { IsTrue result ↔ (tables.now ≡ store_schema.tables) }
-{
-    match tables {
-        [meta, tab, col, cell, posting, sizes, noted, skip] => {
-            are_listings(meta, tab, col)
-                && are_contents(cell, posting, sizes)
-                && are_others(noted, skip)
-        }
-        _ => false,
-    }
-}
-
-fn has_older_tables(tables: &[Table]) -> bool
-    ensures { IsTrue result ↔ (tables.now ≡ older_schema.tables) }
-{
-    match tables {
-        [meta, tab, col, cell, posting, sizes, noted] => {
-            are_listings(meta, tab, col) && are_contents(cell, posting, sizes) && is_noted(noted)
-        }
-        _ => false,
-    }
-}
-
-fn are_content_keys(tab: &Index, col: &Index, cell: &Index) -> bool
-    ensures { IsTrue result ↔ ((tab.now ≡ key_index (codes "sqlite_autoindex_tab_1") 2 1 (2 ∷ [])
-        case_order)
-        × (col.now ≡ key_index (codes "sqlite_autoindex_col_1") 4 3 (1 ∷ 2 ∷ []) plain_order)
-        × (cell.now ≡ key_index (codes "sqlite_autoindex_cell_1") 6 5 (1 ∷ 2 ∷ 3 ∷ [])
-        plain_order)) }
-{
-    is_index(tab, "sqlite_autoindex_tab_1", 2, 1, &[2], 2)
-        && is_index(col, "sqlite_autoindex_col_1", 4, 3, &[1, 2], 0)
-        && is_index(cell, "sqlite_autoindex_cell_1", 6, 5, &[1, 2, 3], 0)
-}
-
-fn are_list_keys(posting: &Index, sizes: &Index) -> bool
-    ensures { IsTrue result ↔ ((posting.now ≡ key_index (codes "sqlite_autoindex_posting_1") 8 7
-        (1 ∷ 2 ∷ 3 ∷ []) plain_order)
-        × (sizes.now ≡ key_index (codes "sqlite_autoindex_sizes_1") 10 9 (1 ∷ 2 ∷ 3 ∷ [])
-        plain_order)) }
-{
-    is_index(posting, "sqlite_autoindex_posting_1", 8, 7, &[1, 2, 3], 0)
-        && is_index(sizes, "sqlite_autoindex_sizes_1", 10, 9, &[1, 2, 3], 0)
-}
-
-fn is_note_key(noted: &Index) -> bool
-    ensures { IsTrue result
-        ↔ (noted.now ≡ key_index (codes "sqlite_autoindex_noted_1") 12 11 (1 ∷ []) case_order) }
-{
-    is_index(noted, "sqlite_autoindex_noted_1", 12, 11, &[1], 2)
-}
-
-fn are_note_keys(noted: &Index, skip: &Index) -> bool
-    ensures { IsTrue result ↔ ((noted.now ≡ key_index (codes "sqlite_autoindex_noted_1") 12 11
-        (1 ∷ []) case_order)
-        × (skip.now ≡ key_index (codes "sqlite_autoindex_skip_1") 14 13 (1 ∷ 2 ∷ []) plain_order)) }
-{
-    is_note_key(noted) && is_index(skip, "sqlite_autoindex_skip_1", 14, 13, &[1, 2], 0)
-}
-
-fn has_indexes(indexes: &[Index]) -> bool
-    ensures { IsTrue result ↔ (indexes.now ≡ store_schema.indexes) }
-{
-    match indexes {
-        [tab, col, cell, posting, sizes, noted, skip] => {
-            are_content_keys(tab, col, cell)
-                && are_list_keys(posting, sizes)
-                && are_note_keys(noted, skip)
-        }
-        _ => false,
-    }
-}
-
-fn has_older_indexes(indexes: &[Index]) -> bool
-    ensures { IsTrue result ↔ (indexes.now ≡ older_schema.indexes) }
-{
-    match indexes {
-        [tab, col, cell, posting, sizes, noted] => {
-            are_content_keys(tab, col, cell) && are_list_keys(posting, sizes) && is_note_key(noted)
-        }
-        _ => false,
-    }
-}
-
-/// Whether a database has the tables of a store and nothing else.
-fn is_store(schema: &Schema) -> bool
-    ensures { IsTrue result ↔ (schema.now ≡ store_schema) }
-{
-    has_tables(schema.tables.as_slice())
-        && has_indexes(schema.indexes.as_slice())
-        && schema.views.len() == 0
-}
-
-/// The same of the tables of version 2.
-fn is_older_store(schema: &Schema) -> bool
-    ensures { IsTrue result ↔ (schema.now ≡ older_schema) }
-{
-    has_older_tables(schema.tables.as_slice())
-        && has_older_indexes(schema.indexes.as_slice())
-        && schema.views.len() == 0
+    are(schema.tables.as_slice(), shapes)
+        && are(schema.indexes.as_slice(), &shapes[1..])
+        && schema.views.is_empty()
 }
 
 /// Which tables a store has that a database has, and nothing else.
@@ -504,9 +289,10 @@ pub(crate) fn layout_of(schema: &Schema) -> Option<Layout>
     ensures { MatchOption result (HasStoreTables schema.now → ⊥)
         (λ layout. schema.now ≡ schema_of layout) }
 {
-    if is_store(schema) {
+    let shapes: &[Shape] = &SHAPES;
+    if has_shapes(schema, shapes) {
         Some(Layout::Present)
-    } else if is_older_store(schema) {
+    } else if has_shapes(schema, &shapes[..7]) {
         Some(Layout::Older)
     } else {
         None

@@ -84,86 +84,6 @@ fn text_of(value: &Value) -> ValueRef<'_>
     }
 }
 
-/// Takes a table's name out.
-pub(crate) fn drop_name<S: Alter>(tx: &mut Transaction<'_, S>, tab: i64) -> Result<(), StoreFault>
-    ensures { StepsInside S.Store tx.old.conn tx.new.conn result
-        (λ v. record v { tables = where_key int_cmp (λ k. not (int_eq tab k)) v.tables }) }
-{
-    run(tx, "DELETE FROM tab WHERE id = ?1", &[tab.to_sql()])
-}
-
-/// Takes the names of a table's columns out.
-pub(crate) fn drop_columns<S: Alter>(
-    tx: &mut Transaction<'_, S>,
-    tab: i64,
-) -> Result<(), StoreFault>
-    ensures { StepsInside S.Store tx.old.conn tx.new.conn result
-        (λ v. record v {
-          columns = where_key column_key_cmp (λ k. not (int_eq tab k.0)) v.columns;
-        }) }
-{
-    run(tx, "DELETE FROM col WHERE tab = ?1", &[tab.to_sql()])
-}
-
-/// Takes a column's name out.
-pub(crate) fn drop_column<S: Alter>(
-    tx: &mut Transaction<'_, S>,
-    tab: i64,
-    column: i64,
-) -> Result<(), StoreFault>
-    ensures { StepsInside S.Store tx.old.conn tx.new.conn result
-        (λ v. record v {
-          columns = where_key column_key_cmp
-              (λ k. not (eq_by_cmp column_key_cmp (tab, column) k)) v.columns;
-        }) }
-{
-    run(
-        tx,
-        "DELETE FROM col WHERE tab = ?1 AND col = ?2",
-        &[tab.to_sql(), column.to_sql()],
-    )
-}
-
-/// Takes out which columns of a table aren't indexed.
-pub(crate) fn drop_skips<S: Alter>(tx: &mut Transaction<'_, S>, tab: i64) -> Result<(), StoreFault>
-    ensures { StepsInside S.Store tx.old.conn tx.new.conn result
-        (λ v. record v {
-          skipped = where_key column_key_cmp (λ k. not (int_eq tab k.0)) v.skipped;
-        }) }
-{
-    run(tx, "DELETE FROM skip WHERE tab = ?1", &[tab.to_sql()])
-}
-
-/// Takes out that a column isn't indexed.
-pub(crate) fn drop_skip<S: Alter>(
-    tx: &mut Transaction<'_, S>,
-    tab: i64,
-    column: i64,
-) -> Result<(), StoreFault>
-    ensures { StepsInside S.Store tx.old.conn tx.new.conn result
-        (λ v. record v {
-          skipped = where_key column_key_cmp
-              (λ k. not (eq_by_cmp column_key_cmp (tab, column) k)) v.skipped;
-        }) }
-{
-    run(
-        tx,
-        "DELETE FROM skip WHERE tab = ?1 AND col = ?2",
-        &[tab.to_sql(), column.to_sql()],
-    )
-}
-
-/// Takes all cells of a table out.
-pub(crate) fn drop_contents<S: Alter>(
-    tx: &mut Transaction<'_, S>,
-    tab: i64,
-) -> Result<(), StoreFault>
-    ensures { StepsInside S.Store tx.old.conn tx.new.conn result
-        (λ v. record v { cells = where_key cell_key_cmp (λ k. not (int_eq tab k.0)) v.cells }) }
-{
-    run(tx, "DELETE FROM cell WHERE tab = ?1", &[tab.to_sql()])
-}
-
 /// Takes the cells of a document out.
 pub(crate) fn drop_cells<S: Alter>(
     tx: &mut Transaction<'_, S>,
@@ -181,34 +101,6 @@ pub(crate) fn drop_cells<S: Alter>(
         "DELETE FROM cell WHERE tab = ?1 AND docid = ?2",
         &[tab.to_sql(), docid.to_sql()],
     )
-}
-
-/// Takes a cell out.
-pub(crate) fn drop_cell<S: Alter>(
-    tx: &mut Transaction<'_, S>,
-    tab: i64,
-    docid: i64,
-    column: i64,
-) -> Result<(), StoreFault>
-    ensures { StepsInside S.Store tx.old.conn tx.new.conn result
-        (λ v. record v {
-          cells = where_key cell_key_cmp
-              (λ k. not (eq_by_cmp cell_key_cmp (tab, docid, column) k)) v.cells;
-        }) }
-{
-    run(
-        tx,
-        "DELETE FROM cell WHERE tab = ?1 AND docid = ?2 AND col = ?3",
-        &[tab.to_sql(), docid.to_sql(), column.to_sql()],
-    )
-}
-
-/// Takes all lists of a table out.
-pub(crate) fn drop_lists<S: Alter>(tx: &mut Transaction<'_, S>, tab: i64) -> Result<(), StoreFault>
-    ensures { StepsInside S.Store tx.old.conn tx.new.conn result
-        (λ v. record v { lists = where_key list_key_cmp (λ k. not (int_eq tab k.0)) v.lists }) }
-{
-    run(tx, "DELETE FROM posting WHERE tab = ?1", &[tab.to_sql()])
 }
 
 /// Takes a term's list in a document out.
@@ -231,14 +123,6 @@ pub(crate) fn drop_list<S: Alter>(
     )
 }
 
-/// Takes all sizes of a table out.
-pub(crate) fn drop_sizes<S: Alter>(tx: &mut Transaction<'_, S>, tab: i64) -> Result<(), StoreFault>
-    ensures { StepsInside S.Store tx.old.conn tx.new.conn result
-        (λ v. record v { sizes = where_key cell_key_cmp (λ k. not (int_eq tab k.0)) v.sizes }) }
-{
-    run(tx, "DELETE FROM sizes WHERE tab = ?1", &[tab.to_sql()])
-}
-
 /// Takes the size of a cell out.
 pub(crate) fn drop_size<S: Alter>(
     tx: &mut Transaction<'_, S>,
@@ -259,17 +143,6 @@ pub(crate) fn drop_size<S: Alter>(
     )
 }
 
-/// Takes a noted name out.
-pub(crate) fn drop_note<S: Alter>(tx: &mut Transaction<'_, S>, name: &str) -> Result<(), StoreFault>
-    ensures { StepsInside S.Store tx.old.conn tx.new.conn result
-        (λ v. record v {
-          noted = where_key name_cmp
-              (λ k. not (eq_by_cmp name_cmp (without_case name.now) k)) v.noted;
-        }) }
-{
-    run(tx, "DELETE FROM noted WHERE name = ?1", &[name.to_sql()])
-}
-
 /// Adds a table's name.
 pub(crate) fn add_name<S: Alter>(
     tx: &mut Transaction<'_, S>,
@@ -284,96 +157,6 @@ pub(crate) fn add_name<S: Alter>(
         tx,
         "INSERT INTO tab (id, name) VALUES (?1, ?2)",
         &[beside(tab, name), name.to_sql()],
-    )
-}
-
-/// Adds a column's name.
-pub(crate) fn add_column<S: Alter>(
-    tx: &mut Transaction<'_, S>,
-    tab: i64,
-    column: i64,
-    name: &str,
-) -> Result<(), StoreFault>
-    ensures { AddsInside S.Store tx.old.conn tx.new.conn result
-        (λ v. find column_key_cmp (tab, column) v.columns ≡ None)
-        (λ v. record v { columns = put column_key_cmp (tab, column) name.now v.columns }) }
-{
-    run(
-        tx,
-        "INSERT INTO col (tab, col, name) VALUES (?1, ?2, ?3)",
-        &[beside(tab, name), beside(column, name), name.to_sql()],
-    )
-}
-
-/// Adds that a column isn't indexed.
-pub(crate) fn add_skip<S: Alter>(
-    tx: &mut Transaction<'_, S>,
-    tab: i64,
-    column: i64,
-) -> Result<(), StoreFault>
-    ensures { AddsInside S.Store tx.old.conn tx.new.conn result
-        (λ v. find column_key_cmp (tab, column) v.skipped ≡ None)
-        (λ v. record v { skipped = put column_key_cmp (tab, column) tt v.skipped }) }
-{
-    run(
-        tx,
-        "INSERT INTO skip (tab, col) VALUES (?1, ?2)",
-        &[tab.to_sql(), column.to_sql()],
-    )
-}
-
-/// Adds a cell.
-pub(crate) fn add_cell<S: Alter>(
-    tx: &mut Transaction<'_, S>,
-    tab: i64,
-    docid: i64,
-    column: i64,
-    value: &Value,
-) -> Result<(), StoreFault>
-    ensures { AddsInside S.Store tx.old.conn tx.new.conn result
-        (λ v. find cell_key_cmp (tab, docid, column) v.cells ≡ None)
-        (λ v. record v {
-          cells = put cell_key_cmp (tab, docid, column) (shown_value value.now)
-              v.cells;
-        }) }
-{
-    run(
-        tx,
-        "INSERT INTO cell (tab, docid, col, num, txt) VALUES (?1, ?2, ?3, ?4, ?5)",
-        &[
-            beside_value(tab, value),
-            beside_value(docid, value),
-            beside_value(column, value),
-            number_of(value),
-            text_of(value),
-        ],
-    )
-}
-
-/// Adds a term's packed list in a document.
-pub(crate) fn add_list<'a, S: Alter>(
-    tx: &mut Transaction<'_, S>,
-    tab: i64,
-    term: &'a str,
-    docid: i64,
-    list: &'a [u8],
-) -> Result<(), StoreFault>
-    ensures { AddsInside S.Store tx.old.conn tx.new.conn result
-        (λ v. find list_key_cmp (tab, term.now, docid) v.lists ≡ None)
-        (λ v. record v {
-          lists = put list_key_cmp (tab, term.now, docid)
-              (unwrap_or (spots_in list.now) []) v.lists;
-        }) }
-{
-    run(
-        tx,
-        "INSERT INTO posting (tab, term, docid, list) VALUES (?1, ?2, ?3, ?4)",
-        &[
-            beside(tab, term),
-            term.to_sql(),
-            beside(docid, term),
-            list.to_sql(),
-        ],
     )
 }
 
@@ -396,18 +179,106 @@ pub(crate) fn add_lists<S: Alter>(
     )
 }
 
-/// Adds the size of a cell.
-pub(crate) fn add_size<S: Alter>(
+/// Puts a column's name.
+pub(crate) fn put_column<S: Alter>(
+    tx: &mut Transaction<'_, S>,
+    tab: i64,
+    column: i64,
+    name: &str,
+) -> Result<(), StoreFault>
+    ensures { StepsInside S.Store tx.old.conn tx.new.conn result
+        (λ v. record v { columns = put column_key_cmp (tab, column) name.now v.columns }) }
+{
+    run(
+        tx,
+        "DELETE FROM col WHERE tab = ?1 AND col = ?2",
+        &[beside(tab, name), beside(column, name)],
+    )?;
+    run(
+        tx,
+        "INSERT INTO col (tab, col, name) VALUES (?1, ?2, ?3)",
+        &[beside(tab, name), beside(column, name), name.to_sql()],
+    )
+}
+
+/// Puts that a column isn't indexed.
+pub(crate) fn put_skip<S: Alter>(
+    tx: &mut Transaction<'_, S>,
+    tab: i64,
+    column: i64,
+) -> Result<(), StoreFault>
+    ensures { StepsInside S.Store tx.old.conn tx.new.conn result
+        (λ v. record v { skipped = put column_key_cmp (tab, column) tt v.skipped }) }
+{
+    run(
+        tx,
+        "DELETE FROM skip WHERE tab = ?1 AND col = ?2",
+        &[tab.to_sql(), column.to_sql()],
+    )?;
+    run(
+        tx,
+        "INSERT INTO skip (tab, col) VALUES (?1, ?2)",
+        &[tab.to_sql(), column.to_sql()],
+    )
+}
+
+/// Puts a cell.
+pub(crate) fn put_cell<S: Alter>(
+    tx: &mut Transaction<'_, S>,
+    tab: i64,
+    docid: i64,
+    column: i64,
+    value: &Value,
+) -> Result<(), StoreFault>
+    ensures { StepsInside S.Store tx.old.conn tx.new.conn result
+        (λ v. record v {
+          cells = put cell_key_cmp (tab, docid, column) (shown_value value.now)
+              v.cells;
+        }) }
+{
+    run(
+        tx,
+        "DELETE FROM cell WHERE tab = ?1 AND docid = ?2 AND col = ?3",
+        &[
+            beside_value(tab, value),
+            beside_value(docid, value),
+            beside_value(column, value),
+        ],
+    )?;
+    run(
+        tx,
+        "INSERT INTO cell (tab, docid, col, num, txt) VALUES (?1, ?2, ?3, ?4, ?5)",
+        &[
+            beside_value(tab, value),
+            beside_value(docid, value),
+            beside_value(column, value),
+            number_of(value),
+            text_of(value),
+        ],
+    )
+}
+
+/// Puts a noted name.
+pub(crate) fn put_note<S: Alter>(tx: &mut Transaction<'_, S>, name: &str) -> Result<(), StoreFault>
+    ensures { StepsInside S.Store tx.old.conn tx.new.conn result
+        (λ v. record v { noted = put name_cmp (without_case name.now) name.now v.noted }) }
+{
+    run(tx, "DELETE FROM noted WHERE name = ?1", &[name.to_sql()])?;
+    run(tx, "INSERT INTO noted (name) VALUES (?1)", &[name.to_sql()])
+}
+
+/// Puts the size of a cell.
+pub(crate) fn put_size<S: Alter>(
     tx: &mut Transaction<'_, S>,
     tab: i64,
     docid: i64,
     column: i64,
     n: i64,
 ) -> Result<(), StoreFault>
-    ensures { AddsInside S.Store tx.old.conn tx.new.conn result
-        (λ v. find cell_key_cmp (tab, docid, column) v.sizes ≡ None)
+    ensures { StepsInside S.Store tx.old.conn tx.new.conn result
         (λ v. record v { sizes = put cell_key_cmp (tab, docid, column) n v.sizes }) }
 {
+    drop_size(tx, tab, docid, column)?;
     run(
         tx,
         "INSERT INTO sizes (tab, docid, col, n) VALUES (?1, ?2, ?3, ?4)",
@@ -415,11 +286,29 @@ pub(crate) fn add_size<S: Alter>(
     )
 }
 
-/// Adds a noted name.
-pub(crate) fn add_note<S: Alter>(tx: &mut Transaction<'_, S>, name: &str) -> Result<(), StoreFault>
-    ensures { AddsInside S.Store tx.old.conn tx.new.conn result
-        (λ v. find name_cmp (without_case name.now) v.noted ≡ None)
-        (λ v. record v { noted = put name_cmp (without_case name.now) name.now v.noted }) }
+/// Puts a term's packed list in a document.
+pub(crate) fn put_list<'a, S: Alter>(
+    tx: &mut Transaction<'_, S>,
+    tab: i64,
+    term: &'a str,
+    docid: i64,
+    list: &'a [u8],
+) -> Result<(), StoreFault>
+    ensures { StepsInside S.Store tx.old.conn tx.new.conn result
+        (λ v. record v {
+          lists = put list_key_cmp (tab, term.now, docid)
+              (unwrap_or (spots_in list.now) []) v.lists;
+        }) }
 {
-    run(tx, "INSERT INTO noted (name) VALUES (?1)", &[name.to_sql()])
+    drop_list(tx, tab, term, docid)?;
+    run(
+        tx,
+        "INSERT INTO posting (tab, term, docid, list) VALUES (?1, ?2, ?3, ?4)",
+        &[
+            beside(tab, term),
+            term.to_sql(),
+            beside(docid, term),
+            list.to_sql(),
+        ],
+    )
 }

@@ -25,7 +25,7 @@ use crate::adopt::take;
 use crate::examine::Rowids;
 use crate::expected::count_places;
 use crate::fault::StoreFault;
-use crate::files::open_for_store;
+use crate::files::open_database;
 use crate::lists::count_spots;
 use crate::make::made;
 use crate::parts::Parts;
@@ -119,7 +119,7 @@ impl<B: Start> Store<FileStore<FileFrom<B>>> {
         ensures refused { IsRefusedFrom (image_at B.Start) result }
         ensures unread { IfOk result (λ store. store.rows_read ≡ 0) }
     {
-        let conn = open_for_store(rt, path, start)?;
+        let conn = open_database(rt, path, start)?;
         Store::taken(rt.alloc(), conn)
     }
 }
@@ -135,7 +135,7 @@ impl<S: Alter + Drop> Store<S> {
         ensures refused { IfErr result (IsNotTakenFor S.Store conn) }
     {
         let mut conn = conn;
-        take(&mut conn, Rowids::Apart)?;
+        take(&mut conn, alloc, Rowids::Apart)?;
         Ok(Store {
             conn,
             alloc,
@@ -181,7 +181,7 @@ impl<S: Alter> Store<S> {
                 cause: StoreFault::Refused,
             });
         }
-        match take(&mut conn, Rowids::Unknown) {
+        match take(&mut conn, alloc, Rowids::Unknown) {
             Ok(()) => Ok(Store {
                 conn,
                 alloc,
@@ -268,7 +268,7 @@ impl<S: Alter> Store<S> {
         ensures read { ReadsRows S.Store self.old self.new result
             (λ found. if found then 1 else 0) IsPlainFault }
     {
-        let is_there = read::has_document(&mut self.conn, tab, docid)?;
+        let is_there = read::has_document(&mut self.conn, self.alloc, tab, docid)?;
         self.rows_read = self.rows_read.saturating_add(u64::from(is_there));
         Ok(is_there)
     }
@@ -280,7 +280,7 @@ impl<S: Alter> Store<S> {
         ensures read { ReadsRows S.Store self.old self.new result
             (λ last. length (option_to_list last)) IsPlainFault }
     {
-        let last = read::last_docid(&mut self.conn, tab)?;
+        let last = read::last_docid(&mut self.conn, self.alloc, tab)?;
         self.rows_read = self.rows_read.saturating_add(u64::from(last.is_some()));
         Ok(last)
     }

@@ -1,15 +1,16 @@
 //! The rows of a query, gathered as they come.
-ghost use Rattle.std.specs.Prelude.{◌≡◌, ◌++◌, ◌∷◌, [], List, Bool, true, Err, IfOk, IfErr};
+ghost use Rattle.std.specs.Prelude.{◌≡◌, ◌++◌, ◌∷◌, [], List, Bool, true, Err, ℤ, map, IfOk, IfErr};
 ghost use Rattle.sqlite.specs.Order as order;
 ghost use Rattle.sqlite.specs.Values.{bound};
 ghost use Rattle.sqlite.specs.Held.{state};
 ghost use Rattle.ft_rows.specs.declared.terms.TermLists.{TermLists};
 ghost use Rattle.ft_store.specs.Calls.{IsPlainFault};
-ghost use Rattle.ft_store.specs.Settled.{IsSettled, IsPlainIn, ReadsFor, GivesRows};
+ghost use Rattle.ft_store.specs.Settled.{IsSettled, IsPlainIn, Finds, ReadsFor, GivesRows};
 
 use crate::fault::StoreFault;
 use sqlite::types::ValueRef;
 use sqlite::{Alter, Connection, Row};
+use std::alloc::Global;
 
 /// What is made of rows, one after the other.
 pub(crate) trait Gathered: Sized {
@@ -53,4 +54,56 @@ pub(crate) fn gather<S: Alter, G: Gathered>(
         }
     }
     Err(StoreFault::Refused)
+}
+
+/// What stands in a row of a query.
+pub(crate) trait InRow: Drop {
+    /// The same under its key in the store's value, with the table that is asked for.
+    ghost Shown: { Type 0 };
+
+    ghost shown: { ℤ → Self → Shown };
+
+    ghost found: { ℤ → order.Row → Shown };
+
+    fn read(alloc: Global, row: &Row) -> Result<Self, StoreFault>
+        ensures { Finds result (λ x. (tab : ℤ) → shown tab x ≡ found tab row.now) };
+}
+
+/// What stands in rows, as they come.
+#[derive(Drop)]
+struct InRows<T> {
+    alloc: Global,
+    items: Vec<T>,
+}
+
+impl<T: InRow> Gathered for InRows<T> {
+    ghost use Rattle.std.specs.Prelude.{◌≡◌, ℤ, map, IsTrue};
+
+    ghost is_made_of = { λ made whole rows. IsTrue whole
+        × ((tab : ℤ) → map (T.InRow.shown tab) made.items.items ≡ map (T.InRow.found tab) rows) };
+
+    fn add(&mut self, whole: bool, row: &Row) -> Result<bool, StoreFault> {
+        self.items.push(T::read(self.alloc, row)?)?;
+        Ok(whole)
+    }
+}
+
+/// What stands in the rows that a query gives, in their order.
+pub(crate) fn select<S: Alter, T: InRow>(
+    conn: &mut Connection<S>,
+    alloc: Global,
+    sql: &str,
+    params: &[ValueRef<'_>],
+) -> Result<Vec<T>, StoreFault>
+    requires { IsSettled (IsPlainIn sql.now) (state S.Store conn.old) }
+    ensures { ReadsFor S.Store conn.old conn.new result
+        (λ found. GivesRows S.Store conn.old conn.new sql.now (bound params.now) (λ rows.
+        (tab : ℤ) → map (T.InRow.shown tab) found.items ≡ map (T.InRow.found tab) rows)) }
+{
+    let mut found = InRows {
+        alloc,
+        items: Vec::new(alloc),
+    };
+    gather(conn, sql, params, &mut found)?;
+    Ok(found.items)
 }

@@ -47,8 +47,8 @@ pub(crate) fn tables<S: Alter>(
     let names = names(conn, alloc)?;
     let mut found = Vec::new(alloc);
     for named in &names {
-        let name = named.1.clone()?;
-        found.push(table(conn, alloc, named.0, name)?)?;
+        let name = named.name.clone()?;
+        found.push(table(conn, alloc, named.id, name)?)?;
     }
     Ok(found)
 }

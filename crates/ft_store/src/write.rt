@@ -18,98 +18,14 @@ ghost use Rattle.ft_store.specs.Parts.{changes_in, CanMake};
 use crate::fault::StoreFault;
 use crate::parts::Parts;
 use crate::statements::{
-    add_cell, add_column, add_list, add_lists, add_name, add_note, add_size, add_skip, drop_cell,
-    drop_cells, drop_column, drop_columns, drop_contents, drop_list, drop_lists, drop_name,
-    drop_note, drop_size, drop_sizes, drop_skip, drop_skips,
+    add_lists, add_name, drop_cells, drop_list, drop_size, put_cell, put_column, put_list,
+    put_note, put_size, put_skip, run,
 };
 use ft_rows::{can_pack, pack};
 use ft_values::{RowChange, Spot, Value};
-use sqlite::types::ValueRef;
+use sqlite::types::{ToSql, ValueRef};
 use sqlite::{Alter, Connection, Transaction};
 use std::alloc::{AllocError, Global};
-
-/// Puts a column's name.
-fn put_column<S: Alter>(
-    tx: &mut Transaction<'_, S>,
-    tab: i64,
-    column: i64,
-    name: &str,
-) -> Result<(), StoreFault>
-    ensures { StepsInside S.Store tx.old.conn tx.new.conn result
-        (λ v. record v { columns = put column_key_cmp (tab, column) name.now v.columns }) }
-{
-    drop_column(tx, tab, column)?;
-    add_column(tx, tab, column, name)
-}
-
-/// Puts that a column isn't indexed.
-fn put_skip<S: Alter>(tx: &mut Transaction<'_, S>, tab: i64, column: i64) -> Result<(), StoreFault>
-    ensures { StepsInside S.Store tx.old.conn tx.new.conn result
-        (λ v. record v { skipped = put column_key_cmp (tab, column) tt v.skipped }) }
-{
-    drop_skip(tx, tab, column)?;
-    add_skip(tx, tab, column)
-}
-
-/// Puts a cell.
-fn put_cell<S: Alter>(
-    tx: &mut Transaction<'_, S>,
-    tab: i64,
-    docid: i64,
-    column: i64,
-    value: &Value,
-) -> Result<(), StoreFault>
-    ensures { StepsInside S.Store tx.old.conn tx.new.conn result
-        (λ v. record v {
-          cells = put cell_key_cmp (tab, docid, column) (shown_value value.now)
-              v.cells;
-        }) }
-{
-    drop_cell(tx, tab, docid, column)?;
-    add_cell(tx, tab, docid, column, value)
-}
-
-/// Puts a term's packed list in a document.
-fn put_list<'a, S: Alter>(
-    tx: &mut Transaction<'_, S>,
-    tab: i64,
-    term: &'a str,
-    docid: i64,
-    list: &'a [u8],
-) -> Result<(), StoreFault>
-    ensures { StepsInside S.Store tx.old.conn tx.new.conn result
-        (λ v. record v {
-          lists = put list_key_cmp (tab, term.now, docid)
-              (unwrap_or (spots_in list.now) []) v.lists;
-        }) }
-{
-    drop_list(tx, tab, term, docid)?;
-    add_list(tx, tab, term, docid, list)
-}
-
-/// Puts the size of a cell.
-fn put_size<S: Alter>(
-    tx: &mut Transaction<'_, S>,
-    tab: i64,
-    docid: i64,
-    column: i64,
-    n: i64,
-) -> Result<(), StoreFault>
-    ensures { StepsInside S.Store tx.old.conn tx.new.conn result
-        (λ v. record v { sizes = put cell_key_cmp (tab, docid, column) n v.sizes }) }
-{
-    drop_size(tx, tab, docid, column)?;
-    add_size(tx, tab, docid, column, n)
-}
-
-/// Puts a noted name.
-fn put_note<S: Alter>(tx: &mut Transaction<'_, S>, name: &str) -> Result<(), StoreFault>
-    ensures { StepsInside S.Store tx.old.conn tx.new.conn result
-        (λ v. record v { noted = put name_cmp (without_case name.now) name.now v.noted }) }
-{
-    drop_note(tx, name)?;
-    add_note(tx, name)
-}
 
 /// Puts a term's places in a document. Places that can't be packed are Damaged.
 fn put_entries<S: Alter>(
@@ -136,8 +52,8 @@ fn clear_index<S: Alter>(tx: &mut Transaction<'_, S>, tab: i64) -> Result<(), St
     ensures { StepsInside S.Store tx.old.conn tx.new.conn result
         (λ v. without_index tab v) }
 {
-    drop_lists(tx, tab)?;
-    drop_sizes(tx, tab)
+    run(tx, "DELETE FROM posting WHERE tab = ?1", &[tab.to_sql()])?;
+    run(tx, "DELETE FROM sizes WHERE tab = ?1", &[tab.to_sql()])
 }
 
 /// Takes all rows of a table out.
@@ -146,10 +62,10 @@ fn clear_rows<S: Alter>(tx: &mut Transaction<'_, S>, tab: i64) -> Result<(), Sto
         (λ v. without_rows tab v) }
 {
     clear_index(tx, tab)?;
-    drop_contents(tx, tab)?;
-    drop_skips(tx, tab)?;
-    drop_columns(tx, tab)?;
-    drop_name(tx, tab)
+    run(tx, "DELETE FROM cell WHERE tab = ?1", &[tab.to_sql()])?;
+    run(tx, "DELETE FROM skip WHERE tab = ?1", &[tab.to_sql()])?;
+    run(tx, "DELETE FROM col WHERE tab = ?1", &[tab.to_sql()])?;
+    run(tx, "DELETE FROM tab WHERE id = ?1", &[tab.to_sql()])
 }
 
 /// Puts the names of a table's columns, which are numbered from 0.
@@ -262,15 +178,11 @@ fn group_size(changes: &[RowChange]) -> usize
     requires { 0 < length changes.now }
     ensures { (0 < result) × (result ≤ length changes.now) }
 {
-    if changes.len() < GROUP {
-        return 1;
+    if changes.len() >= GROUP && changes[..GROUP].iter().all(puts_list) {
+        GROUP
+    } else {
+        1
     }
-    for change in &changes[..GROUP] {
-        if !puts_list(change) {
-            return 1;
-        }
-    }
-    GROUP
 }
 
 /// The packed lists of changes, if each puts one that can be packed.

@@ -1,35 +1,21 @@
-use Rattle.std.proofs.Common.{◌≡◌, map, sym, subst, arith, to_z-of_z}
-use Rattle.std.specs.Ordering.{int_eq}
-use Rattle.sqlite.specs.Given.{IsPlain}
-use Rattle.sqlite.specs.Listing.{understood}
+use Rattle.std.proofs.Common.{◌≡◌, Bool, [], map, sym, subst, refl, to_z-of_z}
+use Rattle.std.specs.Prelude.{IfOk}
+use Rattle.std.specs.FinMap.Entries.{where_key}
 use Rattle.sqlite.specs.Held.{state}
-use Rattle.std.proofs.lemmas.Result.{IfOk-weaker}
-use Rattle.ft_rows.specs.Shown.{shown_entry, entries_of}
+use Rattle.ft_rows.specs.Store.{ListKey, list_key_cmp}
 use Rattle.ft_store.specs.Calls.{AreTold}
-use Rattle.ft_store.proofs.Texts.{lists_text}
-use Rattle.ft_store.proofs.TextLemmas.{lists_plain}
-use Rattle.ft_store.proofs.AnswerLemmas.{lists_stored_shown, placed}
+use Rattle.ft_store.specs.Rows.{value_of}
+use Rattle.ft_rows.specs.Shown.{shown_entry, entries_of}
+use Rattle.ft_store.proofs.RangeLemmas.{all_begin}
 use Rattle.ft_store.proofs.lists.entries.Goals as goal
 
-pub select_entries-requires : goal.select_entries-requires
-select_entries-requires g c = record { settled = c.requires.settled; shown = λ clean is_open. subst (λ s. IsPlain (understood s lists_text)) (sym (c.requires.store clean is_open).schema) lists_plain }
-
 pub returns : goal.returns
-returns g c = record {
-  rows = λ clean.
-      let old = state g.S.Store c.args.conn.now in
-      let new = state g.S.Store c.select_entries.new.conn in
-      let store = c.requires.store (omega (arith, c.select_entries.ensures.read.survives.clean)) in
-      IfOk-weaker c.select_entries.result _ _
-      (λ found h. let all = placed old.now.trees c.args.tab (λ k. int_eq c.args.tab k.0) h.0 (lists_stored_shown c.args.tab old new h.0 store (simp (to_z-of_z, c.ranges.tab) at (rw c.params-to_sql.ensures at h.1))) in (subst (λ l. map shown_entry found.items ≡ entries_of l) all (h.2 c.args.tab).0, subst AreTold all (h.2 c.args.tab).1))
-      (c.select_entries.ensures.rows clean);
-  damaged = λ clean is.
-      let old = state g.S.Store c.args.conn.now in
-      let new = state g.S.Store c.select_entries.new.conn in
-      let store = c.requires.store (omega (arith, c.select_entries.ensures.read.survives.clean)) in
-      let h = c.select_entries.ensures.damaged clean is in
-      let all = placed old.now.trees c.args.tab (λ k. int_eq c.args.tab k.0) h.0 (lists_stored_shown c.args.tab old new h.0 store (simp (to_z-of_z, c.ranges.tab) at (rw c.params-to_sql.ensures at h.1))) in
-      subst (λ l. ¬ AreTold l) all (h.2 c.args.tab);
-  stays = c.select_entries.ensures.stays;
-  read = c.select_entries.ensures.read;
-}
+returns g c =
+    let lists = (value_of (state g.S.Store c.args.conn.now).now.trees).lists in
+    record {
+      rows = λ clean. subst (λ (p : ListKey → Bool). IfOk c.prefix.result (λ found. (map shown_entry found.items ≡ entries_of (where_key list_key_cmp p lists)) × AreTold (where_key list_key_cmp p lists)))
+          (sym (all_begin c.args.tab [] refl)) (simp (to_z-of_z, c.ranges.tab) at (c.prefix.ensures.rows clean));
+      damaged = λ clean is. subst (λ (p : ListKey → Bool). ¬ AreTold (where_key list_key_cmp p lists)) (sym (all_begin c.args.tab [] refl)) (simp (to_z-of_z, c.ranges.tab) at (c.prefix.ensures.damaged clean is));
+      stays = c.prefix.ensures.stays;
+      read = c.prefix.ensures.read;
+    }

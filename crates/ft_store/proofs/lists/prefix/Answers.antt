@@ -1,36 +1,46 @@
-use Rattle.std.proofs.Common.{◌≡◌, Bool, [], map, subst, to_z-of_z, rules}
-use Rattle.std.specs.Prelude.{IfOk}
-use Rattle.std.specs.FinMap.Entries.{where_key}
+use Rattle.std.proofs.Common.{[], ◌∷◌, ◌∙◌, ap, ◌≡◌, ◌&&◌, map, sym, subst, arith, to_z-of_z}
+use Rattle.std.specs.Prelude.{nat_eq}
+use Rattle.std.specs.List.{starts_with}
+use Rattle.std.specs.Ordering.{int_eq}
+use Rattle.sqlite.specs.Given.{IsPlain}
+use Rattle.sqlite.specs.Listing.{understood}
+use Rattle.sqlite.specs.declared.types.Value.TheVariants.{Int, Text}
+use Rattle.sqlite.specs.State.{Shown}
+use Rattle.ft_store.specs.Range.{after_last, limit_of}
 use Rattle.sqlite.specs.Held.{state}
-use Rattle.ft_rows.specs.Store.{ListKey, list_key_cmp}
-use Rattle.ft_store.specs.Calls.{AreTold}
-use Rattle.ft_store.specs.Rows.{value_of}
+use Rattle.std.proofs.lemmas.Result.{IfOk-weaker}
 use Rattle.ft_rows.specs.Shown.{shown_entry, entries_of}
-use Rattle.ft_store.proofs.RangeLemmas.{below_255, all_begin, none_of}
+use Rattle.ft_store.specs.Calls.{AreTold}
+use Rattle.ft_store.proofs.RangeLemmas.{below_255, bound_limit}
+use Rattle.ft_store.proofs.Texts.{prefix_text}
+use Rattle.ft_store.proofs.TextLemmas.{prefix_plain}
+use Rattle.ft_store.proofs.AnswerLemmas.{prefix_stored_shown, placed}
 use Rattle.ft_store.proofs.lists.prefix.Goals as goal
 
-pub returns-then-is_empty : goal.returns-then-is_empty
-returns-then-is_empty g c = record {
-  rows = λ clean.
-      let lists = (value_of (state g.S.Store c.args.conn.now).now.trees).lists in
-      let none : c.args.begin.now ≡ [] = none_of c.args.begin.now (search rules) in
-      subst (λ (p : ListKey → Bool). IfOk c.entries.result (λ found. (map shown_entry found.items ≡ entries_of (where_key list_key_cmp p lists)) × AreTold (where_key list_key_cmp p lists)))
-      (all_begin c.args.tab c.args.begin.now none) (simp (to_z-of_z, c.ranges.tab) at (c.entries.ensures.rows clean));
-  damaged = λ clean is.
-      let lists = (value_of (state g.S.Store c.args.conn.now).now.trees).lists in
-      let none : c.args.begin.now ≡ [] = none_of c.args.begin.now (search rules) in
-      subst (λ (p : ListKey → Bool). ¬ AreTold (where_key list_key_cmp p lists)) (all_begin c.args.tab c.args.begin.now none) (simp (to_z-of_z, c.ranges.tab) at (c.entries.ensures.damaged clean is));
-  stays = c.entries.ensures.stays;
-  read = c.entries.ensures.read;
-}
+pub select_entries-requires : goal.select_entries-requires
+select_entries-requires g c = record { settled = c.requires.settled; shown = λ clean is_open. subst (λ s. IsPlain (understood s prefix_text)) (sym (c.requires.store clean is_open).schema) prefix_plain }
 
 pub after_last-requires : goal.after_last-requires
 after_last-requires g c = below_255 c.as_bytes.result.now c.as_bytes.ensures.utf8
 
 pub returns : goal.returns
 returns g c = record {
-  rows = λ clean. rw c.as_bytes-2.ensures.value at (simp (to_z-of_z, c.ranges.tab) at (c.range.ensures.rows clean));
-  damaged = λ clean is. rw c.as_bytes-2.ensures.value at (simp (to_z-of_z, c.ranges.tab) at (c.range.ensures.damaged clean is));
-  stays = c.range.ensures.stays;
-  read = c.range.ensures.read;
+  rows = λ clean.
+      let old = state g.S.Store c.args.conn.now in
+      let new = state g.S.Store c.select_entries.new.conn in
+      let ends = c.as_slice-end.ensures.value ∙ c.in_ok-end.ensures ∙ ap after_last c.as_bytes.ensures.value in
+      let store = c.requires.store (omega (arith, c.select_entries.ensures.read.survives.clean)) in
+      IfOk-weaker c.select_entries.result _ _
+      (λ found h. let all = placed old.now.trees c.args.tab (λ k. int_eq c.args.tab k.0 && starts_with nat_eq k.1 c.args.begin.now) h.0 (prefix_stored_shown c.args.tab c.args.begin.now old new h.0 store (subst (λ e. Shown prefix_text (Int c.args.tab ∷ Text c.args.begin.now ∷ limit_of e ∷ []) old new h.0) ends (simp (to_z-of_z, c.ranges.tab, bound_limit) at (rw (c.beside.ensures, c.text_beside.ensures, c.limit_of.ensures) at h.1)))) in (subst (λ l. map shown_entry found.items ≡ entries_of l) all (h.2 c.args.tab).0, subst AreTold all (h.2 c.args.tab).1))
+      (c.select_entries.ensures.rows clean);
+  damaged = λ clean is.
+      let old = state g.S.Store c.args.conn.now in
+      let new = state g.S.Store c.select_entries.new.conn in
+      let ends = c.as_slice-end.ensures.value ∙ c.in_ok-end.ensures ∙ ap after_last c.as_bytes.ensures.value in
+      let store = c.requires.store (omega (arith, c.select_entries.ensures.read.survives.clean)) in
+      let h = c.select_entries.ensures.damaged clean is in
+      let all = placed old.now.trees c.args.tab (λ k. int_eq c.args.tab k.0 && starts_with nat_eq k.1 c.args.begin.now) h.0 (prefix_stored_shown c.args.tab c.args.begin.now old new h.0 store (subst (λ e. Shown prefix_text (Int c.args.tab ∷ Text c.args.begin.now ∷ limit_of e ∷ []) old new h.0) ends (simp (to_z-of_z, c.ranges.tab, bound_limit) at (rw (c.beside.ensures, c.text_beside.ensures, c.limit_of.ensures) at h.1)))) in
+      subst (λ l. ¬ AreTold l) all (h.2 c.args.tab);
+  stays = c.select_entries.ensures.stays;
+  read = c.select_entries.ensures.read;
 }

@@ -1,35 +1,43 @@
-use Rattle.std.proofs.Common.{◌≡◌, Bool, [], subst, to_z-of_z, rules}
-use Rattle.std.specs.Prelude.{IfOk}
-use Rattle.std.specs.FinMap.Entries.{where_key}
+use Rattle.std.proofs.Common.{[], ◌∷◌, ap, sym, subst, ◌∙◌, arith, to_z-of_z}
+use Rattle.sqlite.specs.Given.{IsPlain}
+use Rattle.sqlite.specs.Listing.{understood}
+use Rattle.sqlite.specs.declared.types.Value.TheVariants.{Int, Text}
+use Rattle.sqlite.specs.State.{Shown}
+use Rattle.ft_store.specs.Range.{after_last, limit_of}
 use Rattle.sqlite.specs.Held.{state}
-use Rattle.ft_rows.specs.Store.{ListKey, list_key_cmp}
-use Rattle.ft_store.specs.Rows.{value_of}
-use Rattle.ft_rows.specs.Shown.{AreRead, SomeDamaged}
-use Rattle.ft_store.proofs.RangeLemmas.{below_255, all_begin, none_of}
+use Rattle.std.proofs.lemmas.Result.{IfOk-weaker}
+use Rattle.ft_rows.specs.Shown.{AreWhole}
+use Rattle.ft_store.proofs.RangeLemmas.{below_255, bound_limit}
+use Rattle.ft_store.proofs.Texts.{bare_prefix_text}
+use Rattle.ft_store.proofs.TextLemmas.{bare_prefix_plain}
+use Rattle.ft_store.proofs.AnswerLemmas.{bare_prefix_shown}
+use Rattle.ft_store.proofs.EntryLemmas.{whole_bare, bare_whole}
 use Rattle.ft_store.proofs.lists.prefix_lists.Goals as goal
 
-pub returns-then-is_empty : goal.returns-then-is_empty
-returns-then-is_empty g c = record {
-  rows = λ clean.
-      let lists = (value_of (state g.S.Store c.args.conn.now).now.trees).lists in
-      let none : c.args.begin.now ≡ [] = none_of c.args.begin.now (search rules) in
-      subst (λ (p : ListKey → Bool). IfOk c.table_lists.result (λ found. AreRead (where_key list_key_cmp p lists) found.items))
-      (all_begin c.args.tab c.args.begin.now none) (simp (to_z-of_z, c.ranges.tab) at (c.table_lists.ensures.rows clean));
-  damaged = λ clean is.
-      let lists = (value_of (state g.S.Store c.args.conn.now).now.trees).lists in
-      let none : c.args.begin.now ≡ [] = none_of c.args.begin.now (search rules) in
-      subst (λ (p : ListKey → Bool). SomeDamaged (where_key list_key_cmp p lists)) (all_begin c.args.tab c.args.begin.now none) (simp (to_z-of_z, c.ranges.tab) at (c.table_lists.ensures.damaged clean is));
-  stays = c.table_lists.ensures.stays;
-  read = c.table_lists.ensures.read;
-}
+pub select_lists-requires : goal.select_lists-requires
+select_lists-requires g c = record { settled = c.requires.settled; shown = λ clean is_open. subst (λ s. IsPlain (understood s bare_prefix_text)) (sym (c.requires.store clean is_open).schema) bare_prefix_plain }
 
 pub after_last-requires : goal.after_last-requires
 after_last-requires g c = below_255 c.as_bytes.result.now c.as_bytes.ensures.utf8
 
 pub returns : goal.returns
 returns g c = record {
-  rows = λ clean. rw c.as_bytes-2.ensures.value at (simp (to_z-of_z, c.ranges.tab) at (c.bare_range.ensures.rows clean));
-  damaged = λ clean is. rw c.as_bytes-2.ensures.value at (simp (to_z-of_z, c.ranges.tab) at (c.bare_range.ensures.damaged clean is));
-  stays = c.bare_range.ensures.stays;
-  read = c.bare_range.ensures.read;
+  rows = λ clean.
+      let old = state g.S.Store c.args.conn.now in
+      let new = state g.S.Store c.select_lists.new.conn in
+      let ends = c.as_slice-end.ensures.value ∙ c.in_ok-end.ensures ∙ ap after_last c.as_bytes.ensures.value in
+      let store = c.requires.store (omega (arith, c.select_lists.ensures.read.survives.clean)) in
+      IfOk-weaker c.select_lists.result _ _
+      (λ found h. let shown = bare_prefix_shown c.args.tab c.args.begin.now old new h.0 store (subst (λ e. Shown bare_prefix_text (Int c.args.tab ∷ Text c.args.begin.now ∷ limit_of e ∷ []) old new h.0) ends (simp (to_z-of_z, c.ranges.tab, bound_limit) at (rw (c.beside.ensures, c.text_beside.ensures, c.limit_of.ensures) at h.1))) in (h.2.0 ∙ shown, bare_whole _ (subst AreWhole shown h.2.1)))
+      (c.select_lists.ensures.rows clean);
+  damaged = λ clean is whole.
+      let old = state g.S.Store c.args.conn.now in
+      let new = state g.S.Store c.select_lists.new.conn in
+      let ends = c.as_slice-end.ensures.value ∙ c.in_ok-end.ensures ∙ ap after_last c.as_bytes.ensures.value in
+      let store = c.requires.store (omega (arith, c.select_lists.ensures.read.survives.clean)) in
+      let h = c.select_lists.ensures.damaged clean is in
+      let shown = bare_prefix_shown c.args.tab c.args.begin.now old new h.0 store (subst (λ e. Shown bare_prefix_text (Int c.args.tab ∷ Text c.args.begin.now ∷ limit_of e ∷ []) old new h.0) ends (simp (to_z-of_z, c.ranges.tab, bound_limit) at (rw (c.beside.ensures, c.text_beside.ensures, c.limit_of.ensures) at h.1))) in
+      h.2 (subst AreWhole (sym shown) (whole_bare _ whole));
+  stays = c.select_lists.ensures.stays;
+  read = c.select_lists.ensures.read;
 }

@@ -4,22 +4,24 @@ use Rattle.sqlite.specs.Listing.{understood}
 use Rattle.sqlite.specs.Held.{state}
 use Rattle.ft_store.proofs.Texts.{docids_text}
 use Rattle.ft_store.proofs.TextLemmas.{docids_plain}
-use Rattle.ft_store.proofs.ChainLemmas.{reads_on}
+use Rattle.std.proofs.lemmas.Result.{IfOk-weaker}
+use Rattle.ft_store.proofs.FoundNumbers.{numbers_in}
 use Rattle.ft_store.proofs.DocidLemmas.{docids_shown}
 use Rattle.ft_store.proofs.read.docids.Goals as goal
 
-pub gather-requires-clause-asked : goal.gather-requires-clause-asked
-gather-requires-clause-asked g c = record { settled = c.requires.settled; shown = λ clean is_open. subst (λ s. IsPlain (understood s docids_text)) (sym (c.requires.store clean is_open).schema) docids_plain }
+pub select-requires : goal.select-requires
+select-requires g c = record { settled = c.requires.settled; shown = λ clean is_open. subst (λ s. IsPlain (understood s docids_text)) (sym (c.requires.store clean is_open).schema) docids_plain }
 
 pub returns : goal.returns
 returns g c = record {
   rows = λ clean.
       let old = state g.S.Store c.args.conn.now in
-      let new = state g.S.Store c.gather.new.conn in
-      let store = c.requires.store (omega (arith, c.gather.ensures.given.read.survives.clean)) in
-      let h = c.in_ok-gather.ensures.given.rows clean in
+      let new = state g.S.Store c.select.new.conn in
+      let store = c.requires.store (omega (arith, c.select.ensures.read.survives.clean)) in
       let fits : FitsSigned w64 c.limit_of-limit.result = search rules in
-      let shown = simp (to_z-of_z, c.ranges.tab, fits) at (rw (c.params-to_sql.ensures, c.params-to_sql-2.ensures, c.params-to_sql-3.ensures) at h.1) in
-      h.2.1 ∙ docids_shown c.args.tab c.limit_of-limit.result c.args.offset c.args.most c.limit_of-limit.ensures old new h.0 store shown;
-  read = reads_on g.S.Store _ _ _ _ c.in_ok-gather.ensures.given.read tt;
+      IfOk-weaker c.select.result _ _
+      (λ found h. numbers_in found.items h.0 (h.2 c.args.tab)
+      ∙ docids_shown c.args.tab c.limit_of-limit.result c.args.offset c.args.most c.limit_of-limit.ensures old new h.0 store (simp (to_z-of_z, c.ranges.tab, fits) at (rw (c.params-to_sql.ensures, c.params-to_sql-2.ensures, c.params-to_sql-3.ensures) at h.1)))
+      (c.select.ensures.rows clean);
+  read = c.select.ensures.read;
 }

@@ -8,17 +8,17 @@ use Rattle.ft_store.proofs.TextLemmas.{document_plain}
 use Rattle.ft_store.proofs.AnswerLemmas.{document_shown}
 use Rattle.ft_store.proofs.read.document.Goals as goal
 
-pub select_cells-requires : goal.select_cells-requires
-select_cells-requires g c = record { settled = c.requires.settled; shown = λ clean is_open. subst (λ s. IsPlain (understood s document_text)) (sym (c.requires.store clean is_open).schema) document_plain }
+pub select-requires : goal.select-requires
+select-requires g c = record { settled = c.requires.settled; shown = λ clean is_open. subst (λ s. IsPlain (understood s document_text)) (sym (c.requires.store clean is_open).schema) document_plain }
 
 pub returns : goal.returns
 returns g c = record {
   rows = λ clean.
       let old = state g.S.Store c.args.conn.now in
-      let new = state g.S.Store c.select_cells.new.conn in
-      let store = c.requires.store (omega (arith, c.select_cells.ensures.read.survives.clean)) in
-      IfOk-weaker c.select_cells.result _ _
+      let new = state g.S.Store c.select.new.conn in
+      let store = c.requires.store (omega (arith, c.select.ensures.read.survives.clean)) in
+      IfOk-weaker c.select.result _ _
       (λ found h. h.2 c.args.tab ∙ document_shown c.args.tab c.args.docid old new h.0 store (simp (to_z-of_z, c.ranges.tab, c.ranges.docid) at (rw (c.params-to_sql.ensures, c.params-to_sql-2.ensures) at h.1)))
-      (c.select_cells.ensures.rows clean);
-  read = c.select_cells.ensures.read;
+      (c.select.ensures.rows clean);
+  read = c.select.ensures.read;
 }

@@ -6,7 +6,8 @@ use Rattle.sqlite.specs.Held.{state}
 use Rattle.sqlite.specs.State.{HasCleanDisk}
 use Rattle.sqlite_keyed.proofs.ListLemmas.{map-map}
 use Rattle.ft_store.specs.Rows.{value_of}
-use Rattle.ft_rows.specs.Shown.{shown_name, shown_table, table_listed}
+use Rattle.ft_store.specs.Found.{name_of}
+use Rattle.ft_rows.specs.Shown.{shown_table, table_listed}
 use Rattle.ft_store.proofs.CallLemmas.{one_more}
 use Rattle.ft_store.proofs.ChainLemmas.{Reading, reading_then}
 use Rattle.ft_store.proofs.tables.tables.Goals as goal
@@ -23,11 +24,11 @@ loop-named-preserved g c =
       λ clean.
           let clean_was : HasCleanDisk was = omega (arith, c.table.ensures.read.survives.clean, clean) in
           let same = (before.0.kept clean_was (before.0.live clean_was)).0 in
-          let fits : FitsSigned w64 c.named-item.result.0 = search rules in
-          let copied : string_bytes c.in_ok-name.name ≡ string_bytes c.named-item.result.1 = search rules in
+          let fits : FitsSigned w64 c.named-item.result.id = search rules in
+          let copied : string_bytes c.in_ok-name.name ≡ string_bytes c.named-item.result.name = search rules in
           rw c.in_ok-push.ensures.items
-          (one_more shown_table (λ n. table_listed (value_of old.now.trees) (shown_name n)) c.loop-named.found.items c.deref-named-items.result.now c.loop-named.named-index c.in_ok-table.field-0 c.named-item.result c.loop-named-test.true c.named-item.is (before.2 clean_was)
-          (rw (to_z-of_z fits) at (c.in_ok-table.ensures.rows clean) ∙ ap (λ (d : Database). table_listed (value_of d.trees) (c.named-item.result.0, string_bytes c.in_ok-name.name)) same ∙ ap (λ name. table_listed (value_of old.now.trees) (c.named-item.result.0, name)) copied)),
+          (one_more shown_table (λ n. table_listed (value_of old.now.trees) (name_of n)) c.loop-named.found.items c.deref-named-items.result.now c.loop-named.named-index c.in_ok-table.field-0 c.named-item.result c.loop-named-test.true c.named-item.is (before.2 clean_was)
+          (rw (to_z-of_z fits) at (c.in_ok-table.ensures.rows clean) ∙ ap (λ (d : Database). table_listed (value_of d.trees) (c.named-item.result.id, string_bytes c.in_ok-name.name)) same ∙ ap (λ name. table_listed (value_of old.now.trees) (c.named-item.result.id, name)) copied)),
     )
 
 pub returns : goal.returns
@@ -37,8 +38,8 @@ returns g c = record {
       let read = c.loop-named.invariant.0 in
       let begun : HasCleanDisk (state g.S.Store c.names.new.conn) = c.loop-named.invariant.1 clean in
       c.loop-named.invariant.2 clean
-      ∙ ap (map (λ n. table_listed (value_of old.now.trees) (shown_name n))) (take_all c.loop-named.named-index c.deref-named-items.result.now c.loop-named-test.false ∙ c.deref-named-items.ensures.value)
-      ∙ sym (map-map (table_listed (value_of old.now.trees)) shown_name c.in_ok-names.names.items) ∙ ap (map (table_listed (value_of old.now.trees))) (c.in_ok-names.ensures.rows begun);
+      ∙ ap (map (λ n. table_listed (value_of old.now.trees) (name_of n))) (take_all c.loop-named.named-index c.deref-named-items.result.now c.loop-named-test.false ∙ c.deref-named-items.ensures.value)
+      ∙ sym (map-map (table_listed (value_of old.now.trees)) name_of c.in_ok-names.names.items) ∙ ap (map (table_listed (value_of old.now.trees))) (c.in_ok-names.ensures.rows begun);
   read = record { kept = c.loop-named.invariant.0.kept; live = c.loop-named.invariant.0.live; mode = c.loop-named.invariant.0.mode; survives = c.loop-named.invariant.0.survives; fault = search rules };
 }
 
