@@ -8,7 +8,7 @@ ghost use Rattle.ft_statements.specs.Views.{texts_of};
 ghost use Rattle.plain_shell.specs.Imports as forms;
 
 use crate::records::fitted;
-use ft_content::{Command, Value};
+use ft_content::{Command, Insertion, Value};
 use shell_text::{Settings, is_csv_separator};
 use std::alloc::{AllocError, Global};
 
@@ -157,11 +157,11 @@ pub fn insert_of(
     for fields in records {
         rows.push(row_cells(alloc, fields.as_slice(), columns)?)?;
     }
-    Ok(Command::Insert {
+    Ok(Command::Insert(Insertion {
         table: String::from_str(alloc, table)?,
         columns: None,
         rows,
-    })
+    }))
 }
 
 /// What parts the fields of a file: a comma where that is said, or else the separator, if it may
