@@ -1,7 +1,7 @@
 //! Commands over a store.
 ghost use Rattle.std.specs.Prelude.{map};
 ghost use Rattle.ft_content.specs.Views.{shown_info, command_of, answer_of};
-ghost use Rattle.ft_index.specs.Changed.{with_tables, Does, DoesAsked};
+ghost use Rattle.ft_index.specs.Changed.{with_tables, Does};
 ghost use Rattle.ft_index.specs.RowsRead.{CountsRows};
 
 use crate::check::check_table;
@@ -18,25 +18,8 @@ use ft_store::Store;
 use sqlite::Alter;
 use std::alloc::Global;
 
-/// Executes a command, where the store is open: it is asked first.
-pub(crate) fn execute_asked<S: Alter>(
-    alloc: Global,
-    store: &mut Store<S>,
-    tables: &mut Vec<TableInfo>,
-    command: &Command,
-) -> Result<Reply, Fault>
-    ensures does { DoesAsked S.Store (with_tables store.old (map shown_info tables.old.items))
-        (command_of command.now) result (with_tables store.new (map shown_info tables.new.items)) }
-    ensures counts { CountsRows S.Store (with_tables store.old (map shown_info tables.old.items))
-        (command_of command.now) (answer_of result)
-        (with_tables store.new (map shown_info tables.new.items)) }
-{
-    store.ping()?;
-    execute_command(alloc, store, tables, command)
-}
-
-// Executes a command over a store and the tables that are told of it.
-fn execute_command<S: Alter>(
+/// Executes a command over a store and the tables that are told of it.
+pub(crate) fn execute_command<S: Alter>(
     alloc: Global,
     store: &mut Store<S>,
     tables: &mut Vec<TableInfo>,

@@ -1,7 +1,7 @@
 //! Full-text tables over a store.
 use crate::change::{note_name, noted_names};
 use crate::check::check_all;
-use crate::execute::execute_asked;
+use crate::execute::execute_command;
 use crate::open::opened_tables;
 use crate::plan::planned_changes;
 use ft_content::{Command, Fault, Reply, TableInfo};
@@ -109,7 +109,11 @@ impl<S: Alter> FullText<S> {
         ensures counts { CountsRows S.Store self.old (command_of command.now) (answer_of result)
             self.new }
     {
-        let result = execute_asked(self.alloc, &mut self.store, &mut self.tables, command);
+        if let Err(fault) = self.store.ping() {
+            self.store.is_settled();
+            return Err(Fault::from(fault));
+        }
+        let result = execute_command(self.alloc, &mut self.store, &mut self.tables, command);
         self.store.is_settled();
         result
     }

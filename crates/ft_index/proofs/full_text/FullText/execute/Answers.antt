@@ -1,18 +1,54 @@
--- what is left of the store that was asked
-use Rattle.std.proofs.Common.{map, subst}
+-- the store is asked, and then the command is executed
+use Rattle.std.proofs.Common.{◌≡◌, Err, Result, map, rules, subst}
 use Rattle.std.specs.Prelude.{is_ok}
-use Rattle.ft_content.specs.Views.{shown_info, command_of}
-use Rattle.ft_index.specs.Kept.{FullText}
+use Rattle.ft_store.specs.Calls.{fault_of_read}
+use Rattle.ft_values.specs.declared.fault.Fault.{Fault}
+use Rattle.ft_content.specs.declared.command.Reply.{Reply}
+use Rattle.ft_content.specs.Views.{shown_info, command_of, answer_of}
+use Rattle.ft_index.specs.Kept.{FullText, Executes}
 use Rattle.ft_index.specs.Crashes.{LeavesCommand}
 use Rattle.ft_index.specs.Changed.{with_tables}
-use Rattle.ft_index.proofs.Pinging.{ok_then}
+use Rattle.ft_index.specs.RowsRead.{CountsRows}
+use Rattle.ft_index.proofs.Pinging.{counts_nothing, counts_then, does_nothing, does_then, outside_of, ok_then}
 use Rattle.ft_index.proofs.full_text.FullText.execute.Goals as goal
 
-pub returns-clause-leaves : goal.returns-clause-leaves
-returns-clause-leaves g c =
-    let new = with_tables c.execute_asked-result.new.store (map shown_info c.execute_asked-result.new.tables.items) in
-    subst (λ (k : FullText g.row.S.Denot). LeavesCommand g.S.Store k (command_of c.args.command.now) (is_ok c.execute_asked-result.result) new) c.self.view_is (record {
-      live = λ clean done. ok_then c.execute_asked-result.result (c.execute_asked-result.ensures.does.live clean) done;
-      settled = λ up. c.is_settled.ensures up.clean up.is_open;
-      survives = c.execute_asked-result.ensures.does.crash;
-    })
+pub returns-in-Err : goal.returns-in-Err
+returns-in-Err g c =
+    let old = c.self.inside.store in
+    let mid = c.ping.new.self in
+    let tables = map shown_info c.self.inside.tables.items in
+    let command = command_of c.args.command.now in
+    let answer : Result Reply Fault = Err c.from.result in
+    let is : answer ≡ Err (fault_of_read c.in-Err.fault) = search rules in
+    let does = does_nothing g.S.Store old mid _ c.ping.ensures tables command answer (fault_of_read c.in-Err.fault) is (outside_of c.in-Err.fault) in
+    let new = with_tables mid tables in
+    record {
+      executes = subst (λ (k : FullText g.row.S.Denot). Executes g.S.Store k command (answer_of answer) new) c.self.view_is does.executes;
+      leaves = subst (λ (k : FullText g.row.S.Denot). LeavesCommand g.S.Store k command (is_ok answer) new) c.self.view_is (record {
+        live = λ clean done. ok_then answer (does.live clean) done;
+        settled = λ up. c.is_settled.ensures up.clean up.is_open;
+        survives = does.crash;
+      });
+      counts = subst (λ (k : FullText g.row.S.Denot). CountsRows g.S.Store k command (answer_of answer) new) c.self.view_is
+          (counts_nothing g.S.Store old mid _ c.ping.ensures tables command answer (fault_of_read c.in-Err.fault) is);
+    }
+
+pub returns : goal.returns
+returns g c =
+    let old = c.self.inside.store in
+    let mid = c.ping.new.self in
+    let tables = map shown_info c.self.inside.tables.items in
+    let command = command_of c.args.command.now in
+    let done = c.execute_command-result in
+    let new = with_tables done.new.store (map shown_info done.new.tables.items) in
+    let does = does_then g.S.Store old mid _ c.ping.ensures c.in_default.ensures.live tables new command done.result done.ensures.does in
+    record {
+      executes = subst (λ (k : FullText g.row.S.Denot). Executes g.S.Store k command (answer_of done.result) new) c.self.view_is does.executes;
+      leaves = subst (λ (k : FullText g.row.S.Denot). LeavesCommand g.S.Store k command (is_ok done.result) new) c.self.view_is (record {
+        live = λ clean done_so. ok_then done.result (does.live clean) done_so;
+        settled = λ up. c.is_settled-2.ensures up.clean up.is_open;
+        survives = does.crash;
+      });
+      counts = subst (λ (k : FullText g.row.S.Denot). CountsRows g.S.Store k command (answer_of done.result) new) c.self.view_is
+          (counts_then g.S.Store old mid _ c.ping.ensures c.in_default.ensures.live tables new command done.result done.ensures.does done.ensures.counts);
+    }
