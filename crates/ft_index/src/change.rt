@@ -5,11 +5,10 @@ ghost use Rattle.ft_rows.specs.Shown.{shown_note};
 ghost use Rattle.ft_rows.specs.Store.{Note};
 ghost use Rattle.ft_store.specs.Kept.{shows, value_in};
 ghost use Rattle.ft_rows.specs.Changes.{shown_change};
-ghost use Rattle.ft_store.specs.Parts.{changes_in};
 ghost use Rattle.ft_index.specs.Changed.{LooksAsked, MakesAsked, MakesRows};
 
 use ft_content::Fault;
-use ft_store::{Parts, RowChange, Store, StoreFault};
+use ft_store::{RowChange, Store, StoreFault};
 use sqlite::Alter;
 use std::alloc::Global;
 
@@ -21,18 +20,6 @@ pub(crate) fn change_rows<S: Alter>(
     ensures { MakesRows S.Store store.old store.new (map shown_change changes.now) result }
 {
     store.change(changes)?;
-    Ok(())
-}
-
-/// Makes all changes of all parts or none.
-pub(crate) fn change_parts<S: Alter, P: Parts>(
-    store: &mut Store<S>,
-    parts: &mut P,
-) -> Result<(), Fault>
-    ensures { MakesRows S.Store store.old store.new (changes_in (P.Parts.to_come parts.old))
-        result }
-{
-    store.change_parts(parts)?;
     Ok(())
 }
 

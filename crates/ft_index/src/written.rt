@@ -7,7 +7,6 @@ ghost use Rattle.ft_documents.specs.RewriteRows.{rewrite_changes};
 ghost use Rattle.ft_rows.specs.Changes.{shown_change};
 ghost use Rattle.ft_index.specs.Written.{first_parts, AnswersWritten, PlansWritten, AreOfAnew, MakesAnew};
 
-use crate::change::change_parts;
 use crate::tables::adding;
 use ft_content::{Fault, Reply, TableInfo};
 use ft_documents::{Rewrite, in_groups, row_changes};
@@ -61,7 +60,8 @@ impl Written<'_> {
             first,
             groups: groups.into_iter(),
         };
-        change_parts(store, &mut parts)
+        store.change_parts(&mut parts)?;
+        Ok(())
     }
 }
 

@@ -1,5 +1,5 @@
 -- by the groups
-use Rattle.std.proofs.Common.{rules, ◌≡◌, Err, List, map, sym, ap, subst, ◌∙◌}
+use Rattle.std.proofs.Common.{rules, ◌≡◌, ◌++◌, Err, Ok, List, map, sym, ap, subst, ◌∙◌}
 use Rattle.std.specs.List.{flat_map}
 use Rattle.std.specs.Vec.{vec_items}
 use Rattle.std.specs.Vec.Iter.{into_iter_items}
@@ -17,13 +17,26 @@ returns-in_err-groups g c =
     let refused : c.from_residual.result ≡ Err faults.Memory = search rules in
     subst (MakesWritten g.S.Store (changes_in (first_parts c.args.first)) c.args.self c.args.store.now c.args.store.now) (sym refused) (makes_nothing c.args.self g.S.Store (changes_in (first_parts c.args.first)) c.args.store.now)
 
+pub returns-in_err-change_parts : goal.returns-in_err-change_parts
+returns-in_err-change_parts g c =
+    let table = c.args.self.table.now in
+    let groups = into_iter_items c.into_iter.result in
+    let parts = parts_of table.id (map column_of table.columns.items) groups in
+    let makes : MakesRows g.S.Store c.args.store.now c.change_parts.new.self (changes_in (first_parts c.args.first ++ parts)) c.from_residual-in_err-change_parts.result = search rules in
+    record {
+      changes = changes_in parts;
+      of_written = of_groups c.args.self groups (ap (flat_map vec_items) c.into_iter.ensures.rest ∙ c.in_ok-groups.ensures);
+      makes = subst (λ (cs : List Change). MakesRows g.S.Store c.args.store.now c.change_parts.new.self cs c.from_residual-in_err-change_parts.result) (parts_behind c.args.first parts) makes;
+    }
+
 pub returns : goal.returns
 returns g c =
     let table = c.args.self.table.now in
     let groups = into_iter_items c.into_iter.result in
     let parts = parts_of table.id (map column_of table.columns.items) groups in
+    let makes : MakesRows g.S.Store c.args.store.now c.change_parts.new.self (changes_in (first_parts c.args.first ++ parts)) (Ok (tt {0})) = search rules in
     record {
       changes = changes_in parts;
       of_written = of_groups c.args.self groups (ap (flat_map vec_items) c.into_iter.ensures.rest ∙ c.in_ok-groups.ensures);
-      makes = subst (λ (cs : List Change). MakesRows g.S.Store c.args.store.now c.change_parts.new.store cs c.change_parts.result) (parts_behind c.args.first parts) c.change_parts.ensures;
+      makes = subst (λ (cs : List Change). MakesRows g.S.Store c.args.store.now c.change_parts.new.self cs (Ok (tt {0}))) (parts_behind c.args.first parts) makes;
     }
