@@ -70,14 +70,12 @@ pub fn read_plain(
     ensures { IfOk result (IsRunAs (tokens.tokens_of text.now)) }
 {
     let pieces = pieces_of(alloc, text, words)?;
-    let words = pieces.as_slice();
-    let made = match made_name(Reader { alloc, words }) {
+    let left = pieces.as_slice();
+    let asks = asks(left);
+    let made = match made_name(Reader { alloc, left }) {
         Ok(name) => Some(name),
         Err(StatementFault::Syntax) => None,
         Err(StatementFault::Memory) => return Err(AllocError),
     };
-    Ok(PlainStatement {
-        asks: asks(words),
-        made,
-    })
+    Ok(PlainStatement { asks, made })
 }

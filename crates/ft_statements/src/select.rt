@@ -81,29 +81,23 @@ fn order(words: &mut Reader<'_>) -> Result<(), StatementFault>
     Ok(())
 }
 
-fn offset(mut words: Reader<'_>) -> Result<u64, StatementFault>
-    ensures { Gives (λ n. n) result (forms.offset_of (rest_of words.entry)) }
-{
-    if words.words.is_empty() {
-        return Ok(0);
-    }
-    words.keyword("OFFSET")?;
-    let offset = count(&mut words)?;
-    words.end()?;
-    Ok(offset)
-}
-
 // The limit, if there is one, and the offset.
 #[tactic(auto, unfolding(crate::specs::Select::limits_of))]
 fn limits(mut words: Reader<'_>) -> Result<(Option<u64>, u64), StatementFault>
     ensures { Gives (λ limits. limits) result (forms.limits_of (rest_of words.entry)) }
 {
-    if words.words.is_empty() {
+    if words.left.is_empty() {
         return Ok((None, 0));
     }
     words.keyword("LIMIT")?;
-    let limit = count(&mut words)?;
-    Ok((Some(limit), offset(words)?))
+    let limit = Some(count(&mut words)?);
+    if words.left.is_empty() {
+        return Ok((limit, 0));
+    }
+    words.keyword("OFFSET")?;
+    let offset = count(&mut words)?;
+    words.end()?;
+    Ok((limit, offset))
 }
 
 /// SELECT.
