@@ -46,6 +46,16 @@ each_ends f parts i d h none =
 
 -- ---- what is read of a part, and its end
 
+-- nothing is left
+pub all_whole : {A : Type 0} (o : Option A) → whole (o >>= λ x. let nothing : List Token = [] in Some (x, nothing)) ≡ o
+all_whole None = refl
+all_whole (Some x) = refl
+
+-- something is left
+pub not_whole : {A : Type 0} (o : Option A) (t : Token) (ts : List Token) → whole (o >>= λ x. let left : List Token = t ∷ ts in Some (x, left)) ≡ None
+not_whole None t ts = refl
+not_whole (Some x) t ts = refl
+
 abbrev ok : Unit {0} → Result (Unit {0}) StatementFault
 ok u = Ok u
 
