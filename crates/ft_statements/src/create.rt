@@ -69,6 +69,7 @@ fn column(mut words: Reader<'_>) -> Result<Argument, StatementFault>
     }
 }
 
+// The first of the three that the words are.
 fn argument_of(words: Reader<'_>) -> Result<Argument, StatementFault>
     ensures { Gives argument_as result (forms.argument_of (rest_of words.entry)) }
 {
@@ -82,7 +83,7 @@ fn argument_of(words: Reader<'_>) -> Result<Argument, StatementFault>
     }
 }
 
-// All of the words.
+// An option or a column, which takes all of the words.
 impl Spelled for Argument {
     ghost Form = { forms.Argument };
 

@@ -53,7 +53,7 @@ fn columns(words: &mut Reader<'_>) -> Result<Option<Vec<String>>, StatementFault
     Ok(Some(words.parenthesized()?.all()?))
 }
 
-// A row.
+// The values of a row, in parentheses.
 impl Spelled for Vec<Value> {
     ghost Form = { List Cell };
 
@@ -66,6 +66,7 @@ impl Spelled for Vec<Value> {
     }
 }
 
+// The INSERT of rows into this table that stands behind its name.
 fn rows(mut words: Reader<'_>, table: String) -> Result<Command, StatementFault>
     ensures { Gives views.command_of result
         (forms.rows_behind (string_bytes table) (rest_of words.entry)) }

@@ -30,6 +30,7 @@ fn returns(words: &[Piece<'_>]) -> bool
     words.iter().any(|word| is_keyword(word, "RETURNING"))
 }
 
+// Whether a statement of these words is run as a query.
 fn asks(words: &[Piece<'_>]) -> bool
     ensures { result ≡ forms.asks (plain words.now) }
 {
@@ -50,6 +51,7 @@ fn table(words: &mut Reader<'_>) -> Result<(), StatementFault>
     words.keyword("TABLE")
 }
 
+// The name that a CREATE TABLE gives.
 fn made_name(mut words: Reader<'_>) -> Result<String, StatementFault>
     ensures { Gives string_bytes result (forms.made_name (rest_of words.entry)) }
 {

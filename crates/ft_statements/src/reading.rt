@@ -158,6 +158,7 @@ impl<'a> Reader<'a> {
     }
 
     // What the parts between commas spell; the words behind the last of them are left.
+    #[tactic(auto, using(crate::proofs::EachLemmas::last_read))]
     pub(crate) fn list<T: Spelled>(&mut self) -> Result<Vec<T>, StatementFault>
         ensures { Advances (λ found. map T.shown found.items)
             (λ words. forms.with_last (λ part. forms.whole (T.form part)) T.form

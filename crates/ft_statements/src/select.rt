@@ -11,6 +11,7 @@ use crate::statement::StatementFault;
 use crate::values::count;
 use ft_content::{Command, Item, Items};
 
+// The call of `offsets`.
 fn offsets(words: &mut Reader<'_>) -> Result<Item, StatementFault>
     ensures { Advances views.item_of forms.offsets_at words.old words.new result }
 {
@@ -21,6 +22,7 @@ fn offsets(words: &mut Reader<'_>) -> Result<Item, StatementFault>
     Ok(Item::Offsets(name))
 }
 
+// A star, a call of `offsets`, or a name.
 impl Spelled for Item {
     ghost Form = { commands.Item };
 
@@ -55,6 +57,7 @@ fn count_all(words: &mut Reader<'_>) -> Result<Items, StatementFault>
     Ok(Items::Count)
 }
 
+// What is selected: a count, or items.
 #[tactic(auto, unfolding(crate::specs::Select::selection_at, crate::specs::Select::items_of))]
 fn selection(words: &mut Reader<'_>) -> Result<Items, StatementFault>
     ensures { Advances views.items_of forms.selection_at words.old words.new result }

@@ -78,12 +78,8 @@ fn command(words: Reader<'_>) -> Result<Command, StatementFault>
     }
 }
 
-// Whether a full-text table's name behind this word makes a statement full-text.
-fn leads(word: &Piece<'_>) -> bool
-    ensures { result ≡ forms.leads (seen word.now) }
-{
-    is_one_of(word, &["FROM", "INTO", "UPDATE", "TABLE", "JOIN", "EXISTS"])
-}
+// The words behind which a full-text table's name makes a statement full-text.
+const LEADS: [&str; 6] = ["FROM", "INTO", "UPDATE", "TABLE", "JOIN", "EXISTS"];
 
 // Whether one of these tables has this name.
 pub(crate) fn has_table(tables: &[TableInfo], name: &str) -> bool
@@ -110,7 +106,7 @@ fn names_table(alloc: Global, tables: &[TableInfo], words: &[Piece<'_>]) -> Resu
         (plain words.now)) }
 {
     for place in 1..words.len() {
-        if leads(&words[place - 1]) && is_table(alloc, tables, &words[place])? {
+        if is_one_of(&words[place - 1], &LEADS) && is_table(alloc, tables, &words[place])? {
             return Ok(true);
         }
     }
