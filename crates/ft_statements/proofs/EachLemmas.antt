@@ -4,9 +4,8 @@ use Rattle.std.specs.Borrow.{Bor}
 use Rattle.std.proofs.lemmas.List.{take_more, drop_more, take-append-drop, map-append}
 use Rattle.ft_statements.specs.declared.words.Piece.{Piece}
 use Rattle.ft_statements.specs.Words.{Token}
-use Rattle.ft_statements.specs.Reading.{Reads, ◌>>=◌, is_empty, whole, each, front_and_last, with_last}
-use Rattle.ft_statements.specs.Views.{plain, runs, rest_of, Gives, Advances}
-use Rattle.ft_statements.specs.declared.reading.Reader.{Reader}
+use Rattle.ft_statements.specs.Reading.{◌>>=◌, is_empty, whole, each, with_last}
+use Rattle.ft_statements.specs.Views.{plain, runs, Gives}
 use Rattle.std.specs.Result.{IsErr, IsErrAnd}
 use Rattle.ft_statements.specs.declared.statement.StatementFault.{StatementFault}
 use Rattle.ft_statements.specs.declared.statement.StatementFault.TheVariants.{Syntax}
@@ -46,6 +45,16 @@ each_ends f parts i d h none =
 
 -- ---- what is read of a part, and its end
 
+-- nothing is left
+pub all_whole : {A : Type 0} (o : Option A) → whole (o >>= λ x. let nothing : List Token = [] in Some (x, nothing)) ≡ o
+all_whole None = refl
+all_whole (Some x) = refl
+
+-- something is left
+pub not_whole : {A : Type 0} (o : Option A) (t : Token) (ts : List Token) → whole (o >>= λ x. let left : List Token = t ∷ ts in Some (x, left)) ≡ None
+not_whole None t ts = refl
+not_whole (Some x) t ts = refl
+
 abbrev ok : Unit {0} → Result (Unit {0}) StatementFault
 ok u = Ok u
 
@@ -63,12 +72,6 @@ pub fault_goes : {A B : Type 0} (shown : A → B) (result : Result A StatementFa
 fault_goes shown (Ok x) fault form is same none = absurd same
 fault_goes shown (Err other) fault form is same none = record { found = tt; none = λ e. let is_syntax : other ≡ Syntax = cc in none (sym same ∙ is_syntax) }
 
--- the same of a reader
-pub fault_goes_at : {A B : Type 0} (shown : A → B) (form : List Token → Reads B) (before after : Reader) (result : Result A StatementFault) (fault : StatementFault) →
-    IsErr result → IsErrAnd result (λ other. other ≡ fault) → (fault ≡ Syntax → form (rest_of before) ≡ None) → Advances shown form before after result
-fault_goes_at shown form before after (Ok x) fault is same none = absurd same
-fault_goes_at shown form before after (Err other) fault is same none = record { found = tt; none = λ e. let is_syntax : other ≡ Syntax = cc in none (sym same ∙ is_syntax) }
-
 -- ---- the parts but the last, and then the last one
 
 -- where there is no part
@@ -84,7 +87,6 @@ onto_last g last front = front >>= λ xs. g last >>= λ r. Some (xs ++ r.0 ∷ [
 abbrev pub before_last : {A B : Type 0} → List A → Option (A × B) → Option (List A × B)
 before_last xs last = last >>= λ r. Some (xs ++ r.0 ∷ [], r.1)
 
-pub last_read : {A B : Type 0} (f : List Token → Option A) (g : List Token → Option (A × B)) (all : List (List Token)) (parts : List (Bor (List Piece))) →
-    runs parts ≡ all → 1 ≤ length parts →
-    with_last f g all ≡ onto_last g (plain (get_or parts (length parts - 1) no_part).now) (each f (runs (take (length parts - 1) parts)))
-last_read f g all parts are some = ap (joined_last f g) (ap front_and_last (sym are) ∙ last_split parts no_part some)
+pub last_read : {A B : Type 0} (f : List Token → Option A) (g : List Token → Option (A × B)) (parts : List (Bor (List Piece))) → 1 ≤ length parts →
+    with_last f g (runs parts) ≡ onto_last g (plain (get_or parts (length parts - 1) no_part).now) (each f (runs (take (length parts - 1) parts)))
+last_read f g parts some = ap (joined_last f g) (last_split parts no_part some)

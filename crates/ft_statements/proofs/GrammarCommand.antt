@@ -63,37 +63,27 @@ command_sound (t ∷ ts) c e =
 
 created : {ts : List Token} → Begins (codes "CREATE") ts → command_of ts ≡ create ts
 unfolding command_of
-created (begins {t} ts is) = λ j. chosen (is j) (is_keyword (codes "DROP") t) (is_keyword (codes "INSERT") t) (is_keyword (codes "UPDATE") t) (is_keyword (codes "DELETE") t) (t ∷ ts)
+created (begins {t} ts is) = simp is
 
 dropped : {ts : List Token} → Begins (codes "DROP") ts → command_of ts ≡ drop ts
 unfolding command_of
-dropped (begins {t} ts is) =
-    let k = codes "DROP" in
-    λ j. chosen (one_keyword k (codes "CREATE") refl t is j) (is j) (is_keyword (codes "INSERT") t) (is_keyword (codes "UPDATE") t) (is_keyword (codes "DELETE") t) (t ∷ ts)
+dropped (begins {t} ts is) = let k = codes "DROP" in simp (one_keyword k (codes "CREATE") refl t is, is)
 
 inserted : {ts : List Token} → Begins (codes "INSERT") ts → command_of ts ≡ insert_first ts
 unfolding command_of
-inserted (begins {t} ts is) =
-    let k = codes "INSERT" in
-    λ j. chosen (one_keyword k (codes "CREATE") refl t is j) (one_keyword k (codes "DROP") refl t is j) (is j) (is_keyword (codes "UPDATE") t) (is_keyword (codes "DELETE") t) (t ∷ ts)
+inserted (begins {t} ts is) = let k = codes "INSERT" in simp (one_keyword k (codes "CREATE") refl t is, one_keyword k (codes "DROP") refl t is, is)
 
 updated : {ts : List Token} → Begins (codes "UPDATE") ts → command_of ts ≡ update ts
 unfolding command_of
-updated (begins {t} ts is) =
-    let k = codes "UPDATE" in
-    λ j. chosen (one_keyword k (codes "CREATE") refl t is j) (one_keyword k (codes "DROP") refl t is j) (one_keyword k (codes "INSERT") refl t is j) (is j) (is_keyword (codes "DELETE") t) (t ∷ ts)
+updated (begins {t} ts is) = let k = codes "UPDATE" in simp (one_keyword k (codes "CREATE") refl t is, one_keyword k (codes "DROP") refl t is, one_keyword k (codes "INSERT") refl t is, is)
 
 deleted : {ts : List Token} → Begins (codes "DELETE") ts → command_of ts ≡ delete ts
 unfolding command_of
-deleted (begins {t} ts is) =
-    let k = codes "DELETE" in
-    λ j. chosen (one_keyword k (codes "CREATE") refl t is j) (one_keyword k (codes "DROP") refl t is j) (one_keyword k (codes "INSERT") refl t is j) (one_keyword k (codes "UPDATE") refl t is j) (is j) (t ∷ ts)
+deleted (begins {t} ts is) = let k = codes "DELETE" in simp (one_keyword k (codes "CREATE") refl t is, one_keyword k (codes "DROP") refl t is, one_keyword k (codes "INSERT") refl t is, one_keyword k (codes "UPDATE") refl t is, is)
 
 selected : {ts : List Token} → Begins (codes "SELECT") ts → command_of ts ≡ select ts
 unfolding command_of
-selected (begins {t} ts is) =
-    let k = codes "SELECT" in
-    λ j. chosen (one_keyword k (codes "CREATE") refl t is j) (one_keyword k (codes "DROP") refl t is j) (one_keyword k (codes "INSERT") refl t is j) (one_keyword k (codes "UPDATE") refl t is j) (one_keyword k (codes "DELETE") refl t is j) (t ∷ ts)
+selected (begins {t} ts is) = let k = codes "SELECT" in simp (one_keyword k (codes "CREATE") refl t is, one_keyword k (codes "DROP") refl t is, one_keyword k (codes "INSERT") refl t is, one_keyword k (codes "UPDATE") refl t is, one_keyword k (codes "DELETE") refl t is)
 
 pub command_complete : (ts : List Token) (c : Command) → IsCommand ts c → command_of ts ≡ Some c
 command_complete ts c (as_create d) = created (create_begins d) ∙ create_complete d

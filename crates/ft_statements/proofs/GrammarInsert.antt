@@ -7,7 +7,8 @@ use Rattle.ft_content.specs.Content.{Cell}
 use Rattle.ft_content.specs.Command.{Command, Rebuild, Check, Optimize}
 use Rattle.ft_statements.specs.Words.{Token, is_symbol, name_of, literal_of}
 use Rattle.ft_statements.specs.Values.{value_at}
-use Rattle.ft_statements.specs.Reading.{whole, each, symbol_at, parenthesized, parts}
+use Rattle.ft_statements.specs.Reading.{Reads, ◌>>=◌, whole, each, symbol_at, parenthesized, parts}
+use Rattle.ft_statements.proofs.EachLemmas.{all_whole, not_whole}
 use Rattle.ft_statements.specs.Insert.{special_of, special_where, only_name, only_literal, special, names_of, listed_at, listed_behind, columns_at, only_value, row_of, insert}
 use Rattle.ft_statements.specs.Grammar.{IsSymbol, IsName, Alone, alone, Separated, InParens, in_parens, FirstOf, IsPart, part_word, part_group, part_end, IsInteger, without_sign, with_plus, with_minus, IsValue, null_value, text_value, integer_value, IsSame, IsTask, rebuild, check, optimize, IsSpecial, special_command, AreColumns, all_columns, these_columns, IsInsert, insert_rows}
 use Rattle.ft_statements.proofs.GrammarBase.{Spelled, goes_on, finally, bound, whole_is, from_keyword, from_keywords, from_token, from_spelled, keyword_there, keywords_there, token_there, only_is, only_there, one_symbol, keyword_no_symbol, name_no_symbol, text_no_symbol, number_no_symbol, first_sound, first_complete}
@@ -50,15 +51,32 @@ value_part us x (integer_value is) = integer_part is
 
 -- ---- rows
 
+abbrev row_in : Reads (List Token) → Option (List Cell)
+row_in read = whole read >>= λ row. each only_value (parts row)
+
+abbrev behind : List Token → List Token → Reads (List Token)
+behind inside rest = Some (inside, rest)
+
+-- the parenthesis that closes is the end of a row
+row_is : (ts : List Token) → row_of ts ≡ row_in (parenthesized ts)
+row_is ts = by_parens (parenthesized ts) where
+  by_rest : (inside rest : List Token) → whole (each only_value (parts inside) >>= λ row. Some (row, rest)) ≡ row_in (behind inside rest)
+  by_rest inside [] = all_whole (each only_value (parts inside))
+  by_rest inside (t ∷ ts) = not_whole (each only_value (parts inside)) t ts
+
+  by_parens : (o : Reads (List Token)) → whole (o >>= λ r. each only_value (parts r.0) >>= λ row. Some (row, r.1)) ≡ row_in o
+  by_parens None = refl
+  by_parens (Some r) = by_rest r.0 r.1
+
 row_sound : (us : List Token) (xs : List Cell) → row_of us ≡ Some xs → InParens (Separated IsValue) us xs
 row_sound us xs e =
-    bound (whole (parenthesized us)) _ e λ inside is e1.
+    bound (whole (parenthesized us)) _ (sym (row_is us) ∙ e) λ inside is e1.
     parens_whole us inside is λ left right is_left b is_right are.
     subst (λ us. InParens (Separated IsValue) us xs) are (in_parens is_left (list_sound only_value value_whole inside xs e1) right is_right)
 
 row_complete : (us : List Token) (xs : List Cell) → InParens (Separated IsValue) us xs → row_of us ≡ Some xs
 row_complete us xs (in_parens {left} {ts} is_left d right is_right) =
-    goes_on _ (whole_parens left ts right is_left (separated_balanced value_part d) is_right) (list_complete only_value whole_value value_part d)
+    row_is us ∙ goes_on _ (whole_parens left ts right is_left (separated_balanced value_part d) is_right) (list_complete only_value whole_value value_part d)
 
 row_part : (us : List Token) (xs : List Cell) → InParens (Separated IsValue) us xs → IsPart us
 row_part us xs (in_parens {left} {ts} is_left d right is_right) = part_group is_left (separated_balanced value_part d) right is_right part_end

@@ -65,7 +65,7 @@ abbrev pub row_at : List Token → Reads (List Cell)
 row_at ts = parenthesized ts >>= λ r. each only_value (parts r.0) >>= λ row. Some (row, r.1)
 
 abbrev pub row_of : List Token → Option (List Cell)
-row_of ts = whole (parenthesized ts) >>= λ row. each only_value (parts row)
+row_of ts = whole (row_at ts)
 
 -- behind the table's name: the columns, if they are named, and the rows
 abbrev pub rows_behind : List ℕ → List Token → Option Command

@@ -20,7 +20,7 @@ plain pieces = map seen pieces
 
 -- the words that are still to be read
 abbrev pub rest_of : Reader → List Token
-rest_of reader = plain reader.words.now
+rest_of reader = plain reader.left.now
 
 abbrev pub each_text : List (Bor (List ℕ)) → List (List ℕ)
 each_text texts = map (λ text. text.now) texts

@@ -20,6 +20,7 @@ pub(crate) fn key(words: &mut Reader<'_>) -> Result<(), StatementFault>
     words.keyword("rowid")
 }
 
+// A docid, behind its name and an equals sign.
 fn docid(words: &mut Reader<'_>) -> Result<Filter, StatementFault>
     ensures { Advances views.filter_of forms.docid_at words.old words.new result }
 {
@@ -28,6 +29,7 @@ fn docid(words: &mut Reader<'_>) -> Result<Filter, StatementFault>
     Ok(Filter::Docid(integer(words)?))
 }
 
+// A query, behind a name and MATCH.
 fn matching(words: &mut Reader<'_>) -> Result<Filter, StatementFault>
     ensures { Advances views.filter_of forms.match_at words.old words.new result }
 {

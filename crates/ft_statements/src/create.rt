@@ -40,11 +40,11 @@ fn tokenizer(mut words: Reader<'_>) -> Result<Argument, StatementFault>
 {
     words.keyword("tokenize")?;
     words.takes_symbol("=");
-    if words.words.is_empty() {
+    if words.left.is_empty() {
         return Err(StatementFault::Syntax);
     }
     let name = "tokenize".to_string(words.alloc)?;
-    let value = joined(words.alloc, words.words)?;
+    let value = joined(words.alloc, words.left)?;
     Ok(Argument::Setting { name, value })
 }
 
@@ -54,7 +54,7 @@ fn setting(mut words: Reader<'_>) -> Result<Argument, StatementFault>
 {
     let name = words.name()?;
     words.symbol("=")?;
-    let value = joined(words.alloc, words.words)?;
+    let value = joined(words.alloc, words.left)?;
     Ok(Argument::Setting { name, value })
 }
 
@@ -69,6 +69,7 @@ fn column(mut words: Reader<'_>) -> Result<Argument, StatementFault>
     }
 }
 
+// The first of the three that the words are.
 fn argument_of(words: Reader<'_>) -> Result<Argument, StatementFault>
     ensures { Gives argument_as result (forms.argument_of (rest_of words.entry)) }
 {
@@ -82,7 +83,7 @@ fn argument_of(words: Reader<'_>) -> Result<Argument, StatementFault>
     }
 }
 
-// All of the words.
+// An option or a column, which takes all of the words.
 impl Spelled for Argument {
     ghost Form = { forms.Argument };
 
@@ -92,7 +93,7 @@ impl Spelled for Argument {
 
     fn read(words: &mut Reader<'_>) -> Result<Argument, StatementFault> {
         let argument = argument_of(*words)?;
-        words.words = &[];
+        words.left = &[];
         Ok(argument)
     }
 }
@@ -102,12 +103,12 @@ fn arguments(mut words: Reader<'_>) -> Result<Vec<Argument>, StatementFault>
     ensures { Gives (λ found. map argument_as found.items) result
         (forms.arguments (rest_of words.entry)) }
 {
-    if words.words.is_empty() {
+    if words.left.is_empty() {
         return Ok(Vec::new(words.alloc));
     }
     let inside = words.parenthesized()?;
     words.end()?;
-    if inside.words.is_empty() {
+    if inside.left.is_empty() {
         return Ok(Vec::new(words.alloc));
     }
     inside.all()

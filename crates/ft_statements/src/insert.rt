@@ -53,7 +53,7 @@ fn columns(words: &mut Reader<'_>) -> Result<Option<Vec<String>>, StatementFault
     Ok(Some(words.parenthesized()?.all()?))
 }
 
-// A row.
+// The values of a row, in parentheses.
 impl Spelled for Vec<Value> {
     ghost Form = { List Cell };
 
@@ -66,10 +66,16 @@ impl Spelled for Vec<Value> {
     }
 }
 
-fn rows(mut words: Reader<'_>, table: String) -> Result<Command, StatementFault>
-    ensures { Gives views.command_of result
-        (forms.rows_behind (string_bytes table) (rest_of words.entry)) }
+/// A special command, or else an INSERT.
+pub(crate) fn insert(mut words: Reader<'_>) -> Result<Command, StatementFault>
+    ensures { Gives views.command_of result (forms.insert_first (rest_of words.entry)) }
 {
+    words.keywords(&["INSERT", "INTO"])?;
+    let table = words.name()?;
+    match special(words, table.as_str()) {
+        Err(StatementFault::Syntax) => {}
+        command => return command,
+    }
     let columns = columns(&mut words)?;
     words.keyword("VALUES")?;
     let rows = words.all()?;
@@ -78,16 +84,4 @@ fn rows(mut words: Reader<'_>, table: String) -> Result<Command, StatementFault>
         columns,
         rows,
     }))
-}
-
-/// A special command, or else an INSERT.
-pub(crate) fn insert(mut words: Reader<'_>) -> Result<Command, StatementFault>
-    ensures { Gives views.command_of result (forms.insert_first (rest_of words.entry)) }
-{
-    words.keywords(&["INSERT", "INTO"])?;
-    let table = words.name()?;
-    match special(words, table.as_str()) {
-        Err(StatementFault::Syntax) => rows(words, table),
-        command => command,
-    }
 }

@@ -30,6 +30,7 @@ fn returns(words: &[Piece<'_>]) -> bool
     words.iter().any(|word| is_keyword(word, "RETURNING"))
 }
 
+// Whether a statement of these words is run as a query.
 fn asks(words: &[Piece<'_>]) -> bool
     ensures { result ≡ forms.asks (plain words.now) }
 {
@@ -50,6 +51,7 @@ fn table(words: &mut Reader<'_>) -> Result<(), StatementFault>
     words.keyword("TABLE")
 }
 
+// The name that a CREATE TABLE gives.
 fn made_name(mut words: Reader<'_>) -> Result<String, StatementFault>
     ensures { Gives string_bytes result (forms.made_name (rest_of words.entry)) }
 {
@@ -70,14 +72,12 @@ pub fn read_plain(
     ensures { IfOk result (IsRunAs (tokens.tokens_of text.now)) }
 {
     let pieces = pieces_of(alloc, text, words)?;
-    let words = pieces.as_slice();
-    let made = match made_name(Reader { alloc, words }) {
+    let left = pieces.as_slice();
+    let asks = asks(left);
+    let made = match made_name(Reader { alloc, left }) {
         Ok(name) => Some(name),
         Err(StatementFault::Syntax) => None,
         Err(StatementFault::Memory) => return Err(AllocError),
     };
-    Ok(PlainStatement {
-        asks: asks(words),
-        made,
-    })
+    Ok(PlainStatement { asks, made })
 }

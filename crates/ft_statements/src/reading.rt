@@ -13,7 +13,7 @@ use std::alloc::{AllocError, Global};
 #[derive(Clone, Copy)]
 pub(crate) struct Reader<'a> {
     pub(crate) alloc: Global,
-    pub(crate) words: &'a [Piece<'a>],
+    pub(crate) left: &'a [Piece<'a>],
 }
 
 /// What words at the front spell.
@@ -45,9 +45,9 @@ impl<'a> Reader<'a> {
     pub(crate) fn keyword(&mut self, keyword: &str) -> Result<(), StatementFault>
         ensures { Passes (forms.keyword_at keyword.now) self.old self.new result }
     {
-        match self.words {
+        match self.left {
             [first, rest @ ..] if is_keyword(first, keyword) => {
-                self.words = rest;
+                self.left = rest;
                 Ok(())
             }
             _ => Err(StatementFault::Syntax),
@@ -70,9 +70,9 @@ impl<'a> Reader<'a> {
     pub(crate) fn symbol(&mut self, symbol: &str) -> Result<(), StatementFault>
         ensures { Passes (forms.symbol_at symbol.now) self.old self.new result }
     {
-        match self.words {
+        match self.left {
             [first, rest @ ..] if is_symbol(first, symbol) => {
-                self.words = rest;
+                self.left = rest;
                 Ok(())
             }
             _ => Err(StatementFault::Syntax),
@@ -97,10 +97,10 @@ impl<'a> Reader<'a> {
     pub(crate) fn next(&mut self) -> Result<&'a Piece<'a>, StatementFault>
         ensures { Advances (λ p. seen p.now) (forms.token_at Some) self.old self.new result }
     {
-        let [first, rest @ ..] = self.words else {
+        let [first, rest @ ..] = self.left else {
             return Err(StatementFault::Syntax);
         };
-        self.words = rest;
+        self.left = rest;
         Ok(first)
     }
 
@@ -122,7 +122,7 @@ impl<'a> Reader<'a> {
     pub(crate) fn end(&self) -> Result<(), StatementFault>
         ensures { result ≡ (if forms.is_empty (rest_of self.now) then Ok tt else Err Syntax) }
     {
-        match self.words {
+        match self.left {
             [] => Ok(()),
             _ => Err(StatementFault::Syntax),
         }
@@ -133,14 +133,14 @@ impl<'a> Reader<'a> {
         ensures { Advances rest_of forms.parenthesized self.old self.new result }
     {
         self.symbol("(")?;
-        let words = self.words;
+        let words = self.left;
         let mut depth = 0usize;
         for (i, word) in words.iter().enumerate() {
             if is_symbol(word, ")") && depth == 0 {
-                self.words = &words[i + 1..];
+                self.left = &words[i + 1..];
                 return Ok(Reader {
                     alloc: self.alloc,
-                    words: &words[..i],
+                    left: &words[..i],
                 });
             }
             depth = depth_after(depth, word);
@@ -153,22 +153,23 @@ impl<'a> Reader<'a> {
         ensures { Gives (λ found. map T.shown found.items) result
             (forms.each (λ part. forms.whole (T.form part)) (forms.parts (rest_of self.entry))) }
     {
-        let parts = parts(self.alloc, self.words)?;
+        let parts = parts(self.alloc, self.left)?;
         each(self.alloc, parts.as_slice())
     }
 
     // What the parts between commas spell; the words behind the last of them are left.
+    #[tactic(auto, using(crate::proofs::EachLemmas::last_read))]
     pub(crate) fn list<T: Spelled>(&mut self) -> Result<Vec<T>, StatementFault>
         ensures { Advances (λ found. map T.shown found.items)
             (λ words. forms.with_last (λ part. forms.whole (T.form part)) T.form
             (forms.parts words)) self.old self.new result }
     {
-        let parts = parts(self.alloc, self.words)?;
+        let parts = parts(self.alloc, self.left)?;
         let [front @ .., last] = parts.as_slice() else {
             return Err(StatementFault::Syntax);
         };
         let mut found = each(self.alloc, front)?;
-        self.words = *last;
+        self.left = *last;
         found.push(T::read(self)?)?;
         Ok(found)
     }
@@ -180,8 +181,8 @@ fn each<T: Spelled>(alloc: Global, parts: &[&[Piece<'_>]]) -> Result<Vec<T>, Sta
         (forms.each (λ part. forms.whole (T.form part)) (runs parts.now)) }
 {
     let mut found = Vec::new(alloc);
-    for &words in parts {
-        let mut part = Reader { alloc, words };
+    for &left in parts {
+        let mut part = Reader { alloc, left };
         let spelled = T::read(&mut part)?;
         part.end()?;
         found.push(spelled)?;

@@ -11,6 +11,7 @@ use crate::statement::StatementFault;
 use crate::values::count;
 use ft_content::{Command, Item, Items, Selection};
 
+// The call of `offsets`.
 fn offsets(words: &mut Reader<'_>) -> Result<Item, StatementFault>
     ensures { Advances views.item_of forms.offsets_at words.old words.new result }
 {
@@ -21,6 +22,7 @@ fn offsets(words: &mut Reader<'_>) -> Result<Item, StatementFault>
     Ok(Item::Offsets(name))
 }
 
+// A star, a call of `offsets`, or a name.
 impl Spelled for Item {
     ghost Form = { commands.Item };
 
@@ -55,6 +57,7 @@ fn count_all(words: &mut Reader<'_>) -> Result<Items, StatementFault>
     Ok(Items::Count)
 }
 
+// What is selected: a count, or items.
 #[tactic(auto, unfolding(crate::specs::Select::selection_at, crate::specs::Select::items_of))]
 fn selection(words: &mut Reader<'_>) -> Result<Items, StatementFault>
     ensures { Advances views.items_of forms.selection_at words.old words.new result }
@@ -81,29 +84,23 @@ fn order(words: &mut Reader<'_>) -> Result<(), StatementFault>
     Ok(())
 }
 
-fn offset(mut words: Reader<'_>) -> Result<u64, StatementFault>
-    ensures { Gives (λ n. n) result (forms.offset_of (rest_of words.entry)) }
-{
-    if words.words.is_empty() {
-        return Ok(0);
-    }
-    words.keyword("OFFSET")?;
-    let offset = count(&mut words)?;
-    words.end()?;
-    Ok(offset)
-}
-
 // The limit, if there is one, and the offset.
 #[tactic(auto, unfolding(crate::specs::Select::limits_of))]
 fn limits(mut words: Reader<'_>) -> Result<(Option<u64>, u64), StatementFault>
     ensures { Gives (λ limits. limits) result (forms.limits_of (rest_of words.entry)) }
 {
-    if words.words.is_empty() {
+    if words.left.is_empty() {
         return Ok((None, 0));
     }
     words.keyword("LIMIT")?;
-    let limit = count(&mut words)?;
-    Ok((Some(limit), offset(words)?))
+    let limit = Some(count(&mut words)?);
+    if words.left.is_empty() {
+        return Ok((limit, 0));
+    }
+    words.keyword("OFFSET")?;
+    let offset = count(&mut words)?;
+    words.end()?;
+    Ok((limit, offset))
 }
 
 /// SELECT.

@@ -67,7 +67,7 @@ fn without_end<'a>(words: &'a [Piece<'a>]) -> &'a [Piece<'a>]
 fn command(words: Reader<'_>) -> Result<Command, StatementFault>
     ensures { Gives views.command_of result (forms.command_of (rest_of words.entry)) }
 {
-    match words.words {
+    match words.left {
         [] => Err(StatementFault::Syntax),
         [first, ..] if is_keyword(first, "CREATE") => create(words),
         [first, ..] if is_keyword(first, "DROP") => drop_table(words),
@@ -78,12 +78,8 @@ fn command(words: Reader<'_>) -> Result<Command, StatementFault>
     }
 }
 
-// Whether a full-text table's name behind this word makes a statement full-text.
-fn leads(word: &Piece<'_>) -> bool
-    ensures { result ≡ forms.leads (seen word.now) }
-{
-    is_one_of(word, &["FROM", "INTO", "UPDATE", "TABLE", "JOIN", "EXISTS"])
-}
+// The words behind which a full-text table's name makes a statement full-text.
+const LEADS: [&str; 6] = ["FROM", "INTO", "UPDATE", "TABLE", "JOIN", "EXISTS"];
 
 // Whether one of these tables has this name.
 pub(crate) fn has_table(tables: &[TableInfo], name: &str) -> bool
@@ -110,7 +106,7 @@ fn names_table(alloc: Global, tables: &[TableInfo], words: &[Piece<'_>]) -> Resu
         (plain words.now)) }
 {
     for place in 1..words.len() {
-        if leads(&words[place - 1]) && is_table(alloc, tables, &words[place])? {
+        if is_one_of(&words[place - 1], &LEADS) && is_table(alloc, tables, &words[place])? {
             return Ok(true);
         }
     }
@@ -124,7 +120,7 @@ fn is_full_text(mut words: Reader<'_>, tables: &[TableInfo]) -> Result<bool, All
     if words.takes(&["CREATE", "VIRTUAL"]) {
         return Ok(true);
     }
-    names_table(words.alloc, tables, words.words)
+    names_table(words.alloc, tables, words.left)
 }
 
 /// The class of a statement, where these full-text tables are there, as the grammar of full-text
@@ -143,10 +139,10 @@ pub fn read_statement(
     ensures { ReadsClass (views.info_names tables.now) (tokens.tokens_of text.now) result }
 {
     let pieces = pieces_of(alloc, text, words)?;
-    let words = pieces.as_slice();
-    if !is_full_text(Reader { alloc, words }, tables)? {
+    let left = pieces.as_slice();
+    if !is_full_text(Reader { alloc, left }, tables)? {
         return Ok(Class::Plain);
     }
-    let words = without_end(words);
-    Ok(Class::FullText(command(Reader { alloc, words })?))
+    let left = without_end(left);
+    Ok(Class::FullText(command(Reader { alloc, left })?))
 }

@@ -118,7 +118,7 @@ pub(crate) fn literal_of(alloc: Global, piece: &Piece<'_>) -> Result<String, Sta
     ensures { Gives string_bytes result (forms.literal_of (seen piece.now)) }
 {
     match piece.kind {
-        SqlKind::Text => Ok(bare(alloc, piece)?),
+        SqlKind::Text => Ok(without_marks(alloc, piece.text)?),
         _ => Err(StatementFault::Syntax),
     }
 }

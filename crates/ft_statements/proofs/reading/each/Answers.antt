@@ -8,16 +8,16 @@ use Rattle.ft_statements.proofs.reading.each.Goals as goal
 
 pub returns-in_err-spelled : goal.returns-in_err-spelled
 returns-in_err-spelled g c = fault_goes _ _ _ _ c.from_residual.ensures.0 c.from_residual.ensures.1 (λ is.
-    each_ends _ c.args.parts.now c.loop-words.words-index _ c.loop-words-test.true (ap (λ o. whole o) (c.in_err-spelled.ensures.none (ap Err is))))
+    each_ends _ c.args.parts.now c.loop-left.left-index _ c.loop-left-test.true (ap (λ o. whole o) (c.in_err-spelled.ensures.none (ap Err is))))
 
 pub returns-in_err-end : goal.returns-in_err-end
 returns-in_err-end g c = fault_goes _ _ _ _ c.from_residual-in_err-end.ensures.0 c.from_residual-in_err-end.ensures.1 (λ is.
-    each_ends _ c.args.parts.now c.loop-words.words-index _ c.loop-words-test.true
+    each_ends _ c.args.parts.now c.loop-left.left-index _ c.loop-left-test.true
     (ap (λ o. whole o) c.in_ok-spelled.ensures.found ∙ end_fails _ (rest_of c.read.new.words) _ c.in_err-end.ensures))
 
-pub loop-words-preserved : goal.loop-words-preserved
-loop-words-preserved g c =
+pub loop-left-preserved : goal.loop-left-preserved
+loop-left-preserved g c =
     let shown = g.T.Spelled.shown in
-    each_more _ c.args.parts.now c.loop-words.words-index _ (map shown c.loop-words.found.items) (shown c.in_ok-spelled.spelled) c.loop-words-test.true c.loop-words.invariant
+    each_more _ c.args.parts.now c.loop-left.left-index _ (map shown c.loop-left.found.items) (shown c.in_ok-spelled.spelled) c.loop-left-test.true c.loop-left.invariant
     (ap (λ o. whole o) c.in_ok-spelled.ensures.found ∙ end_holds _ (rest_of c.read.new.words) _ c.in_ok-end.ensures)
-    ∙ sym (ap (λ xs. Some (map shown xs)) c.in_ok-push.ensures.items ∙ ap Some (map-append shown c.loop-words.found.items (c.in_ok-spelled.spelled ∷ [])))
+    ∙ sym (ap (λ xs. Some (map shown xs)) c.in_ok-push.ensures.items ∙ ap Some (map-append shown c.loop-left.found.items (c.in_ok-spelled.spelled ∷ [])))

@@ -4,5 +4,5 @@ use Rattle.ft_statements.specs.Reading.{each, whole}
 use Rattle.ft_statements.specs.Views.{runs}
 use Rattle.ft_statements.proofs.reading.each.Given as goal
 
-abbrev pub invariant-loop-words : goal.invariant-loop-words
-invariant-loop-words g l = each (λ part. whole (g.T.Spelled.form part)) (runs (take l.words-index l.parts)) ≡ Some (map g.T.Spelled.shown l.found.items)
+abbrev pub invariant-loop-left : goal.invariant-loop-left
+invariant-loop-left g l = each (λ part. whole (g.T.Spelled.form part)) (runs (take l.left-index l.parts)) ≡ Some (map g.T.Spelled.shown l.found.items)
