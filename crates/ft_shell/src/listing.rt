@@ -3,7 +3,9 @@ ghost use Rattle.ft_shell.specs.TablesTurns.{TablesTurn};
 ghost use Rattle.plain_shell.specs.OutputViews.{answer_as};
 
 use ft_index::FullText;
-use plain_shell::{Answer, list_turn};
+use ft_statements::listed_tables;
+use plain_shell::{Answer, Output, found_tables};
+use shell_text::write_names;
 use sqlite::{Alter, Connection};
 use std::alloc::Global;
 
@@ -17,5 +19,9 @@ pub(crate) fn tables_turn<P: Alter, S: Alter>(
         (answer_as result) }
 {
     let noted = full_text.noted()?;
-    list_turn(alloc, plain, full_text.tables(), noted.as_slice())
+    let found = found_tables(alloc, plain, noted.as_slice())?;
+    let names = listed_tables(alloc, full_text.tables(), found)?;
+    let mut bytes: Vec<u8> = Vec::new(alloc);
+    write_names(alloc, names.as_slice(), &mut bytes)?;
+    Ok(Output::Bytes(bytes))
 }

@@ -16,10 +16,10 @@ use ft_index::FullText;
 use ft_statements::split_text;
 use plain_shell::{
     Complaint, Feed, Outputs, Refusal, RunFault, Source, Status, echo_text, end_refusal, flush,
-    is_memory, is_over, read_chunk, tell,
+    is_over, read_chunk, tell,
 };
 use ram_disk::Honest;
-use shell_text::{Settings, Unit, blocks_read_whole};
+use shell_text::{Settings, SplitFault, Unit, blocks_read_whole};
 use sqlite::{Alter, Connection};
 use std::alloc::Global;
 use std::io::{Read, Write};
@@ -276,7 +276,7 @@ impl<P: Alter, S: Alter> Session<P, S> {
         ensures writers { SameWriters outputs.old outputs.new }
     {
         let refused = feed.end_line()?;
-        self.refuse_some(&refused, outputs)?;
+        self.refuse(&refused, outputs)?;
         if outputs.status.quit {
             return Ok(());
         }
@@ -335,22 +335,6 @@ impl<P: Alter, S: Alter> Session<P, S> {
     // The fault line of a line that is refused, or of the end of the input.
     fn refuse<O: Write, E: Write>(
         &mut self,
-        refusal: &Refusal,
-        outputs: &mut Outputs<'_, O, E>,
-    ) -> Result<(), RunFault>
-        ensures runs { (holds : Files)
-            → Runs P.Store S.Store result (λ (rest : List Member).
-            Fault refusal.now.line refusal.now.fault ∷ rest) (λ (rest : List Member). rest)
-            (moment O.contents E.contents (lent self.old holds) outputs.old)
-            (moment O.contents E.contents (lent self.new holds) outputs.new) }
-        ensures writers { SameWriters outputs.old outputs.new }
-    {
-        let answer = Err(Complaint::fixed(split_text(&refusal.fault)));
-        tell(&answer, refusal.line, self.settings.bail(), outputs)
-    }
-
-    fn refuse_some<O: Write, E: Write>(
-        &mut self,
         refused: &Option<Refusal>,
         outputs: &mut Outputs<'_, O, E>,
     ) -> Result<(), RunFault>
@@ -361,10 +345,11 @@ impl<P: Alter, S: Alter> Session<P, S> {
             (moment O.contents E.contents (lent self.new holds) outputs.new) }
         ensures writers { SameWriters outputs.old outputs.new }
     {
-        match refused {
-            Some(refusal) => self.refuse(refusal, outputs),
-            None => Ok(()),
-        }
+        let Some(refusal) = refused else {
+            return Ok(());
+        };
+        let answer = Err(Complaint::fixed(split_text(&refusal.fault)));
+        tell(&answer, refusal.line, self.settings.bail(), outputs)
     }
 
     // What follows the last line feed is a line if it isn't empty.
@@ -428,12 +413,8 @@ impl<P: Alter, S: Alter> Session<P, S> {
         match feed.finish() {
             Ok(Some(unit)) => self.run_unit(&unit, source, outputs),
             Ok(None) => Ok(()),
-            Err(fault) => {
-                if is_memory(&fault) {
-                    return Err(RunFault::Memory);
-                }
-                self.refuse(&end_refusal(fault), outputs)
-            }
+            Err(SplitFault::Memory) => Err(RunFault::Memory),
+            Err(fault) => self.refuse(&Some(end_refusal(fault)), outputs),
         }
     }
 }

@@ -1,5 +1,5 @@
 -- Parts of imports.
-use Rattle.std.proofs.Common.{◌≡◌, ◌≤◌, ◌<◌, ◌+◌, ◌-◌, ℕ, zero, suc, List, [], ◌∷◌, map, length, get_or, take, drop, false, Option, None, Result, Err, refl, sym, ap, subst, ◌∙◌, arith, min, append-nil, String, Vec, Global}
+use Rattle.std.proofs.Common.{◌≡◌, ◌≤◌, ◌<◌, ◌+◌, ◌-◌, ℕ, zero, suc, List, [], ◌∷◌, map, length, get_or, take, drop, Option, None, Result, Err, refl, sym, ap, subst, ◌∙◌, arith, min, String, Vec, Global}
 use Rattle.std.specs.Prelude.{unwrap_or}
 use Rattle.std.proofs.lemmas.List.{drop-map, length-map, take_all}
 use Rattle.std.specs.List.{enumerate_from}

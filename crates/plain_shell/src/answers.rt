@@ -31,22 +31,16 @@ fn utf8_of(bytes: &[u8]) -> Option<&str>
     Some(text)
 }
 
-fn text_cell(alloc: Global, bytes: &[u8]) -> Result<Cell, AllocError>
-    ensures { IfOk result (λ cell. print.value_of cell ≡ forms.words_or_blob bytes.now) }
-{
-    match utf8_of(bytes) {
-        Some(text) => Ok(Cell::Text(String::from_str(alloc, text)?)),
-        None => Ok(Cell::Bytes(Vec::from_slice(alloc, bytes)?)),
-    }
-}
-
 fn cell_of(alloc: Global, value: ValueRef<'_>) -> Result<Cell, AllocError>
     ensures { IfOk result (λ cell. print.value_of cell ≡ forms.shown_value (owned value.entry)) }
 {
     match value {
         ValueRef::Null | ValueRef::Real(_) => Ok(Cell::Null),
         ValueRef::Int(number) => Ok(Cell::Int(number)),
-        ValueRef::Text(bytes) => text_cell(alloc, bytes),
+        ValueRef::Text(bytes) => match utf8_of(bytes) {
+            Some(text) => Ok(Cell::Text(String::from_str(alloc, text)?)),
+            None => Ok(Cell::Bytes(Vec::from_slice(alloc, bytes)?)),
+        },
         ValueRef::Blob(bytes) => Ok(Cell::Bytes(Vec::from_slice(alloc, bytes)?)),
     }
 }
@@ -118,12 +112,7 @@ fn column_names(alloc: Global, names: &[Bytes]) -> Result<Vec<String>, AllocErro
 }
 
 /// What is told of an answer with these columns.
-pub(crate) fn rows_told(
-    alloc: Global,
-    settings: &Settings,
-    names: &[Bytes],
-    rows: &[Row],
-) -> Answer
+pub(crate) fn rows_told(alloc: Global, settings: &Settings, names: &[Bytes], rows: &[Row]) -> Answer
     ensures { Tells (forms.rows_told settings.now names.now rows.now) (answer_as result) }
 {
     if have_float(rows) {

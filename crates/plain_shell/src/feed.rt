@@ -2,7 +2,6 @@
 ghost use Rattle.std.specs.Prelude.{◌≡◌, ◌≢◌, true, false, ◌∷◌, ◌++◌, ◌<◌, [], ℕ, List, length, IfOk, OnOk, IfSome, IfNone};
 ghost use Rattle.shell_text.specs.Units.{start};
 ghost use Rattle.shell_text.specs.Splitting.{member_of_unit};
-ghost use Rattle.shell_text.specs.declared.units.SplitFault.TheVariants.{Memory};
 ghost use Rattle.plain_shell.specs.Feeds.{EndsWith, end_line, members_left, refused_as};
 
 use shell_text::{SplitFault, Splitter, Unit};
@@ -14,14 +13,6 @@ use std::marker::Model;
 pub struct Refusal {
     pub line: u64,
     pub fault: SplitFault,
-}
-
-/// Whether memory was wanting.
-pub fn is_memory(fault: &SplitFault) -> bool
-    ensures memory { result ≡ true → fault.now ≡ Memory }
-    ensures other { result ≡ false → fault.now ≢ Memory }
-{
-    matches!(fault, SplitFault::Memory)
 }
 
 // The most bytes of a line that are told apart.
@@ -83,15 +74,11 @@ impl Feed {
     {
         let refused = match self.splitter.line(self.line.as_slice()) {
             Ok(()) => None,
-            Err(fault) => {
-                if is_memory(&fault) {
-                    return Err(AllocError);
-                }
-                Some(Refusal {
-                    line: self.number,
-                    fault,
-                })
-            }
+            Err(SplitFault::Memory) => return Err(AllocError),
+            Err(fault) => Some(Refusal {
+                line: self.number,
+                fault,
+            }),
         };
         self.line.clear();
         self.number = self.number.saturating_add(1);

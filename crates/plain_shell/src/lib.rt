@@ -16,10 +16,10 @@ mod run;
 mod source;
 mod written;
 
-pub use crate::feed::{Feed, Refusal, end_refusal, is_memory};
+pub use crate::feed::{Feed, Refusal, end_refusal};
 pub use crate::imports::{delimiter_of, insert_of};
 pub use crate::into_tables::into_table;
-pub use crate::listing::list_turn;
+pub use crate::listing::found_tables;
 pub use crate::output::{Answer, Complaint, Output};
 pub use crate::plain_import::{ImportFault, import_records};
 pub use crate::queries::{query_turn, refusal};

@@ -99,28 +99,12 @@ fn fill<P: Alter>(
     ensures stays { StaysInside P.Store tx.old.conn tx.new.conn result }
 {
     match names {
-        Some(names) => make_and_insert(alloc, tx, table, names, columns, records),
+        Some(names) => {
+            create_table(alloc, tx, table, names)?;
+            insert_records(alloc, tx, table, columns, records)
+        }
         None => insert_records(alloc, tx, table, columns, records),
     }
-}
-
-// Makes a table with columns of these names, and puts records into it.
-fn make_and_insert<P: Alter>(
-    alloc: Global,
-    tx: &mut Transaction<'_, P>,
-    table: &str,
-    names: &[String],
-    columns: usize,
-    records: &[Vec<String>],
-) -> Result<(), ImportFault>
-    requires inside { IsInside P.Store tx.old.conn.now }
-    ensures steps { TriesSteps P.Store
-        (Run (creation_of table.now (map string_bytes names.now)) [] ∷ insertions table.now columns
-        (map texts_of records.now)) tx.old.conn.now tx.new.conn.now result }
-    ensures stays { StaysInside P.Store tx.old.conn tx.new.conn result }
-{
-    create_table(alloc, tx, table, names)?;
-    insert_records(alloc, tx, table, columns, records)
 }
 
 // Makes a table with columns of these names.

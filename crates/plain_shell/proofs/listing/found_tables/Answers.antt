@@ -1,5 +1,5 @@
 -- one name more is tried, or memory is wanting
-use Rattle.std.proofs.Common.{rules, ◌≡◌, ◌+◌, [], ◌∷◌, ◌++◌, map, take, drop, get_or, true, None, Some, string_bytes, sym, ap, ◌∙◌, subst, inl, inr}
+use Rattle.std.proofs.Common.{◌≡◌, ◌+◌, [], ◌∷◌, ◌++◌, map, take, drop, get_or, true, None, Some, string_bytes, sym, ap, ◌∙◌, subst, inl, inr}
 use Rattle.std.proofs.lemmas.List.{map-append}
 use Rattle.ft_statements.specs.Views.{texts_of}
 use Rattle.plain_shell.specs.Listings.{Finds, StopsTrying, Tries}

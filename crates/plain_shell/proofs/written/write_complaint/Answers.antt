@@ -1,5 +1,5 @@
 -- the warnings, and then the fault line
-use Rattle.std.proofs.Common.{◌++◌, List, ℕ, sym, subst}
+use Rattle.std.proofs.Common.{sym, subst}
 use Rattle.std.specs.Io.KnownBytes.{Appends}
 use Rattle.ft_statements.specs.Texts.{fault_line, text_as}
 use Rattle.plain_shell.specs.OutputViews.{lines_as}

@@ -1,5 +1,5 @@
 -- one part more
-use Rattle.std.proofs.Common.{◌+◌, ◌++◌, take, drop, sym, subst}
+use Rattle.std.proofs.Common.{sym, subst}
 use Rattle.std.specs.List.{flat_map}
 use Rattle.std.specs.Io.KnownBytes.{Appends}
 use Rattle.std.proofs.lemmas.List.{take_all}

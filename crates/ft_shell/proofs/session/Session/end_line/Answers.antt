@@ -11,22 +11,22 @@ returns-in_err-refused-clause-runs g c =
     let is : c.from_residual.result ≡ Err causes.Memory = search rules in
     runs_err g.P.Store g.S.Store c.from_residual.result causes.Memory _ _ _ _ is (lacks_memory g.P.Store g.S.Store (λ (rest : List ℕ). members_left c.args.feed.now (10 ∷ rest)) (λ rest. members_left c.end_line.new.self rest) _)
 
-pub returns-in_err-refuse_some-clause-runs : goal.returns-in_err-refuse_some-clause-runs
-returns-in_err-refuse_some-clause-runs g c =
-    let is : c.from_residual-in_err-refuse_some.result ≡ Err c.in_err-refuse_some.field-0.0 = search rules in
-    runs_err g.P.Store g.S.Store c.from_residual-in_err-refuse_some.result c.in_err-refuse_some.field-0.0 _ _ _ _ is
-    (runs_as {T = Unit {0}} g.P.Store g.S.Store (Err c.in_err-refuse_some.field-0.0) (λ (rest : List Member). refused_as c.in_ok-refused.refused ++ rest) (λ (rest : List Member). rest) (λ (rest : List ℕ). members_left c.args.feed.now (10 ∷ rest)) (λ rest. members_left c.end_line.new.self rest) (λ rest. members_left c.end_line.new.self rest) _ _
-    (λ rest. c.in_ok-refused.ensures.left rest) (λ rest goes. refl) (c.in_err-refuse_some.ensures.runs (g.F.Source.holds c.args.source.now)))
+pub returns-in_err-refuse-clause-runs : goal.returns-in_err-refuse-clause-runs
+returns-in_err-refuse-clause-runs g c =
+    let is : c.from_residual-in_err-refuse.result ≡ Err c.in_err-refuse.field-0.0 = search rules in
+    runs_err g.P.Store g.S.Store c.from_residual-in_err-refuse.result c.in_err-refuse.field-0.0 _ _ _ _ is
+    (runs_as {T = Unit {0}} g.P.Store g.S.Store (Err c.in_err-refuse.field-0.0) (λ (rest : List Member). refused_as c.in_ok-refused.refused ++ rest) (λ (rest : List Member). rest) (λ (rest : List ℕ). members_left c.args.feed.now (10 ∷ rest)) (λ rest. members_left c.end_line.new.self rest) (λ rest. members_left c.end_line.new.self rest) _ _
+    (λ rest. c.in_ok-refused.ensures.left rest) (λ rest goes. refl) (c.in_err-refuse.ensures.runs (g.F.Source.holds c.args.source.now)))
 
 pub returns-then-outputs-clause-runs : goal.returns-then-outputs-clause-runs
 returns-then-outputs-clause-runs g c =
     passes_as g.P.Store g.S.Store (λ (rest : List Member). refused_as c.in_ok-refused.refused ++ rest) (λ (rest : List Member). rest) (λ (rest : List ℕ). members_left c.args.feed.now (10 ∷ rest)) (λ rest. members_left c.end_line.new.self rest) (λ rest. members_left c.end_line.new.self rest) _ _
-    (λ rest. c.in_ok-refused.ensures.left rest) (λ rest goes. refl) (c.in_ok-refuse_some.ensures.runs (g.F.Source.holds c.args.source.now))
+    (λ rest. c.in_ok-refused.ensures.left rest) (λ rest goes. refl) (c.in_ok-refuse.ensures.runs (g.F.Source.holds c.args.source.now))
 
 pub returns-clause-runs : goal.returns-clause-runs
 returns-clause-runs g c =
-    let goes : c.refuse_some.new.outputs.status.quit ≡ false = search rules in
+    let goes : c.refuse.new.outputs.status.quit ≡ false = search rules in
     runs_then g.P.Store g.S.Store c.run_units.result _ _ _ _ _ _
     (passes_as g.P.Store g.S.Store (λ (rest : List Member). refused_as c.in_ok-refused.refused ++ rest) (λ (rest : List Member). rest) (λ (rest : List ℕ). members_left c.args.feed.now (10 ∷ rest)) (λ (rest : List ℕ). members_left c.end_line.new.self rest) (λ rest. members_left c.end_line.new.self rest) _ _
-    (λ rest. c.in_ok-refused.ensures.left rest) (λ rest goes. refl) (c.in_ok-refuse_some.ensures.runs (g.F.Source.holds c.args.source.now)))
+    (λ rest. c.in_ok-refused.ensures.left rest) (λ rest goes. refl) (c.in_ok-refuse.ensures.runs (g.F.Source.holds c.args.source.now)))
     goes c.run_units.ensures.runs

@@ -21,11 +21,11 @@ returns-in-Ok-None-clause-runs g c =
     let last : members_left c.args.feed.now [] ≡ [] = subst (λ (last : Option SeenUnit). EndsWith (Ok last) (members_left c.args.feed.now [])) c.in-Ok-None.field-0-is c.in-Ok-None.ensures in
     passes_none g.P.Store g.S.Store (λ (_ : Unit {0}). members_left c.args.feed.now []) (λ _. []) _ (λ _. last)
 
-pub returns-then-is_memory-clause-runs : goal.returns-then-is_memory-clause-runs
-returns-then-is_memory-clause-runs g c = lacks_memory g.P.Store g.S.Store (λ (_ : Unit {0}). members_left c.args.feed.now []) (λ _. []) _
+pub returns-in-Err-Memory-clause-runs : goal.returns-in-Err-Memory-clause-runs
+returns-in-Err-Memory-clause-runs g c = lacks_memory g.P.Store g.S.Store (λ (_ : Unit {0}). members_left c.args.feed.now []) (λ _. []) _
 
-pub returns-else-is_memory-clause-runs : goal.returns-else-is_memory-clause-runs
-returns-else-is_memory-clause-runs g c =
+pub returns-in-Err-clause-runs : goal.returns-in-Err-clause-runs
+returns-in-Err-clause-runs g c =
     let other : c.in-Err.fault ≢ fault.Memory = search rules in
     let last : members_left c.args.feed.now [] ≡ Fault (end_line c.in-Err.fault) c.in-Err.fault ∷ [] = ends_refused c.in-Err.fault (members_left c.args.feed.now []) other c.in-Err.ensures in
     let due : members_left c.args.feed.now [] ≡ Fault c.end_refusal.result.line c.end_refusal.result.fault ∷ [] = last ∙ sym (ap (λ (r : Refusal). Fault r.line r.fault ∷ []) c.end_refusal.ensures) in

@@ -5,7 +5,7 @@ use Rattle.shell_text.specs.Splitting.{TakesLine}
 use Rattle.plain_shell.specs.Feeds.{members_left, refused_as}
 use Rattle.plain_shell.proofs.FeedLemmas.{taken_line, refused_line, IsPlain}
 use Rattle.plain_shell.proofs.feed.Feed.end_line.Goals as goal
-use Rattle.plain_shell.proofs.feed.Feed.end_line.Goals.{in-Ok, in-Err+else-is_memory}
+use Rattle.plain_shell.proofs.feed.Feed.end_line.Goals.{in-Ok, in-Err}
 
 pub returns-clause-left : goal.returns-clause-left
 returns-clause-left c rest =
@@ -16,7 +16,7 @@ returns-clause-left c rest =
           let takes : TakesLine c.args.self.now.line c.args.self.now.splitting c.line.new.self (Ok w.in-Ok.field-0) = search rules in
           taken_line c.args.self.now c.line.new.self w.in-Ok.field-0 rest plain none takes
           ∙ (λ i. refused_as (sym w.refused-is i) ++ members_left (record { splitting = c.line.new.self; line = sym c.clear.ensures.items i }) rest)
-      | in-Err+else-is_memory w ↦
+      | in-Err w ↦
           let takes : TakesLine c.args.self.now.line c.args.self.now.splitting c.line.new.self (Err w.in-Err.fault) = search rules in
           let other : w.in-Err.fault ≢ fault.Memory = search rules in
           let same : c.self.inside.number ≡ c.args.self.now.splitting.reading.line = search rules in
