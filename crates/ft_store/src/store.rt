@@ -29,11 +29,13 @@ use crate::files::open_database;
 use crate::lists::count_spots;
 use crate::make::made;
 use crate::parts::Parts;
-use crate::{expected, lists, read, tables, write};
+use crate::read::limit_of;
+use crate::stream::select;
+use crate::{expected, lists, tables, write};
 use ft_rows::TermLists;
 use ft_values::{CellRow, EntryRow, ListRow, RowChange, SizeRow, TabRow};
 use ram_disk::{Ram, open_ram};
-use sqlite::{Alter, Connection, File, FileFrom, FileStore, Start, Unknown};
+use sqlite::{Alter, Connection, File, FileFrom, FileStore, Start, Unknown, params};
 use std::alloc::Global;
 use std::marker::Model;
 
@@ -223,7 +225,12 @@ impl<S: Alter> Store<S> {
             ≡ where_key cell_key_cmp (λ k. int_eq tab k.0) (value_in S.Store self.old).cells) }
         ensures read { ReadsRows S.Store self.old self.new result vec_len IsPlainFault }
     {
-        let found = read::cells(&mut self.conn, self.alloc, tab)?;
+        let found: Vec<CellRow> = select(
+            &mut self.conn,
+            self.alloc,
+            "SELECT docid, col, num, txt FROM cell WHERE tab = ?1 ORDER BY tab, docid, col",
+            params![tab],
+        )?;
         self.rows_read = self.rows_read.saturating_add(found.len() as u64);
         Ok(found)
     }
@@ -236,7 +243,12 @@ impl<S: Alter> Store<S> {
             (value_in S.Store self.old).cells) }
         ensures read { ReadsRows S.Store self.old self.new result vec_len IsPlainFault }
     {
-        let found = read::document(&mut self.conn, self.alloc, tab, docid)?;
+        let found: Vec<CellRow> = select(
+            &mut self.conn,
+            self.alloc,
+            "SELECT docid, col, num, txt FROM cell WHERE tab = ?1 AND docid = ?2 ORDER BY tab, docid, col",
+            params![tab, docid],
+        )?;
         self.rows_read = self.rows_read.saturating_add(found.len() as u64);
         Ok(found)
     }
@@ -254,7 +266,13 @@ impl<S: Alter> Store<S> {
             ≡ cut_to most offset (docids_in tab (value_in S.Store self.old).cells)) }
         ensures read { ReadsRows S.Store self.old self.new result vec_len IsPlainFault }
     {
-        let found = read::docids(&mut self.conn, self.alloc, tab, most, offset)?;
+        let limit = limit_of(most);
+        let found: Vec<i64> = select(
+            &mut self.conn,
+            self.alloc,
+            "SELECT docid FROM cell WHERE tab = ?1 AND col = 0 ORDER BY tab, docid, col LIMIT ?2 OFFSET ?3",
+            params![tab, limit, offset],
+        )?;
         self.rows_read = self.rows_read.saturating_add(found.len() as u64);
         Ok(found)
     }
@@ -268,7 +286,13 @@ impl<S: Alter> Store<S> {
         ensures read { ReadsRows S.Store self.old self.new result
             (λ found. if found then 1 else 0) IsPlainFault }
     {
-        let is_there = read::has_document(&mut self.conn, self.alloc, tab, docid)?;
+        let found: Vec<i64> = select(
+            &mut self.conn,
+            self.alloc,
+            "SELECT docid FROM cell WHERE tab = ?1 AND docid = ?2 ORDER BY tab, docid, col LIMIT 1",
+            params![tab, docid],
+        )?;
+        let is_there = !found.is_empty();
         self.rows_read = self.rows_read.saturating_add(u64::from(is_there));
         Ok(is_there)
     }
@@ -280,7 +304,13 @@ impl<S: Alter> Store<S> {
         ensures read { ReadsRows S.Store self.old self.new result
             (λ last. length (option_to_list last)) IsPlainFault }
     {
-        let last = read::last_docid(&mut self.conn, self.alloc, tab)?;
+        let found: Vec<i64> = select(
+            &mut self.conn,
+            self.alloc,
+            "SELECT docid, col FROM cell WHERE tab = ?1 ORDER BY tab DESC, docid DESC, col DESC LIMIT 1",
+            params![tab],
+        )?;
+        let last = found.first().copied();
         self.rows_read = self.rows_read.saturating_add(u64::from(last.is_some()));
         Ok(last)
     }
@@ -397,7 +427,12 @@ impl<S: Alter> Store<S> {
             ≡ where_key cell_key_cmp (λ k. int_eq tab k.0) (value_in S.Store self.old).sizes) }
         ensures read { ReadsRows S.Store self.old self.new result vec_len IsPlainFault }
     {
-        let found = read::sizes(&mut self.conn, self.alloc, tab)?;
+        let found: Vec<SizeRow> = select(
+            &mut self.conn,
+            self.alloc,
+            "SELECT docid, col, n FROM sizes WHERE tab = ?1 ORDER BY tab, docid, col",
+            params![tab],
+        )?;
         self.rows_read = self.rows_read.saturating_add(found.len() as u64);
         Ok(found)
     }
@@ -409,7 +444,12 @@ impl<S: Alter> Store<S> {
             ≡ (value_in S.Store self.old).noted) }
         ensures read { ReadsRows S.Store self.old self.new result vec_len IsPlainFault }
     {
-        let found = read::noted(&mut self.conn, self.alloc)?;
+        let found: Vec<String> = select(
+            &mut self.conn,
+            self.alloc,
+            "SELECT name FROM noted ORDER BY name, name COLLATE BINARY",
+            &[],
+        )?;
         self.rows_read = self.rows_read.saturating_add(found.len() as u64);
         Ok(found)
     }
