@@ -201,7 +201,11 @@ fn select_entries<S: Alter>(
 }
 
 /// The entries of lists of one term, in their order.
-fn term_entries(alloc: Global, term: &str, lists: &[ListRow]) -> Result<Vec<EntryRow>, AllocError>
+pub(crate) fn term_entries(
+    alloc: Global,
+    term: &str,
+    lists: &[ListRow],
+) -> Result<Vec<EntryRow>, AllocError>
     ensures { IfOk result (λ entries. map shown_entry entries.items
         ≡ flat_map (entries_with term.now) (map shown_list lists.now)) }
 {
@@ -231,21 +235,6 @@ pub(crate) fn term_lists<S: Alter>(
         "SELECT docid, list FROM posting WHERE tab = ?1 AND term = ?2 ORDER BY tab, term, docid",
         params![tab, term],
     )
-}
-
-/// The entries of one term.
-pub(crate) fn term<S: Alter>(
-    conn: &mut Connection<S>,
-    alloc: Global,
-    tab: i64,
-    term: &str,
-) -> Result<Vec<EntryRow>, StoreFault>
-    requires { IsAtRest (state S.Store conn.old) }
-    ensures { GivesEntries S.Store conn.old conn.new result
-        (lists_of_term tab term.now (value_of (state S.Store conn.old).now.trees)) }
-{
-    let lists = term_lists(conn, alloc, tab, term)?;
-    Ok(term_entries(alloc, term, lists.as_slice())?)
 }
 
 // ---- all terms, and those that begin so
@@ -328,18 +317,4 @@ pub(crate) fn prefix_lists<S: Alter>(
         "SELECT docid, list FROM posting WHERE tab = ?1 AND term >= ?2 AND term < ?3 ORDER BY tab, term, docid",
         &[beside(tab, end), text_beside(begin, end), limit_of(end)],
     )
-}
-
-/// All entries of a table.
-pub(crate) fn entries<S: Alter>(
-    conn: &mut Connection<S>,
-    alloc: Global,
-    tab: i64,
-) -> Result<Vec<EntryRow>, StoreFault>
-    requires { IsAtRest (state S.Store conn.old) }
-    ensures { GivesTold S.Store conn.old conn.new result
-        (where_key list_key_cmp (λ k. int_eq tab k.0)
-        (value_of (state S.Store conn.old).now.trees).lists) }
-{
-    prefix(conn, alloc, tab, "")
 }

@@ -81,14 +81,3 @@ pub(crate) fn make<S: Alter>(conn: &mut Connection<S>) -> Result<(), StoreFault>
     tx.commit()?;
     Ok(())
 }
-
-/// The same, of a database that is taken and handed on: where it can't be, what it stands on is let
-/// go here alone.
-pub(crate) fn made<S: Alter + Drop>(conn: Connection<S>) -> Result<Connection<S>, StoreFault>
-    requires { IsSettled IsBare (state S.Store conn) }
-    ensures { Finds result (λ new. HasMade IsEmptyStore (state S.Store new)) }
-{
-    let mut conn = conn;
-    make(&mut conn)?;
-    Ok(conn)
-}

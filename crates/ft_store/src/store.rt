@@ -26,8 +26,8 @@ use crate::examine::Rowids;
 use crate::expected::count_places;
 use crate::fault::StoreFault;
 use crate::files::open_database;
-use crate::lists::count_spots;
-use crate::make::made;
+use crate::lists::{count_spots, term_entries};
+use crate::make::make;
 use crate::parts::Parts;
 use crate::read::limit_of;
 use crate::stream::select;
@@ -84,7 +84,8 @@ impl Store<FileStore<Ram>> {
         ensures unread { IfOk result (λ store. store.rows_read ≡ 0) }
         ensures causes { IfErr result IsPlainFault }
     {
-        let conn = made(open_ram(alloc)?)?;
+        let mut conn = open_ram(alloc)?;
+        make(&mut conn)?;
         Ok(Store {
             conn,
             alloc,
@@ -328,7 +329,8 @@ impl<S: Alter> Store<S> {
             (λ k. int_eq tab k.0 && is_eq (name_cmp term.now k.1))
             (value_in S.Store self.old).lists) }
     {
-        let found = lists::term(&mut self.conn, self.alloc, tab, term)?;
+        let lists = lists::term_lists(&mut self.conn, self.alloc, tab, term)?;
+        let found = term_entries(self.alloc, term, lists.as_slice())?;
         self.rows_read = self.rows_read.saturating_add(found.len() as u64);
         Ok(found)
     }
@@ -398,7 +400,7 @@ impl<S: Alter> Store<S> {
         ensures stays { HasCleanDisk (shows S.Store self.new) → result ≡ Err StoreFault.Damaged
             → IsTrue (shows S.Store self.new).is_open }
     {
-        let found = lists::entries(&mut self.conn, self.alloc, tab)?;
+        let found = lists::prefix(&mut self.conn, self.alloc, tab, "")?;
         self.rows_read = self.rows_read.saturating_add(found.len() as u64);
         Ok(found)
     }
