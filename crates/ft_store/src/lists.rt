@@ -20,6 +20,7 @@ ghost use Rattle.ft_store.specs.Calls.{AreTold, IsAtRest};
 ghost use Rattle.ft_store.specs.Settled.{IsSettled, IsPlainIn, Finds, ReadsLists, GivesLists, GivesEntries, GivesTold, GivesRows};
 
 use crate::fault::StoreFault;
+use crate::sql::{PREFIX, PREFIX_LISTS, TERM_LISTS};
 use crate::stream::{Gathered, gather};
 use ft_rows::unpack;
 use ft_values::{EntryRow, ListRow};
@@ -229,12 +230,7 @@ pub(crate) fn term_lists<S: Alter>(
     ensures { GivesLists S.Store conn.old conn.new result
         (lists_of_term tab term.now (value_of (state S.Store conn.old).now.trees)) }
 {
-    select_lists(
-        conn,
-        alloc,
-        "SELECT docid, list FROM posting WHERE tab = ?1 AND term = ?2 ORDER BY tab, term, docid",
-        params![tab, term],
-    )
+    select_lists(conn, alloc, TERM_LISTS, params![tab, term])
 }
 
 // ---- all terms, and those that begin so
@@ -293,7 +289,7 @@ pub(crate) fn prefix<S: Alter>(
     select_entries(
         conn,
         alloc,
-        "SELECT docid, list, term FROM posting WHERE tab = ?1 AND term >= ?2 AND term < ?3 ORDER BY tab, term, docid",
+        PREFIX,
         &[beside(tab, end), text_beside(begin, end), limit_of(end)],
     )
 }
@@ -314,7 +310,7 @@ pub(crate) fn prefix_lists<S: Alter>(
     select_lists(
         conn,
         alloc,
-        "SELECT docid, list FROM posting WHERE tab = ?1 AND term >= ?2 AND term < ?3 ORDER BY tab, term, docid",
+        PREFIX_LISTS,
         &[beside(tab, end), text_beside(begin, end), limit_of(end)],
     )
 }

@@ -20,6 +20,7 @@ ghost use Rattle.ft_store.specs.Calls.{IsAtRest};
 ghost use Rattle.ft_store.specs.Settled.{IsSettled, IsPlainIn, Finds, ReadsFor, GivesRows};
 
 use crate::fault::StoreFault;
+use crate::sql::{COLUMNS, NAMES, SKIPS};
 use crate::stream::{InRow, select};
 use ft_values::{CellRow, SizeRow, TabRow, Value};
 use sqlite::types::ValueRef;
@@ -182,12 +183,7 @@ pub(crate) fn names<S: Alter>(
         (λ found. map name_of found.items
         ≡ (value_of (state S.Store conn.old).now.trees).tables) }
 {
-    select(
-        conn,
-        alloc,
-        "SELECT id, name FROM tab ORDER BY id, name COLLATE BINARY",
-        &[],
-    )
+    select(conn, alloc, NAMES, &[])
 }
 
 /// The columns of a table.
@@ -202,12 +198,7 @@ pub(crate) fn columns<S: Alter>(
         ≡ where_key column_key_cmp (λ k. int_eq tab k.0)
         (value_of (state S.Store conn.old).now.trees).columns) }
 {
-    select(
-        conn,
-        alloc,
-        "SELECT col, name FROM col WHERE tab = ?1 ORDER BY tab, col",
-        params![tab],
-    )
+    select(conn, alloc, COLUMNS, params![tab])
 }
 
 /// The columns of a table that aren't indexed.
@@ -222,12 +213,7 @@ pub(crate) fn skips<S: Alter>(
         ≡ where_key column_key_cmp (λ k. int_eq tab k.0)
         (value_of (state S.Store conn.old).now.trees).skipped) }
 {
-    select(
-        conn,
-        alloc,
-        "SELECT col FROM skip WHERE tab = ?1 ORDER BY tab, col",
-        params![tab],
-    )
+    select(conn, alloc, SKIPS, params![tab])
 }
 
 /// A limit on rows as SQL has it, where -1 stands for none.

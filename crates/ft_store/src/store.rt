@@ -30,6 +30,7 @@ use crate::lists::{count_spots, term_entries};
 use crate::make::make;
 use crate::parts::Parts;
 use crate::read::limit_of;
+use crate::sql::{CELLS, DOCIDS, DOCUMENT, LAST_DOCID, NOTED, ONE_CELL, SIZES};
 use crate::stream::select;
 use crate::{expected, lists, tables, write};
 use ft_rows::TermLists;
@@ -226,12 +227,7 @@ impl<S: Alter> Store<S> {
             ≡ where_key cell_key_cmp (λ k. int_eq tab k.0) (value_in S.Store self.old).cells) }
         ensures read { ReadsRows S.Store self.old self.new result vec_len IsPlainFault }
     {
-        let found: Vec<CellRow> = select(
-            &mut self.conn,
-            self.alloc,
-            "SELECT docid, col, num, txt FROM cell WHERE tab = ?1 ORDER BY tab, docid, col",
-            params![tab],
-        )?;
+        let found = select(&mut self.conn, self.alloc, CELLS, params![tab])?;
         self.rows_read = self.rows_read.saturating_add(found.len() as u64);
         Ok(found)
     }
@@ -244,12 +240,7 @@ impl<S: Alter> Store<S> {
             (value_in S.Store self.old).cells) }
         ensures read { ReadsRows S.Store self.old self.new result vec_len IsPlainFault }
     {
-        let found: Vec<CellRow> = select(
-            &mut self.conn,
-            self.alloc,
-            "SELECT docid, col, num, txt FROM cell WHERE tab = ?1 AND docid = ?2 ORDER BY tab, docid, col",
-            params![tab, docid],
-        )?;
+        let found = select(&mut self.conn, self.alloc, DOCUMENT, params![tab, docid])?;
         self.rows_read = self.rows_read.saturating_add(found.len() as u64);
         Ok(found)
     }
@@ -268,10 +259,10 @@ impl<S: Alter> Store<S> {
         ensures read { ReadsRows S.Store self.old self.new result vec_len IsPlainFault }
     {
         let limit = limit_of(most);
-        let found: Vec<i64> = select(
+        let found = select(
             &mut self.conn,
             self.alloc,
-            "SELECT docid FROM cell WHERE tab = ?1 AND col = 0 ORDER BY tab, docid, col LIMIT ?2 OFFSET ?3",
+            DOCIDS,
             params![tab, limit, offset],
         )?;
         self.rows_read = self.rows_read.saturating_add(found.len() as u64);
@@ -287,12 +278,7 @@ impl<S: Alter> Store<S> {
         ensures read { ReadsRows S.Store self.old self.new result
             (λ found. if found then 1 else 0) IsPlainFault }
     {
-        let found: Vec<i64> = select(
-            &mut self.conn,
-            self.alloc,
-            "SELECT docid FROM cell WHERE tab = ?1 AND docid = ?2 ORDER BY tab, docid, col LIMIT 1",
-            params![tab, docid],
-        )?;
+        let found: Vec<i64> = select(&mut self.conn, self.alloc, ONE_CELL, params![tab, docid])?;
         let is_there = !found.is_empty();
         self.rows_read = self.rows_read.saturating_add(u64::from(is_there));
         Ok(is_there)
@@ -305,12 +291,7 @@ impl<S: Alter> Store<S> {
         ensures read { ReadsRows S.Store self.old self.new result
             (λ last. length (option_to_list last)) IsPlainFault }
     {
-        let found: Vec<i64> = select(
-            &mut self.conn,
-            self.alloc,
-            "SELECT docid, col FROM cell WHERE tab = ?1 ORDER BY tab DESC, docid DESC, col DESC LIMIT 1",
-            params![tab],
-        )?;
+        let found: Vec<i64> = select(&mut self.conn, self.alloc, LAST_DOCID, params![tab])?;
         let last = found.first().copied();
         self.rows_read = self.rows_read.saturating_add(u64::from(last.is_some()));
         Ok(last)
@@ -429,12 +410,7 @@ impl<S: Alter> Store<S> {
             ≡ where_key cell_key_cmp (λ k. int_eq tab k.0) (value_in S.Store self.old).sizes) }
         ensures read { ReadsRows S.Store self.old self.new result vec_len IsPlainFault }
     {
-        let found: Vec<SizeRow> = select(
-            &mut self.conn,
-            self.alloc,
-            "SELECT docid, col, n FROM sizes WHERE tab = ?1 ORDER BY tab, docid, col",
-            params![tab],
-        )?;
+        let found = select(&mut self.conn, self.alloc, SIZES, params![tab])?;
         self.rows_read = self.rows_read.saturating_add(found.len() as u64);
         Ok(found)
     }
@@ -446,12 +422,7 @@ impl<S: Alter> Store<S> {
             ≡ (value_in S.Store self.old).noted) }
         ensures read { ReadsRows S.Store self.old self.new result vec_len IsPlainFault }
     {
-        let found: Vec<String> = select(
-            &mut self.conn,
-            self.alloc,
-            "SELECT name FROM noted ORDER BY name, name COLLATE BINARY",
-            &[],
-        )?;
+        let found = select(&mut self.conn, self.alloc, NOTED, &[])?;
         self.rows_read = self.rows_read.saturating_add(found.len() as u64);
         Ok(found)
     }
