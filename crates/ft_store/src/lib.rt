@@ -12,6 +12,7 @@ mod migrate;
 mod parts;
 mod read;
 mod same;
+mod sql;
 mod statements;
 mod store;
 mod stream;

@@ -20,6 +20,7 @@ ghost use Rattle.ft_store.specs.Calls.{AreTold, IsAtRest};
 ghost use Rattle.ft_store.specs.Settled.{IsSettled, IsPlainIn, Finds, ReadsLists, GivesLists, GivesEntries, GivesTold, GivesRows};
 
 use crate::fault::StoreFault;
+use crate::sql::{PREFIX, PREFIX_LISTS, TERM_LISTS};
 use crate::stream::{Gathered, gather};
 use ft_rows::unpack;
 use ft_values::{EntryRow, ListRow};
@@ -201,7 +202,11 @@ fn select_entries<S: Alter>(
 }
 
 /// The entries of lists of one term, in their order.
-fn term_entries(alloc: Global, term: &str, lists: &[ListRow]) -> Result<Vec<EntryRow>, AllocError>
+pub(crate) fn term_entries(
+    alloc: Global,
+    term: &str,
+    lists: &[ListRow],
+) -> Result<Vec<EntryRow>, AllocError>
     ensures { IfOk result (λ entries. map shown_entry entries.items
         ≡ flat_map (entries_with term.now) (map shown_list lists.now)) }
 {
@@ -225,27 +230,7 @@ pub(crate) fn term_lists<S: Alter>(
     ensures { GivesLists S.Store conn.old conn.new result
         (lists_of_term tab term.now (value_of (state S.Store conn.old).now.trees)) }
 {
-    select_lists(
-        conn,
-        alloc,
-        "SELECT docid, list FROM posting WHERE tab = ?1 AND term = ?2 ORDER BY tab, term, docid",
-        params![tab, term],
-    )
-}
-
-/// The entries of one term.
-pub(crate) fn term<S: Alter>(
-    conn: &mut Connection<S>,
-    alloc: Global,
-    tab: i64,
-    term: &str,
-) -> Result<Vec<EntryRow>, StoreFault>
-    requires { IsAtRest (state S.Store conn.old) }
-    ensures { GivesEntries S.Store conn.old conn.new result
-        (lists_of_term tab term.now (value_of (state S.Store conn.old).now.trees)) }
-{
-    let lists = term_lists(conn, alloc, tab, term)?;
-    Ok(term_entries(alloc, term, lists.as_slice())?)
+    select_lists(conn, alloc, TERM_LISTS, params![tab, term])
 }
 
 // ---- all terms, and those that begin so
@@ -304,7 +289,7 @@ pub(crate) fn prefix<S: Alter>(
     select_entries(
         conn,
         alloc,
-        "SELECT docid, list, term FROM posting WHERE tab = ?1 AND term >= ?2 AND term < ?3 ORDER BY tab, term, docid",
+        PREFIX,
         &[beside(tab, end), text_beside(begin, end), limit_of(end)],
     )
 }
@@ -325,21 +310,7 @@ pub(crate) fn prefix_lists<S: Alter>(
     select_lists(
         conn,
         alloc,
-        "SELECT docid, list FROM posting WHERE tab = ?1 AND term >= ?2 AND term < ?3 ORDER BY tab, term, docid",
+        PREFIX_LISTS,
         &[beside(tab, end), text_beside(begin, end), limit_of(end)],
     )
-}
-
-/// All entries of a table.
-pub(crate) fn entries<S: Alter>(
-    conn: &mut Connection<S>,
-    alloc: Global,
-    tab: i64,
-) -> Result<Vec<EntryRow>, StoreFault>
-    requires { IsAtRest (state S.Store conn.old) }
-    ensures { GivesTold S.Store conn.old conn.new result
-        (where_key list_key_cmp (λ k. int_eq tab k.0)
-        (value_of (state S.Store conn.old).now.trees).lists) }
-{
-    prefix(conn, alloc, tab, "")
 }

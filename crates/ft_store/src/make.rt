@@ -10,6 +10,9 @@ ghost use Rattle.ft_store.specs.Made.{IsEmptyOf, IsUnmarked};
 ghost use Rattle.ft_store.specs.Inside.{DoneInside, CreatesOnOk, MakesInside};
 
 use crate::fault::StoreFault;
+use crate::sql::{
+    MAKE_CELL, MAKE_COL, MAKE_META, MAKE_NOTED, MAKE_POSTING, MAKE_SIZES, MAKE_SKIP, MAKE_TAB,
+};
 use crate::statements::run;
 use sqlite::{Alter, Connection, Transaction};
 
@@ -25,38 +28,14 @@ fn create_all<S: Alter>(tx: &mut Transaction<'_, S>) -> Result<(), StoreFault>
     ensures { MakesInside S.Store tx.old.conn tx.new.conn result (IsEmptyOf no_schema)
         (λ _ new. IsUnmarked new × (value_of new.trees ≡ nothing_held)) }
 {
-    create(
-        tx,
-        "CREATE TABLE meta (one INTEGER PRIMARY KEY, version INTEGER NOT NULL) STRICT",
-    )?;
-    create(
-        tx,
-        "CREATE TABLE tab (id INTEGER PRIMARY KEY, name TEXT NOT NULL COLLATE NOCASE UNIQUE) STRICT",
-    )?;
-    create(
-        tx,
-        "CREATE TABLE col (tab INTEGER NOT NULL, col INTEGER NOT NULL, name TEXT NOT NULL, PRIMARY KEY (tab, col)) STRICT",
-    )?;
-    create(
-        tx,
-        "CREATE TABLE cell (tab INTEGER NOT NULL, docid INTEGER NOT NULL, col INTEGER NOT NULL, num INTEGER, txt TEXT, PRIMARY KEY (tab, docid, col), CHECK (num IS NULL OR txt IS NULL)) STRICT",
-    )?;
-    create(
-        tx,
-        "CREATE TABLE posting (tab INTEGER NOT NULL, term TEXT NOT NULL, docid INTEGER NOT NULL, list BLOB NOT NULL, PRIMARY KEY (tab, term, docid)) STRICT",
-    )?;
-    create(
-        tx,
-        "CREATE TABLE sizes (tab INTEGER NOT NULL, docid INTEGER NOT NULL, col INTEGER NOT NULL, n INTEGER NOT NULL, PRIMARY KEY (tab, docid, col)) STRICT",
-    )?;
-    create(
-        tx,
-        "CREATE TABLE noted (name TEXT NOT NULL PRIMARY KEY COLLATE NOCASE) STRICT",
-    )?;
-    create(
-        tx,
-        "CREATE TABLE skip (tab INTEGER NOT NULL, col INTEGER NOT NULL, PRIMARY KEY (tab, col)) STRICT",
-    )
+    create(tx, MAKE_META)?;
+    create(tx, MAKE_TAB)?;
+    create(tx, MAKE_COL)?;
+    create(tx, MAKE_CELL)?;
+    create(tx, MAKE_POSTING)?;
+    create(tx, MAKE_SIZES)?;
+    create(tx, MAKE_NOTED)?;
+    create(tx, MAKE_SKIP)
 }
 
 /// Marks the tables of a store with their version.
@@ -80,15 +59,4 @@ pub(crate) fn make<S: Alter>(conn: &mut Connection<S>) -> Result<(), StoreFault>
     mark(&mut tx)?;
     tx.commit()?;
     Ok(())
-}
-
-/// The same, of a database that is taken and handed on: where it can't be, what it stands on is let
-/// go here alone.
-pub(crate) fn made<S: Alter + Drop>(conn: Connection<S>) -> Result<Connection<S>, StoreFault>
-    requires { IsSettled IsBare (state S.Store conn) }
-    ensures { Finds result (λ new. HasMade IsEmptyStore (state S.Store new)) }
-{
-    let mut conn = conn;
-    make(&mut conn)?;
-    Ok(conn)
 }

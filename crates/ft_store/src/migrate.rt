@@ -15,6 +15,7 @@ use crate::examine::{Rowids, examine};
 use crate::fault::StoreFault;
 use crate::make::mark;
 use crate::same::Layout;
+use crate::sql::MAKE_SKIP;
 use crate::statements::run;
 use sqlite::{Alter, Connection, Transaction};
 use std::alloc::Global;
@@ -24,11 +25,7 @@ fn add_table<S: Alter>(tx: &mut Transaction<'_, S>) -> Result<(), StoreFault>
     ensures { MakesInside S.Store tx.old.conn tx.new.conn result (IsStoreBy Older)
         (λ old new. IsTabled new × (value_of new.trees ≡ older_value old.trees)) }
 {
-    run(
-        tx,
-        "CREATE TABLE skip (tab INTEGER NOT NULL, col INTEGER NOT NULL, PRIMARY KEY (tab, col)) STRICT",
-        &[],
-    )
+    run(tx, MAKE_SKIP, &[])
 }
 
 /// Takes the version out.

@@ -20,6 +20,7 @@ ghost use Rattle.ft_store.specs.Calls.{IsAtRest};
 ghost use Rattle.ft_store.specs.Settled.{IsSettled, IsPlainIn, Finds, ReadsFor, GivesRows};
 
 use crate::fault::StoreFault;
+use crate::sql::{COLUMNS, NAMES, SKIPS};
 use crate::stream::{InRow, select};
 use ft_values::{CellRow, SizeRow, TabRow, Value};
 use sqlite::types::ValueRef;
@@ -182,12 +183,7 @@ pub(crate) fn names<S: Alter>(
         (λ found. map name_of found.items
         ≡ (value_of (state S.Store conn.old).now.trees).tables) }
 {
-    select(
-        conn,
-        alloc,
-        "SELECT id, name FROM tab ORDER BY id, name COLLATE BINARY",
-        &[],
-    )
+    select(conn, alloc, NAMES, &[])
 }
 
 /// The columns of a table.
@@ -202,12 +198,7 @@ pub(crate) fn columns<S: Alter>(
         ≡ where_key column_key_cmp (λ k. int_eq tab k.0)
         (value_of (state S.Store conn.old).now.trees).columns) }
 {
-    select(
-        conn,
-        alloc,
-        "SELECT col, name FROM col WHERE tab = ?1 ORDER BY tab, col",
-        params![tab],
-    )
+    select(conn, alloc, COLUMNS, params![tab])
 }
 
 /// The columns of a table that aren't indexed.
@@ -222,160 +213,12 @@ pub(crate) fn skips<S: Alter>(
         ≡ where_key column_key_cmp (λ k. int_eq tab k.0)
         (value_of (state S.Store conn.old).now.trees).skipped) }
 {
-    select(
-        conn,
-        alloc,
-        "SELECT col FROM skip WHERE tab = ?1 ORDER BY tab, col",
-        params![tab],
-    )
-}
-
-/// All cells of a table.
-pub(crate) fn cells<S: Alter>(
-    conn: &mut Connection<S>,
-    alloc: Global,
-    tab: i64,
-) -> Result<Vec<CellRow>, StoreFault>
-    requires { IsAtRest (state S.Store conn.old) }
-    ensures { ReadsFor S.Store conn.old conn.new result
-        (λ found. map (shown_cell tab) found.items
-        ≡ where_key cell_key_cmp (λ k. int_eq tab k.0)
-        (value_of (state S.Store conn.old).now.trees).cells) }
-{
-    select(
-        conn,
-        alloc,
-        "SELECT docid, col, num, txt FROM cell WHERE tab = ?1 ORDER BY tab, docid, col",
-        params![tab],
-    )
-}
-
-/// The cells of a document.
-pub(crate) fn document<S: Alter>(
-    conn: &mut Connection<S>,
-    alloc: Global,
-    tab: i64,
-    docid: i64,
-) -> Result<Vec<CellRow>, StoreFault>
-    requires { IsAtRest (state S.Store conn.old) }
-    ensures { ReadsFor S.Store conn.old conn.new result
-        (λ found. map (shown_cell tab) found.items
-        ≡ where_key cell_key_cmp (λ k. int_eq tab k.0 && int_eq docid k.1)
-        (value_of (state S.Store conn.old).now.trees).cells) }
-{
-    select(
-        conn,
-        alloc,
-        "SELECT docid, col, num, txt FROM cell WHERE tab = ?1 AND docid = ?2 ORDER BY tab, docid, col",
-        params![tab, docid],
-    )
+    select(conn, alloc, SKIPS, params![tab])
 }
 
 /// A limit on rows as SQL has it, where -1 stands for none.
-fn limit_of(most: Option<u32>) -> i64
+pub(crate) fn limit_of(most: Option<u32>) -> i64
     ensures { as_count (Int result) ≡ most }
 {
     most.map_or(-1, |count| i64::from(count))
-}
-
-/// The docids of a table's cells of column 0, from an offset on and at most so many.
-pub(crate) fn docids<S: Alter>(
-    conn: &mut Connection<S>,
-    alloc: Global,
-    tab: i64,
-    most: Option<u32>,
-    offset: u32,
-) -> Result<Vec<i64>, StoreFault>
-    requires { IsAtRest (state S.Store conn.old) }
-    ensures { ReadsFor S.Store conn.old conn.new result
-        (λ found. found.items ≡ cut_to most offset
-        (docids_in tab (value_of (state S.Store conn.old).now.trees).cells)) }
-{
-    let limit = limit_of(most);
-    select(
-        conn,
-        alloc,
-        "SELECT docid FROM cell WHERE tab = ?1 AND col = 0 ORDER BY tab, docid, col LIMIT ?2 OFFSET ?3",
-        params![tab, limit, offset],
-    )
-}
-
-/// Whether a table has a cell under a docid.
-pub(crate) fn has_document<S: Alter>(
-    conn: &mut Connection<S>,
-    alloc: Global,
-    tab: i64,
-    docid: i64,
-) -> Result<bool, StoreFault>
-    requires { IsAtRest (state S.Store conn.old) }
-    ensures { ReadsFor S.Store conn.old conn.new result
-        (λ found. found ≡ is_some (slice_get
-        (where_key cell_key_cmp (λ k. int_eq tab k.0 && int_eq docid k.1)
-        (value_of (state S.Store conn.old).now.trees).cells) 0)) }
-{
-    let found: Vec<i64> = select(
-        conn,
-        alloc,
-        "SELECT docid FROM cell WHERE tab = ?1 AND docid = ?2 ORDER BY tab, docid, col LIMIT 1",
-        params![tab, docid],
-    )?;
-    Ok(!found.is_empty())
-}
-
-/// The greatest docid of a table.
-pub(crate) fn last_docid<S: Alter>(
-    conn: &mut Connection<S>,
-    alloc: Global,
-    tab: i64,
-) -> Result<Option<i64>, StoreFault>
-    requires { IsAtRest (state S.Store conn.old) }
-    ensures { ReadsFor S.Store conn.old conn.new result
-        (λ last. last ≡ last_docid_of tab
-        (value_of (state S.Store conn.old).now.trees).cells) }
-{
-    let found: Vec<i64> = select(
-        conn,
-        alloc,
-        "SELECT docid, col FROM cell WHERE tab = ?1 ORDER BY tab DESC, docid DESC, col DESC LIMIT 1",
-        params![tab],
-    )?;
-    Ok(found.first().copied())
-}
-
-/// The sizes of a table's cells.
-pub(crate) fn sizes<S: Alter>(
-    conn: &mut Connection<S>,
-    alloc: Global,
-    tab: i64,
-) -> Result<Vec<SizeRow>, StoreFault>
-    requires { IsAtRest (state S.Store conn.old) }
-    ensures { ReadsFor S.Store conn.old conn.new result
-        (λ found. map (shown_size tab) found.items
-        ≡ where_key cell_key_cmp (λ k. int_eq tab k.0)
-        (value_of (state S.Store conn.old).now.trees).sizes) }
-{
-    select(
-        conn,
-        alloc,
-        "SELECT docid, col, n FROM sizes WHERE tab = ?1 ORDER BY tab, docid, col",
-        params![tab],
-    )
-}
-
-/// The noted names.
-pub(crate) fn noted<S: Alter>(
-    conn: &mut Connection<S>,
-    alloc: Global,
-) -> Result<Vec<String>, StoreFault>
-    requires { IsAtRest (state S.Store conn.old) }
-    ensures { ReadsFor S.Store conn.old conn.new result
-        (λ found. map shown_note found.items
-        ≡ (value_of (state S.Store conn.old).now.trees).noted) }
-{
-    select(
-        conn,
-        alloc,
-        "SELECT name FROM noted ORDER BY name, name COLLATE BINARY",
-        &[],
-    )
 }

@@ -26,14 +26,17 @@ use crate::examine::Rowids;
 use crate::expected::count_places;
 use crate::fault::StoreFault;
 use crate::files::open_database;
-use crate::lists::count_spots;
-use crate::make::made;
+use crate::lists::{count_spots, term_entries};
+use crate::make::make;
 use crate::parts::Parts;
-use crate::{expected, lists, read, tables, write};
+use crate::read::limit_of;
+use crate::sql::{CELLS, DOCIDS, DOCUMENT, LAST_DOCID, NOTED, ONE_CELL, SIZES};
+use crate::stream::select;
+use crate::{expected, lists, tables, write};
 use ft_rows::TermLists;
 use ft_values::{CellRow, EntryRow, ListRow, RowChange, SizeRow, TabRow};
 use ram_disk::{Ram, open_ram};
-use sqlite::{Alter, Connection, File, FileFrom, FileStore, Start, Unknown};
+use sqlite::{Alter, Connection, File, FileFrom, FileStore, Start, Unknown, params};
 use std::alloc::Global;
 use std::marker::Model;
 
@@ -82,7 +85,8 @@ impl Store<FileStore<Ram>> {
         ensures unread { IfOk result (λ store. store.rows_read ≡ 0) }
         ensures causes { IfErr result IsPlainFault }
     {
-        let conn = made(open_ram(alloc)?)?;
+        let mut conn = open_ram(alloc)?;
+        make(&mut conn)?;
         Ok(Store {
             conn,
             alloc,
@@ -223,7 +227,7 @@ impl<S: Alter> Store<S> {
             ≡ where_key cell_key_cmp (λ k. int_eq tab k.0) (value_in S.Store self.old).cells) }
         ensures read { ReadsRows S.Store self.old self.new result vec_len IsPlainFault }
     {
-        let found = read::cells(&mut self.conn, self.alloc, tab)?;
+        let found = select(&mut self.conn, self.alloc, CELLS, params![tab])?;
         self.rows_read = self.rows_read.saturating_add(found.len() as u64);
         Ok(found)
     }
@@ -236,7 +240,7 @@ impl<S: Alter> Store<S> {
             (value_in S.Store self.old).cells) }
         ensures read { ReadsRows S.Store self.old self.new result vec_len IsPlainFault }
     {
-        let found = read::document(&mut self.conn, self.alloc, tab, docid)?;
+        let found = select(&mut self.conn, self.alloc, DOCUMENT, params![tab, docid])?;
         self.rows_read = self.rows_read.saturating_add(found.len() as u64);
         Ok(found)
     }
@@ -254,7 +258,13 @@ impl<S: Alter> Store<S> {
             ≡ cut_to most offset (docids_in tab (value_in S.Store self.old).cells)) }
         ensures read { ReadsRows S.Store self.old self.new result vec_len IsPlainFault }
     {
-        let found = read::docids(&mut self.conn, self.alloc, tab, most, offset)?;
+        let limit = limit_of(most);
+        let found = select(
+            &mut self.conn,
+            self.alloc,
+            DOCIDS,
+            params![tab, limit, offset],
+        )?;
         self.rows_read = self.rows_read.saturating_add(found.len() as u64);
         Ok(found)
     }
@@ -268,7 +278,8 @@ impl<S: Alter> Store<S> {
         ensures read { ReadsRows S.Store self.old self.new result
             (λ found. if found then 1 else 0) IsPlainFault }
     {
-        let is_there = read::has_document(&mut self.conn, self.alloc, tab, docid)?;
+        let found: Vec<i64> = select(&mut self.conn, self.alloc, ONE_CELL, params![tab, docid])?;
+        let is_there = !found.is_empty();
         self.rows_read = self.rows_read.saturating_add(u64::from(is_there));
         Ok(is_there)
     }
@@ -280,7 +291,8 @@ impl<S: Alter> Store<S> {
         ensures read { ReadsRows S.Store self.old self.new result
             (λ last. length (option_to_list last)) IsPlainFault }
     {
-        let last = read::last_docid(&mut self.conn, self.alloc, tab)?;
+        let found: Vec<i64> = select(&mut self.conn, self.alloc, LAST_DOCID, params![tab])?;
+        let last = found.first().copied();
         self.rows_read = self.rows_read.saturating_add(u64::from(last.is_some()));
         Ok(last)
     }
@@ -298,7 +310,8 @@ impl<S: Alter> Store<S> {
             (λ k. int_eq tab k.0 && is_eq (name_cmp term.now k.1))
             (value_in S.Store self.old).lists) }
     {
-        let found = lists::term(&mut self.conn, self.alloc, tab, term)?;
+        let lists = lists::term_lists(&mut self.conn, self.alloc, tab, term)?;
+        let found = term_entries(self.alloc, term, lists.as_slice())?;
         self.rows_read = self.rows_read.saturating_add(found.len() as u64);
         Ok(found)
     }
@@ -368,7 +381,7 @@ impl<S: Alter> Store<S> {
         ensures stays { HasCleanDisk (shows S.Store self.new) → result ≡ Err StoreFault.Damaged
             → IsTrue (shows S.Store self.new).is_open }
     {
-        let found = lists::entries(&mut self.conn, self.alloc, tab)?;
+        let found = lists::prefix(&mut self.conn, self.alloc, tab, "")?;
         self.rows_read = self.rows_read.saturating_add(found.len() as u64);
         Ok(found)
     }
@@ -397,7 +410,7 @@ impl<S: Alter> Store<S> {
             ≡ where_key cell_key_cmp (λ k. int_eq tab k.0) (value_in S.Store self.old).sizes) }
         ensures read { ReadsRows S.Store self.old self.new result vec_len IsPlainFault }
     {
-        let found = read::sizes(&mut self.conn, self.alloc, tab)?;
+        let found = select(&mut self.conn, self.alloc, SIZES, params![tab])?;
         self.rows_read = self.rows_read.saturating_add(found.len() as u64);
         Ok(found)
     }
@@ -409,7 +422,7 @@ impl<S: Alter> Store<S> {
             ≡ (value_in S.Store self.old).noted) }
         ensures read { ReadsRows S.Store self.old self.new result vec_len IsPlainFault }
     {
-        let found = read::noted(&mut self.conn, self.alloc)?;
+        let found = select(&mut self.conn, self.alloc, NOTED, &[])?;
         self.rows_read = self.rows_read.saturating_add(found.len() as u64);
         Ok(found)
     }

@@ -1,0 +1,22 @@
+use Rattle.std.proofs.Common.{pos, sym, subst, ◌∙◌, arith}
+use Rattle.sqlite.specs.Given.{IsPlain}
+use Rattle.sqlite.specs.Listing.{understood}
+use Rattle.sqlite.specs.Held.{state}
+use Rattle.std.proofs.lemmas.Result.{IfOk-weaker}
+use Rattle.ft_rows.specs.Store.{name_cmp}
+use Rattle.ft_store.proofs.Texts.{noted_text}
+use Rattle.ft_store.proofs.TextLemmas.{noted_plain}
+use Rattle.ft_store.proofs.AnswerLemmas.{noted_shown, all_kept}
+use Rattle.ft_store.proofs.store.Store.noted.Goals as goal
+
+pub select-requires : goal.select-requires
+select-requires g c = record { settled = c.self.invariant.settled; shown = λ clean is_open. subst (λ s. IsPlain (understood s noted_text)) (sym (c.self.invariant.store clean is_open).schema) noted_plain }
+
+pub returns-clause-rows : goal.returns-clause-rows
+returns-clause-rows g c = λ clean.
+    let old = state g.S.Store c.self.inside.conn in
+    let new = state g.S.Store c.select.new.conn in
+    let store = c.self.invariant.store (omega (arith, c.select.ensures.read.survives.clean)) in
+    let found = c.in_ok-found.found in
+    let h = c.in_ok-found.ensures.rows clean in
+    rw (sym c.self.view_is) (h.2 (pos 0) ∙ noted_shown old new h.0 store h.1 ∙ all_kept name_cmp _)
