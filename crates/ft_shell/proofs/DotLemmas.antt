@@ -13,7 +13,7 @@ use Rattle.plain_shell.specs.DotParts.{Sets}
 use Rattle.plain_shell.specs.Sources.{Files}
 use Rattle.plain_shell.specs.Told.{Answer, lacks_memory}
 use Rattle.ft_shell.specs.DotTurns.{OnlySets}
-use Rattle.ft_shell.specs.Shell.{Shell, shell_of}
+use Rattle.ft_shell.specs.Shell.{shell_of}
 use Rattle.ft_shell.specs.Turns.{DotOrLacks}
 
 module _ {P S : Type 0} (g : Ghosts P) (h : Ghosts S) (plain : Held P) (known : FullText S) (holds : Files) (old new : Settings) (answer : Answer) where

@@ -399,6 +399,7 @@ module _ (table : List ℕ) (items : Items) (filter : Filter) (limit : Option �
         where
           shown : Answer → Told
           shown answer = echoed it.was.settings text (told_of it.was.settings.bail line answer)
+
           told : Tells (says (reply_text it.was.settings reply)) turn.body → (told_by it.own ≡ shown (says (reply_text it.was.settings reply))) ⊎ (told_by it.own ≡ shown lacks_memory)
           told (inl is) = inl (turn.tells ∙ ap shown is)
           told (inr is) = inr (turn.tells ∙ ap shown is)

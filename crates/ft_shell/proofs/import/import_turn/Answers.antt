@@ -1,5 +1,5 @@
 -- the file's bytes, their records, and those that are left
-use Rattle.std.proofs.Common.{rules, ◌≡◌, ◌+◌, length, map, min, string_bytes, refl, ap, ◌∙◌, subst, inl, inr}
+use Rattle.std.proofs.Common.{rules, ◌≡◌, ◌+◌, length, map, min, refl, ap, ◌∙◌, subst, inl, inr}
 use Rattle.std.specs.Prelude.{unwrap_or}
 use Rattle.std.specs.List.{enumerate_from}
 use Rattle.ft_statements.specs.DotViews.{import_as}

@@ -1,17 +1,17 @@
 -- the table is made and filled
-use Rattle.std.proofs.Common.{rules, ◌≡◌, ◌<◌, ◌≤◌, ◌+◌, ◌-◌, ◌∷◌, Some, length, map, take, drop, string_bytes, refl, sym, ap, ◌∙◌, subst, arith}
+use Rattle.std.proofs.Common.{rules, ◌≡◌, ◌<◌, ◌≤◌, ◌+◌, ◌-◌, Some, length, map, take, drop, string_bytes, refl, sym, ap, ◌∙◌, subst, arith}
 use Rattle.std.specs.List.{enumerate_from}
 use Rattle.std.proofs.lemmas.List.{length-map}
 use Rattle.ft_statements.specs.DotViews.{import_as}
 use Rattle.ft_statements.specs.Views.{texts_of}
 use Rattle.plain_shell.specs.IntoTables.{fault_words}
-use Rattle.plain_shell.specs.OutputViews.{answer_as, complaint_as}
+use Rattle.plain_shell.specs.OutputViews.{answer_as}
 use Rattle.plain_shell.specs.PlainImports.{CommitsAll, Declines}
 use Rattle.plain_shell.specs.Records.{warnings}
 use Rattle.plain_shell.specs.Told.{blames}
 use Rattle.plain_shell.proofs.ImportTurnLemmas.{no_rows, same_steps, split_rows}
 use Rattle.ft_shell.specs.FullTextTurns.{NoteTurn}
-use Rattle.ft_shell.specs.ImportTurns.{IntoNew, made, no_header, too_wide}
+use Rattle.ft_shell.specs.ImportTurns.{made, no_header, too_wide}
 use Rattle.ft_shell.proofs.ImportTurnLemmas.{making_refused}
 use Rattle.ft_shell.proofs.import.into_new_table.Goals as goal
 

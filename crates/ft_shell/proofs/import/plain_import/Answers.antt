@@ -1,5 +1,5 @@
 -- by whether the table can be read
-use Rattle.std.proofs.Common.{rules, ◌≡◌, true, false, None, Some, string_bytes, refl, subst}
+use Rattle.std.proofs.Common.{rules, ◌≡◌, true, false, None, Some, refl, subst}
 use Rattle.plain_shell.specs.Listings.{Tries}
 use Rattle.plain_shell.specs.OutputViews.{answer_as}
 use Rattle.plain_shell.specs.Told.{lacks_memory}

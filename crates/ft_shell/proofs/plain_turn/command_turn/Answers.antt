@@ -1,5 +1,5 @@
 -- by what `sqlite` says of the call
-use Rattle.std.proofs.Common.{rules, ◌≡◌, ℕ, List, [], refl, string_bytes, subst, sym, ◌∙◌}
+use Rattle.std.proofs.Common.{rules, ◌≡◌, ℕ, List, [], refl, string_bytes, subst, sym}
 use Rattle.std.specs.Prelude.{option_map}
 use Rattle.plain_shell.proofs.QueryLemmas.{if_clean}
 use Rattle.plain_shell.specs.OutputViews.{answer_as}

@@ -5,7 +5,7 @@ use Rattle.ft_shell.specs.Shell.{Parts, Shell, lent}
 use Rattle.plain_shell.specs.Told.{Answer, blames, told_of}
 use Rattle.ft_shell.specs.Deeds.{deeds_of}
 use Rattle.ft_statements.specs.Texts.{split_text}
-use Rattle.plain_shell.specs.OutputViews.{answer_as, complaint_as}
+use Rattle.plain_shell.specs.OutputViews.{complaint_as}
 use Rattle.ft_shell.specs.Ran.{Runs, moment}
 use Rattle.plain_shell.proofs.WriteLemmas.{appends_same}
 use Rattle.ft_shell.proofs.RanLemmas.{passes_none, runs_turn}
