@@ -197,10 +197,7 @@ fn add_byte(numbers: &mut Vec<u32>, byte: u8) -> Result<bool, AllocError>
         return Ok(true);
     }
     let high = numbers.pop().unwrap_or(0);
-    if high == 0 {
-        return Ok(false);
-    }
-    if high >= 0x4000 {
+    if high == 0 || high >= 0x4000 {
         return Ok(false);
     }
     numbers.push(u32::from(byte) - 128 + 128 * high)?;

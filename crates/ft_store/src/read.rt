@@ -20,7 +20,6 @@ ghost use Rattle.ft_store.specs.Calls.{IsAtRest};
 ghost use Rattle.ft_store.specs.Settled.{IsSettled, IsPlainIn, Finds, ReadsFor, GivesRows};
 
 use crate::fault::StoreFault;
-use crate::sql::{COLUMNS, NAMES, SKIPS};
 use crate::stream::{InRow, select};
 use ft_values::{CellRow, SizeRow, TabRow, Value};
 use sqlite::types::ValueRef;
@@ -171,49 +170,6 @@ impl InRow for String {
     fn read(_alloc: Global, row: &Row) -> Result<String, StoreFault> {
         Ok(row.get(0)?)
     }
-}
-
-/// The tables' numbers and names.
-pub(crate) fn names<S: Alter>(
-    conn: &mut Connection<S>,
-    alloc: Global,
-) -> Result<Vec<TabRow>, StoreFault>
-    requires { IsAtRest (state S.Store conn.old) }
-    ensures { ReadsFor S.Store conn.old conn.new result
-        (λ found. map name_of found.items
-        ≡ (value_of (state S.Store conn.old).now.trees).tables) }
-{
-    select(conn, alloc, NAMES, &[])
-}
-
-/// The columns of a table.
-pub(crate) fn columns<S: Alter>(
-    conn: &mut Connection<S>,
-    alloc: Global,
-    tab: i64,
-) -> Result<Vec<(i64, String)>, StoreFault>
-    requires { IsAtRest (state S.Store conn.old) }
-    ensures { ReadsFor S.Store conn.old conn.new result
-        (λ found. map (shown_column tab) found.items
-        ≡ where_key column_key_cmp (λ k. int_eq tab k.0)
-        (value_of (state S.Store conn.old).now.trees).columns) }
-{
-    select(conn, alloc, COLUMNS, params![tab])
-}
-
-/// The columns of a table that aren't indexed.
-pub(crate) fn skips<S: Alter>(
-    conn: &mut Connection<S>,
-    alloc: Global,
-    tab: i64,
-) -> Result<Vec<i64>, StoreFault>
-    requires { IsAtRest (state S.Store conn.old) }
-    ensures { ReadsFor S.Store conn.old conn.new result
-        (λ found. map (shown_skip tab) found.items
-        ≡ where_key column_key_cmp (λ k. int_eq tab k.0)
-        (value_of (state S.Store conn.old).now.trees).skipped) }
-{
-    select(conn, alloc, SKIPS, params![tab])
 }
 
 /// A limit on rows as SQL has it, where -1 stands for none.

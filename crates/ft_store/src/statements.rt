@@ -50,7 +50,7 @@ fn add<S: Alter>(
 }
 
 /// A number as a parameter beside a text.
-fn beside(number: i64, _text: &str) -> ValueRef<'_>
+pub(crate) fn beside(number: i64, _text: &str) -> ValueRef<'_>
     ensures { owned result ≡ Int number }
 {
     ValueRef::Int(number)
@@ -140,23 +140,6 @@ pub(crate) fn drop_size<S: Alter>(
         tx,
         "DELETE FROM sizes WHERE tab = ?1 AND docid = ?2 AND col = ?3",
         &[tab.to_sql(), docid.to_sql(), column.to_sql()],
-    )
-}
-
-/// Adds a table's name.
-pub(crate) fn add_name<S: Alter>(
-    tx: &mut Transaction<'_, S>,
-    tab: i64,
-    name: &str,
-) -> Result<(), StoreFault>
-    ensures { AddsInside S.Store tx.old.conn tx.new.conn result
-        (λ v. find int_cmp tab v.tables ≡ None)
-        (λ v. record v { tables = put int_cmp tab name.now v.tables }) }
-{
-    run(
-        tx,
-        "INSERT INTO tab (id, name) VALUES (?1, ?2)",
-        &[beside(tab, name), name.to_sql()],
     )
 }
 

@@ -7,9 +7,10 @@ ghost use Rattle.ft_store.specs.Calls.{IsAtRest};
 ghost use Rattle.ft_store.specs.Settled.{ReadsFor};
 
 use crate::fault::StoreFault;
-use crate::read::{columns, names, skips};
+use crate::sql::{COLUMNS, NAMES, SKIPS};
+use crate::stream::select;
 use ft_values::TabRow;
-use sqlite::{Alter, Connection};
+use sqlite::{Alter, Connection, params};
 use std::alloc::Global;
 
 /// A table that is there, with its columns.
@@ -24,8 +25,8 @@ fn table<S: Alter>(
         (λ found. shown_table found
         ≡ table_listed (value_of (state S.Store conn.old).now.trees) (id, string_bytes name)) }
 {
-    let columns = columns(conn, alloc, id)?;
-    let skipped = skips(conn, alloc, id)?;
+    let columns = select(conn, alloc, COLUMNS, params![id])?;
+    let skipped = select(conn, alloc, SKIPS, params![id])?;
     Ok(TabRow {
         id,
         name,
@@ -44,7 +45,7 @@ pub(crate) fn tables<S: Alter>(
         (λ found. map shown_table found.items
         ≡ tables_listed (value_of (state S.Store conn.old).now.trees)) }
 {
-    let names = names(conn, alloc)?;
+    let names: Vec<TabRow> = select(conn, alloc, NAMES, &[])?;
     let mut found = Vec::new(alloc);
     for named in &names {
         let name = named.name.clone()?;

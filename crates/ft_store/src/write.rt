@@ -18,8 +18,8 @@ ghost use Rattle.ft_store.specs.Parts.{changes_in, CanMake};
 use crate::fault::StoreFault;
 use crate::parts::Parts;
 use crate::statements::{
-    add_lists, add_name, drop_cells, drop_list, drop_size, put_cell, put_column, put_list,
-    put_note, put_size, put_skip, run,
+    add_lists, beside, drop_cells, drop_list, drop_size, put_cell, put_column, put_list, put_note,
+    put_size, put_skip, run,
 };
 use ft_rows::{can_pack, pack};
 use ft_values::{RowChange, Spot, Value};
@@ -113,7 +113,11 @@ fn add_table<S: Alter>(
         (λ v. applied (AddTable tab name.now (map string_bytes columns.now) skipped.now) v) }
 {
     clear_rows(tx, tab)?;
-    add_name(tx, tab, name)?;
+    run(
+        tx,
+        "INSERT INTO tab (id, name) VALUES (?1, ?2)",
+        &[beside(tab, name), name.to_sql()],
+    )?;
     put_columns(tx, tab, columns)?;
     put_skips(tx, tab, skipped)
 }

@@ -1,4 +1,4 @@
-use Rattle.std.proofs.Common.{◌≡◌, map, sym, ap, ◌∙◌, arith, rules, FitsSigned, w64, to_z-of_z}
+use Rattle.std.proofs.Common.{pos, subst, ◌≡◌, map, sym, ap, ◌∙◌, arith, rules, FitsSigned, w64, to_z-of_z}
 use Rattle.std.specs.Prelude.{string_bytes}
 use Rattle.std.proofs.lemmas.List.{take_all}
 use Rattle.sqlite.specs.Effect.{Database}
@@ -10,7 +10,16 @@ use Rattle.ft_store.specs.Found.{name_of}
 use Rattle.ft_rows.specs.Shown.{shown_table, table_listed}
 use Rattle.ft_store.proofs.CallLemmas.{one_more}
 use Rattle.ft_store.proofs.ChainLemmas.{Reading, reading_then}
+use Rattle.std.specs.Ordering.{int_cmp}
+use Rattle.sqlite.specs.Given.{IsPlain}
+use Rattle.sqlite.specs.Listing.{understood}
+use Rattle.ft_store.proofs.Texts.{names_text}
+use Rattle.ft_store.proofs.TextLemmas.{names_plain}
+use Rattle.ft_store.proofs.AnswerLemmas.{names_shown, all_kept}
 use Rattle.ft_store.proofs.tables.tables.Goals as goal
+
+pub select-requires : goal.select-requires
+select-requires g c = record { settled = c.requires.settled; shown = λ clean is_open. subst (λ s. IsPlain (understood s names_text)) (sym (c.requires.store clean is_open).schema) names_plain }
 
 pub loop-named-preserved : goal.loop-named-preserved
 loop-named-preserved g c =
@@ -36,10 +45,12 @@ returns g c = record {
   rows = λ clean.
       let old = state g.S.Store c.args.conn.now in
       let read = c.loop-named.invariant.0 in
-      let begun : HasCleanDisk (state g.S.Store c.names.new.conn) = c.loop-named.invariant.1 clean in
+      let begun : HasCleanDisk (state g.S.Store c.select.new.conn) = c.loop-named.invariant.1 clean in
+      let h = c.in_ok-names.ensures.rows begun in
+      let store = c.requires.store (omega (arith, c.select.ensures.read.survives.clean, begun)) in
       c.loop-named.invariant.2 clean
       ∙ ap (map (λ n. table_listed (value_of old.now.trees) (name_of n))) (take_all c.loop-named.named-index c.deref-named-items.result.now c.loop-named-test.false ∙ c.deref-named-items.ensures.value)
-      ∙ sym (map-map (table_listed (value_of old.now.trees)) name_of c.in_ok-names.names.items) ∙ ap (map (table_listed (value_of old.now.trees))) (c.in_ok-names.ensures.rows begun);
+      ∙ sym (map-map (table_listed (value_of old.now.trees)) name_of c.in_ok-names.names.items) ∙ ap (map (table_listed (value_of old.now.trees))) (h.2 (pos 0) ∙ names_shown old (state g.S.Store c.select.new.conn) h.0 store h.1 ∙ all_kept int_cmp _);
   read = record { kept = c.loop-named.invariant.0.kept; live = c.loop-named.invariant.0.live; mode = c.loop-named.invariant.0.mode; survives = c.loop-named.invariant.0.survives; fault = search rules };
 }
 
