@@ -23,7 +23,7 @@ use Rattle.ft_store.specs.declared.fault.StoreFault.{StoreFault}
 use Rattle.ft_store.specs.declared.fault.StoreFault.TheVariants as fault
 use Rattle.ft_store.specs.Tables.{no_schema}
 use Rattle.ft_store.specs.Older.{HasStoreTables}
-use Rattle.ft_store.specs.Adopted.{Gives, version_query, version_cause, rows_cause, error_cause, told_cause, IsAdoptFault, IsNotTaken}
+use Rattle.ft_store.specs.Adopted.{Gives, version_query, version_cause, rows_cause, error_cause, IsAdoptFault, IsNotTaken}
 use Rattle.ft_store.specs.Settled.{IsJudged}
 use Rattle.ft_store.proofs.CallLemmas.{refused_keeps}
 
@@ -143,7 +143,3 @@ error_kind (error.InvalidColumnIndex i) = inr (inl refl)
 error_kind (error.InvalidColumnType i kind) = inr (inl refl)
 error_kind (error.IntegralValueOutOfRange i) = inr (inl refl)
 error_kind (error.Utf8Error i) = inr (inl refl)
-
-pub told_kind : (found : Result (Vec Row Global) Error) → IsAdoptFault (told_cause found)
-told_kind (Ok rows) = rows_kind rows.items
-told_kind (Err e) = error_kind e

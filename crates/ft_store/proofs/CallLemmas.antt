@@ -65,10 +65,6 @@ pub one_more : {A B C : Type 0} (f : A → C) (g : B → C) (xs : List A) (ys : 
 one_more f g xs ys i x y inside is h here =
     map-append f xs (x ∷ []) ∙ ap₂ (λ l z. l ++ z ∷ []) h (here ∙ ap g is) ∙ sym (map-append g (take i ys) (get_or ys i y ∷ [])) ∙ ap (map g) (sym (take_more ys i y inside))
 
--- the same of rows that come one at a time
-pub next_more : {A B C : Type 0} (f : A → C) (g : B → C) (xs : List A) (ys : List B) (x : A) (y : B) → map f xs ≡ map g ys → f x ≡ g y → map f (xs ++ x ∷ []) ≡ map g (ys ++ y ∷ [])
-next_more f g xs ys x y h here = map-append f xs (x ∷ []) ∙ ap₂ (λ l z. l ++ z ∷ []) h here ∙ sym (map-append g ys (y ∷ []))
-
 -- what a statement in a transaction leaves of the last commit
 pub inside_keeps : (sql : List ℕ) (params : Row) (old new : State) (r : Result ℕ Error) → ExecutesInside 0 sql params old new r → KeepsCommit old new
 inside_keeps sql params old new (Ok count) h = record { was_open = λ _. h.1.was_open; committed = λ _. h.1.committed_is }

@@ -1,5 +1,5 @@
 -- How the steps of a change are put together.
-use Rattle.std.proofs.Common.{◌≡◌, ℕ, ◌+◌, ◌<◌, ℤ, pos, not, cond, List, [], ◌∷◌, ◌++◌, map, length, get_or, take, Option, None, refl, sym, ap, ◌∙◌, subst, arith, IsTrue, is_eq}
+use Rattle.std.proofs.Common.{◌≡◌, ℕ, ◌+◌, ◌<◌, ℤ, pos, not, cond, List, [], ◌∷◌, ◌++◌, map, length, get_or, take, None, refl, sym, ap, ◌∙◌, subst, arith, IsTrue, is_eq}
 use Rattle.std.specs.Prelude.{unwrap_or, option_map, string_bytes, String}
 use Rattle.std.specs.declared.alloc.Global.{Global}
 use Rattle.std.specs.List.{enumerate_from}
@@ -43,11 +43,6 @@ no_step a inside is_open store = record { store = store; is = refl; shown = reco
 abbrev pub StepsIfDone : {S : Type 0} → Ghosts S → Held S → Held S → (StoreValue → StoreValue) → Type 0
 StepsIfDone g old new f =
     HasCleanDisk (state g new) → IsTrue (state g old).in_transaction → (IsTrue (state g old).is_open → IsStore (state g old).now) → Steps (state g old) (state g new) (f (value_of (state g old).now.trees))
-
-abbrev pub AddsIfDone : {S K : Type 0} → Ghosts S → Held S → Held S → (StoreValue → Option K) → (StoreValue → StoreValue) → Type 0
-AddsIfDone g old new look f =
-    HasCleanDisk (state g new) → IsTrue (state g old).in_transaction → (IsTrue (state g old).is_open → IsStore (state g old).now)
-    → look (value_of (state g old).now.trees) ≡ None → Steps (state g old) (state g new) (f (value_of (state g old).now.trees))
 
 abbrev pub StepsIfOpenDone : {S : Type 0} → Ghosts S → Held S → Held S → (StoreValue → StoreValue) → Type 0
 StepsIfOpenDone g old new f =

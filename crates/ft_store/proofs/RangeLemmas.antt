@@ -1,5 +1,5 @@
 -- The texts that begin so are a range.
-use Rattle.std.proofs.Common.{◌≡◌, ◌≢◌, ℤ, ℕ, ◌+◌, ◌/◌, ◌%◌, ◌<◌, Bool, true, false, ◌&&◌, cond, List, [], ◌∷◌, ◌++◌, length, encode_utf8, encode_utf8_all, IsUtf8, refl, sym, ap, subst, ◌∙◌, Ordering, Less, Equal, Greater, is_lt, is_le, arith, true≢false, eq-eqb, ltb, T, inl, inr}
+use Rattle.std.proofs.Common.{◌≡◌, ℤ, ℕ, ◌+◌, ◌/◌, ◌%◌, ◌<◌, Bool, true, false, ◌&&◌, cond, List, [], ◌∷◌, ◌++◌, length, encode_utf8, encode_utf8_all, IsUtf8, refl, sym, ap, subst, ◌∙◌, Ordering, Less, Equal, Greater, is_lt, is_le, arith, true≢false, eq-eqb, ltb, T, inl, inr}
 use lib.Dec.{ltb→lt}
 use lib.Utf8.{scalar, scalar_cases}
 use Rattle.std.specs.Str.{all_scalars}

@@ -74,12 +74,6 @@ StepsOnOk g old new result f =
     HasCleanDisk (state g new) → IsTrue (state g old).in_transaction → (IsTrue (state g old).is_open → IsStore (state g old).now)
     → OnOk result (Steps (state g old) (state g new) (f (value_of (state g old).now.trees)))
 
--- the same, where no row has the new one's key
-abbrev pub AddsOnOk : {S : Type 0} → Ghosts S → Held S → Held S → Result (Unit {0}) StoreFault → (StoreValue → Type 0) → (StoreValue → StoreValue) → Type 0
-AddsOnOk g old new result IsFree f =
-    HasCleanDisk (state g new) → IsTrue (state g old).in_transaction → (IsTrue (state g old).is_open → IsStore (state g old).now)
-    → OnOk result (IsFree (value_of (state g old).now.trees) → Steps (state g old) (state g new) (f (value_of (state g old).now.trees)))
-
 -- nothing is committed, and the last commit stays
 abbrev pub KeepsLast : {S : Type 0} → Ghosts S → Held S → Held S → Type 0
 KeepsLast g old new = HasCleanDisk (state g new) → KeepsCommit (state g old) (state g new)

@@ -14,7 +14,7 @@ use Rattle.ft_values.specs.declared.rows.RowChange.{RowChange}
 use Rattle.ft_rows.specs.Store.{StoreValue, all_applied}
 use Rattle.ft_rows.specs.Changes.{shown_change, CanApply}
 use Rattle.ft_store.specs.declared.fault.StoreFault.{StoreFault}
-use Rattle.ft_store.specs.Calls.{StepsOnOk, AddsOnOk, StepsIfOpen, StaysInside, StaysUncommitted, IsChangeFault}
+use Rattle.ft_store.specs.Calls.{StepsOnOk, StepsIfOpen, StaysInside, StaysUncommitted, IsChangeFault}
 use Rattle.ft_store.specs.Groups.{GoesOnOk}
 use Rattle.ft_store.specs.Made.{IsEmptyOf, Makes, MakesOnOk}
 
@@ -31,11 +31,6 @@ StepsInside g old new result f = DoneInside g old new result (StepsOnOk g old.no
 -- the same, in an open database
 abbrev pub StepsInsideIfOpen : {S : Type 0} → Ghosts S → MutBor (Held S) → MutBor (Held S) → Result (Unit {0}) StoreFault → (StoreValue → StoreValue) → Type 0
 StepsInsideIfOpen g old new result f = DoneInside g old new result (StepsIfOpen g old.now new.now result f)
-
--- the same, where no row has the new one's key
-abbrev pub AddsInside : {S : Type 0} → Ghosts S → MutBor (Held S) → MutBor (Held S) → Result (Unit {0}) StoreFault → (StoreValue → Type 0)
-    → (StoreValue → StoreValue) → Type 0
-AddsInside g old new result IsFree f = DoneInside g old new result (AddsOnOk g old.now new.now result IsFree f)
 
 -- of a database with the one property one with the other is made
 abbrev pub MakesInside : {S : Type 0} → Ghosts S → MutBor (Held S) → MutBor (Held S) → Result (Unit {0}) StoreFault → (Database → Type 0)

@@ -14,7 +14,7 @@ use Rattle.ft_values.specs.declared.rows.Spot.{Spot}
 use Rattle.ft_values.specs.declared.rows.ListRow.{ListRow}
 use Rattle.ft_values.specs.declared.rows.EntryRow.{EntryRow}
 use Rattle.ft_rows.specs.Store.{ListKey, nothing_held}
-use Rattle.ft_rows.specs.Shown.{shown_entry, entries_of, AreRead, AreWhole, SomeDamaged}
+use Rattle.ft_rows.specs.Shown.{shown_entry, entries_of, AreRead, SomeDamaged}
 use Rattle.ft_store.specs.declared.examine.Rowids.{Rowids}
 use Rattle.ft_store.specs.declared.examine.Rowids.TheVariants.{Apart, Unknown}
 use Rattle.ft_store.specs.declared.fault.StoreFault.{StoreFault}
@@ -77,12 +77,6 @@ pub record MakesWhole (old new : State) (result : Result (Unit {0}) StoreFault) 
   pub crash : Survives old new (λ db. IsTrue old.is_open → IsLeft db)
   pub fault : IfErr result IsFault
 
--- what such a transaction made, where its connection is handed on
-pub record HasMade (IsMade : Database → Type 0) (s : State) : Type 0 where
-  pub all : HasCleanDisk s → IsMade s.now
-  pub live : HasCleanDisk s → IsTrue s.is_open
-  pub mode : s.in_transaction ≡ false
-
 -- why a database with the tables of a store is none: `meta` hasn't one row, or has a version that
 -- is not taken
 pub record IsJudged (db : Trees) (result : Result (Unit {0}) StoreFault) : Type 0 where
@@ -108,12 +102,7 @@ pub record ReadsLists {S X : Type 0} (g : Ghosts S) (old new : Held S) (result :
 abbrev pub GivesLists : {S : Type 0} → Ghosts S → Held S → Held S → Result (Vec ListRow Global) StoreFault → List (ListKey × List Spot) → Type 0
 GivesLists g old new result asked = ReadsLists g old new result (λ found. AreRead asked found.items) (SomeDamaged asked)
 
--- each place in them, with its term, which is known
-abbrev pub GivesEntries : {S : Type 0} → Ghosts S → Held S → Held S → Result (Vec EntryRow Global) StoreFault → List (ListKey × List Spot) → Type 0
-GivesEntries g old new result asked =
-    ReadsLists g old new result (λ found. (map shown_entry found.items ≡ entries_of asked) × AreWhole asked) (SomeDamaged asked)
-
--- the same, where the terms are read: each is a text
+-- each place in them, with its term, where the terms are read: each is a text
 abbrev pub GivesTold : {S : Type 0} → Ghosts S → Held S → Held S → Result (Vec EntryRow Global) StoreFault → List (ListKey × List Spot) → Type 0
 GivesTold g old new result asked = ReadsLists g old new result (λ found. (map shown_entry found.items ≡ entries_of asked) × AreTold asked) (¬ AreTold asked)
 

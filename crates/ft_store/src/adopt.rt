@@ -23,6 +23,7 @@ fn version_answer<S: Alter>(conn: &mut Connection<S>) -> Result<Vec<Row>, SqlErr
     ensures told { HasCleanDisk (state S.Store conn.new) → TellsAs S.Store conn.old result }
     ensures alone { LeavesAlone (state S.Store conn.old) (state S.Store conn.new) }
 {
+    // For the proof: outside a transaction an open database is as the last commit left it.
     let _settled = conn.is_autocommit();
     let mut tx = conn.transaction();
     let found = tx.query_all("SELECT version FROM meta", &[]);

@@ -153,6 +153,7 @@ pub(crate) fn examine<S: Alter>(
         → IsJudged (state S.Store conn.old).now.trees result }
     ensures read { Reads S.Store conn.old conn.new result IsAdoptFault }
 {
+    // For the proof: an open database keeps the rules of its schema.
     let _schema = conn.schema();
     judge(version(conn, alloc, layout)?, layout)?;
     if rowids == Rowids::Apart || are_numbered(conn, layout)? {

@@ -17,7 +17,7 @@ ghost use Rattle.ft_store.specs.Range.{after_last, limit_of};
 ghost use Rattle.ft_store.specs.Found.{found_spots, found_places};
 ghost use Rattle.ft_rows.specs.Shown.{shown_list, shown_entry, entries_with, entries_of, lists_of_term, lists_of_prefix, spot_count, AreWhole, SomeDamaged};
 ghost use Rattle.ft_store.specs.Calls.{AreTold, IsAtRest};
-ghost use Rattle.ft_store.specs.Settled.{IsSettled, IsPlainIn, Finds, ReadsLists, GivesLists, GivesEntries, GivesTold, GivesRows};
+ghost use Rattle.ft_store.specs.Settled.{IsSettled, IsPlainIn, Finds, ReadsLists, GivesLists, GivesTold, GivesRows};
 
 use crate::fault::StoreFault;
 use crate::sql::{PREFIX, PREFIX_LISTS, TERM_LISTS};

@@ -5,7 +5,7 @@ ghost use Rattle.ft_store.specs.Tables.{no_schema};
 ghost use Rattle.ft_rows.specs.Store.{nothing_held};
 ghost use Rattle.ft_store.specs.Rows.{value_of};
 ghost use Rattle.ft_store.specs.Calls.{IsPlainFault, IsStore, IsStored};
-ghost use Rattle.ft_store.specs.Settled.{IsSettled, IsBare, IsEmptyStore, Finds, MakesWhole, HasMade};
+ghost use Rattle.ft_store.specs.Settled.{IsSettled, IsBare, IsEmptyStore, Finds, MakesWhole};
 ghost use Rattle.ft_store.specs.Made.{IsEmptyOf, IsUnmarked};
 ghost use Rattle.ft_store.specs.Inside.{DoneInside, CreatesOnOk, MakesInside};
 
@@ -52,7 +52,9 @@ pub(crate) fn make<S: Alter>(conn: &mut Connection<S>) -> Result<(), StoreFault>
     ensures { MakesWhole (state S.Store conn.old) (state S.Store conn.new) result IsEmptyStore
         (λ db. IsStored db nothing_held) IsPlainFault }
 {
+    // For the proof: outside a transaction an open database is as the last commit left it.
     let _settled = conn.is_autocommit();
+    // For the proof: an open database keeps the rules of its schema.
     let _schema = conn.schema();
     let mut tx = conn.transaction();
     create_all(&mut tx)?;

@@ -43,6 +43,7 @@ fn migrate<S: Alter>(conn: &mut Connection<S>) -> Result<(), StoreFault>
         (IsRenewed (state S.Store conn.old).now)
         (λ db. IsStored db (older_value (state S.Store conn.old).now.trees)) IsPlainFault }
 {
+    // For the proof: outside a transaction an open database is as the last commit left it.
     let _settled = conn.is_autocommit();
     let mut tx = conn.transaction();
     add_table(&mut tx)?;

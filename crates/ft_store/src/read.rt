@@ -1,4 +1,4 @@
-//! Queries, each with the rows of the store's value that it gives.
+//! What stands in the rows of queries.
 ghost use Rattle.std.specs.Prelude.{◌≡◌, ℤ, ◌&&◌, map, slice_get, is_some, option_map, string_bytes, IsTrue, IfOk};
 ghost use Rattle.std.specs.Ordering.{int_eq};
 ghost use Rattle.std.specs.FinMap.Entries.{where_key};
@@ -173,7 +173,7 @@ impl InRow for String {
 }
 
 /// A limit on rows as SQL has it, where -1 stands for none.
-pub(crate) fn limit_of(most: Option<u32>) -> i64
+pub(crate) fn row_limit(most: Option<u32>) -> i64
     ensures { as_count (Int result) ≡ most }
 {
     most.map_or(-1, |count| i64::from(count))

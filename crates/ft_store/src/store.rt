@@ -29,7 +29,7 @@ use crate::files::open_database;
 use crate::lists::{count_spots, term_entries};
 use crate::make::make;
 use crate::parts::Parts;
-use crate::read::limit_of;
+use crate::read::row_limit;
 use crate::sql::{CELLS, DOCIDS, DOCUMENT, LAST_DOCID, NOTED, ONE_CELL, SIZES};
 use crate::stream::select;
 use crate::{expected, lists, tables, write};
@@ -178,6 +178,7 @@ impl<S: Alter> Store<S> {
             (λ fault. LeavesMade S.Store conn fault.connection) }
     {
         let mut conn = conn;
+        // For the proof: an open database keeps the rules of its schema.
         let _schema = conn.schema();
         if !conn.is_autocommit() {
             return Err(AdoptFault {
@@ -202,6 +203,7 @@ impl<S: Alter> Store<S> {
     pub fn ping(&mut self) -> Result<(), StoreFault>
         ensures { Pings S.Store self.old self.new result }
     {
+        // For the proof: outside a transaction an open database is as the last commit left it.
         let _settled = self.conn.is_autocommit();
         let _statement = self.conn.prepare("")?;
         Ok(())
@@ -258,7 +260,7 @@ impl<S: Alter> Store<S> {
             ≡ cut_to most offset (docids_in tab (value_in S.Store self.old).cells)) }
         ensures read { ReadsRows S.Store self.old self.new result vec_len IsPlainFault }
     {
-        let limit = limit_of(most);
+        let limit = row_limit(most);
         let found = select(
             &mut self.conn,
             self.alloc,
@@ -443,6 +445,7 @@ impl<S: Alter> Store<S> {
             (value_in S.Store self.old))) }
     {
         write::change(&mut self.conn, self.alloc, changes)?;
+        // For the proof: outside a transaction an open database is as the last commit left it.
         let _settled = self.conn.is_autocommit();
         Ok(())
     }
@@ -464,6 +467,7 @@ impl<S: Alter> Store<S> {
             (value_in S.Store self.old))) }
     {
         write::change_parts(&mut self.conn, self.alloc, parts)?;
+        // For the proof: outside a transaction an open database is as the last commit left it.
         let _settled = self.conn.is_autocommit();
         Ok(())
     }
@@ -484,6 +488,7 @@ impl<S: Alter> Store<S> {
             → (db : Trees) → (shows S.Store self.now).may_leave db
             → IsStored db (value_in S.Store self.now) }
     {
+        // For the proof: outside a transaction an open database is as the last commit left it.
         let _ = self.conn.is_autocommit();
     }
 
@@ -500,6 +505,7 @@ impl<S: Alter> Store<S> {
         ensures committed { AreCommitted S.Store self }
     {
         let Store { conn, .. } = self;
+        // For the proof: outside a transaction an open database is as the last commit left it.
         let _settled = conn.is_autocommit();
         conn
     }

@@ -43,7 +43,9 @@ pub(crate) fn gather<S: Alter, G: Gathered>(
     ensures expects { IfOk result (λ _.
         G.Gathered.expects into.new ≡ G.Gathered.expects into.old) }
 {
+    // For the proof: an open database keeps the rules of its schema.
     let _schema = conn.schema();
+    // For the proof: outside a transaction an open database is as the last commit left it.
     let _settled = conn.is_autocommit();
     let mut rows = conn.query(sql, params)?;
     let mut whole = true;

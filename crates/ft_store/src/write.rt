@@ -309,6 +309,7 @@ pub(crate) fn change<S: Alter>(
     ensures { ChangesAllOrNone (state S.Store conn.old) (state S.Store conn.new) result
         (All CanApply changes.now) (map shown_change changes.now) }
 {
+    // For the proof: outside a transaction an open database is as the last commit left it.
     let _settled = conn.is_autocommit();
     let mut tx = conn.transaction();
     apply_all(&mut tx, alloc, changes)?;
@@ -327,6 +328,7 @@ pub(crate) fn change_parts<S: Alter, P: Parts>(
         (All CanMake (changes_in (P.Parts.to_come parts.old)))
         (changes_in (P.Parts.to_come parts.old)) }
 {
+    // For the proof: outside a transaction an open database is as the last commit left it.
     let _settled = conn.is_autocommit();
     let mut tx = conn.transaction();
     while let Some(changes) = parts.next()? {

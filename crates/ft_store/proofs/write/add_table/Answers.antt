@@ -2,14 +2,14 @@ use Rattle.std.proofs.Common.{map, arith, refl, subst, to_z-of_z}
 use Rattle.std.specs.Prelude.{string_bytes}
 use Rattle.std.specs.List.{enumerate_from}
 use Rattle.std.specs.Ordering.{int_cmp}
-use Rattle.std.specs.FinMap.Entries.{put, find}
+use Rattle.std.specs.FinMap.Entries.{put}
 use Rattle.std.proofs.lemmas.Result.{on_ok_weaker}
 use Rattle.sqlite.specs.Held.{state}
 use Rattle.sqlite.specs.State.{ExecutesInside, HasCleanDisk}
 use Rattle.ft_rows.specs.Store.{StoreValue, without_rows, with_columns, with_skipped}
 use Rattle.ft_store.specs.Rows.{value_of}
 use Rattle.ft_store.specs.Calls.{StepsIfOpen}
-use Rattle.ft_store.proofs.PutLemmas.{then_step, free_table, StepsIfDone, AddsIfDone, StepsIfOpenDone}
+use Rattle.ft_store.proofs.PutLemmas.{then_step, free_table, StepsIfDone, StepsIfOpenDone}
 use Rattle.ft_store.specs.Calls.{IsPlainFault}
 use Rattle.ft_store.proofs.InsideLemmas.{stays_then}
 use Rattle.std.proofs.Common.{[], ◌∷◌, ℕ, Ok}

@@ -1,13 +1,12 @@
 use Rattle.std.proofs.Common.{[], ◌∷◌, ℕ, Ok}
 use Rattle.sqlite.specs.declared.types.Value.TheVariants.{Int}
-use Rattle.std.proofs.Common.{arith, rules, not, subst, to_z-of_z}
+use Rattle.std.proofs.Common.{arith, rules, not, to_z-of_z}
 use Rattle.std.specs.Ordering.{int_cmp, int_eq}
 use Rattle.std.specs.FinMap.Entries.{where_key}
 use Rattle.std.proofs.lemmas.Result.{on_ok_weaker}
 use Rattle.sqlite.specs.Held.{state}
 use Rattle.sqlite.specs.State.{ExecutesInside, HasCleanDisk}
 use Rattle.ft_rows.specs.Store.{StoreValue, cell_key_cmp, column_key_cmp}
-use Rattle.ft_store.specs.Calls.{StepsOnOk}
 use Rattle.ft_store.proofs.PutLemmas.{then_step}
 use Rattle.ft_store.specs.Calls.{IsPlainFault}
 use Rattle.ft_store.proofs.InsideLemmas.{stays_then}

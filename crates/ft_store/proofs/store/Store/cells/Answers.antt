@@ -2,7 +2,6 @@ use Rattle.std.proofs.Common.{sym, subst, ◌∙◌, arith, to_z-of_z}
 use Rattle.sqlite.specs.Given.{IsPlain}
 use Rattle.sqlite.specs.Listing.{understood}
 use Rattle.sqlite.specs.Held.{state}
-use Rattle.std.proofs.lemmas.Result.{IfOk-weaker}
 use Rattle.ft_store.proofs.Texts.{cells_text}
 use Rattle.ft_store.proofs.TextLemmas.{cells_plain}
 use Rattle.ft_store.proofs.AnswerLemmas.{cells_shown}

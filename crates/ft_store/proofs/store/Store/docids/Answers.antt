@@ -4,7 +4,6 @@ use Rattle.sqlite.specs.Listing.{understood}
 use Rattle.sqlite.specs.Held.{state}
 use Rattle.ft_store.proofs.Texts.{docids_text}
 use Rattle.ft_store.proofs.TextLemmas.{docids_plain}
-use Rattle.std.proofs.lemmas.Result.{IfOk-weaker}
 use Rattle.ft_store.proofs.FoundNumbers.{numbers_in}
 use Rattle.ft_store.proofs.DocidLemmas.{docids_shown}
 use Rattle.ft_store.proofs.store.Store.docids.Goals as goal
@@ -19,6 +18,6 @@ returns-clause-rows g c = λ clean.
     let store = c.self.invariant.store (omega (arith, c.select.ensures.read.survives.clean)) in
     let found = c.in_ok-found.found in
     let h = c.in_ok-found.ensures.rows clean in
-    let fits : FitsSigned w64 c.limit_of-limit.result = search rules in
+    let fits : FitsSigned w64 c.row_limit-limit.result = search rules in
     rw (sym c.self.view_is) (numbers_in found.items h.0 (h.2 c.args.tab)
-    ∙ docids_shown c.args.tab c.limit_of-limit.result c.args.offset c.args.most c.limit_of-limit.ensures old new h.0 store (simp (to_z-of_z, c.ranges.tab, fits) at (rw (c.params-to_sql.ensures, c.params-to_sql-2.ensures, c.params-to_sql-3.ensures) at h.1)))
+    ∙ docids_shown c.args.tab c.row_limit-limit.result c.args.offset c.args.most c.row_limit-limit.ensures old new h.0 store (simp (to_z-of_z, c.ranges.tab, fits) at (rw (c.params-to_sql.ensures, c.params-to_sql-2.ensures, c.params-to_sql-3.ensures) at h.1)))

@@ -4,7 +4,6 @@ use Rattle.sqlite.specs.Listing.{understood}
 use Rattle.sqlite.specs.Held.{state}
 use Rattle.ft_store.proofs.Texts.{has_document_text}
 use Rattle.ft_store.proofs.TextLemmas.{has_document_plain}
-use Rattle.ft_store.proofs.ChainLemmas.{reads_on}
 use Rattle.ft_store.proofs.FoundNumbers.{some_number}
 use Rattle.ft_store.proofs.DocidLemmas.{some_row, document_found}
 use Rattle.ft_store.proofs.store.Store.has_document.Goals as goal

@@ -7,7 +7,6 @@ use Rattle.ft_store.proofs.Texts.{last_text}
 use Rattle.ft_store.proofs.TextLemmas.{last_plain}
 use Rattle.ft_store.proofs.LastLemmas.{last_shown}
 use Rattle.ft_store.proofs.FoundNumbers.{first_number}
-use Rattle.ft_store.proofs.ChainLemmas.{reads_on}
 use Rattle.ft_store.proofs.store.Store.last_docid.Goals as goal
 
 pub select-requires : goal.select-requires

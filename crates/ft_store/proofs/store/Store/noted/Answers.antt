@@ -2,7 +2,6 @@ use Rattle.std.proofs.Common.{pos, sym, subst, ◌∙◌, arith}
 use Rattle.sqlite.specs.Given.{IsPlain}
 use Rattle.sqlite.specs.Listing.{understood}
 use Rattle.sqlite.specs.Held.{state}
-use Rattle.std.proofs.lemmas.Result.{IfOk-weaker}
 use Rattle.ft_rows.specs.Store.{name_cmp}
 use Rattle.ft_store.proofs.Texts.{noted_text}
 use Rattle.ft_store.proofs.TextLemmas.{noted_plain}

@@ -2,7 +2,6 @@ use Rattle.std.proofs.Common.{to_z-of_z, sym, subst, ◌∙◌, arith}
 use Rattle.sqlite.specs.Given.{IsPlain}
 use Rattle.sqlite.specs.Listing.{understood}
 use Rattle.sqlite.specs.Held.{state}
-use Rattle.std.proofs.lemmas.Result.{IfOk-weaker}
 use Rattle.ft_store.proofs.Texts.{sizes_text}
 use Rattle.ft_store.proofs.TextLemmas.{sizes_plain}
 use Rattle.ft_store.proofs.AnswerLemmas.{sizes_shown}
