@@ -1,16 +1,10 @@
 -- A query in a transaction that is undone changes nothing; why a database with the tables of a
 -- store is not taken.
-use Rattle.std.proofs.Common.{◌≡◌, ◌⊎◌, inl, inr, true, false, List, [], ◌∷◌, ℕ, ℤ, length, Option, Some, None, Result, Ok, Err, refl, sym, ap, ◌∙◌, arith, IsTrue, cond}
-use Rattle.std.specs.Prelude.{Bool, if◌then◌else◌, Vec, IfOk, IfErr, OnErr}
+use Rattle.std.proofs.Common.{◌≡◌, ◌⊎◌, inl, inr, true, false, List, [], ℕ, length, Option, Some, None, Result, Ok, Err, sym, ap, ◌∙◌, arith, IsTrue, cond}
+use Rattle.std.specs.Prelude.{Vec, IfOk, IfErr, OnErr}
 use Rattle.std.specs.declared.alloc.Global.{Global}
 use Rattle.sqlite.specs.declared.error.Error.{Error}
-use Rattle.sqlite.specs.declared.error.Error.TheVariants as error
-use Rattle.sqlite.specs.declared.error.Error.TheVariants.{SqliteFailure}
-use Rattle.sqlite.specs.declared.error.ErrorCode.{ErrorCode}
-use Rattle.sqlite.specs.declared.error.ErrorCode.TheVariants as code
-use Rattle.sqlite.specs.declared.types.Value.{Value}
-use Rattle.sqlite.specs.declared.types.Value.TheVariants as value
-use Rattle.sqlite.specs.Order.{Row, column}
+use Rattle.sqlite.specs.Order.{Row}
 use Rattle.sqlite_schema.specs.declared.command.Returning.{Returning}
 use Rattle.sqlite.specs.Clock.{timed}
 use Rattle.sqlite.specs.State.{State, Shown, ShowsRows, IsUnchanged, IsRolledBack, KeepsCommit, FailsToQuery, IsTooLate}
@@ -20,10 +14,9 @@ use Rattle.sqlite.specs.State.{HasCleanDisk}
 use Rattle.sqlite.specs.Store.{Ghosts}
 use Rattle.sqlite.specs.Held.{Held, state}
 use Rattle.ft_store.specs.declared.fault.StoreFault.{StoreFault}
-use Rattle.ft_store.specs.declared.fault.StoreFault.TheVariants as fault
 use Rattle.ft_store.specs.Tables.{no_schema}
 use Rattle.ft_store.specs.Older.{HasStoreTables}
-use Rattle.ft_store.specs.Adopted.{Gives, version_query, version_cause, rows_cause, error_cause, IsAdoptFault, IsNotTaken}
+use Rattle.ft_store.specs.Adopted.{Gives, version_query, IsAdoptFault, IsNotTaken}
 use Rattle.ft_store.specs.Settled.{IsJudged}
 use Rattle.ft_store.proofs.CallLemmas.{refused_keeps}
 
@@ -86,60 +79,3 @@ not_taken g old new (Err e) tables kept settled kind judged = record {
   other = λ some others unnamed. absurd (others tables);
   told = λ clean some others named. absurd (others tables);
 }
-
--- ---- whatever a database tells of its version, it is not taken for one of these causes
-
-cause_or : (b : Bool) (n : ℤ) → IsAdoptFault (if b then fault.Refused else fault.Version n)
-cause_or true n = inl (inr refl)
-cause_or false n = inr (inr (n, refl))
-
-version_kind : (v : Value) → IsAdoptFault (version_cause v)
-version_kind value.Null = inr (inl refl)
-version_kind (value.Int n) = cause_or _ n
-version_kind (value.Real x) = inr (inl refl)
-version_kind (value.Text t) = inr (inl refl)
-version_kind (value.Blob b) = inr (inl refl)
-
-rows_kind : (rows : List Row) → IsAdoptFault (rows_cause rows)
-rows_kind [] = inr (inl refl)
-rows_kind (row ∷ []) = version_kind (column row 0)
-rows_kind (row ∷ second ∷ more) = inr (inl refl)
-
-code_kind : (c : ErrorCode) → IsAdoptFault (error_cause (SqliteFailure c))
-code_kind code.OutOfMemory = inl (inl refl)
-code_kind code.SystemIoFailure = inl (inr refl)
-code_kind code.DatabaseCorrupt = inl (inr refl)
-code_kind code.DiskFull = inl (inr refl)
-code_kind code.Closed = inl (inr refl)
-code_kind (code.ConstraintViolation rule) = inr (inl refl)
-code_kind code.TypeMismatch = inr (inl refl)
-code_kind code.IntegerOverflow = inr (inl refl)
-code_kind code.NoRowid = inr (inl refl)
-code_kind code.ForeignKeyMismatch = inr (inl refl)
-code_kind code.TooDeep = inr (inl refl)
-code_kind code.NoClock = inr (inl refl)
-code_kind code.NameTaken = inr (inl refl)
-code_kind code.BadName = inr (inl refl)
-code_kind code.BadKey = inr (inl refl)
-code_kind code.BadText = inr (inl refl)
-code_kind code.SchemaTooBig = inr (inl refl)
-code_kind code.TransactionState = inr (inl refl)
-code_kind code.NoSuchSavepoint = inr (inl refl)
-code_kind code.OperationInterrupted = inr (inl refl)
-code_kind code.NotADatabase = inr (inl refl)
-code_kind code.CannotOpen = inr (inl refl)
-code_kind code.DatabaseBusy = inr (inl refl)
-code_kind code.TooBig = inr (inl refl)
-
-error_kind : (e : Error) → IsAdoptFault (error_cause e)
-error_kind (error.SqliteFailure c) = code_kind c
-error_kind (error.SqlInputError e) = inr (inl refl)
-error_kind (error.InvalidParameterCount given wanted) = inr (inl refl)
-error_kind error.ExecuteReturnedResults = inr (inl refl)
-error_kind error.InvalidQuery = inr (inl refl)
-error_kind error.MultipleStatement = inr (inl refl)
-error_kind error.QueryReturnedNoRows = inr (inl refl)
-error_kind (error.InvalidColumnIndex i) = inr (inl refl)
-error_kind (error.InvalidColumnType i kind) = inr (inl refl)
-error_kind (error.IntegralValueOutOfRange i) = inr (inl refl)
-error_kind (error.Utf8Error i) = inr (inl refl)
