@@ -61,9 +61,11 @@ columns_at ts = listed_behind (symbol_at (codes "(") ts) ts
 abbrev pub only_value : List Token → Option Cell
 only_value ts = whole (value_at ts)
 
+-- the values of a row, in parentheses
 abbrev pub row_at : List Token → Reads (List Cell)
 row_at ts = parenthesized ts >>= λ r. each only_value (parts r.0) >>= λ row. Some (row, r.1)
 
+-- the row that all of the words are
 abbrev pub row_of : List Token → Option (List Cell)
 row_of ts = whole (row_at ts)
 

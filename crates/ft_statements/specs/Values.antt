@@ -50,5 +50,6 @@ value_at ts =
 abbrev pub count_of : Token → Option ℕ
 count_of t = number_of t >>= λ n. if nat_le n (2 ^ 63 - 1) then Some n else None
 
+-- a number of rows at the front of the words
 abbrev pub number_at : List Token → Reads ℕ
 number_at ts = token_at count_of ts

@@ -22,6 +22,7 @@ plain pieces = map seen pieces
 abbrev pub rest_of : Reader → List Token
 rest_of reader = plain reader.left.now
 
+-- the texts behind references
 abbrev pub each_text : List (Bor (List ℕ)) → List (List ℕ)
 each_text texts = map (λ text. text.now) texts
 
