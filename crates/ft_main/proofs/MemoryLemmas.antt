@@ -1,5 +1,5 @@
 -- Databases that are opened, in memory or in files.
-use Rattle.std.proofs.Common.{◌≡◌, ◌⊎◌, ℕ, List, [], map, Option, Some, String, string_bytes, Global, Result, Ok, Err, inl, inr, refl, sym, subst}
+use Rattle.std.proofs.Common.{◌≡◌, ◌⊎◌, ℕ, List, [], map, Option, String, string_bytes, Global, Result, Ok, Err, inl, inr, refl, sym, subst}
 use Rattle.std.specs.Borrow.{RattleType}
 use Rattle.sqlite_disk.specs.declared.Disk as disk
 use Rattle.sqlite_disk.specs.declared.start.Start as first
@@ -17,7 +17,7 @@ use Rattle.ft_files.specs.declared.databases.OpenFault.TheVariants as opening
 use Rattle.ft_files.specs.Opening.{IsNoStoreFor, OpensFiles, OpensMemory}
 use Rattle.ft_main.specs.Closed.{AreClosed}
 use Rattle.ft_main.proofs.Reopening.{finds_left}
-use Rattle.ft_main.specs.InFiles.{RunsFromFiles, RunsInFiles}
+use Rattle.ft_main.specs.InFiles.{RunsFromFiles}
 use Rattle.ft_main.specs.Inputs.{NotOpened, Outputs, RunsOn, due}
 use Rattle.ft_main.specs.Memory.{FromNothing, IsOfMemory, RunsIn, RunsLine}
 
@@ -49,9 +49,9 @@ from_files g h tables texts settings (Ok (plain, store)) inputs old new status o
 from_files g h tables texts settings (Ok (plain, store)) inputs old new status opens (inr (runs, closed)) =
     inr (record { plain = plain; tables_found = opens.plain; store = store; texts_found = opens.store; runs = runs; closed = closed; again = finds_left h })
 
--- a command line with a FILE
-pub in_a_file : (A B : RattleType) (tables : first.Ghosts A.Denot) (texts : first.Ghosts B.Denot) (line : Line) (path : String Global) (given : List (String Global)) (standard : Option (List ℕ)) (old new : Outputs) (status : ℕ) → line.file ≡ Some path → given ≡ line.inputs.items →
-    RunsInFiles A B tables texts line.settings (due (map string_bytes given) standard) old new status → RunsLine A B tables texts line standard old new status
-in_a_file A B tables texts line path given standard old new status is same runs =
+-- a command line, with a FILE or with none
+pub of_the_line : (A B : RattleType) (tables : first.Ghosts A.Denot) (texts : first.Ghosts B.Denot) (line : Line) (file : Option (String Global)) (given : List (String Global)) (standard : Option (List ℕ)) (old new : Outputs) (status : ℕ) → line.file ≡ file → given ≡ line.inputs.items →
+    RunsIn A B tables texts file line.settings (due (map string_bytes given) standard) old new status → RunsLine A B tables texts line standard old new status
+of_the_line A B tables texts line file given standard old new status is same runs =
     subst (λ (f : Option (String Global)). RunsIn A B tables texts f line.settings (due (map string_bytes line.inputs.items) standard) old new status) (sym is)
-    (subst (λ (t : List (String Global)). RunsInFiles A B tables texts line.settings (due (map string_bytes t) standard) old new status) same runs)
+    (subst (λ (t : List (String Global)). RunsIn A B tables texts file line.settings (due (map string_bytes t) standard) old new status) same runs)

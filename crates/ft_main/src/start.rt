@@ -5,10 +5,9 @@ ghost use Rattle.sqlite.specs.Files.{over_files};
 ghost use Rattle.plain_shell.specs.Writing.{AppendsUpTo, SameWriters, Sends};
 ghost use Rattle.ft_files.specs.declared.databases.OpenFault.TheVariants as opening;
 ghost use Rattle.ft_main.specs.Closed.{AreClosed, IsLeft, IsStoreLeft};
-ghost use Rattle.ft_main.specs.InFiles.{RunsInFiles};
-ghost use Rattle.ft_main.specs.Inputs.{outputs_of, stage_of, due, RunsInTurn, RunsAndKeeps, Closes, OpensAndRuns, RunsOn, opening_line};
+ghost use Rattle.ft_main.specs.Inputs.{outputs_of, stage_of, due, RunsInTurn, RunsAndKeeps, Closes, RunsOn, opening_line};
 ghost use Rattle.ft_main.specs.Inputs as forms;
-ghost use Rattle.ft_main.specs.Memory.{RefusesLine, RunsInMemory, RunsLine, Starts};
+ghost use Rattle.ft_main.specs.Memory.{RefusesLine, Starts};
 
 use ft_files::{OpenFault, SystemFiles, open_files, open_in_memory};
 use ft_index::FullText;
@@ -65,9 +64,25 @@ fn run_words<A: Start, B: Start, R: Read, O: Write, E: Write>(
         (outputs_of O.contents E.contents outputs.new) result }
     ensures writers { SameWriters outputs.old outputs.new }
 {
-    match read_line(rt.alloc(), words) {
-        Ok(line) => run_line(rt, line, tables, texts, input, outputs),
-        Err(fault) => refuse_line(&fault, outputs),
+    let Line {
+        settings,
+        file,
+        inputs,
+    } = match read_line(rt.alloc(), words) {
+        Ok(line) => line,
+        Err(fault) => return refuse_line(&fault, outputs),
+    };
+    let inputs = inputs.as_slice();
+    match file {
+        None => on_databases(rt, open_in_memory(rt), settings, inputs, input, outputs),
+        Some(path) => on_databases(
+            rt,
+            open_files(rt, path.as_str(), tables, texts),
+            settings,
+            inputs,
+            input,
+            outputs,
+        ),
     }
 }
 
@@ -95,84 +110,8 @@ fn refuse_line<O: Write, E: Write>(fault: &LineFault, outputs: &mut Outputs<'_, 
     }
 }
 
-// Runs what a command line says.
-fn run_line<A: Start, B: Start, R: Read, O: Write, E: Write>(
-    rt: &HostRuntime,
-    line: Line,
-    tables: A,
-    texts: B,
-    input: &mut R,
-    outputs: &mut Outputs<'_, O, E>,
-) -> u8
-    ensures runs { RunsLine A.row B.row A.Start B.Start line (R.remaining input.old)
-        (outputs_of O.contents E.contents outputs.old)
-        (outputs_of O.contents E.contents outputs.new) result }
-    ensures writers { SameWriters outputs.old outputs.new }
-{
-    let Line {
-        settings,
-        file,
-        inputs,
-    } = line;
-    match file {
-        None => in_memory(rt, settings, inputs.as_slice(), input, outputs),
-        Some(path) => in_files(
-            rt,
-            path.as_str(),
-            tables,
-            texts,
-            settings,
-            inputs.as_slice(),
-            input,
-            outputs,
-        ),
-    }
-}
-
-// Runs the inputs over two empty databases in memory.
-fn in_memory<R: Read, O: Write, E: Write>(
-    rt: &HostRuntime,
-    settings: Settings,
-    inputs: &[String],
-    input: &mut R,
-    outputs: &mut Outputs<'_, O, E>,
-) -> u8
-    ensures runs { RunsInMemory settings (due (map string_bytes inputs.now) (R.remaining input.old))
-        (outputs_of O.contents E.contents outputs.old)
-        (outputs_of O.contents E.contents outputs.new) result }
-    ensures writers { SameWriters outputs.old outputs.new }
-{
-    on_databases(rt, open_in_memory(rt), settings, inputs, input, outputs)
-}
-
-// Runs the inputs over two databases in files.
-fn in_files<A: Start, B: Start, R: Read, O: Write, E: Write>(
-    rt: &HostRuntime,
-    path: &str,
-    tables: A,
-    texts: B,
-    settings: Settings,
-    inputs: &[String],
-    input: &mut R,
-    outputs: &mut Outputs<'_, O, E>,
-) -> u8
-    ensures runs { RunsInFiles A.row B.row A.Start B.Start settings
-        (due (map string_bytes inputs.now) (R.remaining input.old))
-        (outputs_of O.contents E.contents outputs.old)
-        (outputs_of O.contents E.contents outputs.new) result }
-    ensures writers { SameWriters outputs.old outputs.new }
-{
-    on_databases(
-        rt,
-        open_files(rt, path, tables, texts),
-        settings,
-        inputs,
-        input,
-        outputs,
-    )
-}
-
-// Runs the inputs over two databases, if they are opened.
+// Runs the inputs over both databases, if they are opened, and closes them: what was committed goes
+// from the log into each file.
 fn on_databases<D: Disk + Drop, F: Disk + Drop, R: Read, O: Write, E: Write>(
     rt: &HostRuntime,
     opened: Result<(Connection<FileStore<D>>, Store<FileStore<F>>), OpenFault>,
@@ -187,29 +126,10 @@ fn on_databases<D: Disk + Drop, F: Disk + Drop, R: Read, O: Write, E: Write>(
         (outputs_of O.contents E.contents outputs.new) result }
     ensures writers { SameWriters outputs.old outputs.new }
 {
-    match opened {
-        Ok((plain, store)) => over(rt, plain, store, settings, inputs, input, outputs),
-        Err(fault) => tell(outputs.err, fault),
-    }
-}
-
-// Runs the inputs over both databases, and closes them: what was committed goes from the log into
-// each file.
-fn over<D: Disk + Drop, F: Disk + Drop, R: Read, O: Write, E: Write>(
-    rt: &HostRuntime,
-    plain: Connection<FileStore<D>>,
-    store: Store<FileStore<F>>,
-    settings: Settings,
-    inputs: &[String],
-    input: &mut R,
-    outputs: &mut Outputs<'_, O, E>,
-) -> u8
-    ensures runs { OpensAndRuns over_files over_files AreClosed settings plain store
-        (due (map string_bytes inputs.now) (R.remaining input.old))
-        (outputs_of O.contents E.contents outputs.old)
-        (outputs_of O.contents E.contents outputs.new) result }
-    ensures writers { SameWriters outputs.old outputs.new }
-{
+    let (plain, store) = match opened {
+        Ok(both) => both,
+        Err(fault) => return tell(outputs.err, fault),
+    };
     let Ok(full_text) = FullText::new(rt.alloc(), store) else {
         return tell(outputs.err, OpenFault::Store);
     };
