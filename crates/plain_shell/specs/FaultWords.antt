@@ -1,4 +1,4 @@
--- Meaning. The texts of faults of other crates, all of them own choices.
+-- Steps. The texts of faults of other crates, all of them own choices.
 use Rattle.std.specs.Prelude.{ℕ, List, codes}
 use Rattle.shell_text.specs.declared.words.LexFault.{LexFault}
 use Rattle.shell_text.specs.declared.words.LexFault.TheVariants as words

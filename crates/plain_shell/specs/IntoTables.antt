@@ -29,5 +29,6 @@ module _ {P : Type 0} (g : Ghosts P) where
           → CommitsAll g (import_steps None what.table n (records_in rows)) counted new → answer ≡ warned (warnings what.file n rows) → IntoTable old new answer
       uncounted : Uncounted g what.table old new → IsLeft (codes "import refused") old new answer → IntoTable old new answer
       declined : (n : ℕ) (counted : Held P) → IfClean g old counted (Stays (state g old) (state g counted) × HasColumns (state g old).now.schema what.table n)
-          → Declines g (import_steps None what.table n (records_in rows)) counted new → IsLeft (codes "import refused") old new answer → IntoTable old new answer
+          → Declines g (import_steps None what.table n (records_in rows)) counted new
+          → IsLeft (codes "import refused") old new answer → IntoTable old new answer
       no_memory : IsLeft (codes "out of memory") old new answer → IntoTable old new answer

@@ -2,7 +2,6 @@
 pub mod Records
 pub mod Imports
 pub mod Told
-pub mod FaultWords
 pub mod Sources
 pub mod Answers
 pub mod PlainStatements
@@ -12,5 +11,6 @@ pub mod Writing
 pub mod PlainImports
 pub mod IntoTables
 -- Steps
+pub mod FaultWords
 pub mod OutputViews
 pub mod Feeds
