@@ -1,7 +1,7 @@
 //! What the store is asked and answers.
 
 /// What a cell holds.
-#[derive(Debug, Drop)]
+#[derive(Clone, Debug, Drop, PartialEq, Eq)]
 pub enum Value {
     Null,
     Int(i64),
