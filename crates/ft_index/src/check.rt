@@ -1,6 +1,5 @@
 //! Comparing the rows of tables with those that they should have.
 ghost use Rattle.std.specs.Prelude.{◌≡◌, ◌⊎◌, ◌↔◌, map, IsTrue, IfOk, IfErr};
-ghost use Rattle.std.specs.List.{list_all};
 ghost use Rattle.sqlite.specs.State.{HasCleanDisk};
 ghost use Rattle.ft_store.specs.Kept.{shows, value_in};
 ghost use Rattle.ft_values.specs.declared.fault.Fault.TheVariants as faults;

@@ -1,6 +1,5 @@
 //! Documents that a Delete removes.
 ghost use Rattle.std.specs.Prelude.{map, string_bytes};
-ghost use Rattle.ft_content.specs.Command as plain;
 ghost use Rattle.ft_content.specs.Content.{Content};
 ghost use Rattle.ft_content.specs.Answer.{chosen};
 ghost use Rattle.ft_content.specs.Deserved.{delete_fault};
@@ -13,10 +12,10 @@ ghost use Rattle.ft_index.specs.Written.{HasAll, Writes, WritesIn};
 use crate::chosen::chosen_documents;
 use crate::written::{Written, make_anew, write_found};
 use ft_content::{Deletion, Fault, Filter, Reply, TableInfo, delete_tests};
-use ft_documents::{Document, Rewrite, filter_query, removals, sound_table};
+use ft_documents::{Rewrite, filter_query, removals, sound_table};
 use ft_store::Store;
 use sqlite::Alter;
-use std::alloc::{AllocError, Global};
+use std::alloc::Global;
 
 /// Answers a Delete. One of all documents makes the table anew, and reads nothing of the store.
 pub(crate) fn delete_from<S: Alter>(

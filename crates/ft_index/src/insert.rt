@@ -1,22 +1,21 @@
 //! The documents of an Insert.
-ghost use Rattle.std.specs.Prelude.{◌≡◌, false, [], ℕ, List, map, option_map, zip, slice_get, unwrap_or, string_bytes, ◌⊎◌, IfOk, IfErr, OnOk, IsTrue};
+ghost use Rattle.std.specs.Prelude.{◌≡◌, ℕ, List, map, option_map, zip, slice_get, unwrap_or, string_bytes, ◌⊎◌, IfOk, IfErr, OnOk, IsTrue};
 ghost use Rattle.ft_content.specs.Content as content;
 ghost use Rattle.sqlite.specs.State.{HasCleanDisk};
 ghost use Rattle.ft_store.specs.Kept.{shows};
 ghost use Rattle.ft_values.specs.declared.fault.Fault.TheVariants as faults;
 ghost use Rattle.ft_content.specs.Content.{Content};
-ghost use Rattle.ft_content.specs.Deserved.{insert_rows, insert_fault, listed_columns, docids_in};
+ghost use Rattle.ft_content.specs.Deserved.{insert_fault, listed_columns, docids_in};
 ghost use Rattle.ft_content.specs.Step.{inserted, new_docids};
-ghost use Rattle.ft_content.specs.Views.{cells_of, column_of, names_in, insertion_of, shown_info};
+ghost use Rattle.ft_content.specs.Views.{cells_of, column_of, insertion_of, shown_info};
 ghost use Rattle.ft_index.specs.DocumentsRead.{HasRows, Looks, LooksTo};
 ghost use Rattle.ft_documents.specs.Gathered.{has_given};
-ghost use Rattle.ft_documents.specs.Inserted.{Inserts};
 ghost use Rattle.ft_index.specs.Written.{HasAll, Writes, WritesIn};
 
 use crate::documents::has_document;
 use crate::written::Written;
 use ft_content::{
-    Column, Fault, Insertion, TableInfo, Value, insert_tests, listed_names, repeats_name, row_docid,
+    Fault, Insertion, TableInfo, Value, insert_tests, listed_names, repeats_name, row_docid,
 };
 use ft_documents::{Rewrite, made_documents, sound_table};
 use ft_store::Store;

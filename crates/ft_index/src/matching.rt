@@ -2,7 +2,7 @@
 ghost use Rattle.std.specs.Prelude.{◌≡◌, ◌^◌, ◌<◌, ◌⊎◌, ℕ, List, map, option_map, Ok, IfOk, OnOk};
 ghost use Rattle.ft_query.specs.Trees.{tree_of};
 ghost use Rattle.ft_query.specs.Work.{entry_count};
-ghost use Rattle.ft_query.specs.Occurs.{plain_hit, hits_of};
+ghost use Rattle.ft_query.specs.Occurs.{plain_hit};
 ghost use Rattle.ft_query.specs.Walk.{StandsBefore};
 ghost use Rattle.ft_store.specs.Kept.{more_rows};
 ghost use Rattle.ft_values.specs.declared.fault.Fault.TheVariants as faults;
@@ -22,7 +22,7 @@ use ft_documents::taken;
 use ft_query::{Hit, ListFault, Matches, Query};
 use ft_store::Store;
 use sqlite::Alter;
-use std::alloc::{AllocError, Global};
+use std::alloc::Global;
 
 /// Begins a walk over the lists: asks once for each term of the query.
 fn opened<'q, S: Alter>(

@@ -1,9 +1,7 @@
 //! How the rows of a table stand.
 ghost use Rattle.std.specs.Prelude.{◌≡◌, ◌<◌, ◌↔◌, ℤ, ℕ, List, map, length, IsTrue, IfOk};
 ghost use Rattle.std.specs.List.{find};
-ghost use Rattle.std.specs.Ordering.{int_eq};
 ghost use Rattle.sqlite.specs.State.{HasCleanDisk};
-ghost use Rattle.ft_values.specs.declared.rows.TabRow as rows;
 ghost use Rattle.ft_store.specs.Calls.{IsPlainFault};
 ghost use Rattle.ft_store.specs.Kept.{shows, value_in};
 ghost use Rattle.ft_content.specs.Content.{Content};
@@ -12,7 +10,7 @@ ghost use Rattle.ft_content.specs.Views.{column_of};
 ghost use Rattle.ft_content.specs.Deserved.{TableState};
 ghost use Rattle.ft_index.specs.DocumentsRead.{Asks, LooksTo};
 ghost use Rattle.ft_index.specs.Kept.{Stands, is_sound};
-ghost use Rattle.ft_index.specs.Opened.{standing_of, StandsSo, IsListed, IsNamed, IsFound};
+ghost use Rattle.ft_index.specs.Opened.{standing_of, StandsSo, IsListed, IsNamed};
 ghost use Rattle.ft_documents.specs.Standing as standing;
 ghost use Rattle.ft_documents.specs.Tables.{table_rows, table_index};
 

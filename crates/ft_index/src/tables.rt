@@ -1,5 +1,5 @@
 //! Making and removing tables.
-ghost use Rattle.std.specs.Prelude.{◌≡◌, ◌∷◌, [], if◌then◌else◌, map, string_bytes, is_ok, IfOk};
+ghost use Rattle.std.specs.Prelude.{◌≡◌, ◌∷◌, [], if◌then◌else◌, map, is_ok, IfOk};
 ghost use Rattle.ft_rows.specs.Changes.{shown_change};
 ghost use Rattle.ft_content.specs.Command as plain;
 ghost use Rattle.ft_content.specs.Views.{shown_info, creation_of};
@@ -11,7 +11,7 @@ ghost use Rattle.ft_documents.specs.Found.{with_told};
 
 use crate::change::change_rows;
 use ft_content::{
-    Column, Creation, Fault, Reply, TableInfo, create_fault, free_id, made_columns, made_names,
+    Creation, Fault, Reply, TableInfo, create_fault, free_id, made_columns, made_names,
 };
 use ft_documents::{column_names, insert_table, remove_table, skipped};
 use ft_store::{RowChange, Store};

@@ -1,13 +1,11 @@
 //! Documents that an Update changes.
-ghost use Rattle.std.specs.Prelude.{◌≡◌, ◌⊎◌, List, Option, None, Some, ℤ, map, slice_get, string_bytes, MatchResult, IfOk};
-ghost use Rattle.ft_values.specs.declared.fault.Fault.TheVariants as faults;
+ghost use Rattle.std.specs.Prelude.{Some, map, string_bytes};
 ghost use Rattle.ft_content.specs.Content.{Content};
 ghost use Rattle.ft_content.specs.Answer.{chosen};
 ghost use Rattle.ft_content.specs.Deserved as deserved;
 ghost use Rattle.ft_content.specs.Step.{updated};
 ghost use Rattle.ft_content.specs.Views.{column_of, set_of, filter_of, modification_of, shown_info};
-ghost use Rattle.ft_index.specs.DocumentsRead.{HasRows, LooksTo};
-ghost use Rattle.ft_documents.specs.Gathered.{shown_document};
+ghost use Rattle.ft_index.specs.DocumentsRead.{LooksTo};
 ghost use Rattle.ft_documents.specs.Updated.{update_touches};
 ghost use Rattle.ft_index.specs.Written.{HasAll, Writes, WritesIn};
 
@@ -15,8 +13,8 @@ use crate::chosen::chosen_documents;
 use crate::documents::has_document;
 use crate::written::Written;
 use ft_content::{
-    Column, Fault, Filter, Modification, TableInfo, Value, moves_fault, repeats_set, set_docid,
-    update_tests, with_values,
+    Fault, Filter, Modification, TableInfo, Value, moves_fault, repeats_set, set_docid,
+    update_tests,
 };
 use ft_documents::{Rewrite, filter_query, sound_table, update_rewrites};
 use ft_store::Store;

@@ -1,5 +1,5 @@
 -- a row more, with the cells that were read
-use Rattle.std.proofs.Common.{◌≡◌, ◌+◌, ◌-◌, ◌*◌, ◌^◌, ℕ, ℤ, List, [], ◌∷◌, ◌++◌, Vec, Global, arith, min, cond, true, false, Some, map, length, take, refl, sym, ap, subst, ◌∙◌, to_z, of_z, w64, to_z-of_z, FitsSigned, rules}
+use Rattle.std.proofs.Common.{◌≡◌, ◌+◌, ◌-◌, ◌*◌, ◌^◌, ℕ, ℤ, List, [], ◌∷◌, ◌++◌, Vec, Global, arith, min, cond, true, false, Some, map, length, take, sym, ap, subst, ◌∙◌, to_z, of_z, w64, to_z-of_z, FitsSigned, rules}
 use Rattle.std.specs.Prelude.{unwrap_or, IsTrue}
 use Rattle.std.specs.List.{list_any, flat_map}
 use Rattle.std.specs.Ordering.{int_cmp}
@@ -8,7 +8,7 @@ use Rattle.std.proofs.lemmas.List.{take_more, take_all, map-append, length-map}
 use Rattle.sqlite.specs.State.{HasCleanDisk}
 use Rattle.ft_query.specs.declared.walk.Hit.{Hit}
 use Rattle.ft_query.specs.Occurs.{offsets_text}
-use Rattle.ft_store.specs.Kept.{StoreState, shows, more_rows}
+use Rattle.ft_store.specs.Kept.{StoreState, shows}
 use Rattle.ft_values.specs.Cells.{shown_value, Cell, Text}
 use Rattle.ft_values.specs.declared.rows.Value.{Value}
 use Rattle.ft_content.specs.Answer.{cells_with}

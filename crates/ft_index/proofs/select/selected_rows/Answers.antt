@@ -1,5 +1,5 @@
 -- a count, the hits of a MATCH, the documents by their docids, or those that are read
-use Rattle.std.proofs.Common.{rules, ◌≡◌, ◌+◌, ◌-◌, ◌*◌, ◌^◌, min, cond, ℕ, ℤ, List, [], false, None, Option, map, length, string_bytes, refl, sym, ap, subst, ◌∙◌, to_z, of_z, w64, to_z-of_z}
+use Rattle.std.proofs.Common.{rules, ◌≡◌, ◌+◌, ◌-◌, ◌*◌, ◌^◌, min, cond, ℕ, ℤ, List, [], false, Option, map, length, string_bytes, refl, sym, ap, subst, ◌∙◌, to_z, of_z, w64, to_z-of_z}
 use Rattle.std.specs.List.{list_any}
 use Rattle.std.proofs.lemmas.Result.{IfOk-weaker}
 use Rattle.sqlite.specs.Store.{Ghosts}
@@ -7,7 +7,6 @@ use Rattle.ft_query.specs.declared.walk.Hit.{Hit}
 use Rattle.ft_query.specs.Occurs.{plain_hit}
 use Rattle.ft_query.specs.Trees.{Tree}
 use Rattle.ft_store.specs.Kept.{StoreState}
-use Rattle.ft_content.specs.declared.command.Filter.{Filter}
 use Rattle.ft_content.specs.declared.command.Item.{Item}
 use Rattle.ft_content.specs.declared.command.Items.{Items}
 use Rattle.ft_content.specs.Content.{Column, Content}
