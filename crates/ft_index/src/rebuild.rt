@@ -50,7 +50,7 @@ pub(crate) fn rebuild_changes<S: Alter>(
 {
     let known = named_table(tables, table)?;
     let anew = rebuilt(alloc, store, known)?;
-    Ok(anew_changes(alloc, &anew)?)
+    Ok(anew_changes(alloc, anew)?)
 }
 
 // The table with the documents that it is made anew with, none where its rows are right as they are
