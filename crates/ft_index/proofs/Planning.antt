@@ -1,5 +1,5 @@
 -- The plan of a command that writes documents of a table which is told as sound.
-use Rattle.std.proofs.Common.{◌≡◌, ℕ, List, map, Option, Ok, Err, ℤ, sym, ap, subst, ◌∙◌}
+use Rattle.std.proofs.Common.{◌≡◌, ℕ, List, map, Option, Result, Ok, Err, ℤ, sym, ap, subst, ◌∙◌}
 use Rattle.std.specs.Prelude.{All, Vec}
 use Rattle.std.specs.declared.alloc.Global.{Global}
 use Rattle.sqlite.specs.Store.{Ghosts}
@@ -16,7 +16,8 @@ use Rattle.ft_documents.specs.Rewrite.{AreRight, HasContent, shown_rewrite, doci
 use Rattle.ft_index.specs.Kept.{IsUp, AreHeld, held_columns}
 use Rattle.ft_documents.specs.Tables.{IsOfDocids}
 use Rattle.ft_index.specs.Changed.{with_tables}
-use Rattle.ft_index.specs.Written.{HasAll, Writes, PlansTo}
+use Rattle.ft_index.specs.declared.written.Written.{Written}
+use Rattle.ft_index.specs.Written.{HasAll, Writes, WritesIn, PlansTo}
 use Rattle.ft_index.proofs.KnownLemmas.{IsSoundTable}
 use Rattle.ft_index.proofs.InsertHolds.{sound_rows}
 use Rattle.ft_index.proofs.Writing.{IsWrite, plan_unfit, sound_here, plan_fails, plan_written}
@@ -45,6 +46,9 @@ module _ {S : Type 0} (g : Ghosts S) (command : Command) (name : List ℕ) (due 
         let t = here contents held in
         plan_fails command name due change touch is (value_in g old) tables contents held known t fault
         (subst (λ (k : TableInfo). Writes t.content (due k.name t.content) (change t.content) (touch t.content) (Err fault)) (sym t.told) (writes t.content (has_all contents held up)))
+
+    pub plans_failed : (fault : Fault) (found : Result Written Fault) → found ≡ Err fault → ((content : Content) → HasAll g known.id known.name known.columns old new content → Writes content (due known.name content) (change content) (touch content) (Err fault)) → WritesIn g tables old new command found
+    plans_failed fault found failed writes = subst (WritesIn g tables old new command) (sym failed) (plans_fail fault writes)
 
     pub plans_do : (rewrites : Vec source.Rewrite Global) (changes : List Change) → ((content : Content) → HasAll g known.id known.name known.columns old new content → Writes content (due known.name content) (change content) (touch content) (Ok rewrites)) →
         AreRight known.id known.columns (map shown_rewrite rewrites.items) changes → All (IsOfDocids known.id (docids_of (map shown_rewrite rewrites.items))) changes → PlansTo g tables old new command (Ok changes)

@@ -1,18 +1,14 @@
 //! Documents that a Delete removes.
-ghost use Rattle.std.specs.Prelude.{map, string_bytes};
-ghost use Rattle.ft_content.specs.Content.{Content};
-ghost use Rattle.ft_content.specs.Answer.{chosen};
-ghost use Rattle.ft_content.specs.Deserved.{delete_fault};
-ghost use Rattle.ft_content.specs.Step.{deleted, docids_of};
-ghost use Rattle.ft_content.specs.Views.{column_of, filter_of, deletion_of, shown_info};
+ghost use Rattle.std.specs.Prelude.{map};
+ghost use Rattle.ft_content.specs.Views.{deletion_of, shown_info};
 ghost use Rattle.ft_index.specs.Changed.{with_tables, Does};
 ghost use Rattle.ft_index.specs.DocumentsRead.{LooksTo};
-ghost use Rattle.ft_index.specs.Written.{HasAll, Writes, WritesIn};
+ghost use Rattle.ft_index.specs.Written.{WritesIn};
 
 use crate::chosen::chosen_documents;
 use crate::written::{Written, make_anew, write_found};
 use ft_content::{Deletion, Fault, Filter, Reply, TableInfo, delete_tests};
-use ft_documents::{Rewrite, filter_query, removals, sound_table};
+use ft_documents::{filter_query, removals, sound_table};
 use ft_store::Store;
 use sqlite::Alter;
 use std::alloc::Global;
@@ -51,30 +47,12 @@ pub(crate) fn delete_written<'t, S: Alter>(
 {
     store.is_in_order();
     let table = sound_table(tables, deletion.table.as_str())?;
-    let rewrites = written_by_delete(alloc, store, table, &deletion.filter)?;
-    Ok(Written { table, rewrites })
-}
-
-// The rewrites of a Delete from a sound table, or its fault. The store is only read, whatever is
-// answered.
-fn written_by_delete<S: Alter>(
-    alloc: Global,
-    store: &mut Store<S>,
-    known: &TableInfo,
-    filter: &Filter,
-) -> Result<Vec<Rewrite>, Fault>
-    ensures { LooksTo S.Store store.old store.new result
-        ((content : Content) → HasAll S.Store known.now.id (string_bytes known.now.name)
-        (map column_of known.now.columns.items) store.old store.new content
-        → Writes content (delete_fault (string_bytes known.now.name) content
-        (filter_of filter.now)) (deleted content (filter_of filter.now)) (docids_of (chosen content
-        (filter_of filter.now))) result) }
-{
-    if let Some(fault) = delete_tests(known.name.as_str(), known.columns.as_slice(), filter) {
+    let (columns, filter) = (table.columns.as_slice(), &deletion.filter);
+    if let Some(fault) = delete_tests(table.name.as_str(), columns, filter) {
         return Err(fault);
     }
-    let query = filter_query(alloc, known.columns.as_slice(), filter)?;
-    let documents = chosen_documents(alloc, store, known.id, filter, query.as_ref())?;
+    let query = filter_query(alloc, columns, filter)?;
+    let documents = chosen_documents(alloc, store, table.id, filter, query.as_ref())?;
     let rewrites = removals(alloc, documents)?;
-    Ok(rewrites)
+    Ok(Written { table, rewrites })
 }

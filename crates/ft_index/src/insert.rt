@@ -1,23 +1,22 @@
 //! The documents of an Insert.
-ghost use Rattle.std.specs.Prelude.{◌≡◌, ℕ, List, map, option_map, zip, slice_get, unwrap_or, string_bytes, ◌⊎◌, IfOk, IfErr, OnOk, IsTrue};
+ghost use Rattle.std.specs.Prelude.{◌≡◌, map, zip, slice_get, unwrap_or, ◌⊎◌, IfOk, IfErr, OnOk, IsTrue};
 ghost use Rattle.ft_content.specs.Content as content;
 ghost use Rattle.sqlite.specs.State.{HasCleanDisk};
 ghost use Rattle.ft_store.specs.Kept.{shows};
 ghost use Rattle.ft_values.specs.declared.fault.Fault.TheVariants as faults;
 ghost use Rattle.ft_content.specs.Content.{Content};
-ghost use Rattle.ft_content.specs.Deserved.{insert_fault, listed_columns, docids_in};
-ghost use Rattle.ft_content.specs.Step.{inserted, new_docids};
-ghost use Rattle.ft_content.specs.Views.{cells_of, column_of, insertion_of, shown_info};
+ghost use Rattle.ft_content.specs.Deserved.{docids_in};
+ghost use Rattle.ft_content.specs.Views.{cells_of, insertion_of, shown_info};
 ghost use Rattle.ft_index.specs.DocumentsRead.{HasRows, Looks, LooksTo};
 ghost use Rattle.ft_documents.specs.Gathered.{has_given};
-ghost use Rattle.ft_index.specs.Written.{HasAll, Writes, WritesIn};
+ghost use Rattle.ft_index.specs.Written.{WritesIn};
 
 use crate::documents::has_document;
 use crate::written::Written;
 use ft_content::{
     Fault, Insertion, TableInfo, Value, insert_tests, listed_names, repeats_name, row_docid,
 };
-use ft_documents::{Rewrite, made_documents, sound_table};
+use ft_documents::{made_documents, sound_table};
 use ft_store::Store;
 use sqlite::Alter;
 use std::alloc::Global;
@@ -34,43 +33,22 @@ pub(crate) fn insert_written<'t, S: Alter>(
         (insertion_of insertion.now) result) }
 {
     store.is_in_order();
-    let columns = insertion.columns.as_deref();
-    if repeats_name(alloc, columns.unwrap_or(&[])) {
+    let listed = insertion.columns.as_deref();
+    if repeats_name(alloc, listed.unwrap_or(&[])) {
         return Err(Fault::DuplicateColumn);
     }
     let table = sound_table(tables, insertion.table.as_str())?;
-    let rewrites = insert_rewrites(alloc, store, table, columns, insertion.rows.as_slice())?;
-    Ok(Written { table, rewrites })
-}
-
-// The rewrites of an Insert into a sound table, or its fault. The store is only read, whatever is
-// answered.
-fn insert_rewrites<S: Alter>(
-    alloc: Global,
-    store: &mut Store<S>,
-    known: &TableInfo,
-    columns: Option<&[String]>,
-    rows: &[Vec<Value>],
-) -> Result<Vec<Rewrite>, Fault>
-    ensures { LooksTo S.Store store.old store.new result
-        ((name : List ℕ) (content : Content) → HasAll S.Store known.now.id name
-        (map column_of known.now.columns.items) store.old store.new content
-        → Writes content (insert_fault content (listed_columns content (option_map
-        (λ n. map string_bytes n.now) columns.entry)) (map cells_of rows.now)) (inserted content
-        (option_map (λ n. map string_bytes n.now) columns.entry) (map cells_of rows.now))
-        (new_docids content.documents (inserted content (option_map
-        (λ n. map string_bytes n.now) columns.entry) (map cells_of rows.now))) result) }
-{
-    let names = listed_names(alloc, known.columns.as_slice(), columns)?;
-    let (columns, names) = (known.columns.as_slice(), names.as_slice());
+    let columns = table.columns.as_slice();
+    let names = listed_names(alloc, columns, listed)?;
+    let (names, rows) = (names.as_slice(), insertion.rows.as_slice());
     if let Some(fault) = insert_tests(columns, names, rows) {
         return Err(fault);
     }
-    let last = store.last_docid(known.id)?;
-    let stored = stored_docids(alloc, store, known.id, names, rows)?;
+    let last = store.last_docid(table.id)?;
+    let stored = stored_docids(alloc, store, table.id, names, rows)?;
     let new = made_documents(alloc, last, columns, names, rows, stored.as_slice())?;
     let rewrites = new.into_rewrites()?;
-    Ok(rewrites)
+    Ok(Written { table, rewrites })
 }
 
 /// Of each row, whether the table has a document with the docid that the row gives. The store,

@@ -1,22 +1,17 @@
 //! Documents that an Update changes.
-ghost use Rattle.std.specs.Prelude.{Some, map, string_bytes};
-ghost use Rattle.ft_content.specs.Content.{Content};
+ghost use Rattle.std.specs.Prelude.{Some, map};
 ghost use Rattle.ft_content.specs.Answer.{chosen};
-ghost use Rattle.ft_content.specs.Deserved as deserved;
-ghost use Rattle.ft_content.specs.Step.{updated};
-ghost use Rattle.ft_content.specs.Views.{column_of, set_of, filter_of, modification_of, shown_info};
+ghost use Rattle.ft_content.specs.Views.{modification_of, shown_info};
 ghost use Rattle.ft_index.specs.DocumentsRead.{LooksTo};
-ghost use Rattle.ft_documents.specs.Updated.{update_touches};
-ghost use Rattle.ft_index.specs.Written.{HasAll, Writes, WritesIn};
+ghost use Rattle.ft_index.specs.Written.{WritesIn};
 
 use crate::chosen::chosen_documents;
 use crate::documents::has_document;
 use crate::written::Written;
 use ft_content::{
-    Fault, Filter, Modification, TableInfo, Value, moves_fault, repeats_set, set_docid,
-    update_tests,
+    Fault, Modification, TableInfo, moves_fault, repeats_set, set_docid, update_tests,
 };
-use ft_documents::{Rewrite, filter_query, sound_table, update_rewrites};
+use ft_documents::{filter_query, sound_table, update_rewrites};
 use ft_store::Store;
 use sqlite::Alter;
 use std::alloc::Global;
@@ -39,39 +34,18 @@ pub(crate) fn update_written<'t, S: Alter>(
         return Err(Fault::DuplicateColumn);
     }
     let table = sound_table(tables, modification.table.as_str())?;
-    let rewrites = written_by_update(alloc, store, table, sets, &modification.filter)?;
-    Ok(Written { table, rewrites })
-}
-
-// The rewrites of an Update of a sound table, or its fault. The store is only read, whatever is
-// answered.
-fn written_by_update<S: Alter>(
-    alloc: Global,
-    store: &mut Store<S>,
-    known: &TableInfo,
-    sets: &[(String, Value)],
-    filter: &Filter,
-) -> Result<Vec<Rewrite>, Fault>
-    ensures { LooksTo S.Store store.old store.new result
-        ((content : Content) → HasAll S.Store known.now.id (string_bytes known.now.name)
-        (map column_of known.now.columns.items) store.old store.new content
-        → Writes content (deserved.update_fault (string_bytes known.now.name) content
-        (map set_of sets.now) (filter_of filter.now)) (updated content (map set_of sets.now)
-        (filter_of filter.now)) (update_touches content (map set_of sets.now)
-        (filter_of filter.now)) result) }
-{
-    let columns = known.columns.as_slice();
-    if let Some(fault) = update_tests(known.name.as_str(), columns, sets, filter) {
+    let (columns, filter) = (table.columns.as_slice(), &modification.filter);
+    if let Some(fault) = update_tests(table.name.as_str(), columns, sets, filter) {
         return Err(fault);
     }
     let query = filter_query(alloc, columns, filter)?;
-    let documents = chosen_documents(alloc, store, known.id, filter, query.as_ref())?;
+    let documents = chosen_documents(alloc, store, table.id, filter, query.as_ref())?;
     let given = set_docid(sets);
     let docids: Vec<i64> = documents.iter().map(|chosen| chosen.docid).collect(alloc)?;
-    let is_taken = has_document(store, known.id, given)?;
+    let is_taken = has_document(store, table.id, given)?;
     if let Some(fault) = moves_fault(docids.as_slice(), given, is_taken) {
         return Err(fault);
     }
     let rewrites = update_rewrites(alloc, columns, sets, documents, given)?;
-    Ok(rewrites)
+    Ok(Written { table, rewrites })
 }

@@ -33,8 +33,7 @@ impl Written<'_> {
         ensures { IfOk result (λ changes. AreOfWritten self.entry (map shown_change changes.items)) }
     {
         let Written { table, rewrites } = self;
-        let changes = row_changes(alloc, table.id, table.columns.as_slice(), rewrites)?;
-        Ok(changes)
+        Ok(row_changes(alloc, table.id, table.columns.as_slice(), rewrites)?)
     }
 
     /// Makes all their row changes or none, behind the change that comes first, if there is one.
@@ -56,8 +55,7 @@ impl Written<'_> {
             first,
             groups: groups.into_iter(),
         };
-        store.change_parts(&mut parts)?;
-        Ok(())
+        Ok(store.change_parts(&mut parts)?)
     }
 }
 
@@ -69,8 +67,7 @@ pub(crate) fn write_found<S: Alter>(
 ) -> Result<Reply, Fault>
     ensures { AnswersWritten S.Store found.entry store.old store.new result }
 {
-    let written = found?;
-    written.make(alloc, store, None)?;
+    found?.make(alloc, store, None)?;
     Ok(Reply::Done)
 }
 
@@ -81,9 +78,7 @@ pub(crate) fn found_changes(
 ) -> Result<Vec<RowChange>, Fault>
     ensures { PlansWritten found.entry result }
 {
-    let written = found?;
-    let changes = written.changes(alloc)?;
-    Ok(changes)
+    Ok(found?.changes(alloc)?)
 }
 
 /// The row changes that make a table anew with documents, none where nothing is to be made.
@@ -111,13 +106,11 @@ pub(crate) fn make_anew<S: Alter>(
 ) -> Result<(), Fault>
     ensures { MakesAnew S.Store anew.entry store.old store.new result }
 {
-    match anew {
-        Some(written) => {
-            let first = adding(alloc, written.table)?;
-            written.make(alloc, store, Some(first))
-        }
-        None => Ok(()),
-    }
+    let Some(written) = anew else {
+        return Ok(());
+    };
+    let first = adding(alloc, written.table)?;
+    written.make(alloc, store, Some(first))
 }
 
 /// The row changes of documents, a part for each group, behind the change that comes first.
@@ -143,12 +136,8 @@ impl Parts for GroupChanges<'_> {
         let Some(group) = self.groups.next() else {
             return Ok(None);
         };
-        let changes = row_changes(
-            self.alloc,
-            self.table.id,
-            self.table.columns.as_slice(),
-            group,
-        )?;
+        let table = self.table;
+        let changes = row_changes(self.alloc, table.id, table.columns.as_slice(), group)?;
         Ok(Some(changes))
     }
 }

@@ -7,22 +7,22 @@ use Rattle.ft_index.specs.declared.written.Written.{Written}
 use Rattle.ft_index.specs.Written.{PlansWritten}
 use Rattle.ft_index.proofs.written.found_changes.Goals as goal
 
-pub returns-in_err-written : goal.returns-in_err-written
-returns-in_err-written c =
-    let fault : Fault = c.in_err-written.field-0.0 in
+pub returns-in_err-found : goal.returns-in_err-found
+returns-in_err-found c =
+    let fault : Fault = c.in_err-found.field-0.0 in
     let is : c.from_residual.result ≡ Err fault = search rules in
-    let found : c.args.found ≡ Err fault = c.in_err-written.was in
+    let found : c.args.found ≡ Err fault = c.in_err-found.was in
     subst (λ (r : Result Written Fault). PlansWritten r c.from_residual.result) (sym found) is
 
 pub returns-in_err-changes : goal.returns-in_err-changes
 returns-in_err-changes c =
-    let written = c.in_ok-written.written in
+    let written = c.in_ok-found.field-0 in
     let is : c.from_residual-in_err-changes.result ≡ Err faults.Memory = search rules in
-    let found : c.args.found ≡ Ok written = c.in_ok-written.was in
+    let found : c.args.found ≡ Ok written = c.in_ok-found.was in
     subst (λ (r : Result Written Fault). PlansWritten r c.from_residual-in_err-changes.result) (sym found)
     (subst (λ (a : Result (Vec RowChange Global) Fault). PlansWritten (Ok written) a) (sym is) refl)
 
 pub returns : goal.returns
 returns c =
-    let found : c.args.found ≡ Ok c.in_ok-written.written = c.in_ok-written.was in
-    subst (λ (r : Result Written Fault). PlansWritten r (Ok c.in_ok-changes.changes)) (sym found) c.in_ok-changes.ensures
+    let found : c.args.found ≡ Ok c.in_ok-found.field-0 = c.in_ok-found.was in
+    subst (λ (r : Result Written Fault). PlansWritten r (Ok c.in_ok-changes.field-0)) (sym found) c.in_ok-changes.ensures

@@ -1,18 +1,20 @@
 -- by the table that comes first
-use Rattle.std.proofs.Common.{rules, ◌≡◌, ◌∷◌, [], Some, Ok, Err, sym, subst}
+use Rattle.std.proofs.Common.{rules, ◌≡◌, ◌∷◌, [], None, Some, Ok, Err, sym, subst}
 use Rattle.ft_values.specs.declared.fault.Fault.TheVariants as faults
 use Rattle.ft_index.specs.Planned.{table_change}
 use Rattle.ft_index.specs.Written.{MakesAnew}
 use Rattle.ft_index.proofs.GroupLemmas.{makes_nothing, makes_anew, made_already}
 use Rattle.ft_index.proofs.written.make_anew.Goals as goal
 
-pub returns-in_err-first-in-Some : goal.returns-in_err-first-in-Some
-returns-in_err-first-in-Some g c =
+pub returns-in_err-first : goal.returns-in_err-first
+returns-in_err-first g c =
     let store = c.args.store.now in
     let written = c.in-Some.written in
     let refused : c.from_residual.result ≡ Err faults.Memory = search rules in
     subst (λ anew. MakesAnew g.S.Store anew store store c.from_residual.result) (sym c.in-Some.is)
     (subst (MakesAnew g.S.Store (Some written) store store) (sym refused) (makes_anew written g.S.Store store store (Err faults.Memory) (makes_nothing written g.S.Store (table_change written.table.now ∷ []) store)))
 
-pub returns-in-None : goal.returns-in-None
-returns-in-None g c = subst (λ anew. MakesAnew g.S.Store anew c.args.store.now c.args.store.now (Ok tt)) (sym c.in-None.is) (made_already g.S.Store c.args.store.now)
+pub returns-in_default : goal.returns-in_default
+returns-in_default g c =
+    let none : c.args.anew ≡ None = search rules in
+    subst (λ anew. MakesAnew g.S.Store anew c.args.store.now c.args.store.now (Ok tt)) (sym none) (made_already g.S.Store c.args.store.now)

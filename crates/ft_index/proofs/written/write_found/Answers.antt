@@ -10,11 +10,11 @@ use Rattle.ft_index.proofs.Doing.{does_failed, does_undone, does_made}
 use Rattle.ft_index.proofs.Executing.{reached}
 use Rattle.ft_index.proofs.written.write_found.Goals as goal
 
-pub returns-in_err-written : goal.returns-in_err-written
-returns-in_err-written g c old tables command writes looks =
-    let fault : Fault = c.in_err-written.field-0.0 in
+pub returns-in_err-found : goal.returns-in_err-found
+returns-in_err-found g c old tables command writes looks =
+    let fault : Fault = c.in_err-found.field-0.0 in
     let is : c.from_residual.result ≡ Err fault = search rules in
-    let found : c.args.found ≡ Err fault = c.in_err-written.was in
+    let found : c.args.found ≡ Err fault = c.in_err-found.was in
     does_failed g.S.Store old c.args.store.now tables command looks.only fault c.from_residual.result is
     (subst (λ (r : Result Written Fault). WritesIn g.S.Store tables old c.args.store.now command r) found looks.told)
 
@@ -24,7 +24,7 @@ returns-in_err-make g c old tables command writes looks =
     let fault : Fault = c.in_err-make.field-0.0 in
     let is : c.from_residual-in_err-make.result ≡ Err fault = search rules in
     let refused : c.make.result ≡ Err fault = search rules in
-    let found : c.args.found ≡ Ok c.in_ok-written.written = c.in_ok-written.was in
+    let found : c.args.found ≡ Ok c.in_ok-found.field-0 = c.in_ok-found.was in
     let did = c.make.ensures in
     let plans = subst (λ (r : Result Written Fault). WritesIn g.S.Store tables old mid command r) found looks.told in
     does_undone g.S.Store old mid tables command looks.only
@@ -35,7 +35,7 @@ pub returns : goal.returns
 returns g c old tables command writes looks =
     let mid = c.args.store.now in
     let done : c.make.result ≡ Ok tt = search rules in
-    let found : c.args.found ≡ Ok c.in_ok-written.written = c.in_ok-written.was in
+    let found : c.args.found ≡ Ok c.in_ok-found.field-0 = c.in_ok-found.was in
     let did = c.make.ensures in
     let plans = subst (λ (r : Result Written Fault). WritesIn g.S.Store tables old mid command r) found looks.told in
     does_made g.S.Store old mid tables command looks.only

@@ -9,13 +9,11 @@ use Rattle.ft_index.proofs.written.Written.changes.Goals as goal
 
 pub returns : goal.returns
 returns c =
-    let known = c.args.self.now.table.now in
-    let rewrites = c.args.self.now.rewrites in
+    let known = c.args.self.table.now in
+    let rewrites = c.args.self.rewrites in
     let fits : FitsSigned w64 known.id = search rules in
-    let list = map shown_change c.in_ok-changes.changes.items in (
+    let list = map shown_change c.in_ok-row_changes.field-0.items in (
       subst (λ k. AreRight k (map column_of known.columns.items) (map shown_rewrite rewrites.items) list) (to_z-of_z fits)
-          (subst (λ l. AreRight (to_z w64 (of_z w64 known.id)) (map column_of l) (map shown_rewrite rewrites.items) list) c.as_slice.ensures.value
-          (subst (λ l. AreRight (to_z w64 (of_z w64 known.id)) (map column_of c.as_slice.result.now) (map shown_rewrite l) list) c.as_slice-2.ensures.value c.in_ok-changes.ensures.right)),
-      subst (λ k. All (IsOfDocids k (docids_of (map shown_rewrite rewrites.items))) list) (to_z-of_z fits)
-          (subst (λ l. All (IsOfDocids (to_z w64 (of_z w64 known.id)) (docids_of (map shown_rewrite l))) list) c.as_slice-2.ensures.value c.in_ok-changes.ensures.near),
+          (subst (λ l. AreRight (to_z w64 (of_z w64 known.id)) (map column_of l) (map shown_rewrite rewrites.items) list) c.as_slice.ensures.value c.in_ok-row_changes.ensures.right),
+      subst (λ k. All (IsOfDocids k (docids_of (map shown_rewrite rewrites.items))) list) (to_z-of_z fits) c.in_ok-row_changes.ensures.near,
     )
