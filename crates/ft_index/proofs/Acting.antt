@@ -78,10 +78,3 @@ module _ {S : Type 0} (g : Ghosts S) where
   pub executes_undone : (old mid new : StoreState S) (tables : List TableInfo) (changes : List Change) (command : Command) (fault : Fault) → (fault ≡ faults.Store) ⊎ (fault ≡ faults.Memory) → Looks g old mid → Changed g mid new changes false →
       Executes g (with_tables old tables) command (Err fault) (with_tables new tables)
   executes_undone old mid new tables changes command fault outside looks changed = executes_refused g old new tables changes command fault outside (then_changed old mid new changes false looks changed)
-
-  -- a plan that is carried out, and leaves the tables that are told
-  pub executes_written : (old mid new : StoreState S) (tables : List TableInfo) (changes : List Change) (command : Command) (name : List ℕ) (change : Content → Documents) →
-      ((contents : Contents) → after contents command ≡ on_table contents name (with_documents change)) → ((contents : Contents) → reply_to contents command ≡ Done) → Looks g old mid → PlansTo g tables old mid command (Ok changes) → Changed g mid new changes true → Executes g (with_tables old tables) command (Ok Done) (with_tables new tables)
-  executes_written old mid new tables changes command name change leaves replies looks plans changed =
-      executes_planned g old new tables tables changes command (λ up first holds. reached first command (value_in g old) changes (plans (changed.was_up tables tables up) first holds)) (then_changed old mid new changes true looks changed)
-      (told_kept (value_in g old) tables command name change leaves) replies

@@ -73,8 +73,3 @@ module _ {S : Type 0} (g : Ghosts S) where
         held = subst (StoreHolds (all_applied changes (value_in g old))) (left_is first command planned.0) planned.1;
         noted = planned.2;
       }) looks.survives survives
-
-  -- a plan that was made by reads, and is carried out
-  pub crash_written : (old mid new : StoreState S) (tables others : List TableInfo) (command : Command) (changes : List Change) → Looks g old mid → (HasCleanDisk (shows g mid) → IsTrue (shows g old).is_open → IsTrue (shows g mid).is_open) →
-      PlansTo g tables old mid command (Ok changes) → Survives (shows g mid) (shows g new) (CommitsRows mid changes) → CommandSurvives g (with_tables old tables) command (with_tables new others)
-  crash_written old mid new tables others command changes looks live plans = crash_reached old mid new tables others command changes looks live (λ up first holds. reached first command (value_in g old) changes (plans up first holds))

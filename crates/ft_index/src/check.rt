@@ -1,16 +1,11 @@
 //! Comparing the rows of tables with those that they should have.
-ghost use Rattle.std.specs.Prelude.{◌≡◌, ◌⊎◌, ◌↔◌, map, IsTrue, IfOk, IfErr};
-ghost use Rattle.sqlite.specs.State.{HasCleanDisk};
-ghost use Rattle.ft_store.specs.Kept.{shows, value_in};
-ghost use Rattle.ft_values.specs.declared.fault.Fault.TheVariants as faults;
+ghost use Rattle.std.specs.Prelude.{map};
 ghost use Rattle.ft_content.specs.Command as plain;
 ghost use Rattle.ft_content.specs.Views.{shown_info, answer_of};
-ghost use Rattle.ft_content.specs.Deserved.{Contents};
 ghost use Rattle.ft_index.specs.Changed.{with_tables};
-ghost use Rattle.ft_index.specs.DocumentsRead.{Looks, LooksTo};
-ghost use Rattle.ft_index.specs.Kept.{StoreHolds, AreSound, Executes};
+ghost use Rattle.ft_index.specs.DocumentsRead.{LooksTo};
+ghost use Rattle.ft_index.specs.Kept.{Executes};
 
-use crate::open::opened_tables;
 use crate::standing::standing_under;
 use ft_content::{Fault, Reply, TableInfo};
 use ft_documents::named_table;
@@ -38,17 +33,4 @@ pub(crate) fn check_table<S: Alter>(
     } else {
         Err(Fault::Corrupt)
     }
-}
-
-/// Whether every table is sound, by the rows as they are read. The store is only read, whatever is
-/// answered.
-pub(crate) fn check_all<S: Alter>(alloc: Global, store: &mut Store<S>) -> Result<bool, Fault>
-    ensures all { HasCleanDisk (shows S.Store store.new)
-        → IfOk result (λ all. (contents : Contents)
-        → StoreHolds (value_in S.Store store.old) contents → IsTrue all ↔ AreSound contents) }
-    ensures fault { IfErr result (λ fault. (fault ≡ faults.Store) ⊎ (fault ≡ faults.Memory)) }
-    ensures looks { Looks S.Store store.old store.new }
-{
-    let tables = opened_tables(alloc, store)?;
-    Ok(tables.iter().all(|table| table.sound))
 }

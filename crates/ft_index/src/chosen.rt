@@ -42,33 +42,19 @@ pub(crate) fn chosen_documents<S: Alter>(
 {
     match filter {
         Filter::All => all_documents(alloc, store, tab),
-        Filter::Docid(docid) => one_document(alloc, store, tab, *docid),
+        Filter::Docid(docid) => {
+            let (docid, mut documents) = (*docid, Vec::new(alloc));
+            if let Some(cells) = document(alloc, store, tab, docid)? {
+                documents.push(Document { docid, cells })?;
+            }
+            Ok(documents)
+        }
         Filter::Match { .. } => {
             let hits = matched(alloc, store, tab, query, false, None)?;
             let docids: Vec<i64> = hits.iter().map(|hit| hit.docid).collect(alloc)?;
             documents_under(alloc, store, tab, docids.as_slice())
         }
     }
-}
-
-// The document of a docid, if there is one.
-fn one_document<S: Alter>(
-    alloc: Global,
-    store: &mut Store<S>,
-    tab: i64,
-    docid: i64,
-) -> Result<Vec<Document>, Fault>
-    ensures { Asks S.Store store.old store.new result IsOutside
-        (IfOk result (λ found. (content : Content)
-        → HasRows S.Store tab store.old store.new content → map shown_document found.items
-        ≡ chosen content (Docid docid))) }
-{
-    let found = document(alloc, store, tab, docid)?;
-    let mut documents = Vec::new(alloc);
-    if let Some(cells) = found {
-        documents.push(Document { docid, cells })?;
-    }
-    Ok(documents)
 }
 
 /// The documents of docids. One that isn't there is a refusal by the store.

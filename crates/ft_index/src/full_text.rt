@@ -1,6 +1,5 @@
 //! Full-text tables over a store.
 use crate::change::{note_name, noted_names};
-use crate::check::check_all;
 use crate::execute::execute_command;
 use crate::open::opened_tables;
 use crate::plan::planned_changes;
@@ -141,7 +140,8 @@ impl<S: Alter> FullText<S> {
         ensures fault { IfErr result (λ fault. (fault ≡ faults.Store) ⊎ (fault ≡ faults.Memory)) }
         ensures looks { OnlyLooks S.Store self.old self.new }
     {
-        check_all(self.alloc, &mut self.store)
+        let tables = opened_tables(self.alloc, &mut self.store)?;
+        Ok(tables.iter().all(|table| table.sound))
     }
 
     /// Notes a name, in its latest spelling. The store is asked first whether it is open.

@@ -1,6 +1,12 @@
 -- by the kind of the filter
-use Rattle.std.proofs.Common.{rules, ◌≡◌, ◌∙◌, ℤ, false, Ok, Result, Vec, Global, Option, map, option_map, string_bytes, Bor, refl, sym, ap, subst, to_z-of_z, to_z, of_z, w64}
+use Rattle.std.proofs.Common.{rules, ◌≡◌, ◌∙◌, ◌∷◌, ◌++◌, [], ℤ, false, None, Ok, Result, Vec, Global, Option, map, option_map, string_bytes, Bor, refl, sym, ap, subst, to_z-of_z, to_z, of_z, w64, FitsSigned}
 use Rattle.std.specs.Prelude.{IfOk}
+use Rattle.std.specs.Ordering.{int_cmp}
+use Rattle.std.specs.FinMap.Entries.{find}
+use Rattle.ft_values.specs.declared.rows.Value.{Value}
+use Rattle.ft_documents.specs.declared.document.Document.{Document}
+use Rattle.ft_documents.specs.Gathered.{shown_document}
+use Rattle.ft_documents.specs.Rewrite.{document_if}
 use Rattle.std.specs.declared.alloc.AllocError.{AllocError}
 use Rattle.std.proofs.lemmas.Iterator.{YieldsList-from_map, YieldsList-from_slice, items_from_collect}
 use Rattle.std.proofs.lemmas.Result.{IfOk-weaker}
@@ -11,14 +17,15 @@ use Rattle.ft_query.specs.Occurs.{plain_hit}
 use Rattle.ft_content.specs.declared.command.Filter.{Filter}
 use Rattle.ft_content.specs.Command.{Match}
 use Rattle.ft_content.specs.Answer.{chosen}
-use Rattle.ft_content.specs.Views.{filter_of}
+use Rattle.ft_content.specs.Views.{cells_of, filter_of}
 use Rattle.ft_index.specs.DocumentsRead.{HasRows, Looks}
 use Rattle.ft_index.specs.Walked.{IsIndexed}
 use Rattle.ft_documents.specs.Chosen.{ReadsAs, document_at}
 use Rattle.ft_documents.specs.Matched.{chosen_hits, told}
-use Rattle.ft_documents.proofs.ChosenLemmas.{chosen_all, of_hits}
+use Rattle.ft_documents.proofs.ChosenLemmas.{chosen_all, chosen_one, of_hits}
 use Rattle.ft_index.proofs.LookLemmas.{rows_then, index_first}
 use Rattle.ft_index.proofs.chosen.chosen_documents.Goals as goal
+use Rattle.ft_index.proofs.chosen.chosen_documents.Goals.{in-Some+in_ok-push-in-Docid, in_default}
 
 pub returns-in-All : goal.returns-in-All
 returns-in-All g c = record {
@@ -26,6 +33,31 @@ returns-in-All g c = record {
       IfOk-weaker c.all_documents.result _ _ (λ found read content rows indexed reads.
       read content (subst (λ (k : ℤ). HasRows g.S.Store k c.args.store.now c.all_documents.new.store content) (sym (to_z-of_z c.ranges.tab)) rows)
       ∙ sym (ap (λ (f : Filter). chosen content (filter_of f)) c.in-All.is ∙ chosen_all content)) c.all_documents.ensures.told;
+  only = search rules;
+  live = search rules;
+  cause = search rules;
+}
+
+pub returns-after-branch-2 : goal.returns-after-branch-2
+returns-after-branch-2 g c = record {
+  told = λ content rows indexed reads.
+      let docid : ℤ = c.in-Docid.docid in
+      let read = c.in_ok-cells-in-Docid.field-0 in
+      let fits : FitsSigned w64 docid = search rules in
+      let back : to_z w64 (of_z w64 docid) ≡ docid = to_z-of_z fits in
+      let here = subst (λ (k : ℤ). HasRows g.S.Store k c.args.store.now c.document.new.store content) (sym (to_z-of_z c.ranges.tab)) rows in
+      let found : option_map cells_of read ≡ find int_cmp docid content.documents = c.in_ok-cells-in-Docid.ensures.looks.told content here ∙ ap (λ (k : ℤ). find int_cmp k content.documents) back in
+      let shown : map shown_document c.match-branch-2.documents.items ≡ document_if docid (option_map cells_of read) =
+      elim c.match-branch-2.branch [
+        | in-Some+in_ok-push-in-Docid w ↦
+            ap (λ (v : Vec Document Global). map shown_document v.items) w.documents-is ∙ ap (map shown_document) (w.in_ok-push-in-Docid.ensures.items ∙ ap (λ l. l ++ record { docid = to_z w64 (of_z w64 docid); cells = w.in-Some.cells } ∷ []) c.new-documents.ensures.items)
+            ∙ (λ i. (back i, cells_of w.in-Some.cells) ∷ [])
+            ∙ sym (ap (λ (o : Option (Vec Value Global)). document_if docid (option_map cells_of o)) w.in-Some.is)
+        | in_default w ↦
+            ap (λ (v : Vec Document Global). map shown_document v.items) w.documents-is ∙ ap (map shown_document) c.new-documents.ensures.items
+            ∙ sym (ap (λ (o : Option (Vec Value Global)). document_if docid (option_map cells_of o)) (let none : read ≡ None = search rules in none))
+      ] in
+      shown ∙ ap (document_if docid) found ∙ sym (ap (λ (f : Filter). chosen content (filter_of f)) c.in-Docid.is ∙ chosen_one rows.name content docid rows.is_content);
   only = search rules;
   live = search rules;
   cause = search rules;

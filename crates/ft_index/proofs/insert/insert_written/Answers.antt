@@ -1,19 +1,23 @@
 -- by the table, the tests, and what the rows make where docids are read
-use Rattle.std.proofs.Common.{rules, zip, ◌≡◌, inl, inr, ℤ, List, [], Bor, String, Option, None, Some, map, option_map, string_bytes, Err, Ok, Result, Vec, Global, refl, sym, ap, subst, ◌∙◌, arith, to_z-of_z, to_z, of_z, w64, FitsSigned}
+use Rattle.std.proofs.Common.{rules, ℕ, false, zip, ◌≡◌, inl, inr, ℤ, List, [], Bor, String, Option, None, Some, map, option_map, string_bytes, Err, Ok, Result, Vec, Global, refl, sym, ap, subst, ◌∙◌, arith, to_z-of_z, to_z, of_z, w64, FitsSigned}
 use Rattle.std.specs.Prelude.{unwrap_or}
 use Rattle.sqlite.specs.State.{HasCleanDisk}
+use Rattle.sqlite.specs.Store.{Ghosts}
 use Rattle.sqlite.specs.Effect.{Database}
 use Rattle.ft_store.specs.Calls.{fault_of_read}
-use Rattle.ft_store.specs.Kept.{shows, value_in}
+use Rattle.ft_rows.specs.Store.{AreInOrder}
+use Rattle.ft_store.specs.Kept.{StoreState, shows, value_in}
 use Rattle.ft_store.specs.Rows.{value_of}
 use Rattle.ft_values.specs.declared.fault.Fault.{Fault}
 use Rattle.ft_values.specs.declared.fault.Fault.TheVariants as faults
+use Rattle.ft_values.specs.declared.rows.Value.{Value}
 use Rattle.ft_values.specs.declared.table.TableInfo.{TableInfo as RustTableInfo}
 use Rattle.ft_content.specs.Command as plain
 use Rattle.ft_content.specs.Command.{Command}
-use Rattle.ft_content.specs.Content.{repeats_name, content_rows}
+use Rattle.ft_content.specs.declared.command.Insertion.{Insertion}
+use Rattle.ft_content.specs.Content.{Content, repeats_name, content_rows}
 use Rattle.ft_content.specs.Deserved.{insert_rows, listed_columns}
-use Rattle.ft_content.specs.Views.{bare_content, cells_of, column_of, names_in, shown_info}
+use Rattle.ft_content.specs.Views.{TableInfo, bare_content, cells_of, column_of, insertion_of, names_in, shown_info}
 use Rattle.ft_documents.specs.Found.{IsSoundNamed, IsUnfit}
 use Rattle.ft_documents.specs.Inserted.{AreKnown, Inserts}
 use Rattle.ft_documents.specs.Rewrite.{shown_rewrite}
@@ -22,7 +26,7 @@ use Rattle.ft_documents.proofs.InsertDue.{insert_repeats}
 use Rattle.ft_documents.proofs.InsertRows.{known_from, new_are_inserts}
 use Rattle.ft_documents.proofs.ReadRows.{last_read}
 use Rattle.ft_index.specs.declared.written.Written.{Written}
-use Rattle.ft_index.specs.Written.{Writes, PlansTo, WritesIn}
+use Rattle.ft_index.specs.Written.{HasAll, Writes, PlansTo, WritesIn}
 use Rattle.ft_index.proofs.InsertWrites.{due, made, news, is_write, tested_writes, tests_are, rows_are, writes}
 use Rattle.ft_index.proofs.Pinging.{outside_of}
 use Rattle.ft_index.proofs.Planning.{plans_unfit, plans_failed, plans_do}
@@ -72,109 +76,64 @@ returns-in_err-table g c = record {
   live = search rules;
 }
 
+-- a fault of the table, or one from outside
+fails : {S : Type 0} (g : Ghosts S) (w : Insertion) (listed : Option (Bor (List (String Global)))) (none : Bor (List (String Global))) (rows : List (Vec Value Global)) (info : RustTableInfo) (tables : List TableInfo) (old new : StoreState S) → AreInOrder (value_in g old) →
+    option_map (λ (r : Bor (List (String Global))). r.now) listed ≡ option_map (λ (v : Vec (String Global) Global). v.items) w.columns → rows ≡ w.rows.items → none.now ≡ [] → repeats_name (map string_bytes (unwrap_or listed none).now) ≡ false →
+    (text : List ℕ) → text ≡ string_bytes w.table → IsSoundNamed tables text (shown_info info) → (fault : Fault) (found : Result Written Fault) → found ≡ Err fault →
+    ((content : Content) → HasAll g info.id (string_bytes info.name) (map column_of info.columns.items) old new content → Writes content (due (option_map (λ (r : Bor (List (String Global))). map string_bytes r.now) listed) (map cells_of rows) content) (made (option_map (λ (r : Bor (List (String Global))). map string_bytes r.now) listed) (map cells_of rows) content) (news (option_map (λ (r : Bor (List (String Global))). map string_bytes r.now) listed) (map cells_of rows) content) (Err fault)) →
+    WritesIn g tables old new (insertion_of w) found
+fails g w listed none rows info tables old new order same are is_none apart text is named fault found failed writes =
+    let columns = option_map (λ (r : Bor (List (String Global))). map string_bytes r.now) listed in
+    let cells = map cells_of rows in
+    let name = string_bytes w.table in
+    subst (λ (x : Command). WritesIn g tables old new x found) (λ i. plain.Insert name (listed_are listed w.columns same i) (map cells_of (are i)))
+    (plans_failed g (plain.Insert name columns cells) name (λ table content. due columns cells content) (made columns cells) (news columns cells) (is_write columns cells name (twice_is listed none is_none ∙ apart)) old new tables (shown_info info) order (subst (λ n. IsSoundNamed tables n (shown_info info)) is named) fault found failed writes)
+
 pub returns-in_err-names : goal.returns-in_err-names
 returns-in_err-names g c = record {
-  told =
-      let w = c.args.insertion.now in
-      let columns = option_map (λ n. map string_bytes n.now) c.as_deref-listed.result in
-      let rows = map cells_of w.rows.items in
-      let name = string_bytes w.table in
-      let tables = map shown_info c.args.tables.now in
-      let info : RustTableInfo = c.in_ok-table.table.now in
-      let named : IsSoundNamed tables name (shown_info info) = subst (λ n. IsSoundNamed tables n (shown_info info)) c.as_str.ensures.value c.in_ok-table.ensures in
-      let apart = twice_is c.as_deref-listed.result _ refl ∙ sym (c.repeats_name.ensures ∙ ap (λ (r : Bor (List (String Global))). repeats_name (map string_bytes r.now)) c.unwrap_or.ensures) ∙ c.if-repeats_name.false in
-      let command = plain.Insert name columns rows in
-      let fault : Fault = faults.Memory in
-      let is : c.from_residual-in_err-names.result ≡ Err fault = search rules in
-      subst (λ (x : Command). WritesIn g.S.Store tables c.args.store.now c.args.store.now x c.from_residual-in_err-names.result) (λ i. plain.Insert name (listed_are c.as_deref-listed.result w.columns c.as_deref-listed.ensures.value i) (map cells_of w.rows.items))
-      (plans_failed g.S.Store command name (λ table content. due columns rows content) (made columns rows) (news columns rows) (is_write columns rows name apart) c.args.store.now c.args.store.now tables (shown_info info) c.is_in_order.ensures.order named fault c.from_residual-in_err-names.result is (λ content has.
-      inl (inr refl)));
+  told = fails g.S.Store c.args.insertion.now c.as_deref-listed.result _ c.args.insertion.now.rows.items c.in_ok-table.table.now (map shown_info c.args.tables.now) c.args.store.now c.args.store.now c.is_in_order.ensures.order c.as_deref-listed.ensures.value refl refl (sym (c.repeats_name.ensures ∙ ap (λ (r : Bor (List (String Global))). repeats_name (map string_bytes r.now)) c.unwrap_or.ensures) ∙ c.if-repeats_name.false) _ c.as_str.ensures.value c.in_ok-table.ensures faults.Memory c.from_residual-in_err-names.result (search rules) (λ content has.
+      inl (inr refl));
   only = search rules;
   live = search rules;
 }
 
 pub returns-in-Some : goal.returns-in-Some
 returns-in-Some g c = record {
-  told =
-      let w = c.args.insertion.now in
+  told = fails g.S.Store c.args.insertion.now c.as_deref-listed.result _ c.as_slice-rows.result.now c.in_ok-table.table.now (map shown_info c.args.tables.now) c.args.store.now c.args.store.now c.is_in_order.ensures.order c.as_deref-listed.ensures.value c.as_slice-rows.ensures.value refl (sym (c.repeats_name.ensures ∙ ap (λ (r : Bor (List (String Global))). repeats_name (map string_bytes r.now)) c.unwrap_or.ensures) ∙ c.if-repeats_name.false) _ c.as_str.ensures.value c.in_ok-table.ensures c.in-Some.fault (Err c.in-Some.fault) refl (λ content has.
       let columns = option_map (λ n. map string_bytes n.now) c.as_deref-listed.result in
       let rows = map cells_of c.as_slice-rows.result.now in
-      let name = string_bytes w.table in
-      let tables = map shown_info c.args.tables.now in
-      let info : RustTableInfo = c.in_ok-table.table.now in
-      let named : IsSoundNamed tables name (shown_info info) = subst (λ n. IsSoundNamed tables n (shown_info info)) c.as_str.ensures.value c.in_ok-table.ensures in
-      let apart = twice_is c.as_deref-listed.result _ refl ∙ sym (c.repeats_name.ensures ∙ ap (λ (r : Bor (List (String Global))). repeats_name (map string_bytes r.now)) c.unwrap_or.ensures) ∙ c.if-repeats_name.false in
-      let command = plain.Insert name columns rows in
-      let fault : Fault = c.in-Some.fault in
-      subst (λ (x : Command). WritesIn g.S.Store tables c.args.store.now c.args.store.now x (Err fault)) (λ i. plain.Insert name (listed_are c.as_deref-listed.result w.columns c.as_deref-listed.ensures.value i) (map cells_of (c.as_slice-rows.ensures.value i)))
-      (plans_failed g.S.Store command name (λ table content. due columns rows content) (made columns rows) (news columns rows) (is_write columns rows name apart) c.args.store.now c.args.store.now tables (shown_info info) c.is_in_order.ensures.order named fault (Err fault) refl (λ content has.
       let names = map (λ n. n.now) c.as_slice-names.result.now in
       let cols = c.as_slice-columns.result.now in
       let columns_are : content.columns ≡ map column_of cols = has.columns_are ∙ ap (map column_of) (sym c.as_slice-columns.ensures.value) in
       let those : names ≡ listed_columns (bare_content cols) columns = search rules in
-      inr (tested_writes columns rows content fault (tests_are columns rows content cols names (Some fault) columns_are those (search rules)))));
+      inr (tested_writes columns rows content c.in-Some.fault (tests_are columns rows content cols names (Some c.in-Some.fault) columns_are those (search rules))));
   only = search rules;
   live = search rules;
 }
 
 pub returns-in_err-last : goal.returns-in_err-last
 returns-in_err-last g c = record {
-  told =
-      let w = c.args.insertion.now in
-      let columns = option_map (λ n. map string_bytes n.now) c.as_deref-listed.result in
-      let rows = map cells_of c.as_slice-rows.result.now in
-      let name = string_bytes w.table in
-      let tables = map shown_info c.args.tables.now in
-      let info : RustTableInfo = c.in_ok-table.table.now in
-      let named : IsSoundNamed tables name (shown_info info) = subst (λ n. IsSoundNamed tables n (shown_info info)) c.as_str.ensures.value c.in_ok-table.ensures in
-      let apart = twice_is c.as_deref-listed.result _ refl ∙ sym (c.repeats_name.ensures ∙ ap (λ (r : Bor (List (String Global))). repeats_name (map string_bytes r.now)) c.unwrap_or.ensures) ∙ c.if-repeats_name.false in
-      let command = plain.Insert name columns rows in
-      let fault : Fault = fault_of_read c.in_err-last.field-0.0 in
-      let is : c.from_residual-in_err-last.result ≡ Err fault = search rules in
-      subst (λ (x : Command). WritesIn g.S.Store tables c.args.store.now c.last_docid.new.self x c.from_residual-in_err-last.result) (λ i. plain.Insert name (listed_are c.as_deref-listed.result w.columns c.as_deref-listed.ensures.value i) (map cells_of (c.as_slice-rows.ensures.value i)))
-      (plans_failed g.S.Store command name (λ table content. due columns rows content) (made columns rows) (news columns rows) (is_write columns rows name apart) c.args.store.now c.last_docid.new.self tables (shown_info info) c.is_in_order.ensures.order named fault c.from_residual-in_err-last.result is (λ content has.
-      inl (outside_of c.in_err-last.field-0.0)));
+  told = fails g.S.Store c.args.insertion.now c.as_deref-listed.result _ c.as_slice-rows.result.now c.in_ok-table.table.now (map shown_info c.args.tables.now) c.args.store.now c.last_docid.new.self c.is_in_order.ensures.order c.as_deref-listed.ensures.value c.as_slice-rows.ensures.value refl (sym (c.repeats_name.ensures ∙ ap (λ (r : Bor (List (String Global))). repeats_name (map string_bytes r.now)) c.unwrap_or.ensures) ∙ c.if-repeats_name.false) _ c.as_str.ensures.value c.in_ok-table.ensures (fault_of_read c.in_err-last.field-0.0) c.from_residual-in_err-last.result (search rules) (λ content has.
+      inl (outside_of c.in_err-last.field-0.0));
   only = search rules;
   live = search rules;
 }
 
 pub returns-in_err-stored : goal.returns-in_err-stored
 returns-in_err-stored g c = record {
-  told =
-      let w = c.args.insertion.now in
-      let columns = option_map (λ n. map string_bytes n.now) c.as_deref-listed.result in
-      let rows = map cells_of c.as_slice-rows.result.now in
-      let name = string_bytes w.table in
-      let tables = map shown_info c.args.tables.now in
-      let info : RustTableInfo = c.in_ok-table.table.now in
-      let named : IsSoundNamed tables name (shown_info info) = subst (λ n. IsSoundNamed tables n (shown_info info)) c.as_str.ensures.value c.in_ok-table.ensures in
-      let apart = twice_is c.as_deref-listed.result _ refl ∙ sym (c.repeats_name.ensures ∙ ap (λ (r : Bor (List (String Global))). repeats_name (map string_bytes r.now)) c.unwrap_or.ensures) ∙ c.if-repeats_name.false in
-      let command = plain.Insert name columns rows in
-      let fault : Fault = c.in_err-stored.field-0.0 in
-      let is : c.from_residual-in_err-stored.result ≡ Err fault = search rules in
-      subst (λ (x : Command). WritesIn g.S.Store tables c.args.store.now c.stored_docids.new.store x c.from_residual-in_err-stored.result) (λ i. plain.Insert name (listed_are c.as_deref-listed.result w.columns c.as_deref-listed.ensures.value i) (map cells_of (c.as_slice-rows.ensures.value i)))
-      (plans_failed g.S.Store command name (λ table content. due columns rows content) (made columns rows) (news columns rows) (is_write columns rows name apart) c.args.store.now c.stored_docids.new.store tables (shown_info info) c.is_in_order.ensures.order named fault c.from_residual-in_err-stored.result is (λ content has.
-      inl c.in_err-stored.ensures.faults));
+  told = fails g.S.Store c.args.insertion.now c.as_deref-listed.result _ c.as_slice-rows.result.now c.in_ok-table.table.now (map shown_info c.args.tables.now) c.args.store.now c.stored_docids.new.store c.is_in_order.ensures.order c.as_deref-listed.ensures.value c.as_slice-rows.ensures.value refl (sym (c.repeats_name.ensures ∙ ap (λ (r : Bor (List (String Global))). repeats_name (map string_bytes r.now)) c.unwrap_or.ensures) ∙ c.if-repeats_name.false) _ c.as_str.ensures.value c.in_ok-table.ensures c.in_err-stored.field-0.0 c.from_residual-in_err-stored.result (search rules) (λ content has.
+      inl c.in_err-stored.ensures.faults);
   only = search rules;
   live = search rules;
 }
 
 pub returns-in_err-new : goal.returns-in_err-new
 returns-in_err-new g c = record {
-  told =
-      let w = c.args.insertion.now in
+  told = fails g.S.Store c.args.insertion.now c.as_deref-listed.result _ c.as_slice-rows.result.now c.in_ok-table.table.now (map shown_info c.args.tables.now) c.args.store.now c.stored_docids.new.store c.is_in_order.ensures.order c.as_deref-listed.ensures.value c.as_slice-rows.ensures.value refl (sym (c.repeats_name.ensures ∙ ap (λ (r : Bor (List (String Global))). repeats_name (map string_bytes r.now)) c.unwrap_or.ensures) ∙ c.if-repeats_name.false) _ c.as_str.ensures.value c.in_ok-table.ensures c.in_err-new.field-0.0 c.from_residual-in_err-new.result (search rules) (λ content has.
       let columns = option_map (λ n. map string_bytes n.now) c.as_deref-listed.result in
       let rows = map cells_of c.as_slice-rows.result.now in
-      let name = string_bytes w.table in
-      let tables = map shown_info c.args.tables.now in
       let info : RustTableInfo = c.in_ok-table.table.now in
-      let named : IsSoundNamed tables name (shown_info info) = subst (λ n. IsSoundNamed tables n (shown_info info)) c.as_str.ensures.value c.in_ok-table.ensures in
-      let apart = twice_is c.as_deref-listed.result _ refl ∙ sym (c.repeats_name.ensures ∙ ap (λ (r : Bor (List (String Global))). repeats_name (map string_bytes r.now)) c.unwrap_or.ensures) ∙ c.if-repeats_name.false in
-      let command = plain.Insert name columns rows in
       let fault : Fault = c.in_err-new.field-0.0 in
-      let is : c.from_residual-in_err-new.result ≡ Err fault = search rules in
-      subst (λ (x : Command). WritesIn g.S.Store tables c.args.store.now c.stored_docids.new.store x c.from_residual-in_err-new.result) (λ i. plain.Insert name (listed_are c.as_deref-listed.result w.columns c.as_deref-listed.ensures.value i) (map cells_of (c.as_slice-rows.ensures.value i)))
-      (plans_failed g.S.Store command name (λ table content. due columns rows content) (made columns rows) (news columns rows) (is_write columns rows name apart) c.args.store.now c.stored_docids.new.store tables (shown_info info) c.is_in_order.ensures.order named fault c.from_residual-in_err-new.result is (λ content has.
       let names = map (λ n. n.now) c.as_slice-names.result.now in
       let cols = c.as_slice-columns.result.now in
       let columns_are : content.columns ≡ map column_of cols = has.columns_are ∙ ap (map column_of) (sym c.as_slice-columns.ensures.value) in
@@ -195,28 +154,15 @@ returns-in_err-new g c = record {
       let known = subst (AreKnown content.documents values) (sym (c.as_slice.ensures.value ∙ stored)) (known_from content.documents names cells_of c.as_slice-rows.result.now) in
       let made_of : Inserts content.documents (insert_rows (map column_of cols) values content.documents) (Err fault) =
       elim (c.in_err-new.ensures content.documents has.has.is_content.rising last known) [ inl memory ↦ inl (inr memory) | inr failed ↦ inr failed ] in
-      writes columns rows (string_bytes info.name) content (Err fault) has.has.is_content tested (rows_are columns rows content cols names (Err fault) columns_are those made_of)));
+      writes columns rows (string_bytes info.name) content (Err fault) has.has.is_content tested (rows_are columns rows content cols names (Err fault) columns_are those made_of));
   only = search rules;
   live = search rules;
 }
 
 pub returns-in_err-rewrites : goal.returns-in_err-rewrites
 returns-in_err-rewrites g c = record {
-  told =
-      let w = c.args.insertion.now in
-      let columns = option_map (λ n. map string_bytes n.now) c.as_deref-listed.result in
-      let rows = map cells_of c.as_slice-rows.result.now in
-      let name = string_bytes w.table in
-      let tables = map shown_info c.args.tables.now in
-      let info : RustTableInfo = c.in_ok-table.table.now in
-      let named : IsSoundNamed tables name (shown_info info) = subst (λ n. IsSoundNamed tables n (shown_info info)) c.as_str.ensures.value c.in_ok-table.ensures in
-      let apart = twice_is c.as_deref-listed.result _ refl ∙ sym (c.repeats_name.ensures ∙ ap (λ (r : Bor (List (String Global))). repeats_name (map string_bytes r.now)) c.unwrap_or.ensures) ∙ c.if-repeats_name.false in
-      let command = plain.Insert name columns rows in
-      let fault : Fault = faults.Memory in
-      let is : c.from_residual-in_err-rewrites.result ≡ Err fault = search rules in
-      subst (λ (x : Command). WritesIn g.S.Store tables c.args.store.now c.stored_docids.new.store x c.from_residual-in_err-rewrites.result) (λ i. plain.Insert name (listed_are c.as_deref-listed.result w.columns c.as_deref-listed.ensures.value i) (map cells_of (c.as_slice-rows.ensures.value i)))
-      (plans_failed g.S.Store command name (λ table content. due columns rows content) (made columns rows) (news columns rows) (is_write columns rows name apart) c.args.store.now c.stored_docids.new.store tables (shown_info info) c.is_in_order.ensures.order named fault c.from_residual-in_err-rewrites.result is (λ content has.
-      inl (inr refl)));
+  told = fails g.S.Store c.args.insertion.now c.as_deref-listed.result _ c.as_slice-rows.result.now c.in_ok-table.table.now (map shown_info c.args.tables.now) c.args.store.now c.stored_docids.new.store c.is_in_order.ensures.order c.as_deref-listed.ensures.value c.as_slice-rows.ensures.value refl (sym (c.repeats_name.ensures ∙ ap (λ (r : Bor (List (String Global))). repeats_name (map string_bytes r.now)) c.unwrap_or.ensures) ∙ c.if-repeats_name.false) _ c.as_str.ensures.value c.in_ok-table.ensures faults.Memory c.from_residual-in_err-rewrites.result (search rules) (λ content has.
+      inl (inr refl));
   only = search rules;
   live = search rules;
 }

@@ -1,18 +1,24 @@
 -- by the table, the tests, the documents that are chosen, and where one may go
-use Rattle.std.proofs.Common.{rules, Bool, ◌≡◌, ◌≢◌, inl, inr, ℤ, List, map, string_bytes, option_map, Ok, Err, Some, None, Result, Vec, Global, refl, sym, ap, subst, ◌∙◌, to_z-of_z, to_z, of_z, w64, FitsSigned}
+use Rattle.std.proofs.Common.{rules, ℕ, String, Bool, false, ◌≡◌, ◌≢◌, inl, inr, ℤ, List, map, string_bytes, option_map, Ok, Err, Some, None, Result, Vec, Global, refl, sym, ap, subst, ◌∙◌, to_z-of_z, to_z, of_z, w64, FitsSigned}
 use Rattle.std.specs.Prelude.{slice_get, IfOk, IfSome}
 use Rattle.std.specs.declared.alloc.AllocError.{AllocError}
 use Rattle.std.proofs.lemmas.Iterator.{YieldsList-from_map, YieldsList-from_slice, items_from_collect}
+use Rattle.sqlite.specs.Store.{Ghosts}
 use Rattle.ft_query.specs.Trees.{tree_of}
+use Rattle.ft_rows.specs.Store.{AreInOrder}
+use Rattle.ft_store.specs.Kept.{StoreState, value_in}
+use Rattle.ft_values.specs.Cells.{Cell}
+use Rattle.ft_values.specs.declared.rows.Value.{Value}
 use Rattle.ft_values.specs.declared.fault.Fault.{Fault}
 use Rattle.ft_values.specs.declared.fault.Fault.TheVariants as faults
 use Rattle.ft_values.specs.declared.table.TableInfo.{TableInfo as RustTableInfo}
-use Rattle.ft_content.specs.Content.{Column, Documents}
+use Rattle.ft_content.specs.declared.command.Modification.{Modification}
+use Rattle.ft_content.specs.Content.{Column, Content, Documents, repeats_name}
 use Rattle.ft_content.specs.Command as plain
 use Rattle.ft_content.specs.Command.{Command}
 use Rattle.ft_content.specs.Answer.{chosen}
 use Rattle.ft_content.specs.Deserved.{update_tests, query_fault, moves_fault, docids_in, has_docid}
-use Rattle.ft_content.specs.Views.{bare_content, column_of, set_of, filter_of, shown_info}
+use Rattle.ft_content.specs.Views.{TableInfo, bare_content, column_of, set_of, filter_of, modification_of, shown_info}
 use Rattle.ft_content.proofs.ContentLemmas.{update_keeps_content}
 use Rattle.ft_documents.specs.declared.document.Document.{Document}
 use Rattle.ft_documents.specs.Found.{IsSoundNamed, IsUnfit}
@@ -23,7 +29,7 @@ use Rattle.ft_documents.specs.Chosen.{ReadsAs}
 use Rattle.ft_documents.proofs.BareLemmas.{reads_bare}
 use Rattle.ft_documents.proofs.InsertRows.{given_is}
 use Rattle.ft_index.specs.declared.written.Written.{Written}
-use Rattle.ft_index.specs.Written.{Writes, PlansTo, WritesIn}
+use Rattle.ft_index.specs.Written.{HasAll, Writes, PlansTo, WritesIn}
 use Rattle.ft_index.proofs.LookLemmas.{looks_then, rows_first, rows_then, index_first}
 use Rattle.ft_index.proofs.Planning.{plans_unfit, plans_failed, plans_do}
 use Rattle.ft_index.proofs.WholeReads.{rows_of, index_of}
@@ -62,134 +68,78 @@ returns-in_err-table g c = record {
   live = search rules;
 }
 
+-- a fault of the table, or one from outside
+fails : {S : Type 0} (g : Ghosts S) (w : Modification) (sets : List (String Global × Value)) (info : RustTableInfo) (tables : List TableInfo) (old new : StoreState S) → AreInOrder (value_in g old) → sets ≡ w.sets.items → repeats_name (map (λ (s : List ℕ × Cell). s.0) (map set_of sets)) ≡ false →
+    (text : List ℕ) → text ≡ string_bytes w.table → IsSoundNamed tables text (shown_info info) → (fault : Fault) (found : Result Written Fault) → found ≡ Err fault →
+    ((content : Content) → HasAll g info.id (string_bytes info.name) (map column_of info.columns.items) old new content → Writes content (due (map set_of sets) (filter_of w.filter) (string_bytes info.name) content) (made (map set_of sets) (filter_of w.filter) content) (touches (map set_of sets) (filter_of w.filter) content) (Err fault)) →
+    WritesIn g tables old new (modification_of w) found
+fails g w sets info tables old new order same apart text is named fault found failed writes =
+    let shown = map set_of sets in
+    let f = filter_of w.filter in
+    let name = string_bytes w.table in
+    subst (λ (x : Command). WritesIn g tables old new x found) (λ i. plain.Update name (map set_of (same i)) f)
+    (plans_failed g (plain.Update name shown f) name (due shown f) (made shown f) (touches shown f) (is_write shown f name apart) old new tables (shown_info info) order (subst (λ n. IsSoundNamed tables n (shown_info info)) is named) fault found failed writes)
+
 pub returns-in-Some : goal.returns-in-Some
 returns-in-Some g c = record {
-  told =
-      let modification = c.args.modification.now in
+  told = fails g.S.Store c.args.modification.now c.as_slice-sets.result.now c.in_ok-table.table.now (map shown_info c.args.tables.now) c.args.store.now c.args.store.now c.is_in_order.ensures.order c.as_slice-sets.ensures.value (sym c.repeats_set.ensures ∙ c.if-repeats_set.false) _ c.as_str.ensures.value c.in_ok-table.ensures c.in-Some.fault (Err c.in-Some.fault) refl (λ content has.
       let sets = map set_of c.as_slice-sets.result.now in
-      let f = filter_of modification.filter in
-      let name = string_bytes modification.table in
-      let tables = map shown_info c.args.tables.now in
-      let info : RustTableInfo = c.in_ok-table.table.now in
-      let named : IsSoundNamed tables name (shown_info info) = subst (λ n. IsSoundNamed tables n (shown_info info)) c.as_str.ensures.value c.in_ok-table.ensures in
-      let apart = sym c.repeats_set.ensures ∙ c.if-repeats_set.false in
-      let command = plain.Update name sets f in
-      let fault : Fault = c.in-Some.fault in
-      subst (λ (x : Command). WritesIn g.S.Store tables c.args.store.now c.args.store.now x (Err fault)) (λ i. plain.Update name (map set_of (c.as_slice-sets.ensures.value i)) f)
-      (plans_failed g.S.Store command name (due sets f) (made sets f) (touches sets f) (is_write sets f name apart) c.args.store.now c.args.store.now tables (shown_info info) c.is_in_order.ensures.order named fault (Err fault) refl (λ content has.
+      let f = filter_of c.args.modification.now.filter in
       let cols = c.as_slice-columns.result.now in
       let columns_are : content.columns ≡ map column_of cols = has.columns_are ∙ ap (map column_of) (sym c.as_slice-columns.ensures.value) in
       let table = c.as_str-2.result.now in
-      let tested : update_tests table (bare_content cols) sets f ≡ Some fault = search rules in
-      inr (subst (λ n. due sets f n content ≡ Some fault) c.as_str-2.ensures.value (tested_due sets f content cols columns_are table fault tested))));
+      let tested : update_tests table (bare_content cols) sets f ≡ Some c.in-Some.fault = search rules in
+      inr (subst (λ n. due sets f n content ≡ Some c.in-Some.fault) c.as_str-2.ensures.value (tested_due sets f content cols columns_are table c.in-Some.fault tested)));
   only = search rules;
   live = search rules;
 }
 
 pub returns-in_err-query : goal.returns-in_err-query
 returns-in_err-query g c = record {
-  told =
-      let modification = c.args.modification.now in
+  told = fails g.S.Store c.args.modification.now c.as_slice-sets.result.now c.in_ok-table.table.now (map shown_info c.args.tables.now) c.args.store.now c.args.store.now c.is_in_order.ensures.order c.as_slice-sets.ensures.value (sym c.repeats_set.ensures ∙ c.if-repeats_set.false) _ c.as_str.ensures.value c.in_ok-table.ensures c.in_err-query.field-0.0 c.from_residual-in_err-query.result (search rules) (λ content has.
       let sets = map set_of c.as_slice-sets.result.now in
-      let f = filter_of modification.filter in
-      let name = string_bytes modification.table in
-      let tables = map shown_info c.args.tables.now in
-      let info : RustTableInfo = c.in_ok-table.table.now in
-      let named : IsSoundNamed tables name (shown_info info) = subst (λ n. IsSoundNamed tables n (shown_info info)) c.as_str.ensures.value c.in_ok-table.ensures in
-      let apart = sym c.repeats_set.ensures ∙ c.if-repeats_set.false in
-      let command = plain.Update name sets f in
+      let f = filter_of c.args.modification.now.filter in
       let fault : Fault = c.in_err-query.field-0.0 in
-      let is : c.from_residual-in_err-query.result ≡ Err fault = search rules in
-      subst (λ (x : Command). WritesIn g.S.Store tables c.args.store.now c.args.store.now x c.from_residual-in_err-query.result) (λ i. plain.Update name (map set_of (c.as_slice-sets.ensures.value i)) f)
-      (plans_failed g.S.Store command name (due sets f) (made sets f) (touches sets f) (is_write sets f name apart) c.args.store.now c.args.store.now tables (shown_info info) c.is_in_order.ensures.order named fault c.from_residual-in_err-query.result is (λ content has.
       let cols = c.as_slice-columns.result.now in
       let columns_are : content.columns ≡ map column_of cols = has.columns_are ∙ ap (map column_of) (sym c.as_slice-columns.ensures.value) in
       let table = c.as_str-2.result.now in
       let tested : update_tests table (bare_content cols) sets f ≡ None = search rules in
       let refused : fault ≢ faults.Memory → query_fault (bare_content cols) f ≡ Some fault = search rules in
-      subst (λ n. Writes content (due sets f n content) (made sets f content) (touches sets f content) (Err fault)) c.as_str-2.ensures.value (text_due sets f content cols columns_are table fault tested refused)));
+      subst (λ n. Writes content (due sets f n content) (made sets f content) (touches sets f content) (Err fault)) c.as_str-2.ensures.value (text_due sets f content cols columns_are table fault tested refused));
   only = search rules;
   live = search rules;
 }
 
 pub returns-in_err-documents : goal.returns-in_err-documents
 returns-in_err-documents g c = record {
-  told =
-      let modification = c.args.modification.now in
-      let sets = map set_of c.as_slice-sets.result.now in
-      let f = filter_of modification.filter in
-      let name = string_bytes modification.table in
-      let tables = map shown_info c.args.tables.now in
-      let info : RustTableInfo = c.in_ok-table.table.now in
-      let named : IsSoundNamed tables name (shown_info info) = subst (λ n. IsSoundNamed tables n (shown_info info)) c.as_str.ensures.value c.in_ok-table.ensures in
-      let apart = sym c.repeats_set.ensures ∙ c.if-repeats_set.false in
-      let command = plain.Update name sets f in
-      let fault : Fault = c.in_err-documents.field-0.0 in
-      let is : c.from_residual-in_err-documents.result ≡ Err fault = search rules in
-      subst (λ (x : Command). WritesIn g.S.Store tables c.args.store.now c.chosen_documents.new.store x c.from_residual-in_err-documents.result) (λ i. plain.Update name (map set_of (c.as_slice-sets.ensures.value i)) f)
-      (plans_failed g.S.Store command name (due sets f) (made sets f) (touches sets f) (is_write sets f name apart) c.args.store.now c.chosen_documents.new.store tables (shown_info info) c.is_in_order.ensures.order named fault c.from_residual-in_err-documents.result is (λ content has.
-      inl c.in_err-documents.ensures.cause));
+  told = fails g.S.Store c.args.modification.now c.as_slice-sets.result.now c.in_ok-table.table.now (map shown_info c.args.tables.now) c.args.store.now c.chosen_documents.new.store c.is_in_order.ensures.order c.as_slice-sets.ensures.value (sym c.repeats_set.ensures ∙ c.if-repeats_set.false) _ c.as_str.ensures.value c.in_ok-table.ensures c.in_err-documents.field-0.0 c.from_residual-in_err-documents.result (search rules) (λ content has.
+      inl c.in_err-documents.ensures.cause);
   only = search rules;
   live = search rules;
 }
 
 pub returns-in_err-docids : goal.returns-in_err-docids
 returns-in_err-docids g c = record {
-  told =
-      let modification = c.args.modification.now in
-      let sets = map set_of c.as_slice-sets.result.now in
-      let f = filter_of modification.filter in
-      let name = string_bytes modification.table in
-      let tables = map shown_info c.args.tables.now in
-      let info : RustTableInfo = c.in_ok-table.table.now in
-      let named : IsSoundNamed tables name (shown_info info) = subst (λ n. IsSoundNamed tables n (shown_info info)) c.as_str.ensures.value c.in_ok-table.ensures in
-      let apart = sym c.repeats_set.ensures ∙ c.if-repeats_set.false in
-      let command = plain.Update name sets f in
-      let fault : Fault = faults.Memory in
-      let is : c.from_residual-in_err-docids.result ≡ Err fault = search rules in
-      subst (λ (x : Command). WritesIn g.S.Store tables c.args.store.now c.chosen_documents.new.store x c.from_residual-in_err-docids.result) (λ i. plain.Update name (map set_of (c.as_slice-sets.ensures.value i)) f)
-      (plans_failed g.S.Store command name (due sets f) (made sets f) (touches sets f) (is_write sets f name apart) c.args.store.now c.chosen_documents.new.store tables (shown_info info) c.is_in_order.ensures.order named fault c.from_residual-in_err-docids.result is (λ content has.
-      inl (inr refl)));
+  told = fails g.S.Store c.args.modification.now c.as_slice-sets.result.now c.in_ok-table.table.now (map shown_info c.args.tables.now) c.args.store.now c.chosen_documents.new.store c.is_in_order.ensures.order c.as_slice-sets.ensures.value (sym c.repeats_set.ensures ∙ c.if-repeats_set.false) _ c.as_str.ensures.value c.in_ok-table.ensures faults.Memory c.from_residual-in_err-docids.result (search rules) (λ content has.
+      inl (inr refl));
   only = search rules;
   live = search rules;
 }
 
 pub returns-in_err-is_taken : goal.returns-in_err-is_taken
 returns-in_err-is_taken g c = record {
-  told =
-      let modification = c.args.modification.now in
-      let sets = map set_of c.as_slice-sets.result.now in
-      let f = filter_of modification.filter in
-      let name = string_bytes modification.table in
-      let tables = map shown_info c.args.tables.now in
-      let info : RustTableInfo = c.in_ok-table.table.now in
-      let named : IsSoundNamed tables name (shown_info info) = subst (λ n. IsSoundNamed tables n (shown_info info)) c.as_str.ensures.value c.in_ok-table.ensures in
-      let apart = sym c.repeats_set.ensures ∙ c.if-repeats_set.false in
-      let command = plain.Update name sets f in
-      let fault : Fault = c.in_err-is_taken.field-0.0 in
-      let is : c.from_residual-in_err-is_taken.result ≡ Err fault = search rules in
-      subst (λ (x : Command). WritesIn g.S.Store tables c.args.store.now c.has_document.new.store x c.from_residual-in_err-is_taken.result) (λ i. plain.Update name (map set_of (c.as_slice-sets.ensures.value i)) f)
-      (plans_failed g.S.Store command name (due sets f) (made sets f) (touches sets f) (is_write sets f name apart) c.args.store.now c.has_document.new.store tables (shown_info info) c.is_in_order.ensures.order named fault c.from_residual-in_err-is_taken.result is (λ content has.
-      inl c.in_err-is_taken.ensures.faults));
+  told = fails g.S.Store c.args.modification.now c.as_slice-sets.result.now c.in_ok-table.table.now (map shown_info c.args.tables.now) c.args.store.now c.has_document.new.store c.is_in_order.ensures.order c.as_slice-sets.ensures.value (sym c.repeats_set.ensures ∙ c.if-repeats_set.false) _ c.as_str.ensures.value c.in_ok-table.ensures c.in_err-is_taken.field-0.0 c.from_residual-in_err-is_taken.result (search rules) (λ content has.
+      inl c.in_err-is_taken.ensures.faults);
   only = looks_then g.S.Store c.args.store.now c.chosen_documents.new.store c.has_document.new.store c.in_ok-documents.ensures.only c.has_document.ensures.looks c.in_ok-documents.ensures.live;
   live = search rules;
 }
 
 pub returns-in-Some-moves_fault : goal.returns-in-Some-moves_fault
 returns-in-Some-moves_fault g c = record {
-  told =
-      let modification = c.args.modification.now in
+  told = fails g.S.Store c.args.modification.now c.as_slice-sets.result.now c.in_ok-table.table.now (map shown_info c.args.tables.now) c.args.store.now c.has_document.new.store c.is_in_order.ensures.order c.as_slice-sets.ensures.value (sym c.repeats_set.ensures ∙ c.if-repeats_set.false) _ c.as_str.ensures.value c.in_ok-table.ensures c.in-Some-moves_fault.fault (Err c.in-Some-moves_fault.fault) refl (λ content has.
       let sets = map set_of c.as_slice-sets.result.now in
-      let f = filter_of modification.filter in
-      let name = string_bytes modification.table in
-      let tables = map shown_info c.args.tables.now in
+      let f = filter_of c.args.modification.now.filter in
       let info : RustTableInfo = c.in_ok-table.table.now in
-      let named : IsSoundNamed tables name (shown_info info) = subst (λ n. IsSoundNamed tables n (shown_info info)) c.as_str.ensures.value c.in_ok-table.ensures in
-      let apart = sym c.repeats_set.ensures ∙ c.if-repeats_set.false in
-      let command = plain.Update name sets f in
-      let fault : Fault = c.in-Some-moves_fault.fault in
-      subst (λ (x : Command). WritesIn g.S.Store tables c.args.store.now c.has_document.new.store x (Err fault)) (λ i. plain.Update name (map set_of (c.as_slice-sets.ensures.value i)) f)
-      (plans_failed g.S.Store command name (due sets f) (made sets f) (touches sets f) (is_write sets f name apart) c.args.store.now c.has_document.new.store tables (shown_info info) c.is_in_order.ensures.order named fault (Err fault) refl (λ content has.
       let cols = c.as_slice-columns.result.now in
       let columns_are : content.columns ≡ map column_of cols = has.columns_are ∙ ap (map column_of) (sym c.as_slice-columns.ensures.value) in
       let table = c.as_str-2.result.now in
@@ -219,29 +169,16 @@ returns-in-Some-moves_fault g c = record {
       let listed = docids_shown documents ∙ sym (c.as_slice.ensures.value ∙ numbers ∙ ap (map (λ (d : Document). d.docid)) c.deref.ensures.value) in
       let known = subst (λ (b : Bool). IfSome c.set_docid-given.result (λ docid. has_docid content.documents docid ≡ b)) (sym taken) (given_is content.documents c.set_docid-given.result) in
       let moved = c.moves_fault.ensures content.documents (map shown_document documents) (docids_in sets) listed given known in
-      inr (subst (λ n. due sets f n content ≡ Some fault) c.as_str-2.ensures.value
-      (moves_due sets f content cols columns_are table tested fine ∙ ap (λ ds. moves_fault content.documents ds (docids_in sets)) (sym found) ∙ sym moved ∙ c.in-Some-moves_fault.is))));
+      inr (subst (λ n. due sets f n content ≡ Some c.in-Some-moves_fault.fault) c.as_str-2.ensures.value
+      (moves_due sets f content cols columns_are table tested fine ∙ ap (λ ds. moves_fault content.documents ds (docids_in sets)) (sym found) ∙ sym moved ∙ c.in-Some-moves_fault.is)));
   only = looks_then g.S.Store c.args.store.now c.chosen_documents.new.store c.has_document.new.store c.in_ok-documents.ensures.only c.has_document.ensures.looks c.in_ok-documents.ensures.live;
   live = search rules;
 }
 
 pub returns-in_err-rewrites : goal.returns-in_err-rewrites
 returns-in_err-rewrites g c = record {
-  told =
-      let modification = c.args.modification.now in
-      let sets = map set_of c.as_slice-sets.result.now in
-      let f = filter_of modification.filter in
-      let name = string_bytes modification.table in
-      let tables = map shown_info c.args.tables.now in
-      let info : RustTableInfo = c.in_ok-table.table.now in
-      let named : IsSoundNamed tables name (shown_info info) = subst (λ n. IsSoundNamed tables n (shown_info info)) c.as_str.ensures.value c.in_ok-table.ensures in
-      let apart = sym c.repeats_set.ensures ∙ c.if-repeats_set.false in
-      let command = plain.Update name sets f in
-      let fault : Fault = faults.Memory in
-      let is : c.from_residual-in_err-rewrites.result ≡ Err fault = search rules in
-      subst (λ (x : Command). WritesIn g.S.Store tables c.args.store.now c.has_document.new.store x c.from_residual-in_err-rewrites.result) (λ i. plain.Update name (map set_of (c.as_slice-sets.ensures.value i)) f)
-      (plans_failed g.S.Store command name (due sets f) (made sets f) (touches sets f) (is_write sets f name apart) c.args.store.now c.has_document.new.store tables (shown_info info) c.is_in_order.ensures.order named fault c.from_residual-in_err-rewrites.result is (λ content has.
-      inl (inr refl)));
+  told = fails g.S.Store c.args.modification.now c.as_slice-sets.result.now c.in_ok-table.table.now (map shown_info c.args.tables.now) c.args.store.now c.has_document.new.store c.is_in_order.ensures.order c.as_slice-sets.ensures.value (sym c.repeats_set.ensures ∙ c.if-repeats_set.false) _ c.as_str.ensures.value c.in_ok-table.ensures faults.Memory c.from_residual-in_err-rewrites.result (search rules) (λ content has.
+      inl (inr refl));
   only = looks_then g.S.Store c.args.store.now c.chosen_documents.new.store c.has_document.new.store c.in_ok-documents.ensures.only c.has_document.ensures.looks c.in_ok-documents.ensures.live;
   live = search rules;
 }

@@ -1,12 +1,19 @@
--- by what the store holds
-use Rattle.std.proofs.Common.{subst}
-use Rattle.std.specs.Prelude.{IsTrue, IfOk}
-use Rattle.std.proofs.lemmas.Result.{IfOk-weaker}
+-- by what the store holds, and the marks as they are read
+use Rattle.std.proofs.Common.{◌≡◌, ap, subst, ◌∙◌, rules, tests}
+use Rattle.std.specs.List.{list_all}
+use Rattle.std.specs.Prelude.{IsTrue}
+use Rattle.std.proofs.lemmas.Iterator.{YieldsList-from_slice}
+use Rattle.std.proofs.lemmas.Iterator.Search.{all_from_yields_List}
+use Rattle.ft_values.specs.declared.table.TableInfo.{TableInfo}
+use Rattle.ft_store.specs.Kept.{value_in}
 use Rattle.ft_content.specs.Deserved.{Contents}
 use Rattle.ft_index.specs.Kept.{FullText, Holds, AreSound}
+use Rattle.ft_index.proofs.CheckLemmas.{all_are_sound}
 use Rattle.ft_index.proofs.full_text.FullText.check_all.Goals as goal
 
 pub returns-clause-all : goal.returns-clause-all
 returns-clause-all g c = λ up.
-    subst (λ (k : FullText g.row.S.Denot). IfOk c.check_all.result (λ all. (contents : Contents) → Holds g.S.Store k contents → (IsTrue all → AreSound contents) × (AreSound contents → IsTrue all))) c.self.view_is
-    (IfOk-weaker c.check_all.result _ _ (λ all is contents holds. is contents holds.held) (c.check_all.ensures.all up.clean))
+    let all : c.all.result ≡ list_all (λ (t : TableInfo). t.sound) c.in_ok-tables.tables.items =
+    all_from_yields_List (λ (t : TableInfo). t.sound) _ _ c.all.result c.all.ensures.ran (YieldsList-from_slice c.deref.result.now cc) (λ x b q k. search (rules, tests)) ∙ ap (list_all (λ (t : TableInfo). t.sound)) c.deref.ensures.value in
+    subst (λ (k : FullText g.row.S.Denot). (contents : Contents) → Holds g.S.Store k contents → (IsTrue c.all.result → AreSound contents) × (AreSound contents → IsTrue c.all.result)) c.self.view_is
+    (λ contents holds. all_are_sound (value_in g.S.Store c.self.inside.store) c.in_ok-tables.tables.items contents c.all.result (c.in_ok-tables.ensures.told up.clean) holds.held all)
