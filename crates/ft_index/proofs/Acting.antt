@@ -1,5 +1,5 @@
 -- Commands that read, and then change rows.
-use Rattle.std.proofs.Common.{◌≡◌, ◌⊎◌, inl, inr, ℕ, Bool, true, false, cond, List, [], ◌∷◌, map, None, Some, Result, Ok, Err, ℤ, refl, sym, ap, subst, ◌∙◌, arith}
+use Rattle.std.proofs.Common.{◌≡◌, ◌⊎◌, inl, inr, ℕ, Bool, true, false, cond, List, [], ◌∷◌, map, None, Some, Result, Err, ℤ, refl, sym, ap, subst, ◌∙◌, arith}
 use Rattle.std.specs.Prelude.{IsTrue}
 use Rattle.sqlite_trees.specs.View.{doubt}
 use Rattle.sqlite.specs.Effect.{Database}
@@ -10,16 +10,16 @@ use Rattle.ft_store.specs.Kept.{StoreState, shows, value_in}
 use Rattle.ft_values.specs.declared.fault.Fault.{Fault}
 use Rattle.ft_values.specs.declared.fault.Fault.TheVariants as faults
 use Rattle.ft_content.specs.Content.{Content, Documents, same_name}
-use Rattle.ft_content.specs.Command.{Command, Reply, Done}
+use Rattle.ft_content.specs.Command.{Command, Reply}
 use Rattle.ft_content.specs.Views.{TableInfo}
 use Rattle.ft_content.specs.Deserved.{TableState, Sound, Stale, Loose, Table, Contents, deserved}
-use Rattle.ft_content.specs.Step.{after, reply_to, with_documents, on_table}
+use Rattle.ft_content.specs.Step.{after, with_documents, on_table}
 use Rattle.ft_index.specs.DocumentsRead.{Looks}
 use Rattle.ft_index.specs.Kept.{IsUp, AreHeld, Executes, Answers, is_outside, told_table}
 use Rattle.ft_index.specs.Changed.{Changed, with_tables}
 use Rattle.ft_index.specs.Written.{PlansTo}
 use Rattle.ft_index.proofs.CreateLemmas.{refused_answers}
-use Rattle.ft_index.proofs.Executing.{reached, executes_planned, executes_refused}
+use Rattle.ft_index.proofs.Executing.{executes_refused}
 
 -- ---- the tables that are told stay
 

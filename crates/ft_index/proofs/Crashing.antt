@@ -1,5 +1,5 @@
 -- What a crash leaves of commands.
-use Rattle.std.proofs.Common.{◌≡◌, inl, List, None, Ok, refl, sym, ap, subst, arith}
+use Rattle.std.proofs.Common.{◌≡◌, inl, List, None, refl, sym, ap, subst, arith}
 use Rattle.std.specs.Prelude.{IsTrue}
 use Rattle.sqlite_trees.specs.View.{doubt}
 use Rattle.sqlite.specs.Tree.{Trees}
@@ -16,10 +16,9 @@ use Rattle.ft_content.specs.Step.{after, step, step_by}
 use Rattle.ft_index.specs.DocumentsRead.{Looks}
 use Rattle.ft_index.specs.Kept.{IsUp, AreHeld, StoreHolds}
 use Rattle.ft_index.specs.Changed.{with_tables}
-use Rattle.ft_index.specs.Written.{PlansTo}
 use Rattle.ft_index.specs.Crashes.{CommandSurvives}
 use Rattle.ft_index.proofs.Acting.{looks_same}
-use Rattle.ft_index.proofs.Executing.{Reaches, reached}
+use Rattle.ft_index.proofs.Executing.{Reaches}
 use Rattle.ft_index.proofs.ReadsLemmas.{nothing_done}
 
 -- what may be committed may be said otherwise

@@ -1,11 +1,10 @@
 //! What a MATCH finds in a table's index.
-ghost use Rattle.std.specs.Prelude.{◌≡◌, ◌^◌, ◌<◌, ◌⊎◌, ℕ, List, map, option_map, Ok, IfOk, OnOk};
+ghost use Rattle.std.specs.Prelude.{◌≡◌, ◌^◌, ◌<◌, ℕ, List, map, option_map, Ok, IfOk, OnOk};
 ghost use Rattle.ft_query.specs.Trees.{tree_of};
 ghost use Rattle.ft_query.specs.Work.{entry_count};
 ghost use Rattle.ft_query.specs.Occurs.{plain_hit};
 ghost use Rattle.ft_query.specs.Walk.{StandsBefore};
 ghost use Rattle.ft_store.specs.Kept.{more_rows};
-ghost use Rattle.ft_values.specs.declared.fault.Fault.TheVariants as faults;
 ghost use Rattle.ft_content.specs.Content.{Content};
 ghost use Rattle.ft_content.specs.Meaning.{content_documents};
 ghost use Rattle.ft_content.specs.Command.{Match};
@@ -45,17 +44,6 @@ fn opened<'q, S: Alter>(
     Matches::open(alloc, query, lists)
 }
 
-fn fault_of(fault: ListFault) -> Fault
-    ensures failed { fault ≡ ListFault.Failed → result ≡ faults.Store }
-    ensures memory { fault ≡ ListFault.Memory → result ≡ faults.Memory }
-    ensures either { (result ≡ faults.Store) ⊎ (result ≡ faults.Memory) }
-{
-    match fault {
-        ListFault::Failed => Fault::Store,
-        ListFault::Memory => Fault::Memory,
-    }
-}
-
 /// The documents that a MATCH chooses by the lists of a table's index, the first ones where a number
 /// is given, each with its offsets where they are wanted. One read for each term of its text's
 /// query: without a query there are none, and nothing is read. The store is only read, whatever is
@@ -87,6 +75,7 @@ pub(crate) fn matched<S: Alter>(
     let mut lists = TableLists::new(store, tab);
     match opened(alloc, query, &mut lists) {
         Ok(mut walk) => Ok(taken(alloc, &mut walk, wants_offsets, most)?),
-        Err(fault) => Err(fault_of(fault)),
+        Err(ListFault::Failed) => Err(Fault::Store),
+        Err(ListFault::Memory) => Err(Fault::Memory),
     }
 }
