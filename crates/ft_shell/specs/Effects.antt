@@ -2,27 +2,27 @@
 -- choice).
 use Rattle.std.specs.Prelude.{ℕ, Bool, false, List, [], ◌++◌, ◌+◌}
 use Rattle.ft_index.specs.Called.{Call}
-use Rattle.plain_shell.specs.Told.{Told}
+use Rattle.plain_shell.specs.Outcomes.{Outcome}
 
 -- what one or more turns tell, and the calls that they make of the full-text tables
-pub record Deeds : Type 0 where
+pub record Effects : Type 0 where
   pub out : List ℕ
   pub err : List ℕ
   pub faults : ℕ
   pub ends : Bool
   pub calls : List Call
 
-abbrev pub idle : Deeds
+abbrev pub idle : Effects
 idle = record { out = []; err = []; faults = 0; ends = false; calls = [] }
 
-abbrev pub told_by : Deeds → Told
-told_by all = record { out = all.out; err = all.err; faults = all.faults; ends = all.ends }
+abbrev pub outcome_in : Effects → Outcome
+outcome_in all = record { out = all.out; err = all.err; faults = all.faults; ends = all.ends }
 
-abbrev pub deeds_of : Told → List Call → Deeds
-deeds_of told calls = record { out = told.out; err = told.err; faults = told.faults; ends = told.ends; calls = calls }
+abbrev pub effects_of : Outcome → List Call → Effects
+effects_of told calls = record { out = told.out; err = told.err; faults = told.faults; ends = told.ends; calls = calls }
 
 -- what turns do, and then what the turns after them do
-abbrev pub and_then : Deeds → Deeds → Deeds
+abbrev pub and_then : Effects → Effects → Effects
 and_then first rest = record {
   out = first.out ++ rest.out;
   err = first.err ++ rest.err;

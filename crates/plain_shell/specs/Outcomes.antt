@@ -7,7 +7,7 @@ use Rattle.ft_statements.specs.Texts.{fault_line}
 
 -- what one or more turns write on the two outputs, how many fault lines are among it, and whether
 -- the session ends there
-pub record Told : Type 0 where
+pub record Outcome : Type 0 where
   pub out : List ℕ
   pub err : List ℕ
   pub faults : ℕ
@@ -61,8 +61,8 @@ fault_count (Some text) = 1
 
 -- What is written for an answer to what begins on the line of this number. Where bail is on, a
 -- fault ends the session.
-abbrev pub told_of : Bool → ℕ → Answer → Told
-told_of bail line answer = record {
+abbrev pub outcome_of : Bool → ℕ → Answer → Outcome
+outcome_of bail line answer = record {
   out = answer.out;
   err = answer.warnings ++ fault_lines line answer.fault;
   faults = fault_count answer.fault;
@@ -74,5 +74,5 @@ abbrev pub echo_text : Bool → List ℕ → List ℕ
 echo_text echo text = if echo then text ++ 10 ∷ [] else []
 
 -- so they stand before what it tells
-abbrev pub echoed : Settings → List ℕ → Told → Told
+abbrev pub echoed : Settings → List ℕ → Outcome → Outcome
 echoed settings text told = record told { out = echo_text settings.echo text ++ told.out }

@@ -1,21 +1,26 @@
 -- Steps. An input that is read piece by piece (own choice).
-use Rattle.std.specs.Prelude.{ℕ, ◌≡◌, ⊤, List, [], ◌∷◌, ◌++◌, Option, Some, None, Result, Ok, Err}
+use Rattle.std.specs.Prelude.{ℕ, ◌≡◌, ◌==◌, false, ⊤, List, [], ◌∷◌, ◌++◌, Option, Some, None, Result, Ok, Err}
+use Rattle.std.specs.List.{list_any}
 use Rattle.shell_text.specs.Units.{Member, Fault, lines_of}
 use Rattle.shell_text.specs.declared.units.SplitFault.{SplitFault}
 use Rattle.shell_text.specs.declared.units.SplitFault.TheVariants as fault
 use Rattle.shell_text.specs.declared.units.Unit.{Unit as SeenUnit}
 use Rattle.shell_text.specs.Splitting.{Splitting, given_by, member_of_unit}
-use Rattle.plain_shell.specs.declared.feed.Refusal.{Refusal}
+use Rattle.plain_shell.specs.declared.line_reader.Refusal.{Refusal}
 
 -- what was read of an input: the lines that ended, and the bytes so far of the line that is being
 -- read
-pub record Fed : Type 0 where
+pub record LinesRead : Type 0 where
   pub splitting : Splitting
   pub line : List ℕ
 
+-- no line feed stands in these bytes
+abbrev pub HasNoEnd : List ℕ → Type 0
+HasNoEnd bytes = list_any (λ b. b == 10) bytes ≡ false
+
 -- the members that are still to come, where the input goes on with these bytes
-abbrev pub members_left : Fed → List ℕ → List Member
-members_left fed rest = fed.splitting.waiting ++ given_by fed.splitting.reading (lines_of (fed.line ++ rest))
+abbrev pub members_left : LinesRead → List ℕ → List Member
+members_left read rest = read.splitting.waiting ++ given_by read.splitting.reading (lines_of (read.line ++ rest))
 
 abbrev pub refused_as : Option Refusal → List Member
 refused_as None = []
