@@ -9,7 +9,7 @@ ghost use Rattle.ft_content.specs.Views.{bare_content, cells_of, column_of};
 
 use crate::columns::has_column;
 use crate::names::is_docid;
-use crate::value::{copied_value, docid_under, has_nul, is_text, is_too_long};
+use crate::value::{docid_under, has_nul, is_text, is_too_long};
 use ft_values::{Column, Fault, Value, same_name};
 use std::alloc::{AllocError, Global};
 
@@ -174,35 +174,18 @@ pub fn row_docid(names: &[&str], row: &[Value]) -> Option<i64>
     }
 }
 
-// The first value of a row under a column's name.
-fn value_under<'a>(names: &[&str], row: &'a [Value], column: &str) -> Option<&'a Value>
-    ensures { option_map (λ v. shown_value v.now) result
-        ≡ option_map (λ v. v.1) (find (λ v. content.same_name v.0 column.now)
-        (zip (map (λ n. n.now) names.now) (map shown_value row.now))) }
-{
-    let found = names
-        .iter()
-        .zip(row.iter())
-        .find(|(name, _)| same_name(name, column));
-    match found {
-        Some((_, value)) => Some(value),
-        None => None,
-    }
-}
-
 // What a row has for a column.
-fn cell_under(
-    alloc: Global,
-    names: &[&str],
-    row: &[Value],
-    column: &Column,
-) -> Result<Value, AllocError>
+fn cell_under(names: &[&str], row: &[Value], column: &Column) -> Result<Value, AllocError>
     ensures { IfOk result (λ cell. shown_value cell
         ≡ deserved.value_under (zip (map (λ n. n.now) names.now) (map shown_value row.now))
         (column_of column.now) stored.Null) }
 {
-    match value_under(names, row, column.name.as_str()) {
-        Some(value) => copied_value(alloc, value),
+    let found = names
+        .iter()
+        .zip(row.iter())
+        .find(|(name, _)| same_name(name, column.name.as_str()));
+    match found {
+        Some((_, value)) => value.clone(),
         None => Ok(Value::Null),
     }
 }
@@ -220,7 +203,7 @@ pub fn new_cells(
 {
     let mut cells = Vec::new(alloc);
     for column in columns {
-        cells.push(cell_under(alloc, names, row, column)?)?;
+        cells.push(cell_under(names, row, column)?)?;
     }
     Ok(cells)
 }

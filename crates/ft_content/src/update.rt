@@ -9,7 +9,7 @@ ghost use Rattle.ft_content.specs.Views.{bare_content, cells_of, column_of, set_
 use crate::columns::{has_column, names_unknown};
 use crate::command::Filter;
 use crate::names::{add_small, is_docid};
-use crate::value::{copied_value, docid_under, has_nul, is_null, is_text, is_too_long};
+use crate::value::{docid_under, has_nul, is_null, is_text, is_too_long};
 use ft_values::{Column, Fault, Value, same_name};
 use std::alloc::{AllocError, Global};
 use std::collections::BTreeSet;
@@ -137,33 +137,18 @@ pub fn set_docid(sets: &[(String, Value)]) -> Option<i64>
     }
 }
 
-// The first value that is set under a column's name.
-fn value_set<'a>(sets: &'a [(String, Value)], column: &str) -> Option<&'a Value>
-    ensures { option_map (λ v. shown_value v.now) result
-        ≡ option_map (λ s. s.1) (find (λ s. content.same_name s.0 column.now)
-        (map set_of sets.now)) }
-{
-    let found = sets.iter().find(|set| same_name(set.0.as_str(), column));
-    match found {
-        Some(set) => Some(&set.1),
-        None => None,
-    }
-}
-
 // A cell after these values are set.
-fn cell_after(
-    alloc: Global,
-    sets: &[(String, Value)],
-    column: &Column,
-    cell: &Value,
-) -> Result<Value, AllocError>
+fn cell_after(sets: &[(String, Value)], column: &Column, cell: &Value) -> Result<Value, AllocError>
     ensures { IfOk result (λ after. shown_value after
         ≡ deserved.value_under (map set_of sets.now) (column_of column.now)
         (shown_value cell.now)) }
 {
-    match value_set(sets, column.name.as_str()) {
-        Some(value) => copied_value(alloc, value),
-        None => copied_value(alloc, cell),
+    let found = sets
+        .iter()
+        .find(|set| same_name(set.0.as_str(), column.name.as_str()));
+    match found {
+        Some(set) => set.1.clone(),
+        None => cell.clone(),
     }
 }
 
@@ -180,7 +165,7 @@ pub fn with_values(
 {
     let mut after = Vec::new(alloc);
     for (column, cell) in columns.iter().zip(cells.iter()) {
-        after.push(cell_after(alloc, sets, column, cell)?)?;
+        after.push(cell_after(sets, column, cell)?)?;
     }
     Ok(after)
 }
