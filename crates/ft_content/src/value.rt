@@ -7,18 +7,6 @@ ghost use Rattle.ft_content.specs.Deserved as deserved;
 use crate::names::is_docid;
 use ft_values::Value;
 
-pub(crate) fn is_text(value: &Value) -> bool
-    ensures { result ≡ deserved.is_text (shown_value value.now) }
-{
-    matches!(value, Value::Text(_))
-}
-
-pub(crate) fn is_null(value: &Value) -> bool
-    ensures { result ≡ deserved.is_null (shown_value value.now) }
-{
-    matches!(value, Value::Null)
-}
-
 /// Whether a value is a text over 1,000,000 bytes.
 pub fn is_too_long(value: &Value) -> bool
     ensures { result ≡ content.is_too_long (shown_value value.now) }

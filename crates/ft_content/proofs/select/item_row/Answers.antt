@@ -1,7 +1,7 @@
 -- the cells with the offsets as they are given
 use mir.Val.{to_z, of_z}
-use Rattle.std.proofs.Common.{◌≡◌, ◌++◌, ℕ, ℤ, List, [], ◌∷◌, refl, map, sym, ap, ◌∙◌, rules}
-use Rattle.std.specs.List.{flat_map, AllZip}
+use Rattle.std.proofs.Common.{◌≡◌, ◌++◌, ℕ, ℤ, List, [], ◌∷◌, map, sym, ap, ◌∙◌, rules}
+use Rattle.std.specs.List.{flat_map}
 use Rattle.std.specs.Int.{w64}
 use Rattle.std.proofs.lemmas.List.{map-append, take_all}
 use Rattle.std.proofs.lemmas.Grind.{common_steps}
@@ -13,6 +13,7 @@ use Rattle.ft_content.specs.Command as plain
 use Rattle.ft_content.specs.Answer.{cells_with, named_cell, offsets_cell}
 use Rattle.ft_content.specs.Views.{bare_content, cells_of, item_of}
 use Rattle.ft_content.proofs.AnswerLemmas.{item_cells_are, offsets_unasked}
+use Rattle.ft_content.proofs.Lists.{copies}
 use Rattle.ft_content.proofs.select.item_row.Goals as goal
 use Rattle.ft_content.proofs.select.item_row.Goals.{Joined-item, in-All+in_ok-extend_with_clones-in-All, in-Name+in_ok-named_cell-in-Name+in_ok-push-in-Name, in-Offsets+in_ok-to_string-in-Offsets+in_ok-push-in-Offsets}
 
@@ -24,13 +25,6 @@ whole c =
     ∙ ap (λ (items : List Item). flat_map (cells (to_z w64 (of_z w64 c.args.docid))) (map item_of items)) (take_all c.loop-item.item-index c.args.items.now c.loop-item-test.false)
     ∙ ap (λ (docid : ℤ). flat_map (cells docid) (map item_of c.args.items.now)) back
 
--- copies hold what the cells hold
-copies : {R : Value → Value → Type 0} (same : (x y : Value) → R x y → shown_value y ≡ shown_value x) (cells copied : List Value) → AllZip R cells copied → map shown_value copied ≡ map shown_value cells
-copies same [] [] h = refl
-copies same (x ∷ xs) (y ∷ ys) h = λ i. same x y h.0 i ∷ copies same xs ys h.1 i
-copies same [] (y ∷ ys) h = absurd h
-copies same (x ∷ xs) [] h = absurd h
-
 added : (c : Joined-item) → cells_of c.match-item.row ≡ cells_of c.loop-item.row ++ cells_with (Text c.args.offsets.now) (bare_content c.args.columns.now) (to_z w64 (of_z w64 c.args.docid), map shown_value c.args.cells.now) (item_of c.item-item.result)
 added c =
     let rest = cells_of c.loop-item.row in
@@ -41,7 +35,7 @@ added c =
       | in-All+in_ok-extend_with_clones-in-All w ↦
           let h = w.in_ok-extend_with_clones-in-All.ensures.items in
           ap cells_of w.row-is ∙ ap (map shown_value) h.1 ∙ map-append shown_value c.loop-item.row.items h.0
-          ∙ ap (λ cells. rest ++ cells) (copies (λ x y r. search rules) c.args.cells.now h.0 h.2 ∙ ap seen (sym w.in-All.is))
+          ∙ ap (λ cells. rest ++ cells) (copies shown_value (λ x y r. search rules) c.args.cells.now h.0 h.2 ∙ ap seen (sym w.in-All.is))
       | in-Name+in_ok-named_cell-in-Name+in_ok-push-in-Name w ↦
           ap cells_of w.row-is ∙ ap (map shown_value) w.in_ok-push-in-Name.ensures.items ∙ map-append shown_value c.loop-item.row.items (w.in_ok-named_cell-in-Name.field-0 ∷ [])
           ∙ ap (λ cells. rest ++ cells) (ap (λ (cell : Cell). cell ∷ []) (w.in_ok-named_cell-in-Name.ensures ∙ ap (named_cell content document) w.deref.ensures) ∙ ap seen (sym w.in-Name.is))
