@@ -1,7 +1,7 @@
 -- Tests of mapped lists.
 use Rattle.std.proofs.Common.{◌≡◌, ◌+◌, Bool, true, false, cond, not, nat_lt, ◌&&◌, ◌||◌, List, [], ◌∷◌, map, length, None, Some, refl, ap}
 use Rattle.std.specs.Prelude.{position}
-use Rattle.std.specs.List.{list_any, list_all, position_or_len}
+use Rattle.std.specs.List.{AllZip, list_any, list_all, position_or_len}
 use Rattle.std.proofs.lemmas.List.{length-map}
 
 pub any_of_map : {X Y : Type 0} (p : Y → Bool) (h : X → Y) (xs : List X) → list_any p (map h xs) ≡ list_any (λ x. p (h x)) xs
@@ -25,6 +25,13 @@ length_of_map h xs = length-map xs h
 pub map_of_map : {X Y Z : Type 0} (g : Y → Z) (h : X → Y) (xs : List X) → map g (map h xs) ≡ map (λ x. g (h x)) xs
 map_of_map g h [] = refl
 map_of_map g h (x ∷ xs) = ap (λ zs. g (h x) ∷ zs) (map_of_map g h xs)
+
+-- copies show what was copied
+pub copies : {X Y : Type 0} (f : X → Y) {R : X → X → Type 0} (same : (x y : X) → R x y → f y ≡ f x) (xs ys : List X) → AllZip R xs ys → map f ys ≡ map f xs
+copies f same [] [] h = refl
+copies f same (x ∷ xs) (y ∷ ys) h = λ i. same x y h.0 i ∷ copies f same xs ys h.1 i
+copies f same [] (y ∷ ys) h = absurd h
+copies f same (x ∷ xs) [] h = absurd h
 
 pub neither : (x y : Bool) → (x || y) ≡ false → (x ≡ false) × (y ≡ false)
 neither true y h = absurd (let no = h in cc)

@@ -36,16 +36,9 @@ pub fn docid_for_row(last: Option<i64>, given: Option<i64>, is_taken: bool) -> R
         → deserved.insert_row documents docids cells ≡ placed documents cells result }
 {
     match given {
-        Some(docid) => {
-            if is_taken {
-                return Err(Fault::DocidTaken(docid));
-            }
-            Ok(docid)
-        }
-        None => match next_docid(last) {
-            Some(docid) => Ok(docid),
-            None => Err(Fault::DocidFull),
-        },
+        Some(docid) if is_taken => Err(Fault::DocidTaken(docid)),
+        Some(docid) => Ok(docid),
+        None => next_docid(last).ok_or(Fault::DocidFull),
     }
 }
 
@@ -57,27 +50,10 @@ pub fn moves_fault(chosen: &[i64], given: Option<i64>, is_taken: bool) -> Option
         → IfSome given (λ docid. deserved.has_docid documents docid ≡ is_taken)
         → result ≡ deserved.moves_fault documents picked docids }
 {
-    match given {
-        None => None,
-        Some(docid) => move_fault(chosen, docid, is_taken),
-    }
-}
-
-// The same where this docid is set.
-fn move_fault(chosen: &[i64], docid: i64, is_taken: bool) -> Option<Fault>
-    ensures { (documents picked : Documents) → step.docids_of picked ≡ chosen.now
-        → deserved.has_docid documents docid ≡ is_taken
-        → result ≡ deserved.move_fault documents picked docid }
-{
+    let docid = given?;
     match chosen {
         [] => None,
-        [only] => {
-            if is_taken && *only != docid {
-                Some(Fault::DocidTaken(docid))
-            } else {
-                None
-            }
-        }
+        [only] if !is_taken || *only == docid => None,
         _ => Some(Fault::DocidTaken(docid)),
     }
 }
