@@ -80,6 +80,10 @@ cells_unread offsets content docid one other (OffsetsOf name ∷ items) none = a
 
 -- ---- rows of hits
 
+-- no cell is needed where no item is a column
+pub row_unread : (columns : List Column) (items : List Item) (content : Content) (cells : List Cell) (hit : Hit) → list_any is_column items ≡ false → hit_cells columns items (λ docid. cells) hit ≡ hit_cells columns items (cells_at content) hit
+row_unread columns items content cells h none = cells_unread (Text (offsets_text h.offsets.items)) (record { columns = columns; documents = [] }) h.docid cells (cells_at content h.docid) items none
+
 same_each : {D X : Type 0} (again : D → D) (F : D → D → X) (ds : List D) → map again ds ≡ ds → map (λ d. F d (again d)) ds ≡ map (λ d. F d d) ds
 same_each again F [] h = refl
 same_each {D} again F (d ∷ ds) h =
@@ -144,14 +148,6 @@ module _ (name : List ℕ) (content : Content) (f : Filter) (columns : List Colu
       ∙ by_documents answered_here ∙ same_each (λ (d : ℤ × List Cell). document_at content d.0) row_of answered_here again ∙ rows_are answered_here
       ∙ sym (cut_of_map (λ (d : ℤ × List Cell). flat_map (item_cells query content d) items) limit offset (chosen content f))
 
-  -- no cell is needed where no item is a column
-  pub hit_rows_unread : (hits : List Hit) → list_any is_column items ≡ false → map plain_hit hits ≡ cut limit offset (map (told wanted) (chosen_hits content f)) → map (hit_cells columns items (λ docid. [])) hits ≡ cut limit offset (item_rows query content items (chosen content f))
-  hit_rows_unread hits none are = each hits ∙ hit_rows hits are
-    where
-      each : (hs : List Hit) → map (hit_cells columns items (λ docid. [])) hs ≡ map (hit_cells columns items (cells_at content)) hs
-      each [] = refl
-      each (h ∷ hs) = λ i. cells_unread (Text (offsets_text h.offsets.items)) (record { columns = columns; documents = [] }) h.docid [] (cells_at content h.docid) items none i ∷ each hs i
-
   pub as_many : (hits : List Hit) → map plain_hit hits ≡ cut limit offset (map (told wanted) (chosen_hits content f)) → length hits ≡ length answered_here
   as_many hits are = sym (length-map hits plain_hit) ∙ ap length (are ∙ answered_hits) ∙ length-map (map (hit_read content query) answered_here) (told wanted) ∙ length-map answered_here (hit_read content query)
 
@@ -191,12 +187,15 @@ counted_both rows middle last m n before here = omega arith
 pub hits_answered : (limit most : Option ℕ) (offset : ℕ) (hits answered : List Hit) (all : List PlainHit) → answered ≡ cut limit offset hits → map plain_hit hits ≡ cut most 0 all → cut limit offset (cut most 0 all) ≡ cut limit offset all → map plain_hit answered ≡ cut limit offset all
 hits_answered limit most offset hits answered all is found enough = ap (map plain_hit) is ∙ sym (cut_of_map plain_hit limit offset hits) ∙ ap (cut limit offset) found ∙ enough
 
-pub asked_with : (content : Content) (items : List Item) (f : Filter) (limit : Option ℕ) (offset : ℕ) (n : ℕ) → list_any is_column items ≡ true → n ≡ length (cut limit offset (chosen content f)) →
-    entries_asked content (query_in content f) + length content.columns * n ≡ rows_asked content (Listed items) f limit offset
+-- of the documents that are answered each is read where an item is a column
+pub asked_items : (content : Content) (items : List Item) (f : Filter) (limit : Option ℕ) (offset : ℕ) (n : ℕ) → n ≡ length (cut limit offset (chosen content f)) →
+    entries_asked content (query_in content f) + cond (list_any is_column items) (length content.columns) 0 * n ≡ rows_asked content (Listed items) f limit offset
 unfolding rows_asked
-asked_with content items f limit offset n has many =
-    let entries = entries_asked content (query_in content f) in
-    ap (λ m. entries + length content.columns * m) many ∙ sym (ap (λ b. entries + cond b (length content.columns * length (cut limit offset (chosen content f))) 0) has)
+asked_items content items f limit offset n many = go (list_any is_column items)
+  where
+    go : (b : Bool) → entries_asked content (query_in content f) + cond b (length content.columns) 0 * n ≡ entries_asked content (query_in content f) + cond b (length content.columns * length (cut limit offset (chosen content f))) 0
+    go true = ap (λ m. entries_asked content (query_in content f) + length content.columns * m) many
+    go false = grind arith
 
 none_more : (n : ℕ) → n ≡ n + 0
 none_more n = omega arith
@@ -247,12 +246,15 @@ listed_rows_are content columns items limit offset same ds is =
     ∙ rows_bare columns content items (cut limit offset (chosen content All)) same
     ∙ sym (cut_of_map (λ (d : ℤ × List Cell). flat_map (item_cells None content d) items) limit offset (chosen content All))
 
--- of documents nothing but the docid is read where no item is a column
-pub rows_unread : (content : Content) (items : List Item) (ds : Documents) → list_any is_column items ≡ false → item_rows None content items (map (λ (k : ℤ). (k, [])) (map (λ (d : ℤ × List Cell). d.0) ds)) ≡ item_rows None content items ds
-rows_unread content items [] none = refl
-rows_unread content items (d ∷ ds) none =
-    let one = item_cells_are None content (d.0, []) items ∙ cells_unread (Text (offsets_text [])) content d.0 [] d.1 items none ∙ sym (item_cells_are None content d items) in
-    λ i. one i ∷ rows_unread content items ds none i
+-- the rows of hits without offsets
+pub bare_hit_rows : (columns : List Column) (content : Content) (items : List Item) (hits : List Hit) (docids : List ℤ) → map plain_hit hits ≡ map (λ (k : ℤ). record { docid = k; offsets = [] }) docids →
+    map (hit_cells columns items (cells_at content)) hits ≡ item_rows None (record { columns = columns; documents = [] }) items (map (document_at content) docids)
+bare_hit_rows columns content items hits docids are =
+    plain_rows columns (record { columns = columns; documents = [] }) items (cells_at content) hits refl ∙ ap (map (row_with (record { columns = columns; documents = [] }) items (cells_at content))) are ∙ each docids
+  where
+    each : (ks : List ℤ) → map (row_with (record { columns = columns; documents = [] }) items (cells_at content)) (map (λ (k : ℤ). record { docid = k; offsets = [] }) ks) ≡ item_rows None (record { columns = columns; documents = [] }) items (map (document_at content) ks)
+    each [] = refl
+    each (k ∷ ks) = λ i. sym (item_cells_are None (record { columns = columns; documents = [] }) (document_at content k) items) i ∷ each ks i
 
 -- the documents of docids that are answered
 pub documents_again : (name : List ℕ) (content : Content) (limit : Option ℕ) (offset : ℕ) → IsContent name content → (docids : List ℤ) → docids ≡ cut limit offset (map (λ (d : ℤ × List Cell). d.0) content.documents) →

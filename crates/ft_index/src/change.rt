@@ -19,19 +19,10 @@ pub(crate) fn change_rows<S: Alter>(
 ) -> Result<(), Fault>
     ensures { MakesRows S.Store store.old store.new (map shown_change changes.now) result }
 {
-    store.change(changes)?;
-    Ok(())
+    Ok(store.change(changes)?)
 }
 
-/// Makes all changes or none, where the store is open: it is asked first.
-fn change_asked<S: Alter>(store: &mut Store<S>, changes: &[RowChange]) -> Result<(), Fault>
-    ensures { MakesAsked S.Store store.old store.new (map shown_change changes.now) result }
-{
-    store.ping()?;
-    change_rows(store, changes)
-}
-
-/// Notes a name, where the store is open.
+/// Notes a name, where the store is open: it is asked first.
 pub(crate) fn note_name<S: Alter>(
     alloc: Global,
     store: &mut Store<S>,
@@ -41,7 +32,8 @@ pub(crate) fn note_name<S: Alter>(
 {
     let mut changes = Vec::new(alloc);
     changes.push(RowChange::Note(String::from_str(alloc, name)?))?;
-    change_asked(store, changes.as_slice())
+    store.ping()?;
+    change_rows(store, changes.as_slice())
 }
 
 /// The noted names, where the store is open.

@@ -41,13 +41,6 @@ pub(crate) fn check_table<S: Alter>(
     }
 }
 
-// Whether all tables are marked sound.
-fn are_sound(tables: &[TableInfo]) -> bool
-    ensures { result ≡ list_all (λ t. t.sound) tables.now }
-{
-    tables.iter().all(|table| table.sound)
-}
-
 /// Whether every table is sound, by the rows as they are read. The store is only read, whatever is
 /// answered.
 pub(crate) fn check_all<S: Alter>(alloc: Global, store: &mut Store<S>) -> Result<bool, Fault>
@@ -58,5 +51,5 @@ pub(crate) fn check_all<S: Alter>(alloc: Global, store: &mut Store<S>) -> Result
     ensures looks { Looks S.Store store.old store.new }
 {
     let tables = opened_tables(alloc, store)?;
-    Ok(are_sound(tables.as_slice()))
+    Ok(tables.iter().all(|table| table.sound))
 }

@@ -18,10 +18,10 @@ use crate::documents::{all_documents, document};
 use crate::matching::matched;
 use ft_content::{Fault, Filter, Value};
 use ft_documents::Document;
-use ft_query::{Hit, Query};
+use ft_query::Query;
 use ft_store::Store;
 use sqlite::Alter;
-use std::alloc::{AllocError, Global};
+use std::alloc::Global;
 
 /// The documents that a filter chooses, by rising docid, where the text of a MATCH reads as this
 /// query. The table is read once for all documents, and otherwise each chosen document is. The
@@ -44,8 +44,8 @@ pub(crate) fn chosen_documents<S: Alter>(
         Filter::All => all_documents(alloc, store, tab),
         Filter::Docid(docid) => one_document(alloc, store, tab, *docid),
         Filter::Match { .. } => {
-            let hits = matched(store, alloc, tab, query, false, None)?;
-            let docids = docids_of(alloc, hits.as_slice())?;
+            let hits = matched(alloc, store, tab, query, false, None)?;
+            let docids: Vec<i64> = hits.iter().map(|hit| hit.docid).collect(alloc)?;
             documents_under(alloc, store, tab, docids.as_slice())
         }
     }
@@ -71,13 +71,6 @@ fn one_document<S: Alter>(
     Ok(documents)
 }
 
-// The docids of hits.
-fn docids_of(alloc: Global, hits: &[Hit]) -> Result<Vec<i64>, AllocError>
-    ensures { IfOk result (λ docids. docids.items ≡ map (λ h. h.docid) hits.now) }
-{
-    hits.iter().map(|hit| hit.docid).collect(alloc)
-}
-
 /// The documents of docids. One that isn't there is a refusal by the store.
 pub(crate) fn documents_under<S: Alter>(
     alloc: Global,
@@ -91,12 +84,9 @@ pub(crate) fn documents_under<S: Alter>(
         ≡ map (document_at content) docids.now)) }
 {
     let mut documents = Vec::new(alloc);
-    for docid in docids {
-        let cells = found_cells(alloc, store, tab, *docid)?;
-        documents.push(Document {
-            docid: *docid,
-            cells,
-        })?;
+    for &docid in docids {
+        let cells = found_cells(alloc, store, tab, docid)?;
+        documents.push(Document { docid, cells })?;
     }
     Ok(documents)
 }
@@ -115,8 +105,5 @@ pub(crate) fn found_cells<S: Alter>(
     ensures counted { IfOk result (λ cells. store.new.rows_read
         ≡ more_rows (vec_len cells) store.old) }
 {
-    let Some(cells) = document(alloc, store, tab, docid)? else {
-        return Err(Fault::Store);
-    };
-    Ok(cells)
+    document(alloc, store, tab, docid)?.ok_or(Fault::Store)
 }

@@ -18,7 +18,7 @@ use ft_store::Store;
 use sqlite::Alter;
 use std::alloc::{AllocError, Global};
 
-/// Answers a Delete.
+/// Answers a Delete. One of all documents makes the table anew, and reads nothing of the store.
 pub(crate) fn delete_from<S: Alter>(
     alloc: Global,
     store: &mut Store<S>,
@@ -28,32 +28,15 @@ pub(crate) fn delete_from<S: Alter>(
     ensures { Does S.Store (with_tables store.old (map shown_info tables.now))
         (deletion_of deletion.now) result (with_tables store.new (map shown_info tables.now)) }
 {
+    store.is_in_order();
     if let Filter::All = &deletion.filter {
-        return delete_all(alloc, store, tables, deletion.table.as_str());
+        let table = sound_table(tables, deletion.table.as_str())?;
+        let rewrites = Vec::new(alloc);
+        make_anew(alloc, store, Some(Written { table, rewrites }))?;
+        return Ok(Reply::Done);
     }
     let written = delete_written(alloc, store, tables, deletion);
     write_found(alloc, store, written)
-}
-
-// Answers a Delete of all documents: the table is made anew. Nothing is read of the store.
-fn delete_all<S: Alter>(
-    alloc: Global,
-    store: &mut Store<S>,
-    tables: &[TableInfo],
-    table: &str,
-) -> Result<Reply, Fault>
-    ensures { Does S.Store (with_tables store.old (map shown_info tables.now))
-        (plain.Delete table.now plain.All) result (with_tables store.new
-        (map shown_info tables.now)) }
-{
-    store.is_in_order();
-    let known = sound_table(tables, table)?;
-    let anew = Written {
-        table: known,
-        rewrites: Vec::new(alloc),
-    };
-    make_anew(alloc, store, Some(anew))?;
-    Ok(Reply::Done)
 }
 
 /// The documents that a Delete removes, or its fault. The store is only read, whatever is answered.
@@ -68,12 +51,9 @@ pub(crate) fn delete_written<'t, S: Alter>(
         (deletion_of deletion.now) result) }
 {
     store.is_in_order();
-    let known = sound_table(tables, deletion.table.as_str())?;
-    let rewrites = written_by_delete(alloc, store, known, &deletion.filter)?;
-    Ok(Written {
-        table: known,
-        rewrites,
-    })
+    let table = sound_table(tables, deletion.table.as_str())?;
+    let rewrites = written_by_delete(alloc, store, table, &deletion.filter)?;
+    Ok(Written { table, rewrites })
 }
 
 // The rewrites of a Delete from a sound table, or its fault. The store is only read, whatever is

@@ -21,17 +21,6 @@ use ft_store::{CellRow, Store};
 use sqlite::Alter;
 use std::alloc::{AllocError, Global};
 
-/// The docid of a table's last document. The store is only read, whatever is answered.
-pub(crate) fn last_docid<S: Alter>(store: &mut Store<S>, tab: i64) -> Result<Option<i64>, Fault>
-    ensures { Asks S.Store store.old store.new result IsOutside
-        (IfOk result (λ last. (content : Content)
-        → HasRows S.Store tab store.old store.new content → views.last_docid content.documents
-        ≡ last)) }
-{
-    let last = store.last_docid(tab)?;
-    Ok(last)
-}
-
 /// The cells of the document of a docid, if there is one. The store is only read, whatever is
 /// answered.
 pub(crate) fn document<S: Alter>(
@@ -51,8 +40,7 @@ pub(crate) fn document<S: Alter>(
     if rows.is_empty() {
         return Ok(None);
     }
-    let cells = values_of(alloc, rows)?;
-    Ok(Some(cells))
+    Ok(Some(values_of(alloc, rows)?))
 }
 
 /// All documents of a table, by rising docid. The store is only read, whatever is answered.
@@ -66,9 +54,7 @@ pub(crate) fn all_documents<S: Alter>(
         → HasRows S.Store tab store.old store.new content → map shown_document found.items
         ≡ content.documents)) }
 {
-    let rows = store.cells(tab)?;
-    let documents = gathered(alloc, rows)?;
-    Ok(documents)
+    Ok(gathered(alloc, store.cells(tab)?)?)
 }
 
 /// The docids of a table's documents, rising: without the first `offset`, and at most `limit` of
@@ -90,14 +76,7 @@ pub(crate) fn docids<S: Alter>(
         return Ok(store.docids(tab, most, first)?);
     }
     let all = store.docids(tab, None, 0)?;
-    Ok(owned(alloc, cut(all.as_slice(), limit, offset))?)
-}
-
-// A copy of docids.
-fn owned(alloc: Global, docids: &[i64]) -> Result<Vec<i64>, AllocError>
-    ensures { IfOk result (λ owned. owned.items ≡ docids.now) }
-{
-    docids.to_vec(alloc)
+    Ok(cut(all.as_slice(), limit, offset).to_vec(alloc)?)
 }
 
 // A limit and an offset as the store takes them, if they are small enough.
@@ -138,9 +117,5 @@ fn values_of(alloc: Global, rows: Vec<CellRow>) -> Result<Vec<Value>, AllocError
     ensures { IfOk result (λ values. views.cells_of values
         ≡ map (λ row. shown_value row.value) rows.items) }
 {
-    let mut values = Vec::new(alloc);
-    for row in rows {
-        values.push(row.value)?;
-    }
-    Ok(values)
+    rows.into_iter().map(|row| row.value).collect(alloc)
 }

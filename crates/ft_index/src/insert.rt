@@ -13,7 +13,7 @@ ghost use Rattle.ft_documents.specs.Gathered.{has_given};
 ghost use Rattle.ft_documents.specs.Inserted.{Inserts};
 ghost use Rattle.ft_index.specs.Written.{HasAll, Writes, WritesIn};
 
-use crate::documents::{has_document, last_docid};
+use crate::documents::has_document;
 use crate::written::Written;
 use ft_content::{
     Column, Fault, Insertion, TableInfo, Value, insert_tests, listed_names, repeats_name, row_docid,
@@ -35,44 +35,18 @@ pub(crate) fn insert_written<'t, S: Alter>(
         (insertion_of insertion.now) result) }
 {
     store.is_in_order();
-    let table = insertion.table.as_str();
-    let columns = listed(&insertion.columns);
-    let rows = insertion.rows.as_slice();
-    if lists_twice(alloc, columns) {
+    let columns = insertion.columns.as_deref();
+    if repeats_name(alloc, columns.unwrap_or(&[])) {
         return Err(Fault::DuplicateColumn);
     }
-    let known = sound_table(tables, table)?;
-    let rewrites = written_by_insert(alloc, store, known, columns, rows)?;
-    Ok(Written {
-        table: known,
-        rewrites,
-    })
-}
-
-// The columns that an Insert lists.
-fn listed(columns: &Option<Vec<String>>) -> Option<&[String]>
-    ensures { option_map (λ n. map string_bytes n.now) result ≡ option_map names_in columns.now }
-{
-    match columns {
-        Some(names) => Some(names.as_slice()),
-        None => None,
-    }
-}
-
-// Whether a column is listed twice.
-fn lists_twice(alloc: Global, columns: Option<&[String]>) -> bool
-    ensures { result ≡ content.repeats_name (unwrap_or
-        (option_map (λ n. map string_bytes n.now) columns.entry) []) }
-{
-    match columns {
-        Some(names) => repeats_name(alloc, names),
-        None => false,
-    }
+    let table = sound_table(tables, insertion.table.as_str())?;
+    let rewrites = insert_rewrites(alloc, store, table, columns, insertion.rows.as_slice())?;
+    Ok(Written { table, rewrites })
 }
 
 // The rewrites of an Insert into a sound table, or its fault. The store is only read, whatever is
 // answered.
-fn written_by_insert<S: Alter>(
+fn insert_rewrites<S: Alter>(
     alloc: Global,
     store: &mut Store<S>,
     known: &TableInfo,
@@ -89,37 +63,12 @@ fn written_by_insert<S: Alter>(
         (λ n. map string_bytes n.now) columns.entry) (map cells_of rows.now))) result) }
 {
     let names = listed_names(alloc, known.columns.as_slice(), columns)?;
-    if let Some(fault) = insert_tests(known.columns.as_slice(), names.as_slice(), rows) {
+    let (columns, names) = (known.columns.as_slice(), names.as_slice());
+    if let Some(fault) = insert_tests(columns, names, rows) {
         return Err(fault);
     }
-    let rewrites = insert_rewrites(
-        alloc,
-        store,
-        known.id,
-        known.columns.as_slice(),
-        names.as_slice(),
-        rows,
-    )?;
-    Ok(rewrites)
-}
-
-/// The rewrites of the documents that rows make in a table, by rising docid, or the fault of the
-/// first row that fails. The store is only read, whatever is answered.
-pub(crate) fn insert_rewrites<S: Alter>(
-    alloc: Global,
-    store: &mut Store<S>,
-    tab: i64,
-    columns: &[Column],
-    names: &[&str],
-    rows: &[Vec<Value>],
-) -> Result<Vec<Rewrite>, Fault>
-    ensures { LooksTo S.Store store.old store.new result
-        ((content : Content) → HasRows S.Store tab store.old store.new content
-        → Inserts content.documents (insert_rows (map column_of columns.now) (map (zip (map
-        (λ n. n.now) names.now)) (map cells_of rows.now)) content.documents) result) }
-{
-    let last = last_docid(store, tab)?;
-    let stored = stored_docids(alloc, store, tab, names, rows)?;
+    let last = store.last_docid(known.id)?;
+    let stored = stored_docids(alloc, store, known.id, names, rows)?;
     let new = made_documents(alloc, last, columns, names, rows, stored.as_slice())?;
     let rewrites = new.into_rewrites()?;
     Ok(rewrites)

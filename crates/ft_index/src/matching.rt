@@ -56,41 +56,13 @@ fn fault_of(fault: ListFault) -> Fault
     }
 }
 
-/// The documents that a query finds by the lists of a table's index, the first ones where a number
-/// is given, each with its offsets where they are wanted. One read for each term of the query. The
-/// store is only read, whatever is answered.
-pub(crate) fn hits<S: Alter>(
-    store: &mut Store<S>,
-    alloc: Global,
-    tab: i64,
-    query: &Query,
-    wants_offsets: bool,
-    most: Option<u64>,
-) -> Result<Vec<Hit>, Fault>
-    ensures looks { LooksFor S.Store store.old store.new result IsOutside
-        (IfOk result (λ hits. (content : Content)
-        → IsIndexed S.Store tab store.old store.new content → map plain_hit hits.items
-        ≡ cut most 0 (map (told wants_offsets) (hits_of (tree_of query.now)
-        (content_documents content))))) }
-    ensures counted { OnOk result ((content : Content)
-        → IsIndexed S.Store tab store.old store.new content
-        → store.new.rows_read ≡ more_rows (entry_count (tree_of query.now)
-        (content_documents content)) store.old) }
-{
-    // So the count of rows is known to be of 64 bits.
-    let _read = store.rows_read();
-    let mut lists = TableLists::new(store, tab);
-    match opened(alloc, query, &mut lists) {
-        Ok(mut walk) => Ok(taken(alloc, &mut walk, wants_offsets, most)?),
-        Err(fault) => Err(fault_of(fault)),
-    }
-}
-
-/// The documents that a MATCH chooses, as `hits` gives them, by its text's query. Without a query
-/// there are none, and nothing is read.
+/// The documents that a MATCH chooses by the lists of a table's index, the first ones where a number
+/// is given, each with its offsets where they are wanted. One read for each term of its text's
+/// query: without a query there are none, and nothing is read. The store is only read, whatever is
+/// answered.
 pub(crate) fn matched<S: Alter>(
-    store: &mut Store<S>,
     alloc: Global,
+    store: &mut Store<S>,
     tab: i64,
     query: Option<&Query>,
     wants_offsets: bool,
@@ -109,8 +81,12 @@ pub(crate) fn matched<S: Alter>(
 {
     // So the count of rows is known to be of 64 bits.
     let _read = store.rows_read();
-    match query {
-        Some(query) => hits(store, alloc, tab, query, wants_offsets, most),
-        None => Ok(Vec::new(alloc)),
+    let Some(query) = query else {
+        return Ok(Vec::new(alloc));
+    };
+    let mut lists = TableLists::new(store, tab);
+    match opened(alloc, query, &mut lists) {
+        Ok(mut walk) => Ok(taken(alloc, &mut walk, wants_offsets, most)?),
+        Err(fault) => Err(fault_of(fault)),
     }
 }

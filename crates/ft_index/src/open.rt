@@ -1,11 +1,11 @@
 //! The tables of a store, as they are told when it is taken.
-ghost use Rattle.std.specs.Prelude.{ℤ, ℕ, List, map, IfOk};
+ghost use Rattle.std.specs.Prelude.{map, IfOk};
 ghost use Rattle.sqlite.specs.State.{HasCleanDisk};
 ghost use Rattle.ft_store.specs.Calls.{IsPlainFault};
 ghost use Rattle.ft_store.specs.Kept.{shows, value_in};
 ghost use Rattle.ft_content.specs.Views.{shown_info};
 ghost use Rattle.ft_index.specs.DocumentsRead.{Asks};
-ghost use Rattle.ft_index.specs.Opened.{IsListed, IsMarked, AreMarked};
+ghost use Rattle.ft_index.specs.Opened.{AreMarked};
 
 use crate::standing::read_standing;
 use ft_content::TableInfo;
@@ -13,28 +13,6 @@ use ft_documents::listed_columns;
 use ft_store::{Store, StoreFault, TabRow};
 use sqlite::Alter;
 use std::alloc::Global;
-
-/// A table that is listed, with its mark. The store is only read, whatever is answered.
-fn opened_table<S: Alter>(
-    alloc: Global,
-    store: &mut Store<S>,
-    table: TabRow,
-) -> Result<TableInfo, StoreFault>
-    ensures { Asks S.Store store.old store.new result IsPlainFault
-        ((named : ℤ × List ℕ) → HasCleanDisk (shows S.Store store.new)
-        → IsListed (value_in S.Store store.old) named table
-        → IfOk result (λ info. IsMarked (value_in S.Store store.old) named (shown_info info))) }
-{
-    let columns = listed_columns(alloc, &table)?;
-    let standing = read_standing(alloc, store, &table)?;
-    let TabRow { id, name, .. } = table;
-    Ok(TableInfo {
-        id,
-        name,
-        columns,
-        sound: standing.is_sound(),
-    })
-}
 
 /// All tables of a store by rising id, each with its mark. The store is only read, whatever is
 /// answered.
@@ -50,7 +28,15 @@ pub(crate) fn opened_tables<S: Alter>(
     let rows = store.tables()?;
     let mut tables = Vec::new(alloc);
     for row in rows {
-        tables.push(opened_table(alloc, store, row)?)?;
+        let columns = listed_columns(alloc, &row)?;
+        let sound = read_standing(alloc, store, &row)?.is_sound();
+        let TabRow { id, name, .. } = row;
+        tables.push(TableInfo {
+            id,
+            name,
+            columns,
+            sound,
+        })?;
     }
     Ok(tables)
 }

@@ -13,8 +13,6 @@ pub(crate) fn optimize(tables: &[TableInfo], table: &str) -> Result<Reply, Fault
     ensures { (contents : Contents) → map shown_info tables.now ≡ map told_table contents →
         Answers contents (plain.Optimize table.now) (answer_of result) contents }
 {
-    match sound_table(tables, table) {
-        Ok(_) => Ok(Reply::Done),
-        Err(fault) => Err(fault),
-    }
+    sound_table(tables, table)?;
+    Ok(Reply::Done)
 }

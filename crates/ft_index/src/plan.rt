@@ -1,9 +1,7 @@
 //! The row changes that commands ask for.
 ghost use Rattle.std.specs.Prelude.{map};
-ghost use Rattle.ft_content.specs.Command as plain;
 ghost use Rattle.ft_content.specs.Views.{shown_info, command_of};
 ghost use Rattle.ft_index.specs.DocumentsRead.{Looks};
-ghost use Rattle.ft_index.specs.Planned.{PlansOver};
 ghost use Rattle.ft_index.specs.Written.{PlansIn};
 
 use crate::check::check_table;
@@ -50,35 +48,13 @@ pub(crate) fn planned_changes<S: Alter>(
         ),
         Command::Select(select) => select_changes(alloc, tables, select),
         Command::Rebuild { table } => rebuild_changes(alloc, store, tables, table.as_str()),
-        Command::Check { table } => check_changes(alloc, store, tables, table.as_str()),
-        Command::Optimize { table } => optimize_changes(alloc, tables, table.as_str()),
+        Command::Check { table } => {
+            check_table(alloc, store, tables, table.as_str())?;
+            Ok(Vec::new(alloc))
+        }
+        Command::Optimize { table } => {
+            optimize(tables, table.as_str())?;
+            Ok(Vec::new(alloc))
+        }
     }
-}
-
-// The row changes of a Check, which are none, or its fault. The store is only read, whatever is
-// answered.
-fn check_changes<S: Alter>(
-    alloc: Global,
-    store: &mut Store<S>,
-    tables: &[TableInfo],
-    table: &str,
-) -> Result<Vec<RowChange>, Fault>
-    ensures plans { PlansIn S.Store (map shown_info tables.now) store.old store.new
-        (plain.Check table.now) result }
-    ensures looks { Looks S.Store store.old store.new }
-{
-    check_table(alloc, store, tables, table)?;
-    Ok(Vec::new(alloc))
-}
-
-// The row changes of an Optimize, which are none, or its fault.
-fn optimize_changes(
-    alloc: Global,
-    tables: &[TableInfo],
-    table: &str,
-) -> Result<Vec<RowChange>, Fault>
-    ensures { PlansOver tables.now (plain.Optimize table.now) result }
-{
-    optimize(tables, table)?;
-    Ok(Vec::new(alloc))
 }

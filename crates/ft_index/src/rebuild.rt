@@ -50,8 +50,7 @@ pub(crate) fn rebuild_changes<S: Alter>(
 {
     let known = named_table(tables, table)?;
     let anew = rebuilt(alloc, store, known)?;
-    let changes = anew_changes(alloc, &anew)?;
-    Ok(changes)
+    Ok(anew_changes(alloc, &anew)?)
 }
 
 // The table with the documents that it is made anew with, none where its rows are right as they are
@@ -59,24 +58,21 @@ pub(crate) fn rebuild_changes<S: Alter>(
 fn rebuilt<'t, S: Alter>(
     alloc: Global,
     store: &mut Store<S>,
-    known: &'t TableInfo,
+    table: &'t TableInfo,
 ) -> Result<Option<Written<'t>>, Fault>
     ensures { LooksTo S.Store store.old store.new result
         ((tables : List views.TableInfo) (name : List ℕ)
-        → info_named tables name ≡ Some (shown_info known.now)
+        → info_named tables name ≡ Some (shown_info table.now)
         → RebuildsIn S.Store tables store.old store.new (plain.Rebuild name) result) }
 {
     store.is_in_order();
-    let standing = standing_under(alloc, store, known.id)?;
+    let standing = standing_under(alloc, store, table.id)?;
     match standing {
         Standing::Sound => Ok(None),
         Standing::Stale => {
-            let documents = all_documents(alloc, store, known.id)?;
+            let documents = all_documents(alloc, store, table.id)?;
             let rewrites = additions(alloc, documents)?;
-            Ok(Some(Written {
-                table: known,
-                rewrites,
-            }))
+            Ok(Some(Written { table, rewrites }))
         }
         Standing::Loose => Err(Fault::Corrupt),
     }

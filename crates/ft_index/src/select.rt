@@ -1,10 +1,10 @@
 //! Answers of a Select.
-ghost use Rattle.std.specs.Prelude.{◌≡◌, ◌⊎◌, ◌+◌, ◌*◌, ◌<◌, ◌^◌, ℕ, List, [], Option, None, Some, map, option_map, length, pos, true, false, string_bytes, IsTrue, IfOk, IfErr, OnOk};
+ghost use Rattle.std.specs.Prelude.{◌≡◌, ◌⊎◌, ◌+◌, ◌*◌, ◌<◌, ◌^◌, if◌then◌else◌, ℕ, List, [], Option, None, Some, map, option_map, length, pos, true, false, string_bytes, IsTrue, IfOk, IfErr, OnOk};
 ghost use Rattle.std.specs.List.{list_any};
 ghost use Rattle.sqlite.specs.State.{HasCleanDisk};
 ghost use Rattle.ft_query.specs.Trees.{tree_of};
 ghost use Rattle.ft_query.specs.Occurs as occurs;
-ghost use Rattle.ft_query.specs.Occurs.{PlainHit};
+ghost use Rattle.ft_query.specs.Occurs.{PlainHit, plain_hit};
 ghost use Rattle.ft_values.specs.Cells.{shown_value};
 ghost use Rattle.ft_store.specs.Kept.{shows, more_rows};
 ghost use Rattle.ft_values.specs.declared.fault.Fault.TheVariants as faults;
@@ -25,14 +25,14 @@ ghost use Rattle.ft_index.specs.RowsRead.{rows_asked, CountsRows};
 ghost use Rattle.ft_documents.specs.Chosen.{ReadsAs, cells_at};
 ghost use Rattle.ft_index.specs.Selected.{hit_cells, IsOf, IsAsked};
 
-use crate::chosen::{chosen_documents, documents_under, found_cells};
+use crate::chosen::{chosen_documents, found_cells};
 use crate::documents::docids;
 use crate::matching::matched;
 use ft_content::{
     Column, Fault, Filter, Grid, Item, Items, Reply, Selection, TableInfo, Value, answer_names,
-    any_offsets, count_rows, cut, is_docid, item_row, read_query, select_tests,
+    any_offsets, count_rows, cut, is_docid, item_row, select_tests,
 };
-use ft_documents::{Document, sound_table};
+use ft_documents::{Document, filter_query, sound_table};
 use ft_query::{Hit, Query, offsets_text};
 use ft_store::{RowChange, Store};
 use sqlite::Alter;
@@ -60,8 +60,10 @@ pub(crate) fn select_from<S: Alter>(
     store.is_in_order();
     let info = sound_table(tables, select.table.as_str())?;
     let query = select_query(alloc, info, select)?;
-    let grid = select_grid(alloc, store, info, select, query.as_ref())?;
-    Ok(Reply::Rows(grid))
+    let columns = info.columns.as_slice();
+    let rows = selected_rows(alloc, store, info.id, columns, select, query.as_ref())?;
+    let names = answer_names(alloc, info.name.as_str(), columns, &select.items)?;
+    Ok(Reply::Rows(Grid { names, rows }))
 }
 
 /// The row changes of a Select, which are none, or its fault.
@@ -89,46 +91,14 @@ fn select_query(alloc: Global, info: &TableInfo, select: &Selection) -> Result<O
         (items_of select.now.items) (filter_of select.now.filter) ≡ Some fault)) }
 {
     let columns = info.columns.as_slice();
-    let Selection { items, filter, .. } = select;
-    if let Some(fault) = select_tests(info.name.as_str(), columns, items, filter) {
+    if let Some(fault) = select_tests(info.name.as_str(), columns, &select.items, &select.filter) {
         return Err(fault);
     }
-    match filter {
-        Filter::Match { name, query } => read_query(alloc, columns, name.as_str(), query.as_str()),
-        Filter::All | Filter::Docid(_) => Ok(None),
-    }
+    filter_query(alloc, columns, &select.filter)
 }
 
-/// What a table and its content answer.
-fn select_grid<S: Alter>(
-    alloc: Global,
-    store: &mut Store<S>,
-    info: &TableInfo,
-    select: &Selection,
-    query: Option<&Query>,
-) -> Result<Grid, Fault>
-    ensures looks { LooksFor S.Store store.old store.new result IsOutside
-        (IfOk result (λ grid. (content : Content) → IsAsked S.Store info.now.id
-        (map column_of info.now.columns.items) (items_of select.now.items)
-        (filter_of select.now.filter) (option_map (λ q. tree_of q.now) query.entry) store.old
-        store.new content → grid_of grid ≡ answer.answer (string_bytes info.now.name) content
-        (items_of select.now.items) (filter_of select.now.filter) select.now.limit
-        select.now.offset)) }
-    ensures counted { OnOk result ((content : Content)
-        → IsAsked S.Store info.now.id (map column_of info.now.columns.items)
-        (items_of select.now.items) (filter_of select.now.filter)
-        (option_map (λ q. tree_of q.now) query.entry) store.old store.new content
-        → IsTrue (deserved.is_match (filter_of select.now.filter))
-        → store.new.rows_read ≡ more_rows (rows_asked content (items_of select.now.items)
-        (filter_of select.now.filter) select.now.limit select.now.offset) store.old) }
-{
-    let columns = info.columns.as_slice();
-    let rows = selected_rows(alloc, store, info.id, columns, select, query)?;
-    let names = answer_names(alloc, info.name.as_str(), columns, &select.items)?;
-    Ok(Grid { names, rows })
-}
-
-/// The rows of an answer.
+/// The rows of an answer. A walk stops where no more hits are answered, and of all documents with a
+/// limit, or without columns, just those are read that are answered.
 fn selected_rows<S: Alter>(
     alloc: Global,
     store: &mut Store<S>,
@@ -150,24 +120,27 @@ fn selected_rows<S: Alter>(
         → store.new.rows_read ≡ more_rows (rows_asked content (items_of select.now.items)
         (filter_of select.now.filter) select.now.limit select.now.offset) store.old) }
 {
-    match &select.items {
-        Items::Count => {
-            let count = chosen_count(alloc, store, tab, &select.filter, query)?;
-            Ok(count_rows(alloc, count, select.limit, select.offset)?)
+    let Items::List(items) = &select.items else {
+        let count = chosen_count(alloc, store, tab, &select.filter, query)?;
+        return Ok(count_rows(alloc, count, select.limit, select.offset)?);
+    };
+    let items = items.as_slice();
+    match &select.filter {
+        Filter::Match { .. } => {
+            let most = most_hits(select.limit, select.offset);
+            let hits = matched(alloc, store, tab, query, any_offsets(items), most)?;
+            let answered = cut(hits.as_slice(), select.limit, select.offset);
+            hit_rows(alloc, store, tab, columns, items, answered)
         }
-        Items::List(list) => {
-            let list = list.as_slice();
-            match &select.filter {
-                Filter::Match { .. } => {
-                    matched_rows(alloc, store, tab, columns, list, query, select)
-                }
-                Filter::All if select.limit.is_some() || !has_column(list) => {
-                    listed_rows(alloc, store, tab, columns, list, select)
-                }
-                Filter::All | Filter::Docid(_) => {
-                    read_rows(alloc, store, tab, columns, list, select)
-                }
-            }
+        Filter::All if select.limit.is_some() || !has_column(items) => {
+            let docids = docids(alloc, store, tab, select.limit, select.offset)?;
+            let hits = bare_hits(alloc, docids.as_slice())?;
+            hit_rows(alloc, store, tab, columns, items, hits.as_slice())
+        }
+        Filter::All | Filter::Docid(_) => {
+            let documents = chosen_documents(alloc, store, tab, &select.filter, query)?;
+            let answered = cut(documents.as_slice(), select.limit, select.offset);
+            Ok(document_rows(alloc, columns, items, answered)?)
         }
     }
 }
@@ -192,81 +165,23 @@ fn chosen_count<S: Alter>(
         (query_in content (filter_of filter.now))) store.old) }
 {
     match filter {
-        Filter::Match { .. } => {
-            let hits = matched(store, alloc, tab, query, false, None)?;
-            Ok(hits.len() as i64)
-        }
-        Filter::All => {
-            let docids = docids(alloc, store, tab, None, 0)?;
-            Ok(docids.len() as i64)
-        }
-        Filter::Docid(_) => {
-            let documents = chosen_documents(alloc, store, tab, filter, None)?;
-            Ok(documents.len() as i64)
-        }
+        Filter::Match { .. } => Ok(matched(alloc, store, tab, query, false, None)?.len() as i64),
+        Filter::All => Ok(docids(alloc, store, tab, None, 0)?.len() as i64),
+        Filter::Docid(_) => Ok(chosen_documents(alloc, store, tab, filter, None)?.len() as i64),
     }
 }
 
-/// The rows of all documents, of which just those are read that are answered, and no text where
-/// no item is a column.
-fn listed_rows<S: Alter>(
-    alloc: Global,
-    store: &mut Store<S>,
-    tab: i64,
-    columns: &[Column],
-    items: &[Item],
-    select: &Selection,
-) -> Result<Vec<Vec<Value>>, Fault>
-    ensures { LooksFor S.Store store.old store.new result IsOutside
-        (IfOk result (λ found. (content : Content) → IsAsked S.Store tab
-        (map column_of columns.now) (plain.Listed (map item_of items.now)) plain.All None store.old
-        store.new content → rows_of found ≡ answer.cut select.now.limit select.now.offset
-        (answer.answer_rows content (plain.Listed (map item_of items.now)) plain.All))) }
+// Hits of docids, without offsets.
+fn bare_hits(alloc: Global, docids: &[i64]) -> Result<Vec<Hit>, AllocError>
+    ensures { IfOk result (λ hits. map plain_hit hits.items
+        ≡ map (λ docid. record { docid = docid; offsets = [] }) docids.now) }
 {
-    let docids = docids(alloc, store, tab, select.limit, select.offset)?;
-    if !has_column(items) {
-        let documents = bare_documents(alloc, docids.as_slice())?;
-        return Ok(document_rows(alloc, columns, items, documents.as_slice())?);
+    let mut hits = Vec::new(alloc);
+    for &docid in docids {
+        let offsets = Vec::new(alloc);
+        hits.push(Hit { docid, offsets })?;
     }
-    let documents = documents_under(alloc, store, tab, docids.as_slice())?;
-    Ok(document_rows(alloc, columns, items, documents.as_slice())?)
-}
-
-// The documents of docids without their cells.
-fn bare_documents(alloc: Global, docids: &[i64]) -> Result<Vec<Document>, AllocError>
-    ensures { IfOk result (λ documents. map shown_document documents.items
-        ≡ map (λ docid. (docid, [])) docids.now) }
-{
-    let mut documents = Vec::new(alloc);
-    for docid in docids {
-        documents.push(Document {
-            docid: *docid,
-            cells: Vec::new(alloc),
-        })?;
-    }
-    Ok(documents)
-}
-
-/// The rows of the documents that a filter without MATCH chooses.
-fn read_rows<S: Alter>(
-    alloc: Global,
-    store: &mut Store<S>,
-    tab: i64,
-    columns: &[Column],
-    items: &[Item],
-    select: &Selection,
-) -> Result<Vec<Vec<Value>>, Fault>
-    ensures { LooksFor S.Store store.old store.new result IsOutside
-        (IfOk result (λ found. (content : Content) → IsAsked S.Store tab
-        (map column_of columns.now) (plain.Listed (map item_of items.now))
-        (filter_of select.now.filter) None store.old store.new content
-        → deserved.is_match (filter_of select.now.filter) ≡ false → rows_of found
-        ≡ answer.cut select.now.limit select.now.offset (answer.answer_rows content (plain.Listed
-        (map item_of items.now)) (filter_of select.now.filter)))) }
-{
-    let documents = chosen_documents(alloc, store, tab, &select.filter, None)?;
-    let answered = cut(documents.as_slice(), select.limit, select.offset);
-    Ok(document_rows(alloc, columns, items, answered)?)
+    Ok(hits)
 }
 
 // A row for each document, without offsets.
@@ -288,40 +203,6 @@ fn document_rows(
     Ok(rows)
 }
 
-/// The rows of the documents that a MATCH chooses. The walk stops where no more hits are answered,
-/// and a document is read only where an item is a column and its row is answered.
-fn matched_rows<S: Alter>(
-    alloc: Global,
-    store: &mut Store<S>,
-    tab: i64,
-    columns: &[Column],
-    items: &[Item],
-    query: Option<&Query>,
-    select: &Selection,
-) -> Result<Vec<Vec<Value>>, Fault>
-    ensures looks { LooksFor S.Store store.old store.new result IsOutside
-        (IfOk result (λ found. (content : Content) (name text : List ℕ)
-        → IsAsked S.Store tab (map column_of columns.now) (plain.Listed (map item_of items.now))
-        (Match name text) (option_map
-        (λ q. tree_of q.now) query.entry) store.old store.new content → rows_of found
-        ≡ answer.cut select.now.limit select.now.offset (answer.answer_rows content (plain.Listed
-        (map item_of items.now)) (Match name text)))) }
-    ensures counted { OnOk result ((content : Content) (name text : List ℕ)
-        → IsAsked S.Store tab (map column_of columns.now) (plain.Listed (map item_of items.now))
-        (Match name text) (option_map (λ q. tree_of q.now) query.entry) store.old store.new content
-        → store.new.rows_read ≡ more_rows (rows_asked content (plain.Listed (map item_of items.now))
-        (Match name text) select.now.limit select.now.offset) store.old) }
-{
-    let most = most_hits(select.limit, select.offset);
-    let hits = matched(store, alloc, tab, query, any_offsets(items), most)?;
-    let answered = cut(hits.as_slice(), select.limit, select.offset);
-    if has_column(items) {
-        cell_rows(alloc, store, tab, columns, items, answered)
-    } else {
-        Ok(bare_rows(alloc, columns, items, answered)?)
-    }
-}
-
 // How many hits a walk has to find: all of them where it says none.
 fn most_hits(limit: Option<u64>, offset: u64) -> Option<u64>
     ensures none { limit ≡ None → result ≡ None }
@@ -329,49 +210,22 @@ fn most_hits(limit: Option<u64>, offset: u64) -> Option<u64>
     ensures enough { (hits : List PlainHit)
         → answer.cut limit offset (answer.cut result 0 hits) ≡ answer.cut limit offset hits }
 {
-    match limit {
-        Some(limit) => offset.checked_add(limit),
-        None => None,
-    }
-}
-
-fn is_column(item: &Item) -> bool
-    ensures { result ≡ rows.is_column (item_of item.now) }
-{
-    match item {
-        Item::All => true,
-        Item::Name(name) => !is_docid(name.as_str()),
-        Item::Offsets(_) => false,
-    }
+    offset.checked_add(limit?)
 }
 
 // Whether cells of documents are asked for.
 fn has_column(items: &[Item]) -> bool
     ensures { result ≡ list_any rows.is_column (map item_of items.now) }
 {
-    items.iter().any(|item| is_column(item))
+    items.iter().any(|item| match item {
+        Item::All => true,
+        Item::Name(name) => !is_docid(name.as_str()),
+        Item::Offsets(_) => false,
+    })
 }
 
-// A row for each hit, without cells.
-fn bare_rows(
-    alloc: Global,
-    columns: &[Column],
-    items: &[Item],
-    hits: &[Hit],
-) -> Result<Vec<Vec<Value>>, AllocError>
-    ensures { IfOk result (λ found. rows_of found
-        ≡ map (hit_cells (map column_of columns.now) (map item_of items.now) (λ docid. []))
-        hits.now) }
-{
-    let mut rows = Vec::new(alloc);
-    for hit in hits {
-        rows.push(hit_row(alloc, columns, items, hit, &[])?)?;
-    }
-    Ok(rows)
-}
-
-// A row for each hit, with the cells of its document, which is read.
-fn cell_rows<S: Alter>(
+// A row for each hit, with the cells of its document, which is read where an item is a column.
+fn hit_rows<S: Alter>(
     alloc: Global,
     store: &mut Store<S>,
     tab: i64,
@@ -386,44 +240,22 @@ fn cell_rows<S: Alter>(
         (cells_at content)) hits.now)) }
     ensures counted { OnOk result ((content : Content)
         → HasRows S.Store tab store.old store.new content
-        → store.new.rows_read ≡ more_rows (length content.columns * length hits.now) store.old) }
+        → store.new.rows_read ≡ more_rows ((if list_any rows.is_column (map item_of items.now)
+        then length content.columns else 0) * length hits.now) store.old) }
 {
     // So the count of rows is known to be of 64 bits.
     let _read = store.rows_read();
+    let reads = has_column(items);
     let mut rows = Vec::new(alloc);
     for hit in hits {
-        let cells = found_cells(alloc, store, tab, hit.docid)?;
-        rows.push(hit_row(alloc, columns, items, hit, cells.as_slice())?)?;
+        let cells = if reads {
+            found_cells(alloc, store, tab, hit.docid)?
+        } else {
+            Vec::new(alloc)
+        };
+        let offsets = offsets_text(alloc, hit.offsets.as_slice())?;
+        let (cells, offsets) = (cells.as_slice(), offsets.as_str());
+        rows.push(item_row(alloc, columns, items, hit.docid, cells, offsets)?)?;
     }
     Ok(rows)
-}
-
-// The text of a hit's offsets, if it is asked for.
-fn asked_offsets(alloc: Global, items: &[Item], hit: &Hit) -> Result<String, AllocError>
-    ensures { list_any deserved.is_offsets (map item_of items.now) ≡ true
-        → IfOk result (λ text. string_bytes text ≡ occurs.offsets_text hit.now.offsets.items) }
-{
-    if any_offsets(items) {
-        offsets_text(alloc, hit.offsets.as_slice())
-    } else {
-        Ok(String::new(alloc))
-    }
-}
-
-// The row of a hit with the cells of its document.
-fn hit_row(
-    alloc: Global,
-    columns: &[Column],
-    items: &[Item],
-    hit: &Hit,
-    cells: &[Value],
-) -> Result<Vec<Value>, AllocError>
-    ensures { IfOk result (λ row. cells_of row
-        ≡ hit_cells (map column_of columns.now) (map item_of items.now)
-        (λ docid. map shown_value cells.now) hit.now) }
-{
-    let offsets = asked_offsets(alloc, items, hit)?;
-    let offsets = offsets.as_str();
-    let row = item_row(alloc, columns, items, hit.docid, cells, offsets)?;
-    Ok(row)
 }

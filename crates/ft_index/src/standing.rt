@@ -41,25 +41,6 @@ impl Standing {
     }
 }
 
-// The table of an id, if it is listed.
-fn table_under(tables: Vec<TabRow>, id: i64) -> Option<TabRow>
-    ensures { result ≡ find (λ (t : rows.TabRow). int_eq id t.id) tables.items }
-{
-    tables.into_iter().find(|table| table.id == id)
-}
-
-// The table of an id as the store lists it, if it does. The store is only read, whatever is
-// answered.
-fn listed_table<S: Alter>(store: &mut Store<S>, id: i64) -> Result<Option<TabRow>, StoreFault>
-    ensures { Asks S.Store store.old store.new result IsPlainFault
-        ((named : ℤ × List ℕ) → HasCleanDisk (shows S.Store store.new)
-        → IsNamed (value_in S.Store store.old) id named → IfOk result (λ found. IsFound
-        (value_in S.Store store.old) named found)) }
-{
-    let tables = store.tables()?;
-    Ok(table_under(tables, id))
-}
-
 /// How the rows of the table of an id stand. The store is only read, whatever is answered.
 pub(crate) fn standing_under<S: Alter>(
     alloc: Global,
@@ -72,7 +53,7 @@ pub(crate) fn standing_under<S: Alter>(
         (value_in S.Store store.old)) (table_index named.0 (value_in S.Store store.old)) held
         → IfOk result (λ s. s ≡ standing_of held)) }
 {
-    match listed_table(store, id)? {
+    match store.tables()?.into_iter().find(|table| table.id == id) {
         Some(table) => read_standing(alloc, store, &table),
         None => Ok(Standing::Loose),
     }
@@ -96,10 +77,9 @@ pub(crate) fn read_standing<S: Alter>(
         return Ok(Standing::Loose);
     }
     if has_right_index(alloc, store, table.id, columns.as_slice(), cells.as_slice())? {
-        Ok(Standing::Sound)
-    } else {
-        Ok(Standing::Stale)
+        return Ok(Standing::Sound);
     }
+    Ok(Standing::Stale)
 }
 
 // Whether the index rows of a table are those made from scratch out of the content that has these

@@ -18,10 +18,10 @@ use ft_content::{
     Column, Fault, Filter, Modification, TableInfo, Value, moves_fault, repeats_set, set_docid,
     update_tests, with_values,
 };
-use ft_documents::{Document, Rewrite, filter_query, sound_table, update_rewrites};
+use ft_documents::{Rewrite, filter_query, sound_table, update_rewrites};
 use ft_store::Store;
 use sqlite::Alter;
-use std::alloc::{AllocError, Global};
+use std::alloc::Global;
 
 /// The documents that an Update changes, or its fault. The store is only read, whatever is
 /// answered.
@@ -36,17 +36,13 @@ pub(crate) fn update_written<'t, S: Alter>(
         (modification_of modification.now) result) }
 {
     store.is_in_order();
-    let table = modification.table.as_str();
     let sets = modification.sets.as_slice();
     if repeats_set(alloc, sets) {
         return Err(Fault::DuplicateColumn);
     }
-    let known = sound_table(tables, table)?;
-    let rewrites = written_by_update(alloc, store, known, sets, &modification.filter)?;
-    Ok(Written {
-        table: known,
-        rewrites,
-    })
+    let table = sound_table(tables, modification.table.as_str())?;
+    let rewrites = written_by_update(alloc, store, table, sets, &modification.filter)?;
+    Ok(Written { table, rewrites })
 }
 
 // The rewrites of an Update of a sound table, or its fault. The store is only read, whatever is
@@ -73,42 +69,11 @@ fn written_by_update<S: Alter>(
     let query = filter_query(alloc, columns, filter)?;
     let documents = chosen_documents(alloc, store, known.id, filter, query.as_ref())?;
     let given = set_docid(sets);
-    test_move(alloc, store, known.id, documents.as_slice(), given)?;
+    let docids: Vec<i64> = documents.iter().map(|chosen| chosen.docid).collect(alloc)?;
+    let is_taken = has_document(store, known.id, given)?;
+    if let Some(fault) = moves_fault(docids.as_slice(), given, is_taken) {
+        return Err(fault);
+    }
     let rewrites = update_rewrites(alloc, columns, sets, documents, given)?;
     Ok(rewrites)
-}
-
-// Whether chosen documents may get the docid that is given. The store is only read, whatever is
-// answered.
-fn test_move<S: Alter>(
-    alloc: Global,
-    store: &mut Store<S>,
-    tab: i64,
-    documents: &[Document],
-    given: Option<i64>,
-) -> Result<(), Fault>
-    ensures { LooksTo S.Store store.old store.new result
-        ((content : Content) (docids : List ℤ) → HasRows S.Store tab store.old store.new content
-        → slice_get docids 0 ≡ given → MatchResult result
-        (λ _. deserved.moves_fault content.documents (map shown_document documents.now) docids
-        ≡ None) (λ fault. ((fault ≡ faults.Store) ⊎ (fault
-        ≡ faults.Memory)) ⊎ (deserved.moves_fault content.documents
-        (map shown_document documents.now) docids ≡ Some fault))) }
-{
-    let docids = numbers(alloc, documents)?;
-    let is_taken = has_document(store, tab, given)?;
-    match moves_fault(docids.as_slice(), given, is_taken) {
-        Some(fault) => Err(fault),
-        None => Ok(()),
-    }
-}
-
-// The docids of documents.
-fn numbers(alloc: Global, documents: &[Document]) -> Result<Vec<i64>, AllocError>
-    ensures { IfOk result (λ docids. docids.items ≡ map (λ d. d.docid) documents.now) }
-{
-    documents
-        .iter()
-        .map(|document| document.docid)
-        .collect(alloc)
 }

@@ -1,5 +1,8 @@
 -- by the kind of the filter
-use Rattle.std.proofs.Common.{rules, ◌≡◌, ◌∙◌, ℤ, false, Option, map, option_map, string_bytes, Bor, refl, sym, ap, subst, to_z-of_z, to_z, of_z, w64}
+use Rattle.std.proofs.Common.{rules, ◌≡◌, ◌∙◌, ℤ, false, Ok, Result, Vec, Global, Option, map, option_map, string_bytes, Bor, refl, sym, ap, subst, to_z-of_z, to_z, of_z, w64}
+use Rattle.std.specs.Prelude.{IfOk}
+use Rattle.std.specs.declared.alloc.AllocError.{AllocError}
+use Rattle.std.proofs.lemmas.Iterator.{YieldsList-from_map, YieldsList-from_slice, items_from_collect}
 use Rattle.std.proofs.lemmas.Result.{IfOk-weaker}
 use Rattle.sqlite_keyed.proofs.ListLemmas.{map-map}
 use Rattle.ft_query.specs.declared.walk.Hit.{Hit}
@@ -47,8 +50,12 @@ returns-in_ok-docids-in-Match g c = record {
       let as_read = subst (λ (f : Filter). ReadsAs content (filter_of f) query) c.in-Match.is reads in
       let hits : map plain_hit c.in_ok-hits-in-Match.hits.items ≡ map (told false) (chosen_hits content (Match name text)) =
       c.in_ok-hits-in-Match.ensures.looks.told content name text as_read (index_first g.S.Store first middle last one two tab content at) in
+      let ok : c.collect.result ≡ Ok c.in_ok-docids-in-Match.docids = search rules in
+      let numbers : c.in_ok-docids-in-Match.docids.items ≡ map (λ (h : Hit). h.docid) c.deref.result.now =
+      subst (λ (r : Result (Vec ℤ Global) AllocError). IfOk r (λ (v : Vec ℤ Global). v.items ≡ map (λ (h : Hit). h.docid) c.deref.result.now)) ok
+      (items_from_collect c.collect.result c.collect.ensures.ran (YieldsList-from_map _ (λ (h : Hit). h.docid) (YieldsList-from_slice c.deref.result.now cc) c.map.ensures.closure (λ x r q k. search rules))) in
       read content (rows_then g.S.Store first middle last one two tab content here)
-      ∙ ap (map (document_at content)) (c.as_slice-in-Match.ensures.value ∙ c.in_ok-docids-in-Match.ensures ∙ ap (map (λ (h : Hit). h.docid)) c.as_slice.ensures.value)
+      ∙ ap (map (document_at content)) (c.as_slice.ensures.value ∙ numbers ∙ ap (map (λ (h : Hit). h.docid)) c.deref.ensures.value)
       ∙ map-map (document_at content) (λ (h : Hit). h.docid) c.in_ok-hits-in-Match.hits.items
       ∙ of_hits (λ (h : Hit). h.docid) plain_hit (λ h. refl) rows.name content (Match name text) false c.in_ok-hits-in-Match.hits.items rows.is_content hits
       ∙ sym (ap (λ (f : Filter). chosen content (filter_of f)) c.in-Match.is)) c.documents_under.ensures.told;

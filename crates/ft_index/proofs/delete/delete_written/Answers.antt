@@ -12,16 +12,16 @@ use Rattle.ft_index.proofs.DeleteWrites.{due, made, gone, is_write}
 use Rattle.ft_index.proofs.Planning.{plans_unfit, plans_fail, plans_do}
 use Rattle.ft_index.proofs.delete.delete_written.Goals as goal
 
-pub returns-in_err-known : goal.returns-in_err-known
-returns-in_err-known g c = record {
+pub returns-in_err-table : goal.returns-in_err-table
+returns-in_err-table g c = record {
   told =
       subst (λ (command : Command). WritesIn g.S.Store (map shown_info c.args.tables.now) c.args.store.now c.args.store.now command c.from_residual.result) (λ i. plain.Delete (c.as_str.ensures.value i) (filter_of c.args.deletion.now.filter))
       (
       let f = filter_of c.args.deletion.now.filter in
       let tables = map shown_info c.args.tables.now in
-      let fault : Fault = c.in_err-known.field-0.0 in
+      let fault : Fault = c.in_err-table.field-0.0 in
       let is : c.from_residual.result ≡ Err fault = search rules in
-      let unfit : IsUnfit tables c.as_str.result.now fault = c.in_err-known.ensures in
+      let unfit : IsUnfit tables c.as_str.result.now fault = c.in_err-table.ensures in
       let command = plain.Delete c.as_str.result.now f in
       subst (λ (r : Result Written Fault). WritesIn g.S.Store tables c.args.store.now c.args.store.now command r) (sym is)
       (plans_unfit g.S.Store command c.as_str.result.now (due f) (made f) (gone f) (is_write f c.as_str.result.now) c.args.store.now c.args.store.now tables fault unfit));
@@ -40,8 +40,8 @@ returns-in_err-rewrites g c = record {
       let is : c.from_residual-in_err-rewrites.result ≡ Err fault = search rules in
       let failed : c.written_by_delete.result ≡ Err fault = search rules in
       let command = plain.Delete c.as_str.result.now f in
-      let known = shown_info c.in_ok-known.known.now in
-      let named : IsSoundNamed tables c.as_str.result.now known = c.in_ok-known.ensures in
+      let known = shown_info c.in_ok-table.table.now in
+      let named : IsSoundNamed tables c.as_str.result.now known = c.in_ok-table.ensures in
       subst (λ (r : Result Written Fault). WritesIn g.S.Store tables c.args.store.now c.written_by_delete.new.store command r) (sym is)
       (plans_fail g.S.Store command c.as_str.result.now (due f) (made f) (gone f) (is_write f c.as_str.result.now) c.args.store.now c.written_by_delete.new.store tables known c.is_in_order.ensures.order named fault
       (λ content has. subst (λ (r : Result (Vec Rewrite Global) Fault). Writes content (due f known.name content) (made f content) (gone f content) r) failed (c.written_by_delete.ensures.told content has))));
@@ -57,8 +57,8 @@ returns g c = record {
       let f = filter_of c.args.deletion.now.filter in
       let tables = map shown_info c.args.tables.now in
       let command = plain.Delete c.as_str.result.now f in
-      let known = shown_info c.in_ok-known.known.now in
-      let named : IsSoundNamed tables c.as_str.result.now known = c.in_ok-known.ensures in
+      let known = shown_info c.in_ok-table.table.now in
+      let named : IsSoundNamed tables c.as_str.result.now known = c.in_ok-table.ensures in
       let rewrites = c.in_ok-rewrites.rewrites in
       let done : c.written_by_delete.result ≡ Ok rewrites = search rules in
       plans_do g.S.Store command c.as_str.result.now (due f) (made f) (gone f) (is_write f c.as_str.result.now) c.args.store.now c.written_by_delete.new.store tables known c.is_in_order.ensures.order named rewrites changes

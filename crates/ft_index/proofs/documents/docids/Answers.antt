@@ -1,5 +1,5 @@
 -- the docids of the content, by the limits
-use Rattle.std.proofs.Common.{rules, ap, ◌∙◌, to_z-of_z}
+use Rattle.std.proofs.Common.{rules, ap, ◌∙◌, to_z-of_z, ◌≡◌}
 use Rattle.ft_store.specs.Kept.{value_in}
 use Rattle.ft_store.specs.Docids.{docids_in}
 use Rattle.ft_content.specs.Answer.{cut}
@@ -22,7 +22,8 @@ pub returns : goal.returns
 returns g c = record {
   told = λ content rows.
       let store = value_in g.S.Store c.args.store.now in
-      c.in_ok-owned.ensures ∙ c.cut.ensures
+      let same : c.in_ok-to_vec.field-0.items ≡ c.cut.result.now = search rules in
+      same ∙ c.cut.ensures
       ∙ ap (cut c.args.limit c.args.offset) (c.as_slice.ensures.value ∙ (simp (to_z-of_z, c.ranges.tab) at c.in_ok-all.ensures.rows) rows.clean ∙ docids_read c.args.tab store rows.name content rows.is_content rows.rows);
   only = search rules;
   live = search rules;

@@ -19,7 +19,7 @@ returns-then-is_empty-clause-looks g c = record {
 pub returns-clause-looks : goal.returns-clause-looks
 returns-clause-looks g c = record {
   told = λ content rows.
-      ap Some c.in_ok-cells.ensures
+      ap Some c.in_ok-values_of.ensures
       ∙ some_read c.args.tab c.args.docid (value_in g.S.Store c.args.store.now) rows.name content c.in_ok-rows.rows.items rows.is_content rows.rows
       ((simp (to_z-of_z, c.ranges.tab, c.ranges.docid) at c.in_ok-rows.ensures.rows) rows.clean) (ap (λ n. n == 0) (omega (arith, c.in_ok-rows.rows.ok.0)) ∙ sym c.is_empty.ensures ∙ c.if-is_empty.false);
   only = search rules;
@@ -29,6 +29,6 @@ returns-clause-looks g c = record {
 
 pub returns-clause-counted : goal.returns-clause-counted
 returns-clause-counted g c =
-    let same : vec_len c.in_ok-rows.rows ≡ vec_len c.in_ok-cells.cells =
-    c.in_ok-rows.rows.ok.0 ∙ sym (length-map c.in_ok-rows.rows.items (λ row. shown_value row.value)) ∙ ap length (sym c.in_ok-cells.ensures) ∙ length-map c.in_ok-cells.cells.items shown_value ∙ sym c.in_ok-cells.cells.ok.0 in
+    let same : vec_len c.in_ok-rows.rows ≡ vec_len c.in_ok-values_of.field-0 =
+    c.in_ok-rows.rows.ok.0 ∙ sym (length-map c.in_ok-rows.rows.items (λ row. shown_value row.value)) ∙ ap length (sym c.in_ok-values_of.ensures) ∙ length-map c.in_ok-values_of.field-0.items shown_value ∙ sym c.in_ok-values_of.field-0.ok.0 in
     c.in_ok-rows.ensures.read.counted ∙ ap (λ (n : ℕ). more_rows n c.args.store.now) same

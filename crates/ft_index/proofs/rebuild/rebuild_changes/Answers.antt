@@ -48,7 +48,7 @@ returns g c = record {
       let mid = c.rebuilt.new.store in
       let anew : c.rebuilt.result ≡ Ok c.in_ok-anew.anew = search rules in
       subst (RebuildsIn g.S.Store tables old mid command) anew (c.rebuilt.ensures.told tables c.args.table.now c.in_ok-known.ensures)
-      (map shown_change c.in_ok-changes.changes.items) c.in_ok-changes.ensures;
+      (map shown_change c.in_ok-anew_changes.field-0.items) c.in_ok-anew_changes.ensures;
   only = search rules;
   live = search rules;
 }

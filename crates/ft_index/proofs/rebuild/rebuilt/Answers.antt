@@ -21,7 +21,7 @@ pub returns-in-Sound : goal.returns-in-Sound
 returns-in-Sound g c = record {
   told = λ tables name is changes are up contents held.
       let v = value_in g.S.Store c.args.store.now in
-      let known = shown_info c.args.known.now in
+      let known = shown_info c.args.table.now in
       let t = told_here v tables contents name known c.is_in_order.ensures.order held is in
       let fits : FitsSigned w64 known.id = search rules in
       let named = subst (λ k. IsNamed v k (t.table.0, t.table.1.name)) (sym (to_z-of_z fits)) t.named in
@@ -35,7 +35,7 @@ pub returns-in_ok-rewrites-in-Stale : goal.returns-in_ok-rewrites-in-Stale
 returns-in_ok-rewrites-in-Stale g c = record {
   told = λ tables name is changes are up contents held.
       let v = value_in g.S.Store c.args.store.now in
-      let known = shown_info c.args.known.now in
+      let known = shown_info c.args.table.now in
       let t = told_here v tables contents name known c.is_in_order.ensures.order held is in
       let fits : FitsSigned w64 known.id = search rules in
       let named = subst (λ k. IsNamed v k (t.table.0, t.table.1.name)) (sym (to_z-of_z fits)) t.named in
@@ -61,7 +61,7 @@ pub returns-in-Loose : goal.returns-in-Loose
 returns-in-Loose g c = record {
   told = λ tables name is up contents held.
       let v = value_in g.S.Store c.args.store.now in
-      let known = shown_info c.args.known.now in
+      let known = shown_info c.args.table.now in
       let t = told_here v tables contents name known c.is_in_order.ensures.order held is in
       let fits : FitsSigned w64 known.id = search rules in
       let named = subst (λ k. IsNamed v k (t.table.0, t.table.1.name)) (sym (to_z-of_z fits)) t.named in

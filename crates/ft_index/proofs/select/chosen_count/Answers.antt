@@ -13,7 +13,7 @@ pub returns-in_ok-docids-in-All-clause-looks : goal.returns-in_ok-docids-in-All-
 returns-in_ok-docids-in-All-clause-looks g c = record {
   told = λ content held reads.
       let here = subst (λ (k : ℤ). HasRows g.S.Store k c.args.store.now c.docids.new.store content) (sym (to_z-of_z c.ranges.tab)) held.rows in
-      let count : to_z w64 c.len-in-All.result ≡ pos (length c.in_ok-docids-in-All.docids.items) = search rules in
+      let count : to_z w64 c.len-in-All.result ≡ pos (length c.in_ok-docids-in-All.field-0.items) = search rules in
       count
       ∙ ap pos (ap length (c.in_ok-docids-in-All.ensures.told content here) ∙ length-map content.documents (λ (d : ℤ × List Cell). d.0)
       ∙ ap length (sym (ap (λ (f : Filter). chosen content (filter_of f)) c.in-All.is ∙ chosen_all content)));

@@ -1,17 +1,19 @@
 -- by the table that is found, its query, and what was read
-use Rattle.std.proofs.Common.{◌≡◌, ℕ, List, Option, Some, None, Result, Err, map, option_map, Bor, string_bytes, sym, ap, subst, rules}
+use Rattle.std.proofs.Common.{◌≡◌, ℕ, ℤ, List, Option, Some, None, Result, Err, map, option_map, Bor, string_bytes, sym, ap, subst, ◌∙◌, to_z, of_z, w64, to_z-of_z, FitsSigned, rules}
 use Rattle.std.specs.Option.{option_copied}
 use Rattle.ft_query.specs.Trees.{Tree, tree_of}
 use Rattle.ft_values.specs.declared.fault.Fault.{Fault}
 use Rattle.ft_content.specs.declared.command.Reply.{Reply}
 use Rattle.ft_values.specs.declared.table.TableInfo.{TableInfo as RustTableInfo}
-use Rattle.ft_content.specs.Views.{shown_info, column_of, items_of, filter_of, selection_of, grid_of, answer_of}
+use Rattle.ft_values.specs.declared.table.Column.{Column}
+use Rattle.ft_content.specs.Answer.{answer_names, answer}
+use Rattle.ft_content.specs.Views.{bare_content, shown_info, column_of, items_of, filter_of, selection_of, names_in, grid_of, answer_of}
 use Rattle.ft_documents.specs.Found.{IsUnfit, IsSoundNamed}
 use Rattle.ft_index.specs.Changed.{with_tables}
 use Rattle.ft_index.specs.Kept.{Executes}
 use Rattle.ft_index.specs.Selected.{IsAsked}
 use Rattle.ft_index.proofs.LookLemmas.{no_look}
-use Rattle.ft_index.proofs.SelectAnswers.{select_unfit, select_undone, select_done, select_counts}
+use Rattle.ft_index.proofs.SelectAnswers.{names_bare, select_unfit, select_undone, select_done, select_counts}
 use Rattle.ft_index.proofs.select.select_from.Goals as goal
 
 pub returns-in_err-info-clause-executes : goal.returns-in_err-info-clause-executes
@@ -42,18 +44,30 @@ passed f None q is = ap (option_map f) is
 passed f (Some r) q is = ap (option_map f) is
 
 pub returns-clause-executes : goal.returns-clause-executes
+unfolding answer
 returns-clause-executes g c =
     let tables = map shown_info c.args.tables.now in
     let select = c.args.select.now in
     let items = items_of select.items in
     let f = filter_of select.filter in
     let info : RustTableInfo = c.in_ok-info.info.now in
+    let columns = map column_of info.columns.items in
     let named : IsSoundNamed tables (string_bytes select.table) (shown_info info) = subst (λ (n : List ℕ). IsSoundNamed tables n (shown_info info)) c.as_str.ensures.value c.in_ok-info.ensures in
     let query : Option Tree = option_map tree_of c.in_ok-query.query in
     let query_is : option_map {T = Bor _} (λ q. tree_of q.now) c.as_ref.result ≡ query = passed tree_of c.as_ref.result c.in_ok-query.query c.as_ref.ensures.value in
-    select_done g.S.Store c.args.store.now c.select_grid.new.store tables (string_bytes select.table) items f select.limit select.offset c.in_ok-grid.ensures.looks.only
-    (shown_info info) named.0 named.1 c.is_in_order.ensures.order query (grid_of c.in_ok-grid.grid) c.in_ok-query.ensures.fine c.in_ok-query.ensures.query
-    (λ content asked. c.in_ok-grid.ensures.looks.told content (subst (λ (q : Option Tree). IsAsked g.S.Store info.id (map column_of info.columns.items) items f q c.args.store.now c.select_grid.new.store content) (sym query_is) asked))
+    let passed_on : Option Tree = option_map {T = Bor _} (λ q. tree_of q.now) c.as_ref.result in
+    let first = c.args.store.now in
+    let last = c.selected_rows.new.store in
+    let fits : FitsSigned w64 info.id = search rules in
+    select_done g.S.Store first last tables (string_bytes select.table) items f select.limit select.offset c.in_ok-rows.ensures.looks.only
+    (shown_info info) named.0 named.1 c.is_in_order.ensures.order query (grid_of (record { names = c.in_ok-names.names; rows = c.in_ok-rows.rows })) c.in_ok-query.ensures.fine c.in_ok-query.ensures.query (λ content asked.
+    let rows = c.in_ok-rows.ensures.looks.told content
+    (subst (λ (cs : List Column). IsAsked g.S.Store (to_z w64 (of_z w64 info.id)) (map column_of cs) items f passed_on first last content) (sym c.as_slice-columns.ensures.value)
+    (subst (λ (k : ℤ). IsAsked g.S.Store k columns items f passed_on first last content) (sym (to_z-of_z fits))
+    (subst (λ (q : Option Tree). IsAsked g.S.Store info.id columns items f q first last content) (sym query_is) asked))) in
+    let names : names_in c.in_ok-names.names ≡ answer_names (string_bytes info.name) content items =
+    c.in_ok-names.ensures ∙ (λ i. answer_names (c.as_str-2.ensures.value i) (bare_content (c.as_slice-columns.ensures.value i)) items) ∙ names_bare (string_bytes info.name) columns content items asked.columns in
+    λ i. record { names = names i; rows = rows i })
 
 pub returns-clause-counts : goal.returns-clause-counts
 returns-clause-counts g c =
@@ -62,9 +76,17 @@ returns-clause-counts g c =
     let items = items_of select.items in
     let f = filter_of select.filter in
     let info : RustTableInfo = c.in_ok-info.info.now in
+    let columns = map column_of info.columns.items in
     let named : IsSoundNamed tables (string_bytes select.table) (shown_info info) = subst (λ (n : List ℕ). IsSoundNamed tables n (shown_info info)) c.as_str.ensures.value c.in_ok-info.ensures in
     let query : Option Tree = option_map tree_of c.in_ok-query.query in
     let query_is : option_map {T = Bor _} (λ q. tree_of q.now) c.as_ref.result ≡ query = passed tree_of c.as_ref.result c.in_ok-query.query c.as_ref.ensures.value in
-    select_counts g.S.Store c.args.store.now c.select_grid.new.store tables (string_bytes select.table) items f select.limit select.offset c.in_ok-grid.ensures.looks.only
-    (shown_info info) named.0 named.1 c.is_in_order.ensures.order query (grid_of c.in_ok-grid.grid) c.in_ok-query.ensures.fine c.in_ok-query.ensures.query
-    (λ content asked. c.in_ok-grid.ensures.counted content (subst (λ (q : Option Tree). IsAsked g.S.Store info.id (map column_of info.columns.items) items f q c.args.store.now c.select_grid.new.store content) (sym query_is) asked))
+    let passed_on : Option Tree = option_map {T = Bor _} (λ q. tree_of q.now) c.as_ref.result in
+    let first = c.args.store.now in
+    let last = c.selected_rows.new.store in
+    let fits : FitsSigned w64 info.id = search rules in
+    select_counts g.S.Store first last tables (string_bytes select.table) items f select.limit select.offset c.in_ok-rows.ensures.looks.only
+    (shown_info info) named.0 named.1 c.is_in_order.ensures.order query (grid_of (record { names = c.in_ok-names.names; rows = c.in_ok-rows.rows })) c.in_ok-query.ensures.fine c.in_ok-query.ensures.query (λ content asked.
+    c.in_ok-rows.ensures.counted content
+    (subst (λ (cs : List Column). IsAsked g.S.Store (to_z w64 (of_z w64 info.id)) (map column_of cs) items f passed_on first last content) (sym c.as_slice-columns.ensures.value)
+    (subst (λ (k : ℤ). IsAsked g.S.Store k columns items f passed_on first last content) (sym (to_z-of_z fits))
+    (subst (λ (q : Option Tree). IsAsked g.S.Store info.id columns items f q first last content) (sym query_is) asked))))

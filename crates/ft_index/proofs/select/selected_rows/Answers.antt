@@ -1,15 +1,157 @@
--- a count reads no document
-use Rattle.std.proofs.Common.{◌+◌, ◌-◌, ◌^◌, min, ℕ, ℤ, sym, ap, subst, ◌∙◌, to_z-of_z}
+-- a count, the hits of a MATCH, the documents by their docids, or those that are read
+use Rattle.std.proofs.Common.{rules, ◌≡◌, ◌+◌, ◌-◌, ◌*◌, ◌^◌, min, cond, ℕ, ℤ, List, [], false, None, Option, map, length, string_bytes, refl, sym, ap, subst, ◌∙◌, to_z, of_z, w64, to_z-of_z}
+use Rattle.std.specs.List.{list_any}
+use Rattle.std.proofs.lemmas.Result.{IfOk-weaker}
+use Rattle.sqlite.specs.Store.{Ghosts}
+use Rattle.ft_query.specs.declared.walk.Hit.{Hit}
+use Rattle.ft_query.specs.Occurs.{plain_hit}
+use Rattle.ft_query.specs.Trees.{Tree}
+use Rattle.ft_store.specs.Kept.{StoreState}
+use Rattle.ft_content.specs.declared.command.Filter.{Filter}
+use Rattle.ft_content.specs.declared.command.Item.{Item}
 use Rattle.ft_content.specs.declared.command.Items.{Items}
-use Rattle.ft_content.specs.Views.{items_of, filter_of}
-use Rattle.ft_index.specs.RowsRead.{has_column_item}
-use Rattle.ft_index.specs.Selected.{IsOf}
-use Rattle.ft_index.proofs.SelectRows.{asked_without}
+use Rattle.ft_content.specs.Content.{Column, Content}
+use Rattle.ft_content.specs.Command as plain
+use Rattle.ft_content.specs.Command.{All, Match, Listed}
+use Rattle.ft_content.specs.Answer.{cut, answer_rows}
+use Rattle.ft_content.specs.Deserved.{is_match}
+use Rattle.ft_content.specs.Views.{items_of, filter_of, column_of, item_of}
+use Rattle.ft_documents.specs.declared.document.Document.{Document}
+use Rattle.ft_documents.specs.Chosen.{document_at}
+use Rattle.ft_documents.specs.Matched.{chosen_hits, told}
+use Rattle.ft_index.specs.DocumentsRead.{HasRows, Looks}
+use Rattle.ft_index.specs.RowsRead.{is_column, has_column_item, rows_asked}
+use Rattle.ft_index.specs.Selected.{IsAsked, IsOf}
+use Rattle.ft_index.specs.Walked.{IsIndexed}
+use Rattle.ft_index.proofs.LookLemmas.{rows_first, rows_then, index_first}
+use Rattle.ft_index.proofs.ReadsLemmas.{on_ok_from}
+use Rattle.ft_index.proofs.SelectRows.{hit_rows, hits_answered, as_many, counted_both, asked_items, asked_without, bare_hit_rows, listed_rows_are, documents_again, document_rows_are, no_offsets}
 use Rattle.ft_index.proofs.select.selected_rows.Goals as goal
 
-pub returns-in_ok-count_rows-in-Count-clause-counted : goal.returns-in_ok-count_rows-in-Count-clause-counted
-returns-in_ok-count_rows-in-Count-clause-counted g c content asked matching =
+-- what is asked, as its items and its filter are written
+asked_as : {S : Type 0} (g : Ghosts S) (tab : ℤ) (columns : List Column) (items others : plain.Items) (f other : plain.Filter) (query : Option Tree) (old new : StoreState S) (content : Content) → items ≡ others → f ≡ other →
+    IsAsked g tab columns items f query old new content → IsAsked g tab columns others other query old new content
+asked_as g tab columns items others f other query old new content same is asked =
+    subst (λ fs. IsAsked g tab columns others fs query old new content) is (subst (λ is. IsAsked g tab columns is f query old new content) same asked)
+
+pub returns-in_default-clause-counted : goal.returns-in_default-clause-counted
+returns-in_default-clause-counted g c content asked matching =
     let held = subst (λ (k : ℤ). IsOf g.S.Store k c.args.store.now c.chosen_count.new.store content) (sym (to_z-of_z c.ranges.tab)) asked.held in
-    c.in_ok-count-in-Count.ensures.counted content held asked.reads matching
+    c.in_ok-count.ensures.counted content held asked.reads matching
     ∙ ap (λ (n : ℕ). min (c.args.store.now.rows_read + n) (2 ^ 64 - 1))
-    (asked_without content (items_of c.args.select.now.items) (filter_of c.args.select.now.filter) c.args.select.now.limit c.args.select.now.offset (ap (λ (x : Items). has_column_item (items_of x)) c.in-Count.is))
+    (asked_without content (items_of c.args.select.now.items) (filter_of c.args.select.now.filter) c.args.select.now.limit c.args.select.now.offset (ap (λ (x : Items). has_column_item (items_of x)) c.in_default.is))
+
+pub returns-in_ok-hits-in-Match-clause-looks : goal.returns-in_ok-hits-in-Match-clause-looks
+returns-in_ok-hits-in-Match-clause-looks g c = record {
+  told = IfOk-weaker c.hit_rows.result _ _ (λ rows read content as_asked.
+      let first = c.args.store.now in
+      let middle = c.matched.new.store in
+      let last = c.hit_rows.new.store in
+      let one : Looks g.S.Store first middle = c.matched.ensures.looks.only in
+      let two = c.hit_rows.ensures.looks.only in
+      let t = sym (to_z-of_z c.ranges.tab) in
+      let tab : ℤ = to_z w64 (of_z w64 c.args.tab) in
+      let select = c.args.select.now in
+      let items = map item_of c.as_slice-items.result.now in
+      let columns = map column_of c.args.columns.now in
+      let f = Match (string_bytes c.in-Match.name) (string_bytes c.in-Match.query) in
+      let items_are : items_of select.items ≡ Listed items = ap items_of c.in-List.is ∙ ap (λ (l : List Item). Listed (map item_of l)) (sym c.as_slice-items.ensures.value) in
+      let f_is : filter_of select.filter ≡ f = ap filter_of c.in-Match.is in
+      let asked = asked_as g.S.Store c.args.tab columns _ _ _ _ _ first last content items_are f_is as_asked in
+      let here = subst (λ (k : ℤ). HasRows g.S.Store k first last content) t asked.held.rows in
+      let at = subst (λ (k : ℤ). IsIndexed g.S.Store k first last content) t asked.held.index in
+      let before = index_first g.S.Store first middle last one two tab content at in
+      let all = map (told c.any_offsets.result) (chosen_hits content f) in
+      let hits = c.in_ok-hits-in-Match.ensures.looks.told content (string_bytes c.in-Match.name) (string_bytes c.in-Match.query) asked.reads before in
+      let answered : map plain_hit c.cut-answered.result.now ≡ cut select.limit select.offset all =
+      hits_answered select.limit c.most_hits-most.result select.offset c.in_ok-hits-in-Match.hits.items c.cut-answered.result.now all
+      (c.cut-answered.ensures ∙ ap (λ (hs : List Hit). cut select.limit select.offset hs) c.as_slice.ensures.value) hits (c.most_hits-most.ensures.enough all) in
+      read content (rows_then g.S.Store first middle last one two tab content here)
+      ∙ hit_rows here.name content f columns items select.limit select.offset here.is_content asked.columns c.any_offsets.result c.any_offsets.ensures c.cut-answered.result.now answered
+      ∙ (λ i. cut select.limit select.offset (answer_rows content (sym items_are i) (sym f_is i)))) c.hit_rows.ensures.looks.told;
+  only = search rules;
+  live = search rules;
+  cause = search rules;
+}
+
+pub returns-in_ok-hits-in-Match-clause-counted : goal.returns-in_ok-hits-in-Match-clause-counted
+returns-in_ok-hits-in-Match-clause-counted g c = on_ok_from c.hit_rows.result _ _ (λ whole counted content as_asked matching.
+    let first = c.args.store.now in
+    let middle = c.matched.new.store in
+    let last = c.hit_rows.new.store in
+    let one : Looks g.S.Store first middle = c.matched.ensures.looks.only in
+    let two = c.hit_rows.ensures.looks.only in
+    let t = sym (to_z-of_z c.ranges.tab) in
+    let tab : ℤ = to_z w64 (of_z w64 c.args.tab) in
+    let select = c.args.select.now in
+    let items = map item_of c.as_slice-items.result.now in
+    let columns = map column_of c.args.columns.now in
+    let f = Match (string_bytes c.in-Match.name) (string_bytes c.in-Match.query) in
+    let items_are : items_of select.items ≡ Listed items = ap items_of c.in-List.is ∙ ap (λ (l : List Item). Listed (map item_of l)) (sym c.as_slice-items.ensures.value) in
+    let f_is : filter_of select.filter ≡ f = ap filter_of c.in-Match.is in
+    let asked = asked_as g.S.Store c.args.tab columns _ _ _ _ _ first last content items_are f_is as_asked in
+    let here = subst (λ (k : ℤ). HasRows g.S.Store k first last content) t asked.held.rows in
+    let at = subst (λ (k : ℤ). IsIndexed g.S.Store k first last content) t asked.held.index in
+    let before = index_first g.S.Store first middle last one two tab content at in
+    let all = map (told c.any_offsets.result) (chosen_hits content f) in
+    let hits = c.in_ok-hits-in-Match.ensures.looks.told content (string_bytes c.in-Match.name) (string_bytes c.in-Match.query) asked.reads before in
+    let answered : map plain_hit c.cut-answered.result.now ≡ cut select.limit select.offset all =
+    hits_answered select.limit c.most_hits-most.result select.offset c.in_ok-hits-in-Match.hits.items c.cut-answered.result.now all
+    (c.cut-answered.ensures ∙ ap (λ (hs : List Hit). cut select.limit select.offset hs) c.as_slice.ensures.value) hits (c.most_hits-most.ensures.enough all) in
+    let many = as_many here.name content f columns items select.limit select.offset here.is_content asked.columns c.any_offsets.result c.any_offsets.ensures c.cut-answered.result.now answered in
+    let width : ℕ = cond (list_any is_column items) (length content.columns) 0 in
+    counted_both first.rows_read middle.rows_read last.rows_read _ (width * length c.cut-answered.result.now) (c.in_ok-hits-in-Match.ensures.counted content (string_bytes c.in-Match.name) (string_bytes c.in-Match.query) asked.reads before)
+    (counted content (rows_then g.S.Store first middle last one two tab content here))
+    ∙ ap (λ (n : ℕ). min (first.rows_read + n) (2 ^ 64 - 1)) (asked_items content items f select.limit select.offset (length c.cut-answered.result.now) many
+    ∙ (λ i. rows_asked content (sym items_are i) (sym f_is i) select.limit select.offset))) c.hit_rows.ensures.counted
+
+pub returns-in_ok-hits-in-All-clause-looks : goal.returns-in_ok-hits-in-All-clause-looks
+returns-in_ok-hits-in-All-clause-looks g c = record {
+  told = IfOk-weaker c.hit_rows-in-All.result _ _ (λ rows read content as_asked.
+      let first = c.args.store.now in
+      let middle = c.docids.new.store in
+      let last = c.hit_rows-in-All.new.store in
+      let one : Looks g.S.Store first middle = c.docids.ensures.only in
+      let two = c.hit_rows-in-All.ensures.looks.only in
+      let tab : ℤ = to_z w64 (of_z w64 c.args.tab) in
+      let select = c.args.select.now in
+      let items = map item_of c.as_slice-items.result.now in
+      let columns = map column_of c.args.columns.now in
+      let items_are : items_of select.items ≡ Listed items = ap items_of c.in-List.is ∙ ap (λ (l : List Item). Listed (map item_of l)) (sym c.as_slice-items.ensures.value) in
+      let f_is : filter_of select.filter ≡ All = ap filter_of c.in-All.is in
+      let asked = asked_as g.S.Store c.args.tab columns _ _ _ _ _ first last content items_are f_is as_asked in
+      let here = subst (λ (k : ℤ). HasRows g.S.Store k first last content) (sym (to_z-of_z c.ranges.tab)) asked.held.rows in
+      let docids = c.in_ok-docids-in-All.docids.items in
+      let hits = ap (map plain_hit) c.as_slice-in-All-2.ensures.value ∙ c.in_ok-hits-in-All.ensures ∙ ap (map (λ (k : ℤ). record { docid = k; offsets = [] })) c.as_slice-in-All.ensures.value in
+      read content (rows_then g.S.Store first middle last one two tab content here)
+      ∙ bare_hit_rows columns content items c.as_slice-in-All-2.result.now docids hits
+      ∙ listed_rows_are content columns items select.limit select.offset asked.columns (map (document_at content) docids)
+      (documents_again here.name content select.limit select.offset here.is_content docids (c.in_ok-docids-in-All.ensures.told content (rows_first g.S.Store first middle last one two tab content here)))
+      ∙ (λ i. cut select.limit select.offset (answer_rows content (sym items_are i) (sym f_is i)))) c.hit_rows-in-All.ensures.looks.told;
+  only = search rules;
+  live = search rules;
+  cause = search rules;
+}
+
+pub returns-in_ok-document_rows-in-All-2-clause-looks : goal.returns-in_ok-document_rows-in-All-2-clause-looks
+returns-in_ok-document_rows-in-All-2-clause-looks g c = record {
+  told = λ content as_asked.
+      let first = c.args.store.now in
+      let last = c.chosen_documents.new.store in
+      let t = sym (to_z-of_z c.ranges.tab) in
+      let select = c.args.select.now in
+      let f = filter_of select.filter in
+      let items = map item_of c.as_slice-items.result.now in
+      let columns = map column_of c.args.columns.now in
+      let items_are : items_of select.items ≡ Listed items = ap items_of c.in-List.is ∙ ap (λ (l : List Item). Listed (map item_of l)) (sym c.as_slice-items.ensures.value) in
+      let asked = asked_as g.S.Store c.args.tab columns _ _ _ _ _ first last content items_are refl as_asked in
+      let plainly : is_match f ≡ false = search rules in
+      let found = c.in_ok-documents-in-All-2.ensures.told content (subst (λ (k : ℤ). HasRows g.S.Store k first last content) t asked.held.rows) (subst (λ (k : ℤ). IsIndexed g.S.Store k first last content) t asked.held.index) asked.reads in
+      c.in_ok-document_rows-in-All-2.ensures (no_offsets f items plainly asked.offsets)
+      ∙ document_rows_are content f columns items select.limit select.offset plainly asked.columns c.in_ok-documents-in-All-2.documents.items c.cut-answered-in-All-2.result.now found
+      (c.cut-answered-in-All-2.ensures ∙ ap (λ (ds : List Document). cut select.limit select.offset ds) c.as_slice-in-All-2-2.ensures.value)
+      ∙ (λ i. cut select.limit select.offset (answer_rows content (sym items_are i) f));
+  only = search rules;
+  live = search rules;
+  cause = search rules;
+}
