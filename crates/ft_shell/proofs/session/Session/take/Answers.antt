@@ -29,8 +29,8 @@ pub returns-in_err-end_line-clause-runs : goal.returns-in_err-end_line-clause-ru
 returns-in_err-end_line-clause-runs g c =
     let goes : c.loop-outputs.outputs.status.quit ≡ false = search rules in
     let is : c.from_residual-in_err-end_line.result ≡ Err c.in_err-end_line.field-0.0 = search rules in
-    let line = c.in-Some.field-0.0.now in
-    let behind = c.in-Some.field-0.1.now in
+    let line = c.in-Some.line.now in
+    let behind = c.in-Some.behind.now in
     runs_err g.P.Store g.S.Store c.from_residual-in_err-end_line.result c.in_err-end_line.field-0.0 _ _ _ _ is
     (runs_then {T = Unit {0}} g.P.Store g.S.Store (Err c.in_err-end_line.field-0.0) _ _ (λ (more : List ℕ). members_left c.end_line.new.lines (behind ++ more)) _ _ _ c.loop-outputs.invariant.run goes
     (runs_as {T = Unit {0}} g.P.Store g.S.Store (Err c.in_err-end_line.field-0.0) (λ (more : List ℕ). members_left c.loop-outputs.lines (line ++ 10 ∷ more)) (λ (more : List ℕ). members_left c.end_line.new.lines more) (λ (more : List ℕ). members_left c.loop-outputs.lines (c.loop-outputs.rest.now ++ more)) (λ (more : List ℕ). members_left c.end_line.new.lines (behind ++ more)) (λ more. behind ++ more) _ _
@@ -39,8 +39,8 @@ returns-in_err-end_line-clause-runs g c =
 pub loop-outputs-preserved : goal.loop-outputs-preserved
 loop-outputs-preserved g c =
     let goes : c.loop-outputs.outputs.status.quit ≡ false = search rules in
-    let line = c.in-Some.field-0.0.now in
-    let behind = c.in-Some.field-0.1.now in
+    let line = c.in-Some.line.now in
+    let behind = c.in-Some.behind.now in
     record {
       run = passes_then g.P.Store g.S.Store _ _ _ _ _ _ c.loop-outputs.invariant.run goes
           (passes_as g.P.Store g.S.Store (λ (more : List ℕ). members_left c.loop-outputs.lines (line ++ 10 ∷ more)) (λ (more : List ℕ). members_left c.end_line.new.lines more) (λ (more : List ℕ). members_left c.loop-outputs.lines (c.loop-outputs.rest.now ++ more)) (λ (more : List ℕ). members_left c.end_line.new.lines (behind ++ more)) (λ more. behind ++ more) _ _
