@@ -59,9 +59,7 @@ fn is_indexed(options: &[(String, String)], name: &str) -> bool
     ensures { result ≡ not (list_any (λ o. deserved.is_notindexed o && content.same_name o.1
         name.now) (map option_of options.now)) }
 {
-    !options
-        .iter()
-        .any(|o| is_notindexed(o) && same_name(&o.1, name))
+    !options.iter().any(|option| is_notindexed(option) && same_name(option.1.as_str(), name))
 }
 
 /// The fault of a Create of a table with columns of these names, if it deserves one. The tables are
@@ -82,10 +80,7 @@ pub fn create_fault(
     let is_there = has_table(tables, table);
     if !same_name(creation.module.as_str(), "fts4") {
         Some(Fault::Module)
-    } else if options
-        .iter()
-        .any(|o| is_tokenize(o) && !same_name(&o.1, "simple"))
-    {
+    } else if options.iter().any(|option| is_tokenize(option) && !same_name(&option.1, "simple")) {
         Some(Fault::Tokenizer)
     } else if !options.iter().all(|o| is_tokenize(o) || is_notindexed(o)) {
         Some(Fault::Parameter)
@@ -99,10 +94,7 @@ pub fn create_fault(
         (!creation.if_new).then_some(Fault::TableExists)
     } else if tables.len() >= 1000 {
         Some(Fault::TooManyTables)
-    } else if options
-        .iter()
-        .any(|o| is_notindexed(o) && !has_name(names, &o.1))
-    {
+    } else if options.iter().any(|option| is_notindexed(option) && !has_name(names, &option.1)) {
         Some(Fault::NoSuchColumn)
     } else {
         None

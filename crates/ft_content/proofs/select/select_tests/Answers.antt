@@ -2,12 +2,10 @@
 use Rattle.std.proofs.Common.{◌≡◌, Bool, List, map, ◌||◌, ap, sym, ◌∙◌, rules, tests}
 use Rattle.std.specs.List.{list_any}
 use Rattle.std.proofs.lemmas.Iterator.{YieldsList-from_slice}
-use Rattle.std.proofs.lemmas.Iterator.Search.{any_from_yields_List}
-use Rattle.ft_content.specs.declared.command.Item.{Item}
 use Rattle.ft_content.specs.Command as plain
 use Rattle.ft_content.specs.Deserved.{item_unknown, items_in, is_offsets, is_match, names_unknown}
 use Rattle.ft_content.specs.Views.{bare_content, filter_of, item_of, items_of}
-use Rattle.ft_content.proofs.Lists.{any_of_map}
+use Rattle.ft_content.proofs.Lists.{any_shown}
 use Rattle.ft_content.proofs.select.select_tests.Goals as goal
 use Rattle.ft_content.proofs.select.select_tests.Goals.{Joined-items, in-Count, in-List, After-any-is_unknown, Joined-is_unknown, then-is_unknown, else-is_unknown, After-any_offsets}
 use Rattle.ft_content.proofs.select.select_tests.Goals.{else-any_offsets-via-then-any_offsets+else-not-matches, else-any_offsets-via-else-any_offsets, in-Match, in_default}
@@ -18,8 +16,7 @@ listed c = elim c.match-items.branch as (λ _. map item_of c.match-items.listed.
 unknown : (c : After-any-is_unknown) → c.any-is_unknown.result ≡ list_any (item_unknown c.args.table.now (bare_content c.args.columns.now)) (items_in (items_of c.args.items.now))
 unknown c =
     let test : plain.Item → Bool = item_unknown c.args.table.now (bare_content c.args.columns.now) in
-    any_from_yields_List (λ (item : Item). test (item_of item)) _ _ _ c.any-is_unknown.ensures.ran (YieldsList-from_slice c.match-items.listed.now cc) (λ x b q k. search (rules, tests))
-    ∙ sym (any_of_map test item_of c.match-items.listed.now) ∙ ap (list_any test) (listed (goal.at.After-any-is_unknown c).Joined-items)
+    any_shown test item_of _ _ _ c.any-is_unknown.ensures.ran (YieldsList-from_slice c.match-items.listed.now cc) (λ x b q k. search (rules, tests)) ∙ ap (list_any test) (listed (goal.at.After-any-is_unknown c).Joined-items)
 
 either : (c : Joined-is_unknown) → c.if-is_unknown.value ≡ (list_any (item_unknown c.args.table.now (bare_content c.args.columns.now)) (items_in (items_of c.args.items.now)) || names_unknown c.args.table.now (bare_content c.args.columns.now) (filter_of c.args.filter.now))
 either c =
