@@ -1,5 +1,5 @@
 //! What a Create makes, and the tests that refuse it.
-ghost use Rattle.std.specs.Prelude.{◌≡◌, ◌-◌, ◌^◌, ◌<◌, ◌&&◌, ◌||◌, not, map, length, codes, string_bytes, IfOk};
+ghost use Rattle.std.specs.Prelude.{◌≡◌, ◌-◌, ◌^◌, ◌<◌, ◌&&◌, not, map, length, string_bytes, IfOk};
 ghost use Rattle.std.specs.List.{list_any};
 ghost use Rattle.ft_content.specs.Calls.{IsFreeId};
 ghost use Rattle.ft_content.specs.Content as content;

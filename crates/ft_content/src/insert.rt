@@ -1,6 +1,6 @@
 //! What an Insert makes of its rows, and the tests that refuse them.
-ghost use Rattle.std.specs.Prelude.{◌≡◌, ◌∷◌, ◌&&◌, ◌==◌, [], if◌then◌else◌, not, nat_lt, map, length, zip, find, slice_get, option_map, string_bytes, IfOk};
-ghost use Rattle.std.specs.List.{list_any, list_all};
+ghost use Rattle.std.specs.Prelude.{◌≡◌, ◌&&◌, map, length, zip, slice_get, option_map, string_bytes, IfOk};
+ghost use Rattle.std.specs.List.{list_any};
 ghost use Rattle.ft_values.specs.Cells.{shown_value};
 ghost use Rattle.ft_values.specs.Cells as stored;
 ghost use Rattle.ft_content.specs.Content as content;

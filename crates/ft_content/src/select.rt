@@ -1,9 +1,8 @@
 //! What a Select answers, and the tests of its names.
-ghost use Rattle.std.specs.Prelude.{◌≡◌, ◌∷◌, ◌++◌, ◌&&◌, ◌||◌, [], false, not, Option, map, codes, option_and_then, slice_get, unwrap_or, string_bytes, IfOk, OnOk};
-ghost use Rattle.std.specs.List.{list_any, flat_map};
+ghost use Rattle.std.specs.Prelude.{◌≡◌, ◌∷◌, [], map, option_and_then, slice_get, unwrap_or, IfOk};
+ghost use Rattle.std.specs.List.{list_any};
 ghost use Rattle.ft_values.specs.Cells as stored;
 ghost use Rattle.ft_values.specs.Cells.{shown_value};
-ghost use Rattle.ft_content.specs.Content.{names_of};
 ghost use Rattle.ft_content.specs.Answer as answer;
 ghost use Rattle.ft_content.specs.Calls.{IsItemRow};
 ghost use Rattle.ft_content.specs.Deserved as deserved;

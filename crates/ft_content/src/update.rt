@@ -1,6 +1,5 @@
 //! What an Update makes of a document, and the tests that refuse it.
-ghost use Rattle.std.specs.Prelude.{◌≡◌, ◌&&◌, ◌||◌, not, map, find, length, slice_get, option_map, string_bytes, IfOk};
-ghost use Rattle.std.specs.List.{list_any, list_all};
+ghost use Rattle.std.specs.Prelude.{◌≡◌, map, slice_get, string_bytes, IfOk};
 ghost use Rattle.ft_values.specs.Cells.{shown_value};
 ghost use Rattle.ft_content.specs.Content as content;
 ghost use Rattle.ft_content.specs.Deserved as deserved;

@@ -1,5 +1,5 @@
 -- the tests one after the other: options as pairs of texts, and tables by their names
-use Rattle.std.proofs.Common.{◌≡◌, ℕ, Bool, true, false, List, [], ◌∷◌, map, length, not, ◌&&◌, ◌||◌, codes, is_some, refl, ap, sym, ◌∙◌, rules, tests, string_bytes}
+use Rattle.std.proofs.Common.{◌≡◌, ℕ, Bool, true, false, List, [], ◌∷◌, map, not, ◌&&◌, ◌||◌, codes, is_some, refl, ap, sym, ◌∙◌, rules, tests, string_bytes}
 use Rattle.std.specs.List.{list_any, list_all}
 use Rattle.std.proofs.lemmas.Iterator.{YieldsList-from_slice}
 use Rattle.ft_content.specs.Content.{same_name, is_name, names_clash}

@@ -1,9 +1,9 @@
 -- the items as the definitions see them
-use Rattle.std.proofs.Common.{◌≡◌, Bool, List, map, ◌||◌, ap, sym, ◌∙◌, rules, tests}
+use Rattle.std.proofs.Common.{◌≡◌, Bool, map, ◌||◌, ap, ◌∙◌, rules, tests}
 use Rattle.std.specs.List.{list_any}
 use Rattle.std.proofs.lemmas.Iterator.{YieldsList-from_slice}
 use Rattle.ft_content.specs.Command as plain
-use Rattle.ft_content.specs.Deserved.{item_unknown, items_in, is_offsets, is_match, names_unknown}
+use Rattle.ft_content.specs.Deserved.{item_unknown, items_in, is_offsets, names_unknown}
 use Rattle.ft_content.specs.Views.{bare_content, filter_of, item_of, items_of}
 use Rattle.ft_content.proofs.Lists.{any_shown}
 use Rattle.ft_content.proofs.select.select_tests.Goals as goal

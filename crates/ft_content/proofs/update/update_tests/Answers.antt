@@ -1,11 +1,10 @@
 -- the values under their names
-use Rattle.std.proofs.Common.{◌≡◌, ℕ, List, Bool, Option, not, ◌&&◌, ◌||◌, String, map, length, ap, sym, ◌∙◌, rules, tests}
-use Rattle.std.specs.List.{list_any, list_all, filter_map}
+use Rattle.std.proofs.Common.{◌≡◌, not, ◌&&◌, ◌||◌, String, map, length, ap, sym, ◌∙◌, rules, tests}
+use Rattle.std.specs.List.{list_any, list_all}
 use Rattle.std.proofs.lemmas.Iterator.{YieldsList-from_slice}
 use Rattle.std.proofs.lemmas.Iterator.Consumers.{YieldsList-from_filter_map, count_from_yields_List}
 use Rattle.std.specs.declared.alloc.Global.{Global}
 use Rattle.ft_values.specs.declared.rows.Value.{Value}
-use Rattle.ft_values.specs.Cells.{Cell}
 use Rattle.ft_content.specs.Content.{is_docid, is_too_long, has_nul}
 use Rattle.ft_content.specs.Deserved.{has_column, is_text, is_null, docids_in, names_unknown}
 use Rattle.ft_content.specs.Views.{bare_content, filter_of, set_of}
