@@ -15,9 +15,7 @@ use std::alloc::{AllocError, Global};
 pub(crate) fn column_place(columns: &[Column], name: &str) -> Option<usize>
     ensures { result ≡ answer.column_place (bare_content columns.now) name.now }
 {
-    columns
-        .iter()
-        .position(|column| same_name(name, column.name.as_str()))
+    columns.iter().position(|c| same_name(name, &c.name))
 }
 
 // Whether one of the columns has this name.
@@ -25,9 +23,7 @@ pub(crate) fn is_column(columns: &[Column], name: &str) -> bool
     ensures { result ≡ list_any (content.same_name name.now)
         (content.names_of (bare_content columns.now).columns) }
 {
-    columns
-        .iter()
-        .any(|column| same_name(name, column.name.as_str()))
+    columns.iter().any(|c| same_name(name, &c.name))
 }
 
 /// Whether a value may stand under this name: that of a column, or of the docid.

@@ -1,5 +1,5 @@
 //! What a Create makes, and the tests that refuse it.
-ghost use Rattle.std.specs.Prelude.{◌≡◌, ◌-◌, ◌^◌, ◌<◌, ◌&&◌, ◌||◌, not, map, length, codes, string_bytes, IfOk};
+ghost use Rattle.std.specs.Prelude.{◌≡◌, ◌-◌, ◌^◌, ◌<◌, ◌&&◌, not, map, length, string_bytes, IfOk};
 ghost use Rattle.std.specs.List.{list_any};
 ghost use Rattle.ft_content.specs.Calls.{IsFreeId};
 ghost use Rattle.ft_content.specs.Content as content;
@@ -82,10 +82,7 @@ pub fn create_fault(
         Some(Fault::Module)
     } else if options.iter().any(|option| is_tokenize(option) && !same_name(&option.1, "simple")) {
         Some(Fault::Tokenizer)
-    } else if !options
-        .iter()
-        .all(|option| is_tokenize(option) || is_notindexed(option))
-    {
+    } else if !options.iter().all(|o| is_tokenize(o) || is_notindexed(o)) {
         Some(Fault::Parameter)
     } else if !(is_name(table) && are_names(names)) {
         Some(Fault::Name)

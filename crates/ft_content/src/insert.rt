@@ -1,6 +1,6 @@
 //! What an Insert makes of its rows, and the tests that refuse them.
-ghost use Rattle.std.specs.Prelude.{◌≡◌, ◌∷◌, ◌&&◌, ◌==◌, [], if◌then◌else◌, not, nat_lt, map, length, zip, find, slice_get, option_map, string_bytes, IfOk};
-ghost use Rattle.std.specs.List.{list_any, list_all};
+ghost use Rattle.std.specs.Prelude.{◌≡◌, ◌&&◌, map, length, zip, slice_get, option_map, string_bytes, IfOk};
+ghost use Rattle.std.specs.List.{list_any};
 ghost use Rattle.ft_values.specs.Cells.{shown_value};
 ghost use Rattle.ft_values.specs.Cells as stored;
 ghost use Rattle.ft_content.specs.Content as content;
@@ -25,10 +25,7 @@ pub fn listed_names<'a>(
 {
     match names {
         Some(names) => names.iter().map(|name| name.as_str()).collect(alloc),
-        None => columns
-            .iter()
-            .map(|column| column.name.as_str())
-            .collect(alloc),
+        None => columns.iter().map(|c| c.name.as_str()).collect(alloc),
     }
 }
 
@@ -37,10 +34,8 @@ fn gives_text(names: &[&str], row: &[Value]) -> bool
     ensures { result ≡ list_any (λ v. content.is_docid v.0 && deserved.is_text v.1)
         (zip (map (λ n. n.now) names.now) (map shown_value row.now)) }
 {
-    names.iter().zip(row.iter()).any(|(
-        name,
-        value,
-    )| matches!(value, Value::Text(_) if is_docid(name)))
+    let mut values = names.iter().zip(row.iter());
+    values.any(|(name, value)| is_docid(name) && matches!(value, Value::Text(_)))
 }
 
 // How many docids a row gives.
@@ -64,12 +59,9 @@ pub fn insert_tests(columns: &[Column], names: &[&str], rows: &[Vec<Value>]) -> 
         Some(Fault::NoSuchColumn)
     } else if rows.iter().any(|row| row.len() != names.len()) {
         Some(Fault::Count)
-    } else if rows.iter().any(|row| gives_text(names, row.as_slice())) {
+    } else if rows.iter().any(|row| gives_text(names, row)) {
         Some(Fault::DocidKind)
-    } else if rows
-        .iter()
-        .any(|row| docid_count(names, row.as_slice()) > 1)
-    {
+    } else if rows.iter().any(|row| docid_count(names, row) > 1) {
         Some(Fault::DocidTwice)
     } else if rows.iter().flatten().any(is_too_long) {
         Some(Fault::TooLong)
@@ -98,11 +90,8 @@ fn cell_under(names: &[&str], row: &[Value], column: &Column) -> Result<Value, A
         ≡ deserved.value_under (zip (map (λ n. n.now) names.now) (map shown_value row.now))
         (column_of column.now) stored.Null) }
 {
-    let found = names
-        .iter()
-        .zip(row.iter())
-        .find(|(name, _)| same_name(name, column.name.as_str()));
-    match found {
+    let mut values = names.iter().zip(row.iter());
+    match values.find(|(name, _)| same_name(name, &column.name)) {
         Some((_, value)) => value.clone(),
         None => Ok(Value::Null),
     }

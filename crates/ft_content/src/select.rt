@@ -1,9 +1,8 @@
 //! What a Select answers, and the tests of its names.
-ghost use Rattle.std.specs.Prelude.{◌≡◌, ◌∷◌, ◌++◌, ◌&&◌, ◌||◌, [], false, not, Option, map, codes, slice_get, unwrap_or, string_bytes, IfOk, OnOk};
-ghost use Rattle.std.specs.List.{list_any, flat_map};
+ghost use Rattle.std.specs.Prelude.{◌≡◌, ◌∷◌, [], map, option_and_then, slice_get, unwrap_or, IfOk};
+ghost use Rattle.std.specs.List.{list_any};
 ghost use Rattle.ft_values.specs.Cells as stored;
 ghost use Rattle.ft_values.specs.Cells.{shown_value};
-ghost use Rattle.ft_content.specs.Content.{names_of};
 ghost use Rattle.ft_content.specs.Answer as answer;
 ghost use Rattle.ft_content.specs.Calls.{IsItemRow};
 ghost use Rattle.ft_content.specs.Deserved as deserved;
@@ -14,25 +13,6 @@ use crate::command::{Filter, Item, Items};
 use crate::names::is_docid;
 use ft_values::{Column, Fault, Value, same_name};
 use std::alloc::{AllocError, Global};
-
-fn item_unknown(table: &str, columns: &[Column], item: &Item) -> bool
-    ensures { result ≡ deserved.item_unknown table.now (bare_content columns.now)
-        (item_of item.now) }
-{
-    match item {
-        Item::All => false,
-        Item::Name(name) => !has_column(columns, name),
-        Item::Offsets(name) => !same_name(table, name),
-    }
-}
-
-// Whether one of the items has a name that it may not have.
-fn any_unknown(table: &str, columns: &[Column], items: &[Item]) -> bool
-    ensures { result ≡ list_any (deserved.item_unknown table.now (bare_content columns.now))
-        (map item_of items.now) }
-{
-    items.iter().any(|item| item_unknown(table, columns, item))
-}
 
 /// Whether offsets are among the items.
 pub fn any_offsets(items: &[Item]) -> bool
@@ -55,7 +35,12 @@ pub fn select_tests(
         Items::Count => &[],
         Items::List(items) => items.as_slice(),
     };
-    if any_unknown(table, columns, listed) || names_unknown(table, columns, filter) {
+    let is_unknown = listed.iter().any(|item| match item {
+        Item::All => false,
+        Item::Name(name) => !has_column(columns, name),
+        Item::Offsets(name) => !same_name(table, name),
+    });
+    if is_unknown || names_unknown(table, columns, filter) {
         Some(Fault::NoSuchColumn)
     } else if any_offsets(listed) && !matches!(filter, Filter::Match { .. }) {
         Some(Fault::Context)
@@ -112,20 +97,12 @@ pub fn answer_names(
     Ok(names)
 }
 
-// The cell of a document under a name.
-fn named_cell(
-    columns: &[Column],
-    docid: i64,
-    cells: &[Value],
-    name: &str,
-) -> Result<Value, AllocError>
+// The cell of a document under a column's name.
+fn cell_named(columns: &[Column], cells: &[Value], name: &str) -> Result<Value, AllocError>
     ensures { IfOk result (λ cell. shown_value cell
-        ≡ answer.named_cell (bare_content columns.now) (docid, map shown_value cells.now)
-        name.now) }
+        ≡ unwrap_or (option_and_then (slice_get (map shown_value cells.now))
+        (answer.column_place (bare_content columns.now) name.now)) stored.Null) }
 {
-    if is_docid(name) {
-        return Ok(Value::Int(docid));
-    }
     match column_place(columns, name).and_then(|place| cells.get(place)) {
         Some(cell) => cell.clone(),
         None => Ok(Value::Null),
@@ -149,7 +126,8 @@ pub fn item_row(
     for item in items {
         match item {
             Item::All => row.extend_with_clones(cells)?,
-            Item::Name(name) => row.push(named_cell(columns, docid, cells, name)?)?,
+            Item::Name(name) if is_docid(name) => row.push(Value::Int(docid))?,
+            Item::Name(name) => row.push(cell_named(columns, cells, name)?)?,
             Item::Offsets(_) => row.push(Value::Text(offsets.to_string(alloc)?))?,
         }
     }

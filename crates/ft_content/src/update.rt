@@ -1,6 +1,5 @@
 //! What an Update makes of a document, and the tests that refuse it.
-ghost use Rattle.std.specs.Prelude.{◌≡◌, ◌&&◌, ◌||◌, not, map, find, length, slice_get, option_map, string_bytes, IfOk};
-ghost use Rattle.std.specs.List.{list_any, list_all};
+ghost use Rattle.std.specs.Prelude.{◌≡◌, map, slice_get, string_bytes, IfOk};
 ghost use Rattle.ft_values.specs.Cells.{shown_value};
 ghost use Rattle.ft_content.specs.Content as content;
 ghost use Rattle.ft_content.specs.Deserved as deserved;
@@ -39,18 +38,17 @@ pub fn update_tests(
     ensures { result ≡ deserved.update_tests table.now (bare_content columns.now)
         (map set_of sets.now) (filter_of filter.now) }
 {
+    let docids = sets
+        .iter()
+        .filter_map(|(name, value)| docid_under(name, value))
+        .count();
     if !sets.iter().all(|(name, _)| has_column(columns, name))
         || names_unknown(table, columns, filter)
     {
         Some(Fault::NoSuchColumn)
     } else if sets.iter().any(|(name, value)| is_docid(name) && !matches!(value, Value::Int(_))) {
         Some(Fault::DocidKind)
-    } else if sets
-        .iter()
-        .filter_map(|(name, value)| docid_under(name, value))
-        .count()
-        > 1
-    {
+    } else if docids > 1 {
         Some(Fault::DocidTwice)
     } else if sets.iter().any(|(_, value)| is_too_long(value)) {
         Some(Fault::TooLong)
@@ -76,10 +74,7 @@ fn cell_after(sets: &[(String, Value)], column: &Column, cell: &Value) -> Result
         ≡ deserved.value_under (map set_of sets.now) (column_of column.now)
         (shown_value cell.now)) }
 {
-    let found = sets
-        .iter()
-        .find(|set| same_name(set.0.as_str(), column.name.as_str()));
-    match found {
+    match sets.iter().find(|set| same_name(&set.0, &column.name)) {
         Some(set) => set.1.clone(),
         None => cell.clone(),
     }

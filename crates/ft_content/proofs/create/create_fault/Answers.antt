@@ -1,25 +1,17 @@
 -- the tests one after the other: options as pairs of texts, and tables by their names
-use Rattle.std.proofs.Common.{◌≡◌, ℕ, Bool, true, false, List, [], ◌∷◌, map, length, not, ◌&&◌, ◌||◌, codes, is_some, refl, ap, sym, ◌∙◌, rules, tests, String, string_bytes}
+use Rattle.std.proofs.Common.{◌≡◌, ℕ, Bool, true, false, List, [], ◌∷◌, map, not, ◌&&◌, ◌||◌, codes, is_some, refl, ap, sym, ◌∙◌, rules, tests, string_bytes}
 use Rattle.std.specs.List.{list_any, list_all}
-use Rattle.std.specs.declared.alloc.Global.{Global}
 use Rattle.std.proofs.lemmas.Iterator.{YieldsList-from_slice}
-use Rattle.std.proofs.lemmas.Iterator.Search.{any_from_yields_List, all_from_yields_List}
-use Rattle.ft_content.specs.Content.{same_name, is_name, names_clash}
+use Rattle.ft_content.specs.Content.{same_name, is_name}
 use Rattle.ft_content.specs.Deserved.{Contents, is_tokenize, is_notindexed, table_named}
 use Rattle.ft_content.specs.Views.{option_of, table_names, info_names}
-use Rattle.ft_content.proofs.Lists.{any_of_map, all_of_map, length_of_map}
+use Rattle.ft_content.proofs.Lists.{any_of_map, any_shown, all_of_map, all_shown, length_of_map}
 use Rattle.ft_content.proofs.TableLemmas.{is_named, as_many}
 use Rattle.ft_content.proofs.create.create_fault.Goals as goal
-use Rattle.ft_content.proofs.create.create_fault.Goals.{Start, After-same_name, After-any, After-all, Joined-is_name, then-is_name, else-is_name, After-names_clash, After-has_table-is_there, After-any-else-tables-ge1000}
-
-module_is : (c : After-same_name) → c.same_name.result ≡ same_name (string_bytes c.args.creation.now.module) (codes "fts4")
-module_is c = c.same_name.ensures ∙ ap (λ n. same_name n (codes "fts4")) c.as_str.ensures.value
+use Rattle.ft_content.proofs.create.create_fault.Goals.{After-same_name, After-any, After-all, Joined-is_name, then-is_name, else-is_name, After-names_clash, After-has_table-is_there, After-any-else-tables-ge1000}
 
 others : (c : After-any) → c.any.result ≡ list_any (λ o. is_tokenize o && not (same_name o.1 (codes "simple"))) (map option_of c.args.creation.now.options.items)
-others c =
-    let test : List ℕ × List ℕ → Bool = λ (o : List ℕ × List ℕ). is_tokenize o && not (same_name o.1 (codes "simple")) in
-    any_from_yields_List (λ (option : String Global × String Global). test (option_of option)) _ _ _ c.any.ensures.ran (YieldsList-from_slice c.args.creation.now.options.items cc) (λ x b q k. search (rules, tests))
-    ∙ sym (any_of_map test option_of c.args.creation.now.options.items)
+others c = any_shown (λ o. is_tokenize o && not (same_name o.1 (codes "simple"))) option_of _ _ _ c.any.ensures.ran (YieldsList-from_slice c.args.creation.now.options.items cc) (λ x b q k. search (rules, tests))
 
 -- all pass, or one doesn't
 all_or : {X : Type 0} (p : X → Bool) (xs : List X) → list_all p xs ≡ not (list_any (λ x. not (p x)) xs)
@@ -29,8 +21,7 @@ all_or p (x ∷ xs) = elim (p x) as (λ b. (b && list_all p xs) ≡ not (not b |
 known : (c : After-all) → c.all.result ≡ not (list_any (λ o. not (is_tokenize o || is_notindexed o)) (map option_of c.args.creation.now.options.items))
 known c =
     let test : List ℕ × List ℕ → Bool = λ (o : List ℕ × List ℕ). is_tokenize o || is_notindexed o in
-    all_from_yields_List (λ (option : String Global × String Global). test (option_of option)) _ _ _ c.all.ensures.ran (YieldsList-from_slice c.args.creation.now.options.items cc) (λ x b q k. search (rules, tests))
-    ∙ sym (all_of_map test option_of c.args.creation.now.options.items) ∙ all_or test (map option_of c.args.creation.now.options.items)
+    all_shown test option_of _ _ _ c.all.ensures.ran (YieldsList-from_slice c.args.creation.now.options.items cc) (λ x b q k. search (rules, tests)) ∙ all_or test (map option_of c.args.creation.now.options.items)
 
 named : (c : Joined-is_name) → c.if-is_name.value ≡ (is_name (string_bytes c.args.creation.now.table) && list_all is_name (map string_bytes c.args.names.now))
 named c =
@@ -39,105 +30,59 @@ named c =
       | else-is_name w ↦ search rules
     ]
 
-clash : (c : After-names_clash) → c.names_clash.result ≡ names_clash (string_bytes c.args.creation.now.table) (map string_bytes c.args.names.now)
-clash c = c.names_clash.ensures ∙ ap (λ n. names_clash n (map string_bytes c.args.names.now)) c.as_str-table.ensures.value
-
 there : (c : After-has_table-is_there) (contents : Contents) → table_names contents ≡ info_names c.args.tables.now → c.has_table-is_there.result ≡ is_some (table_named contents (string_bytes c.args.creation.now.table))
 there c contents same = c.has_table-is_there.ensures ∙ sym (is_named contents c.as_str-table.result.now c.args.tables.now same) ∙ ap (λ n. is_some (table_named contents n)) c.as_str-table.ensures.value
 
 left_out : (c : After-any-else-tables-ge1000) → c.any-else-tables-ge1000.result ≡ list_any (λ o. is_notindexed o && not (list_any (same_name o.1) (map string_bytes c.args.names.now))) (map option_of c.args.creation.now.options.items)
 left_out c =
-    let names = c.args.names.now in
-    let options = c.args.creation.now.options.items in
-    let test : List ℕ × List ℕ → Bool = λ (o : List ℕ × List ℕ). is_notindexed o && not (list_any (λ n. same_name o.1 (string_bytes n)) names) in
-    any_from_yields_List (λ (option : String Global × String Global). test (option_of option)) _ _ _ c.any-else-tables-ge1000.ensures.ran (YieldsList-from_slice options cc) (λ x b q k. search (rules, tests))
-    ∙ sym (any_of_map test option_of options) ∙ sym (λ i. list_any (λ (o : List ℕ × List ℕ). is_notindexed o && not (any_of_map (same_name o.1) string_bytes names i)) (map option_of options))
+    any_shown (λ o. is_notindexed o && not (list_any (λ n. same_name o.1 (string_bytes n)) c.args.names.now)) option_of _ _ _ c.any-else-tables-ge1000.ensures.ran (YieldsList-from_slice c.args.creation.now.options.items cc) (λ x b q k. search (rules, tests))
+    ∙ sym (λ i. list_any (λ (o : List ℕ × List ℕ). is_notindexed o && not (any_of_map (same_name o.1) string_bytes c.args.names.now i)) (map option_of c.args.creation.now.options.items))
 
 pub returns-then-any : goal.returns-then-any
 returns-then-any c = λ contents same.
-    let a = module_is (goal.at.returns-then-any c).After-same_name in
-    let b = others (goal.at.returns-then-any c).After-any in
-    search rules
+    let a = others (goal.at.returns-then-any c).After-any in search rules
 
 pub returns-then-not-all : goal.returns-then-not-all
 returns-then-not-all c = λ contents same.
-    let a = module_is (goal.at.returns-then-not-all c).After-same_name in
-    let b = others (goal.at.returns-then-not-all c).After-any in
-    let d = known (goal.at.returns-then-not-all c).After-all in
-    search rules
+    let a = others (goal.at.returns-then-not-all c).After-any in let b = known (goal.at.returns-then-not-all c).After-all in search rules
 
 pub returns-then-not-are_names : goal.returns-then-not-are_names
 returns-then-not-are_names c = λ contents same.
-    let a = module_is (goal.at.returns-then-not-are_names c).After-same_name in
-    let b = others (goal.at.returns-then-not-are_names c).After-any in
-    let d = known (goal.at.returns-then-not-are_names c).After-all in
-    let e = named (goal.at.returns-then-not-are_names c).Joined-is_name in
-    search rules
+    let a = others (goal.at.returns-then-not-are_names c).After-any in let b = known (goal.at.returns-then-not-are_names c).After-all in
+    let d = named (goal.at.returns-then-not-are_names c).Joined-is_name in search rules
 
 pub returns-then-names_clash : goal.returns-then-names_clash
 returns-then-names_clash c = λ contents same.
-    let a = module_is (goal.at.returns-then-names_clash c).After-same_name in
-    let b = others (goal.at.returns-then-names_clash c).After-any in
-    let d = known (goal.at.returns-then-names_clash c).After-all in
-    let e = named (goal.at.returns-then-names_clash c).Joined-is_name in
-    let f = clash (goal.at.returns-then-names_clash c).After-names_clash in
-    search rules
+    let a = others (goal.at.returns-then-names_clash c).After-any in let b = known (goal.at.returns-then-names_clash c).After-all in
+    let d = named (goal.at.returns-then-names_clash c).Joined-is_name in search rules
 
 pub returns-then-names-gt100 : goal.returns-then-names-gt100
 returns-then-names-gt100 c = λ contents same.
-    let a = module_is (goal.at.returns-then-names-gt100 c).After-same_name in
-    let b = others (goal.at.returns-then-names-gt100 c).After-any in
-    let d = known (goal.at.returns-then-names-gt100 c).After-all in
-    let e = named (goal.at.returns-then-names-gt100 c).Joined-is_name in
-    let f = clash (goal.at.returns-then-names-gt100 c).After-names_clash in
-    let g = length_of_map string_bytes c.args.names.now in
-    search rules
+    let a = others (goal.at.returns-then-names-gt100 c).After-any in let b = known (goal.at.returns-then-names-gt100 c).After-all in
+    let d = named (goal.at.returns-then-names-gt100 c).Joined-is_name in let e = length_of_map string_bytes c.args.names.now in search rules
 
 pub returns-then-is_there : goal.returns-then-is_there
 returns-then-is_there c = λ contents same.
-    let a = module_is (goal.at.returns-then-is_there c).After-same_name in
-    let b = others (goal.at.returns-then-is_there c).After-any in
-    let d = known (goal.at.returns-then-is_there c).After-all in
-    let e = named (goal.at.returns-then-is_there c).Joined-is_name in
-    let f = clash (goal.at.returns-then-is_there c).After-names_clash in
-    let g = length_of_map string_bytes c.args.names.now in
-    let h = there (goal.at.returns-then-is_there c).After-has_table-is_there contents same in
-    search rules
+    let a = others (goal.at.returns-then-is_there c).After-any in let b = known (goal.at.returns-then-is_there c).After-all in
+    let d = named (goal.at.returns-then-is_there c).Joined-is_name in let e = length_of_map string_bytes c.args.names.now in
+    let f = there (goal.at.returns-then-is_there c).After-has_table-is_there contents same in search rules
 
 pub returns-then-tables-ge1000 : goal.returns-then-tables-ge1000
 returns-then-tables-ge1000 c = λ contents same.
-    let a = module_is (goal.at.returns-then-tables-ge1000 c).After-same_name in
-    let b = others (goal.at.returns-then-tables-ge1000 c).After-any in
-    let d = known (goal.at.returns-then-tables-ge1000 c).After-all in
-    let e = named (goal.at.returns-then-tables-ge1000 c).Joined-is_name in
-    let f = clash (goal.at.returns-then-tables-ge1000 c).After-names_clash in
-    let g = length_of_map string_bytes c.args.names.now in
-    let h = there (goal.at.returns-then-tables-ge1000 c).After-has_table-is_there contents same in
-    let i = as_many contents c.args.tables.now same in
-    search rules
+    let a = others (goal.at.returns-then-tables-ge1000 c).After-any in let b = known (goal.at.returns-then-tables-ge1000 c).After-all in
+    let d = named (goal.at.returns-then-tables-ge1000 c).Joined-is_name in let e = length_of_map string_bytes c.args.names.now in
+    let f = there (goal.at.returns-then-tables-ge1000 c).After-has_table-is_there contents same in let g = as_many contents c.args.tables.now same in search rules
 
 pub returns-then-any-2 : goal.returns-then-any-2
 returns-then-any-2 c = λ contents same.
-    let a = module_is (goal.at.returns-then-any-2 c).After-same_name in
-    let b = others (goal.at.returns-then-any-2 c).After-any in
-    let d = known (goal.at.returns-then-any-2 c).After-all in
-    let e = named (goal.at.returns-then-any-2 c).Joined-is_name in
-    let f = clash (goal.at.returns-then-any-2 c).After-names_clash in
-    let g = length_of_map string_bytes c.args.names.now in
-    let h = there (goal.at.returns-then-any-2 c).After-has_table-is_there contents same in
-    let i = as_many contents c.args.tables.now same in
-    let j = left_out (goal.at.returns-then-any-2 c).After-any-else-tables-ge1000 in
-    search rules
+    let a = others (goal.at.returns-then-any-2 c).After-any in let b = known (goal.at.returns-then-any-2 c).After-all in
+    let d = named (goal.at.returns-then-any-2 c).Joined-is_name in let e = length_of_map string_bytes c.args.names.now in
+    let f = there (goal.at.returns-then-any-2 c).After-has_table-is_there contents same in let g = as_many contents c.args.tables.now same in
+    let h = left_out (goal.at.returns-then-any-2 c).After-any-else-tables-ge1000 in search rules
 
 pub returns-else-any-2 : goal.returns-else-any-2
 returns-else-any-2 c = λ contents same.
-    let a = module_is (goal.at.returns-else-any-2 c).After-same_name in
-    let b = others (goal.at.returns-else-any-2 c).After-any in
-    let d = known (goal.at.returns-else-any-2 c).After-all in
-    let e = named (goal.at.returns-else-any-2 c).Joined-is_name in
-    let f = clash (goal.at.returns-else-any-2 c).After-names_clash in
-    let g = length_of_map string_bytes c.args.names.now in
-    let h = there (goal.at.returns-else-any-2 c).After-has_table-is_there contents same in
-    let i = as_many contents c.args.tables.now same in
-    let j = left_out (goal.at.returns-else-any-2 c).After-any-else-tables-ge1000 in
-    search rules
+    let a = others (goal.at.returns-else-any-2 c).After-any in let b = known (goal.at.returns-else-any-2 c).After-all in
+    let d = named (goal.at.returns-else-any-2 c).Joined-is_name in let e = length_of_map string_bytes c.args.names.now in
+    let f = there (goal.at.returns-else-any-2 c).After-has_table-is_there contents same in let g = as_many contents c.args.tables.now same in
+    let h = left_out (goal.at.returns-else-any-2 c).After-any-else-tables-ge1000 in search rules

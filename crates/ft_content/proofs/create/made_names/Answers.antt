@@ -1,5 +1,5 @@
 -- the copies are the names that are given, and there is one name at least
-use Rattle.std.proofs.Common.{◌≡◌, ℕ, true, false, List, [], ◌∷◌, ◌++◌, map, length, codes, string_bytes, refl, sym, ap, ◌∙◌, subst, arith, rules, tests}
+use Rattle.std.proofs.Common.{◌≡◌, ℕ, true, false, List, [], ◌∷◌, ◌++◌, map, length, codes, string_bytes, refl, sym, ap, ◌∙◌, arith, rules, tests}
 use Rattle.std.specs.Prelude.{◌==◌}
 use Rattle.std.proofs.lemmas.List.{map-append}
 use Rattle.ft_content.specs.Deserved.{made_columns}

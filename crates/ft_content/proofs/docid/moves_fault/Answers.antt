@@ -4,7 +4,6 @@ use Rattle.std.proofs.Common.{◌≡◌, ◌<◌, ◌≤◌, Bool, not, ◌&&◌
 use Rattle.std.specs.Prelude.{IfSome, slice_get}
 use Rattle.std.specs.Int.{w64}
 use Rattle.std.specs.Ordering.{int_eq}
-use Rattle.ft_values.specs.declared.fault.Fault.{Fault}
 use Rattle.ft_values.specs.declared.fault.Fault.TheVariants as faults
 use Rattle.ft_content.specs.Content.{Documents}
 use Rattle.ft_content.specs.Deserved.{has_docid, move_fault, moves_fault}

@@ -1,5 +1,5 @@
 -- the columns' names and the column that is searched are those of the definition
-use Rattle.std.proofs.Common.{◌≡◌, ℕ, List, map, Option, option_map, Result, Ok, Err, Some, sym, ap, ◌∙◌, subst, string_bytes, rules}
+use Rattle.std.proofs.Common.{◌≡◌, ℕ, List, map, Option, option_map, Result, Ok, Err, Some, sym, ap, ◌∙◌, subst, string_bytes}
 use Rattle.std.specs.Prelude.{◌≢◌, IfOk, IfErr, MatchResult}
 use Rattle.std.specs.Result.{IsErrAnd}
 use Rattle.ft_query.specs.declared.query.Query.{Query}
