@@ -1,14 +1,10 @@
 -- Columns by their names.
 use Rattle.std.proofs.Common.{◌≡◌, ℕ, Bool, List, map, string_bytes, ◌∙◌}
 use Rattle.std.specs.Prelude.{position}
-use Rattle.std.specs.List.{list_any}
 use Rattle.ft_content.specs.Content.{names_of}
 use Rattle.ft_values.specs.declared.table.Column.{Column}
 use Rattle.ft_content.specs.Views.{column_of}
-use Rattle.ft_content.proofs.Lists.{any_of_map, position_of_map, map_of_map}
-
-pub any_of_names : (p : List ℕ → Bool) (columns : List Column) → list_any p (names_of (map column_of columns)) ≡ list_any (λ (c : Column). p (string_bytes c.name)) columns
-any_of_names p columns = any_of_map p (λ c. c.name) (map column_of columns) ∙ any_of_map (λ c. p c.name) column_of columns
+use Rattle.ft_content.proofs.Lists.{position_of_map, map_of_map}
 
 pub position_of_names : (p : List ℕ → Bool) (columns : List Column) → position p (names_of (map column_of columns)) ≡ position (λ (c : Column). p (string_bytes c.name)) columns
 position_of_names p columns = position_of_map p (λ c. c.name) (map column_of columns) ∙ position_of_map (λ c. p c.name) column_of columns

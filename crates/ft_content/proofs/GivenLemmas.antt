@@ -1,8 +1,12 @@
 -- Values under names.
-use Rattle.std.proofs.Common.{◌≡◌, ℕ, Bool, true, false, cond, List, [], ◌∷◌, ◌++◌, map, Option, Some, None, ℤ, is_some, option_map, refl, sym, ap, ◌∙◌}
-use Rattle.std.specs.Prelude.{zip, slice_get, find, option_and_then}
+use Rattle.std.proofs.Common.{◌≡◌, ℕ, Bool, true, false, cond, List, [], ◌∷◌, ◌++◌, map, ◌≤◌, Option, Some, None, ℤ, option_map, refl, arith, sym, ap, ◌∙◌}
+use Rattle.std.specs.Prelude.{zip, slice_get, find}
 use denote.Ref.{Bor}
 use Rattle.std.specs.List.{filter_map, cons_option}
+use Rattle.std.specs.Option.{MatchOption}
+use Rattle.std.proofs.lemmas.Iterator.{YieldsList}
+use Rattle.std.proofs.lemmas.Iterator.Adapters.{option_map_id}
+use Rattle.std.proofs.lemmas.Iterator.Consumers.{nth_from_yields_List}
 use Rattle.ft_values.specs.Cells.{Cell, Null, Int, Text, shown_value}
 use Rattle.ft_values.specs.declared.rows.Value.{Value}
 use Rattle.ft_content.specs.Content.{is_docid}
@@ -20,9 +24,6 @@ filter_map_of_map p h (x ∷ xs) = ap (cons_option (p (h x))) (filter_map_of_map
 -- the docid that a value gives
 abbrev pub docid_given : List ℕ × Cell → Option ℤ
 docid_given v = slice_get (cond (is_docid v.0) (number_of v.1) []) 0
-
-abbrev pub gives_docid : List ℕ × Cell → Bool
-gives_docid v = is_some (docid_given v)
 
 number_first : (cell : Cell) (b : Bool) (rest : List ℤ) → cond b (number_of cell) [] ++ rest ≡ cons_option (slice_get (cond b (number_of cell) []) 0) rest
 number_first Null true rest = refl
@@ -53,12 +54,6 @@ pub find_given : (p : List ℕ × Cell → Bool) (names : List (Bor (List ℕ)))
     option_map given (find (λ v. p (given v)) (zip names row)) ≡ find p (zip (map (λ (n : Bor (List ℕ)). n.now) names) (map shown_value row))
 find_given p names row = find_of_map p given (zip names row) ∙ ap (find p) (sym (zip_of_maps (λ (n : Bor (List ℕ)). n.now) shown_value names row))
 
--- the first docid is that of the first value that gives one
-first_given : (values : List (List ℕ × Cell)) → slice_get (filter_map docid_given values) 0 ≡ option_and_then docid_given (find (λ v. is_some (docid_given v)) values)
-first_given [] = refl
-first_given (v ∷ vs) =
-    elim (docid_given v) as (λ o. o ≡ docid_given v → slice_get (cons_option o (filter_map docid_given vs)) 0 ≡ option_and_then docid_given (cond (is_some o) (Some v) (find (λ v. is_some (docid_given v)) vs)))
-    [ Some n ↦ λ e. e | None ↦ λ e. first_given vs ] refl
-
-pub first_docid : (values : List (List ℕ × Cell)) → slice_get (docids_in values) 0 ≡ option_and_then docid_given (find (λ v. is_some (docid_given v)) values)
-first_docid values = ap (λ ds. slice_get ds 0) (docids_are values) ∙ first_given values
+-- what `next` gives is the first of the items
+pub first_item : {S A : Type 0} {steps : S → Option A → S → Type 0} {s : S} {all : List A} (r : Option A) (u : S) → steps s r u → YieldsList steps (λ x. x) s all → r ≡ slice_get all 0
+first_item {s = s} r u h e = sym (option_map_id r) ∙ nth_from_yields_List r u 0 ([], (s, refl, h), elim r as (λ o. MatchOption o (0 ≤ 0) (λ _. ◌≡◌ {A = ℕ} 0 0)) [ Some x ↦ refl | None ↦ omega arith ]) e

@@ -1,20 +1,21 @@
 -- The last docid of documents, and those that are taken, after a document is put among them.
-use Rattle.std.proofs.Common.{◌≡◌, Bool, true, false, cond, ◌||◌, List, [], ◌∷◌, Option, Some, None, ℤ, is_some, refl, sym, ap, ◌∙◌, arith}
+use Rattle.std.proofs.Common.{◌≡◌, Bool, true, false, cond, ◌||◌, List, [], ◌∷◌, Option, Some, None, ℤ, is_some, refl, sym, ap, subst, ◌∙◌}
 use Rattle.std.specs.declared.cmp.Ordering.{Ordering}
 use Rattle.std.specs.declared.cmp.Ordering.TheVariants.{Less, Equal, Greater}
-use Rattle.std.specs.Ordering.{int_cmp, int_eq, is_eq, is_lt}
-use Rattle.std.specs.Cmp.{int_cmp_is, int_cmp_total}
+use Rattle.std.specs.Ordering.{MatchOrdering, int_cmp, int_eq, is_eq, is_lt}
+use Rattle.std.specs.Cmp.{int_cmp_total, int_ranks}
 use Rattle.std.specs.FinMap.Entries.{by_order, put, find, below_all, is_sorted}
 use Rattle.std.proofs.lemmas.Bool.{and_parts}
 use Rattle.std.proofs.lemmas.Bool.Decides.{Decides-int_eq}
 use Rattle.ft_content.specs.Deserved.{has_docid, move_fault, moves_fault}
-use Rattle.std.proofs.lemmas.Int.{ints}
-use Rattle.std.specs.Prelude.{◌<ℤ◌, ◌≤ℤ◌, slice_get, unwrap_or}
+use Rattle.std.specs.Int.{int_max}
+use Rattle.std.specs.Option.{MatchOption}
+use Rattle.std.specs.Prelude.{◌<ℤ◌, int_lt, slice_get, unwrap_or}
 use Rattle.ft_values.specs.Cells.{Cell}
 use Rattle.ft_content.specs.Content.{Documents}
 use Rattle.ft_content.specs.Laws.{DocidIsTaken}
 use Rattle.ft_content.specs.Views.{last_docid}
-use Rattle.ft_content.proofs.TableLemmas.{less_is, greater_means}
+use Rattle.ft_content.proofs.TableLemmas.{less_is}
 
 -- the last docid of some documents
 abbrev last_from : ℤ × List Cell → Documents → ℤ
@@ -64,16 +65,14 @@ last_after k v (d ∷ ds) h = last_put k v d ds h ∙ ap (λ (o : Option ℤ). S
 pub last_put_among : (k : ℤ) (v : List Cell) (documents : Documents) (last : Option ℤ) → is_sorted int_cmp documents ≡ true → last_docid documents ≡ last → last_docid (put int_cmp k v documents) ≡ Some (greater k last)
 last_put_among k v documents last h same = last_after k v documents h ∙ ap (λ (o : Option ℤ). Some (greater k o)) same
 
-pub greater_is : (k n : ℤ) → n <ℤ k → greater k (Some n) ≡ k
-greater_is k n h = ap (λ (o : Ordering). by_order o n n k) (sym (int_cmp_is k n Greater h))
-
-pub greater_not : (k n : ℤ) → k ≤ℤ n → greater k (Some n) ≡ n
-greater_not k n h = by_case (int_cmp k n) refl
+pub greater_of : (k : ℤ) (last : Option ℤ) (r : ℤ) → MatchOption last (r ≡ k) (λ n. r ≡ int_max n k) → greater k last ≡ r
+greater_of k None r e = sym e
+greater_of k (Some n) r e = by_tests (int_lt k n) (int_lt n k) refl refl ∙ sym e
   where
-    by_case : (o : Ordering) → int_cmp k n ≡ o → by_order o n n k ≡ n
-    by_case Less e = refl
-    by_case Equal e = refl
-    by_case Greater e = let above : n <ℤ k = greater_means k n e in absurd (omega (arith, ints))
+    by_tests : (a b : Bool) → int_lt k n ≡ a → int_lt n k ≡ b → by_order (cond a Less (cond b Greater Equal)) n n k ≡ cond a n k
+    by_tests true b below above = refl
+    by_tests false true below above = refl
+    by_tests false false below above = sym (subst (λ o. MatchOrdering o (k <ℤ n) (k ≡ n) (n <ℤ k)) (λ i. cond (below i) Less (cond (above i) Greater Equal)) (int_ranks k n))
 
 -- ---- docids that are taken
 

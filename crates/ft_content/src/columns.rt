@@ -1,10 +1,10 @@
 //! The columns of a table by their names.
-ghost use Rattle.std.specs.Prelude.{◌≡◌, ◌||◌, ◌++◌, OnOk};
+ghost use Rattle.std.specs.Prelude.{◌≡◌, map, string_bytes, IfOk};
 ghost use Rattle.std.specs.List.{list_any};
 ghost use Rattle.ft_content.specs.Content as content;
 ghost use Rattle.ft_content.specs.Answer as answer;
 ghost use Rattle.ft_content.specs.Deserved as deserved;
-ghost use Rattle.ft_content.specs.Views.{bare_content, filter_of, names_in};
+ghost use Rattle.ft_content.specs.Views.{bare_content, column_of, filter_of};
 
 use crate::command::Filter;
 use crate::names::is_docid;
@@ -15,9 +15,7 @@ use std::alloc::{AllocError, Global};
 pub(crate) fn column_place(columns: &[Column], name: &str) -> Option<usize>
     ensures { result ≡ answer.column_place (bare_content columns.now) name.now }
 {
-    columns
-        .iter()
-        .position(|column| same_name(name, column.name.as_str()))
+    columns.iter().position(|c| same_name(name, &c.name))
 }
 
 // Whether one of the columns has this name.
@@ -25,9 +23,7 @@ pub(crate) fn is_column(columns: &[Column], name: &str) -> bool
     ensures { result ≡ list_any (content.same_name name.now)
         (content.names_of (bare_content columns.now).columns) }
 {
-    columns
-        .iter()
-        .any(|column| same_name(name, column.name.as_str()))
+    columns.iter().any(|c| same_name(name, &c.name))
 }
 
 /// Whether a value may stand under this name: that of a column, or of the docid.
@@ -44,29 +40,18 @@ pub(crate) fn names_unknown(table: &str, columns: &[Column], filter: &Filter) ->
 {
     match filter {
         Filter::All | Filter::Docid(_) => false,
-        Filter::Match { name, .. } => !is_searched(table, columns, name.as_str()),
+        Filter::Match { name, .. } => !(same_name(table, name) || is_column(columns, name)),
     }
 }
 
-// Whether a MATCH may have this name: that of the table, or of a column.
-fn is_searched(table: &str, columns: &[Column], name: &str) -> bool
-    ensures { result ≡ (content.same_name table.now name.now || list_any
-        (content.same_name name.now) (content.names_of (bare_content columns.now).columns)) }
+/// The names of columns.
+pub fn column_names(alloc: Global, columns: &[Column]) -> Result<Vec<String>, AllocError>
+    ensures { IfOk result (λ names. map string_bytes names.items
+        ≡ content.names_of (map column_of columns.now)) }
 {
-    same_name(table, name) || is_column(columns, name)
-}
-
-// Puts the columns' names behind these.
-pub(crate) fn push_names(
-    alloc: Global,
-    names: &mut Vec<String>,
-    columns: &[Column],
-) -> Result<(), AllocError>
-    ensures { OnOk result (names_in names.new
-        ≡ names_in names.old ++ content.names_of (bare_content columns.now).columns) }
-{
+    let mut names = Vec::new(alloc);
     for column in columns {
-        names.push(String::from_str(alloc, column.name.as_str())?)?;
+        names.push(column.name.clone()?)?;
     }
-    Ok(())
+    Ok(names)
 }

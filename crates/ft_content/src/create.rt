@@ -1,5 +1,5 @@
 //! What a Create makes, and the tests that refuse it.
-ghost use Rattle.std.specs.Prelude.{◌≡◌, ◌-◌, ◌^◌, ◌<◌, ◌&&◌, ◌||◌, not, map, length, codes, string_bytes, IfOk};
+ghost use Rattle.std.specs.Prelude.{◌≡◌, ◌-◌, ◌^◌, ◌<◌, ◌&&◌, not, map, length, string_bytes, IfOk};
 ghost use Rattle.std.specs.List.{list_any};
 ghost use Rattle.ft_content.specs.Calls.{IsFreeId};
 ghost use Rattle.ft_content.specs.Content as content;
@@ -18,21 +18,11 @@ pub fn made_names(alloc: Global, columns: &[String]) -> Result<Vec<String>, Allo
     ensures { IfOk result (λ names. map string_bytes names.items
         ≡ deserved.made_columns (map string_bytes columns.now)) }
 {
-    let mut names = copied_texts(alloc, columns)?;
+    let mut names = columns.to_vec(alloc)?;
     if names.is_empty() {
         names.push("content".to_string(alloc)?)?;
     }
     Ok(names)
-}
-
-fn copied_texts(alloc: Global, texts: &[String]) -> Result<Vec<String>, AllocError>
-    ensures { IfOk result (λ copies. map string_bytes copies.items ≡ map string_bytes texts.now) }
-{
-    let mut copies = Vec::new(alloc);
-    for text in texts {
-        copies.push(text.clone()?)?;
-    }
-    Ok(copies)
 }
 
 /// The columns of these names that a Create with these options makes.
@@ -72,77 +62,6 @@ fn is_indexed(options: &[(String, String)], name: &str) -> bool
     !options.iter().any(|option| is_notindexed(option) && same_name(option.1.as_str(), name))
 }
 
-// Whether an option names a tokenizer that isn't `simple`.
-fn has_other_tokenizer(options: &[(String, String)]) -> bool
-    ensures { result ≡ list_any (λ o. deserved.is_tokenize o && not
-        (content.same_name o.1 (codes "simple"))) (map option_of options.now) }
-{
-    options.iter().any(|option| is_tokenize(option) && !same_name(option.1.as_str(), "simple"))
-}
-
-// Whether an option is none of the two that there are.
-fn has_other_option(options: &[(String, String)]) -> bool
-    ensures { result ≡ list_any (λ o. not (deserved.is_tokenize o || deserved.is_notindexed o))
-        (map option_of options.now) }
-{
-    options
-        .iter()
-        .any(|option| !(is_tokenize(option) || is_notindexed(option)))
-}
-
-// Whether an option says of a column that isn't among these that it isn't indexed.
-fn leaves_out_unknown(options: &[(String, String)], names: &[String]) -> bool
-    ensures { result ≡ list_any (λ o. deserved.is_notindexed o && not
-        (list_any (content.same_name o.1) (map string_bytes names.now)))
-        (map option_of options.now) }
-{
-    options.iter().any(|option| is_notindexed(option) && !has_name(names, option.1.as_str()))
-}
-
-#[tactic(auto, using(crate::proofs::Lists::all_of_map, crate::proofs::Lists::length_of_map))]
-fn create_tests(
-    alloc: Global,
-    is_there: bool,
-    count: usize,
-    table: &str,
-    module_name: &str,
-    options: &[(String, String)],
-    names: &[String],
-    if_new: bool,
-) -> Option<Fault>
-    ensures { result ≡ deserved.create_tests is_there count table.now module_name.now
-        (map option_of options.now) (map string_bytes names.now) if_new }
-{
-    if !same_name(module_name, "fts4") {
-        return Some(Fault::Module);
-    }
-    if has_other_tokenizer(options) {
-        return Some(Fault::Tokenizer);
-    }
-    if has_other_option(options) {
-        return Some(Fault::Parameter);
-    }
-    if !(is_name(table) && are_names(names)) {
-        return Some(Fault::Name);
-    }
-    if names_clash(alloc, table, names) {
-        return Some(Fault::DuplicateColumn);
-    }
-    if names.len() > 100 {
-        return Some(Fault::TooManyColumns);
-    }
-    if is_there && !if_new {
-        return Some(Fault::TableExists);
-    }
-    if !is_there && count >= 1000 {
-        return Some(Fault::TooManyTables);
-    }
-    if !is_there && leaves_out_unknown(options, names) {
-        return Some(Fault::NoSuchColumn);
-    }
-    None
-}
-
 /// The fault of a Create of a table with columns of these names, if it deserves one. The tables are
 /// those that are there.
 pub fn create_fault(
@@ -157,16 +76,29 @@ pub fn create_fault(
         (map string_bytes names.now) creation.now.if_new }
 {
     let table = creation.table.as_str();
-    create_tests(
-        alloc,
-        has_table(tables, table),
-        tables.len(),
-        table,
-        creation.module.as_str(),
-        creation.options.as_slice(),
-        names,
-        creation.if_new,
-    )
+    let options = creation.options.as_slice();
+    let is_there = has_table(tables, table);
+    if !same_name(creation.module.as_str(), "fts4") {
+        Some(Fault::Module)
+    } else if options.iter().any(|option| is_tokenize(option) && !same_name(&option.1, "simple")) {
+        Some(Fault::Tokenizer)
+    } else if !options.iter().all(|o| is_tokenize(o) || is_notindexed(o)) {
+        Some(Fault::Parameter)
+    } else if !(is_name(table) && are_names(names)) {
+        Some(Fault::Name)
+    } else if names_clash(alloc, table, names) {
+        Some(Fault::DuplicateColumn)
+    } else if names.len() > 100 {
+        Some(Fault::TooManyColumns)
+    } else if is_there {
+        (!creation.if_new).then_some(Fault::TableExists)
+    } else if tables.len() >= 1000 {
+        Some(Fault::TooManyTables)
+    } else if options.iter().any(|option| is_notindexed(option) && !has_name(names, &option.1)) {
+        Some(Fault::NoSuchColumn)
+    } else {
+        None
+    }
 }
 
 /// The least positive id that none of these tables has, which stand by rising id.

@@ -10,18 +10,6 @@ ghost use Rattle.ft_content.specs.Views.{last_docid, placed};
 
 use ft_values::Fault;
 
-// The docid of a document that is given none, where this is the last one's: one more, or 1 where
-// there is no document. There is none behind the largest of all.
-fn next_docid(last: Option<i64>) -> Option<i64>
-    ensures { (documents : Documents) → last_docid documents ≡ last
-        → result ≡ deserved.next_docid documents }
-{
-    match last {
-        None => Some(1),
-        Some(docid) => docid.checked_add(1),
-    }
-}
-
 /// Under which docid a row is put among documents of which this is the last docid. The row may give
 /// a docid, which may be taken.
 ///
@@ -36,15 +24,11 @@ pub fn docid_for_row(last: Option<i64>, given: Option<i64>, is_taken: bool) -> R
         → deserved.insert_row documents docids cells ≡ placed documents cells result }
 {
     match given {
-        Some(docid) => {
-            if is_taken {
-                return Err(Fault::DocidTaken(docid));
-            }
-            Ok(docid)
-        }
-        None => match next_docid(last) {
-            Some(docid) => Ok(docid),
-            None => Err(Fault::DocidFull),
+        Some(docid) if is_taken => Err(Fault::DocidTaken(docid)),
+        Some(docid) => Ok(docid),
+        None => match last {
+            Some(last) => last.checked_add(1).ok_or(Fault::DocidFull),
+            None => Ok(1),
         },
     }
 }
@@ -57,27 +41,10 @@ pub fn moves_fault(chosen: &[i64], given: Option<i64>, is_taken: bool) -> Option
         → IfSome given (λ docid. deserved.has_docid documents docid ≡ is_taken)
         → result ≡ deserved.moves_fault documents picked docids }
 {
-    match given {
-        None => None,
-        Some(docid) => move_fault(chosen, docid, is_taken),
-    }
-}
-
-// The same where this docid is set.
-fn move_fault(chosen: &[i64], docid: i64, is_taken: bool) -> Option<Fault>
-    ensures { (documents picked : Documents) → step.docids_of picked ≡ chosen.now
-        → deserved.has_docid documents docid ≡ is_taken
-        → result ≡ deserved.move_fault documents picked docid }
-{
+    let docid = given?;
     match chosen {
         [] => None,
-        [only] => {
-            if is_taken && *only != docid {
-                Some(Fault::DocidTaken(docid))
-            } else {
-                None
-            }
-        }
+        [only] if !is_taken || *only == docid => None,
         _ => Some(Fault::DocidTaken(docid)),
     }
 }
@@ -88,8 +55,5 @@ pub fn last_docid_after(last: Option<i64>, docid: i64) -> i64
         → last_docid documents ≡ last
         → last_docid (put int_cmp docid cells documents) ≡ Some result }
 {
-    match last {
-        None => docid,
-        Some(last) => { if docid > last { docid } else { last } }
-    }
+    last.map_or(docid, |last| last.max(docid))
 }

@@ -14,7 +14,7 @@ mod select;
 mod update;
 mod value;
 
-pub use columns::has_column;
+pub use columns::{column_names, has_column};
 pub use command::{
     Command, Creation, Deletion, Filter, Grid, Insertion, Item, Items, Modification, Reply,
     Selection,

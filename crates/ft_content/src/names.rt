@@ -1,8 +1,7 @@
 //! Names of tables and columns. They are compared without ASCII case.
-ghost use Rattle.std.specs.Prelude.{◌≡◌, ◌++◌, ◌∷◌, [], ℕ, List, map, not, string_bytes, IfOk, OnOk};
+ghost use Rattle.std.specs.Prelude.{◌≡◌, ℕ, List, map, string_bytes, IfOk};
 ghost use Rattle.std.specs.List.{list_any, list_all};
 ghost use Rattle.ft_content.specs.Content as content;
-ghost use Rattle.ft_content.specs.Small.{AreSmall};
 
 use ft_values::same_name;
 use std::alloc::{AllocError, Global};
@@ -29,42 +28,43 @@ pub fn are_names(names: &[String]) -> bool
     names.iter().all(|name| is_name(name.as_str()))
 }
 
-/// Whether a name is among these.
-pub(crate) fn has_name(names: &[String], name: &str) -> bool
-    ensures { result ≡ list_any (λ n. content.same_name name.now (string_bytes n)) names.now }
-{
-    names.iter().any(|other| same_name(name, other.as_str()))
+/// What has a name.
+pub(crate) trait Named {
+    ghost name_of: { Self → List ℕ };
+
+    fn name(&self) -> &str
+        ensures { result.now ≡ name_of self.now };
 }
 
-/// Whether one of these names is that of the docid.
-pub(crate) fn has_docid(names: &[String]) -> bool
+impl Named for String {
+    ghost name_of = { string_bytes };
+
+    fn name(&self) -> &str {
+        self.as_str()
+    }
+}
+
+/// Whether one of these has this name.
+pub(crate) fn has_name<T: Named>(named: &[T], name: &str) -> bool
+    ensures { result ≡ list_any (λ n. content.same_name name.now (T.name_of n)) named.now }
+{
+    named.iter().any(|other| same_name(name, other.name()))
+}
+
+// Whether one of these names is that of the docid.
+fn has_docid(names: &[String]) -> bool
     ensures { result ≡ list_any (λ n. content.is_docid (string_bytes n)) names.now }
 {
     names.iter().any(|name| is_docid(name.as_str()))
 }
 
-/// Adds a name to these, which are in small letters, and says whether it is new among them.
-pub(crate) fn add_small(
-    alloc: Global,
-    small: &mut BTreeSet<String>,
-    name: &str,
-) -> Result<bool, AllocError>
-    ensures is_new { IfOk result (λ is_new. (names : List (List ℕ)) → AreSmall small.old names
-        → is_new ≡ not (list_any (λ n. content.same_name n name.now) names)) }
-    ensures added { OnOk result ((names : List (List ℕ)) → AreSmall small.old names
-        → AreSmall small.new (names ++ name.now ∷ [])) }
-{
-    let is_new = small.insert(name.to_ascii_lowercase(alloc)?)?;
-    Ok(is_new)
-}
-
-// Whether a name stands twice among these, by a set.
-fn repeats_in_set(alloc: Global, names: &[String]) -> Result<bool, AllocError>
-    ensures { IfOk result (λ b. b ≡ content.repeats_name (map string_bytes names.now)) }
+// Whether two of these have one name, by a set.
+fn repeats_in_set<T: Named>(alloc: Global, named: &[T]) -> Result<bool, AllocError>
+    ensures { IfOk result (λ b. b ≡ content.repeats_name (map T.name_of named.now)) }
 {
     let mut small = BTreeSet::new(alloc);
-    for name in names {
-        if !add_small(alloc, &mut small, name.as_str())? {
+    for one in named {
+        if !small.insert(one.name().to_ascii_lowercase(alloc)?)? {
             return Ok(true);
         }
     }
@@ -72,27 +72,30 @@ fn repeats_in_set(alloc: Global, names: &[String]) -> Result<bool, AllocError>
 }
 
 // The same, each by those behind it.
-fn repeats_behind(names: &[String]) -> bool
-    ensures { result ≡ content.repeats_name (map string_bytes names.now) }
+fn repeats_behind<T: Named>(named: &[T]) -> bool
+    ensures { result ≡ content.repeats_name (map T.name_of named.now) }
 {
-    for k in 0..names.len() {
-        let name = names[k].as_str();
-        if has_name(&names[k + 1..], name) {
+    for k in 0..named.len() {
+        if has_name(&named[k + 1..], named[k].name()) {
             return true;
         }
     }
     false
 }
 
-/// Whether a name stands twice among these. Where there is no memory for a set, it takes time in
-/// the square of their number.
+/// Whether two of these have one name. Where there is no memory for a set, it takes time in the
+/// square of their number.
+pub(crate) fn repeats<T: Named>(alloc: Global, named: &[T]) -> bool
+    ensures { result ≡ content.repeats_name (map T.name_of named.now) }
+{
+    repeats_in_set(alloc, named).unwrap_or_else(|_| repeats_behind(named))
+}
+
+/// Whether a name stands twice among these.
 pub fn repeats_name(alloc: Global, names: &[String]) -> bool
     ensures { result ≡ content.repeats_name (map string_bytes names.now) }
 {
-    match repeats_in_set(alloc, names) {
-        Ok(repeats) => repeats,
-        Err(_) => repeats_behind(names),
-    }
+    repeats(alloc, names)
 }
 
 /// Whether the columns of a table clash with one another, with docid or with the table.
@@ -100,5 +103,5 @@ pub fn repeats_name(alloc: Global, names: &[String]) -> bool
 pub fn names_clash(alloc: Global, table: &str, columns: &[String]) -> bool
     ensures { result ≡ content.names_clash table.now (map string_bytes columns.now) }
 {
-    repeats_name(alloc, columns) || has_docid(columns) || has_name(columns, table)
+    repeats(alloc, columns) || has_docid(columns) || has_name(columns, table)
 }

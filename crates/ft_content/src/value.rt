@@ -1,54 +1,24 @@
 //! Values of cells.
-ghost use Rattle.std.specs.Prelude.{◌≡◌, [], if◌then◌else◌, slice_get, IfOk};
+ghost use Rattle.std.specs.Prelude.{◌≡◌, [], if◌then◌else◌, slice_get};
 ghost use Rattle.ft_values.specs.Cells.{shown_value};
 ghost use Rattle.ft_content.specs.Content as content;
 ghost use Rattle.ft_content.specs.Deserved as deserved;
 
 use crate::names::is_docid;
 use ft_values::Value;
-use std::alloc::{AllocError, Global};
-
-/// A copy of a value.
-pub(crate) fn copied_value(alloc: Global, value: &Value) -> Result<Value, AllocError>
-    ensures { IfOk result (λ copy. shown_value copy ≡ shown_value value.now) }
-{
-    match value {
-        Value::Null => Ok(Value::Null),
-        Value::Int(number) => Ok(Value::Int(*number)),
-        Value::Text(text) => Ok(Value::Text(String::from_str(alloc, text.as_str())?)),
-    }
-}
-
-pub(crate) fn is_text(value: &Value) -> bool
-    ensures { result ≡ deserved.is_text (shown_value value.now) }
-{
-    matches!(value, Value::Text(_))
-}
-
-pub(crate) fn is_null(value: &Value) -> bool
-    ensures { result ≡ deserved.is_null (shown_value value.now) }
-{
-    matches!(value, Value::Null)
-}
 
 /// Whether a value is a text over 1,000,000 bytes.
 pub fn is_too_long(value: &Value) -> bool
     ensures { result ≡ content.is_too_long (shown_value value.now) }
 {
-    match value {
-        Value::Text(text) => text.len() > 1_000_000,
-        _ => false,
-    }
+    matches!(value, Value::Text(text) if text.len() > 1_000_000)
 }
 
 /// Whether U+0000 stands in a value.
 pub fn has_nul(value: &Value) -> bool
     ensures { result ≡ content.has_nul (shown_value value.now) }
 {
-    match value {
-        Value::Text(text) => text.as_bytes().contains(&0),
-        _ => false,
-    }
+    matches!(value, Value::Text(text) if text.as_bytes().contains(&0))
 }
 
 // The docid that a value gives under this name, if it gives one.

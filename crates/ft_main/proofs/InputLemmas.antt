@@ -7,7 +7,7 @@ use Rattle.sqlite.specs.Store.{Ghosts}
 use Rattle.plain_shell.specs.declared.run.Status.{Status}
 use Rattle.plain_shell.specs.declared.run.RunFault.{RunFault}
 use Rattle.ft_shell.specs.Shell.{Parts}
-use Rattle.ft_shell.specs.Deeds.{Deeds, idle, and_then}
+use Rattle.ft_shell.specs.Effects.{Effects, idle, and_then}
 use Rattle.ft_shell.specs.Promise.{IsClean, Ran, AllRan, PromiseKept, KeptByRuns, none_ran, last_ran, first_ran}
 use Rattle.ft_shell.specs.Runs.{Console}
 use Rattle.ft_shell.proofs.TurnsLemmas.{assoc_then, idle_then, then_idle}
@@ -28,34 +28,34 @@ use Rattle.ft_main.specs.Inputs.{Closes, EndsAs, InTurn, Outputs, RunsAndKeeps, 
 
 module _ {P S : Type 0} (g : Ghosts P) (h : Ghosts S) where
   -- what is answered of a run is what its turns told
-  pub counts_faults : (status : Status) (old new : Console P S) (own : Deeds) → Ran g h (Ok status) old new own → status.faults ≡ min own.faults (2 ^ 64 - 1)
-  counts_faults status old new own (it, is) = it.faults ∙ ap (λ (d : Deeds). min d.faults (2 ^ 64 - 1)) (sym is)
+  pub counts_faults : (status : Status) (old new : Console P S) (own : Effects) → Ran g h (Ok status) old new own → status.faults ≡ min own.faults (2 ^ 64 - 1)
+  counts_faults status old new own (it, is) = it.faults ∙ ap (λ (d : Effects). min d.faults (2 ^ 64 - 1)) (sym is)
 
-  pub tells_quit : (status : Status) (old new : Console P S) (own : Deeds) → Ran g h (Ok status) old new own → status.quit ≡ own.ends
-  tells_quit status old new own (it, is) = it.quit ∙ ap (λ (d : Deeds). d.ends) (sym is)
+  pub tells_quit : (status : Status) (old new : Console P S) (own : Effects) → Ran g h (Ok status) old new own → status.quit ≡ own.ends
+  tells_quit status old new own (it, is) = it.quit ∙ ap (λ (d : Effects). d.ends) (sym is)
 
   -- ---- one input, and then others
 
-  stops_by_fault : (fault : RunFault) (input : Option (List ℕ)) (inputs : List (Option (List ℕ))) (old new : Stage P S) (own : Deeds) → RunsOne g h input (Err fault) old new own → InTurn g h (input ∷ inputs) (Some fault) old new own
+  stops_by_fault : (fault : RunFault) (input : Option (List ℕ)) (inputs : List (Option (List ℕ))) (old new : Stage P S) (own : Effects) → RunsOne g h input (Err fault) old new own → InTurn g h (input ∷ inputs) (Some fault) old new own
   stops_by_fault fault input inputs old new own ran = (Err fault, new, own, ran, (refl, refl, refl))
 
-  stops_by_quit : (status : Status) (input : Option (List ℕ)) (inputs : List (Option (List ℕ))) (old new : Stage P S) (own : Deeds) → RunsOne g h input (Ok status) old new own → own.ends ≡ true → InTurn g h (input ∷ inputs) None old new own
+  stops_by_quit : (status : Status) (input : Option (List ℕ)) (inputs : List (Option (List ℕ))) (old new : Stage P S) (own : Effects) → RunsOne g h input (Ok status) old new own → own.ends ≡ true → InTurn g h (input ∷ inputs) None old new own
   stops_by_quit status input inputs old new own ran ends = (Ok status, new, own, ran, go None refl own.ends ends)
     where
-      go : (cause : Option RunFault) → cause ≡ None → (e : Bool) → e ≡ true → MatchBool e ((cause ≡ None) × (new ≡ new) × (own ≡ own)) ((rest : Deeds) × InTurn g h inputs cause new new rest × (own ≡ and_then own rest))
+      go : (cause : Option RunFault) → cause ≡ None → (e : Bool) → e ≡ true → MatchBool e ((cause ≡ None) × (new ≡ new) × (own ≡ own)) ((rest : Effects) × InTurn g h inputs cause new new rest × (own ≡ and_then own rest))
       go cause none true is = (none, refl, refl)
       go cause none false is = absurd (let wrong = is in cc)
 
-  goes_on : (status : Status) (input : Option (List ℕ)) (inputs : List (Option (List ℕ))) (cause : Option RunFault) (old mid new : Stage P S) (own rest : Deeds) → RunsOne g h input (Ok status) old mid own → own.ends ≡ false →
+  goes_on : (status : Status) (input : Option (List ℕ)) (inputs : List (Option (List ℕ))) (cause : Option RunFault) (old mid new : Stage P S) (own rest : Effects) → RunsOne g h input (Ok status) old mid own → own.ends ≡ false →
       InTurn g h inputs cause mid new rest → InTurn g h (input ∷ inputs) cause old new (and_then own rest)
   goes_on status input inputs cause old mid new own rest ran goes later = (Ok status, mid, own, ran, go own.ends goes)
     where
-      go : (e : Bool) → e ≡ false → MatchBool e ((cause ≡ None) × (new ≡ mid) × (and_then own rest ≡ own)) ((more : Deeds) × InTurn g h inputs cause mid new more × (and_then own rest ≡ and_then own more))
+      go : (e : Bool) → e ≡ false → MatchBool e ((cause ≡ None) × (new ≡ mid) × (and_then own rest ≡ own)) ((more : Effects) × InTurn g h inputs cause mid new more × (and_then own rest ≡ and_then own more))
       go true is = absurd (let wrong = is in cc)
       go false is = (rest, later, refl)
 
   -- one input alone
-  pub one_alone : (ended : Result Status RunFault) (input : Option (List ℕ)) (old new : Stage P S) (own : Deeds) → RunsOne g h input ended old new own → RunsInTurn g h (input ∷ []) ended old new
+  pub one_alone : (ended : Result Status RunFault) (input : Option (List ℕ)) (old new : Stage P S) (own : Effects) → RunsOne g h input ended old new own → RunsInTurn g h (input ∷ []) ended old new
   one_alone (Err fault) input old new own ran = (Some fault, own, stops_by_fault fault input [] old new own ran, refl)
   one_alone (Ok status) input old new own ran = (None, own, go own.ends refl, (refl, counts_faults status _ _ own ran.1, tells_quit status _ _ own ran.1))
     where
@@ -66,44 +66,44 @@ module _ {P S : Type 0} (g : Ghosts P) (h : Ghosts S) where
   -- ---- some inputs, and then those that are left
 
   -- Some inputs were run to their ends from old to mid: however those go that are left, so go all.
-  abbrev pub Joins : List (Option (List ℕ)) → List (Option (List ℕ)) → Stage P S → Stage P S → Deeds → Type 0
-  Joins inputs left old mid so_far = (cause : Option RunFault) (new : Stage P S) (more : Deeds) → InTurn g h left cause mid new more → InTurn g h inputs cause old new (and_then so_far more)
+  abbrev pub Joins : List (Option (List ℕ)) → List (Option (List ℕ)) → Stage P S → Stage P S → Effects → Type 0
+  Joins inputs left old mid so_far = (cause : Option RunFault) (new : Stage P S) (more : Effects) → InTurn g h left cause mid new more → InTurn g h inputs cause old new (and_then so_far more)
 
   -- what was run so far, with its fault lines
   pub record SoFar (inputs left : List (Option (List ℕ))) (old mid : Stage P S) (count : ℕ) : Type 0 where
-    pub deeds : Deeds
-    pub joins : Joins inputs left old mid deeds
-    pub faults : count ≡ min deeds.faults (2 ^ 64 - 1)
+    pub effects : Effects
+    pub joins : Joins inputs left old mid effects
+    pub faults : count ≡ min effects.faults (2 ^ 64 - 1)
 
   pub so_far_none : (inputs : List (Option (List ℕ))) (old : Stage P S) → SoFar inputs inputs old old 0
   so_far_none inputs old = record {
-    deeds = idle;
+    effects = idle;
     joins = λ cause new more it. subst (λ d. InTurn g h inputs cause old new d) (sym (idle_then more)) it;
     faults = refl;
   }
 
-  pub so_far_more : (inputs left : List (Option (List ℕ))) (input : Option (List ℕ)) (old mid next : Stage P S) (count sum : ℕ) (status : Status) (own : Deeds) → SoFar inputs (input ∷ left) old mid count →
+  pub so_far_more : (inputs left : List (Option (List ℕ))) (input : Option (List ℕ)) (old mid next : Stage P S) (count sum : ℕ) (status : Status) (own : Effects) → SoFar inputs (input ∷ left) old mid count →
       RunsOne g h input (Ok status) mid next own → status.quit ≡ false → sum ≡ min (count + status.faults) (2 ^ 64 - 1) → SoFar inputs left old next sum
   so_far_more inputs left input old mid next count sum status own far ran goes is = record {
-    deeds = and_then far.deeds own;
-    joins = λ cause new more it. subst (λ d. InTurn g h inputs cause old new d) (sym (assoc_then far.deeds own more)) (far.joins cause new (and_then own more) (goes_on status input left cause mid next new own more ran (sym (tells_quit status _ _ own ran.1) ∙ goes) it));
+    effects = and_then far.effects own;
+    joins = λ cause new more it. subst (λ d. InTurn g h inputs cause old new d) (sym (assoc_then far.effects own more)) (far.joins cause new (and_then own more) (goes_on status input left cause mid next new own more ran (sym (tells_quit status _ _ own ran.1) ∙ goes) it));
     faults = let counts = counts_faults status _ _ own ran.1 in omega (arith, is, counts, far.faults);
   }
 
-  pub ends_by_fault : (inputs left : List (Option (List ℕ))) (input : Option (List ℕ)) (old mid new : Stage P S) (count : ℕ) (fault : RunFault) (own : Deeds) (ended : Result Status RunFault) → ended ≡ Err fault → SoFar inputs (input ∷ left) old mid count →
+  pub ends_by_fault : (inputs left : List (Option (List ℕ))) (input : Option (List ℕ)) (old mid new : Stage P S) (count : ℕ) (fault : RunFault) (own : Effects) (ended : Result Status RunFault) → ended ≡ Err fault → SoFar inputs (input ∷ left) old mid count →
       RunsOne g h input (Err fault) mid new own → RunsInTurn g h inputs ended old new
   ends_by_fault inputs left input old mid new count fault own ended is far ran =
-      subst (λ r. RunsInTurn g h inputs r old new) (sym is) (Some fault, and_then far.deeds own, far.joins (Some fault) new own (stops_by_fault fault input left mid new own ran), refl)
+      subst (λ r. RunsInTurn g h inputs r old new) (sym is) (Some fault, and_then far.effects own, far.joins (Some fault) new own (stops_by_fault fault input left mid new own ran), refl)
 
-  pub ends_by_quit : (inputs left : List (Option (List ℕ))) (input : Option (List ℕ)) (old mid new : Stage P S) (count sum : ℕ) (status : Status) (own : Deeds) → SoFar inputs (input ∷ left) old mid count →
+  pub ends_by_quit : (inputs left : List (Option (List ℕ))) (input : Option (List ℕ)) (old mid new : Stage P S) (count sum : ℕ) (status : Status) (own : Effects) → SoFar inputs (input ∷ left) old mid count →
       RunsOne g h input (Ok status) mid new own → status.quit ≡ true → sum ≡ min (count + status.faults) (2 ^ 64 - 1) → RunsInTurn g h inputs (Ok (record { faults = sum; quit = true })) old new
   ends_by_quit inputs left input old mid new count sum status own far ran quits is =
       let ends : own.ends ≡ true = sym (tells_quit status _ _ own ran.1) ∙ quits in
       let counts = counts_faults status _ _ own ran.1 in
-      (None, and_then far.deeds own, far.joins None new own (stops_by_quit status input left mid new own ran ends), (refl, omega (arith, is, counts, far.faults), sym ends))
+      (None, and_then far.effects own, far.joins None new own (stops_by_quit status input left mid new own ran ends), (refl, omega (arith, is, counts, far.faults), sym ends))
 
   pub ends_at_end : (inputs : List (Option (List ℕ))) (old new : Stage P S) (count : ℕ) → SoFar inputs [] old new count → RunsInTurn g h inputs (Ok (record { faults = count; quit = false })) old new
-  ends_at_end inputs old new count far = (None, and_then far.deeds idle, far.joins None new idle (refl, refl, refl), (refl, omega (arith, far.faults), refl))
+  ends_at_end inputs old new count far = (None, and_then far.effects idle, far.joins None new idle (refl, refl, refl), (refl, omega (arith, far.faults), refl))
 
 -- the next of the texts that are left
 pub next_text : (texts : List (String Global)) (i : ℕ) (text : String Global) (bytes : List ℕ) → i < length texts → text ≡ get_or texts i text → bytes ≡ string_bytes text → map Some (map string_bytes (drop i texts)) ≡ Some bytes ∷ map Some (map string_bytes (drop (i + 1) texts))
@@ -115,13 +115,13 @@ pub no_text : (texts : List (String Global)) (i : ℕ) → length texts ≤ i �
 no_text texts i past = ap (λ ts. map Some (map string_bytes ts)) (drop_all i texts past)
 
 -- inputs that were run in turn are runs one after another
-pub all_ran : {P S : Type 0} (g : Ghosts P) (h : Ghosts S) (inputs : List (Option (List ℕ))) (cause : Option RunFault) (old new : Stage P S) (all : Deeds) → InTurn g h inputs cause old new all → AllRan g h old.parts all new.parts
+pub all_ran : {P S : Type 0} (g : Ghosts P) (h : Ghosts S) (inputs : List (Option (List ℕ))) (cause : Option RunFault) (old new : Stage P S) (all : Effects) → InTurn g h inputs cause old new all → AllRan g h old.parts all new.parts
 all_ran {P} {S} g h [] cause old new all (is_none, same, nothing) = subst (λ (s : Stage P S). AllRan g h old.parts all s.parts) (sym same) (subst (λ d. AllRan g h old.parts d old.parts) (sym nothing) (none_ran old.parts))
 all_ran {P} {S} g h (input ∷ inputs) cause old new all (Err fault, mid, own, (left, ran), (is, same, whole)) =
     subst (λ (s : Stage P S). AllRan g h old.parts all s.parts) (sym same) (subst (λ d. AllRan g h old.parts d mid.parts) (sym whole) (last_ran (Err fault) _ _ own ran))
 all_ran {P} {S} g h (input ∷ inputs) cause old new all (Ok status, mid, own, (left, ran), goes) = go (λ rest later. all_ran g h inputs cause mid new rest later) own.ends goes
   where
-    go : ((rest : Deeds) → InTurn g h inputs cause mid new rest → AllRan g h mid.parts rest new.parts) → (e : Bool) → MatchBool e ((cause ≡ None) × (new ≡ mid) × (all ≡ own)) ((rest : Deeds) × InTurn g h inputs cause mid new rest × (all ≡ and_then own rest)) → AllRan g h old.parts all new.parts
+    go : ((rest : Effects) → InTurn g h inputs cause mid new rest → AllRan g h mid.parts rest new.parts) → (e : Bool) → MatchBool e ((cause ≡ None) × (new ≡ mid) × (all ≡ own)) ((rest : Effects) × InTurn g h inputs cause mid new rest × (all ≡ and_then own rest)) → AllRan g h old.parts all new.parts
     go left_ran true (is, same, whole) = subst (λ (s : Stage P S). AllRan g h old.parts all s.parts) (sym same) (subst (λ d. AllRan g h old.parts d mid.parts) (sym whole) (last_ran (Ok status) _ _ own ran))
     go left_ran false (rest, later, whole) = subst (λ d. AllRan g h old.parts d new.parts) (sym whole) (first_ran (Ok status) _ _ own rest new.parts ran (left_ran rest later))
 
@@ -170,7 +170,7 @@ not_none n above = go (n == 0) refl
     go false is = is
 
 -- the program's own line and its status are those of what was told
-pub closes_as : (ended : Result Status RunFault) (cause : Option RunFault) (all : Deeds) (a b : Option (List ℕ)) (n : ℕ) → EndsAs ended cause all → Closes ended a b n → WritesOwn cause a b × (n ≡ exit_status cause all)
+pub closes_as : (ended : Result Status RunFault) (cause : Option RunFault) (all : Effects) (a b : Option (List ℕ)) (n : ℕ) → EndsAs ended cause all → Closes ended a b n → WritesOwn cause a b × (n ≡ exit_status cause all)
 closes_as (Err fault) cause all a b n is (line, one) =
     (subst (λ c. WritesOwn c a b) (sym is) line, one ∙ ap (λ c. exit_status c all) (sym is))
 closes_as (Ok status) cause all a b n (is, faults, quit) (same, code) =
@@ -183,7 +183,7 @@ closes_as (Ok status) cause all a b n (is, faults, quit) (same, code) =
     go (suc m) (suc n) same = ap code_if (not_none (suc m) (omega arith) ∙ sym (not_none (suc n) (omega arith)))
 
 -- where the disk did what it was told to the end, it did so from the first
-clean_from_first : {P S : Type 0} (g : Ghosts P) (h : Ghosts S) (old new : Parts P S) (all : Deeds) → AllRan g h old all new → IsClean h new.full_text → IsClean h old.full_text
+clean_from_first : {P S : Type 0} (g : Ghosts P) (h : Ghosts S) (old new : Parts P S) (all : Effects) → AllRan g h old all new → IsClean h new.full_text → IsClean h old.full_text
 clean_from_first g h old new all ran clean = clean_before h old.full_text new.full_text all.calls (all_made g h old new all ran) clean
 
 -- the inputs are run over two databases, and then the program ends

@@ -15,8 +15,8 @@ use Rattle.plain_shell.specs.declared.run.Outputs.{Outputs as RustOutputs}
 use Rattle.plain_shell.specs.declared.run.Status.{Status}
 use Rattle.plain_shell.specs.declared.run.RunFault.{RunFault}
 use Rattle.plain_shell.specs.declared.run.RunFault.TheVariants as causes
-use Rattle.ft_shell.specs.Shell.{Parts, lent}
-use Rattle.ft_shell.specs.Deeds.{Deeds, idle, and_then}
+use Rattle.ft_shell.specs.Shell.{Parts, shell_with}
+use Rattle.ft_shell.specs.Effects.{Effects, idle, and_then}
 use Rattle.ft_shell.specs.Runs.{Console}
 use Rattle.ft_shell.specs.Promise.{IsClean, Ran, AllRan, PromiseKept}
 use Rattle.plain_shell.specs.Writing.{AppendsUpTo}
@@ -51,20 +51,20 @@ stage_of out_of err_of parts outputs = record { parts = parts; on = outputs_of o
 
 -- as a run has it, with what is left of its input
 abbrev pub console : {P S : Type 0} → Stage P S → Option (List ℕ) → Console P S
-console stage input = record { shell = lent stage.parts unknown_files; input = input; out = stage.on.out; err = stage.on.err }
+console stage input = record { shell = shell_with stage.parts unknown_files; input = input; out = stage.on.out; err = stage.on.err }
 
 module _ {P S : Type 0} (g : Ghosts P) (h : Ghosts S) where
   -- one input is run
-  abbrev pub RunsOne : Option (List ℕ) → Result Status RunFault → Stage P S → Stage P S → Deeds → Type 0
+  abbrev pub RunsOne : Option (List ℕ) → Result Status RunFault → Stage P S → Stage P S → Effects → Type 0
   RunsOne input ended old new own = (left : Option (List ℕ)) × Ran g h ended (console old input) (console new left) own
 
   -- Inputs are run in turn, each from what the one before it left, with what all their turns told
   -- and called. A quit ends it, and so does a fault of a run.
-  abbrev pub InTurn : List (Option (List ℕ)) → Option RunFault → Stage P S → Stage P S → Deeds → Type 0
+  abbrev pub InTurn : List (Option (List ℕ)) → Option RunFault → Stage P S → Stage P S → Effects → Type 0
   InTurn [] cause old new all = (cause ≡ None) × (new ≡ old) × (all ≡ idle)
-  InTurn (input ∷ inputs) cause old new all = (ended : Result Status RunFault) × (mid : Stage P S) × (own : Deeds) × RunsOne input ended old mid own
+  InTurn (input ∷ inputs) cause old new all = (ended : Result Status RunFault) × (mid : Stage P S) × (own : Effects) × RunsOne input ended old mid own
       × MatchResult ended
-      (λ status. MatchBool own.ends ((cause ≡ None) × (new ≡ mid) × (all ≡ own)) ((rest : Deeds) × InTurn inputs cause mid new rest
+      (λ status. MatchBool own.ends ((cause ≡ None) × (new ≡ mid) × (all ≡ own)) ((rest : Effects) × InTurn inputs cause mid new rest
       × (all ≡ and_then own rest)))
       (λ fault. (cause ≡ Some fault) × (new ≡ mid) × (all ≡ own))
 
@@ -72,17 +72,17 @@ module _ {P S : Type 0} (g : Ghosts P) (h : Ghosts S) where
 
 -- what is answered of inputs that were run: their fault lines are counted together, up to
 -- 2 ^ 64 - 1
-abbrev pub EndsAs : Result Status RunFault → Option RunFault → Deeds → Type 0
+abbrev pub EndsAs : Result Status RunFault → Option RunFault → Effects → Type 0
 EndsAs (Ok status) cause all = (cause ≡ None) × (status.faults ≡ min all.faults (2 ^ 64 - 1)) × (status.quit ≡ all.ends)
 EndsAs (Err fault) cause all = cause ≡ Some fault
 
 abbrev pub RunsInTurn : {P S : Type 0} → Ghosts P → Ghosts S → List (Option (List ℕ)) → Result Status RunFault → Stage P S → Stage P S → Type 0
-RunsInTurn g h inputs ended old new = (cause : Option RunFault) × (all : Deeds) × InTurn g h inputs cause old new all × EndsAs ended cause all
+RunsInTurn g h inputs ended old new = (cause : Option RunFault) × (all : Effects) × InTurn g h inputs cause old new all × EndsAs ended cause all
 
 -- They are runs one after another: so what any runs leave of the full-text tables is left by them,
 -- too.
 abbrev pub RunsAndKeeps : {P S : Type 0} → Ghosts P → Ghosts S → List (Option (List ℕ)) → Result Status RunFault → Stage P S → Stage P S → Type 0
-RunsAndKeeps g h inputs ended old new = (cause : Option RunFault) × (all : Deeds) × InTurn g h inputs cause old new all × EndsAs ended cause all
+RunsAndKeeps g h inputs ended old new = (cause : Option RunFault) × (all : Effects) × InTurn g h inputs cause old new all × EndsAs ended cause all
     × AllRan g h old.parts all new.parts × ((first : Contents) → Holds h old.parts.full_text first → IsSettled h old.parts.full_text
     → IsClean h new.parts.full_text → PromiseKept g h first old.parts all new.parts)
 
@@ -99,7 +99,7 @@ WritesOwn None old new = new ≡ old
 WritesOwn (Some fault) old new = AppendsUpTo old new (own_line fault)
 
 -- the program's status is 0 where no fault line was written and no run ended early, and else 1
-abbrev pub exit_status : Option RunFault → Deeds → ℕ
+abbrev pub exit_status : Option RunFault → Effects → ℕ
 exit_status None all = if all.faults == 0 then 0 else 1
 exit_status (Some fault) all = 1
 
@@ -131,7 +131,7 @@ module _ {P S : Type 0} (g : Ghosts P) (h : Ghosts S) where
     pub opened : Opens h store made
     pub cause : Option RunFault
     pub last : Stage P S
-    pub all : Deeds
+    pub all : Effects
     pub turns : InTurn g h inputs cause (record { parts = record { settings = settings; plain = plain; full_text = made }; on = old }) last all
     pub out : new.out ≡ last.on.out
     pub err : WritesOwn cause last.on.err new.err

@@ -46,24 +46,7 @@ pub fn start<A: Start, B: Start, R: Read, O: Write, E: Write>(
         (record { out = O.contents out.old; err = E.contents err.old })
         (record { out = O.contents out.new; err = E.contents err.new }) result }
 {
-    run_words(rt, words, tables, texts, input, &mut Outputs::new(out, err))
-}
-
-// Runs the program on words, with both writers together.
-fn run_words<A: Start, B: Start, R: Read, O: Write, E: Write>(
-    rt: &HostRuntime,
-    words: &[&str],
-    tables: A,
-    texts: B,
-    input: &mut R,
-    outputs: &mut Outputs<'_, O, E>,
-) -> u8
-    ensures runs { Starts A.row B.row A.Start B.Start
-        (map (λ word. word.now) words.now) (R.remaining input.old)
-        (outputs_of O.contents E.contents outputs.old)
-        (outputs_of O.contents E.contents outputs.new) result }
-    ensures writers { SameWriters outputs.old outputs.new }
-{
+    let outputs = &mut Outputs::new(out, err);
     let Line {
         settings,
         file,
@@ -136,7 +119,7 @@ fn on_databases<D: Disk + Drop, F: Disk + Drop, R: Read, O: Write, E: Write>(
     full_text.is_settled();
     let mut session = session_over(rt.alloc(), plain, full_text, settings);
     let mut files = SystemFiles { rt };
-    let ended = run_all_on(&mut session, inputs, input, &mut files, outputs);
+    let ended = run_all(&mut session, inputs, input, &mut files, outputs);
     let (tables, texts) = close(session);
     let_go(tables);
     let_go(texts);
@@ -256,9 +239,9 @@ fn status_of<E: Write>(ended: Result<Status, RunFault>, err: &mut E) -> u8
     }
 }
 
-// Runs the inputs over a plain database in files. Of the two stores one is named at a time: to name
-// both in one call takes more steps than the checker has.
-fn run_all_on<S: Alter, D: Disk + Drop, R: Read, O: Write, E: Write>(
+// Runs the texts that were given, or else the input, over a plain database in files. Of the two
+// stores one is named at a time: to name both in one call takes more steps than the checker has.
+fn run_all<D: Disk + Drop, S: Alter, R: Read, O: Write, E: Write>(
     session: &mut Session<FileStore<D>, S>,
     inputs: &[String],
     input: &mut R,
@@ -271,24 +254,7 @@ fn run_all_on<S: Alter, D: Disk + Drop, R: Read, O: Write, E: Write>(
         (stage_of O.contents E.contents session.new outputs.new) }
     ensures writers { SameWriters outputs.old outputs.new }
 {
-    run_all(session, inputs, input, files, outputs)
-}
-
-// Runs the texts that were given, or else the input.
-fn run_all<P: Alter, S: Alter, R: Read, O: Write, E: Write>(
-    session: &mut Session<P, S>,
-    inputs: &[String],
-    input: &mut R,
-    files: &mut SystemFiles<'_>,
-    outputs: &mut Outputs<'_, O, E>,
-) -> Result<Status, RunFault>
-    ensures runs { RunsAndKeeps P.Store S.Store (due (map string_bytes inputs.now)
-        (R.remaining input.old)) result
-        (stage_of O.contents E.contents session.old outputs.old)
-        (stage_of O.contents E.contents session.new outputs.new) }
-    ensures writers { SameWriters outputs.old outputs.new }
-{
-    Session::<P, S>::kept_by_runs();
+    Session::<FileStore<D>, S>::kept_by_runs();
     if inputs.is_empty() {
         session.run(input, outputs.out, outputs.err, files)
     } else {

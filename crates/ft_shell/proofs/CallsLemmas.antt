@@ -15,8 +15,8 @@ use Rattle.ft_index.specs.Called.{Call, Noted, DoesCall, Runs}
 use Rattle.ft_statements.specs.Words.{tokens_of}
 use Rattle.ft_statements.specs.Plain.{asks, made_name}
 use Rattle.ft_shell.specs.Shell.{Shell}
-use Rattle.plain_shell.specs.Told.{Answer, blames, lacks_memory}
-use Rattle.ft_shell.specs.Deeds.{Deeds, and_then}
+use Rattle.plain_shell.specs.Outcomes.{Answer, blames, lacks_memory}
+use Rattle.ft_shell.specs.Effects.{Effects, and_then}
 use Rattle.ft_content.specs.Command.{Insert}
 use Rattle.ft_statements.specs.Dots.{DotCommand, Import, Nothing, SetMode, SetHeaders, SetSeparator, SetNull, SetEcho, SetBail, Print, Importing, Tables, Quit, Usage, Unknown, dot_command_of}
 use Rattle.ft_shell.specs.DotTurns.{DotTurn}
@@ -211,10 +211,10 @@ body_calls g h (Sql line text) old new told it = statement_calls g h old.setting
 body_calls g h (Dot line text) old new told (inl it) = dot_calls g h old new told (dot_command_of (dot_words_of (behind_stop text))) it
 body_calls g h (Dot line text) old new told (inr nothing) = dot_none h old new told (dot_command_of (dot_words_of (behind_stop text))) nothing.0 nothing.1
 
-pub turn_spelled : {P S : Type 0} (g : Ghosts P) (h : Ghosts S) (member : Member) (old new : Shell P S) (all : Deeds) → (turn : Turn g h member old new all) → CallsOf member old turn.body all.calls
+pub turn_spelled : {P S : Type 0} (g : Ghosts P) (h : Ghosts S) (member : Member) (old new : Shell P S) (all : Effects) → (turn : Turn g h member old new all) → CallsOf member old turn.body all.calls
 turn_spelled g h member old new all turn = subst (λ calls. CallsOf member old turn.body calls) (sym turn.calls) (body_calls g h member old new turn.body turn.done).0
 
-pub turn_made : {P S : Type 0} (g : Ghosts P) (h : Ghosts S) (member : Member) (old new : Shell P S) (all : Deeds) → Turn g h member old new all → Runs h old.full_text all.calls new.full_text
+pub turn_made : {P S : Type 0} (g : Ghosts P) (h : Ghosts S) (member : Member) (old new : Shell P S) (all : Effects) → Turn g h member old new all → Runs h old.full_text all.calls new.full_text
 turn_made g h member old new all turn = subst (λ calls. Runs h old.full_text calls new.full_text) (sym turn.calls) (body_calls g h member old new turn.body turn.done).1
 
 -- ---- calls one after another
@@ -223,10 +223,10 @@ pub runs_join : {S : Type 0} (h : Ghosts S) (a b c : FullText S) (xs ys : List C
 runs_join h a b c [] ys same second = subst (λ k. Runs h k ys c) same second
 runs_join h a b c (call ∷ xs) ys (mid, does, rest) second = (mid, does, runs_join h mid b c xs ys rest second)
 
-pub turns_made : {P S : Type 0} (g : Ghosts P) (h : Ghosts S) (members : List Member) (old new : Shell P S) (all : Deeds) → Turns g h members old new all → Runs h old.full_text all.calls new.full_text
-turns_made g h [] old new all it = subst (λ (d : Deeds). Runs h old.full_text d.calls new.full_text) (sym it.1) (ap (λ (s : Shell _ _). s.full_text) it.0)
+pub turns_made : {P S : Type 0} (g : Ghosts P) (h : Ghosts S) (members : List Member) (old new : Shell P S) (all : Effects) → Turns g h members old new all → Runs h old.full_text all.calls new.full_text
+turns_made g h [] old new all it = subst (λ (d : Effects). Runs h old.full_text d.calls new.full_text) (sym it.1) (ap (λ (s : Shell _ _). s.full_text) it.0)
 turns_made g h (member ∷ members) old new all (mid, first, turn, more) = go (λ rest turns. turns_made g h members mid new rest turns) first.ends more
   where
-    go : ((rest : Deeds) → Turns g h members mid new rest → Runs h mid.full_text rest.calls new.full_text) → (ends : Bool) → MatchBool ends ((new ≡ mid) × (all ≡ first)) ((rest : Deeds) × Turns g h members mid new rest × (all ≡ and_then first rest)) → Runs h old.full_text all.calls new.full_text
-    go later true (same, is) = subst (λ (d : Deeds). Runs h old.full_text d.calls new.full_text) (sym is) (subst (λ (s : Shell _ _). Runs h old.full_text first.calls s.full_text) (sym same) (turn_made g h member old mid first turn))
-    go later false (rest, turns, is) = subst (λ (d : Deeds). Runs h old.full_text d.calls new.full_text) (sym is) (runs_join h old.full_text mid.full_text new.full_text first.calls rest.calls (turn_made g h member old mid first turn) (later rest turns))
+    go : ((rest : Effects) → Turns g h members mid new rest → Runs h mid.full_text rest.calls new.full_text) → (ends : Bool) → MatchBool ends ((new ≡ mid) × (all ≡ first)) ((rest : Effects) × Turns g h members mid new rest × (all ≡ and_then first rest)) → Runs h old.full_text all.calls new.full_text
+    go later true (same, is) = subst (λ (d : Effects). Runs h old.full_text d.calls new.full_text) (sym is) (subst (λ (s : Shell _ _). Runs h old.full_text first.calls s.full_text) (sym same) (turn_made g h member old mid first turn))
+    go later false (rest, turns, is) = subst (λ (d : Effects). Runs h old.full_text d.calls new.full_text) (sym is) (runs_join h old.full_text mid.full_text new.full_text first.calls rest.calls (turn_made g h member old mid first turn) (later rest turns))

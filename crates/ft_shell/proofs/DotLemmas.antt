@@ -11,7 +11,7 @@ use Rattle.ft_statements.specs.Dots as forms
 use Rattle.ft_statements.specs.DotViews.{command_as}
 use Rattle.plain_shell.specs.DotParts.{Sets}
 use Rattle.plain_shell.specs.Sources.{Files}
-use Rattle.plain_shell.specs.Told.{Answer, lacks_memory}
+use Rattle.plain_shell.specs.Outcomes.{Answer, lacks_memory}
 use Rattle.ft_shell.specs.DotTurns.{OnlySets}
 use Rattle.ft_shell.specs.Shell.{shell_of}
 use Rattle.ft_shell.specs.Turns.{DotOrLacks}

@@ -18,7 +18,7 @@ use Rattle.plain_shell.specs.IntoTables.{fault_words}
 use Rattle.plain_shell.specs.PlainImports.{CommitsNothing, import_steps, Declines}
 use Rattle.plain_shell.specs.PlainStatements.{IfClean}
 use Rattle.plain_shell.specs.Records.{records_in}
-use Rattle.plain_shell.specs.Told.{Answer, Tells, blames}
+use Rattle.plain_shell.specs.Outcomes.{Answer, Tells, blames}
 use Rattle.ft_shell.specs.ImportTurns as imports
 use Rattle.ft_shell.specs.ImportTurns.{BytesTurn, IntoNew, declined, no_memory}
 

@@ -5,7 +5,7 @@ use Rattle.std.proofs.lemmas.List.{length-drop, length-take-le, take_all}
 use Rattle.sqlite.specs.Store.{Ghosts}
 use Rattle.plain_shell.specs.declared.run.RunFault.{RunFault}
 use Rattle.plain_shell.specs.declared.run.RunFault.TheVariants as causes
-use Rattle.plain_shell.specs.Feeds.{Fed, members_left}
+use Rattle.plain_shell.specs.LinesRead.{LinesRead, members_left}
 use Rattle.ft_shell.specs.Ran.{Moment, Runs, TakesRead}
 use Rattle.ft_shell.proofs.RanLemmas.{breaks_none, runs_as}
 use Rattle.ft_shell.proofs.RunLemmas.{HasRead, Interrupted, consumes_none, nil_of, some_or_none}
@@ -26,7 +26,7 @@ chunk_kept size given items full some =
 
 module _ {P S : Type 0} (g : Ghosts P) (h : Ghosts S) where
   -- what was read is taken
-  pub takes_some : {T : Type 0} (r : Result T RunFault) (room k : ℕ) (bytes : List ℕ) (fed left : Fed) (a b : Moment P S) → length bytes ≢ 0 → k ≡ min (length bytes) room →
+  pub takes_some : {T : Type 0} (r : Result T RunFault) (room k : ℕ) (bytes : List ℕ) (fed left : LinesRead) (a b : Moment P S) → length bytes ≢ 0 → k ≡ min (length bytes) room →
       Runs g h r (λ (rest : List ℕ). members_left fed (take k bytes ++ rest)) (λ (rest : List ℕ). members_left left rest) a b → TakesRead g h r room bytes fed left a b
   takes_some r room k bytes fed left a b some size runs = record {
     goes = λ _. runs_as g h r _ _ _ _ (λ (rest : List ℕ). rest) a b (λ rest. ap (λ xs. members_left fed (xs ++ rest)) (front_within room k bytes size)) (λ rest goes. refl) runs;
@@ -34,11 +34,11 @@ module _ {P S : Type 0} (g : Ghosts P) (h : Ghosts S) where
   }
 
   -- nothing was read, so that what is left is done
-  pub takes_none : {T : Type 0} (r : Result T RunFault) (room : ℕ) (bytes : List ℕ) (fed left : Fed) (a b : Moment P S) → length bytes ≡ 0 → Runs g h r (λ (_ : Unit {0}). members_left fed []) (λ _. []) a b → TakesRead g h r room bytes fed left a b
+  pub takes_none : {T : Type 0} (r : Result T RunFault) (room : ℕ) (bytes : List ℕ) (fed left : LinesRead) (a b : Moment P S) → length bytes ≡ 0 → Runs g h r (λ (_ : Unit {0}). members_left fed []) (λ _. []) a b → TakesRead g h r room bytes fed left a b
   takes_none r room bytes fed left a b none runs = record { goes = λ some. absurd (omega (arith, some, none)); ends = λ _. runs }
 
   -- a piece was taken
-  pub has_read : {T : Type 0} (x : T) (room n : ℕ) (bytes : List ℕ) (before after : Option (List ℕ)) (fed left : Fed) (a b : Moment P S) → Consumes before after bytes → n ≡ length bytes → (bytes ≡ [] → IsAtEnd after) →
+  pub has_read : {T : Type 0} (x : T) (room n : ℕ) (bytes : List ℕ) (before after : Option (List ℕ)) (fed left : LinesRead) (a b : Moment P S) → Consumes before after bytes → n ≡ length bytes → (bytes ≡ [] → IsAtEnd after) →
       TakesRead g h (Ok x) room bytes fed left a b → HasRead g h room n before after fed left a b
   has_read x room n bytes before after fed left a b consumed is at_end takes = record {
     bytes = bytes;
@@ -49,7 +49,7 @@ module _ {P S : Type 0} (g : Ghosts P) (h : Ghosts S) where
   }
 
   -- the reader failed
-  pub interrupted_unread : (fault : RunFault) (room : ℕ) (before after : Option (List ℕ)) (fed : Fed) (a : Moment P S) → fault ≡ causes.Read → Keeps before after → Interrupted g h fault room before after fed a a
+  pub interrupted_unread : (fault : RunFault) (room : ℕ) (before after : Option (List ℕ)) (fed : LinesRead) (a : Moment P S) → fault ≡ causes.Read → Keeps before after → Interrupted g h fault room before after fed a a
   interrupted_unread fault room before after fed a cause kept = record {
     bytes = [];
     consumed = consumes_none before after kept;
@@ -58,7 +58,7 @@ module _ {P S : Type 0} (g : Ghosts P) (h : Ghosts S) where
   }
 
   -- what is done with a piece was cut short, or what is done at the end
-  pub interrupted_taking : {T : Type 0} (fault : RunFault) (room : ℕ) (bytes : List ℕ) (before after : Option (List ℕ)) (fed left : Fed) (a b : Moment P S) → Consumes before after bytes → (bytes ≡ [] → IsAtEnd after) →
+  pub interrupted_taking : {T : Type 0} (fault : RunFault) (room : ℕ) (bytes : List ℕ) (before after : Option (List ℕ)) (fed left : LinesRead) (a b : Moment P S) → Consumes before after bytes → (bytes ≡ [] → IsAtEnd after) →
       TakesRead g h {T = T} (Err fault) room bytes fed left a b → Interrupted g h fault room before after fed a b
   interrupted_taking fault room bytes before after fed left a b consumed at_end takes = go (some_or_none (length bytes))
     where

@@ -25,8 +25,8 @@ use Rattle.ft_shell.specs.ImportTurns.{columns_in}
 use Rattle.plain_shell.specs.Records.{kept, records_in}
 use Rattle.ft_shell.specs.FullTextTurns.{reply_told}
 use Rattle.ft_shell.specs.StatementTurns.{table_names}
-use Rattle.plain_shell.specs.Told.{Answer, Told, Tells, says, echoed, lacks_memory, told_of}
-use Rattle.ft_shell.specs.Deeds.{Deeds, idle, and_then, told_by}
+use Rattle.plain_shell.specs.Outcomes.{Answer, Outcome, Tells, says, echoed, lacks_memory, outcome_of}
+use Rattle.ft_shell.specs.Effects.{Effects, idle, and_then, outcome_in}
 use Rattle.plain_shell.specs.DotParts.{behind_stop}
 use Rattle.ft_shell.proofs.Spelled.{MayNote, MayRead, CallsOf, CallsOfClass, CallsOfDot, CallsOfImport}
 use Rattle.ft_shell.specs.Turns.{Turn, Turns}
@@ -148,13 +148,13 @@ few_is calls before more command answer (inr (c, a, one)) is = go before (sym on
 
 module _ {P S : Type 0} (g : Ghosts P) (h : Ghosts S) where
   -- a call's turn, among others, with what the turns before it did
-  record At (Reaches : Deeds → Shell P S → Type 0) (all : Deeds) (before : List Call) (command : Command) (answer : Result Reply Fault) (more : List Call) (new : FullText S) : Type 0 where
+  record At (Reaches : Effects → Shell P S → Type 0) (all : Effects) (before : List Call) (command : Command) (answer : Result Reply Fault) (more : List Call) (new : FullText S) : Type 0 where
     member : Member
     was : Shell P S
     now : Shell P S
-    earlier : Deeds
-    own : Deeds
-    later : Deeds
+    earlier : Effects
+    own : Effects
+    later : Effects
     reached : Reaches earlier was
     calls : earlier.calls ≡ before
     turn : Turn g h member was now own
@@ -165,14 +165,14 @@ module _ {P S : Type 0} (g : Ghosts P) (h : Ghosts S) where
     err : all.err ≡ earlier.err ++ (own.err ++ later.err)
 
   -- turns from this shell
-  abbrev From : Shell P S → Deeds → Shell P S → Type 0
+  abbrev From : Shell P S → Effects → Shell P S → Type 0
   From old earlier was = (members : List Member) × Turns g h members old was earlier
 
-  at_turn : (members : List Member) (old new : Shell P S) (all : Deeds) → Turns g h members old new all → (before more : List Call) (command : Command) (answer : Result Reply Fault) → all.calls ≡ before ++ Executed command answer ∷ more → At (From old) all before command answer more new.full_text
-  at_turn [] old new all it before more command answer is = absurd (no_more before more (Executed command answer) (sym (ap (λ (d : Deeds). d.calls) it.1) ∙ is))
+  at_turn : (members : List Member) (old new : Shell P S) (all : Effects) → Turns g h members old new all → (before more : List Call) (command : Command) (answer : Result Reply Fault) → all.calls ≡ before ++ Executed command answer ∷ more → At (From old) all before command answer more new.full_text
+  at_turn [] old new all it before more command answer is = absurd (no_more before more (Executed command answer) (sym (ap (λ (d : Effects). d.calls) it.1) ∙ is))
   at_turn (member ∷ members) old new all (mid, first, turn, rest) before more command answer is = go (λ later turns b e. at_turn members mid new later turns b more command answer e) first.ends refl rest
     where
-      here : first.calls ≡ before ++ Executed command answer ∷ [] → before ≡ [] → Runs h mid.full_text more new.full_text → (later : Deeds) → later.calls ≡ more → all.out ≡ first.out ++ later.out → all.err ≡ first.err ++ later.err → At (From old) all before command answer more new.full_text
+      here : first.calls ≡ before ++ Executed command answer ∷ [] → before ≡ [] → Runs h mid.full_text more new.full_text → (later : Effects) → later.calls ≡ more → all.out ≡ first.out ++ later.out → all.err ≡ first.err ++ later.err → At (From old) all before command answer more new.full_text
       here own no_front ends later behind out err = record {
         member = member;
         was = old;
@@ -190,20 +190,20 @@ module _ {P S : Type 0} (g : Ghosts P) (h : Ghosts S) where
         err = err;
       }
 
-      go : ((later : Deeds) → Turns g h members mid new later → (b : List Call) → later.calls ≡ b ++ Executed command answer ∷ more → At (From mid) later b command answer more new.full_text) → (stops : Bool) → first.ends ≡ stops →
-          MatchBool stops ((new ≡ mid) × (all ≡ first)) ((later : Deeds) × Turns g h members mid new later × (all ≡ and_then first later)) → At (From old) all before command answer more new.full_text
+      go : ((later : Effects) → Turns g h members mid new later → (b : List Call) → later.calls ≡ b ++ Executed command answer ∷ more → At (From mid) later b command answer more new.full_text) → (stops : Bool) → first.ends ≡ stops →
+          MatchBool stops ((new ≡ mid) × (all ≡ first)) ((later : Effects) × Turns g h members mid new later × (all ≡ and_then first later)) → At (From old) all before command answer more new.full_text
       go next true ended (same, all_is) =
-          let own : first.calls ≡ before ++ Executed command answer ∷ more = sym (ap (λ (d : Deeds). d.calls) all_is) ∙ is in
+          let own : first.calls ≡ before ++ Executed command answer ∷ more = sym (ap (λ (d : Effects). d.calls) all_is) ∙ is in
           let alone = few_is first.calls before more command answer (few member old turn.body first.calls (turn_spelled g h member old mid first turn)) own in
           here (own ∙ ap (λ m. before ++ Executed command answer ∷ m) alone.1) alone.0 (subst (λ m. Runs h mid.full_text m new.full_text) (sym alone.1) (ap (λ (s : Shell P S). s.full_text) same)) idle (sym alone.1)
-          (ap (λ (d : Deeds). d.out) all_is ∙ sym (append-nil first.out)) (ap (λ (d : Deeds). d.err) all_is ∙ sym (append-nil first.err))
-      go next false goes (later, turns, all_is) = cut (split_at first.calls later.calls before more (Executed command answer) (sym (ap (λ (d : Deeds). d.calls) all_is) ∙ is))
+          (ap (λ (d : Effects). d.out) all_is ∙ sym (append-nil first.out)) (ap (λ (d : Effects). d.err) all_is ∙ sym (append-nil first.err))
+      go next false goes (later, turns, all_is) = cut (split_at first.calls later.calls before more (Executed command answer) (sym (ap (λ (d : Effects). d.calls) all_is) ∙ is))
         where
           cut : ((m : List Call) × (first.calls ≡ before ++ Executed command answer ∷ m) × (more ≡ m ++ later.calls)) ⊎ ((b : List Call) × (before ≡ first.calls ++ b) × (later.calls ≡ b ++ Executed command answer ∷ more)) → At (From old) all before command answer more new.full_text
           cut (inl (m, own, left)) =
               let alone = few_is first.calls before m command answer (few member old turn.body first.calls (turn_spelled g h member old mid first turn)) own in
               here (own ∙ ap (λ k. before ++ Executed command answer ∷ k) alone.1) alone.0 (subst (λ k. Runs h mid.full_text k new.full_text) (sym (left ∙ ap (λ k. k ++ later.calls) alone.1)) (turns_made g h members mid new later turns)) later (sym (left ∙ ap (λ k. k ++ later.calls) alone.1))
-              (ap (λ (d : Deeds). d.out) all_is) (ap (λ (d : Deeds). d.err) all_is)
+              (ap (λ (d : Effects). d.out) all_is) (ap (λ (d : Effects). d.err) all_is)
           cut (inr (b, front, left)) =
               let it = next later turns b left in
               record {
@@ -213,28 +213,28 @@ module _ {P S : Type 0} (g : Ghosts P) (h : Ghosts S) where
                 earlier = and_then first it.earlier;
                 own = it.own;
                 later = it.later;
-                reached = (member ∷ it.reached.0, (mid, first, turn, subst (λ ends. MatchBool ends ((it.was ≡ mid) × (and_then first it.earlier ≡ first)) ((rest : Deeds) × Turns g h it.reached.0 mid it.was rest × (and_then first it.earlier ≡ and_then first rest))) (sym goes) (it.earlier, it.reached.1, refl)));
+                reached = (member ∷ it.reached.0, (mid, first, turn, subst (λ ends. MatchBool ends ((it.was ≡ mid) × (and_then first it.earlier ≡ first)) ((rest : Effects) × Turns g h it.reached.0 mid it.was rest × (and_then first it.earlier ≡ and_then first rest))) (sym goes) (it.earlier, it.reached.1, refl)));
                 calls = ap (λ cs. first.calls ++ cs) it.calls ∙ sym front;
                 turn = it.turn;
                 only = it.only;
                 behind = it.behind;
                 ends = it.ends;
-                out = ap (λ (d : Deeds). d.out) all_is ∙ ap (λ o. first.out ++ o) it.out ∙ sym (append_assoc first.out it.earlier.out (it.own.out ++ it.later.out));
-                err = ap (λ (d : Deeds). d.err) all_is ∙ ap (λ o. first.err ++ o) it.err ∙ sym (append_assoc first.err it.earlier.err (it.own.err ++ it.later.err));
+                out = ap (λ (d : Effects). d.out) all_is ∙ ap (λ o. first.out ++ o) it.out ∙ sym (append_assoc first.out it.earlier.out (it.own.out ++ it.later.out));
+                err = ap (λ (d : Effects). d.err) all_is ∙ ap (λ o. first.err ++ o) it.err ∙ sym (append_assoc first.err it.earlier.err (it.own.err ++ it.later.err));
               }
 
 -- ---- runs
 
-whole_made : {P S : Type 0} (g : Ghosts P) (h : Ghosts S) (left : Option (List ℕ)) (bytes : List ℕ) (old new : Shell P S) (all : Deeds) → IsWhole g h left bytes old new all → (members : List Member) × Turns g h members old new all
+whole_made : {P S : Type 0} (g : Ghosts P) (h : Ghosts S) (left : Option (List ℕ)) (bytes : List ℕ) (old new : Shell P S) (all : Effects) → IsWhole g h left bytes old new all → (members : List Member) × Turns g h members old new all
 whole_made g h left bytes old new all (inl it) = (members_of bytes, it.2)
 whole_made g h left bytes old new all (inr it) = (members_of (take (2 ^ 30) bytes ++ []), it.1 [])
 
-front_made : {P S : Type 0} (g : Ghosts P) (h : Ghosts S) (left : Option (List ℕ)) (bytes : List ℕ) (old new : Shell P S) (all : Deeds) (next : List Member) → IsFront g h left bytes old new all next → (members : List Member) × Turns g h members old new all
+front_made : {P S : Type 0} (g : Ghosts P) (h : Ghosts S) (left : Option (List ℕ)) (bytes : List ℕ) (old new : Shell P S) (all : Effects) (next : List Member) → IsFront g h left bytes old new all next → (members : List Member) × Turns g h members old new all
 front_made g h left bytes old new all next (inl it) = (take it.1.0 (members_of bytes), it.1.1)
 front_made g h left bytes old new all next (inr it) = let begins = it [] in (take begins.0 (members_of (bytes ++ [])), begins.1)
 
 -- with the turn that was done, and not told whole
-broken_made : {P S : Type 0} (g : Ghosts P) (h : Ghosts S) (fault : RunFault) (whole : Deeds) (members : List Member) (old mid new : Shell P S) (out out' err err' : Option (List ℕ)) (next : List Member) (all : Deeds) →
+broken_made : {P S : Type 0} (g : Ghosts P) (h : Ghosts S) (fault : RunFault) (whole : Effects) (members : List Member) (old mid new : Shell P S) (out out' err err' : Option (List ℕ)) (next : List Member) (all : Effects) →
     Turns g h members old mid whole → Broken g h fault whole mid new out out' err err' next all → (done : List Member) × Turns g h done old new all
 broken_made g h fault whole members old mid new out out' err err' next all turns (not_begun same no_out no_err) = (members, subst (λ s. Turns g h members old s whole) (sym same) turns)
 broken_made g h fault whole members old mid new out out' err err' next all turns (not_echoed member goes cause same part no_err) = (members, subst (λ s. Turns g h members old s whole) (sym same) turns)
@@ -242,24 +242,24 @@ broken_made g h fault whole members old mid new out out' err err' next all turns
     (members ++ member ∷ [], turns_then g h members (member ∷ []) old mid new whole own turns goes (turns_one g h member mid new own turn))
 
 -- the turns of a run, however it ended
-ran_turns : {P S : Type 0} (g : Ghosts P) (h : Ghosts S) (ended : Result Status RunFault) (old new : Console P S) (all : Deeds) → Ran g h ended old new all → (members : List Member) × Turns g h members old.shell new.shell all
-ran_turns g h (Ok status) old new all (it, is) = let made = whole_made g h new.input it.read old.shell new.shell it.deeds it.turns in (made.0, subst (Turns g h made.0 old.shell new.shell) (sym is) made.1)
+ran_turns : {P S : Type 0} (g : Ghosts P) (h : Ghosts S) (ended : Result Status RunFault) (old new : Console P S) (all : Effects) → Ran g h ended old new all → (members : List Member) × Turns g h members old.shell new.shell all
+ran_turns g h (Ok status) old new all (it, is) = let made = whole_made g h new.input it.read old.shell new.shell it.effects it.turns in (made.0, subst (Turns g h made.0 old.shell new.shell) (sym is) made.1)
 ran_turns g h (Err fault) old new all (it, is) =
     let front = front_made g h new.input it.read old.shell it.mid it.whole it.next it.turns in
-    let made = broken_made g h fault it.whole front.0 old.shell it.mid new.shell it.mid_out new.out it.mid_err new.err it.next it.deeds front.1 it.broken in
+    let made = broken_made g h fault it.whole front.0 old.shell it.mid new.shell it.mid_out new.out it.mid_err new.err it.next it.effects front.1 it.broken in
     (made.0, subst (Turns g h made.0 old.shell new.shell) (sym is) made.1)
 
-ran_made : {P S : Type 0} (g : Ghosts P) (h : Ghosts S) (ended : Result Status RunFault) (old new : Console P S) (all : Deeds) → Ran g h ended old new all → Runs h old.shell.full_text all.calls new.shell.full_text
+ran_made : {P S : Type 0} (g : Ghosts P) (h : Ghosts S) (ended : Result Status RunFault) (old new : Console P S) (all : Effects) → Ran g h ended old new all → Runs h old.shell.full_text all.calls new.shell.full_text
 ran_made g h ended old new all ran = let it = ran_turns g h ended old new all ran in turns_made g h it.0 old.shell new.shell all it.1
 
-pub all_made : {P S : Type 0} (g : Ghosts P) (h : Ghosts S) (old new : Parts P S) (all : Deeds) → AllRan g h old all new → Runs h old.full_text all.calls new.full_text
+pub all_made : {P S : Type 0} (g : Ghosts P) (h : Ghosts S) (old new : Parts P S) (all : Effects) → AllRan g h old all new → Runs h old.full_text all.calls new.full_text
 all_made g h old new all (none_ran parts) = refl
 all_made g h old new all (last_ran ended from to own ran) = ran_made g h ended from to own ran
 all_made g h old new all (first_ran ended from to own rest last ran later) =
     runs_join h from.shell.full_text to.shell.full_text last.full_text own.calls rest.calls (ran_made g h ended from to own ran) (all_made g h (parts_of to.shell) last rest later)
 
 -- in a run, behind none
-at_run : {P S : Type 0} (g : Ghosts P) (h : Ghosts S) (ended : Result Status RunFault) (from to : Console P S) (all : Deeds) → Ran g h ended from to all → (before more : List Call) (command : Command) (answer : Result Reply Fault) → all.calls ≡ before ++ Executed command answer ∷ more → At g h (Reached g h (parts_of from.shell)) all before command answer more to.shell.full_text
+at_run : {P S : Type 0} (g : Ghosts P) (h : Ghosts S) (ended : Result Status RunFault) (from to : Console P S) (all : Effects) → Ran g h ended from to all → (before more : List Call) (command : Command) (answer : Result Reply Fault) → all.calls ≡ before ++ Executed command answer ∷ more → At g h (Reached g h (parts_of from.shell)) all before command answer more to.shell.full_text
 at_run g h ended from to all ran before more command answer is =
     let turns = ran_turns g h ended from to all ran in
     let it = at_turn g h turns.0 from.shell to.shell all turns.1 before more command answer is in
@@ -280,7 +280,7 @@ at_run g h ended from to all ran before more command answer is =
       err = it.err;
     }
 
-at_all : {P S : Type 0} (g : Ghosts P) (h : Ghosts S) (old new : Parts P S) (all : Deeds) → AllRan g h old all new → (before more : List Call) (command : Command) (answer : Result Reply Fault) → all.calls ≡ before ++ Executed command answer ∷ more → At g h (Reached g h old) all before command answer more new.full_text
+at_all : {P S : Type 0} (g : Ghosts P) (h : Ghosts S) (old new : Parts P S) (all : Effects) → AllRan g h old all new → (before more : List Call) (command : Command) (answer : Result Reply Fault) → all.calls ≡ before ++ Executed command answer ∷ more → At g h (Reached g h old) all before command answer more new.full_text
 at_all g h old new all (none_ran parts) before more command answer is = absurd (no_more before more (Executed command answer) is)
 at_all g h old new all (last_ran ended from to own ran) before more command answer is = at_run g h ended from to own ran before more command answer is
 at_all {P} {S} g h old new all (first_ran ended from to own rest last ran others) before more command answer is = cut (λ b left. at_all g h (parts_of to.shell) last rest others b more command answer left) (split_at own.calls rest.calls before more (Executed command answer) is)
@@ -372,7 +372,7 @@ module _ (table : List ℕ) (items : Items) (filter : Filter) (limit : Option �
       go true it = absurd (not_none (none_of selected it))
       go false it = select_class old.settings told (made_name (tokens_of text)) (class_of (table_names old.full_text) (tokens_of text)) it
 
-  select_lists : {P S : Type 0} (g : Ghosts P) (h : Ghosts S) (old new : Parts P S) (all : Deeds) (before more : List Call) → At g h (Reached g h old) all before (Select table items filter limit offset) (Ok reply) more new.full_text → Lists g h old all before (Select table items filter limit offset) reply more new
+  select_lists : {P S : Type 0} (g : Ghosts P) (h : Ghosts S) (old new : Parts P S) (all : Effects) (before more : List Call) → At g h (Reached g h old) all before (Select table items filter limit offset) (Ok reply) more new.full_text → Lists g h old all before (Select table items filter limit offset) reply more new
   select_lists {P} {S} g h old new all before more it = go it.member it.turn
     where
       go : (member : Member) → Turn g h member it.was it.now it.own → Lists g h old all before (Select table items filter limit offset) reply more new
@@ -397,10 +397,10 @@ module _ (table : List ℕ) (items : Items) (filter : Filter) (limit : Option �
         err = it.err;
       }
         where
-          shown : Answer → Told
-          shown answer = echoed it.was.settings text (told_of it.was.settings.bail line answer)
+          shown : Answer → Outcome
+          shown answer = echoed it.was.settings text (outcome_of it.was.settings.bail line answer)
 
-          told : Tells (says (reply_text it.was.settings reply)) turn.body → (told_by it.own ≡ shown (says (reply_text it.was.settings reply))) ⊎ (told_by it.own ≡ shown lacks_memory)
+          told : Tells (says (reply_text it.was.settings reply)) turn.body → (outcome_in it.own ≡ shown (says (reply_text it.was.settings reply))) ⊎ (outcome_in it.own ≡ shown lacks_memory)
           told (inl is) = inl (turn.tells ∙ ap shown is)
           told (inr is) = inr (turn.tells ∙ ap shown is)
 
@@ -423,5 +423,5 @@ kept_by_runs g h law sound first old new all held settled ran clean = record {
 
 -- one run, however it ends
 pub ran_and_kept : {P S : Type 0} (g : Ghosts P) (h : Ghosts S) (ended : Result Status RunFault) (old new : Console P S) → Ends g h ended old new → IsSettled h old.shell.full_text → KeptByRuns g h (IsClean h) → RanAndKept g h ended old new
-ran_and_kept g h (Ok status) old new ran settled law = (ran.deeds, (ran, refl), λ first held clean. law first (parts_of old.shell) (parts_of new.shell) ran.deeds held settled (last_ran (Ok status) old new ran.deeds (ran, refl)) clean)
-ran_and_kept g h (Err fault) old new cut settled law = (cut.deeds, (cut, refl), λ first held clean. law first (parts_of old.shell) (parts_of new.shell) cut.deeds held settled (last_ran (Err fault) old new cut.deeds (cut, refl)) clean)
+ran_and_kept g h (Ok status) old new ran settled law = (ran.effects, (ran, refl), λ first held clean. law first (parts_of old.shell) (parts_of new.shell) ran.effects held settled (last_ran (Ok status) old new ran.effects (ran, refl)) clean)
+ran_and_kept g h (Err fault) old new cut settled law = (cut.effects, (cut, refl), λ first held clean. law first (parts_of old.shell) (parts_of new.shell) cut.effects held settled (last_ran (Err fault) old new cut.effects (cut, refl)) clean)

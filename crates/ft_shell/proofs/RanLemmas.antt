@@ -10,8 +10,8 @@ use Rattle.shell_text.specs.Splitting.{member_as}
 use Rattle.plain_shell.specs.declared.run.RunFault.{RunFault}
 use Rattle.plain_shell.specs.declared.run.RunFault.TheVariants as causes
 use Rattle.ft_shell.specs.Shell.{Shell}
-use Rattle.plain_shell.specs.Told.{Answer, echo_text, echoed, told_of}
-use Rattle.ft_shell.specs.Deeds.{Deeds, deeds_of, idle, and_then}
+use Rattle.plain_shell.specs.Outcomes.{Answer, echo_text, echoed, outcome_of}
+use Rattle.ft_shell.specs.Effects.{Effects, effects_of, idle, and_then}
 use Rattle.ft_shell.specs.Turns.{Body, Turn, calls_in, echo_of}
 use Rattle.ft_shell.specs.Broken.{Broken, not_begun, not_echoed, not_told}
 use Rattle.shell_text.specs.Print.{Settings}
@@ -32,7 +32,7 @@ right_of_or false b h = h
 
 abbrev pub did_none : {P S : Type 0} (g : Ghosts P) (h : Ghosts S) (a : Moment P S) → Did g h [] a a
 did_none g h a = record {
-  deeds = idle;
+  effects = idle;
   turns = (refl, refl);
   out = appends_same a.out;
   err = appends_same a.err;
@@ -40,10 +40,10 @@ did_none g h a = record {
   quit = sym (or_false a.status.quit);
 }
 
-pub did_one : {P S : Type 0} (g : Ghosts P) (h : Ghosts S) (member : Member) (a b : Moment P S) (told : Deeds) → Turn g h member a.shell b.shell told → Appends a.out b.out told.out → Appends a.err b.err told.err →
+pub did_one : {P S : Type 0} (g : Ghosts P) (h : Ghosts S) (member : Member) (a b : Moment P S) (told : Effects) → Turn g h member a.shell b.shell told → Appends a.out b.out told.out → Appends a.err b.err told.err →
     b.status.faults ≡ min (a.status.faults + told.faults) (2 ^ 64 - 1) → b.status.quit ≡ (a.status.quit || told.ends) → Did g h (member ∷ []) a b
 did_one g h member a b told turn out err faults quit = record {
-  deeds = told;
+  effects = told;
   turns = turns_one g h member a.shell b.shell told turn;
   out = out;
   err = err;
@@ -52,12 +52,12 @@ did_one g h member a b told turn out err faults quit = record {
 }
 
 -- a session that goes on was not ended by what was done before
-goes_on : {P S : Type 0} (g : Ghosts P) (h : Ghosts S) (members : List Member) (a b : Moment P S) (d : Did g h members a b) → b.status.quit ≡ false → d.deeds.ends ≡ false
-goes_on g h members a b d goes = right_of_or a.status.quit d.deeds.ends (sym d.quit ∙ goes)
+goes_on : {P S : Type 0} (g : Ghosts P) (h : Ghosts S) (members : List Member) (a b : Moment P S) (d : Did g h members a b) → b.status.quit ≡ false → d.effects.ends ≡ false
+goes_on g h members a b d goes = right_of_or a.status.quit d.effects.ends (sym d.quit ∙ goes)
 
 -- nothing ended it before, and so it goes on
 went_on : {P S : Type 0} (g : Ghosts P) (h : Ghosts S) (members : List Member) (a b : Moment P S) (d : Did g h members a b) → b.status.quit ≡ false → a.status.quit ≡ false
-went_on g h members a b d goes = left_of_or a.status.quit d.deeds.ends (sym d.quit ∙ goes)
+went_on g h members a b d goes = left_of_or a.status.quit d.effects.ends (sym d.quit ∙ goes)
   where
     left_of_or : (x y : Bool) → (x || y) ≡ false → x ≡ false
     left_of_or true y h = absurd (let wrong = h in cc)
@@ -65,17 +65,17 @@ went_on g h members a b d goes = left_of_or a.status.quit d.deeds.ends (sym d.qu
 
 abbrev did_then : {P S : Type 0} (g : Ghosts P) (h : Ghosts S) (xs ys : List Member) (a b c : Moment P S) → Did g h xs a b → b.status.quit ≡ false → Did g h ys b c → Did g h (xs ++ ys) a c
 did_then g h xs ys a b c first goes second = record {
-  deeds = and_then first.deeds second.deeds;
-  turns = turns_then g h xs ys a.shell b.shell c.shell first.deeds second.deeds first.turns (goes_on g h xs a b first goes) second.turns;
-  out = appends_then a.out b.out c.out first.deeds.out second.deeds.out first.out second.out;
-  err = appends_then a.err b.err c.err first.deeds.err second.deeds.err first.err second.err;
+  effects = and_then first.effects second.effects;
+  turns = turns_then g h xs ys a.shell b.shell c.shell first.effects second.effects first.turns (goes_on g h xs a b first goes) second.turns;
+  out = appends_then a.out b.out c.out first.effects.out second.effects.out first.out second.out;
+  err = appends_then a.err b.err c.err first.effects.err second.effects.err first.err second.err;
   faults = omega (arith, first.faults, second.faults);
-  quit = second.quit ∙ ap (λ q. q || second.deeds.ends) (goes ∙ sym (went_on g h xs a b first goes));
+  quit = second.quit ∙ ap (λ q. q || second.effects.ends) (goes ∙ sym (went_on g h xs a b first goes));
 }
 
 -- ---- turns up to a fault
 
-broken_after : {P S : Type 0} (g : Ghosts P) (h : Ghosts S) (fault : RunFault) (first whole : Deeds) (old new : Shell P S) (out out' err err' : Option (List ℕ)) (next : List Member) (all : Deeds) →
+broken_after : {P S : Type 0} (g : Ghosts P) (h : Ghosts S) (fault : RunFault) (first whole : Effects) (old new : Shell P S) (out out' err err' : Option (List ℕ)) (next : List Member) (all : Effects) →
     Broken g h fault whole old new out out' err err' next all → Broken g h fault (and_then first whole) old new out out' err err' next (and_then first all)
 broken_after g h fault first whole old new out out' err err' next all (not_begun same no_out no_err) = not_begun same no_out no_err
 broken_after g h fault first whole old new out out' err err' next all (not_echoed member goes cause same part no_err) = not_echoed member goes cause same part no_err
@@ -83,14 +83,14 @@ broken_after g h fault first whole old new out out' err err' next all (not_told 
     subst (Broken g h fault (and_then first whole) old new out out' err err' (member ∷ [])) (assoc_then first whole own) (not_told member own front rest goes cause turn is written lines)
 
 cut_whole : {P S : Type 0} (g : Ghosts P) (h : Ghosts S) (fault : RunFault) (members : List Member) (a b : Moment P S) → Did g h members a b → Cut g h fault members [] a b
-cut_whole g h fault members a b d = record { mid = b; did = d; deeds = d.deeds; broken = not_begun refl refl refl }
+cut_whole g h fault members a b d = record { mid = b; did = d; effects = d.effects; broken = not_begun refl refl refl }
 
 cut_then : {P S : Type 0} (g : Ghosts P) (h : Ghosts S) (fault : RunFault) (xs ys next : List Member) (a b c : Moment P S) → Did g h xs a b → b.status.quit ≡ false → Cut g h fault ys next b c → Cut g h fault (xs ++ ys) next a c
 cut_then g h fault xs ys next a b c first goes second = record {
   mid = second.mid;
   did = did_then g h xs ys a b second.mid first goes second.did;
-  deeds = and_then first.deeds second.deeds;
-  broken = broken_after g h fault first.deeds second.did.deeds second.mid.shell c.shell second.mid.out c.out second.mid.err c.err next second.deeds second.broken;
+  effects = and_then first.effects second.effects;
+  broken = broken_after g h fault first.effects second.did.effects second.mid.shell c.shell second.mid.out c.out second.mid.err c.err next second.effects second.broken;
 }
 
 -- ---- parts of a run
@@ -102,13 +102,13 @@ pub passes_one : {P S : Type 0} (g : Ghosts P) (h : Ghosts S) (member : Member) 
 passes_one g h member a b did = record { done = member ∷ []; front = λ rest. (rest, refl, λ goes. refl); did = did }
 
 -- a turn was done, and a writer refused a part of what it tells
-pub breaks_one : {P S : Type 0} (g : Ghosts P) (h : Ghosts S) (fault : RunFault) (member : Member) (a b : Moment P S) (own : Deeds) (front rest : List ℕ) → fault ≡ causes.Write → Turn g h member a.shell b.shell own →
+pub breaks_one : {P S : Type 0} (g : Ghosts P) (h : Ghosts S) (fault : RunFault) (member : Member) (a b : Moment P S) (own : Effects) (front rest : List ℕ) → fault ≡ causes.Write → Turn g h member a.shell b.shell own →
     own.out ≡ echo_of a.shell.settings member ++ (front ++ rest) → Appends a.out b.out (echo_of a.shell.settings member ++ front) → AppendsUpTo a.err b.err own.err → Breaks g h fault (λ (rest : List Member). member ∷ rest) a b
 breaks_one g h fault member a b own front rest cause turn is written lines = record {
   done = [];
   next = member ∷ [];
   front = λ more. (more, refl);
-  cut = record { mid = a; did = did_none g h a; deeds = and_then idle own; broken = not_told member own front rest refl cause turn is written lines };
+  cut = record { mid = a; did = did_none g h a; effects = and_then idle own; broken = not_told member own front rest refl cause turn is written lines };
 }
 
 -- the echo of a unit was refused, so that it is not run
@@ -117,7 +117,7 @@ breaks_echo g h fault member a out part cause = record {
   done = [];
   next = member ∷ [];
   front = λ more. (more, refl);
-  cut = record { mid = a; did = did_none g h a; deeds = idle; broken = not_echoed member refl cause refl part refl };
+  cut = record { mid = a; did = did_none g h a; effects = idle; broken = not_echoed member refl cause refl part refl };
 }
 
 -- where nothing more was done
@@ -187,7 +187,7 @@ pub lacks_memory : {P S W : Type 0} (g : Ghosts P) (h : Ghosts S) (due left : W 
 lacks_memory g h due left a = (breaks_none g h causes.Memory due a, inr refl)
 
 -- A turn was done. Its echo was written, and what it tells behind that, or a front of it.
-pub runs_turn : {P S T : Type 0} (g : Ghosts P) (h : Ghosts S) (r : Result T RunFault) (member : Member) (a b : Moment P S) (told : Deeds) (mid : Option (List ℕ)) (body : List ℕ) → Turn g h member a.shell b.shell told →
+pub runs_turn : {P S T : Type 0} (g : Ghosts P) (h : Ghosts S) (r : Result T RunFault) (member : Member) (a b : Moment P S) (told : Effects) (mid : Option (List ℕ)) (body : List ℕ) → Turn g h member a.shell b.shell told →
     told.out ≡ echo_of a.shell.settings member ++ body → Appends a.out mid (echo_of a.shell.settings member) → Sends r mid b.out body → Sends r a.err b.err told.err →
     IfErr r (λ fault. fault ≡ causes.Write) → OnOk r (b.status.faults ≡ min (a.status.faults + told.faults) (2 ^ 64 - 1)) → OnOk r (b.status.quit ≡ (a.status.quit || told.ends)) →
     Runs g h r (λ (rest : List Member). member ∷ rest) (λ rest. rest) a b
@@ -202,6 +202,6 @@ unit_echo settings kinds.Dot line text = refl
 
 -- a unit's turn: its text is echoed before what it answers
 pub unit_turned : {P S : Type 0} (g : Ghosts P) (h : Ghosts S) (kind : UnitKind) (line : ℕ) (text : List ℕ) (old new : Shell P S) (body : Answer) → (done : Body g h (member_as kind line text) old new body) →
-    Turn g h (member_as kind line text) old new (deeds_of (echoed old.settings text (told_of old.settings.bail line body)) (calls_in g h (member_as kind line text) old new body done))
+    Turn g h (member_as kind line text) old new (effects_of (echoed old.settings text (outcome_of old.settings.bail line body)) (calls_in g h (member_as kind line text) old new body done))
 unit_turned g h kinds.Sql line text old new body done = record { body = body; done = done; tells = refl; calls = refl }
 unit_turned g h kinds.Dot line text old new body done = record { body = body; done = done; tells = refl; calls = refl }

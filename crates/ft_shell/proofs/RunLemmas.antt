@@ -10,9 +10,9 @@ use Rattle.plain_shell.specs.declared.run.Status.{Status}
 use Rattle.plain_shell.specs.declared.run.RunFault.{RunFault}
 use Rattle.plain_shell.specs.declared.run.RunFault.TheVariants as causes
 use Rattle.ft_shell.specs.Shell.{Shell}
-use Rattle.ft_shell.specs.Deeds.{Deeds}
+use Rattle.ft_shell.specs.Effects.{Effects}
 use Rattle.ft_shell.specs.Turns.{Turns, Session, Begins}
-use Rattle.plain_shell.specs.Feeds.{Fed, members_left}
+use Rattle.plain_shell.specs.LinesRead.{LinesRead, members_left}
 use Rattle.ft_shell.specs.Ran.{Moment, Did, Passes, Breaks, Ends, IsInside}
 use Rattle.ft_shell.specs.Runs.{Console, IsWhole, IsFront, Completes, Stops}
 use Rattle.plain_shell.proofs.WriteLemmas.{appends_kept}
@@ -51,7 +51,7 @@ keeps_same (Some p) = refl
 module _ {P S : Type 0} (g : Ghosts P) (h : Ghosts S) where
   -- So many bytes were read. They are taken, as far as there is room; without any the input is at
   -- its end, and what was left of it is done.
-  pub record HasRead (room n : ℕ) (before after : Option (List ℕ)) (fed left : Fed) (old new : Moment P S) : Type 0 where
+  pub record HasRead (room n : ℕ) (before after : Option (List ℕ)) (fed left : LinesRead) (old new : Moment P S) : Type 0 where
     pub bytes : List ℕ
     pub consumed : Consumes before after bytes
     pub size : length bytes ≡ n
@@ -60,7 +60,7 @@ module _ {P S : Type 0} (g : Ghosts P) (h : Ghosts S) where
 
   -- Bytes were read, and the run is cut short: in the part of them that there is room for, or at
   -- the end of the input.
-  pub record Interrupted (fault : RunFault) (room : ℕ) (before after : Option (List ℕ)) (fed : Fed) (old new : Moment P S) : Type 0 where
+  pub record Interrupted (fault : RunFault) (room : ℕ) (before after : Option (List ℕ)) (fed : LinesRead) (old new : Moment P S) : Type 0 where
     pub bytes : List ℕ
     pub consumed : Consumes before after bytes
     pub cause : IsInside g h fault ⊎ ((fault ≡ causes.Read) × (bytes ≡ []))
@@ -73,7 +73,7 @@ abbrev pub opening : {P S : Type 0} → Shell P S → Option (List ℕ) → Opti
 opening shell out err = record { shell = shell; status = record { faults = 0; quit = false }; out = out; err = err }
 
 -- what was read, and was run as far as it isn't too much
-pub record SoFar {P S : Type 0} (g : Ghosts P) (h : Ghosts S) (most total : ℕ) (before after : Option (List ℕ)) (left : Fed) (old new : Moment P S) : Type 0 where
+pub record SoFar {P S : Type 0} (g : Ghosts P) (h : Ghosts S) (most total : ℕ) (before after : Option (List ℕ)) (left : LinesRead) (old new : Moment P S) : Type 0 where
   pub read : List ℕ
   pub consumed : Consumes before after read
   pub size : length read ≡ total
@@ -83,7 +83,7 @@ pub record SoFar {P S : Type 0} (g : Ghosts P) (h : Ghosts S) (most total : ℕ)
 abbrev pub ReadsOn : Type 0
 ReadsOn = (input : List ℕ) → members_of input ≡ given_by start (lines_of input)
 
-pub so_far_none : {P S : Type 0} (g : Ghosts P) (h : Ghosts S) (most : ℕ) (before : Option (List ℕ)) (left : Fed) (a : Moment P S) → ReadsOn → left ≡ record { splitting = record { reading = start; waiting = [] }; line = [] } → SoFar g h most 0 before before left a a
+pub so_far_none : {P S : Type 0} (g : Ghosts P) (h : Ghosts S) (most : ℕ) (before : Option (List ℕ)) (left : LinesRead) (a : Moment P S) → ReadsOn → left ≡ record { splitting = record { reading = start; waiting = [] }; line = [] } → SoFar g h most 0 before before left a a
 so_far_none g h most before left a law fresh = record {
   read = [];
   consumed = consumes_none before before (keeps_same before);
@@ -92,7 +92,7 @@ so_far_none g h most before left a law fresh = record {
 }
 
 -- what was run before a piece, where the piece follows
-run_before : {P S : Type 0} (g : Ghosts P) (h : Ghosts S) (most total room : ℕ) (before mid : Option (List ℕ)) (left : Fed) (a b : Moment P S) (so : SoFar g h most total before mid left a b) → total ≤ most → room ≡ most - total → (bytes : List ℕ) →
+run_before : {P S : Type 0} (g : Ghosts P) (h : Ghosts S) (most total room : ℕ) (before mid : Option (List ℕ)) (left : LinesRead) (a b : Moment P S) (so : SoFar g h most total before mid left a b) → total ≤ most → room ≡ most - total → (bytes : List ℕ) →
     Passes g h (λ (rest : List ℕ). members_of (take most (so.read ++ bytes) ++ rest)) (λ rest. members_left left (take room bytes ++ rest)) a b
 run_before g h most total room before mid left a b so fits is bytes =
     let whole = take_both most room so.read bytes (omega (arith, so.size, fits)) (omega (arith, so.size, is)) in
@@ -100,13 +100,13 @@ run_before g h most total room before mid left a b so fits is bytes =
     (λ rest. ap members_of (ap (λ xs. xs ++ rest) whole ∙ append_assoc (take most so.read) (take room bytes) rest)) (λ rest goes. refl) so.passes
 
 -- the same, where the input ends there
-run_to_end : {P S : Type 0} (g : Ghosts P) (h : Ghosts S) (most total : ℕ) (before mid : Option (List ℕ)) (left : Fed) (a b : Moment P S) (so : SoFar g h most total before mid left a b) → total ≤ most →
+run_to_end : {P S : Type 0} (g : Ghosts P) (h : Ghosts S) (most total : ℕ) (before mid : Option (List ℕ)) (left : LinesRead) (a b : Moment P S) (so : SoFar g h most total before mid left a b) → total ≤ most →
     Passes g h (λ (_ : Unit {0}). members_of so.read) (λ _. members_left left []) a b
 run_to_end g h most total before mid left a b so fits =
     passes_as g h _ _ _ _ (λ (_ : Unit {0}). []) a b
     (λ u. ap members_of (sym (append-nil (take most so.read) ∙ take_all most so.read (omega (arith, so.size, fits))))) (λ u goes. refl) so.passes
 
-pub so_far_more : {P S : Type 0} (g : Ghosts P) (h : Ghosts S) (most total room n : ℕ) (before mid after : Option (List ℕ)) (left left' : Fed) (a b c : Moment P S) →
+pub so_far_more : {P S : Type 0} (g : Ghosts P) (h : Ghosts S) (most total room n : ℕ) (before mid after : Option (List ℕ)) (left left' : LinesRead) (a b c : Moment P S) →
     SoFar g h most total before mid left a b → b.status.quit ≡ false → total ≤ most → room ≡ most - total → HasRead g h room n mid after left left' b c → 0 < n →
     SoFar g h most (total + n) before after left' a c
 so_far_more g h most total room n before mid after left left' a b c so goes fits is piece some = record {
@@ -127,9 +127,9 @@ passes_kept g h due left a b out kept it = record {
   done = it.done;
   front = it.front;
   did = record {
-    deeds = it.did.deeds;
+    effects = it.did.effects;
     turns = it.did.turns;
-    out = appends_kept a.out b.out out it.did.deeds.out it.did.out kept;
+    out = appends_kept a.out b.out out it.did.effects.out it.did.out kept;
     err = it.did.err;
     faults = it.did.faults;
     quit = it.did.quit;
@@ -137,47 +137,47 @@ passes_kept g h due left a b out kept it = record {
 }
 
 -- it may be flushed before the next piece is read
-pub so_far_kept : {P S : Type 0} (g : Ghosts P) (h : Ghosts S) (most total : ℕ) (before after : Option (List ℕ)) (left : Fed) (a b : Moment P S) (out : Option (List ℕ)) → SoFar g h most total before after left a b → Keeps b.out out → SoFar g h most total before after left a (record b { out = out })
+pub so_far_kept : {P S : Type 0} (g : Ghosts P) (h : Ghosts S) (most total : ℕ) (before after : Option (List ℕ)) (left : LinesRead) (a b : Moment P S) (out : Option (List ℕ)) → SoFar g h most total before after left a b → Keeps b.out out → SoFar g h most total before after left a (record b { out = out })
 so_far_kept g h most total before after left a b out so kept = record { read = so.read; consumed = so.consumed; size = so.size; passes = passes_kept g h _ _ a b out kept so.passes }
 
 -- ---- a run that ended well
 
 -- what was done ended the session
-ended_by : {P S : Type 0} (g : Ghosts P) (h : Ghosts S) (members : List Member) (a b : Moment P S) (d : Did g h members a b) → a.status.quit ≡ false → b.status.quit ≡ true → d.deeds.ends ≡ true
-ended_by g h members a b d began ended = ap (λ q. q || d.deeds.ends) (sym began) ∙ sym d.quit ∙ ended
+ended_by : {P S : Type 0} (g : Ghosts P) (h : Ghosts S) (members : List Member) (a b : Moment P S) (d : Did g h members a b) → a.status.quit ≡ false → b.status.quit ≡ true → d.effects.ends ≡ true
+ended_by g h members a b d began ended = ap (λ q. q || d.effects.ends) (sym began) ∙ sym d.quit ∙ ended
 
-whole_at_end : {P S : Type 0} (g : Ghosts P) (h : Ghosts S) (after : Option (List ℕ)) (read : List ℕ) (a b : Moment P S) (p : Passes g h (λ (_ : Unit {0}). members_of read) (λ _. []) a b) → a.status.quit ≡ false → IsAtEnd after → length read ≤ 2 ^ 30 → IsWhole g h after read a.shell b.shell p.did.deeds
+whole_at_end : {P S : Type 0} (g : Ghosts P) (h : Ghosts S) (after : Option (List ℕ)) (read : List ℕ) (a b : Moment P S) (p : Passes g h (λ (_ : Unit {0}). members_of read) (λ _. []) a b) → a.status.quit ≡ false → IsAtEnd after → length read ≤ 2 ^ 30 → IsWhole g h after read a.shell b.shell p.did.effects
 whole_at_end g h after read a b p began at_end fits = inl (at_end, fits, go b.status.quit refl)
   where
-    go : (quit : Bool) → b.status.quit ≡ quit → Session g h read a.shell b.shell p.did.deeds
+    go : (quit : Bool) → b.status.quit ≡ quit → Session g h read a.shell b.shell p.did.effects
     go false is =
         let all : members_of read ≡ p.done = (p.front tt).1 ∙ ap (λ ms. p.done ++ ms) ((p.front tt).2 is) ∙ append-nil p.done in
-        subst (λ ms. Turns g h ms a.shell b.shell p.did.deeds) (sym all) p.did.turns
+        subst (λ ms. Turns g h ms a.shell b.shell p.did.effects) (sym all) p.did.turns
     go true is =
-        subst (λ ms. Turns g h ms a.shell b.shell p.did.deeds) (sym (p.front tt).1)
-        (turns_ended g h p.done (p.front tt).0 a.shell b.shell p.did.deeds p.did.turns (ended_by g h p.done a b p.did began is))
+        subst (λ ms. Turns g h ms a.shell b.shell p.did.effects) (sym (p.front tt).1)
+        (turns_ended g h p.done (p.front tt).0 a.shell b.shell p.did.effects p.did.turns (ended_by g h p.done a b p.did began is))
 
 split_members : (most : ℕ) (read rest : List ℕ) → members_of (read ++ rest) ≡ members_of (take most read ++ (drop most read ++ rest))
 split_members most read rest = ap members_of (ap (λ xs. xs ++ rest) (sym (take-append-drop most read)) ∙ append_assoc (take most read) (drop most read) rest)
 
 whole_by_turn : {P S : Type 0} (g : Ghosts P) (h : Ghosts S) (after : Option (List ℕ)) (most : ℕ) (read : List ℕ) (left : List ℕ → List Member) (a b : Moment P S) (p : Passes g h (λ (rest : List ℕ). members_of (take most read ++ rest)) left a b) →
-    most ≡ 2 ^ 30 → a.status.quit ≡ false → b.status.quit ≡ true → IsWhole g h after read a.shell b.shell p.did.deeds
+    most ≡ 2 ^ 30 → a.status.quit ≡ false → b.status.quit ≡ true → IsWhole g h after read a.shell b.shell p.did.effects
 whole_by_turn g h after most read left a b p size began ended =
     let ends = ended_by g h p.done a b p.did began ended in
     inr (
       ends,
       λ rest.
           let all : members_of (take (2 ^ 30) read ++ rest) ≡ p.done ++ (p.front rest).0 = ap (λ m. members_of (take m read ++ rest)) (sym size) ∙ (p.front rest).1 in
-          subst (λ ms. Turns g h ms a.shell b.shell p.did.deeds) (sym all) (turns_ended g h p.done (p.front rest).0 a.shell b.shell p.did.deeds p.did.turns ends),
+          subst (λ ms. Turns g h ms a.shell b.shell p.did.effects) (sym all) (turns_ended g h p.done (p.front rest).0 a.shell b.shell p.did.effects p.did.turns ends),
     )
 
 completes_by : {P S W : Type 0} (g : Ghosts P) (h : Ghosts S) (due left : W → List Member) (before after : Option (List ℕ)) (read : List ℕ) (shell : Shell P S) (out err : Option (List ℕ)) (b : Moment P S) (p : Passes g h due left (opening shell out err) b) →
-    Consumes before after read → IsWhole g h after read shell b.shell p.did.deeds → b.status.faults < 2 ^ 64 →
+    Consumes before after read → IsWhole g h after read shell b.shell p.did.effects → b.status.faults < 2 ^ 64 →
     Completes g h b.status (record { shell = shell; input = before; out = out; err = err }) (record { shell = b.shell; input = after; out = b.out; err = b.err })
 completes_by g h due left before after read shell out err b p consumed whole fits = record {
   read = read;
   consumed = consumed;
-  deeds = p.did.deeds;
+  effects = p.did.effects;
   turns = whole;
   out = p.did.out;
   err = p.did.err;
@@ -186,7 +186,7 @@ completes_by g h due left before after read shell out err b p consumed whole fit
 }
 
 -- the last piece was read: it was the end, or a turn ended the session
-pub completes : {P S : Type 0} (g : Ghosts P) (h : Ghosts S) (most total room n : ℕ) (before mid after : Option (List ℕ)) (left left' : Fed) (shell : Shell P S) (out err out' : Option (List ℕ)) (b c : Moment P S) → most ≡ 2 ^ 30 →
+pub completes : {P S : Type 0} (g : Ghosts P) (h : Ghosts S) (most total room n : ℕ) (before mid after : Option (List ℕ)) (left left' : LinesRead) (shell : Shell P S) (out err out' : Option (List ℕ)) (b c : Moment P S) → most ≡ 2 ^ 30 →
     SoFar g h most total before mid left (opening shell out err) b → b.status.quit ≡ false → total ≤ most → room ≡ most - total → HasRead g h room n mid after left left' b c → (n ≡ 0) ⊎ ((0 < n) × (c.status.quit ≡ true)) → Keeps c.out out' → c.status.faults < 2 ^ 64 →
     Completes g h c.status (record { shell = shell; input = before; out = out; err = err }) (record { shell = c.shell; input = after; out = out'; err = c.err })
 completes g h most total room n before mid after left left' shell out err out' b c size so goes fits is piece (inl none) kept small =
@@ -204,7 +204,7 @@ completes g h most total room n before mid after left left' shell out err out' b
 
 -- ---- a run that is cut short
 
-begun : {P S : Type 0} (g : Ghosts P) (h : Ghosts S) (input : List ℕ) (done next more : List Member) (old new : Shell P S) (all : Deeds) → members_of input ≡ done ++ (next ++ more) → Turns g h done old new all → Begins g h input old new all next
+begun : {P S : Type 0} (g : Ghosts P) (h : Ghosts S) (input : List ℕ) (done next more : List Member) (old new : Shell P S) (all : Effects) → members_of input ≡ done ++ (next ++ more) → Turns g h done old new all → Begins g h input old new all next
 begun g h input done next more old new all is turns = (
   length done,
   subst (λ ms. Turns g h ms old new all) (sym (ap (take (length done)) is ∙ take-append_seam done (next ++ more))) turns,
@@ -213,12 +213,12 @@ begun g h input done next more old new all is turns = (
 )
 
 stops_by : {P S W : Type 0} (g : Ghosts P) (h : Ghosts S) (fault : RunFault) (due : W → List Member) (before after : Option (List ℕ)) (read : List ℕ) (shell : Shell P S) (out err : Option (List ℕ)) (b : Moment P S) (p : Breaks g h fault due (opening shell out err) b) →
-    Consumes before after read → IsFront g h after read shell p.cut.mid.shell p.cut.did.deeds p.next → (fault ≡ causes.TooMuch → (2 ^ 30 < length read) × ((rest : List ℕ) → Begins g h (take (2 ^ 30) read ++ rest) shell p.cut.mid.shell p.cut.did.deeds p.next)) → (fault ≡ causes.Read → length read ≤ 2 ^ 30) →
+    Consumes before after read → IsFront g h after read shell p.cut.mid.shell p.cut.did.effects p.next → (fault ≡ causes.TooMuch → (2 ^ 30 < length read) × ((rest : List ℕ) → Begins g h (take (2 ^ 30) read ++ rest) shell p.cut.mid.shell p.cut.did.effects p.next)) → (fault ≡ causes.Read → length read ≤ 2 ^ 30) →
     Stops g h fault (record { shell = shell; input = before; out = out; err = err }) (record { shell = b.shell; input = after; out = b.out; err = b.err })
 stops_by g h fault due before after read shell out err b p consumed front much least = record {
   read = read;
   consumed = consumed;
-  whole = p.cut.did.deeds;
+  whole = p.cut.did.effects;
   mid = p.cut.mid.shell;
   mid_out = p.cut.mid.out;
   mid_err = p.cut.mid.err;
@@ -226,7 +226,7 @@ stops_by g h fault due before after read shell out err b p consumed front much l
   turns = front;
   out = p.cut.did.out;
   err = p.cut.did.err;
-  deeds = p.cut.deeds;
+  effects = p.cut.effects;
   broken = p.cut.broken;
   much = much;
   least = least;
@@ -236,15 +236,15 @@ stops_at_end : {P S : Type 0} (g : Ghosts P) (h : Ghosts S) (fault : RunFault) (
     Consumes before after read → IsAtEnd after → fault ≢ causes.TooMuch → length read ≤ 2 ^ 30 →
     Stops g h fault (record { shell = shell; input = before; out = out; err = err }) (record { shell = b.shell; input = after; out = b.out; err = b.err })
 stops_at_end g h fault before after read shell out err b p consumed at_end other fits =
-    stops_by g h fault _ before after read shell out err b p consumed (inl (at_end, begun g h read p.done p.next (p.front tt).0 shell p.cut.mid.shell p.cut.did.deeds (p.front tt).1 p.cut.did.turns)) (λ much. absurd (other much)) (λ _. fits)
+    stops_by g h fault _ before after read shell out err b p consumed (inl (at_end, begun g h read p.done p.next (p.front tt).0 shell p.cut.mid.shell p.cut.did.effects (p.front tt).1 p.cut.did.turns)) (λ much. absurd (other much)) (λ _. fits)
 
 stops_within : {P S : Type 0} (g : Ghosts P) (h : Ghosts S) (fault : RunFault) (most : ℕ) (before after : Option (List ℕ)) (read : List ℕ) (shell : Shell P S) (out err : Option (List ℕ)) (b : Moment P S) → most ≡ 2 ^ 30 → Breaks g h fault (λ (rest : List ℕ). members_of (take most read ++ rest)) (opening shell out err) b →
     Consumes before after read → (fault ≡ causes.TooMuch → most < length read) → (fault ≡ causes.Read → length read ≤ most) →
     Stops g h fault (record { shell = shell; input = before; out = out; err = err }) (record { shell = b.shell; input = after; out = b.out; err = b.err })
 stops_within g h fault most before after read shell out err b size p consumed much least =
     stops_by g h fault _ before after read shell out err b p consumed
-    (inr (λ rest. begun g h (read ++ rest) p.done p.next (p.front (drop most read ++ rest)).0 shell p.cut.mid.shell p.cut.did.deeds (split_members most read rest ∙ (p.front (drop most read ++ rest)).1) p.cut.did.turns))
-    (λ is. (subst (λ m. m < length read) size (much is), λ rest. begun g h (take (2 ^ 30) read ++ rest) p.done p.next (p.front rest).0 shell p.cut.mid.shell p.cut.did.deeds (ap (λ m. members_of (take m read ++ rest)) (sym size) ∙ (p.front rest).1) p.cut.did.turns))
+    (inr (λ rest. begun g h (read ++ rest) p.done p.next (p.front (drop most read ++ rest)).0 shell p.cut.mid.shell p.cut.did.effects (split_members most read rest ∙ (p.front (drop most read ++ rest)).1) p.cut.did.turns))
+    (λ is. (subst (λ m. m < length read) size (much is), λ rest. begun g h (take (2 ^ 30) read ++ rest) p.done p.next (p.front rest).0 shell p.cut.mid.shell p.cut.did.effects (ap (λ m. members_of (take m read ++ rest)) (sym size) ∙ (p.front rest).1) p.cut.did.turns))
     (λ is. subst (λ m. length read ≤ m) size (least is))
 
 -- nothing was read
@@ -254,13 +254,13 @@ stops_first g h fault before shell out err other =
     stops_within g h fault (2 ^ 30) before before [] shell out err (opening shell out err) refl (breaks_none g h fault _ (opening shell out err)) (consumes_none before before (keeps_same before)) (λ much. absurd (other much)) (λ _. omega arith)
 
 -- there was more than the limit
-pub stops_too_much : {P S : Type 0} (g : Ghosts P) (h : Ghosts S) (most total : ℕ) (before after : Option (List ℕ)) (left : Fed) (shell : Shell P S) (out err : Option (List ℕ)) (b : Moment P S) → most ≡ 2 ^ 30 → SoFar g h most total before after left (opening shell out err) b → most < total →
+pub stops_too_much : {P S : Type 0} (g : Ghosts P) (h : Ghosts S) (most total : ℕ) (before after : Option (List ℕ)) (left : LinesRead) (shell : Shell P S) (out err : Option (List ℕ)) (b : Moment P S) → most ≡ 2 ^ 30 → SoFar g h most total before after left (opening shell out err) b → most < total →
     Stops g h causes.TooMuch (record { shell = shell; input = before; out = out; err = err }) (record { shell = b.shell; input = after; out = b.out; err = b.err })
 stops_too_much g h most total before after left shell out err b size so past =
     stops_within g h causes.TooMuch most before after so.read shell out err b size (breaks_after g h causes.TooMuch _ _ (opening shell out err) b so.passes) so.consumed (λ _. omega (arith, so.size, past)) (λ is. absurd (let wrong = is in cc))
 
 -- a piece was cut short
-pub stops_in_piece : {P S : Type 0} (g : Ghosts P) (h : Ghosts S) (fault : RunFault) (most total room : ℕ) (before mid after : Option (List ℕ)) (left : Fed) (shell : Shell P S) (out err : Option (List ℕ)) (b c : Moment P S) → most ≡ 2 ^ 30 →
+pub stops_in_piece : {P S : Type 0} (g : Ghosts P) (h : Ghosts S) (fault : RunFault) (most total room : ℕ) (before mid after : Option (List ℕ)) (left : LinesRead) (shell : Shell P S) (out err : Option (List ℕ)) (b c : Moment P S) → most ≡ 2 ^ 30 →
     SoFar g h most total before mid left (opening shell out err) b → b.status.quit ≡ false → total ≤ most → room ≡ most - total → Interrupted g h fault room mid after left b c →
     Stops g h fault (record { shell = shell; input = before; out = out; err = err }) (record { shell = c.shell; input = after; out = c.out; err = c.err })
 stops_in_piece g h fault most total room before mid after left shell out err b c size so goes fits is piece = go piece.breaks
@@ -287,7 +287,7 @@ stops_in_piece g h fault most total room before mid after left shell out err b c
         (consumes_to_end before mid after so.read piece.bytes so.consumed piece.consumed none) at_end (not_much piece.cause) (omega (arith, so.size, fits, size))
 
 -- what was run was not flushed
-pub stops_unflushed : {P S : Type 0} (g : Ghosts P) (h : Ghosts S) (fault : RunFault) (most total : ℕ) (before after : Option (List ℕ)) (left : Fed) (shell : Shell P S) (out err out' : Option (List ℕ)) (b : Moment P S) → most ≡ 2 ^ 30 → SoFar g h most total before after left (opening shell out err) b → Keeps b.out out' → fault ≡ causes.Write →
+pub stops_unflushed : {P S : Type 0} (g : Ghosts P) (h : Ghosts S) (fault : RunFault) (most total : ℕ) (before after : Option (List ℕ)) (left : LinesRead) (shell : Shell P S) (out err out' : Option (List ℕ)) (b : Moment P S) → most ≡ 2 ^ 30 → SoFar g h most total before after left (opening shell out err) b → Keeps b.out out' → fault ≡ causes.Write →
     Stops g h fault (record { shell = shell; input = before; out = out; err = err }) (record { shell = b.shell; input = after; out = out'; err = b.err })
 stops_unflushed g h fault most total before after left shell out err out' b size so kept cause =
     let flushed = so_far_kept g h most total before after left (opening shell out err) b out' so kept in
@@ -295,7 +295,7 @@ stops_unflushed g h fault most total before after left shell out err out' b size
     (λ much. absurd (let wrong : causes.Write ≡ causes.TooMuch = sym cause ∙ much in cc)) (λ is. absurd (let wrong : causes.Write ≡ causes.Read = sym cause ∙ is in cc))
 
 -- all was run, and the last flush was refused
-pub stops_at_flush : {P S : Type 0} (g : Ghosts P) (h : Ghosts S) (fault : RunFault) (most total room n : ℕ) (before mid after : Option (List ℕ)) (left left' : Fed) (shell : Shell P S) (out err out' : Option (List ℕ)) (b c : Moment P S) → most ≡ 2 ^ 30 →
+pub stops_at_flush : {P S : Type 0} (g : Ghosts P) (h : Ghosts S) (fault : RunFault) (most total room n : ℕ) (before mid after : Option (List ℕ)) (left left' : LinesRead) (shell : Shell P S) (out err out' : Option (List ℕ)) (b c : Moment P S) → most ≡ 2 ^ 30 →
     SoFar g h most total before mid left (opening shell out err) b → b.status.quit ≡ false → total ≤ most → room ≡ most - total → HasRead g h room n mid after left left' b c → (n ≡ 0) ⊎ (0 < n) → Keeps c.out out' → fault ≡ causes.Write →
     Stops g h fault (record { shell = shell; input = before; out = out; err = err }) (record { shell = c.shell; input = after; out = out'; err = c.err })
 stops_at_flush g h fault most total room n before mid after left left' shell out err out' b c size so goes fits is piece (inl none) kept cause =

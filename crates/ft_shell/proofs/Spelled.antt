@@ -24,7 +24,7 @@ use Rattle.ft_shell.specs.StatementTurns.{table_names}
 use Rattle.ft_shell.specs.ImportTurns.{columns_in, insert_told}
 use Rattle.plain_shell.specs.Records.{kept, records_in}
 use Rattle.plain_shell.specs.DotParts.{behind_stop}
-use Rattle.plain_shell.specs.Told.{Answer, Tells, blames}
+use Rattle.plain_shell.specs.Outcomes.{Answer, Tells, blames}
 
 -- nothing is called, or the table that is made, if one may be, is noted once
 abbrev pub MayNote : Option (List ℕ) → List Call → Type 0

@@ -6,18 +6,18 @@ use Rattle.shell_text.specs.Units.{Member}
 use Rattle.plain_shell.specs.declared.run.RunFault.{RunFault}
 use Rattle.plain_shell.specs.declared.run.RunFault.TheVariants as causes
 use Rattle.ft_shell.specs.Shell.{Shell}
-use Rattle.ft_shell.specs.Deeds.{Deeds, and_then}
+use Rattle.ft_shell.specs.Effects.{Effects, and_then}
 use Rattle.ft_shell.specs.Turns.{Turn, echo_of}
 use Rattle.plain_shell.specs.Writing.{AppendsUpTo}
 
 -- Some turns were done, and all that they tell was written; then a run is cut short, with this
 -- member next. It gives what was done in all. Only a refused write stops within a turn: the echo of
 -- a unit comes first, and where it is refused the unit is not run.
-pub data Broken {P S : Type 0} (g : Ghosts P) (h : Ghosts S) (fault : RunFault) (whole : Deeds) (old new : Shell P S)
-    (out out' err err' : Option (List ℕ)) : List Member → Deeds → Type 0 where
+pub data Broken {P S : Type 0} (g : Ghosts P) (h : Ghosts S) (fault : RunFault) (whole : Effects) (old new : Shell P S)
+    (out out' err err' : Option (List ℕ)) : List Member → Effects → Type 0 where
   not_begun : new ≡ old → out' ≡ out → err' ≡ err → Broken g h fault whole old new out out' err err' [] whole
   not_echoed : (member : Member) → whole.ends ≡ false → fault ≡ causes.Write → new ≡ old
       → AppendsUpTo out out' (echo_of old.settings member) → err' ≡ err → Broken g h fault whole old new out out' err err' (member ∷ []) whole
-  not_told : (member : Member) (own : Deeds) (front rest : List ℕ) → whole.ends ≡ false → fault ≡ causes.Write → Turn g h member old new own
+  not_told : (member : Member) (own : Effects) (front rest : List ℕ) → whole.ends ≡ false → fault ≡ causes.Write → Turn g h member old new own
       → own.out ≡ echo_of old.settings member ++ (front ++ rest) → Appends out out' (echo_of old.settings member ++ front) → AppendsUpTo err err' own.err
       → Broken g h fault whole old new out out' err err' (member ∷ []) (and_then whole own)

@@ -9,7 +9,7 @@ use Rattle.ft_index.specs.Kept.{FullText}
 use Rattle.ft_index.specs.Called.{DoesCall, Executed, Noted}
 use Rattle.ft_statements.specs.Texts.{fault_text}
 use Rattle.ft_statements.specs.Replies.{reply_text}
-use Rattle.plain_shell.specs.Told.{Answer, says, warned, blames, complains, Tells}
+use Rattle.plain_shell.specs.Outcomes.{Answer, says, warned, blames, complains, Tells}
 
 -- what is told of an answer
 abbrev pub reply_told : Settings → Result Reply Fault → Answer

@@ -24,7 +24,7 @@ use Rattle.plain_shell.specs.Sources.{Files, Gives, Refuses, fetch_words}
 use Rattle.plain_shell.specs.declared.source.SourceFault.{SourceFault}
 use Rattle.plain_shell.specs.Listings.{Tries}
 use Rattle.ft_statements.specs.Texts.{fault_text}
-use Rattle.plain_shell.specs.Told.{Answer, blames, lacks_memory, warned}
+use Rattle.plain_shell.specs.Outcomes.{Answer, blames, lacks_memory, warned}
 
 -- the number of columns of the first table that has this name, if one has
 abbrev pub columns_in : List TableInfo → List ℕ → Option ℕ

@@ -1,6 +1,6 @@
 -- Meaning
 pub mod Shell
-pub mod Deeds
+pub mod Effects
 pub mod Broken
 pub mod FullTextTurns
 pub mod PlainTurns

@@ -15,8 +15,8 @@ use Rattle.plain_shell.specs.declared.run.Status.{Status}
 use Rattle.plain_shell.specs.declared.run.RunFault.{RunFault}
 use Rattle.ft_shell.specs.Shell.{Parts, Shell}
 use Rattle.ft_statements.specs.Replies.{reply_text}
-use Rattle.ft_shell.specs.Deeds.{Deeds, idle, and_then, told_by}
-use Rattle.plain_shell.specs.Told.{says, echoed, lacks_memory, told_of}
+use Rattle.ft_shell.specs.Effects.{Effects, idle, and_then, outcome_in}
+use Rattle.plain_shell.specs.Outcomes.{says, echoed, lacks_memory, outcome_of}
 use Rattle.ft_shell.specs.Turns.{Turn, Turns}
 use Rattle.ft_shell.specs.Runs.{Console, Completes, Stops}
 
@@ -28,27 +28,27 @@ parts_of shell = record { settings = shell.settings; plain = shell.plain; full_t
 module _ {P S : Type 0} (g : Ghosts P) (h : Ghosts S) where
   -- A run, however it ended, with what its turns told and the calls that they made of the full-text
   -- tables.
-  abbrev pub Ran : Result Status RunFault → Console P S → Console P S → Deeds → Type 0
-  Ran (Ok status) old new all = (it : Completes g h status old new) × (all ≡ it.deeds)
-  Ran (Err fault) old new all = (it : Stops g h fault old new) × (all ≡ it.deeds)
+  abbrev pub Ran : Result Status RunFault → Console P S → Console P S → Effects → Type 0
+  Ran (Ok status) old new all = (it : Completes g h status old new) × (all ≡ it.effects)
+  Ran (Err fault) old new all = (it : Stops g h fault old new) × (all ≡ it.effects)
 
   -- Any runs one after another, or none, with what all their turns told and called. Each has an
   -- input, writers and files of its own, and begins with what the one before it left.
-  pub data AllRan : Parts P S → Deeds → Parts P S → Type 0 where
+  pub data AllRan : Parts P S → Effects → Parts P S → Type 0 where
     none_ran : (parts : Parts P S) → AllRan parts idle parts
-    last_ran : (ended : Result Status RunFault) (old new : Console P S) (all : Deeds) → Ran ended old new all
+    last_ran : (ended : Result Status RunFault) (old new : Console P S) (all : Effects) → Ran ended old new all
         → AllRan (parts_of old.shell) all (parts_of new.shell)
-    first_ran : (ended : Result Status RunFault) (old new : Console P S) (all rest : Deeds) (last : Parts P S) → Ran ended old new all
+    first_ran : (ended : Result Status RunFault) (old new : Console P S) (all rest : Effects) (last : Parts P S) → Ran ended old new all
         → AllRan (parts_of new.shell) rest last → AllRan (parts_of old.shell) (and_then all rest) last
 
   -- Turns from the first of runs up to one of their shells: all those of some runs, and then a
   -- front of the turns of one more.
-  pub record Reached (old : Parts P S) (earlier : Deeds) (was : Shell P S) : Type 0 where
-    pub whole : Deeds
+  pub record Reached (old : Parts P S) (earlier : Effects) (was : Shell P S) : Type 0 where
+    pub whole : Effects
     pub start : Shell P S
     pub ran : AllRan old whole (parts_of start)
     pub members : List Member
-    pub part : Deeds
+    pub part : Effects
     pub turns : Turns g h members start was part
     pub both : earlier ≡ and_then whole part
 
@@ -66,27 +66,27 @@ module _ {P S : Type 0} (g : Ghosts P) (h : Ghosts S) where
   -- The turn of a Select among all calls, of which it is the one of its turn. What it tells is the
   -- reply by the settings that are in force there, or that it lacks memory for it, and stands on
   -- both outputs between what the turns before it and those after it tell.
-  pub record Lists (old : Parts P S) (all : Deeds) (before : List Call) (select : Command) (reply : Reply) (more : List Call) (new : Parts P S) : Type 0 where
+  pub record Lists (old : Parts P S) (all : Effects) (before : List Call) (select : Command) (reply : Reply) (more : List Call) (new : Parts P S) : Type 0 where
     pub line : ℕ
     pub text : List ℕ
     pub was : Shell P S
     pub now : Shell P S
-    pub earlier : Deeds
-    pub own : Deeds
-    pub later : Deeds
+    pub earlier : Effects
+    pub own : Effects
+    pub later : Effects
     pub reached : Reached g h old earlier was
     pub calls_before : earlier.calls ≡ before
     pub turn : Turn g h (Sql line text) was now own
     pub one_call : own.calls ≡ Executed select (Ok reply) ∷ []
     pub calls_behind : later.calls ≡ more
     pub goes_on : Runs h now.full_text more new.full_text
-    pub prints : (told_by own ≡ echoed was.settings text (told_of was.settings.bail line (says (reply_text was.settings reply))))
-        ⊎ (told_by own ≡ echoed was.settings text (told_of was.settings.bail line lacks_memory))
+    pub prints : (outcome_in own ≡ echoed was.settings text (outcome_of was.settings.bail line (says (reply_text was.settings reply))))
+        ⊎ (outcome_in own ≡ echoed was.settings text (outcome_of was.settings.bail line lacks_memory))
     pub out : all.out ≡ earlier.out ++ (own.out ++ later.out)
     pub err : all.err ≡ earlier.err ++ (own.err ++ later.err)
 
   -- What runs leave of full-text tables that held these contents before them.
-  pub record PromiseKept (first : Contents) (old : Parts P S) (all : Deeds) (new : Parts P S) : Type 0 where
+  pub record PromiseKept (first : Contents) (old : Parts P S) (all : Effects) (new : Parts P S) : Type 0 where
     -- Behind each call that is answered each table's content is that of the accepted commands, and
     -- the index rows of each sound table are exactly those made from scratch. A refused command
     -- changes nothing, and so does a crash but for the command that was running.
@@ -103,11 +103,11 @@ module _ {P S : Type 0} (g : Ghosts P) (h : Ghosts S) where
   -- After any runs the full-text tables are what the accepted commands make of them, where the disk
   -- returned what was written.
   abbrev pub KeptByRuns : (FullText S → Type 0) → Type 0
-  KeptByRuns IsClean = (first : Contents) (old new : Parts P S) (all : Deeds) → Holds h old.full_text first → IsSettled h old.full_text
+  KeptByRuns IsClean = (first : Contents) (old new : Parts P S) (all : Effects) → Holds h old.full_text first → IsSettled h old.full_text
       → AllRan g h old all new → IsClean new.full_text → PromiseKept first old all new
 
   -- So it is after one run.
   abbrev pub RanAndKept : Result Status RunFault → Console P S → Console P S → Type 0
-  RanAndKept ended old new = (all : Deeds) × Ran g h ended old new all
+  RanAndKept ended old new = (all : Effects) × Ran g h ended old new all
       × ((first : Contents) → Holds h old.shell.full_text first → IsClean h new.shell.full_text
       → PromiseKept first (parts_of old.shell) all (parts_of new.shell))

@@ -8,11 +8,11 @@ use Rattle.plain_shell.specs.declared.run.Status.{Status}
 use Rattle.plain_shell.specs.declared.run.RunFault.{RunFault}
 use Rattle.plain_shell.specs.declared.run.RunFault.TheVariants as causes
 use Rattle.ft_shell.specs.Shell.{Shell}
-use Rattle.ft_shell.specs.Deeds.{Deeds}
+use Rattle.ft_shell.specs.Effects.{Effects}
 use Rattle.ft_shell.specs.Turns.{Turns}
 use Rattle.ft_shell.specs.Broken.{Broken}
 use Rattle.ft_shell.specs.Runs.{Console, Completes, Stops}
-use Rattle.plain_shell.specs.Feeds.{Fed, members_left}
+use Rattle.plain_shell.specs.LinesRead.{LinesRead, members_left}
 
 -- a shell with the status of its run, and what the two writers hold where that is known
 pub record Moment (P S : Type 0) : Type 0 where
@@ -27,31 +27,31 @@ abbrev pub moment : {P S O E : Type 0} → (O → Option (List ℕ)) → (E → 
 moment out_of err_of shell outputs = record { shell = shell; status = outputs.status; out = out_of outputs.out.now; err = err_of outputs.err.now }
 
 -- no unit waits where the session goes on
-abbrev pub NoneWaits : Status → Fed → Type 0
-NoneWaits status fed = status.quit ≡ false → fed.splitting.waiting ≡ []
+abbrev pub NoneWaits : Status → LinesRead → Type 0
+NoneWaits status read = status.quit ≡ false → read.splitting.waiting ≡ []
 
 -- the session goes on, and no unit waits
-abbrev pub GoesOn : Status → Fed → Type 0
-GoesOn status fed = (status.quit ≡ false) × (fed.splitting.waiting ≡ [])
+abbrev pub GoesOn : Status → LinesRead → Type 0
+GoesOn status read = (status.quit ≡ false) × (read.splitting.waiting ≡ [])
 
 module _ {P S : Type 0} (g : Ghosts P) (h : Ghosts S) where
   -- The members' turns were done one after the other, and what they tell was written and counted.
   -- The count of fault lines stays at 2 ^ 64 - 1 once there.
   pub record Did (members : List Member) (old new : Moment P S) : Type 0 where
-    pub deeds : Deeds
-    pub turns : Turns g h members old.shell new.shell deeds
-    pub out : Appends old.out new.out deeds.out
-    pub err : Appends old.err new.err deeds.err
-    pub faults : min new.status.faults (2 ^ 64 - 1) ≡ min (old.status.faults + deeds.faults) (2 ^ 64 - 1)
-    pub quit : new.status.quit ≡ (old.status.quit || deeds.ends)
+    pub effects : Effects
+    pub turns : Turns g h members old.shell new.shell effects
+    pub out : Appends old.out new.out effects.out
+    pub err : Appends old.err new.err effects.err
+    pub faults : min new.status.faults (2 ^ 64 - 1) ≡ min (old.status.faults + effects.faults) (2 ^ 64 - 1)
+    pub quit : new.status.quit ≡ (old.status.quit || effects.ends)
 
   -- The members' turns were done and told whole, and then what they are part of was cut short,
   -- before these.
   pub record Cut (fault : RunFault) (members next : List Member) (old new : Moment P S) : Type 0 where
     pub mid : Moment P S
     pub did : Did members old mid
-    pub deeds : Deeds
-    pub broken : Broken g h fault did.deeds mid.shell new.shell mid.out new.out mid.err new.err next deeds
+    pub effects : Effects
+    pub broken : Broken g h fault did.effects mid.shell new.shell mid.out new.out mid.err new.err next effects
 
   -- Of the members that are due, however the input goes on, a front was done. Where the session
   -- goes on, the others are left.
@@ -78,9 +78,9 @@ module _ {P S : Type 0} (g : Ghosts P) (h : Ghosts S) where
 
   -- The bytes that were read are taken, as far as there is room. Without any the input is at its
   -- end, and what is left of it is done.
-  pub record TakesRead {T : Type 0} (result : Result T RunFault) (room : ℕ) (bytes : List ℕ) (fed left : Fed) (old new : Moment P S) : Type 0 where
-    pub goes : 0 < length bytes → Runs result (λ (rest : List ℕ). members_left fed (take room bytes ++ rest)) (λ rest. members_left left rest) old new
-    pub ends : length bytes ≡ 0 → Runs result (λ (_ : Unit {0}). members_left fed []) (λ _. []) old new
+  pub record TakesRead {T : Type 0} (result : Result T RunFault) (room : ℕ) (bytes : List ℕ) (read left : LinesRead) (old new : Moment P S) : Type 0 where
+    pub goes : 0 < length bytes → Runs result (λ (rest : List ℕ). members_left read (take room bytes ++ rest)) (λ rest. members_left left rest) old new
+    pub ends : length bytes ≡ 0 → Runs result (λ (_ : Unit {0}). members_left read []) (λ _. []) old new
 
   -- a run, however it ended
   abbrev pub Ends : Result Status RunFault → Console P S → Console P S → Type 0

@@ -8,7 +8,7 @@ use Rattle.plain_shell.specs.declared.run.Status.{Status}
 use Rattle.plain_shell.specs.declared.run.RunFault.{RunFault}
 use Rattle.plain_shell.specs.declared.run.RunFault.TheVariants as causes
 use Rattle.ft_shell.specs.Shell.{Shell}
-use Rattle.ft_shell.specs.Deeds.{Deeds}
+use Rattle.ft_shell.specs.Effects.{Effects}
 use Rattle.ft_shell.specs.Turns.{Session, Begins}
 use Rattle.ft_shell.specs.Broken.{Broken}
 
@@ -27,13 +27,13 @@ console_of shell input out err = record { shell = shell; input = input; out = ou
 module _ {P S : Type 0} (g : Ghosts P) (h : Ghosts S) where
   -- The input of which these bytes were read was run whole: there is no more of it, and it isn't
   -- too much; or a turn ended the session that isn't past 2 ^ 30 bytes, whatever more there is.
-  abbrev pub IsWhole : Option (List ℕ) → List ℕ → Shell P S → Shell P S → Deeds → Type 0
+  abbrev pub IsWhole : Option (List ℕ) → List ℕ → Shell P S → Shell P S → Effects → Type 0
   IsWhole left read old new all = (IsAtEnd left × (length read ≤ 2 ^ 30) × Session g h read old new all)
       ⊎ ((all.ends ≡ true) × ((rest : List ℕ) → Session g h (take (2 ^ 30) read ++ rest) old new all))
 
   -- A front of the turns of the input of which these bytes were read was done, before these
   -- members: there is no more of it, or whatever more there is.
-  abbrev pub IsFront : Option (List ℕ) → List ℕ → Shell P S → Shell P S → Deeds → List Member → Type 0
+  abbrev pub IsFront : Option (List ℕ) → List ℕ → Shell P S → Shell P S → Effects → List Member → Type 0
   IsFront left read old new all next = (IsAtEnd left × Begins g h read old new all next) ⊎ ((rest : List ℕ) → Begins g h (read ++ rest) old new all next)
 
   -- The input was run whole, and all that its turns tell was written. The count of fault lines
@@ -41,12 +41,12 @@ module _ {P S : Type 0} (g : Ghosts P) (h : Ghosts S) where
   pub record Completes (status : Status) (old new : Console P S) : Type 0 where
     pub read : List ℕ
     pub consumed : Consumes old.input new.input read
-    pub deeds : Deeds
-    pub turns : IsWhole new.input read old.shell new.shell deeds
-    pub out : Appends old.out new.out deeds.out
-    pub err : Appends old.err new.err deeds.err
-    pub faults : status.faults ≡ min deeds.faults (2 ^ 64 - 1)
-    pub quit : status.quit ≡ deeds.ends
+    pub effects : Effects
+    pub turns : IsWhole new.input read old.shell new.shell effects
+    pub out : Appends old.out new.out effects.out
+    pub err : Appends old.err new.err effects.err
+    pub faults : status.faults ≡ min effects.faults (2 ^ 64 - 1)
+    pub quit : status.quit ≡ effects.ends
 
   -- A front of the input's turns was done and told whole, and then the run was cut short. An input
   -- is too much only past 2 ^ 30 bytes, and what is done then doesn't hang on what is past them;
@@ -54,7 +54,7 @@ module _ {P S : Type 0} (g : Ghosts P) (h : Ghosts S) where
   pub record Stops (fault : RunFault) (old new : Console P S) : Type 0 where
     pub read : List ℕ
     pub consumed : Consumes old.input new.input read
-    pub whole : Deeds
+    pub whole : Effects
     pub mid : Shell P S
     pub mid_out : Option (List ℕ)
     pub mid_err : Option (List ℕ)
@@ -62,7 +62,7 @@ module _ {P S : Type 0} (g : Ghosts P) (h : Ghosts S) where
     pub turns : IsFront new.input read old.shell mid whole next
     pub out : Appends old.out mid_out whole.out
     pub err : Appends old.err mid_err whole.err
-    pub deeds : Deeds
-    pub broken : Broken g h fault whole mid new.shell mid_out new.out mid_err new.err next deeds
+    pub effects : Effects
+    pub broken : Broken g h fault whole mid new.shell mid_out new.out mid_err new.err next effects
     pub much : fault ≡ causes.TooMuch → (2 ^ 30 < length read) × ((rest : List ℕ) → Begins g h (take (2 ^ 30) read ++ rest) old.shell mid whole next)
     pub least : fault ≡ causes.Read → length read ≤ 2 ^ 30

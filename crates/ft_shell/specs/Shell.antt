@@ -30,5 +30,5 @@ parts_code {P} {S} p s = code_by (Settings × (Held P × FullText S)) (coded× s
     (λ a. (a.settings, (a.plain, a.full_text))) (λ t. record { settings = t.0; plain = t.1.0; full_text = t.1.1 }) (λ _. refl)
 
 -- a session with the files that it is lent
-abbrev pub lent : {P S : Type 0} → Parts P S → Files → Shell P S
-lent parts holds = record { settings = parts.settings; plain = parts.plain; full_text = parts.full_text; holds = holds }
+abbrev pub shell_with : {P S : Type 0} → Parts P S → Files → Shell P S
+shell_with parts holds = record { settings = parts.settings; plain = parts.plain; full_text = parts.full_text; holds = holds }

@@ -25,7 +25,7 @@ use Rattle.ft_shell.specs.DotTurns.{DotTurn}
 use Rattle.ft_shell.specs.ImportTurns as imports
 use Rattle.ft_shell.specs.ImportTurns.{BytesTurn, DelimitedTurn, FileTurn, IntoNamed, IntoNew, PlainImport, TextImport, columns_in}
 use Rattle.plain_shell.specs.Records.{kept, records_in}
-use Rattle.plain_shell.specs.Told.{Answer}
+use Rattle.plain_shell.specs.Outcomes.{Answer}
 
 module _ {S : Type 0} (h : Ghosts S) where
   -- the name of a plain table that was made is noted

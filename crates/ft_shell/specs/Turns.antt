@@ -14,8 +14,8 @@ use Rattle.plain_shell.specs.DotParts.{behind_stop}
 use Rattle.ft_shell.specs.StatementTurns.{StatementTurn}
 use Rattle.ft_index.specs.Called.{Call}
 use Rattle.ft_shell.specs.TurnCalls.{dot_in, statement_in}
-use Rattle.plain_shell.specs.Told.{Answer, Told, blames, echo_text, echoed, lacks_memory, told_of}
-use Rattle.ft_shell.specs.Deeds.{Deeds, told_by, idle, and_then}
+use Rattle.plain_shell.specs.Outcomes.{Answer, Outcome, blames, echo_text, echoed, lacks_memory, outcome_of}
+use Rattle.ft_shell.specs.Effects.{Effects, outcome_in, idle, and_then}
 use Rattle.shell_text.specs.Print.{Settings}
 
 -- what is written of a member before it is run
@@ -45,29 +45,29 @@ module _ {P S : Type 0} (g : Ghosts P) (h : Ghosts S) where
 
   -- The answer is written with the line that the member begins on. The text of a unit is echoed
   -- where echo is on.
-  abbrev pub Echoed : Member → Shell P S → Answer → Told → Type 0
-  Echoed (Fault line fault) old body told = told ≡ told_of old.settings.bail line body
-  Echoed (Sql line text) old body told = told ≡ echoed old.settings text (told_of old.settings.bail line body)
-  Echoed (Dot line text) old body told = told ≡ echoed old.settings text (told_of old.settings.bail line body)
+  abbrev pub Echoed : Member → Shell P S → Answer → Outcome → Type 0
+  Echoed (Fault line fault) old body told = told ≡ outcome_of old.settings.bail line body
+  Echoed (Sql line text) old body told = told ≡ echoed old.settings text (outcome_of old.settings.bail line body)
+  Echoed (Dot line text) old body told = told ≡ echoed old.settings text (outcome_of old.settings.bail line body)
 
   -- the turn of one member, with the calls that it makes of the full-text tables
-  pub record Turn (member : Member) (old new : Shell P S) (all : Deeds) : Type 0 where
+  pub record Turn (member : Member) (old new : Shell P S) (all : Effects) : Type 0 where
     pub body : Answer
     pub done : Body member old new body
-    pub tells : Echoed member old body (told_by all)
+    pub tells : Echoed member old body (outcome_in all)
     pub calls : all.calls ≡ calls_in member old new body done
 
   -- the turns of members, one after the other, up to one that ends the session
-  abbrev pub Turns : List Member → Shell P S → Shell P S → Deeds → Type 0
+  abbrev pub Turns : List Member → Shell P S → Shell P S → Effects → Type 0
   Turns [] old new all = (new ≡ old) × (all ≡ idle)
-  Turns (member ∷ members) old new all = (mid : Shell P S) × (first : Deeds) × Turn member old mid first
-      × MatchBool first.ends ((new ≡ mid) × (all ≡ first)) ((rest : Deeds) × Turns members mid new rest × (all ≡ and_then first rest))
+  Turns (member ∷ members) old new all = (mid : Shell P S) × (first : Effects) × Turn member old mid first
+      × MatchBool first.ends ((new ≡ mid) × (all ≡ first)) ((rest : Effects) × Turns members mid new rest × (all ≡ and_then first rest))
 
   -- a whole input, from the shell before it to the shell after it
-  abbrev pub Session : List ℕ → Shell P S → Shell P S → Deeds → Type 0
+  abbrev pub Session : List ℕ → Shell P S → Shell P S → Effects → Type 0
   Session input old new all = Turns (members_of input) old new all
 
   -- a front of an input's turns, before these members
-  abbrev pub Begins : List ℕ → Shell P S → Shell P S → Deeds → List Member → Type 0
+  abbrev pub Begins : List ℕ → Shell P S → Shell P S → Effects → List Member → Type 0
   Begins input old new all next = (count : ℕ) × Turns (take count (members_of input)) old new all × (more : List Member)
       × (drop count (members_of input) ≡ next ++ more)

@@ -5,7 +5,7 @@ ghost use Rattle.plain_shell.specs.OutputViews.{answer_as};
 ghost use Rattle.ft_statements.specs.DotViews.{command_as};
 ghost use Rattle.ft_statements.specs.Dots.{dot_command_of};
 ghost use Rattle.plain_shell.specs.DotParts as parts;
-ghost use Rattle.plain_shell.specs.Told.{lacks_memory};
+ghost use Rattle.plain_shell.specs.Outcomes.{lacks_memory};
 ghost use Rattle.ft_shell.specs.Turns.{DotOrLacks};
 ghost use Rattle.ft_shell.specs.Shell.{shell_of};
 

@@ -11,13 +11,14 @@ ghost use Rattle.plain_shell.specs.OutputViews.{answer_as};
 ghost use Rattle.ft_statements.specs.Views.{texts_of};
 
 use crate::full_text_turn::note_turn;
+use crate::insertion::insert_of;
 use ft_content::TableInfo;
 use ft_index::FullText;
 use ft_statements::Import;
 use ft_values::table_place;
 use plain_shell::{
-    Answer, Complaint, ImportFault, Output, Source, delimiter_of, import_records, insert_of,
-    into_table, left_records, reads_table, skipped, warnings,
+    Answer, Complaint, ImportFault, Output, Source, delimiter_of, import_records, into_table,
+    left_records, reads_table, skipped, warnings,
 };
 use shell_text::{Settings, read_records};
 use sqlite::{Alter, Connection};

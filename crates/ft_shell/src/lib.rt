@@ -4,6 +4,7 @@
 mod dot_turn;
 mod full_text_turn;
 mod import;
+mod insertion;
 mod listing;
 mod plain_turn;
 mod session;

@@ -2,12 +2,12 @@
 ghost use Rattle.std.specs.Prelude.{◌≡◌, ◌<◌, ◌∷◌, ◌++◌, ℕ, List, [], ⊤, length, OnOk};
 ghost use Rattle.shell_text.specs.Units.{Fault, Member};
 ghost use Rattle.shell_text.specs.Splitting.{member_of_unit};
-ghost use Rattle.plain_shell.specs.Feeds.{members_left, refused_as};
+ghost use Rattle.plain_shell.specs.LinesRead.{HasNoEnd, members_left, refused_as};
 ghost use Rattle.ft_shell.specs.Ran.{moment, Ends, GoesOn, NoneWaits, Runs, TakesRead};
 ghost use Rattle.ft_shell.specs.Runs.{console_of};
 ghost use Rattle.ft_shell.specs.Promise.{IsAny, IsClean, KeptByRuns, RanAndKept};
 ghost use Rattle.ft_index.specs.Crashes.{IsSettled};
-ghost use Rattle.ft_shell.specs.Shell.{lent};
+ghost use Rattle.ft_shell.specs.Shell.{shell_with};
 ghost use Rattle.plain_shell.specs.Sources.{Files};
 ghost use Rattle.plain_shell.specs.Writing.{SameWriters};
 
@@ -15,8 +15,8 @@ use crate::unit_turn::unit_turn;
 use ft_index::FullText;
 use ft_statements::split_text;
 use plain_shell::{
-    Complaint, Feed, Outputs, Refusal, RunFault, Source, Status, echo_text, end_refusal, flush,
-    is_over, read_chunk, tell,
+    Complaint, LineReader, Outputs, Refusal, RunFault, Source, Status, echo_text, end_refusal,
+    first_line, flush, is_over, read_chunk, tell,
 };
 use ram_disk::Honest;
 use shell_text::{Settings, SplitFault, Unit, blocks_read_whole};
@@ -103,13 +103,15 @@ impl<P: Alter, S: Alter> Session<P, S> {
         source: &mut F,
     ) -> Result<Status, RunFault>
         ensures ran { RanAndKept P.Store S.Store result
-            (console_of (lent self.old (F.holds source.old)) (R.remaining reader.old)
+            (console_of (shell_with self.old (F.holds source.old)) (R.remaining reader.old)
             (O.contents out.old) (E.contents err.old))
-            (console_of (lent self.new (F.holds source.new)) (R.remaining reader.new)
+            (console_of (shell_with self.new (F.holds source.new)) (R.remaining reader.new)
             (O.contents out.new) (E.contents err.new)) }
         ensures source { (name : List ℕ) → F.holds source.new name ≡ F.holds source.old name }
     {
-        self.run_kept(reader, source, &mut Outputs::new(out, err))
+        Session::<P, S>::kept_by_runs();
+        self.is_settled();
+        self.run_pieces(reader, source, &mut Outputs::new(out, err))
     }
 
     /// After any runs, however each ended, each full-text table's content is that of the accepted
@@ -129,26 +131,7 @@ impl<P: Alter, S: Alter> Session<P, S> {
         self.full_text.is_settled();
     }
 
-    // Such a run, on both writers together.
-    fn run_kept<R: Read, O: Write, E: Write, F: Source>(
-        &mut self,
-        reader: &mut R,
-        source: &mut F,
-        outputs: &mut Outputs<'_, O, E>,
-    ) -> Result<Status, RunFault>
-        ensures ran { RanAndKept P.Store S.Store result
-            (console_of (lent self.old (F.holds source.old)) (R.remaining reader.old)
-            (O.contents outputs.old.out.now) (E.contents outputs.old.err.now))
-            (console_of (lent self.new (F.holds source.new)) (R.remaining reader.new)
-            (O.contents outputs.new.out.now) (E.contents outputs.new.err.now)) }
-        ensures source { (name : List ℕ) → F.holds source.new name ≡ F.holds source.old name }
-        ensures writers { SameWriters outputs.old outputs.new }
-    {
-        Session::<P, S>::kept_by_runs();
-        self.is_settled();
-        self.run_pieces(reader, source, outputs)
-    }
-
+    // Such a run, piece by piece, on both writers together.
     fn run_pieces<R: Read, O: Write, E: Write, F: Source>(
         &mut self,
         reader: &mut R,
@@ -156,14 +139,14 @@ impl<P: Alter, S: Alter> Session<P, S> {
         outputs: &mut Outputs<'_, O, E>,
     ) -> Result<Status, RunFault>
         ensures runs { Ends P.Store S.Store result
-            (console_of (lent self.old (F.holds source.old)) (R.remaining reader.old)
+            (console_of (shell_with self.old (F.holds source.old)) (R.remaining reader.old)
             (O.contents outputs.old.out.now) (E.contents outputs.old.err.now))
-            (console_of (lent self.new (F.holds source.new)) (R.remaining reader.new)
+            (console_of (shell_with self.new (F.holds source.new)) (R.remaining reader.new)
             (O.contents outputs.new.out.now) (E.contents outputs.new.err.now)) }
         ensures writers { SameWriters outputs.old outputs.new }
     {
         blocks_read_whole();
-        let mut feed = Feed::new(self.alloc)?;
+        let mut lines = LineReader::new(self.alloc)?;
         let mut chunk = vec![in self.alloc; 0; CHUNK]?;
         outputs.status = Status {
             faults: 0,
@@ -174,7 +157,7 @@ impl<P: Alter, S: Alter> Session<P, S> {
             flush(outputs.out)?;
             let bytes = read_chunk(reader, chunk.as_mut_slice())?;
             let read = bytes.len();
-            self.take_read(&mut feed, bytes, MOST_INPUT - total, source, outputs)?;
+            self.take_read(&mut lines, bytes, MOST_INPUT - total, source, outputs)?;
             if is_over(read, outputs.status) {
                 flush(outputs.out)?;
                 return Ok(outputs.status);
@@ -188,118 +171,100 @@ impl<P: Alter, S: Alter> Session<P, S> {
     // end of the input, and then what is left of it is run.
     fn take_read<O: Write, E: Write, F: Source>(
         &mut self,
-        feed: &mut Feed,
+        lines: &mut LineReader,
         read: &[u8],
         room: usize,
         source: &mut F,
         outputs: &mut Outputs<'_, O, E>,
     ) -> Result<(), RunFault>
-        requires goes { GoesOn outputs.old.status feed.old }
-        ensures takes { TakesRead P.Store S.Store result room read.now feed.old feed.new
-            (moment O.contents E.contents (lent self.old (F.holds source.old)) outputs.old)
-            (moment O.contents E.contents (lent self.new (F.holds source.new)) outputs.new) }
+        requires goes { GoesOn outputs.old.status lines.old }
+        ensures takes { TakesRead P.Store S.Store result room read.now lines.old lines.new
+            (moment O.contents E.contents (shell_with self.old (F.holds source.old)) outputs.old)
+            (moment O.contents E.contents (shell_with self.new (F.holds source.new)) outputs.new) }
         ensures waiting { OnOk result (0 < length read.now
-            → NoneWaits outputs.new.status feed.new) }
+            → NoneWaits outputs.new.status lines.new) }
         ensures writers { SameWriters outputs.old outputs.new }
     {
         if read.is_empty() {
-            return self.finish(feed, source, outputs);
+            return self.finish(lines, source, outputs);
         }
         let bytes = &read[..read.len().min(room)];
-        self.take(feed, bytes, source, outputs)
+        self.take(lines, bytes, source, outputs)
     }
 
     // Takes a piece of the input, up to a unit that ends the session.
     fn take<O: Write, E: Write, F: Source>(
         &mut self,
-        feed: &mut Feed,
+        lines: &mut LineReader,
         bytes: &[u8],
         source: &mut F,
         outputs: &mut Outputs<'_, O, E>,
     ) -> Result<(), RunFault>
-        requires waiting { NoneWaits outputs.old.status feed.old }
+        requires waiting { NoneWaits outputs.old.status lines.old }
         ensures runs { Runs P.Store S.Store result
-            (λ (rest : List ℕ). members_left feed.old (bytes.now ++ rest))
-            (λ (rest : List ℕ). members_left feed.new rest)
-            (moment O.contents E.contents (lent self.old (F.holds source.old)) outputs.old)
-            (moment O.contents E.contents (lent self.new (F.holds source.new)) outputs.new) }
-        ensures waiting { OnOk result (NoneWaits outputs.new.status feed.new) }
+            (λ (rest : List ℕ). members_left lines.old (bytes.now ++ rest))
+            (λ (rest : List ℕ). members_left lines.new rest)
+            (moment O.contents E.contents (shell_with self.old (F.holds source.old)) outputs.old)
+            (moment O.contents E.contents (shell_with self.new (F.holds source.new)) outputs.new) }
+        ensures waiting { OnOk result (NoneWaits outputs.new.status lines.new) }
         ensures writers { SameWriters outputs.old outputs.new }
     {
-        for byte in bytes {
-            if outputs.status.quit {
+        let mut rest = bytes;
+        while !outputs.status.quit {
+            let Some((line, behind)) = first_line(rest) else {
+                lines.keep(rest)?;
                 return Ok(());
-            }
-            self.take_byte(feed, *byte, source, outputs)?;
+            };
+            self.end_line(lines, line, source, outputs)?;
+            rest = behind;
         }
         Ok(())
     }
 
-    fn take_byte<O: Write, E: Write, F: Source>(
-        &mut self,
-        feed: &mut Feed,
-        byte: u8,
-        source: &mut F,
-        outputs: &mut Outputs<'_, O, E>,
-    ) -> Result<(), RunFault>
-        requires goes { GoesOn outputs.old.status feed.old }
-        ensures runs { Runs P.Store S.Store result
-            (λ (rest : List ℕ). members_left feed.old (byte ∷ rest))
-            (λ (rest : List ℕ). members_left feed.new rest)
-            (moment O.contents E.contents (lent self.old (F.holds source.old)) outputs.old)
-            (moment O.contents E.contents (lent self.new (F.holds source.new)) outputs.new) }
-        ensures waiting { OnOk result (NoneWaits outputs.new.status feed.new) }
-        ensures writers { SameWriters outputs.old outputs.new }
-    {
-        if byte == b'\n' {
-            return self.end_line(feed, source, outputs);
-        }
-        feed.keep(byte)?;
-        Ok(())
-    }
-
-    // A line ends: it is refused, or the units that end in it are run.
+    // A line ends behind these bytes: it is refused, or the units that end in it are run.
     fn end_line<O: Write, E: Write, F: Source>(
         &mut self,
-        feed: &mut Feed,
+        lines: &mut LineReader,
+        bytes: &[u8],
         source: &mut F,
         outputs: &mut Outputs<'_, O, E>,
     ) -> Result<(), RunFault>
-        requires goes { GoesOn outputs.old.status feed.old }
+        requires goes { GoesOn outputs.old.status lines.old }
+        requires whole { HasNoEnd bytes.now }
         ensures runs { Runs P.Store S.Store result
-            (λ (rest : List ℕ). members_left feed.old (10 ∷ rest))
-            (λ (rest : List ℕ). members_left feed.new rest)
-            (moment O.contents E.contents (lent self.old (F.holds source.old)) outputs.old)
-            (moment O.contents E.contents (lent self.new (F.holds source.new)) outputs.new) }
-        ensures waiting { OnOk result (NoneWaits outputs.new.status feed.new) }
-        ensures line { OnOk result (feed.new.line ≡ []) }
+            (λ (rest : List ℕ). members_left lines.old (bytes.now ++ 10 ∷ rest))
+            (λ (rest : List ℕ). members_left lines.new rest)
+            (moment O.contents E.contents (shell_with self.old (F.holds source.old)) outputs.old)
+            (moment O.contents E.contents (shell_with self.new (F.holds source.new)) outputs.new) }
+        ensures waiting { OnOk result (NoneWaits outputs.new.status lines.new) }
+        ensures line { OnOk result (lines.new.line ≡ []) }
         ensures writers { SameWriters outputs.old outputs.new }
     {
-        let refused = feed.end_line()?;
+        let refused = lines.end_line(bytes)?;
         self.refuse(&refused, outputs)?;
         if outputs.status.quit {
             return Ok(());
         }
-        self.run_units(feed, source, outputs)
+        self.run_units(lines, source, outputs)
     }
 
     // Runs the units that wait, up to one that ends the session.
     fn run_units<O: Write, E: Write, F: Source>(
         &mut self,
-        feed: &mut Feed,
+        lines: &mut LineReader,
         source: &mut F,
         outputs: &mut Outputs<'_, O, E>,
     ) -> Result<(), RunFault>
-        ensures runs { Runs P.Store S.Store result (λ (rest : List ℕ). members_left feed.old rest)
-            (λ (rest : List ℕ). members_left feed.new rest)
-            (moment O.contents E.contents (lent self.old (F.holds source.old)) outputs.old)
-            (moment O.contents E.contents (lent self.new (F.holds source.new)) outputs.new) }
-        ensures waiting { OnOk result (NoneWaits outputs.new.status feed.new) }
-        ensures line { feed.new.line ≡ feed.old.line }
+        ensures runs { Runs P.Store S.Store result (λ (rest : List ℕ). members_left lines.old rest)
+            (λ (rest : List ℕ). members_left lines.new rest)
+            (moment O.contents E.contents (shell_with self.old (F.holds source.old)) outputs.old)
+            (moment O.contents E.contents (shell_with self.new (F.holds source.new)) outputs.new) }
+        ensures waiting { OnOk result (NoneWaits outputs.new.status lines.new) }
+        ensures line { lines.new.line ≡ lines.old.line }
         ensures writers { SameWriters outputs.old outputs.new }
     {
         while !outputs.status.quit {
-            let Some(unit) = feed.next() else {
+            let Some(unit) = lines.next() else {
                 break;
             };
             self.run_unit(&unit, source, outputs)?;
@@ -315,8 +280,8 @@ impl<P: Alter, S: Alter> Session<P, S> {
     ) -> Result<(), RunFault>
         ensures runs { Runs P.Store S.Store result
             (λ (rest : List Member). member_of_unit unit.now ∷ rest) (λ (rest : List Member). rest)
-            (moment O.contents E.contents (lent self.old (F.holds source.old)) outputs.old)
-            (moment O.contents E.contents (lent self.new (F.holds source.new)) outputs.new) }
+            (moment O.contents E.contents (shell_with self.old (F.holds source.old)) outputs.old)
+            (moment O.contents E.contents (shell_with self.new (F.holds source.new)) outputs.new) }
         ensures writers { SameWriters outputs.old outputs.new }
     {
         echo_text(self.settings.echo(), unit.text.as_str(), outputs.out)?;
@@ -341,8 +306,8 @@ impl<P: Alter, S: Alter> Session<P, S> {
         ensures runs { (holds : Files)
             → Runs P.Store S.Store result (λ (rest : List Member). refused_as refused.now ++ rest)
             (λ (rest : List Member). rest)
-            (moment O.contents E.contents (lent self.old holds) outputs.old)
-            (moment O.contents E.contents (lent self.new holds) outputs.new) }
+            (moment O.contents E.contents (shell_with self.old holds) outputs.old)
+            (moment O.contents E.contents (shell_with self.new holds) outputs.new) }
         ensures writers { SameWriters outputs.old outputs.new }
     {
         let Some(refusal) = refused else {
@@ -355,62 +320,62 @@ impl<P: Alter, S: Alter> Session<P, S> {
     // What follows the last line feed is a line if it isn't empty.
     fn finish_line<O: Write, E: Write, F: Source>(
         &mut self,
-        feed: &mut Feed,
+        lines: &mut LineReader,
         source: &mut F,
         outputs: &mut Outputs<'_, O, E>,
     ) -> Result<(), RunFault>
-        requires goes { GoesOn outputs.old.status feed.old }
-        ensures runs { Runs P.Store S.Store result (λ (_ : ⊤). members_left feed.old [])
-            (λ (_ : ⊤). members_left feed.new [])
-            (moment O.contents E.contents (lent self.old (F.holds source.old)) outputs.old)
-            (moment O.contents E.contents (lent self.new (F.holds source.new)) outputs.new) }
-        ensures waiting { OnOk result (NoneWaits outputs.new.status feed.new) }
-        ensures line { OnOk result (feed.new.line ≡ []) }
+        requires goes { GoesOn outputs.old.status lines.old }
+        ensures runs { Runs P.Store S.Store result (λ (_ : ⊤). members_left lines.old [])
+            (λ (_ : ⊤). members_left lines.new [])
+            (moment O.contents E.contents (shell_with self.old (F.holds source.old)) outputs.old)
+            (moment O.contents E.contents (shell_with self.new (F.holds source.new)) outputs.new) }
+        ensures waiting { OnOk result (NoneWaits outputs.new.status lines.new) }
+        ensures line { OnOk result (lines.new.line ≡ []) }
         ensures writers { SameWriters outputs.old outputs.new }
     {
-        if feed.is_between_lines() {
+        if lines.is_between_lines() {
             return Ok(());
         }
-        self.end_line(feed, source, outputs)
+        self.end_line(lines, &[], source, outputs)
     }
 
     // The input ends: what is pending is a unit, or it is refused.
     fn finish<O: Write, E: Write, F: Source>(
         &mut self,
-        feed: &mut Feed,
+        lines: &mut LineReader,
         source: &mut F,
         outputs: &mut Outputs<'_, O, E>,
     ) -> Result<(), RunFault>
-        requires goes { GoesOn outputs.old.status feed.old }
-        ensures runs { Runs P.Store S.Store result (λ (_ : ⊤). members_left feed.old [])
+        requires goes { GoesOn outputs.old.status lines.old }
+        ensures runs { Runs P.Store S.Store result (λ (_ : ⊤). members_left lines.old [])
             (λ (_ : ⊤). [])
-            (moment O.contents E.contents (lent self.old (F.holds source.old)) outputs.old)
-            (moment O.contents E.contents (lent self.new (F.holds source.new)) outputs.new) }
+            (moment O.contents E.contents (shell_with self.old (F.holds source.old)) outputs.old)
+            (moment O.contents E.contents (shell_with self.new (F.holds source.new)) outputs.new) }
         ensures writers { SameWriters outputs.old outputs.new }
     {
-        self.finish_line(feed, source, outputs)?;
+        self.finish_line(lines, source, outputs)?;
         if outputs.status.quit {
             return Ok(());
         }
-        self.finish_last(feed, source, outputs)
+        self.finish_last(lines, source, outputs)
     }
 
     // What is pending behind the last line is a unit, or it is refused.
     fn finish_last<O: Write, E: Write, F: Source>(
         &mut self,
-        feed: &mut Feed,
+        lines: &mut LineReader,
         source: &mut F,
         outputs: &mut Outputs<'_, O, E>,
     ) -> Result<(), RunFault>
-        requires waiting { feed.old.splitting.waiting ≡ [] }
-        requires between { feed.old.line ≡ [] }
-        ensures runs { Runs P.Store S.Store result (λ (_ : ⊤). members_left feed.old [])
+        requires waiting { lines.old.splitting.waiting ≡ [] }
+        requires between { lines.old.line ≡ [] }
+        ensures runs { Runs P.Store S.Store result (λ (_ : ⊤). members_left lines.old [])
             (λ (_ : ⊤). [])
-            (moment O.contents E.contents (lent self.old (F.holds source.old)) outputs.old)
-            (moment O.contents E.contents (lent self.new (F.holds source.new)) outputs.new) }
+            (moment O.contents E.contents (shell_with self.old (F.holds source.old)) outputs.old)
+            (moment O.contents E.contents (shell_with self.new (F.holds source.new)) outputs.new) }
         ensures writers { SameWriters outputs.old outputs.new }
     {
-        match feed.finish() {
+        match lines.finish() {
             Ok(Some(unit)) => self.run_unit(&unit, source, outputs),
             Ok(None) => Ok(()),
             Err(SplitFault::Memory) => Err(RunFault::Memory),

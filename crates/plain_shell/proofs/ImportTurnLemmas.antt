@@ -14,7 +14,7 @@ use Rattle.plain_shell.specs.PlainImports.{HasColumns, Stays, CommitsNothing, im
 use Rattle.plain_shell.specs.IntoTables.{fault_words, IntoTable, uncounted, declined, no_memory}
 use Rattle.plain_shell.specs.Records.{kept, records_in}
 use Rattle.ft_statements.specs.Views.{texts_of}
-use Rattle.plain_shell.specs.Told.{Answer, blames}
+use Rattle.plain_shell.specs.Outcomes.{Answer, blames}
 
 -- ---- records and their numbers
 

@@ -2,7 +2,7 @@ pub mod ImportLemmas
 pub mod RecordLemmas
 pub mod AnswerLemmas
 pub mod QueryLemmas
-pub mod FeedLemmas
+pub mod LineReaderLemmas
 pub mod WriteLemmas
 pub mod TablesLemmas
 pub mod CountLemmas

@@ -1,7 +1,7 @@
 -- What `sqlite` says of a query that is prepared and then run, where the disk is clean as it ends.
 use Rattle.std.proofs.Common.{◌≡◌, ℕ, List, [], refl, subst, sym, arith, inl}
 use Rattle.std.specs.Prelude.{MatchBool, false}
-use Rattle.plain_shell.specs.Told.{Answer, blames, lacks_memory}
+use Rattle.plain_shell.specs.Outcomes.{Answer, blames, lacks_memory}
 use Rattle.sqlite_trees.specs.View.{doubt}
 use Rattle.sqlite.specs.Store.{Ghosts}
 use Rattle.sqlite.specs.Tree.{Trees}

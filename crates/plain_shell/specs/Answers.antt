@@ -8,7 +8,7 @@ use Rattle.sqlite_value.specs.declared.value.Value.{Value}
 use Rattle.sqlite_value.specs.declared.value.Value.TheVariants as value
 use Rattle.shell_text.specs.Print as print
 use Rattle.shell_text.specs.Print.{Settings, Table, printed}
-use Rattle.plain_shell.specs.Told.{Answer, says, blames}
+use Rattle.plain_shell.specs.Outcomes.{Answer, says, blames}
 
 abbrev pub is_float : Value → Bool
 is_float (value.Real x) = true

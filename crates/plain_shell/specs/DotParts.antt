@@ -4,7 +4,7 @@ use Rattle.std.specs.Prelude.{ℕ, ◌≡◌, ◌==◌, if◌then◌else◌, Mat
 use Rattle.shell_text.specs.Print.{Settings}
 use Rattle.ft_statements.specs.Dots.{DotCommand}
 use Rattle.ft_statements.specs.Settings.{settings_after, may_set}
-use Rattle.plain_shell.specs.Told.{Answer, silent, blames}
+use Rattle.plain_shell.specs.Outcomes.{Answer, silent, blames}
 
 -- what stands behind the full stop at its front
 abbrev pub behind_stop : List ℕ → List ℕ

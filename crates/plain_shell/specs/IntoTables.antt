@@ -10,7 +10,7 @@ use Rattle.plain_shell.specs.declared.plain_import.ImportFault.TheVariants.{Refu
 use Rattle.plain_shell.specs.PlainImports.{HasColumns, Stays, CommitsNothing, import_steps, CommitsAll, Declines, Uncounted}
 use Rattle.plain_shell.specs.PlainStatements.{IfClean}
 use Rattle.plain_shell.specs.Records.{records_in, warnings}
-use Rattle.plain_shell.specs.Told.{Answer, blames, warned}
+use Rattle.plain_shell.specs.Outcomes.{Answer, blames, warned}
 
 -- the words of what the plain database refused
 abbrev pub fault_words : ImportFault → List ℕ

@@ -1,7 +1,7 @@
 -- Meaning
 pub mod Records
 pub mod Imports
-pub mod Told
+pub mod Outcomes
 pub mod Sources
 pub mod Answers
 pub mod PlainStatements
@@ -13,4 +13,4 @@ pub mod IntoTables
 -- Steps
 pub mod FaultWords
 pub mod OutputViews
-pub mod Feeds
+pub mod LinesRead

@@ -11,7 +11,7 @@ use Rattle.shell_text.specs.Print as print
 use Rattle.plain_shell.specs.Imports.{reading_of}
 use Rattle.plain_shell.specs.PlainStatements.{IfClean, is_memory_error}
 use Rattle.ft_statements.specs.Replies.{AreSorted, listed}
-use Rattle.plain_shell.specs.Told.{Answer, says, lacks_memory, Tells}
+use Rattle.plain_shell.specs.Outcomes.{Answer, says, lacks_memory, Tells}
 
 module _ {P : Type 0} (g : Ghosts P) where
   -- Whether a table can be read: `sqlite` answers a reading of it, or refuses that for another

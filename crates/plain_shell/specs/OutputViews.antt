@@ -5,7 +5,7 @@ use Rattle.ft_statements.specs.Texts.{text_as}
 use Rattle.plain_shell.specs.declared.output.Complaint.{Complaint}
 use Rattle.plain_shell.specs.declared.output.Output.{Output}
 use Rattle.plain_shell.specs.declared.output.Output.TheVariants as outputs
-use Rattle.plain_shell.specs.Told as forms
+use Rattle.plain_shell.specs.Outcomes as forms
 
 abbrev pub lines_as : Option (String Global) → List ℕ
 lines_as None = []

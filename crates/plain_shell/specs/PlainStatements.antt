@@ -14,7 +14,7 @@ use Rattle.sqlite.specs.declared.error.Error.TheVariants.{SqliteFailure}
 use Rattle.sqlite.specs.declared.error.ErrorCode.TheVariants as code
 use Rattle.shell_text.specs.Print.{Settings}
 use Rattle.plain_shell.specs.Answers.{rows_told}
-use Rattle.plain_shell.specs.Told.{Answer, blames, lacks_memory, Tells}
+use Rattle.plain_shell.specs.Outcomes.{Answer, blames, lacks_memory, Tells}
 
 abbrev pub is_memory_error : Error → Bool
 is_memory_error (SqliteFailure code.OutOfMemory) = true

@@ -4,7 +4,7 @@ use Rattle.std.specs.Io.KnownBytes.{Appends}
 use Rattle.plain_shell.specs.declared.run.Outputs.{Outputs}
 use Rattle.plain_shell.specs.declared.run.RunFault.{RunFault}
 use Rattle.plain_shell.specs.declared.run.RunFault.TheVariants as causes
-use Rattle.plain_shell.specs.Told.{Told}
+use Rattle.plain_shell.specs.Outcomes.{Outcome}
 
 -- a front of a text was added to what the writer holds, where that is known
 abbrev pub AppendsUpTo : Option (List ℕ) → Option (List ℕ) → List ℕ → Type 0
@@ -23,7 +23,7 @@ SameWriters old new = (new.out.ghost_name ≡ old.out.ghost_name) × (new.err.gh
 -- refused. What the writers hold is read by the first two functions. The count of fault lines stays
 -- at 2 ^ 64 - 1 once there.
 pub record Writes {T O E : Type 0} (out_of : O → Option (List ℕ)) (err_of : E → Option (List ℕ)) (result : Result T RunFault) (old new : Outputs O E)
-    (told : Told) : Type 0 where
+    (told : Outcome) : Type 0 where
   pub out : Sends result (out_of old.out.now) (out_of new.out.now) told.out
   pub err : Sends result (err_of old.err.now) (err_of new.err.now) told.err
   pub fault : IfErr result (λ fault. fault ≡ causes.Write)

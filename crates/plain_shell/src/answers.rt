@@ -5,7 +5,7 @@ ghost use Rattle.std.specs.List.{list_any};
 ghost use Rattle.sqlite_value.specs.Order.{column};
 ghost use Rattle.sqlite_value.specs.Value.{owned};
 ghost use Rattle.shell_text.specs.Print as print;
-ghost use Rattle.plain_shell.specs.Told.{Tells};
+ghost use Rattle.plain_shell.specs.Outcomes.{Tells};
 ghost use Rattle.plain_shell.specs.OutputViews.{answer_as};
 ghost use Rattle.plain_shell.specs.Answers as forms;
 

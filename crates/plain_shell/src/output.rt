@@ -1,7 +1,7 @@
 //! What a turn of a session has to say, or why it does nothing.
 ghost use Rattle.std.specs.Prelude.{◌≡◌, string_bytes};
 ghost use Rattle.ft_statements.specs.Texts.{fault_text, statement_text, text_as};
-ghost use Rattle.plain_shell.specs.Told as forms;
+ghost use Rattle.plain_shell.specs.Outcomes as forms;
 ghost use Rattle.plain_shell.specs.OutputViews.{complaint_as};
 ghost use Rattle.plain_shell.specs.IntoTables.{fault_words};
 ghost use Rattle.plain_shell.specs.Sources.{fetch_words};

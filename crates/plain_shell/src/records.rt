@@ -15,7 +15,7 @@ fn field_at(fields: &[String], at: usize) -> Option<&str>
 }
 
 /// A record's fields in so many columns: cut, or filled with none, which is NULL.
-pub(crate) fn fitted(
+pub fn fitted(
     alloc: Global,
     fields: &[String],
     columns: usize,

@@ -2,7 +2,7 @@
 ghost use Rattle.std.specs.Prelude.{◌≡◌, ◌⊎◌, ◌≤◌, ◌<◌, ◌^◌, [], true, false, length, IfOk, IfErr, OnErr};
 ghost use Rattle.std.specs.Io.KnownBytes.{Consumes, IsAtEnd, Keeps};
 ghost use Rattle.plain_shell.specs.declared.run.RunFault.TheVariants.{Memory, Write};
-ghost use Rattle.plain_shell.specs.Told as forms;
+ghost use Rattle.plain_shell.specs.Outcomes as forms;
 ghost use Rattle.plain_shell.specs.OutputViews.{answer_as};
 ghost use Rattle.plain_shell.specs.Writing.{SameWriters, Sends, Writes};
 
@@ -102,7 +102,7 @@ pub fn tell<O: Write, E: Write>(
     outputs: &mut Outputs<'_, O, E>,
 ) -> Result<(), RunFault>
     ensures writes { Writes O.contents E.contents result outputs.old outputs.new
-        (forms.told_of bail line (answer_as answer.now)) }
+        (forms.outcome_of bail line (answer_as answer.now)) }
     ensures writers { SameWriters outputs.old outputs.new }
 {
     write_answer(answer, line, outputs.out, outputs.err)?;

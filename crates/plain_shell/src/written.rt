@@ -1,7 +1,7 @@
 //! What a turn answers, written to the two outputs.
 ghost use Rattle.std.specs.Prelude.{◌++◌, ◌∷◌, []};
 ghost use Rattle.std.specs.List.{flat_map};
-ghost use Rattle.plain_shell.specs.Told.{fault_lines};
+ghost use Rattle.plain_shell.specs.Outcomes.{fault_lines};
 ghost use Rattle.plain_shell.specs.OutputViews.{answer_as, lines_as};
 ghost use Rattle.ft_statements.specs.Texts.{fault_line, text_as};
 ghost use Rattle.plain_shell.specs.Writing.{Sends};

@@ -1,13 +1,14 @@
 -- the columns' names are those of the definition's columns
-use Rattle.std.proofs.Common.{string_bytes, sym, ◌∙◌, rules, tests}
+use Rattle.std.proofs.Common.{string_bytes, ap, sym, ◌∙◌, rules, tests}
+use Rattle.std.specs.List.{list_any}
 use Rattle.std.proofs.lemmas.Iterator.{YieldsList-from_slice}
-use Rattle.std.proofs.lemmas.Iterator.Search.{any_from_yields_List}
-use Rattle.ft_content.specs.Content.{same_name}
 use Rattle.ft_values.specs.declared.table.Column.{Column}
-use Rattle.ft_content.proofs.ColumnLemmas.{any_of_names}
+use Rattle.ft_content.specs.Content.{same_name}
+use Rattle.ft_content.proofs.ColumnLemmas.{names_are}
+use Rattle.ft_content.proofs.Lists.{any_shown}
 use Rattle.ft_content.proofs.columns.is_column.Goals as goal
 
 pub returns : goal.returns
 returns c =
-    any_from_yields_List (λ (column : Column). same_name c.args.name.now (string_bytes column.name)) _ _ _ c.any.ensures.ran (YieldsList-from_slice c.args.columns.now cc) (λ x b q k. search (rules, tests))
-    ∙ sym (any_of_names (same_name c.args.name.now) c.args.columns.now)
+    any_shown (same_name c.args.name.now) (λ (column : Column). string_bytes column.name) _ _ _ c.any.ensures.ran (YieldsList-from_slice c.args.columns.now cc) (λ x b q k. search (rules, tests))
+    ∙ ap (list_any (same_name c.args.name.now)) (sym (names_are c.args.columns.now))

@@ -1,14 +1,34 @@
--- a copy of the value under the column's name
-use Rattle.std.proofs.Common.{◌≡◌, ℕ, List, Option, Some, map, option_map, ap, subst, ◌∙◌, string_bytes}
-use Rattle.std.specs.Prelude.{zip, find, unwrap_or, IfOk}
+-- a copy of the first value under the column's name
+use Rattle.std.proofs.Common.{◌≡◌, ℕ, List, Bool, Option, map, option_map, ap, sym, ◌∙◌, subst, rules, tests, string_bytes}
+use Rattle.std.specs.Prelude.{zip, unwrap_or, IfOk}
+use Rattle.std.proofs.lemmas.Iterator.{YieldsList-from_slice, YieldsList-from_zip}
+use Rattle.std.proofs.lemmas.Iterator.Search.{find_from_yields_List}
 use denote.Ref.{Bor}
+use Rattle.ft_values.specs.declared.rows.Value.{Value}
 use Rattle.ft_values.specs.Cells.{Cell, Null, shown_value}
 use Rattle.ft_content.specs.Content.{same_name}
+use Rattle.ft_content.specs.Deserved.{value_under}
+use Rattle.ft_content.specs.Views.{column_of}
+use Rattle.ft_content.proofs.GivenLemmas.{given, find_given, pointed}
 use Rattle.ft_content.proofs.insert.cell_under.Goals as goal
+use Rattle.ft_content.proofs.insert.cell_under.Goals.{After-find}
+
+abbrev cell : Option (List ℕ × Cell) → Cell
+cell o = unwrap_or (option_map (λ (v : List ℕ × Cell). v.1) o) Null
+
+abbrev seen : Option (Bor (Bor (List ℕ)) × Bor Value) → Cell
+seen o = cell (option_map given (option_map pointed o))
+
+found : (c : After-find) → seen c.find.result ≡ value_under (zip (map (λ n. n.now) c.args.names.now) (map shown_value c.args.row.now)) (column_of c.args.column.now) Null
+found c =
+    let test : List ℕ × Cell → Bool = λ (v : List ℕ × Cell). same_name v.0 (string_bytes c.args.column.now.name) in
+    ap (λ (o : Option (Bor (List ℕ) × Value)). cell (option_map given o)) (find_from_yields_List (λ (p : Bor (List ℕ) × Value). test (given p)) c.find.new.self _ c.find.result c.find.ensures.ran (YieldsList-from_zip (YieldsList-from_slice c.args.names.now cc) (YieldsList-from_slice c.args.row.now cc)) (λ x b q k. search (rules, tests)))
+    ∙ ap cell (find_given test c.args.names.now c.args.row.now)
 
 pub returns-in-Some : goal.returns-in-Some
 returns-in-Some c =
-    let values : List (List ℕ × Cell) = zip (map (λ (n : Bor (List ℕ)). n.now) c.args.names.now) (map shown_value c.args.row.now) in
-    let under : List ℕ → Option Cell = λ n. option_map (λ (v : List ℕ × Cell). v.1) (find (λ (v : List ℕ × Cell). same_name v.0 n) values) in
-    let same : Some (shown_value c.in-Some.value.now) ≡ under (string_bytes c.args.column.now.name) = c.in-Some.ensures ∙ ap under c.as_str.ensures.value in
-    subst (λ (cell : Cell). IfOk c.copied_value.result (λ copy. shown_value copy ≡ cell)) (ap (λ (o : Option Cell). unwrap_or o Null) same) c.copied_value.ensures
+    let copied : IfOk c.clone.result (λ copy. shown_value copy ≡ shown_value c.in-Some.value.now) = search rules in
+    subst (λ (cell : Cell). IfOk c.clone.result (λ copy. shown_value copy ≡ cell)) (ap seen (sym c.in-Some.is) ∙ found (goal.at.returns-in-Some c).After-find) copied
+
+pub returns-in-None : goal.returns-in-None
+returns-in-None c = ap seen (sym c.in-None.is) ∙ found (goal.at.returns-in-None c).After-find

@@ -1,23 +1,17 @@
--- the first value that gives a docid
-use Rattle.std.proofs.Common.{ℕ, List, Option, map, option_map, ap, sym, ◌∙◌, rules, tests}
-use Rattle.std.specs.Prelude.{zip, option_and_then}
+-- the first docid that a value gives
+use Rattle.std.proofs.Common.{ℕ, List, map, ap, sym, ◌∙◌, rules, tests}
+use Rattle.std.specs.Prelude.{slice_get, zip}
+use Rattle.std.specs.List.{filter_map}
 use Rattle.std.proofs.lemmas.Iterator.{YieldsList-from_slice, YieldsList-from_zip}
-use Rattle.std.proofs.lemmas.Iterator.Search.{find_from_yields_List}
+use Rattle.std.proofs.lemmas.Iterator.Consumers.{YieldsList-from_filter_map}
 use denote.Ref.{Bor}
 use Rattle.ft_values.specs.declared.rows.Value.{Value}
 use Rattle.ft_values.specs.Cells.{shown_value}
-use Rattle.ft_content.proofs.GivenLemmas.{given, find_given, docid_given, first_docid, pointed, gives_docid}
+use Rattle.ft_content.proofs.GivenLemmas.{docid_given, docids_are, filter_map_of_map, first_item, given, zip_of_maps}
 use Rattle.ft_content.proofs.insert.row_docid.Goals as goal
 
-pub returns-in-Some : goal.returns-in-Some
-returns-in-Some c =
-    let found = find_from_yields_List (λ (p : Bor (List ℕ) × Value). gives_docid (given p)) c.find-found.new.self _ c.find-found.result c.find-found.ensures.ran (YieldsList-from_zip (YieldsList-from_slice c.args.names.now cc) (YieldsList-from_slice c.args.row.now cc)) (λ x b q k. search (rules, tests)) in
-    c.docid_under.ensures
-    ∙ ap (option_and_then docid_given) (ap (λ (o : Option (Bor (Bor (List ℕ)) × Bor Value)). option_map given (option_map pointed o)) (sym c.in-Some.is) ∙ ap (option_map given) found ∙ find_given gives_docid c.args.names.now c.args.row.now)
-    ∙ sym (first_docid (zip (map (λ (n : Bor (List ℕ)). n.now) c.args.names.now) (map shown_value c.args.row.now)))
-
-pub returns-in-None : goal.returns-in-None
-returns-in-None c =
-    let found = find_from_yields_List (λ (p : Bor (List ℕ) × Value). gives_docid (given p)) c.find-found.new.self _ c.find-found.result c.find-found.ensures.ran (YieldsList-from_zip (YieldsList-from_slice c.args.names.now cc) (YieldsList-from_slice c.args.row.now cc)) (λ x b q k. search (rules, tests)) in
-    ap (option_and_then docid_given) (ap (λ (o : Option (Bor (Bor (List ℕ)) × Bor Value)). option_map given (option_map pointed o)) (sym c.in-None.is) ∙ ap (option_map given) found ∙ find_given gives_docid c.args.names.now c.args.row.now)
-    ∙ sym (first_docid (zip (map (λ (n : Bor (List ℕ)). n.now) c.args.names.now) (map shown_value c.args.row.now)))
+pub returns : goal.returns
+returns c =
+    first_item c.next.result c.next.new.self c.next.ensures.steps (YieldsList-from_filter_map _ (λ (p : Bor (List ℕ) × Value). docid_given (given p)) (YieldsList-from_zip (YieldsList-from_slice c.args.names.now cc) (YieldsList-from_slice c.args.row.now cc)) c.filter_map.ensures.closure (λ x r q k. search (rules, tests)))
+    ∙ ap (λ ds. slice_get ds 0) (sym (filter_map_of_map docid_given given (zip c.args.names.now c.args.row.now)) ∙ ap (filter_map docid_given) (sym (zip_of_maps (λ (n : Bor (List ℕ)). n.now) shown_value c.args.names.now c.args.row.now))
+    ∙ sym (docids_are (zip (map (λ (n : Bor (List ℕ)). n.now) c.args.names.now) (map shown_value c.args.row.now))))

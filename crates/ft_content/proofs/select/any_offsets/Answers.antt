@@ -1,16 +1,10 @@
 -- the items as the definitions see them
-use Rattle.std.proofs.Common.{Bool, sym, ◌∙◌, rules, tests}
+use Rattle.std.proofs.Common.{rules, tests}
 use Rattle.std.proofs.lemmas.Iterator.{YieldsList-from_slice}
-use Rattle.std.proofs.lemmas.Iterator.Search.{any_from_yields_List}
-use Rattle.ft_content.specs.declared.command.Item.{Item}
-use Rattle.ft_content.specs.Command as plain
 use Rattle.ft_content.specs.Deserved.{is_offsets}
 use Rattle.ft_content.specs.Views.{item_of}
-use Rattle.ft_content.proofs.Lists.{any_of_map}
+use Rattle.ft_content.proofs.Lists.{any_shown}
 use Rattle.ft_content.proofs.select.any_offsets.Goals as goal
 
 pub returns : goal.returns
-returns c =
-    let test : plain.Item → Bool = is_offsets in
-    any_from_yields_List (λ (item : Item). test (item_of item)) _ _ _ c.any.ensures.ran (YieldsList-from_slice c.args.items.now cc) (λ x b q k. search (rules, tests))
-    ∙ sym (any_of_map test item_of c.args.items.now)
+returns c = any_shown is_offsets item_of _ _ _ c.any.ensures.ran (YieldsList-from_slice c.args.items.now cc) (λ x b q k. search (rules, tests))

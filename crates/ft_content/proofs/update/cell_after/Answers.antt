@@ -1,19 +1,38 @@
--- a copy of the value under the column's name, or of the cell
-use Rattle.std.proofs.Common.{◌≡◌, ℕ, List, Option, Some, None, map, option_map, ap, subst, ◌∙◌, string_bytes}
-use Rattle.std.specs.Prelude.{find, unwrap_or, IfOk}
+-- a copy of the first value under the column's name, else of the cell
+use Rattle.std.proofs.Common.{◌≡◌, ℕ, List, Bool, Option, String, map, option_map, ap, sym, ◌∙◌, subst, rules, tests, string_bytes}
+use Rattle.std.specs.Prelude.{unwrap_or, IfOk}
+use Rattle.std.proofs.lemmas.Iterator.{YieldsList-from_slice}
+use Rattle.std.proofs.lemmas.Iterator.Search.{find_from_yields_List}
+use denote.Ref.{Bor}
+use Rattle.std.specs.declared.alloc.Global.{Global}
+use Rattle.ft_values.specs.declared.rows.Value.{Value}
 use Rattle.ft_values.specs.Cells.{Cell, shown_value}
 use Rattle.ft_content.specs.Content.{same_name}
-use Rattle.ft_content.specs.Views.{set_of}
+use Rattle.ft_content.specs.Deserved.{value_under}
+use Rattle.ft_content.specs.Views.{column_of, set_of}
+use Rattle.ft_content.proofs.GivenLemmas.{find_of_map}
 use Rattle.ft_content.proofs.update.cell_after.Goals as goal
+use Rattle.ft_content.proofs.update.cell_after.Goals.{After-find}
+
+abbrev or_cell : Cell → Option (List ℕ × Cell) → Cell
+or_cell cell o = unwrap_or (option_map (λ (v : List ℕ × Cell). v.1) o) cell
+
+abbrev seen : Cell → Option (Bor (String Global × Value)) → Cell
+seen cell o = or_cell cell (option_map set_of (option_map (λ (s : Bor (String Global × Value)). s.now) o))
+
+found : (c : After-find) → seen (shown_value c.args.cell.now) c.find.result ≡ value_under (map set_of c.args.sets.now) (column_of c.args.column.now) (shown_value c.args.cell.now)
+found c =
+    let test : List ℕ × Cell → Bool = λ (s : List ℕ × Cell). same_name s.0 (string_bytes c.args.column.now.name) in
+    let cell = shown_value c.args.cell.now in
+    ap (λ (o : Option (String Global × Value)). or_cell cell (option_map set_of o)) (find_from_yields_List (λ (s : String Global × Value). test (set_of s)) _ _ c.find.result c.find.ensures.ran (YieldsList-from_slice c.args.sets.now cc) (λ x b q k. search (rules, tests)))
+    ∙ ap (or_cell cell) (find_of_map test set_of c.args.sets.now)
 
 pub returns-in-Some : goal.returns-in-Some
 returns-in-Some c =
-    let under : List ℕ → Option Cell = λ n. option_map (λ (v : List ℕ × Cell). v.1) (find (λ (v : List ℕ × Cell). same_name v.0 n) (map set_of c.args.sets.now)) in
-    let same : Some (shown_value c.in-Some.value.now) ≡ under (string_bytes c.args.column.now.name) = c.in-Some.ensures ∙ ap under c.as_str.ensures.value in
-    subst (λ (cell : Cell). IfOk c.copied_value.result (λ copy. shown_value copy ≡ cell)) (ap (λ (o : Option Cell). unwrap_or o (shown_value c.args.cell.now)) same) c.copied_value.ensures
+    let copied : IfOk c.clone.result (λ copy. shown_value copy ≡ shown_value c.in-Some.set.now.1) = search rules in
+    subst (λ (cell : Cell). IfOk c.clone.result (λ copy. shown_value copy ≡ cell)) (ap (seen (shown_value c.args.cell.now)) (sym c.in-Some.is) ∙ found (goal.at.returns-in-Some c).After-find) copied
 
 pub returns-in-None : goal.returns-in-None
 returns-in-None c =
-    let under : List ℕ → Option Cell = λ n. option_map (λ (v : List ℕ × Cell). v.1) (find (λ (v : List ℕ × Cell). same_name v.0 n) (map set_of c.args.sets.now)) in
-    let same : None ≡ under (string_bytes c.args.column.now.name) = c.in-None.ensures ∙ ap under c.as_str.ensures.value in
-    subst (λ (cell : Cell). IfOk c.copied_value-in-None.result (λ copy. shown_value copy ≡ cell)) (ap (λ (o : Option Cell). unwrap_or o (shown_value c.args.cell.now)) same) c.copied_value-in-None.ensures
+    let copied : IfOk c.clone-in-None.result (λ copy. shown_value copy ≡ shown_value c.args.cell.now) = search rules in
+    subst (λ (cell : Cell). IfOk c.clone-in-None.result (λ copy. shown_value copy ≡ cell)) (ap (seen (shown_value c.args.cell.now)) (sym c.in-None.is) ∙ found (goal.at.returns-in-None c).After-find) copied

@@ -4,7 +4,7 @@ use Rattle.ft_content.specs.Views.{reply_of}
 use Rattle.ft_statements.specs.Replies.{reply_text}
 use Rattle.ft_statements.specs.Texts.{fault_text}
 use Rattle.plain_shell.specs.OutputViews.{answer_as}
-use Rattle.plain_shell.specs.Told.{blames, lacks_memory, says}
+use Rattle.plain_shell.specs.Outcomes.{blames, lacks_memory, says}
 use Rattle.ft_shell.proofs.full_text_turn.full_text_turn.Goals as goal
 
 pub returns-in_err-reply : goal.returns-in_err-reply

@@ -8,7 +8,7 @@ use Rattle.ft_statements.specs.Views.{texts_of}
 use Rattle.plain_shell.specs.Imports.{row_cells}
 use Rattle.plain_shell.specs.OutputViews.{answer_as}
 use Rattle.plain_shell.specs.Records.{records_in, warnings}
-use Rattle.plain_shell.specs.Told.{blames, warned}
+use Rattle.plain_shell.specs.Outcomes.{blames, warned}
 use Rattle.plain_shell.proofs.ImportTurnLemmas.{records_numbered}
 use Rattle.ft_shell.specs.ImportTurns.{InsertTurn, executed}
 use Rattle.ft_shell.proofs.import.full_text_import.Goals as goal

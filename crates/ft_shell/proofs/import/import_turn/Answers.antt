@@ -8,7 +8,7 @@ use Rattle.plain_shell.specs.FaultWords.{record_words}
 use Rattle.plain_shell.specs.OutputViews.{answer_as}
 use Rattle.plain_shell.specs.Records.{kept}
 use Rattle.plain_shell.specs.Sources.{Gives, Refuses, fetch_words}
-use Rattle.plain_shell.specs.Told.{blames, lacks_memory}
+use Rattle.plain_shell.specs.Outcomes.{blames, lacks_memory}
 use Rattle.plain_shell.proofs.ImportTurnLemmas.{left_rows}
 use Rattle.ft_shell.specs.ImportTurns.{BytesTurn, DelimitedTurn, IntoNamed, columns_in, fetched, read, unfetched}
 use Rattle.ft_shell.proofs.ImportTurnLemmas.{records_refused}

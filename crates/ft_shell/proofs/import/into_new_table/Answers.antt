@@ -8,7 +8,7 @@ use Rattle.plain_shell.specs.IntoTables.{fault_words}
 use Rattle.plain_shell.specs.OutputViews.{answer_as}
 use Rattle.plain_shell.specs.PlainImports.{CommitsAll, Declines}
 use Rattle.plain_shell.specs.Records.{warnings}
-use Rattle.plain_shell.specs.Told.{blames}
+use Rattle.plain_shell.specs.Outcomes.{blames}
 use Rattle.plain_shell.proofs.ImportTurnLemmas.{no_rows, same_steps, split_rows}
 use Rattle.ft_shell.specs.FullTextTurns.{NoteTurn}
 use Rattle.ft_shell.specs.ImportTurns.{made, no_header, too_wide}

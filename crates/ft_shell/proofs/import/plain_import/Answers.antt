@@ -2,7 +2,7 @@
 use Rattle.std.proofs.Common.{rules, ◌≡◌, true, false, None, Some, refl, subst}
 use Rattle.plain_shell.specs.Listings.{Tries}
 use Rattle.plain_shell.specs.OutputViews.{answer_as}
-use Rattle.plain_shell.specs.Told.{lacks_memory}
+use Rattle.plain_shell.specs.Outcomes.{lacks_memory}
 use Rattle.ft_shell.specs.ImportTurns.{there, new_table, untried}
 use Rattle.ft_shell.proofs.import.plain_import.Goals as goal
 

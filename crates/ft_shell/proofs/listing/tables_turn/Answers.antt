@@ -5,7 +5,7 @@ use Rattle.ft_content.specs.Views.{TableInfo, info_names}
 use Rattle.ft_statements.specs.Replies.{AreSorted, listed}
 use Rattle.ft_statements.specs.Texts.{fault_text}
 use Rattle.ft_statements.specs.Views.{texts_of}
-use Rattle.plain_shell.specs.Told.{blames, lacks_memory, says}
+use Rattle.plain_shell.specs.Outcomes.{blames, lacks_memory, says}
 use Rattle.plain_shell.specs.OutputViews.{answer_as}
 use Rattle.plain_shell.specs.Listings.{Finds, StopsTrying, tables, unsorted, untried}
 use Rattle.ft_shell.specs.StatementTurns.{table_names}

@@ -3,7 +3,7 @@ use Rattle.std.proofs.Common.{rules, ◌≡◌, ℕ, List, [], refl, string_byte
 use Rattle.std.specs.Prelude.{option_map}
 use Rattle.plain_shell.proofs.QueryLemmas.{if_clean}
 use Rattle.plain_shell.specs.OutputViews.{answer_as}
-use Rattle.plain_shell.specs.Told.{silent}
+use Rattle.plain_shell.specs.Outcomes.{silent}
 use Rattle.ft_shell.specs.FullTextTurns.{MaybeNotes, NoteTurn}
 use Rattle.ft_shell.specs.PlainTurns.{done, refused}
 use Rattle.ft_shell.proofs.plain_turn.command_turn.Goals as goal

@@ -6,7 +6,7 @@ use Rattle.ft_statements.specs.Texts.{statement_text}
 use Rattle.ft_statements.specs.Words.{tokens_of}
 use Rattle.plain_shell.specs.FaultWords.{lex_words}
 use Rattle.plain_shell.specs.OutputViews.{answer_as}
-use Rattle.plain_shell.specs.Told.{blames}
+use Rattle.plain_shell.specs.Outcomes.{blames}
 use Rattle.ft_shell.proofs.ClassLemmas.{class_as_told, classless_turn, closed_turn, wordless_turn}
 use Rattle.ft_shell.proofs.statement_turn.statement_turn.Goals as goal
 

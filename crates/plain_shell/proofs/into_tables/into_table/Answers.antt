@@ -8,7 +8,7 @@ use Rattle.plain_shell.specs.Records.{warnings}
 use Rattle.plain_shell.specs.IntoTables.{fault_words, into}
 use Rattle.plain_shell.specs.PlainStatements.{IfClean}
 use Rattle.plain_shell.specs.PlainImports.{HasColumns, Stays, CommitsAll, Declines, Uncounted}
-use Rattle.plain_shell.specs.Told.{blames, warned}
+use Rattle.plain_shell.specs.Outcomes.{blames, warned}
 use Rattle.plain_shell.specs.OutputViews.{answer_as}
 use Rattle.plain_shell.proofs.ImportTurnLemmas.{same_steps, count_refused, import_refused}
 use Rattle.plain_shell.proofs.into_tables.into_table.Goals as goal

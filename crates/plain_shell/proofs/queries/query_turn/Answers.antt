@@ -1,6 +1,6 @@
 -- it is answered, or refused
 use Rattle.std.proofs.Common.{rules}
-use Rattle.plain_shell.specs.Told.{Tells}
+use Rattle.plain_shell.specs.Outcomes.{Tells}
 use Rattle.plain_shell.specs.Answers.{rows_told}
 use Rattle.plain_shell.specs.OutputViews.{answer_as}
 use Rattle.plain_shell.specs.PlainStatements.{answered, refused}

@@ -1,6 +1,6 @@
 -- the fault line
 use Rattle.std.proofs.Common.{◌++◌, sym, subst}
-use Rattle.plain_shell.specs.Told.{fault_lines}
+use Rattle.plain_shell.specs.Outcomes.{fault_lines}
 use Rattle.plain_shell.specs.OutputViews.{answer_as}
 use Rattle.plain_shell.specs.Writing.{Sends}
 use Rattle.plain_shell.proofs.written.write_answer.Goals as goal

@@ -1,14 +1,14 @@
 -- piece by piece, up to the end of the input
 use Rattle.std.proofs.Common.{rules, ◌≡◌, ◌<◌, ◌^◌, Err, length, ap, refl, arith}
 use Rattle.plain_shell.specs.declared.run.RunFault.TheVariants as causes
-use Rattle.plain_shell.specs.Feeds.{Fed}
+use Rattle.plain_shell.specs.LinesRead.{LinesRead}
 use Rattle.ft_shell.proofs.PieceLemmas.{chunk_kept, has_read, interrupted_taking, interrupted_unread}
 use Rattle.ft_shell.proofs.RunLemmas.{completes, ends_err, so_far_kept, so_far_more, so_far_none, some_or_none, stops_at_flush, stops_first, stops_in_piece, stops_too_much, stops_unflushed}
 use Rattle.plain_shell.proofs.WriteLemmas.{same_then}
 use Rattle.ft_shell.proofs.session.Session.run_pieces.Goals as goal
 
-pub returns-in_err-feed-clause-runs : goal.returns-in_err-feed-clause-runs
-returns-in_err-feed-clause-runs g c =
+pub returns-in_err-lines-clause-runs : goal.returns-in_err-lines-clause-runs
+returns-in_err-lines-clause-runs g c =
     let is : c.from_residual.result ≡ Err causes.Memory = search (rules, c.from_residual.ensures) in
     ends_err g.P.Store g.S.Store c.from_residual.result causes.Memory _ _ is (stops_first g.P.Store g.S.Store causes.Memory _ _ _ _ (λ much. absurd (let wrong = much in cc)))
 
@@ -19,9 +19,9 @@ returns-in_err-chunk-clause-runs g c =
 
 pub loop-total-init : goal.loop-total-init
 loop-total-init g c = record {
-  run = so_far_none g.P.Store g.S.Store (2 ^ 30) _ _ _ c.blocks_read_whole.ensures c.in_ok-feed.ensures;
+  run = so_far_none g.P.Store g.S.Store (2 ^ 30) _ _ _ c.blocks_read_whole.ensures c.in_ok-lines.ensures;
   size = omega (arith, c.in_ok-chunk.chunk.ok.0, c.in_ok-chunk.ensures.len);
-  waits = ap (λ (f : Fed). f.splitting.waiting) c.in_ok-feed.ensures;
+  waits = ap (λ (f : LinesRead). f.splitting.waiting) c.in_ok-lines.ensures;
   goes = refl;
   writers = (refl, refl);
 }

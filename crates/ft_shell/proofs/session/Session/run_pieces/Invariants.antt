@@ -1,7 +1,7 @@
 -- what was read so far was run, and no unit waits before the next piece
 use Rattle.std.proofs.Common.{◌≡◌, ◌+◌, ◌-◌, ◌^◌, ◌<◌, length, [], false}
 use Rattle.plain_shell.specs.Writing.{SameWriters}
-use Rattle.ft_shell.specs.Shell.{lent}
+use Rattle.ft_shell.specs.Shell.{shell_with}
 use Rattle.ft_shell.specs.Ran.{moment}
 use Rattle.ft_shell.proofs.RunLemmas.{SoFar, opening}
 use Rattle.ft_shell.proofs.session.Session.run_pieces.Given as goal
@@ -15,10 +15,10 @@ pub record Kept (run_far has_size is_waiting goes_on are_same : Type 0) : Type 0
 
 abbrev pub invariant-loop-total : goal.invariant-loop-total
 invariant-loop-total g l = Kept
-    (SoFar g.P.Store g.S.Store (2 ^ 30) l.total (g.R.Read.remaining l.fn.reader) (g.R.Read.remaining l.reader) l.feed
-    (opening (lent l.fn.self (g.F.Source.holds l.fn.source)) (g.O.Write.contents l.fn.outputs.out.now) (g.E.Write.contents l.fn.outputs.err.now))
-    (moment g.O.Write.contents g.E.Write.contents (lent l.self (g.F.Source.holds l.source)) l.outputs))
-    (0 < length l.chunk.items) (l.feed.splitting.waiting ≡ []) (l.outputs.status.quit ≡ false) (SameWriters l.fn.outputs l.outputs)
+    (SoFar g.P.Store g.S.Store (2 ^ 30) l.total (g.R.Read.remaining l.fn.reader) (g.R.Read.remaining l.reader) l.lines
+    (opening (shell_with l.fn.self (g.F.Source.holds l.fn.source)) (g.O.Write.contents l.fn.outputs.out.now) (g.E.Write.contents l.fn.outputs.err.now))
+    (moment g.O.Write.contents g.E.Write.contents (shell_with l.self (g.F.Source.holds l.source)) l.outputs))
+    (0 < length l.chunk.items) (l.lines.splitting.waiting ≡ []) (l.outputs.status.quit ≡ false) (SameWriters l.fn.outputs l.outputs)
 
 abbrev pub decreases-loop-total : goal.decreases-loop-total
 decreases-loop-total g l = 2 ^ 30 + 1 - l.total

@@ -1,6 +1,0 @@
--- the copies so far
-use Rattle.std.proofs.Common.{◌≡◌, map, take, string_bytes}
-use Rattle.ft_content.proofs.create.copied_texts.Given as goal
-
-abbrev pub invariant-loop-text : goal.invariant-loop-text
-invariant-loop-text l = map string_bytes l.copies.items ≡ map string_bytes (take l.text-index l.texts)

@@ -1,0 +1,9 @@
+-- the names so far
+use Rattle.std.proofs.Common.{◌≡◌, map, take}
+use Rattle.std.specs.List.{flat_map}
+use Rattle.ft_content.specs.Answer as answer
+use Rattle.ft_content.specs.Views.{bare_content, item_of, names_in}
+use Rattle.ft_content.proofs.select.answer_names.Given as goal
+
+abbrev pub invariant-loop-item : goal.invariant-loop-item
+invariant-loop-item l = names_in l.names ≡ flat_map (answer.item_headers l.table (bare_content l.columns)) (map item_of (take l.item-index l.item-items))
