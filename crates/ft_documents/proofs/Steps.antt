@@ -3,6 +3,8 @@ use Rattle.std.proofs.Common.{◌≡◌, ℕ, ◌+◌, ◌<◌, Bool, true, fals
 use Rattle.std.specs.Prelude.{filter}
 use Rattle.std.proofs.lemmas.List.{at_drop_more, map-append, length-map, get_or-map}
 use Rattle.std.proofs.lemmas.List.Elements.{filter-append}
+use Rattle.std.proofs.lemmas.List.Concat.{flat_map-append}
+use Rattle.std.specs.List.{flat_map}
 use Rattle.ft_values.specs.declared.rows.RowChange.{RowChange}
 use Rattle.ft_rows.specs.Changes.{shown_change}
 
@@ -26,6 +28,12 @@ kept_last {X} {Y} p f x xs old new first grown so_far =
       | false ↦ λ same. same ∙ so_far ∙ ap (λ ys. first ++ ys) (sym (append-nil (map f (filter p xs))))
     ] grown
     ∙ ap (λ ys. first ++ ys) (sym (ap (map f) (filter-append p xs (x ∷ [])) ∙ map-append f (filter p xs) (filter p (x ∷ []))))
+
+-- the piece of an element more
+pub piece_last : {X Y : Type 0} (f : X → List Y) (xs : List X) (x : X) (old new first : List Y) → new ≡ old ++ f x → old ≡ first ++ flat_map f xs → new ≡ first ++ flat_map f (xs ++ x ∷ [])
+piece_last f xs x old new first grown so_far =
+    grown ∙ ap (λ ys. ys ++ f x) so_far ∙ append_assoc first (flat_map f xs) (f x)
+    ∙ ap (λ ys. first ++ ys) (ap (λ ys. flat_map f xs ++ ys) (sym (append-nil (f x))) ∙ sym (flat_map-append f xs (x ∷ [])))
 
 -- nothing is left
 pub all_taken : {X : Type 0} (made rest all : List X) → rest ≡ [] → made ++ rest ≡ all → made ≡ all

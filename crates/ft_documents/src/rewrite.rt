@@ -42,20 +42,20 @@ pub fn row_changes(
     alloc: Global,
     tab: i64,
     columns: &[Column],
-    rewrites: &[Rewrite],
+    rewrites: Vec<Rewrite>,
 ) -> Result<Vec<RowChange>, AllocError>
     ensures plan { IfOk result (λ changes. map shown_change changes.items
-        ≡ rows.rewrite_changes tab (map column_of columns.now) (map shown_rewrite rewrites.now)) }
+        ≡ rows.rewrite_changes tab (map column_of columns.now) (map shown_rewrite rewrites.items)) }
     ensures right { IfOk result (λ changes. AreRight tab (map column_of columns.now)
-        (map shown_rewrite rewrites.now) (map shown_change changes.items)) }
+        (map shown_rewrite rewrites.items) (map shown_change changes.items)) }
     ensures packable { IfOk result (λ changes. length columns.now ≤ 100
-        → IsTrue (is_sorted int_cmp (by_docid (map shown_rewrite rewrites.now)))
-        → All (FitIfAny (length columns.now)) (map shown_rewrite rewrites.now)
+        → IsTrue (is_sorted int_cmp (by_docid (map shown_rewrite rewrites.items)))
+        → All (FitIfAny (length columns.now)) (map shown_rewrite rewrites.items)
         → All CanApply changes.items) }
     ensures new { IfOk result (λ changes. AreNew tab (map column_of columns.now)
-        (map shown_rewrite rewrites.now) (map shown_change changes.items)) }
+        (map shown_rewrite rewrites.items) (map shown_change changes.items)) }
     ensures near { IfOk result (λ changes. All
-        (IsOfDocids tab (docids_of (map shown_rewrite rewrites.now)))
+        (IsOfDocids tab (docids_of (map shown_rewrite rewrites.items)))
         (map shown_change changes.items)) }
 {
     let changes = planned_changes(alloc, tab, columns, rewrites)?;
@@ -67,15 +67,15 @@ fn planned_changes(
     alloc: Global,
     tab: i64,
     columns: &[Column],
-    rewrites: &[Rewrite],
+    rewrites: Vec<Rewrite>,
 ) -> Result<Vec<RowChange>, AllocError>
     ensures { IfOk result (λ changes. Plans tab (map column_of columns.now)
-        (map shown_rewrite rewrites.now) (map shown_change changes.items)) }
+        (map shown_rewrite rewrites.items) (map shown_change changes.items)) }
 {
+    let (old, new) = indexes(alloc, columns, rewrites.as_slice())?;
     let mut changes = Vec::new(alloc);
-    drop_documents(&mut changes, tab, rewrites)?;
+    drop_documents(&mut changes, tab, rewrites.as_slice())?;
     put_documents(alloc, &mut changes, tab, rewrites)?;
-    let (old, new) = indexes(alloc, columns, rewrites)?;
     old.drop_lists(&mut changes, tab, &new)?;
     let (lists, sizes) = new.into_parts();
     old.put_lists(&mut changes, tab, lists)?;
@@ -103,92 +103,44 @@ fn drop_documents(
     Ok(())
 }
 
-// Puts the cells that are new or differ.
+// Puts the cells that are new or differ. They are moved into the changes.
 fn put_documents(
     alloc: Global,
     changes: &mut Vec<RowChange>,
     tab: i64,
-    rewrites: &[Rewrite],
+    rewrites: Vec<Rewrite>,
 ) -> Result<(), AllocError>
     ensures { OnOk result (map shown_change changes.new.items
         ≡ map shown_change changes.old.items ++ rows.put_documents tab
-        (map shown_rewrite rewrites.now)) }
+        (map shown_rewrite rewrites.items)) }
 {
     for rewrite in rewrites {
         let docid = rewrite.docid;
-        let before = cells_in(&rewrite.before);
-        let after = cells_in(&rewrite.after);
-        put_cells(alloc, changes, tab, docid, before, after)?;
+        let before = rewrite.before.unwrap_or(Vec::new(alloc));
+        let after = rewrite.after.unwrap_or(Vec::new(alloc));
+        put_cells(changes, tab, docid, before.as_slice(), after)?;
     }
     Ok(())
-}
-
-// The cells of a document, none where there is none.
-fn cells_in(cells: &Option<Vec<Value>>) -> &[Value]
-    ensures { map shown_value result.now ≡ unwrap_or (option_map cells_of cells.now) [] }
-{
-    match cells {
-        Some(cells) => cells.as_slice(),
-        None => &[],
-    }
 }
 
 // Puts the cells of one document that are new or differ.
 fn put_cells(
-    alloc: Global,
     changes: &mut Vec<RowChange>,
     tab: i64,
     docid: i64,
     before: &[Value],
-    after: &[Value],
+    after: Vec<Value>,
 ) -> Result<(), AllocError>
     ensures { OnOk result (map shown_change changes.new.items
         ≡ map shown_change changes.old.items ++ rows.put_cells tab docid
-        (map shown_value before.now) (map shown_value after.now)) }
+        (map shown_value before.now) (map shown_value after.items)) }
 {
-    for (place, value) in after.iter().enumerate() {
-        if !is_at(before, place, value) {
-            let copy = copied(alloc, value)?;
-            changes.push(RowChange::PutCell(tab, docid, place as i64, copy))?;
+    for (place, value) in after.into_iter().enumerate() {
+        if before.get(place) != Some(&value) {
+            changes.push(RowChange::PutCell(tab, docid, place as i64, value))?;
         }
     }
     Ok(())
-}
-
-// Whether this value is at this place.
-fn is_at(values: &[Value], place: usize, value: &Value) -> bool
-    ensures { result ≡ rows.was_there rows.same_cell
-        (find int_cmp (pos place) (rows.numbered (map shown_value values.now)))
-        (shown_value value.now) }
-{
-    match values.get(place) {
-        Some(other) => is_same(other, value),
-        None => false,
-    }
-}
-
-fn is_same(a: &Value, b: &Value) -> bool
-    ensures { result ≡ rows.same_cell (shown_value a.now) (shown_value b.now) }
-{
-    match (a, b) {
-        (Value::Null, Value::Null) => true,
-        (Value::Int(m), Value::Int(n)) => *m == *n,
-        (Value::Text(s), Value::Text(t)) => s.as_str() == t.as_str(),
-        _ => false,
-    }
-}
-
-fn copied(alloc: Global, value: &Value) -> Result<Value, AllocError>
-    ensures { IfOk result (λ copy. shown_value copy ≡ shown_value value.now) }
-{
-    match value {
-        Value::Null => Ok(Value::Null),
-        Value::Int(n) => Ok(Value::Int(*n)),
-        Value::Text(text) => {
-            let copy = text.as_str().to_string(alloc)?;
-            Ok(Value::Text(copy))
-        }
-    }
 }
 
 // The index of the documents as they were, and as they are to be.

@@ -50,7 +50,7 @@ pub(crate) fn rebuild_changes<S: Alter>(
 {
     let known = named_table(tables, table)?;
     let anew = rebuilt(alloc, store, known)?;
-    let changes = anew_changes(alloc, &anew)?;
+    let changes = anew_changes(alloc, anew)?;
     Ok(changes)
 }
 

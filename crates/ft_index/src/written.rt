@@ -29,15 +29,11 @@ impl Written<'_> {
     ghost use Rattle.ft_index.specs.Written.{first_parts, AreOfWritten, MakesWritten};
 
     /// Their row changes.
-    pub(crate) fn changes(&self, alloc: Global) -> Result<Vec<RowChange>, AllocError>
-        ensures { IfOk result (λ changes. AreOfWritten self.now (map shown_change changes.items)) }
+    pub(crate) fn changes(self, alloc: Global) -> Result<Vec<RowChange>, AllocError>
+        ensures { IfOk result (λ changes. AreOfWritten self.entry (map shown_change changes.items)) }
     {
-        let changes = row_changes(
-            alloc,
-            self.table.id,
-            self.table.columns.as_slice(),
-            self.rewrites.as_slice(),
-        )?;
+        let Written { table, rewrites } = self;
+        let changes = row_changes(alloc, table.id, table.columns.as_slice(), rewrites)?;
         Ok(changes)
     }
 
@@ -93,15 +89,16 @@ pub(crate) fn found_changes(
 /// The row changes that make a table anew with documents, none where nothing is to be made.
 pub(crate) fn anew_changes(
     alloc: Global,
-    anew: &Option<Written>,
+    anew: Option<Written>,
 ) -> Result<Vec<RowChange>, AllocError>
-    ensures { IfOk result (λ changes. AreOfAnew anew.now (map shown_change changes.items)) }
+    ensures { IfOk result (λ changes. AreOfAnew anew.entry (map shown_change changes.items)) }
 {
     let Some(written) = anew else {
         return Ok(Vec::new(alloc));
     };
+    let table = written.table;
     let mut changes = written.changes(alloc)?;
-    changes.insert(0, adding(alloc, written.table)?)?;
+    changes.insert(0, adding(alloc, table)?)?;
     Ok(changes)
 }
 
@@ -150,7 +147,7 @@ impl Parts for GroupChanges<'_> {
             self.alloc,
             self.table.id,
             self.table.columns.as_slice(),
-            group.as_slice(),
+            group,
         )?;
         Ok(Some(changes))
     }

@@ -13,13 +13,13 @@ pub returns : goal.returns
 unfolding rewrite_changes
 returns c =
     let t = to_z-of_z c.ranges.tab in
-    let made = c.in_ok-old.ensures in
-    let rewrites = map shown_rewrite c.args.rewrites.now in
+    let made = rw c.as_slice.ensures.value at c.in_ok-old.ensures in
+    let rewrites = map shown_rewrite c.args.rewrites.items in
     let columns = map column_of c.args.columns.now in
     record {
       numbers = made.1.numbers;
       plan = six_pieces _ _ _ _ _ _ _ _ _ _ _ _ _ (ap (map shown_change) c.new-changes.ensures.items)
-          (c.in_ok-drop_documents.ensures ∙ (λ i. map shown_change c.new-changes.result.items ++ dropped_documents (t i) rewrites))
+          (c.in_ok-drop_documents.ensures ∙ (λ i. map shown_change c.new-changes.result.items ++ dropped_documents (t i) (map shown_rewrite (c.as_slice-2.ensures.value i))))
           (c.in_ok-put_documents.ensures ∙ (λ i. map shown_change c.drop_documents.new.changes.items ++ put_documents (t i) rewrites))
           (c.in_ok-drop_lists.ensures ∙ (λ i. map shown_change c.put_documents.new.changes.items ++ dropped_lists (t i) (changed key_cmp same_spots (made.1.lists i) (made.0.lists i))))
           (c.in_ok-put_lists.ensures ∙ (λ i. map shown_change c.drop_lists.new.changes.items ++ put_lists (t i) (changed key_cmp same_spots (made.0.lists i) (map shown_list (c.into_parts-lists.ensures.0 i).entries))) ∙ ap (λ ls. map shown_change c.drop_lists.new.changes.items ++ put_lists c.args.tab (changed key_cmp same_spots (lists_of columns (befores rewrites)) ls)) made.1.lists)

@@ -1,36 +1,45 @@
-use Rattle.std.proofs.Common.{◌≡◌, ◌+◌, ◌++◌, ◌∷◌, [], cond, not, map, drop, pos, sym, ap, ◌∙◌, to_z-of_z, to_z, w64, rules}
-use Rattle.std.specs.Ordering.{int_cmp}
-use Rattle.std.specs.FinMap.Entries.{find}
-use Rattle.std.proofs.lemmas.List.{drop_all}
-use Rattle.ft_rows.specs.Store.{PutCell}
+-- one value more, and all of them
+use Rattle.std.proofs.Common.{◌≡◌, ℤ, ◌<◌, ◌^◌, ◌++◌, length, map, refl, ap, sym, ◌∙◌, rules, to_z, of_z, w64, to_z-of_z}
+use Rattle.std.specs.Prelude.{filter}
+use Rattle.std.specs.List.{enumerate_from}
+use Rattle.std.proofs.lemmas.Iterator.Adapters.{YieldsList-from_vec}
+use Rattle.std.proofs.lemmas.Iterator.Consumers.{YieldsList-from_enumerate, YieldsList-end}
+use Rattle.std.proofs.lemmas.List.{map-id}
 use Rattle.ft_values.specs.Cells.{shown_value}
 use Rattle.ft_rows.specs.Changes.{shown_change}
-use Rattle.ft_documents.specs.RewriteRows.{same_cell, was_there, numbered}
-use Rattle.ft_documents.proofs.Steps.{all_taken, taken_more, change_more}
-use Rattle.ft_documents.proofs.CellSteps.{put_from, cell_more}
+use Rattle.ft_documents.proofs.Steps.{change_more}
+use Rattle.ft_documents.proofs.CellSteps.{placed_cell, is_put, put_at, tells_put, one_more_put, all_puts}
 use Rattle.ft_documents.proofs.rewrite.put_cells.Goals as goal
-use Rattle.ft_documents.proofs.rewrite.put_cells.Goals.{then-not-is_at+in_ok-copy+in_ok-push, else-not-is_at}
+
+pub loop-place-preserved-in-Continue-1 : goal.loop-place-preserved-in-Continue-1
+loop-place-preserved-in-Continue-1 c =
+    let tab : ℤ = to_z w64 (of_z w64 c.args.tab) in
+    let docid : ℤ = to_z w64 (of_z w64 c.args.docid) in
+    one_more_put tab docid (map shown_value c.args.before.now) c.in-Some.place c.in-Some.value c.loop-place.yielded _ (map shown_change c.loop-place.changes.items) _ _
+    (sym (tells_put c.args.before.now c.in-Some.place _ c.get.result c.get.ensures.lookup.3 c.get.ensures.lookup.1) ∙ sym c.ne.ensures ∙ c.if-ne.true) (change_more _ _ _ c.in_ok-push.ensures.items) c.loop-place.invariant
+
+pub loop-place-preserved-else-ne : goal.loop-place-preserved-else-ne
+loop-place-preserved-else-ne c =
+    let tab : ℤ = to_z w64 (of_z w64 c.args.tab) in
+    let docid : ℤ = to_z w64 (of_z w64 c.args.docid) in
+    one_more_put tab docid (map shown_value c.args.before.now) c.in-Some.place c.in-Some.value c.loop-place.yielded _ (map shown_change c.loop-place.changes.items) _ _
+    (sym (tells_put c.args.before.now c.in-Some.place _ c.get.result c.get.ensures.lookup.3 c.get.ensures.lookup.1) ∙ sym c.ne.ensures ∙ c.if-ne.false) refl c.loop-place.invariant
 
 pub loop-place-preserved : goal.loop-place-preserved
 loop-place-preserved c =
-    let t = to_z-of_z c.ranges.tab in
-    let d = to_z-of_z c.ranges.docid in
-    let place = c.loop-place.place in
-    let p : to_z w64 place ≡ pos place = search rules in
-    let before = map shown_value c.args.before.now in
-    let cell = shown_value c.index-after-place.result in
-    let old = map shown_change c.loop-place.changes.items in
-    let grown : map shown_change c.if-not-is_at.changes.items ≡ cond (not (was_there same_cell (find int_cmp (pos place) (numbered before)) cell)) (old ++ PutCell c.args.tab c.args.docid (pos place) cell ∷ []) old =
-    elim c.if-not-is_at.branch [
-      | then-not-is_at+in_ok-copy+in_ok-push w ↦ ap (λ v. map shown_change v.items) w.changes-is ∙ change_more _ _ _ w.in_ok-push.ensures.items
-          ∙ (λ i. old ++ PutCell (t i) (d i) (p i) (w.in_ok-copy.ensures i) ∷ []) ∙ ap (λ b. cond (not b) (old ++ PutCell c.args.tab c.args.docid (pos place) cell ∷ []) old) (sym w.if-not-is_at.true ∙ c.is_at.ensures)
-      | else-not-is_at w ↦ ap (λ v. map shown_change v.items) w.changes-is ∙ ap (λ b. cond (not b) (old ++ PutCell c.args.tab c.args.docid (pos place) cell ∷ []) old) (sym w.if-not-is_at.false ∙ c.is_at.ensures)
-    ] in
-    rw (t, d) (cell_more c.args.tab c.args.docid place before cell (map shown_value (drop (place + 1) c.args.after.now)) old _ _ grown
-    (sym (taken_more (λ xs. old ++ put_from c.args.tab c.args.docid place before (map shown_value xs)) c.args.after.now place c.index-after-place.result c.loop-place-test.true c.index-after-place.is) ∙ (rw (t, d) at c.loop-place.invariant)))
+    let tab : ℤ = to_z w64 (of_z w64 c.args.tab) in
+    let docid : ℤ = to_z w64 (of_z w64 c.args.docid) in
+    one_more_put tab docid (map shown_value c.args.before.now) c.in-Some.place c.in-Some.value c.loop-place.yielded _ (map shown_change c.loop-place.changes.items) _ _
+    (sym (tells_put c.args.before.now c.in-Some.place _ c.get.result c.get.ensures.lookup.3 c.get.ensures.lookup.1) ∙ sym c.ne.ensures ∙ c.if-ne.false) refl c.loop-place.invariant
 
 pub returns : goal.returns
 returns c =
     let t = to_z-of_z c.ranges.tab in
     let d = to_z-of_z c.ranges.docid in
-    all_taken _ _ _ (ap (λ xs. put_from c.args.tab c.args.docid c.loop-place.place (map shown_value c.args.before.now) (map shown_value xs)) (drop_all c.loop-place.place c.args.after.now c.loop-place-test.false)) (rw (t, d) at c.loop-place.invariant)
+    let before = map shown_value c.args.before.now in
+    let first = map shown_change c.args.changes.now.items in
+    let road = YieldsList-from_enumerate {s = c.into_iter-place-iterator.result} (YieldsList-from_vec c.args.after.items (search rules) (search rules)) (search rules) in
+    let came = (YieldsList-end road c.loop-place.yielded c.loop-place.place-iterator c.loop-place.yielded_by _ c.next.new.self c.in-None.is c.next.ensures.steps).0 in
+    let few : length c.args.after.items < 2 ^ 63 = search rules in
+    (rw (t, d) at c.loop-place.invariant) ∙ ap (λ cs. first ++ map (put_at c.args.tab c.args.docid) (filter (is_put before) (map placed_cell cs))) (sym (map-id c.loop-place.yielded) ∙ came)
+    ∙ ap (λ cs. first ++ cs) (all_puts c.args.tab c.args.docid before c.args.after.items few)

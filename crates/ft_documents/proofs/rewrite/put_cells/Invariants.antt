@@ -1,10 +1,10 @@
--- the changes so far, and those of the cells that are left
-use Rattle.std.proofs.Common.{◌≡◌, ◌++◌, map, drop}
+-- the changes of the cells so far
+use Rattle.std.proofs.Common.{◌≡◌, ◌++◌, map}
+use Rattle.std.specs.Prelude.{filter}
 use Rattle.ft_values.specs.Cells.{shown_value}
 use Rattle.ft_rows.specs.Changes.{shown_change}
-use Rattle.ft_documents.specs.RewriteRows.{put_cells}
-use Rattle.ft_documents.proofs.CellSteps.{put_from}
+use Rattle.ft_documents.proofs.CellSteps.{placed_cell, is_put, put_at}
 use Rattle.ft_documents.proofs.rewrite.put_cells.Given as goal
 
 abbrev pub invariant-loop-place : goal.invariant-loop-place
-invariant-loop-place l = map shown_change l.changes.items ++ put_from l.tab l.docid l.place (map shown_value l.before) (map shown_value (drop l.place l.after)) ≡ map shown_change l.fn.changes.items ++ put_cells l.tab l.docid (map shown_value l.before) (map shown_value l.after)
+invariant-loop-place l = map shown_change l.changes.items ≡ map shown_change l.fn.changes.items ++ map (put_at l.tab l.docid) (filter (is_put (map shown_value l.before)) (map placed_cell l.yielded))

@@ -1,22 +1,28 @@
-use Rattle.std.proofs.Common.{◌≡◌, ◌+◌, ◌++◌, map, drop, sym, ap, ◌∙◌, to_z-of_z, to_z, of_z, w64, rules}
-use Rattle.std.proofs.lemmas.List.{drop_all}
+-- one rewrite more
+use Rattle.std.proofs.Common.{◌≡◌, ℤ, ◌++◌, ◌∷◌, [], map, Option, Some, None, option_map, unwrap_or, Vec, Global, sym, ap, ◌∙◌, to_z, of_z, w64, rules}
+use Rattle.std.proofs.lemmas.List.{map-append}
+use Rattle.ft_values.specs.declared.rows.Value.{Value}
+use Rattle.ft_values.specs.Cells.{shown_value}
 use Rattle.ft_rows.specs.Changes.{shown_change}
-use Rattle.ft_documents.specs.Rewrite.{shown_rewrite}
+use Rattle.ft_content.specs.Views.{cells_of}
+use Rattle.ft_documents.specs.Rewrite.{Rewrite, shown_rewrite}
 use Rattle.ft_documents.specs.RewriteRows.{put_cells, put_documents}
-use Rattle.ft_documents.proofs.Steps.{piece_more, all_taken, taken_more}
+use Rattle.ft_documents.proofs.Steps.{piece_last}
 use Rattle.ft_documents.proofs.rewrite.put_documents.Goals as goal
+
+-- the cells of a document, none where there is none
+cells_if : (cells : Option (Vec Value Global)) (none : Vec Value Global) → none.items ≡ [] → map shown_value (unwrap_or cells none).items ≡ unwrap_or (option_map cells_of cells) []
+cells_if None none empty = ap (map shown_value) empty
+cells_if (Some cells) none empty = search rules
 
 pub loop-rewrite-preserved : goal.loop-rewrite-preserved
 loop-rewrite-preserved c =
-    let t = to_z-of_z c.ranges.tab in
-    let d : to_z w64 (of_z w64 c.rewrite-item.result.docid) ≡ c.rewrite-item.result.docid = search rules in
-    let old = map shown_change c.loop-rewrite.changes.items in
-    let index = c.loop-rewrite.rewrite-index in
-    rw t (piece_more old _ _ (put_documents c.args.tab (map shown_rewrite (drop (index + 1) c.args.rewrites.now))) _
-    (c.in_ok-put_cells.ensures ∙ (λ i. old ++ put_cells (t i) (d i) (c.cells_in-before.ensures i) (c.cells_in-after.ensures i)))
-    (sym (taken_more (λ xs. old ++ put_documents c.args.tab (map shown_rewrite xs)) c.args.rewrites.now index c.rewrite-item.result c.loop-rewrite-test.true c.rewrite-item.is) ∙ (rw t at c.loop-rewrite.invariant)))
-
-pub returns : goal.returns
-returns c =
-    let t = to_z-of_z c.ranges.tab in
-    all_taken _ _ _ (ap (λ xs. put_documents c.args.tab (map shown_rewrite xs)) (drop_all c.loop-rewrite.rewrite-index c.args.rewrites.now c.loop-rewrite-test.false)) (rw t at c.loop-rewrite.invariant)
+    let tab : ℤ = to_z w64 (of_z w64 c.args.tab) in
+    let r = c.in-Some.rewrite in
+    let d : to_z w64 (of_z w64 r.docid) ≡ r.docid = search rules in
+    let before = ap (map shown_value) (c.as_slice.ensures.value ∙ ap (λ v. v.items) c.unwrap_or-before.ensures) ∙ cells_if r.before c.new.result c.new.ensures.items in
+    let after = ap (λ v. map shown_value v.items) c.unwrap_or-after.ensures ∙ cells_if r.after c.new-in-loop-rewrite.result c.new-in-loop-rewrite.ensures.items in
+    let first = map shown_change c.args.changes.now.items in
+    piece_last (λ (r : Rewrite). put_cells tab r.docid (unwrap_or r.before []) (unwrap_or r.after [])) (map shown_rewrite c.loop-rewrite.yielded) (shown_rewrite r) (map shown_change c.loop-rewrite.changes.items) _ first
+    (c.in_ok-put_cells.ensures ∙ (λ i. map shown_change c.loop-rewrite.changes.items ++ put_cells tab (d i) (before i) (after i))) c.loop-rewrite.invariant
+    ∙ ap (λ rs. first ++ put_documents tab rs) (sym (map-append shown_rewrite c.loop-rewrite.yielded (r ∷ [])))

@@ -1,9 +1,9 @@
--- the changes so far, and those of the rewrites that are left
-use Rattle.std.proofs.Common.{◌≡◌, ◌++◌, map, drop}
+-- the changes of the rewrites so far
+use Rattle.std.proofs.Common.{◌≡◌, ◌++◌, map}
 use Rattle.ft_rows.specs.Changes.{shown_change}
 use Rattle.ft_documents.specs.Rewrite.{shown_rewrite}
 use Rattle.ft_documents.specs.RewriteRows.{put_documents}
 use Rattle.ft_documents.proofs.rewrite.put_documents.Given as goal
 
 abbrev pub invariant-loop-rewrite : goal.invariant-loop-rewrite
-invariant-loop-rewrite l = map shown_change l.changes.items ++ put_documents l.tab (map shown_rewrite (drop l.rewrite-index l.rewrites)) ≡ map shown_change l.fn.changes.items ++ put_documents l.tab (map shown_rewrite l.rewrites)
+invariant-loop-rewrite l = map shown_change l.changes.items ≡ map shown_change l.fn.changes.items ++ put_documents l.tab (map shown_rewrite l.yielded)
