@@ -82,21 +82,14 @@ fn are_in_order(rows: &[ListRow]) -> bool
         && rows.iter().all(|row| is_in_order(row))
 }
 
-/// The list of a row.
-fn row_list(alloc: Global, row: ListRow) -> Result<DocList, AllocError>
-    ensures { IfOk result (λ list. plain_list list ≡ list_of row) }
-{
-    let places = row.spots.iter().map(|spot| place_of(spot)).collect(alloc)?;
-    Ok(DocList::new(row.docid, places))
-}
-
 /// The lists of rows. Each row goes as its list is made, so that the next list finds its room free.
 fn row_lists(alloc: Global, rows: Vec<ListRow>) -> Result<Vec<DocList>, AllocError>
     ensures { IfOk result (λ lists. map plain_list lists.items ≡ map list_of rows.items) }
 {
     let mut lists = Vec::with_capacity(alloc, rows.len())?;
     for row in rows {
-        lists.push(row_list(alloc, row)?)?;
+        let places = row.spots.iter().map(|spot| place_of(spot)).collect(alloc)?;
+        lists.push(DocList::new(row.docid, places))?;
     }
     Ok(lists)
 }

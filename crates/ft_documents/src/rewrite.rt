@@ -88,10 +88,9 @@ fn put_documents(
         (map shown_rewrite rewrites.items)) }
 {
     for rewrite in rewrites {
-        let docid = rewrite.docid;
         let before = rewrite.before.unwrap_or(Vec::new(alloc));
         let after = rewrite.after.unwrap_or(Vec::new(alloc));
-        put_cells(changes, tab, docid, before.as_slice(), after)?;
+        put_cells(changes, tab, rewrite.docid, before.as_slice(), after)?;
     }
     Ok(())
 }
