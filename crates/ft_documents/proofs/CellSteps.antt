@@ -55,12 +55,6 @@ got_past (y ∷ ys) (suc i) past = got_past ys i (omega arith)
 at_start : (i : ℕ) → i ≡ 0 + i
 at_start i = omega arith
 
-pub found_within : {X : Type 0} (xs : List X) (i : ℕ) (x : X) → i < length xs → x ≡ get_or xs i x → find int_cmp (pos i) (numbered_from 0 xs) ≡ Some x
-found_within xs i x within is = ap (λ n. find int_cmp (pos n) (numbered_from 0 xs)) (at_start i) ∙ found_from 0 xs i ∙ got_within xs i x within is
-
-pub found_past : {X : Type 0} (xs : List X) (i : ℕ) → length xs ≤ i → find int_cmp (pos i) (numbered_from 0 xs) ≡ None
-found_past xs i past = ap (λ n. find int_cmp (pos n) (numbered_from 0 xs)) (at_start i) ∙ found_from 0 xs i ∙ got_past xs i past
-
 -- the derived `==` of values is that of what they hold
 same_value : (a b : Value) → (TheImpl.ghosts).eq a b ≡ same_cell (shown_value a) (shown_value b)
 same_value value.Null value.Null = refl

@@ -1,6 +1,7 @@
 -- What is found in a map is found in the rows that it shows.
-use Rattle.std.proofs.Common.{◌≡◌, Bool, true, false, cond, List, [], ◌∷◌, map, Option, Some, None, ℤ, refl, sym, ap, ◌∙◌, String, Vec, string_bytes}
+use Rattle.std.proofs.Common.{◌≡◌, Bool, true, false, cond, List, [], ◌∷◌, map, Option, Some, None, ℤ, refl, sym, ap, ◌∙◌, String, Vec, Bor, string_bytes}
 use Rattle.std.specs.Prelude.{option_map, is_some}
+use Rattle.std.specs.Option.{option_copied, option_eq}
 use Rattle.std.specs.declared.alloc.Global.{Global}
 use Rattle.std.specs.declared.cmp.Ordering.{Ordering}
 use Rattle.std.specs.declared.cmp.Ordering.TheVariants.{Less, Equal, Greater}
@@ -10,12 +11,13 @@ use Rattle.std.specs.List.{AllByRecursion}
 use Rattle.std.specs.List.Sorted.{IsStrictlySortedBy}
 use Rattle.std.specs.Cmp.{IsTotalOrder, int_cmp_total}
 use Rattle.std.proofs.lemmas.Cmp.{on_total, then_total}
-use Rattle.std.specs.Ordering.{int_cmp, is_eq, match_ordering, nat_cmp, ordering_then}
+use Rattle.std.specs.Ordering.{int_cmp, int_eq, is_eq, match_ordering, nat_cmp, ordering_then}
 use Rattle.std.specs.Cmp.Lexicographic.{slice_cmp, nat_list_cmp_total}
 use Rattle.std.specs.FinMap.Entries.{by_order, find, put}
 use Rattle.ft_values.specs.declared.rows.Spot.{Spot}
 use Rattle.ft_content.specs.Index.{key_cmp}
-use Rattle.ft_documents.specs.RewriteRows.{shown_list}
+use Rattle.ft_rows.specs.Store.{column_key_cmp}
+use Rattle.ft_documents.specs.RewriteRows.{shown_list, same_spots, was_there}
 
 abbrev pub ShownList : Type 0
 ShownList = (String Global × ℤ) × Vec Spot Global
@@ -35,6 +37,17 @@ find_looked_up R key (e ∷ es) = ap (cond (is_eq (R key e.0)) (Some e.1)) (find
 pub is_some_shown : {A B : Type 0} (f : A → B) (o : Option A) → is_some (option_map f o) ≡ is_some o
 is_some_shown f None = refl
 is_some_shown f (Some a) = refl
+
+-- whether exactly this list, or this size, was found
+pub held_list : (key : String Global × ℤ) (es : List ShownList) (spots : Bor (Vec Spot Global)) (o : Option (Bor (Vec Spot Global))) → option_copied o ≡ lookup (is_key key) es →
+    option_eq (λ x y. same_spots x.now.items y.now.items) o (Some spots) ≡ was_there same_spots (find key_cmp (string_bytes key.0, key.1) (map shown_list es)) spots.now.items
+held_list key es spots None found = ap (λ o. was_there same_spots o spots.now.items) (sym (find_shown key es ∙ ap (option_map (λ (v : Vec Spot Global). v.items)) (sym found)))
+held_list key es spots (Some held) found = ap (λ o. was_there same_spots o spots.now.items) (sym (find_shown key es ∙ ap (option_map (λ (v : Vec Spot Global). v.items)) (sym found)))
+
+pub held_size : (key : ℤ × ℤ) (es : List ((ℤ × ℤ) × ℤ)) (n : Bor ℤ) (o : Option (Bor ℤ)) → option_copied o ≡ lookup (λ k. is_eq (column_key_cmp key k)) es →
+    option_eq (λ x y. int_eq x.now y.now) o (Some n) ≡ was_there int_eq (find column_key_cmp key es) n.now
+held_size key es n None found = ap (λ o. was_there int_eq o n.now) (found ∙ sym (find_looked_up column_key_cmp key es))
+held_size key es n (Some held) found = ap (λ o. was_there int_eq o n.now) (found ∙ sym (find_looked_up column_key_cmp key es))
 
 -- ---- a list that is put
 

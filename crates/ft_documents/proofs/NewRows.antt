@@ -16,7 +16,7 @@ use Rattle.ft_values.specs.Cells.{Cell}
 use Rattle.ft_values.specs.declared.fault.Fault.{Fault}
 use Rattle.ft_values.specs.declared.fault.Fault.TheVariants as faults
 use Rattle.ft_content.specs.Content.{Documents}
-use Rattle.ft_content.specs.Deserved.{next_docid, has_docid, insert_row, append_document, place_document}
+use Rattle.ft_content.specs.Deserved.{next_docid, has_docid, insert_row, append_document}
 use Rattle.ft_content.specs.Views.{cells_of}
 use Rattle.ft_documents.specs.NewDocuments.{shown_entry}
 use Rattle.ft_documents.specs.RewriteRows.{all_put}
@@ -141,10 +141,6 @@ row_is_new documents (given ∷ docids) cells docid sorted is = go (has_docid do
     go : (taken : Bool) → has_docid documents given ≡ taken → cond taken (Err (faults.DocidTaken given)) (Ok (put int_cmp given cells documents)) ≡ Ok (put int_cmp docid cells documents) → find int_cmp docid documents ≡ None
     go true e h = absurd (let no = h in cc)
     go false e h = same_docid given docid cells documents (not_taken (find int_cmp given documents) e) (ap (λ r. put_in r []) h)
-
--- a document that is put under a docid that none has
-pub place_new : (documents : Documents) (docid : ℤ) (cells : List Cell) → find int_cmp docid documents ≡ None → place_document documents docid cells ≡ Ok (put int_cmp docid cells documents)
-place_new documents docid cells none = ap (λ o. cond (is_some o) (Err (faults.DocidTaken docid)) (Ok (put int_cmp docid cells documents))) none
 
 -- whether a docid that is given is taken, in the store or by a new document
 pub taken_is : (given : Option ℤ) (new documents : Documents) (stored taken : Bool) → is_sorted int_cmp new ≡ true → IfSome given (λ docid. has_docid documents docid ≡ stored) →

@@ -1,6 +1,5 @@
 -- The first hits of a walk.
-use Rattle.std.proofs.Common.{◌≡◌, ℕ, ◌≤◌, ◌<◌, ℤ, Bool, true, false, List, [], ◌++◌, Option, Some, None, length, map, take, refl, sym, ap, ◌∙◌, arith, IsTrue}
-use Rattle.std.specs.Prelude.{MatchOption, ⊤}
+use Rattle.std.proofs.Common.{◌≡◌, ℕ, ◌≤◌, ◌<◌, ℤ, Bool, true, false, List, [], ◌++◌, Option, Some, None, length, map, take, unwrap_or, ◌^◌, refl, sym, ap, ◌∙◌, arith}
 use Rattle.std.proofs.lemmas.List.{take_all, map-append}
 use Rattle.std.proofs.Math.Seq.{take-append_seam}
 use Rattle.ft_query.specs.declared.walk.Hit.{Hit}
@@ -13,17 +12,16 @@ use Rattle.ft_content.specs.Answer.{cut}
 use Rattle.ft_documents.specs.Matched.{told, Tells}
 
 -- as many as are wanted
-pub full : (most : Option ℕ) (n : ℕ) (hits rest : List PlainHit) (below : Bool) → length hits ≡ n → (MatchOption most ⊤ (λ m. n < m) → IsTrue below) → below ≡ false → MatchOption most ⊤ (λ m. n ≤ m) → hits ≡ cut most 0 (hits ++ rest)
-full None n hits rest below count wants not_below room = absurd (let no = wants tt in cc)
-full (Some m) n hits rest below count wants not_below room =
-    let not_less : n < m → ⊥ = λ less. (let yes = wants less in absurd (let no = not_below in cc)) in
-    let same : length hits ≡ m = omega arith in
+pub full : (most : Option ℕ) (m n : ℕ) (hits rest : List PlainHit) → m ≡ unwrap_or most 18446744073709551615 → length hits ≡ n → n < 2 ^ 63 → m ≤ n → n ≤ m → hits ≡ cut most 0 (hits ++ rest)
+full None m n hits rest is count few enough room = absurd (omega arith)
+full (Some k) m n hits rest is count few enough room =
+    let same : length hits ≡ k = omega arith in
     sym (take-append_seam hits rest) ∙ ap (λ k. take k (hits ++ rest)) same
 
 -- all there are, and no more than are wanted
-pub whole : (most : Option ℕ) (hits : List PlainHit) → MatchOption most ⊤ (λ m. length hits ≤ m) → hits ≡ cut most 0 hits
-whole None hits room = refl
-whole (Some m) hits room = sym (take_all m hits room)
+pub whole : (most : Option ℕ) (m : ℕ) (hits : List PlainHit) → m ≡ unwrap_or most 18446744073709551615 → length hits ≤ m → hits ≡ cut most 0 hits
+whole None m hits is room = refl
+whole (Some k) m hits is room = sym (take_all k hits (omega arith))
 
 -- no hit is left
 pub ended : (wanted : Bool) (old new : Walk) (hit : Option Hit) (documents : List Document) → hit ≡ None → Tells wanted old new hit documents → map (told wanted) (hits_of (tree_of old.query) documents) ≡ []

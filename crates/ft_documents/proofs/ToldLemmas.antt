@@ -1,24 +1,33 @@
 -- A table in its place among those that are told.
-use Rattle.std.proofs.Common.{◌≡◌, ◌++◌, ◌<◌, ◌≤◌, ◌+◌, ℕ, zero, suc, List, [], ◌∷◌, map, take, drop, get_or, length, cond, true, refl, sym, ap, ◌∙◌, arith}
+use Rattle.std.proofs.Common.{◌≡◌, ◌++◌, ◌≤◌, ◌+◌, ℕ, zero, suc, List, [], ◌∷◌, map, take, drop, length, cond, true, false, not, ltb, unwrap_or, Some, None, ℤ, refl, sym, ap, ◌∙◌, arith}
+use Rattle.std.specs.Prelude.{int_lt}
 use Rattle.std.specs.Ordering.{int_cmp, is_lt}
-use Rattle.std.specs.List.{insert, remove}
-use Rattle.std.proofs.lemmas.List.{drop_more, map-append, take-map, drop-map}
+use Rattle.std.specs.declared.cmp.Ordering.TheVariants.{Less, Equal, Greater}
+use Rattle.std.specs.List.{insert, remove, position_or_len}
+use Rattle.std.proofs.lemmas.Bool.Decides.{nat_tests}
+use Rattle.std.proofs.lemmas.List.{map-append, take-map, drop-map}
 use Rattle.ft_values.specs.declared.table.TableInfo.{TableInfo as RustTableInfo}
 use Rattle.ft_content.specs.Views.{TableInfo, shown_info}
 use Rattle.ft_documents.specs.Found.{with_told}
 
--- among tables, so many of which have been passed
-abbrev pub IsBehind : TableInfo → List RustTableInfo → ℕ → Type 0
-IsBehind table ts n = with_told table (map shown_info ts) ≡ map shown_info (take n ts) ++ with_told table (map shown_info (drop n ts))
+pub less_is : (a b : ℤ) → is_lt (int_cmp a b) ≡ int_lt a b
+less_is a b = elim (int_lt a b) as (λ l. is_lt (cond l Less (cond (int_lt b a) Greater Equal)) ≡ l) [ true ↦ refl | false ↦ elim (int_lt b a) as (λ g. is_lt (cond g Greater Equal) ≡ false) [ true ↦ refl | false ↦ refl ] ]
 
-pub stands_here : (table : TableInfo) (ts : List RustTableInfo) (n : ℕ) (t : RustTableInfo) → n < length ts → t ≡ get_or ts n t → is_lt (int_cmp table.id t.id) ≡ true → IsBehind table ts n → with_told table (map shown_info ts) ≡ insert (map shown_info ts) n table
-stands_here table ts n t inside is less so_far =
-    let front : drop n ts ≡ t ∷ drop (n + 1) ts = drop_more ts n t inside ∙ ap (λ x. x ∷ drop (n + 1) ts) (sym is) in
-    so_far
-    ∙ ap (λ l. l ++ with_told table (map shown_info (drop n ts))) (sym (take-map shown_info n ts))
-    ∙ ap (λ l. take n (map shown_info ts) ++ with_told table (map shown_info l)) front
-    ∙ ap (λ b. take n (map shown_info ts) ++ cond b (table ∷ shown_info t ∷ map shown_info (drop (n + 1) ts)) (shown_info t ∷ with_told table (map shown_info (drop (n + 1) ts)))) less
-    ∙ ap (λ l. take n (map shown_info ts) ++ table ∷ l) (sym (ap (map shown_info) front) ∙ sym (drop-map shown_info n ts))
+-- before how many tables of a greater id it stands
+pub told_there : (table : TableInfo) (ts : List RustTableInfo) → with_told table (map shown_info ts) ≡ insert (map shown_info ts) (position_or_len (λ (t : RustTableInfo). int_lt table.id t.id) ts) table
+told_there table [] = refl
+told_there table (t ∷ ts) =
+    let n = position_or_len (λ (t : RustTableInfo). int_lt table.id t.id) ts in
+    let more : suc n ≡ 1 + n = omega arith in
+    ap (λ b. cond b (table ∷ shown_info t ∷ map shown_info ts) (shown_info t ∷ with_told table (map shown_info ts))) (less_is table.id t.id)
+    ∙ elim (int_lt table.id t.id) as (λ b. cond b (table ∷ shown_info t ∷ map shown_info ts) (shown_info t ∷ with_told table (map shown_info ts)) ≡ insert (shown_info t ∷ map shown_info ts) (cond (not b) (1 + n) 0) table) [
+      | true ↦ refl
+      | false ↦ ap (λ l. shown_info t ∷ l) (told_there table ts) ∙ ap (λ k. insert (shown_info t ∷ map shown_info ts) k table) more
+    ]
+
+-- what `position` answers, or the end
+pub place_or_end : (n long : ℕ) → n ≤ long → unwrap_or (cond (ltb n long) (Some n) None) long ≡ n
+place_or_end n long within = grind (arith, nat_tests)
 
 pub info_insert : (ts : List RustTableInfo) (n : ℕ) (t : RustTableInfo) → map shown_info (insert ts n t) ≡ insert (map shown_info ts) n (shown_info t)
 info_insert ts n t = map-append shown_info (take n ts) (t ∷ drop n ts) ∙ (λ i. back_take i ++ shown_info t ∷ back_drop i)

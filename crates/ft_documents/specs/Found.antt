@@ -1,12 +1,11 @@
 -- Meaning. The table of a name among those that are told.
-use Rattle.std.specs.Prelude.{◌≡◌, ◌≤◌, ◌⊎◌, ℕ, ℤ, true, not, if◌then◌else◌, filter, length, map, List, [], ◌∷◌, Option, Some, None, IsTrue, false}
-use Rattle.std.specs.List.{find, insert}
+use Rattle.std.specs.Prelude.{◌≡◌, ◌⊎◌, ℕ, ℤ, true, not, if◌then◌else◌, filter, map, List, [], ◌∷◌, Option, Some, None, IsTrue, false}
+use Rattle.std.specs.List.{find}
 use Rattle.std.specs.Ordering.{int_cmp, int_eq, is_lt}
-use Rattle.ft_values.specs.declared.table.TableInfo.{TableInfo as Known}
 use Rattle.ft_values.specs.declared.fault.Fault.{Fault}
 use Rattle.ft_values.specs.declared.fault.Fault.TheVariants as faults
 use Rattle.ft_content.specs.Content.{same_name}
-use Rattle.ft_content.specs.Views.{TableInfo, shown_info}
+use Rattle.ft_content.specs.Views.{TableInfo}
 
 abbrev pub info_named : List TableInfo → List ℕ → Option TableInfo
 info_named tables name = find (λ (t : TableInfo). same_name t.name name) tables
@@ -25,11 +24,6 @@ IsUnfit tables name fault =
 abbrev pub with_told : TableInfo → List TableInfo → List TableInfo
 with_told table [] = table ∷ []
 with_told table (t ∷ ts) = if is_lt (int_cmp table.id t.id) then (table ∷ t ∷ ts) else (t ∷ with_told table ts)
-
--- so many tables stand before one of this id
-pub record IsPlaceFor (id : ℤ) (tables : List Known) (n : ℕ) : Type 0 where
-  pub within : n ≤ length tables
-  pub place : (table : TableInfo) → table.id ≡ id → with_told table (map shown_info tables) ≡ insert (map shown_info tables) n table
 
 -- the tables without the one of an id
 abbrev pub without_told : ℤ → List TableInfo → List TableInfo

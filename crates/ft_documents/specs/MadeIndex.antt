@@ -4,12 +4,11 @@ use Rattle.std.specs.Prelude.{◌≡◌, ◌<◌, ◌^◌, ℕ, ℤ, List, [], �
 use Rattle.ft_values.specs.Cells.{Cell}
 use Rattle.ft_query.specs.declared.text.Token.{Token}
 use Rattle.ft_query.specs.Tokens.{PlainToken, tokens_of}
-use Rattle.ft_rows.specs.Store.{column_key_cmp, Change}
+use Rattle.ft_rows.specs.Store.{column_key_cmp}
 use Rattle.ft_content.specs.Content.{Column, Documents, cell_text}
 use Rattle.ft_content.specs.Index.{Key, StoredSpot, stored_spot}
 use Rattle.ft_documents.specs.declared.document_index.DocumentIndex.{DocumentIndex}
-use Rattle.ft_documents.specs.Rewrite.{Rewrite, afters}
-use Rattle.ft_documents.specs.RewriteRows.{rewrite_changes, lists_in, sizes_in, lists_with, sizes_with, lists_of, sizes_of, with_entries}
+use Rattle.ft_documents.specs.RewriteRows.{lists_in, sizes_in, lists_with, sizes_with, lists_of, sizes_of, with_entries}
 use Rattle.ft_documents.specs.RewriteRows.{cell_entries, cell_sizes, sized, all_put, IsShortNumber, AreShortNumbers}
 
 -- an index has these lists and these sizes
@@ -32,11 +31,6 @@ pub record IsIndexOf (columns : List Column) (documents : Documents) (index : Do
   pub lists : lists_in index ≡ lists_of columns documents
   pub sizes : sizes_in index ≡ sizes_of columns documents
   pub numbers : HaveShortNumbers columns documents
-
--- Row changes are those of rewrites, and the numbers of the documents that they make are short.
-pub record Plans (tab : ℤ) (columns : List Column) (rewrites : List Rewrite) (changes : List Change) : Type 0 where
-  pub plan : changes ≡ rewrite_changes tab columns rewrites
-  pub numbers : HaveShortNumbers columns (afters rewrites)
 
 -- the tokens of an indexed cell join an index, with the cell's size
 pub record AddsCell (docid : ℤ) (place : ℕ) (cell : Cell) (old new : DocumentIndex) : Type 0 where

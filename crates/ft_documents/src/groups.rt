@@ -20,7 +20,8 @@ pub fn in_groups(alloc: Global, rewrites: Vec<Rewrite>) -> Result<Vec<Vec<Rewrit
     let mut group = Vec::new(alloc);
     let mut bytes: usize = 0;
     for rewrite in rewrites {
-        bytes = bytes.saturating_add(text_bytes(&rewrite));
+        bytes = bytes.saturating_add(text_bytes(&rewrite.before));
+        bytes = bytes.saturating_add(text_bytes(&rewrite.after));
         group.push(rewrite)?;
         if bytes >= GROUP_BYTES {
             groups.push(group)?;
@@ -32,18 +33,10 @@ pub fn in_groups(alloc: Global, rewrites: Vec<Rewrite>) -> Result<Vec<Vec<Rewrit
     Ok(groups)
 }
 
-// How many bytes of text a document has, before and after.
-fn text_bytes(rewrite: &Rewrite) -> usize {
-    cell_bytes(&rewrite.before).saturating_add(cell_bytes(&rewrite.after))
-}
-
-// How many bytes of text cells have.
-fn cell_bytes(cells: &Option<Vec<Value>>) -> usize {
-    let Some(cells) = cells else {
-        return 0;
-    };
+// How many bytes of text a document has, none where there is none.
+fn text_bytes(cells: &Option<Vec<Value>>) -> usize {
     let mut bytes: usize = 0;
-    for cell in cells {
+    for cell in cells.as_deref().unwrap_or(&[]) {
         if let Value::Text(text) = cell {
             bytes = bytes.saturating_add(text.len());
         }

@@ -1,8 +1,7 @@
 //! Index rows, as lists of places by document.
-ghost use Rattle.std.specs.Prelude.{◌≡◌, ◌++◌, map, nat_abs, IfOk, OnOk, IsPermutation, IsSorted};
-ghost use Rattle.std.specs.List.{list_all};
+ghost use Rattle.std.specs.Prelude.{◌≡◌, map, nat_abs, IfOk, OnOk, IsPermutation, IsSorted};
 ghost use Rattle.ft_query.specs.Documents.{plain_list};
-ghost use Rattle.ft_documents.specs.Placed.{place_of, list_of, placed_in, all_in, place_in, placed_cmp, run_with, list_with, by_docid, is_before, places_rise, is_in_order, docids_rise, are_in_order, AreListsOf};
+ghost use Rattle.ft_documents.specs.Placed.{place_of, list_of, placed_in, all_in, place_in, placed_cmp, by_docid, is_before, is_in_order, are_in_order, AreListsOf};
 
 use ft_query::{DocList, Place};
 use ft_values::{ListRow, Spot};
@@ -67,58 +66,20 @@ fn is_before(one: &Spot, other: &Spot) -> bool
     column < other_column || (column == other_column && number(one.pos) < number(other.pos))
 }
 
-/// Whether places stand in order.
-fn places_rise(spots: &[Spot]) -> bool
-    ensures { result ≡ places_rise spots.now }
-{
-    spots.is_sorted_by(|one, other| is_before(one, other))
-}
-
 /// Whether a row has places, in order.
 fn is_in_order(row: &ListRow) -> bool
     ensures { result ≡ is_in_order row.now }
 {
-    !row.spots.is_empty() && places_rise(row.spots.as_slice())
-}
-
-/// Whether each row has places, in order.
-fn are_each_in_order(rows: &[ListRow]) -> bool
-    ensures { result ≡ list_all is_in_order rows.now }
-{
-    rows.iter().all(|row| is_in_order(row))
-}
-
-/// Whether rows stand by rising docid.
-fn docids_rise(rows: &[ListRow]) -> bool
-    ensures { result ≡ docids_rise rows.now }
-{
-    rows.is_sorted_by(|one, other| one.docid < other.docid)
+    let spots = row.spots.as_slice();
+    !spots.is_empty() && spots.is_sorted_by(|one, other| is_before(one, other))
 }
 
 /// Whether rows stand by rising docid, each with places in order.
 fn are_in_order(rows: &[ListRow]) -> bool
     ensures { result ≡ are_in_order rows.now }
 {
-    docids_rise(rows) && are_each_in_order(rows)
-}
-
-/// The places of a row.
-fn row_places(alloc: Global, spots: &[Spot]) -> Result<Vec<Place>, AllocError>
-    ensures { IfOk result (λ places. places.items ≡ map place_of spots.now) }
-{
-    let mut places = Vec::with_capacity(alloc, spots.len())?;
-    for spot in spots {
-        places.push(place_of(spot))?;
-    }
-    Ok(places)
-}
-
-/// The list of a row.
-fn row_list(alloc: Global, row: ListRow) -> Result<DocList, AllocError>
-    ensures { IfOk result (λ list. plain_list list ≡ list_of row) }
-{
-    let places = row_places(alloc, row.spots.as_slice())?;
-    Ok(DocList::new(row.docid, places))
+    rows.is_sorted_by(|one, other| one.docid < other.docid)
+        && rows.iter().all(|row| is_in_order(row))
 }
 
 /// The lists of rows. Each row goes as its list is made, so that the next list finds its room free.
@@ -127,23 +88,13 @@ fn row_lists(alloc: Global, rows: Vec<ListRow>) -> Result<Vec<DocList>, AllocErr
 {
     let mut lists = Vec::with_capacity(alloc, rows.len())?;
     for row in rows {
-        lists.push(row_list(alloc, row)?)?;
+        let places = row.spots.iter().map(|spot| place_of(spot)).collect(alloc)?;
+        lists.push(DocList::new(row.docid, places))?;
     }
     Ok(lists)
 }
 
 // ---- rows of several terms, by document
-
-/// Adds the places of a row.
-fn push_places(places: &mut Vec<Placed>, row: &ListRow) -> Result<(), AllocError>
-    ensures { OnOk result (places.new.items ≡ places.old.items ++ map (placed_in row.now.docid)
-        (list_of row.now).places) }
-{
-    for spot in &row.spots {
-        places.push(Placed::new(row.docid, spot))?;
-    }
-    Ok(())
-}
 
 /// The places of rows, one after another.
 fn places_of(alloc: Global, rows: &[ListRow]) -> Result<Vec<Placed>, AllocError>
@@ -151,7 +102,8 @@ fn places_of(alloc: Global, rows: &[ListRow]) -> Result<Vec<Placed>, AllocError>
 {
     let mut places = Vec::new(alloc);
     for row in rows {
-        push_places(&mut places, row)?;
+        let docid = row.docid;
+        places.extend(row.spots.iter().map(|spot| Placed::new(docid, spot)))?;
     }
     Ok(places)
 }
@@ -168,29 +120,6 @@ fn put_in_order(places: &mut Vec<Placed>) -> Result<(), AllocError>
     Ok(())
 }
 
-/// How many of the first places are in the document of this one.
-fn count_with(first: &Placed, places: &[Placed]) -> usize
-    ensures { result ≡ run_with first.now places.now }
-{
-    let docid = first.docid;
-    places.iter().take_while(|p| p.docid == docid).count()
-}
-
-/// The places without their docids.
-fn bare(alloc: Global, places: &[Placed]) -> Result<Vec<Place>, AllocError>
-    ensures { IfOk result (λ bare. bare.items ≡ map place_in places.now) }
-{
-    places.iter().map(|p| p.place()).collect(alloc)
-}
-
-/// The list of a document's places, of which this one is the first.
-fn doc_list(alloc: Global, first: &Placed, places: &[Placed]) -> Result<DocList, AllocError>
-    ensures { IfOk result (λ list. plain_list list ≡ list_with first.now places.now) }
-{
-    let places = bare(alloc, places)?;
-    Ok(DocList::new(first.docid, places))
-}
-
 /// A list for each document, of places in order.
 fn grouped(alloc: Global, places: &[Placed]) -> Result<Vec<DocList>, AllocError>
     ensures { IfOk result (λ lists. map plain_list lists.items ≡ by_docid places.now) }
@@ -198,8 +127,11 @@ fn grouped(alloc: Global, places: &[Placed]) -> Result<Vec<DocList>, AllocError>
     let mut lists = Vec::new(alloc);
     let mut rest = places;
     while let Some(first) = rest.first() {
-        let (own, others) = rest.split_at(count_with(first, rest));
-        lists.push(doc_list(alloc, first, own)?)?;
+        let docid = first.docid;
+        let count = rest.iter().take_while(|p| p.docid == docid).count();
+        let (own, others) = rest.split_at(count);
+        let bare = own.iter().map(|p| p.place()).collect(alloc)?;
+        lists.push(DocList::new(docid, bare))?;
         rest = others;
     }
     Ok(lists)

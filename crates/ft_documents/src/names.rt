@@ -13,10 +13,8 @@ pub fn named_table<'a>(tables: &'a [TableInfo], name: &str) -> Result<&'a TableI
         ≡ Some (shown_info table.now)) (λ fault. (fault ≡ faults.NoSuchTable)
         × (info_named (map shown_info tables.now) name.now ≡ None)) }
 {
-    match table_place(tables, name) {
-        Some(place) => Ok(&tables[place]),
-        None => Err(Fault::NoSuchTable),
-    }
+    let place = table_place(tables, name).ok_or(Fault::NoSuchTable)?;
+    Ok(&tables[place])
 }
 
 /// The table of this name, which has to be sound.

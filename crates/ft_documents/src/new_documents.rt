@@ -1,5 +1,5 @@
 //! The documents that rows of an Insert make.
-ghost use Rattle.std.specs.Prelude.{◌≡◌, false, map, zip, slice_get, unwrap_or, IsTrue};
+ghost use Rattle.std.specs.Prelude.{◌≡◌, map, zip, IsTrue};
 ghost use Rattle.std.specs.Ordering.{int_cmp};
 ghost use Rattle.std.specs.FinMap.Entries.{is_sorted};
 ghost use Rattle.ft_content.specs.Content.{Documents};
@@ -22,13 +22,11 @@ pub struct NewDocuments {
 }
 
 impl NewDocuments {
-    ghost use Rattle.std.specs.Prelude.{None, map, zip, slice_get, is_some, IfSome, IfOk};
-    ghost use Rattle.std.specs.Ordering.{int_cmp};
-    ghost use Rattle.std.specs.FinMap.Entries.{find};
+    ghost use Rattle.std.specs.Prelude.{map, zip, slice_get, IfSome, IfOk};
     ghost use Rattle.ft_values.specs.Cells.{shown_value};
     ghost use Rattle.ft_content.specs.Content.{Documents};
     ghost use Rattle.ft_content.specs.Deserved as deserved;
-    ghost use Rattle.ft_content.specs.Views.{cells_of, column_of};
+    ghost use Rattle.ft_content.specs.Views.{column_of};
     ghost use Rattle.ft_documents.specs.NewDocuments.{documents_in, with_new, new_rewrite, AreBeside, Places, BeginsAfter};
     ghost use Rattle.ft_documents.specs.Rewrite.{shown_rewrite};
 
@@ -62,30 +60,9 @@ impl NewDocuments {
             (map column_of columns.now))) self.new result }
     {
         let given = row_docid(names, row);
-        let is_taken = is_stored || self.has(given);
+        let is_taken = is_stored || given.is_some_and(|docid| self.documents.contains_key(&docid));
         let docid = docid_for_row(self.last, given, is_taken)?;
         let cells = new_cells(self.alloc, columns, names, row)?;
-        self.put(docid, cells)
-    }
-
-    // Whether a new document has the docid that is given.
-    fn has(&self, given: Option<i64>) -> bool
-        ensures { IfSome given (λ docid. result
-            ≡ is_some (find int_cmp docid (documents_in self.now))) }
-    {
-        match given {
-            Some(docid) => self.documents.contains_key(&docid),
-            None => false,
-        }
-    }
-
-    // Puts a document under a docid that none has.
-    fn put(&mut self, docid: i64, cells: Vec<Value>) -> Result<(), Fault>
-        ensures { (documents : Documents) → AreBeside documents self.old
-            → find int_cmp docid (with_new self.old documents) ≡ None
-            → Places documents (deserved.place_document (with_new self.old documents) docid
-            (cells_of cells)) self.new result }
-    {
         self.documents.insert(docid, cells)?;
         self.last = Some(last_docid_after(self.last, docid));
         Ok(())
@@ -96,15 +73,10 @@ impl NewDocuments {
         ensures { IfOk result (λ rewrites. map shown_rewrite rewrites.items
             ≡ map new_rewrite (documents_in self)) }
     {
-        let mut rewrites = Vec::new(self.alloc);
-        for (docid, cells) in self.documents {
-            rewrites.push(Rewrite {
-                docid,
-                before: None,
-                after: Some(cells),
-            })?;
-        }
-        Ok(rewrites)
+        self.documents
+            .into_iter()
+            .map(|(docid, cells)| Rewrite::new(docid, None, Some(cells)))
+            .collect(self.alloc)
     }
 }
 
@@ -128,16 +100,8 @@ pub fn made_documents(
 {
     let mut new = NewDocuments::new(alloc, last);
     for (place, row) in rows.iter().enumerate() {
-        new.add(columns, names, row.as_slice(), is_stored(stored, place))?;
+        let is_stored = stored.get(place).copied().unwrap_or(false);
+        new.add(columns, names, row.as_slice(), is_stored)?;
     }
     Ok(new)
-}
-
-fn is_stored(stored: &[bool], place: usize) -> bool
-    ensures { result ≡ unwrap_or (slice_get stored.now place) false }
-{
-    match stored.get(place) {
-        Some(is_stored) => *is_stored,
-        None => false,
-    }
 }

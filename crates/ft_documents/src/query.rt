@@ -1,5 +1,5 @@
 //! The query of a filter.
-ghost use Rattle.std.specs.Prelude.{◌≡◌, ◌≢◌, map, option_map, None, Some, IfOk, IfErr, OnOk};
+ghost use Rattle.std.specs.Prelude.{◌≡◌, ◌≢◌, option_map, None, Some, IfOk, IfErr, OnOk};
 ghost use Rattle.ft_query.specs.Trees.{tree_of};
 ghost use Rattle.ft_values.specs.declared.fault.Fault.TheVariants as faults;
 ghost use Rattle.ft_content.specs.Deserved.{query_fault};

@@ -1,13 +1,12 @@
 //! Documents that are written anew, as row changes.
-ghost use Rattle.std.specs.Prelude.{◌≡◌, ◌++◌, ◌≤◌, [], map, option_map, unwrap_or, length, pos, All, IsTrue, IfOk, OnOk};
+ghost use Rattle.std.specs.Prelude.{◌≡◌, ◌++◌, ◌≤◌, map, length, All, IsTrue, IfOk, OnOk};
 ghost use Rattle.std.specs.Ordering.{int_cmp};
-ghost use Rattle.std.specs.FinMap.Entries.{find, is_sorted};
+ghost use Rattle.std.specs.FinMap.Entries.{is_sorted};
 ghost use Rattle.ft_values.specs.Cells.{shown_value};
 ghost use Rattle.ft_rows.specs.Changes.{shown_change, CanApply};
-ghost use Rattle.ft_content.specs.Views.{cells_of, column_of};
+ghost use Rattle.ft_content.specs.Views.{column_of};
 ghost use Rattle.ft_documents.specs.Tables.{IsOfDocids};
-ghost use Rattle.ft_documents.specs.MadeIndex.{IsIndexOf, Plans};
-ghost use Rattle.ft_documents.specs.Rewrite.{shown_rewrite, docids_of, befores, afters, by_docid, AreRight, AreNew, FitIfAny};
+ghost use Rattle.ft_documents.specs.Rewrite.{shown_rewrite, docids_of, by_docid, AreRight, AreNew, FitIfAny};
 ghost use Rattle.ft_documents.specs.RewriteRows as rows;
 
 use crate::document_index::DocumentIndex;
@@ -26,14 +25,15 @@ pub struct Rewrite {
 
 impl Rewrite {
     ghost use Rattle.std.specs.Prelude.{◌≡◌};
-    ghost use Rattle.ft_documents.specs.Rewrite.{shown_rewrite};
-    ghost use Rattle.ft_documents.specs.RewriteRows as rows;
 
-    // Whether the document was there and does not stay.
-    fn goes(&self) -> bool
-        ensures { result ≡ rows.goes (shown_rewrite self.now) }
+    pub(crate) fn new(docid: i64, old: Option<Vec<Value>>, new: Option<Vec<Value>>) -> Rewrite
+        ensures { result ≡ record { docid = docid; before = old; after = new } }
     {
-        self.before.is_some() && self.after.is_none()
+        Rewrite {
+            docid,
+            before: old,
+            after: new,
+        }
     }
 }
 
@@ -58,49 +58,22 @@ pub fn row_changes(
         (IsOfDocids tab (docids_of (map shown_rewrite rewrites.items)))
         (map shown_change changes.items)) }
 {
-    let changes = planned_changes(alloc, tab, columns, rewrites)?;
-    Ok(changes)
-}
-
-// The row changes, kind by kind.
-fn planned_changes(
-    alloc: Global,
-    tab: i64,
-    columns: &[Column],
-    rewrites: Vec<Rewrite>,
-) -> Result<Vec<RowChange>, AllocError>
-    ensures { IfOk result (λ changes. Plans tab (map column_of columns.now)
-        (map shown_rewrite rewrites.items) (map shown_change changes.items)) }
-{
-    let (old, new) = indexes(alloc, columns, rewrites.as_slice())?;
     let mut changes = Vec::new(alloc);
-    drop_documents(&mut changes, tab, rewrites.as_slice())?;
-    put_documents(alloc, &mut changes, tab, rewrites)?;
-    old.drop_lists(&mut changes, tab, &new)?;
-    let (lists, sizes) = new.into_parts();
-    old.put_lists(&mut changes, tab, lists)?;
-    old.drop_sizes(&mut changes, tab, &sizes)?;
-    old.put_sizes(&mut changes, tab, &sizes)?;
-    Ok(changes)
-}
-
-// Drops the cells of documents that go.
-fn drop_documents(
-    changes: &mut Vec<RowChange>,
-    tab: i64,
-    rewrites: &[Rewrite],
-) -> Result<(), AllocError>
-    ensures { OnOk result (map shown_change changes.new.items
-        ≡ map shown_change changes.old.items ++ rows.dropped_documents tab
-        (map shown_rewrite rewrites.now)) }
-{
-    for rewrite in rewrites {
-        let docid = rewrite.docid;
-        if rewrite.goes() {
-            changes.push(RowChange::DropCells(tab, docid))?;
+    let mut old = DocumentIndex::new(alloc);
+    let mut new = DocumentIndex::new(alloc);
+    for rewrite in rewrites.as_slice() {
+        old.add(columns, rewrite.docid, &rewrite.before)?;
+        new.add(columns, rewrite.docid, &rewrite.after)?;
+        if rewrite.before.is_some() && rewrite.after.is_none() {
+            changes.push(RowChange::DropCells(tab, rewrite.docid))?;
         }
     }
-    Ok(())
+    put_documents(alloc, &mut changes, tab, rewrites)?;
+    old.drop_lists(&mut changes, tab, &new)?;
+    old.put_lists(&mut changes, tab, new.lists)?;
+    old.drop_sizes(&mut changes, tab, &new.sizes)?;
+    old.put_sizes(&mut changes, tab, &new.sizes)?;
+    Ok(changes)
 }
 
 // Puts the cells that are new or differ. They are moved into the changes.
@@ -115,10 +88,9 @@ fn put_documents(
         (map shown_rewrite rewrites.items)) }
 {
     for rewrite in rewrites {
-        let docid = rewrite.docid;
         let before = rewrite.before.unwrap_or(Vec::new(alloc));
         let after = rewrite.after.unwrap_or(Vec::new(alloc));
-        put_cells(changes, tab, docid, before.as_slice(), after)?;
+        put_cells(changes, tab, rewrite.docid, before.as_slice(), after)?;
     }
     Ok(())
 }
@@ -141,24 +113,4 @@ fn put_cells(
         }
     }
     Ok(())
-}
-
-// The index of the documents as they were, and as they are to be.
-fn indexes(
-    alloc: Global,
-    columns: &[Column],
-    rewrites: &[Rewrite],
-) -> Result<(DocumentIndex, DocumentIndex), AllocError>
-    ensures { IfOk result (λ made.
-        IsIndexOf (map column_of columns.now) (befores (map shown_rewrite rewrites.now)) made.0
-        × IsIndexOf (map column_of columns.now) (afters (map shown_rewrite rewrites.now)) made.1) }
-{
-    let mut old = DocumentIndex::new(alloc);
-    let mut new = DocumentIndex::new(alloc);
-    for rewrite in rewrites {
-        let docid = rewrite.docid;
-        old.add_if_any(columns, docid, &rewrite.before)?;
-        new.add_if_any(columns, docid, &rewrite.after)?;
-    }
-    Ok((old, new))
 }

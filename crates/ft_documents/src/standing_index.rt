@@ -1,14 +1,10 @@
 //! The index rows of a table, made from scratch out of its cells.
-ghost use Rattle.std.specs.Prelude.{◌≡◌, ◌<◌, false, map, drop, length, IsTrue, IfOk, MatchOption};
-ghost use Rattle.std.specs.Ordering.{int_cmp};
-ghost use Rattle.std.specs.FinMap.Entries.{is_sorted};
-ghost use Rattle.ft_content.specs.Content.{Content, Documents};
+ghost use Rattle.std.specs.Prelude.{◌≡◌, ◌<◌, map, drop, length, IfOk};
+ghost use Rattle.ft_content.specs.Content.{Content};
 ghost use Rattle.ft_content.specs.Views.{column_of};
 ghost use Rattle.ft_documents.specs.MadeIndex.{FitsSize};
-ghost use Rattle.ft_documents.specs.RewriteRows as rows;
 ghost use Rattle.ft_documents.specs.Standing as standing;
-ghost use Rattle.ft_documents.specs.Joins.{PassesSize, JoinsDocument, cell_size};
-ghost use Rattle.ft_documents.specs.Terms.{lists_in_terms};
+ghost use Rattle.ft_documents.specs.Joins.{JoinsDocument, cell_size};
 
 use crate::term_index::TermIndex;
 use ft_content::Column;
@@ -25,22 +21,6 @@ fn is_size(sizes: &[SizeRow], count: usize, docid: i64, place: usize, n: usize) 
     match sizes.get(count) {
         Some(size) => { docid == size.docid && place as i64 == size.column && n as i64 == size.n }
         None => false,
-    }
-}
-
-// How many of these sizes came, where that of a cell is next, if the cell has tokens; none where
-// another is.
-fn past_size(sizes: &[SizeRow], count: usize, docid: i64, place: usize, n: usize) -> Option<usize>
-    requires { FitsSize place n }
-    ensures { PassesSize sizes.now count docid place n result }
-{
-    if n == 0 {
-        return Some(count);
-    }
-    if is_size(sizes, count, docid, place, n) {
-        Some(count + 1)
-    } else {
-        None
     }
 }
 
@@ -61,52 +41,15 @@ fn add_document(
         let value = &cells[place].value;
         if columns[place].indexed {
             let n = lists.add_cell(docid, place, value)?;
-            let Some(next) = past_size(sizes, count, docid, place, n) else {
-                return Ok(None);
-            };
-            count = next;
+            if n > 0 {
+                if !is_size(sizes, count, docid, place, n) {
+                    return Ok(None);
+                }
+                count += 1;
+            }
         }
     }
     Ok(Some(count))
-}
-
-// The postings of the documents that have these cells, by their terms, where these are their sizes.
-fn lists_of_documents(
-    alloc: Global,
-    columns: &[Column],
-    cells: &[CellRow],
-    sizes: &[SizeRow],
-) -> Result<Option<TermIndex>, AllocError>
-    requires { 0 < length columns.now }
-    ensures { (documents : Documents)
-        → standing.HaveCells (length columns.now) (map standing.shown_row cells.now) documents
-        → IsTrue (is_sorted int_cmp documents)
-        → IfOk result (λ o. MatchOption o (standing.are_sizes_of (map column_of columns.now)
-        documents (map standing.shown_size sizes.now) ≡ false)
-        (λ index. IsTrue (standing.are_sizes_of (map column_of columns.now) documents
-        (map standing.shown_size sizes.now))
-        × (lists_in_terms index ≡ rows.lists_of (map column_of columns.now) documents))) }
-{
-    let mut cells = cells;
-    let mut sizes = sizes;
-    let mut lists = TermIndex::new(alloc);
-    while let Some(first) = cells.first() {
-        if cells.len() < columns.len() {
-            return Ok(None);
-        }
-        let docid = first.docid;
-        let (own, others) = cells.split_at(columns.len());
-        let Some(count) = add_document(&mut lists, columns, docid, own, sizes)? else {
-            return Ok(None);
-        };
-        sizes = sizes.split_at(count).1;
-        cells = others;
-    }
-    if sizes.is_empty() {
-        Ok(Some(lists))
-    } else {
-        Ok(None)
-    }
 }
 
 /// The postings of a content that has these cells, made from scratch, by their terms; none where
@@ -123,8 +66,23 @@ pub fn index_lists(
         content
         → IfOk result (standing.AreTheirs content (map standing.shown_size sizes.now)) }
 {
-    match lists_of_documents(alloc, columns, cells, sizes)? {
-        Some(lists) => Ok(Some(lists.into_lists()?)),
-        None => Ok(None),
+    let mut cells = cells;
+    let mut sizes = sizes;
+    let mut lists = TermIndex::new(alloc);
+    while let Some(first) = cells.first() {
+        if cells.len() < columns.len() {
+            return Ok(None);
+        }
+        let docid = first.docid;
+        let (own, others) = cells.split_at(columns.len());
+        let Some(count) = add_document(&mut lists, columns, docid, own, sizes)? else {
+            return Ok(None);
+        };
+        sizes = sizes.split_at(count).1;
+        cells = others;
     }
+    if !sizes.is_empty() {
+        return Ok(None);
+    }
+    Ok(Some(lists.into_lists()?))
 }

@@ -1,23 +1,13 @@
 //! Whether the rows of a table are a content.
-ghost use Rattle.std.specs.Prelude.{◌≡◌, ◌<◌, ◌≤◌, ◌↔◌, [], not, map, string_bytes, IsTrue, IfOk};
-ghost use Rattle.std.specs.List.{list_any};
-ghost use Rattle.std.specs.Ordering.{int_eq};
-ghost use Rattle.ft_values.specs.Cells.{shown_value};
+ghost use Rattle.std.specs.Prelude.{◌≡◌, ◌<◌, ◌≤◌, ◌↔◌, [], map, string_bytes, IsTrue, IfOk};
 ghost use Rattle.ft_content.specs.Content as content;
 ghost use Rattle.ft_content.specs.Views.{column_of};
 ghost use Rattle.ft_documents.specs.Standing as standing;
 
 use crate::columns::{column_names, skipped};
-use ft_content::{Column, Value, are_names, has_nul, is_too_long, names_clash};
+use ft_content::{Column, are_names, has_nul, is_too_long, names_clash};
 use ft_values::{CellRow, TabRow};
 use std::alloc::{AllocError, Global};
-
-// Whether a cell may hold this.
-fn is_cell(value: &Value) -> bool
-    ensures { result ≡ content.is_cell (shown_value value.now) }
-{
-    !is_too_long(value) && !has_nul(value)
-}
 
 // Whether a cell of this docid may be the one at this place of a document, after a cell of the
 // docid `last`.
@@ -35,7 +25,10 @@ fn follows(place: usize, last: Option<i64>, cell: &CellRow) -> bool
     requires { place < 100 }
     ensures { result ≡ standing.follows place last (standing.shown_row cell.now) }
 {
-    cell.column == place as i64 && is_cell(&cell.value) && stands_after(place, last, cell.docid)
+    cell.column == place as i64
+        && !is_too_long(&cell.value)
+        && !has_nul(&cell.value)
+        && stands_after(place, last, cell.docid)
 }
 
 /// Whether cells are those of documents with so many columns, by rising docid.
@@ -62,18 +55,11 @@ pub fn listed_columns(alloc: Global, table: &TabRow) -> Result<Vec<Column>, Allo
 {
     let mut columns = Vec::new(alloc);
     for column in table.columns.as_slice() {
-        let indexed = is_indexed(table.skipped.as_slice(), column.0);
+        let indexed = !table.skipped.contains(&column.0);
         let name = column.1.clone()?;
         columns.push(Column { name, indexed })?;
     }
     Ok(columns)
-}
-
-// Whether a number is none of those of the columns that aren't indexed.
-fn is_indexed(skipped: &[i64], number: i64) -> bool
-    ensures { result ≡ not (list_any (int_eq number) skipped.now) }
-{
-    !skipped.contains(&number)
 }
 
 // Whether columns are numbered from 0 on.
@@ -99,15 +85,6 @@ fn are_columns(alloc: Global, table: &str, columns: &[Column]) -> Result<bool, A
     Ok(are_names(names.as_slice()) && !names_clash(alloc, table, names.as_slice()))
 }
 
-// Whether these are the numbers of the columns that aren't indexed.
-fn are_skipped(alloc: Global, columns: &[Column], numbers: &[i64]) -> Result<bool, AllocError>
-    ensures { IfOk result (λ b. IsTrue b ↔ (numbers.now
-        ≡ content.skipped_from 0 (map column_of columns.now))) }
-{
-    let skipped = skipped(alloc, columns)?;
-    Ok(numbers == skipped.as_slice())
-}
-
 /// Whether the rows of a table that is listed are a content, where these are its columns.
 pub fn is_content(
     alloc: Global,
@@ -125,8 +102,6 @@ pub fn is_content(
     if !are_columns(alloc, table.name.as_str(), columns)? {
         return Ok(false);
     }
-    if !are_skipped(alloc, columns, table.skipped.as_slice())? {
-        return Ok(false);
-    }
-    Ok(are_documents(columns.len(), cells))
+    let skipped = skipped(alloc, columns)?;
+    Ok(table.skipped == skipped && are_documents(columns.len(), cells))
 }

@@ -2,7 +2,7 @@
 
 use crate::tokens::{spot_of, text_of};
 use ft_content::Value;
-use ft_query::{Token, Tokenizer};
+use ft_query::Tokenizer;
 use ft_rows::{Posting, TermLists};
 use itoa::Buffer;
 use std::alloc::{AllocError, Global};
@@ -21,11 +21,8 @@ impl TermIndex {
     ghost use Rattle.std.specs.Prelude.{◌≡◌, ◌<◌, ◌^◌, [], ◌∷◌, ◌++◌, string_bytes, unwrap_or, IfOk, OnOk};
     ghost use Rattle.std.specs.FinMap.Entries.{put, find};
     ghost use Rattle.ft_values.specs.Cells.{shown_value};
-    ghost use Rattle.ft_query.specs.Tokens.{plain_token};
     ghost use Rattle.ft_content.specs.Index.{key_cmp};
-    ghost use Rattle.ft_documents.specs.MadeIndex.{FitsSpot};
     ghost use Rattle.ft_documents.specs.Joins.{CanJoin, JoinsCell};
-    ghost use Rattle.ft_documents.specs.RewriteRows as rows;
     ghost use Rattle.ft_documents.specs.Terms as terms;
 
     /// The index of no document.
@@ -53,22 +50,11 @@ impl TermIndex {
         let mut tokenizer = Tokenizer::new(self.alloc, text_of(value, &mut buffer));
         let mut count = 0;
         while let Some(token) = tokenizer.next()? {
-            self.add_token(docid, place, token)?;
+            let spot = spot_of(place, &token);
+            self.add_posting(token.term, Posting { docid, spot })?;
             count += 1;
         }
         Ok(count)
-    }
-
-    // Adds a token of a cell.
-    fn add_token(&mut self, docid: i64, place: usize, token: Token) -> Result<(), AllocError>
-        requires { FitsSpot place token }
-        ensures { CanJoin docid (terms.lists_in_terms self.old)
-            → OnOk result (terms.lists_in_terms self.new
-            ≡ rows.with_entries (rows.cell_entries docid place (plain_token token ∷ []))
-            (terms.lists_in_terms self.old)) }
-    {
-        let spot = spot_of(place, &token);
-        self.add_posting(token.term, Posting { docid, spot })
     }
 
     // Adds a posting of a term, which joins the term's last list, if that is of its document.

@@ -4,7 +4,7 @@ ghost use Rattle.ft_content.specs.Views.{column_of, set_of};
 ghost use Rattle.ft_documents.specs.Gathered.{shown_document};
 ghost use Rattle.ft_documents.specs.NewDocuments.{new_rewrite};
 ghost use Rattle.ft_documents.specs.Rewrite.{shown_rewrite, removal};
-ghost use Rattle.ft_documents.specs.Updated.{changing, leaving, coming, MovesOnly, MayMove};
+ghost use Rattle.ft_documents.specs.Updated.{changing, MovesOnly, MayMove};
 
 use crate::document::Document;
 use crate::rewrite::Rewrite;
@@ -16,16 +16,10 @@ pub fn removals(alloc: Global, documents: Vec<Document>) -> Result<Vec<Rewrite>,
     ensures { IfOk result (λ rewrites. map shown_rewrite rewrites.items
         ≡ map removal (map shown_document documents.items)) }
 {
-    let mut rewrites = Vec::new(alloc);
-    for document in documents {
-        let Document { docid, cells } = document;
-        rewrites.push(Rewrite {
-            docid,
-            before: Some(cells),
-            after: None,
-        })?;
-    }
-    Ok(rewrites)
+    documents
+        .into_iter()
+        .map(|document| Rewrite::new(document.docid, Some(document.cells), None))
+        .collect(alloc)
 }
 
 /// The rewrites that make documents.
@@ -33,16 +27,10 @@ pub fn additions(alloc: Global, documents: Vec<Document>) -> Result<Vec<Rewrite>
     ensures { IfOk result (λ rewrites. map shown_rewrite rewrites.items
         ≡ map new_rewrite (map shown_document documents.items)) }
 {
-    let mut rewrites = Vec::new(alloc);
-    for document in documents {
-        let Document { docid, cells } = document;
-        rewrites.push(Rewrite {
-            docid,
-            before: None,
-            after: Some(cells),
-        })?;
-    }
-    Ok(rewrites)
+    documents
+        .into_iter()
+        .map(|document| Rewrite::new(document.docid, None, Some(document.cells)))
+        .collect(alloc)
 }
 
 /// The rewrites of chosen documents, of which one may get another docid.
@@ -57,33 +45,14 @@ pub fn update_rewrites(
         (map (changing (map set_of sets.now) (map column_of columns.now))
         (map shown_document documents.items)) (map shown_rewrite rewrites.items)) }
 {
-    let mut rewrites = change_rewrites(alloc, columns, sets, documents)?;
-    if let Some(docid) = given {
-        move_only(&mut rewrites, docid)?;
-    }
-    Ok(rewrites)
-}
-
-// The rewrites that set values of documents.
-fn change_rewrites(
-    alloc: Global,
-    columns: &[Column],
-    sets: &[(String, Value)],
-    documents: Vec<Document>,
-) -> Result<Vec<Rewrite>, AllocError>
-    ensures { IfOk result (λ rewrites. map shown_rewrite rewrites.items
-        ≡ map (changing (map set_of sets.now) (map column_of columns.now))
-        (map shown_document documents.items)) }
-{
     let mut rewrites = Vec::new(alloc);
     for document in documents {
         let Document { docid, cells } = document;
         let after = with_values(alloc, columns, sets, cells.as_slice())?;
-        rewrites.push(Rewrite {
-            docid,
-            before: Some(cells),
-            after: Some(after),
-        })?;
+        rewrites.push(Rewrite::new(docid, Some(cells), Some(after)))?;
+    }
+    if let Some(docid) = given {
+        move_only(&mut rewrites, docid)?;
     }
     Ok(rewrites)
 }
@@ -98,39 +67,10 @@ fn move_only(rewrites: &mut Vec<Rewrite>, docid: i64) -> Result<(), AllocError>
     };
     if only.docid == docid {
         rewrites.push(only)?;
-        return Ok(());
-    }
-    let is_behind = only.docid < docid;
-    let (leaves, comes) = parted(only, docid);
-    if is_behind {
-        rewrites.push(leaves)?;
-        rewrites.push(comes)?;
     } else {
-        rewrites.push(comes)?;
-        rewrites.push(leaves)?;
+        let place = usize::from(only.docid < docid);
+        rewrites.push(Rewrite::new(only.docid, only.before, None))?;
+        rewrites.insert(place, Rewrite::new(docid, None, only.after))?;
     }
     Ok(())
-}
-
-// What leaves the docid that a document had, and what comes under this one.
-fn parted(only: Rewrite, docid: i64) -> (Rewrite, Rewrite)
-    ensures { (shown_rewrite result.0 ≡ leaving (shown_rewrite only))
-        × (shown_rewrite result.1 ≡ coming (shown_rewrite only) docid) }
-{
-    let Rewrite {
-        docid: old,
-        before,
-        after,
-    } = only;
-    let leaves = Rewrite {
-        docid: old,
-        before,
-        after: None,
-    };
-    let comes = Rewrite {
-        docid,
-        before: None,
-        after,
-    };
-    (leaves, comes)
 }

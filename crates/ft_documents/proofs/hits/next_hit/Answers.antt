@@ -13,10 +13,10 @@ returns-then-wants_offsets c = record {
   query = c.next.ensures.query;
 }
 
-pub returns-in_ok-docid : goal.returns-in_ok-docid
-returns-in_ok-docid c = record {
-  told = λ documents stands. subst (λ b. Tells b c.args.walk.now c.next_docid.new.self c.bare_hit.result documents) (sym c.if-wants_offsets.false)
-      (told_bare c.args.walk.now c.next_docid.new.self c.in_ok-docid.docid c.bare_hit.result documents c.bare_hit.ensures (c.in_ok-docid.ensures.walked documents stands));
+pub returns : goal.returns
+returns c = record {
+  told = λ documents stands. subst (λ b. Tells b c.args.walk.now c.next_docid.new.self c.map.result documents) (sym c.if-wants_offsets.false)
+      (told_bare c.args.walk.now c.next_docid.new.self c.in_ok-docid.docid c.map.result documents (search rules) (c.in_ok-docid.ensures.walked documents stands));
   passes = search rules;
   query = search rules;
 }

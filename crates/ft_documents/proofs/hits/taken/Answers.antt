@@ -1,6 +1,6 @@
 -- the walk stops where enough hits are taken, or none is left
-use Rattle.std.proofs.Common.{◌≡◌, ◌<◌, ◌≤◌, ◌++◌, List, None, map, length, sym, ap, subst, ◌∙◌, append-nil, rules}
-use Rattle.std.specs.Prelude.{MatchOption, ⊤, vec_len}
+use Rattle.std.proofs.Common.{◌≡◌, ◌≤◌, ◌++◌, List, None, map, length, sym, ap, subst, ◌∙◌, append-nil, rules}
+use Rattle.std.specs.Prelude.{vec_len}
 use Rattle.std.proofs.lemmas.List.{length-map}
 use Rattle.std.proofs.lemmas.Result.{IfOk-at_ok}
 use Rattle.ft_query.specs.Trees.{tree_of}
@@ -21,13 +21,13 @@ returns c documents stands =
     let many : length hits ≡ vec_len c.loop-alloc.hits = length-map c.loop-alloc.hits.items plain_hit ∙ count in
     elim c.loop-alloc-test.branch [
       | else-loop-alloc-test w ↦
-          full c.args.most (vec_len c.loop-alloc.hits) hits (as_told (hits_of tree so_far.0)) c.is_below.result many (λ more. c.is_below.ensures.1 (subst (λ n. MatchOption c.args.most ⊤ (λ m. n < m)) (sym c.len.ensures) more)) w.loop-alloc-test.false c.loop-alloc.invariant.room
+          full c.args.most c.unwrap_or-most.result (vec_len c.loop-alloc.hits) hits (as_told (hits_of tree so_far.0)) c.unwrap_or-most.ensures many (search rules) (search rules) c.loop-alloc.invariant.room
           ∙ ap (cut c.args.most 0) (sym so_far.2)
       | then-loop-alloc-test+in_ok-hit+in_default w ↦
           let none : w.in_ok-hit.field-0 ≡ None = w.in_default.is in
           let tells = IfOk-at_ok _ w.in_ok-hit.was w.next_hit.ensures.told so_far.0 so_far.1 in
           let end = ended c.args.wants_offsets c.loop-alloc.walk w.next_hit.new.walk w.in_ok-hit.field-0 so_far.0 none tells in
           let all : as_told (hits_of tree documents) ≡ hits = so_far.2 ∙ ap (λ hs. hits ++ hs) (ap (λ q. as_told (hits_of (tree_of q) so_far.0)) (sym c.loop-alloc.invariant.query) ∙ end) ∙ append-nil hits in
-          whole c.args.most hits (subst (λ n. MatchOption c.args.most ⊤ (λ m. n ≤ m)) (sym many) c.loop-alloc.invariant.room)
+          whole c.args.most c.unwrap_or-most.result hits c.unwrap_or-most.ensures (subst (λ n. n ≤ c.unwrap_or-most.result) (sym many) c.loop-alloc.invariant.room)
           ∙ ap (cut c.args.most 0) (sym all)
     ]

@@ -1,5 +1,5 @@
 use Rattle.std.proofs.Common.{◌≡◌, ◌≤◌, ◌++◌, List, map}
-use Rattle.std.specs.Prelude.{MatchOption, ⊤, vec_len}
+use Rattle.std.specs.Prelude.{vec_len}
 use Rattle.ft_query.specs.Documents.{Document}
 use Rattle.ft_query.specs.Trees.{tree_of}
 use Rattle.ft_query.specs.Occurs.{plain_hit, hits_of}
@@ -11,7 +11,7 @@ use Rattle.ft_documents.proofs.hits.taken.Given as goal
 abbrev pub invariant-loop-alloc : goal.invariant-loop-alloc
 invariant-loop-alloc l = record {
   query : l.walk.query ≡ l.fn.walk.query;
-  room : MatchOption l.most ⊤ (λ m. vec_len l.hits ≤ m);
+  room : vec_len l.hits ≤ l.most;
   rest : (documents : List Document) → StandsBefore l.fn.walk documents →
       (rest : List Document) × StandsBefore l.walk rest × (map (told l.wants_offsets) (hits_of (tree_of l.fn.walk.query) documents) ≡ map plain_hit l.hits.items ++ map (told l.wants_offsets) (hits_of (tree_of l.fn.walk.query) rest));
 }

@@ -1,20 +1,44 @@
 -- one document's list at a time
-use Rattle.std.proofs.Common.{◌≡◌, ◌∙◌, Some, arith, rules}
+use Rattle.std.proofs.Common.{◌≡◌, ◌∙◌, Some, map, ap, to_z, of_z, w64, arith, rules}
 use Rattle.std.specs.Prelude.{slice_get}
+use Rattle.std.specs.List.{prefix_len}
+use borrow.Author.Tests.{tests}
+use Rattle.std.proofs.lemmas.Iterator.{YieldsList-from_slice, YieldsList-from_map, items_from_collect}
+use Rattle.std.proofs.lemmas.Iterator.Consumers.{YieldsList-at, count_from_yields_List}
+use Rattle.std.proofs.lemmas.Iterator.Search.{YieldsList-from_take_while}
+use Rattle.std.proofs.lemmas.List.Folds.{length-prefix_len}
 use Rattle.std.proofs.lemmas.List.Sums.{prefix_len-le-length}
+use Rattle.std.proofs.lemmas.Result.{IfOk-at_ok}
 use Rattle.std.specs.Ordering.{int_eq}
+use Rattle.ft_query.specs.Documents.{plain_list}
 use Rattle.ft_documents.specs.declared.lists.Placed.{Placed}
+use Rattle.ft_documents.specs.Placed.{place_in, run_with, list_with}
 use Rattle.ft_documents.proofs.PlacedLemmas.{next_lists, last_lists}
 use Rattle.ft_documents.proofs.lists.grouped.Goals as goal
 
 pub split_at-requires : goal.split_at-requires
-split_at-requires c = omega (arith, c.count_with.ensures, prefix_len-le-length (λ (p : Placed). int_eq p.docid c.in-Some.first.now.docid) c.loop-first.rest.now)
+split_at-requires c =
+    let d : to_z w64 (of_z w64 c.in-Some.first.now.docid) ≡ c.in-Some.first.now.docid = search rules in
+    let count : c.count-count.result ≡ run_with c.in-Some.first.now c.loop-first.rest.now =
+    count_from_yields_List _ c.count-count.result c.count-count.ensures.ran
+    (YieldsList-from_take_while _ (λ (p : Placed). int_eq p.docid (to_z w64 (of_z w64 c.in-Some.first.now.docid))) (YieldsList-at c.take_while.ensures.source (YieldsList-from_slice c.loop-first.rest.now c.iter.ensures.rest)) c.take_while.ensures.closure c.take_while.ensures.done (λ x b q k. search (rules, tests)))
+    ∙ length-prefix_len (λ (p : Placed). int_eq p.docid (to_z w64 (of_z w64 c.in-Some.first.now.docid))) c.loop-first.rest.now ∙ ap (λ k. prefix_len (λ (p : Placed). int_eq p.docid k) c.loop-first.rest.now) d in
+    omega (arith, count, prefix_len-le-length (λ (p : Placed). int_eq p.docid c.in-Some.first.now.docid) c.loop-first.rest.now)
 
 pub loop-first-preserved : goal.loop-first-preserved
 loop-first-preserved c =
     let here : slice_get c.loop-first.rest.now 0 ≡ Some c.in-Some.first.now = search rules in
-    next_lists c.loop-first.lists.items c.push.new.self.items c.loop-first.rest.now c.split_at.result.0.now c.split_at.result.1.now c.in-Some.first.now _ c.count_with.result here
-    c.in_ok-push.ensures.items c.in_ok-doc_list.ensures c.count_with.ensures c.split_at.ensures.front c.split_at.ensures.back ∙ c.loop-first.invariant
+    let d : to_z w64 (of_z w64 c.in-Some.first.now.docid) ≡ c.in-Some.first.now.docid = search rules in
+    let count : c.count-count.result ≡ run_with c.in-Some.first.now c.loop-first.rest.now =
+    count_from_yields_List _ c.count-count.result c.count-count.ensures.ran
+    (YieldsList-from_take_while _ (λ (p : Placed). int_eq p.docid (to_z w64 (of_z w64 c.in-Some.first.now.docid))) (YieldsList-at c.take_while.ensures.source (YieldsList-from_slice c.loop-first.rest.now c.iter.ensures.rest)) c.take_while.ensures.closure c.take_while.ensures.done (λ x b q k. search (rules, tests)))
+    ∙ length-prefix_len (λ (p : Placed). int_eq p.docid (to_z w64 (of_z w64 c.in-Some.first.now.docid))) c.loop-first.rest.now ∙ ap (λ k. prefix_len (λ (p : Placed). int_eq p.docid k) c.loop-first.rest.now) d in
+    let own = c.split_at.result.0.now in
+    let bare : c.in_ok-bare.bare.items ≡ map place_in own = IfOk-at_ok _ c.in_ok-bare.was
+    (items_from_collect c.collect.result c.collect.ensures.ran (YieldsList-from_map _ place_in (YieldsList-at c.map.ensures.source (YieldsList-from_slice own c.iter-in-Some.ensures.rest)) c.map.ensures.closure (λ x r q k. search rules))) in
+    let list : plain_list c.new.result ≡ list_with c.in-Some.first.now own = search rules in
+    next_lists c.loop-first.lists.items c.push.new.self.items c.loop-first.rest.now own c.split_at.result.1.now c.in-Some.first.now _ c.count-count.result here
+    c.in_ok-push.ensures.items list count c.split_at.ensures.front c.split_at.ensures.back ∙ c.loop-first.invariant
 
 pub returns : goal.returns
 returns c = last_lists c.loop-first.lists.items c.loop-first.rest.now (search rules) ∙ c.loop-first.invariant

@@ -1,5 +1,6 @@
 -- a row more
-use Rattle.std.proofs.Common.{◌≡◌, ◌+◌, inl, inr, Err, Result, map, zip, drop, refl, sym, ap, subst, ◌∙◌, rules}
+use Rattle.std.proofs.Common.{◌≡◌, ◌+◌, inl, inr, Err, Result, map, zip, drop, refl, sym, ap, subst, ◌∙◌, rules, false, unwrap_or, get_or, ℕ, zero, suc, Bool, List, [], ◌∷◌}
+use Rattle.std.specs.Prelude.{slice_get}
 use Rattle.std.specs.Ordering.{int_cmp}
 use Rattle.std.proofs.lemmas.List.{drop_all}
 use Rattle.std.proofs.lemmas.Option.{slice_get_read}
@@ -13,6 +14,11 @@ use Rattle.ft_documents.specs.RewriteRows.{all_put}
 use Rattle.ft_documents.proofs.Steps.{taken_more}
 use Rattle.ft_documents.proofs.InsertRows.{rows_step, rows_fail, rows_none, row_at}
 use Rattle.ft_documents.proofs.new_documents.made_documents.Goals as goal
+
+got_or : (xs : List Bool) (k : ℕ) (d : Bool) → unwrap_or (slice_get xs k) d ≡ get_or xs k d
+got_or [] k d = refl
+got_or (x ∷ xs) zero d = refl
+got_or (x ∷ xs) (suc k) d = got_or xs k d
 
 pub loop-place-init : goal.loop-place-init
 loop-place-init c documents sorted last known = (
@@ -30,11 +36,12 @@ loop-place-preserved c documents sorted last known =
     let place = c.loop-place.place in
     let rest = map (zip names) (map cells_of (drop (place + 1) rows)) in
     let all = with_new c.loop-place.new documents in
+    let stored_here : c.unwrap_or-is_stored.result ≡ unwrap_or (slice_get c.args.stored.now place) false = c.unwrap_or-is_stored.ensures ∙ ap (λ o. unwrap_or o false) c.copied.ensures ∙ c.get.ensures.lookup.4 (search rules) false ∙ sym (got_or c.args.stored.now place false) in
     let so_far = c.loop-place.invariant documents sorted last known in
     let here = slice_get_read rows _ place row refl c.loop-place-test.true c.index-rows-place.is in
     let stored = known place values (row_at names cells_of rows place row here) in
     let first = taken_more (λ xs. insert_rows columns (map (zip names) (map cells_of xs)) all) rows place row c.loop-place-test.true c.index-rows-place.is in
-    let step = (simp (c.as_slice.ensures.value, c.is_stored.ensures) at c.in_ok-add.ensures) documents so_far.0 stored in
+    let step = (simp (c.as_slice.ensures.value, stored_here) at c.in_ok-add.ensures) documents so_far.0 stored in
     (step.0, sym (rows_step columns values rest all (with_new c.add.new.self documents) step.1) ∙ sym first ∙ so_far.1)
 
 pub returns-in_err-add : goal.returns-in_err-add
@@ -47,13 +54,14 @@ returns-in_err-add c documents sorted last known =
     let place = c.loop-place.place in
     let rest = map (zip names) (map cells_of (drop (place + 1) rows)) in
     let all = with_new c.loop-place.new documents in
+    let stored_here : c.unwrap_or-is_stored.result ≡ unwrap_or (slice_get c.args.stored.now place) false = c.unwrap_or-is_stored.ensures ∙ ap (λ o. unwrap_or o false) c.copied.ensures ∙ c.get.ensures.lookup.4 (search rules) false ∙ sym (got_or c.args.stored.now place false) in
     let so_far = c.loop-place.invariant documents sorted last known in
     let here = slice_get_read rows _ place row refl c.loop-place-test.true c.index-rows-place.is in
     let stored = known place values (row_at names cells_of rows place row here) in
     let first = taken_more (λ xs. insert_rows columns (map (zip names) (map cells_of xs)) all) rows place row c.loop-place-test.true c.index-rows-place.is in
     let fault : Fault = c.in_err-add.field-0.0 in
     let is : c.from_residual.result ≡ Err fault = search rules in
-    let failed = (simp (c.as_slice.ensures.value, c.is_stored.ensures) at c.in_err-add.ensures) documents so_far.0 stored in
+    let failed = (simp (c.as_slice.ensures.value, stored_here) at c.in_err-add.ensures) documents so_far.0 stored in
     subst (λ (r : Result NewDocuments Fault). Makes documents (insert_rows columns (map (zip names) (map cells_of rows)) documents) r) (sym is)
     (elim failed [ inl memory ↦ inl memory | inr row_is ↦ inr (sym so_far.1 ∙ first ∙ rows_fail columns values rest all fault row_is) ])
 

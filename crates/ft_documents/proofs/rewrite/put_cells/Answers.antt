@@ -1,7 +1,6 @@
 -- one value more, and all of them
-use Rattle.std.proofs.Common.{◌≡◌, ℤ, ◌<◌, ◌^◌, ◌++◌, length, map, refl, ap, sym, ◌∙◌, rules, to_z, of_z, w64, to_z-of_z}
+use Rattle.std.proofs.Common.{ℤ, ◌<◌, ◌^◌, ◌++◌, length, map, refl, ap, sym, ◌∙◌, rules, to_z, of_z, w64, to_z-of_z}
 use Rattle.std.specs.Prelude.{filter}
-use Rattle.std.specs.List.{enumerate_from}
 use Rattle.std.proofs.lemmas.Iterator.Adapters.{YieldsList-from_vec}
 use Rattle.std.proofs.lemmas.Iterator.Consumers.{YieldsList-from_enumerate, YieldsList-end}
 use Rattle.std.proofs.lemmas.List.{map-id}

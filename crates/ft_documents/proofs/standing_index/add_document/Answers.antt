@@ -12,9 +12,9 @@ use Rattle.ft_documents.specs.Standing.{cell_in, shown_size, same_size, after_fi
 use Rattle.ft_documents.specs.Terms.{lists_in_terms}
 use Rattle.ft_documents.proofs.Steps.{mapped_more}
 use Rattle.ft_documents.proofs.DocumentSteps.{entries_from, sizes_from, none_left}
-use Rattle.ft_documents.proofs.JoinSteps.{AreJoined, AreBefore, lists_begin, lists_step, sizes_begin, sizes_step, sizes_end}
+use Rattle.ft_documents.proofs.JoinSteps.{AreJoined, AreBefore, lists_begin, lists_step, sizes_begin, sizes_step, sizes_end, no_size, size_passed, other_size}
 use Rattle.ft_documents.proofs.standing_index.add_document.Goals as goal
-use Rattle.ft_documents.proofs.standing_index.add_document.Goals.{then-columns-place+in_ok-n+in-Some, else-columns-place}
+use Rattle.ft_documents.proofs.standing_index.add_document.Goals.{then-columns-place+in_ok-n+then-n-gt0+else-not-is_size, then-columns-place+in_ok-n+else-n-gt0, else-columns-place}
 
 pub loop-place-init : goal.loop-place-init
 loop-place-init c =
@@ -26,8 +26,8 @@ loop-place-init c =
       omega arith,
     )
 
-pub returns-in_default : goal.returns-in_default
-returns-in_default c =
+pub returns-then-not-is_size : goal.returns-then-not-is_size
+returns-then-not-is_size c =
     let t = to_z-of_z c.ranges.docid in
     let place = c.loop-place.place in
     let column = c.index-columns-place.result in
@@ -44,7 +44,8 @@ returns-in_default c =
     ∙ mapped_more (λ vs. document_tokens (column_of column ∷ drop (place + 1) columns) vs) cell_in c.args.cells.now place row other c.index-cells-place.is in
     let same = ap (λ x. x.indexed) c.index-columns-place.is in
     let counted : c.in_ok-n.n ≡ length tokens = c.in_ok-n.ensures.counted ∙ (λ i. length (tokens_of (cond (sym (same ∙ c.if-columns-place.true) i) (cell_text (shown_value (sym c.index-cells-place.is i).value)) []))) in
-    let none = rw (t, c.in_default.is) at c.past_size.ensures.rest in
+    let some : 0 < c.in_ok-n.n = omega (arith, c.if-n-gt0.true) in
+    let none = (other_size c.args.sizes.now c.loop-place.count c.args.docid place c.in_ok-n.n some (rw t at (sym c.is_size.ensures ∙ c.if-not-is_size.true))).rest in
     let so_far = rw t at c.loop-place.invariant in
     record {
       rest = sizes_end c.args.docid place tokens rest sizes _ (none ∙ ap (λ n. after_first same_size (sized (cell_sizes c.args.docid place n)) sizes) counted) (ap (λ ts. after_first same_size (sizes_from c.args.docid place ts) sizes) (sym left) ∙ so_far.1);
@@ -76,18 +77,22 @@ loop-place-preserved c =
     let so_far = rw t at c.loop-place.invariant in
     let grown : CanJoin docid old → new ≡ with_entries (cell_entries docid place tokens) old =
     elim c.if-columns-place.branch [
-      | then-columns-place+in_ok-n+in-Some w ↦ λ can. ap lists_in_terms w.lists-is ∙ (rw t at w.in_ok-n.ensures.lists) can ∙ (λ i. with_entries (cell_entries docid place (tokens_of (cond (sym (same ∙ w.if-columns-place.true) i) (cell_text (shown_value (sym c.index-cells-place.is i).value)) []))) old)
+      | then-columns-place+in_ok-n+then-n-gt0+else-not-is_size w ↦ λ can. ap lists_in_terms w.lists-is ∙ (rw t at w.in_ok-n.ensures.lists) can ∙ (λ i. with_entries (cell_entries docid place (tokens_of (cond (sym (same ∙ w.if-columns-place.true) i) (cell_text (shown_value (sym c.index-cells-place.is i).value)) []))) old)
+      | then-columns-place+in_ok-n+else-n-gt0 w ↦ λ can. ap lists_in_terms w.lists-is ∙ (rw t at w.in_ok-n.ensures.lists) can ∙ (λ i. with_entries (cell_entries docid place (tokens_of (cond (sym (same ∙ w.if-columns-place.true) i) (cell_text (shown_value (sym c.index-cells-place.is i).value)) []))) old)
       | else-columns-place w ↦ λ can. ap lists_in_terms w.lists-is ∙ (λ i. with_entries (cell_entries docid place (tokens_of (cond (sym (same ∙ w.if-columns-place.false) i) (cell_text (shown_value row.value)) []))) old)
     ] in
     let passed : Some (map shown_size (drop c.if-columns-place.count found)) ≡ after_first same_size (sized (cell_sizes docid place (length tokens))) sizes =
     elim c.if-columns-place.branch [
-      | then-columns-place+in_ok-n+in-Some w ↦ ap (λ k. Some (map shown_size (drop k found))) w.count-is ∙ (rw (t, w.in-Some.is) at w.past_size.ensures.rest)
+      | then-columns-place+in_ok-n+then-n-gt0+else-not-is_size w ↦ ap (λ k. Some (map shown_size (drop k found))) w.count-is ∙ (size_passed found c.loop-place.count docid place w.in_ok-n.n (omega (arith, w.if-n-gt0.true)) (rw t at (sym w.is_size.ensures ∙ w.if-not-is_size.false))).rest
+          ∙ ap (λ n. after_first same_size (sized (cell_sizes docid place n)) sizes) (w.in_ok-n.ensures.counted ∙ (λ i. length (tokens_of (cond (sym (same ∙ w.if-columns-place.true) i) (cell_text (shown_value (sym c.index-cells-place.is i).value)) []))))
+      | then-columns-place+in_ok-n+else-n-gt0 w ↦ ap (λ k. Some (map shown_size (drop k found))) w.count-is ∙ (no_size found c.loop-place.count docid place w.in_ok-n.n (omega (arith, w.if-n-gt0.false))).rest
           ∙ ap (λ n. after_first same_size (sized (cell_sizes docid place n)) sizes) (w.in_ok-n.ensures.counted ∙ (λ i. length (tokens_of (cond (sym (same ∙ w.if-columns-place.true) i) (cell_text (shown_value (sym c.index-cells-place.is i).value)) []))))
       | else-columns-place w ↦ ap (λ k. Some (map shown_size (drop k found))) w.count-is ∙ (λ i. after_first same_size (sized (cell_sizes docid place (length (tokens_of (cond (sym (same ∙ w.if-columns-place.false) i) (cell_text (shown_value row.value)) []))))) sizes)
     ] in
     let within : c.if-columns-place.count ≤ length found =
     elim c.if-columns-place.branch [
-      | then-columns-place+in_ok-n+in-Some w ↦ subst (λ k. k ≤ length found) (sym w.count-is) ((rw w.in-Some.is at w.past_size.ensures.within) so_far.2)
+      | then-columns-place+in_ok-n+then-n-gt0+else-not-is_size w ↦ subst (λ k. k ≤ length found) (sym w.count-is) ((size_passed found c.loop-place.count docid place w.in_ok-n.n (omega (arith, w.if-n-gt0.true)) (rw t at (sym w.is_size.ensures ∙ w.if-not-is_size.false))).within so_far.2)
+      | then-columns-place+in_ok-n+else-n-gt0 w ↦ subst (λ k. k ≤ length found) (sym w.count-is) ((no_size found c.loop-place.count docid place w.in_ok-n.n (omega (arith, w.if-n-gt0.false))).within so_far.2)
       | else-columns-place w ↦ subst (λ k. k ≤ length found) (sym w.count-is) so_far.2
     ] in
     rw t (

@@ -1,4 +1,4 @@
-use Rattle.std.proofs.Common.{◌≡◌, ◌<◌, ◌≤◌, ◌+◌, ◌∷◌, [], true, false, cond, subst, map, drop, length, min, sym, ap, ◌∙◌, to_z-of_z, arith}
+use Rattle.std.proofs.Common.{◌≡◌, ◌<◌, ◌≤◌, ◌+◌, ◌∷◌, [], true, false, cond, subst, map, option_map, drop, length, min, sym, ap, ◌∙◌, to_z-of_z, arith}
 use Rattle.std.proofs.lemmas.List.{length-map}
 use Rattle.std.proofs.lemmas.List.Elements.{All-nil, All-cons}
 use Rattle.ft_query.specs.Tokens.{tokens_of}
@@ -6,7 +6,9 @@ use Rattle.ft_values.specs.Cells.{shown_value}
 use Rattle.ft_rows.specs.Store.{column_key_cmp}
 use Rattle.ft_content.specs.Content.{cell_text}
 use Rattle.ft_content.specs.Index.{cell_tokens, document_tokens}
-use Rattle.ft_content.specs.Views.{column_of}
+use Rattle.ft_content.specs.Views.{cells_of, column_of}
+use Rattle.ft_documents.specs.Rewrite.{document_if}
+use Rattle.ft_documents.specs.MadeIndex.{Adds}
 use Rattle.ft_documents.specs.RewriteRows.{lists_in, sizes_in, with_entries, cell_entries, cell_sizes, sized, all_put, IsShortNumber, AreShortNumbers}
 use Rattle.ft_documents.proofs.Steps.{mapped_more}
 use Rattle.ft_documents.proofs.DocumentSteps.{entries_from, sizes_from, lists_more, sizes_more, none_left, no_numbers}
@@ -18,18 +20,18 @@ loop-place-preserved c =
     let t = to_z-of_z c.ranges.docid in
     let place = c.loop-place.place in
     let column = c.index-columns-place.result in
-    let value = c.index-cells-place.result in
+    let value = c.index-values-place.result in
     let columns = map column_of c.args.columns.now in
-    let cells = map shown_value c.args.cells.now in
+    let cells = map shown_value c.as_slice-values.result.now in
     let tokens = cell_tokens (column_of column) (shown_value value) in
     let rest = document_tokens (drop (place + 1) columns) (drop (place + 1) cells) in
     let old = c.loop-place.self in
     let new = c.if-columns-place.self in
     let one : place < length c.args.columns.now = omega (arith, c.loop-place-test.true, c.min-place-end.ensures) in
-    let other : place < length c.args.cells.now = omega (arith, c.loop-place-test.true, c.min-place-end.ensures) in
+    let other : place < length c.as_slice-values.result.now = omega (arith, c.loop-place-test.true, c.min-place-end.ensures) in
     let left : document_tokens (drop place columns) (drop place cells) ≡ tokens ∷ rest =
     mapped_more (λ cs. document_tokens cs (drop place cells)) column_of c.args.columns.now place column one c.index-columns-place.is
-    ∙ mapped_more (λ vs. document_tokens (column_of column ∷ drop (place + 1) columns) vs) shown_value c.args.cells.now place value other c.index-cells-place.is in
+    ∙ mapped_more (λ vs. document_tokens (column_of column ∷ drop (place + 1) columns) vs) shown_value c.as_slice-values.result.now place value other c.index-values-place.is in
     let same = ap (λ x. x.indexed) c.index-columns-place.is in
     let lists : lists_in new ≡ with_entries (cell_entries c.args.docid place tokens) (lists_in old) =
     elim c.if-columns-place.branch [
@@ -42,7 +44,7 @@ loop-place-preserved c =
       | else-columns-place w ↦ ap sizes_in w.self-is ∙ (λ i. all_put column_key_cmp (sized (cell_sizes c.args.docid place (length (tokens_of (cond (sym (same ∙ w.if-columns-place.false) i) (cell_text (shown_value value)) []))))) (sizes_in old))
     ] in
     let first_column = mapped_more (λ cs. cs) column_of c.args.columns.now place column one c.index-columns-place.is in
-    let first_cell = mapped_more (λ vs. vs) shown_value c.args.cells.now place value other c.index-cells-place.is in
+    let first_cell = mapped_more (λ vs. vs) shown_value c.as_slice-values.result.now place value other c.index-values-place.is in
     let number : column.indexed ≡ true → IsShortNumber (shown_value value) =
     elim c.if-columns-place.branch [
       | then-columns-place+in_ok-add_cell w ↦ λ _. w.in_ok-add_cell.ensures.number
@@ -59,12 +61,14 @@ pub returns : goal.returns
 returns c =
     let t = to_z-of_z c.ranges.docid in
     let columns = map column_of c.args.columns.now in
-    let cells = map shown_value c.args.cells.now in
-    let past : min (length columns) (length cells) ≤ c.loop-place.place = rw (length-map c.args.columns.now column_of, length-map c.args.cells.now shown_value) (omega (arith, c.loop-place-test.false, c.min-place-end.ensures)) in
+    let cells = map shown_value c.as_slice-values.result.now in
+    let past : min (length columns) (length cells) ≤ c.loop-place.place = rw (length-map c.args.columns.now column_of, length-map c.as_slice-values.result.now shown_value) (omega (arith, c.loop-place-test.false, c.min-place-end.ensures)) in
     let none = none_left c.loop-place.place columns cells past in
     let so_far = rw t at c.loop-place.invariant in
-    record {
+    let made : Adds columns ((c.args.docid, cells) ∷ []) c.args.self.now c.loop-place.self = record {
       lists = ap (λ left. with_entries (entries_from c.args.docid c.loop-place.place left) (lists_in c.loop-place.self)) (sym none) ∙ so_far.0;
       sizes = ap (λ left. all_put column_key_cmp (sizes_from c.args.docid c.loop-place.place left) (sizes_in c.loop-place.self)) (sym none) ∙ so_far.1;
       numbers = All-cons (λ d. AreShortNumbers columns d.1) (c.args.docid, cells) [] (c.loop-place.invariant.2 (no_numbers c.loop-place.place columns cells past)) (All-nil (λ d. AreShortNumbers columns d.1));
-    }
+    } in
+    subst (λ o. Adds columns (document_if c.args.docid (option_map cells_of o)) c.args.self.now c.loop-place.self) (sym c.in-Some.is)
+    (subst (λ vs. Adds columns ((c.args.docid, map shown_value vs) ∷ []) c.args.self.now c.loop-place.self) c.as_slice-values.ensures.value made)

@@ -7,6 +7,7 @@ use Rattle.ft_rows.specs.Changes.{shown_change}
 use Rattle.ft_content.specs.Index.{Key, key_cmp, StoredSpot}
 use Rattle.ft_documents.specs.RewriteRows.{shown_list, lists_in, same_spots, was_there, changed, put_lists}
 use Rattle.ft_documents.proofs.Steps.{kept_last, change_more}
+use Rattle.ft_documents.proofs.MapSteps.{held_list}
 use Rattle.ft_documents.proofs.document_index.DocumentIndex.put_lists.Goals as goal
 
 pub loop-key-preserved-in-Continue-1 : goal.loop-key-preserved-in-Continue-1
@@ -20,7 +21,7 @@ loop-key-preserved-in-Continue-1 c =
     let put : Key × List StoredSpot → Change = λ l. PutEntries tab l.0.0 l.0.1 l.1 in
     let grown : map shown_change c.push.new.self.items ≡ cond (keeps x) (old ++ put x ∷ []) old =
     change_more _ _ _ c.in_ok-push.ensures.items ∙ (λ i. old ++ PutEntries tab x.0.0 (d i) x.1 ∷ [])
-    ∙ ap (λ b. cond (not b) (old ++ put x ∷ []) old) (sym c.if-not-has_list.true ∙ c.has_list.ensures ∙ ap (was_there same_spots (find key_cmp x.0 (lists_in c.args.self.now))) c.as_slice.ensures.value) in
+    ∙ ap (λ b. cond b (old ++ put x ∷ []) old) (sym c.if-ne.true ∙ c.ne.ensures ∙ ap not (held_list c.in-Some.key c.args.self.now.lists.entries _ c.get.result c.get.ensures.value)) in
     kept_last keeps put x (map shown_list c.loop-key.yielded) old _ first grown c.loop-key.invariant
     ∙ ap (λ es. first ++ put_lists tab (changed key_cmp same_spots (lists_in c.args.self.now) es)) (sym (map-append shown_list c.loop-key.yielded ((c.in-Some.key, c.in-Some.spots) ∷ [])))
 
@@ -33,6 +34,6 @@ loop-key-preserved c =
     let keeps : Key × List StoredSpot → Bool = λ e. not (was_there same_spots (find key_cmp e.0 (lists_in c.args.self.now)) e.1) in
     let put : Key × List StoredSpot → Change = λ l. PutEntries tab l.0.0 l.0.1 l.1 in
     let same : old ≡ cond (keeps x) (old ++ put x ∷ []) old =
-    ap (λ b. cond (not b) (old ++ put x ∷ []) old) (sym c.if-not-has_list.false ∙ c.has_list.ensures ∙ ap (was_there same_spots (find key_cmp x.0 (lists_in c.args.self.now))) c.as_slice.ensures.value) in
+    ap (λ b. cond b (old ++ put x ∷ []) old) (sym c.if-ne.false ∙ c.ne.ensures ∙ ap not (held_list c.in-Some.key c.args.self.now.lists.entries _ c.get.result c.get.ensures.value)) in
     kept_last keeps put x (map shown_list c.loop-key.yielded) old _ first same c.loop-key.invariant
     ∙ ap (λ es. first ++ put_lists tab (changed key_cmp same_spots (lists_in c.args.self.now) es)) (sym (map-append shown_list c.loop-key.yielded ((c.in-Some.key, c.in-Some.spots) ∷ [])))

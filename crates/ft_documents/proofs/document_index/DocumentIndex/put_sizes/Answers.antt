@@ -5,6 +5,7 @@ use Rattle.ft_rows.specs.Store.{column_key_cmp, PutSize}
 use Rattle.ft_rows.specs.Changes.{shown_change}
 use Rattle.ft_documents.specs.RewriteRows.{sizes_in, was_there, changed, put_sizes}
 use Rattle.ft_documents.proofs.Steps.{kept_more, change_more}
+use Rattle.ft_documents.proofs.MapSteps.{held_size}
 use Rattle.ft_documents.proofs.document_index.DocumentIndex.put_sizes.Goals as goal
 
 pub loop-key-preserved-in-Continue-1 : goal.loop-key-preserved-in-Continue-1
@@ -19,6 +20,6 @@ loop-key-preserved-in-Continue-1 c =
     let old = map shown_change c.loop-key.changes.items in
     let grown : map shown_change c.push.new.self.items ≡ cond (not (was_there int_eq (find column_key_cmp key (sizes_in c.args.self.now)) n)) (old ++ PutSize c.args.tab key.0 key.1 n ∷ []) old =
     change_more _ _ _ c.in_ok-push.ensures.items ∙ (λ i. old ++ PutSize (t i) (d i) (k i) (m i) ∷ [])
-    ∙ ap (λ b. cond (not b) (old ++ PutSize c.args.tab key.0 key.1 n ∷ []) old) (sym c.if-not-has_size.true ∙ c.has_size.ensures ∙ ap (was_there int_eq (find column_key_cmp key (sizes_in c.args.self.now))) m) in
+    ∙ ap (λ b. cond b (old ++ PutSize c.args.tab key.0 key.1 n ∷ []) old) (sym c.if-ne.true ∙ c.ne.ensures ∙ ap not (held_size key c.args.self.now.sizes.entries c.in-Some.n c.get.result c.get.ensures.value)) in
     rw t (kept_more (λ (e : (ℤ × ℤ) × ℤ). not (was_there int_eq (find column_key_cmp e.0 (sizes_in c.args.self.now)) e.1)) (λ (s : (ℤ × ℤ) × ℤ). PutSize c.args.tab s.0.0 s.0.1 s.1) x c.next.new.self old _ _ grown
     (ap (λ es. old ++ put_sizes c.args.tab (changed column_key_cmp int_eq (sizes_in c.args.self.now) es)) (sym c.in-Some.ensures.steps) ∙ (rw t at c.loop-key.invariant)))

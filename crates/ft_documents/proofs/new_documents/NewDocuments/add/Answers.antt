@@ -1,19 +1,34 @@
 -- the docid of the row is new, or refused
-use Rattle.std.proofs.Common.{◌≡◌, inl, inr, ℤ, List, Ok, Err, map, zip, Option, Result, FitsSigned, w64, to_z, of_z, to_z-of_z, sym, ap, subst, ◌∙◌, rules}
-use Rattle.std.specs.Prelude.{slice_get, is_some, IfSome}
-use Rattle.std.specs.Ordering.{int_cmp}
+use Rattle.std.proofs.Common.{◌≡◌, inl, inr, ℤ, Bool, List, Vec, Global, None, Some, Ok, Err, map, zip, Option, Result, FitsSigned, w64, to_z, of_z, to_z-of_z, sym, ap, subst, ◌∙◌, rules}
+use Rattle.std.specs.Prelude.{slice_get, is_some, IfSome, MatchOption}
+use Rattle.std.specs.List.{AllByRecursion}
+use Rattle.std.specs.Map.{lookup}
+use Rattle.std.specs.Ordering.{int_cmp, is_eq}
 use Rattle.std.specs.Cmp.{int_cmp_total}
-use Rattle.std.specs.FinMap.Entries.{find, put}
+use Rattle.std.specs.FinMap.Entries.{find, put, is_sorted, is_sorted-put}
 use Rattle.std.proofs.lemmas.Map.Lookups.{exact_signed}
+use Rattle.ft_values.specs.declared.rows.Value.{Value}
 use Rattle.ft_values.specs.Cells.{Cell, shown_value}
 use Rattle.ft_values.specs.declared.fault.Fault.{Fault}
 use Rattle.ft_content.specs.Deserved as deserved
-use Rattle.ft_content.specs.Views.{cells_of, column_of, placed}
-use Rattle.ft_documents.specs.NewDocuments.{documents_in, with_new, Places}
-use Rattle.ft_documents.proofs.KeyedRows.{sorted_put}
-use Rattle.ft_documents.proofs.NewRows.{taken_is, row_is_new, place_new}
+use Rattle.ft_content.specs.Views.{cells_of, column_of, placed, last_docid}
+use Rattle.ft_documents.specs.NewDocuments.{shown_entry, documents_in, with_new, Places}
+use Rattle.ft_documents.specs.RewriteRows.{all_put}
+use Rattle.ft_documents.proofs.MapSteps.{find_looked_up, is_some_shown}
+use Rattle.ft_documents.proofs.KeyedRows.{true_of, of_true, find-values, sorted_put}
+use Rattle.ft_documents.proofs.TokenSteps.{insert_put}
+use Rattle.ft_documents.proofs.NewRows.{taken_is, row_is_new, put_shown, all_put_more, apart_put, not_stored}
 use Rattle.ft_documents.proofs.new_documents.NewDocuments.add.Goals as goal
 use Rattle.ft_documents.proofs.new_documents.NewDocuments.add.Goals.{then-is_stored, else-is_stored}
+
+is_there : (entries : List (ℤ × Vec Value Global)) (docid : ℤ) (b : Bool) → FitsSigned w64 docid → b ≡ is_some (lookup (λ k. is_eq (int_cmp (to_z w64 (of_z w64 docid)) k)) entries) → b ≡ is_some (find int_cmp docid (map shown_entry entries))
+is_there entries docid b fits is =
+    is ∙ ap is_some (sym (find_looked_up int_cmp (to_z w64 (of_z w64 docid)) entries) ∙ ap (λ k. find int_cmp k entries) (to_z-of_z fits))
+    ∙ sym (ap is_some (find-values int_cmp cells_of docid entries) ∙ is_some_shown cells_of (find int_cmp docid entries))
+
+if_some : {P Q : ℤ → Type 0} (N : Type 0) (o : Option ℤ) → MatchOption o N P → ((x : ℤ) → P x → Q x) → IfSome o Q
+if_some N None h f = tt
+if_some N (Some x) h f = f x h
 
 pub returns-in_err-docid : goal.returns-in_err-docid
 returns-in_err-docid c documents beside stored =
@@ -29,7 +44,7 @@ returns-in_err-docid c documents beside stored =
       | else-is_stored w ↦ inr (
         w.if-is_stored.false,
         subst (λ (o : Option ℤ). IfSome o (λ docid. c.if-is_stored.is_taken ≡ is_some (find int_cmp docid new))) given
-            (subst (λ b. IfSome c.row_docid-given.result (λ docid. b ≡ is_some (find int_cmp docid new))) (sym w.is_taken-is) w.has-is_taken.ensures),
+            (subst (λ b. IfSome c.row_docid-given.result (λ docid. b ≡ is_some (find int_cmp docid new))) (sym w.is_taken-is) (if_some _ c.row_docid-given.result w.is_some_and-is_taken.ensures (λ x p. let has : w.is_some_and-is_taken.result ≡ is_some (lookup (λ k. is_eq (int_cmp (to_z w64 (of_z w64 x)) k)) c.args.self.now.documents.entries) = search rules in let fits : FitsSigned w64 x = search rules in is_there c.args.self.now.documents.entries x _ fits has))),
       )
     ]) in
     let row : deserved.insert_row all docids cells ≡ placed all cells c.docid_for_row.result =
@@ -53,7 +68,7 @@ returns c documents beside stored =
       | else-is_stored w ↦ inr (
         w.if-is_stored.false,
         subst (λ (o : Option ℤ). IfSome o (λ docid. c.if-is_stored.is_taken ≡ is_some (find int_cmp docid new))) given
-            (subst (λ b. IfSome c.row_docid-given.result (λ docid. b ≡ is_some (find int_cmp docid new))) (sym w.is_taken-is) w.has-is_taken.ensures),
+            (subst (λ b. IfSome c.row_docid-given.result (λ docid. b ≡ is_some (find int_cmp docid new))) (sym w.is_taken-is) (if_some _ c.row_docid-given.result w.is_some_and-is_taken.ensures (λ x p. let has : w.is_some_and-is_taken.result ≡ is_some (lookup (λ k. is_eq (int_cmp (to_z w64 (of_z w64 x)) k)) c.args.self.now.documents.entries) = search rules in let fits : FitsSigned w64 x = search rules in is_there c.args.self.now.documents.entries x _ fits has))),
       )
     ]) in
     let row : deserved.insert_row all docids cells ≡ placed all cells c.docid_for_row.result =
@@ -63,6 +78,18 @@ returns c documents beside stored =
     let passed : to_z w64 (of_z w64 c.in_ok-docid.docid) ≡ c.in_ok-docid.docid = to_z-of_z fits in
     let made : deserved.insert_row all docids cells ≡ Ok (put int_cmp docid cells all) = row ∙ ap (placed all cells) c.in_ok-docid.was in
     let none = row_is_new all docids cells docid (sorted_put int_cmp int_cmp_total exact_signed new documents beside.sorted) made in
-    let none_passed = ap (λ k. find int_cmp k all) passed ∙ none in
-    let same = place_new all (to_z w64 (of_z w64 c.in_ok-docid.docid)) (cells_of c.in_ok-cells.cells) none_passed ∙ (λ i. Ok (put int_cmp (passed i) (c.in_ok-cells.ensures i) all)) ∙ sym made in
-    subst (λ r. Places documents r c.put.new.self c.put.result) same (c.put.ensures documents beside none_passed)
+    let held = c.args.self.now.documents.entries in
+    let added : List Cell = cells_of c.in_ok-cells.cells in
+    let last_fits : FitsSigned w64 c.last_docid_after.result = search rules in
+    let grown : map shown_entry c.insert.new.self.entries ≡ put int_cmp docid added new =
+    ap (map shown_entry) (c.in_ok-insert.ensures.entries ∙ insert_put int_cmp (to_z w64 (of_z w64 docid)) c.in_ok-cells.cells held ∙ ap (λ k. put int_cmp k c.in_ok-cells.cells held) passed) ∙ put_shown docid c.in_ok-cells.cells held in
+    let with_it : all_put int_cmp (map shown_entry c.insert.new.self.entries) documents ≡ put int_cmp docid added all = ap (λ l. all_put int_cmp l documents) grown ∙ all_put_more docid added new documents beside.rising beside.sorted in (
+      record {
+        sorted = beside.sorted;
+        rising = ap (is_sorted int_cmp) grown ∙ true_of _ (is_sorted-put int_cmp int_cmp_total docid added new (of_true _ beside.rising));
+        apart = subst (AllByRecursion (λ (d : ℤ × List Cell). find int_cmp d.0 documents ≡ None)) (sym grown) (apart_put (λ k. find int_cmp k documents ≡ None) docid added new (not_stored docid new documents beside.rising none) beside.apart);
+        last = ap last_docid with_it ∙ ap (λ k. last_docid (put int_cmp k added all)) (sym passed)
+            ∙ c.last_docid_after.ensures all added (sorted_put int_cmp int_cmp_total exact_signed new documents beside.sorted) beside.last ∙ ap Some (sym (to_z-of_z last_fits));
+      },
+      made ∙ ap Ok (ap (λ cells. put int_cmp docid cells all) (sym c.in_ok-cells.ensures) ∙ sym with_it),
+    )

@@ -27,12 +27,13 @@ loop-token-preserved c =
     let docid = to_z w64 (of_z w64 c.args.docid) in
     let lists = lists_in_terms c.loop-token.self in
     let rest = c.next.new.self in
+    let added : CanJoin docid lists → lists_in_terms c.add_posting.new.self ≡ with_entries (cell_entries docid c.args.place (plain_token c.in-Some.token ∷ [])) lists = rw c.spot_of-spot.ensures at c.in_ok-add_posting.ensures in
     let steps : c.loop-token.tokenizer ≡ plain_token c.in-Some.token ∷ rest = search rules in (
       (subst AreSmall steps c.loop-token.invariant.0).3,
       omega (arith, c.loop-token.invariant.1, ap length steps),
       λ can.
           let before = c.loop-token.invariant.2 can in
-          let is = c.in_ok-add_token.ensures before.0 in (
+          let is = added before.0 in (
             subst (CanJoin docid) (sym is) (can_more docid c.args.place (plain_token c.in-Some.token ∷ []) lists before.0),
             ap (with_entries (cell_entries docid c.args.place rest)) is ∙ ap (λ ts. with_entries (cell_entries docid c.args.place ts) lists) (sym steps) ∙ before.1,
           ),

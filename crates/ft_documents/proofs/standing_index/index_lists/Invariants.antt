@@ -8,7 +8,7 @@ use Rattle.ft_content.specs.Views.{column_of}
 use Rattle.ft_documents.specs.Standing.{HaveCells, shown_row, shown_size, are_sizes_of}
 use Rattle.ft_documents.specs.Terms.{lists_in_terms}
 use Rattle.ft_documents.proofs.StandingIndex.{Left}
-use Rattle.ft_documents.proofs.standing_index.lists_of_documents.Given as goal
+use Rattle.ft_documents.proofs.standing_index.index_lists.Given as goal
 
 abbrev pub invariant-loop-first : goal.invariant-loop-first
 invariant-loop-first l = (documents : Documents) → HaveCells (length l.columns) (map shown_row l.initial.cells) documents → IsTrue (is_sorted int_cmp documents) →

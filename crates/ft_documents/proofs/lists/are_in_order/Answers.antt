@@ -1,0 +1,26 @@
+-- each row before the next, and each in order
+use Rattle.std.proofs.Common.{◌≡◌, ◌&&◌, sym, ap, ◌∙◌, rules}
+use Rattle.std.specs.Prelude.{int_lt}
+use Rattle.std.specs.List.{list_all}
+use borrow.Author.Tests.{tests}
+use Rattle.std.proofs.lemmas.Iterator.{YieldsList-from_slice}
+use Rattle.std.proofs.lemmas.Iterator.Search.{all_from_yields_List}
+use Rattle.std.proofs.lemmas.List.Sorted.{answers_always}
+use Rattle.ft_documents.specs.Placed.{is_in_order, docids_rise}
+use Rattle.ft_documents.proofs.RisingRows.{neighbours_tell}
+use Rattle.ft_documents.proofs.lists.are_in_order.Goals as goal
+
+pub returns-then-is_sorted_by : goal.returns-then-is_sorted_by
+returns-then-is_sorted_by c =
+    let rows = c.args.rows.now in
+    let rise : c.is_sorted_by.result ≡ docids_rise rows = neighbours_tell (λ a b. int_lt a.docid b.docid) rows c.is_sorted_by.result
+    (c.is_sorted_by.ensures.cases (λ a b. int_lt a.docid b.docid) (answers_always _ _ _ (λ f a r g called. search rules))) in
+    let all : c.all.result ≡ list_all is_in_order rows = all_from_yields_List is_in_order _ _ c.all.result c.all.ensures.ran (YieldsList-from_slice rows c.iter.ensures.rest) (λ x b q k. search (rules, tests)) in
+    all ∙ ap (λ b. b && list_all is_in_order rows) (sym c.if-is_sorted_by.true ∙ rise)
+
+pub returns-else-is_sorted_by : goal.returns-else-is_sorted_by
+returns-else-is_sorted_by c =
+    let rows = c.args.rows.now in
+    let rise : c.is_sorted_by.result ≡ docids_rise rows = neighbours_tell (λ a b. int_lt a.docid b.docid) rows c.is_sorted_by.result
+    (c.is_sorted_by.ensures.cases (λ a b. int_lt a.docid b.docid) (answers_always _ _ _ (λ f a r g called. search rules))) in
+    c.if-is_sorted_by.false ∙ ap (λ b. b && list_all is_in_order rows) (sym c.if-is_sorted_by.false ∙ rise)
