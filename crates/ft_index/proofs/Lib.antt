@@ -12,7 +12,7 @@ pub mod WalkedLemmas
 pub mod ReadsLemmas
 pub mod CreateLemmas
 pub mod Executing
-pub mod StandingReads
+pub mod RowStateReads
 pub mod OpenedTables
 pub mod CheckLemmas
 pub mod RebuildPlans

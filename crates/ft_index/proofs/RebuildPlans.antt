@@ -23,9 +23,9 @@ use Rattle.ft_documents.proofs.AddLemmas.{bare}
 use Rattle.ft_documents.proofs.InsertOf.{are_of}
 use Rattle.ft_documents.proofs.InsertRows.{befores_new, rewritten_new, sorted_new}
 use Rattle.ft_documents.proofs.KeyedRows.{put_in_order}
-use Rattle.ft_index.specs.declared.standing.Standing.TheVariants as standings
+use Rattle.ft_index.specs.declared.row_state.RowState.TheVariants as states
 use Rattle.ft_index.specs.Kept.{AreHeld, StoreHolds, Stands, PlansFrom, held_columns, told_table}
-use Rattle.ft_index.specs.Opened.{standing_of}
+use Rattle.ft_index.specs.Opened.{state_of}
 use Rattle.ft_index.proofs.Anew.{anew_change, anew_holds}
 use Rattle.ft_index.proofs.CheckLemmas.{IsTold}
 use Rattle.ft_index.proofs.KnownLemmas.{none_named}
@@ -65,10 +65,10 @@ module _ (store : StoreValue) (tables : List TableInfo) (contents : Contents) (n
   stands_at state e = subst (Stands t.table.1.name (table_rows t.table.0 store) (table_index t.table.0 store)) e t.stands
 
   -- rows that are right stay
-  pub plan_right : standings.Sound ≡ standing_of t.table.1.held → PlansFrom contents (Rebuild name) store (Ok [])
+  pub plan_right : states.Sound ≡ state_of t.table.1.held → PlansFrom contents (Rebuild name) store (Ok [])
   plan_right is = go t.table.1.held refl is
     where
-      go : (state : TableState) → t.table.1.held ≡ state → standings.Sound ≡ standing_of state → PlansFrom contents (Rebuild name) store (Ok [])
+      go : (state : TableState) → t.table.1.held ≡ state → states.Sound ≡ state_of state → PlansFrom contents (Rebuild name) store (Ok [])
       go (Sound content) e is = (
         due_at (Sound content) e,
         subst (StoreHolds store) (sym (rebuild_after contents name)) (changes_one name t.table store store rebuilt store.tables contents (record { rows = λ other apart. refl; index = λ other apart. refl })
@@ -80,11 +80,11 @@ module _ (store : StoreValue) (tables : List TableInfo) (contents : Contents) (n
       go (Loose rows) e is = absurd (let no = is in cc)
 
   -- others are put into the table anew
-  pub plan_stale : (rewrites : List Rewrite) (changes : List Change) → standings.Stale ≡ standing_of t.table.1.held → ((content : Content) → IsContent t.table.1.name content → table_rows t.table.0 store ≡ content_rows content → rewrites ≡ map new_rewrite content.documents) →
+  pub plan_stale : (rewrites : List Rewrite) (changes : List Change) → states.Stale ≡ state_of t.table.1.held → ((content : Content) → IsContent t.table.1.name content → table_rows t.table.0 store ≡ content_rows content → rewrites ≡ map new_rewrite content.documents) →
       AreRight known.id known.columns rewrites changes → All (IsOfDocids known.id (docids_of rewrites)) changes → PlansFrom contents (Rebuild name) store (Ok (anew_change known ∷ changes))
   plan_stale rewrites changes is all right near = go t.table.1.held refl is
     where
-      go : (state : TableState) → t.table.1.held ≡ state → standings.Stale ≡ standing_of state → PlansFrom contents (Rebuild name) store (Ok (anew_change known ∷ changes))
+      go : (state : TableState) → t.table.1.held ≡ state → states.Stale ≡ state_of state → PlansFrom contents (Rebuild name) store (Ok (anew_change known ∷ changes))
       go (Sound content) e is = absurd (let no = is in cc)
       go (Loose rows) e is = absurd (let no = is in cc)
       go (Stale content) e is =
@@ -102,10 +102,10 @@ module _ (store : StoreValue) (tables : List TableInfo) (contents : Contents) (n
           )
 
   -- rows that are no content can't be
-  pub plan_loose : standings.Loose ≡ standing_of t.table.1.held → PlansFrom contents (Rebuild name) store (Err faults.Corrupt)
+  pub plan_loose : states.Loose ≡ state_of t.table.1.held → PlansFrom contents (Rebuild name) store (Err faults.Corrupt)
   plan_loose is = go t.table.1.held refl is
     where
-      go : (state : TableState) → t.table.1.held ≡ state → standings.Loose ≡ standing_of state → PlansFrom contents (Rebuild name) store (Err faults.Corrupt)
+      go : (state : TableState) → t.table.1.held ≡ state → states.Loose ≡ state_of state → PlansFrom contents (Rebuild name) store (Err faults.Corrupt)
       go (Sound content) e is = absurd (let no = is in cc)
       go (Stale content) e is = absurd (let no = is in cc)
       go (Loose rows) e is = inr (due_at (Loose rows) e)

@@ -12,22 +12,22 @@ use Rattle.ft_content.specs.Content.{TableRows}
 use Rattle.ft_content.specs.Index.{IndexRows}
 use Rattle.ft_content.specs.Views.{TableInfo}
 use Rattle.ft_content.specs.Deserved.{TableState, Sound, Stale, Loose, Contents}
-use Rattle.ft_index.specs.declared.standing.Standing.{Standing}
-use Rattle.ft_index.specs.declared.standing.Standing.TheVariants as standings
+use Rattle.ft_index.specs.declared.row_state.RowState.{RowState}
+use Rattle.ft_index.specs.declared.row_state.RowState.TheVariants as states
 use Rattle.ft_index.specs.DocumentsRead.{Looks}
 use Rattle.ft_index.specs.Kept.{FullText, IsUp, Stands, StoreHolds, Holds, told_table}
 use Rattle.ft_documents.specs.Tables.{table_rows, table_index}
 
-abbrev pub standing_of : TableState → Standing
-standing_of (Sound content) = standings.Sound
-standing_of (Stale content) = standings.Stale
-standing_of (Loose rows) = standings.Loose
+abbrev pub state_of : TableState → RowState
+state_of (Sound content) = states.Sound
+state_of (Stale content) = states.Stale
+state_of (Loose rows) = states.Loose
 
 -- rows of a table stand so
-pub record StandsSo (name : List ℕ) (rows : TableRows) (index : IndexRows) (standing : Standing) : Type 0 where
+pub record StandsSo (name : List ℕ) (rows : TableRows) (index : IndexRows) (state : RowState) : Type 0 where
   pub held : TableState
   pub stands : Stands name rows index held
-  pub is : standing ≡ standing_of held
+  pub is : state ≡ state_of held
 
 -- a table is listed as one that the store names
 abbrev pub IsListed : StoreValue → ℤ × List ℕ → TabRow → Type 0

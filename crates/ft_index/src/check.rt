@@ -6,7 +6,7 @@ ghost use Rattle.ft_index.specs.Changed.{with_tables};
 ghost use Rattle.ft_index.specs.DocumentsRead.{LooksTo};
 ghost use Rattle.ft_index.specs.Kept.{Executes};
 
-use crate::standing::standing_under;
+use crate::row_state::state_under;
 use ft_content::{Fault, Reply, TableInfo};
 use ft_documents::named_table;
 use ft_store::Store;
@@ -27,8 +27,8 @@ pub(crate) fn check_table<S: Alter>(
 {
     store.is_in_order();
     let known = named_table(tables, table)?;
-    let standing = standing_under(alloc, store, known.id)?;
-    if standing.is_sound() {
+    let state = state_under(alloc, store, known.id)?;
+    if state.is_sound() {
         Ok(Reply::Done)
     } else {
         Err(Fault::Corrupt)

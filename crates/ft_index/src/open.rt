@@ -7,7 +7,7 @@ ghost use Rattle.ft_content.specs.Views.{shown_info};
 ghost use Rattle.ft_index.specs.DocumentsRead.{Asks};
 ghost use Rattle.ft_index.specs.Opened.{AreMarked};
 
-use crate::standing::read_standing;
+use crate::row_state::read_state;
 use ft_content::TableInfo;
 use ft_documents::listed_columns;
 use ft_store::{Store, StoreFault, TabRow};
@@ -29,7 +29,7 @@ pub(crate) fn opened_tables<S: Alter>(
     let mut tables = Vec::new(alloc);
     for row in rows {
         let columns = listed_columns(alloc, &row)?;
-        let sound = read_standing(alloc, store, &row)?.is_sound();
+        let sound = read_state(alloc, store, &row)?.is_sound();
         let TabRow { id, name, .. } = row;
         tables.push(TableInfo {
             id,

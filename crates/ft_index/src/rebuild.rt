@@ -9,7 +9,7 @@ ghost use Rattle.ft_index.specs.DocumentsRead.{LooksTo};
 ghost use Rattle.ft_index.specs.Written.{PlansIn, RebuildsIn};
 
 use crate::documents::all_documents;
-use crate::standing::{Standing, standing_under};
+use crate::row_state::{RowState, state_under};
 use crate::written::{Written, anew_changes, make_anew};
 use ft_content::{Fault, Reply, TableInfo};
 use ft_documents::{additions, mark_sound, named_table};
@@ -66,14 +66,14 @@ fn rebuilt<'t, S: Alter>(
         → RebuildsIn S.Store tables store.old store.new (plain.Rebuild name) result) }
 {
     store.is_in_order();
-    let standing = standing_under(alloc, store, table.id)?;
-    match standing {
-        Standing::Sound => Ok(None),
-        Standing::Stale => {
+    let state = state_under(alloc, store, table.id)?;
+    match state {
+        RowState::Sound => Ok(None),
+        RowState::Stale => {
             let documents = all_documents(alloc, store, table.id)?;
             let rewrites = additions(alloc, documents)?;
             Ok(Some(Written { table, rewrites }))
         }
-        Standing::Loose => Err(Fault::Corrupt),
+        RowState::Loose => Err(Fault::Corrupt),
     }
 }

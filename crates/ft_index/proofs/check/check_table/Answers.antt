@@ -35,10 +35,10 @@ returns-then-is_sound g c = record {
       let known = shown_info c.in_ok-known.known.now in
       let v = value_in g.S.Store c.args.store.now in
       let fits : FitsSigned w64 known.id = search rules in
-      executes_read g.S.Store c.args.store.now c.standing_under.new.store tables (plain.Check c.args.table.now) _ c.in_ok-standing.ensures.only (λ up first holds.
+      executes_read g.S.Store c.args.store.now c.state_under.new.store tables (plain.Check c.args.table.now) _ c.in_ok-state.ensures.only (λ up first holds.
       let t = told_here v tables first c.args.table.now known c.is_in_order.ensures.order holds c.in_ok-known.ensures in
       let named = subst (λ k. IsNamed v k (t.table.0, t.table.1.name)) (sym (to_z-of_z fits)) t.named in
-      let stands = c.in_ok-standing.ensures.told (t.table.0, t.table.1.name) t.table.1.held up.clean named t.stands in
+      let stands = c.in_ok-state.ensures.told (t.table.0, t.table.1.name) t.table.1.held up.clean named t.stands in
       inr (check_right first c.args.table.now t.table t.found (sym (c.is_sound.ensures t.table.1.held stands) ∙ c.if-is_sound.true)));
   only = search rules;
   live = search rules;
@@ -51,10 +51,10 @@ returns-else-is_sound g c = record {
       let known = shown_info c.in_ok-known.known.now in
       let v = value_in g.S.Store c.args.store.now in
       let fits : FitsSigned w64 known.id = search rules in
-      executes_read g.S.Store c.args.store.now c.standing_under.new.store tables (plain.Check c.args.table.now) _ c.in_ok-standing.ensures.only (λ up first holds.
+      executes_read g.S.Store c.args.store.now c.state_under.new.store tables (plain.Check c.args.table.now) _ c.in_ok-state.ensures.only (λ up first holds.
       let t = told_here v tables first c.args.table.now known c.is_in_order.ensures.order holds c.in_ok-known.ensures in
       let named = subst (λ k. IsNamed v k (t.table.0, t.table.1.name)) (sym (to_z-of_z fits)) t.named in
-      let stands = c.in_ok-standing.ensures.told (t.table.0, t.table.1.name) t.table.1.held up.clean named t.stands in
+      let stands = c.in_ok-state.ensures.told (t.table.0, t.table.1.name) t.table.1.held up.clean named t.stands in
       inr (check_wrong first c.args.table.now t.table t.found (sym (c.is_sound.ensures t.table.1.held stands) ∙ c.if-is_sound.false)));
   only = search rules;
   live = search rules;

@@ -9,8 +9,8 @@ use Rattle.ft_rows.specs.Store.{StoreValue, list_key_cmp}
 use Rattle.ft_rows.specs.Terms.{lists_by_terms}
 use Rattle.ft_store.specs.Kept.{shows, value_in}
 use Rattle.ft_store.specs.Rows.{value_of}
-use Rattle.ft_index.proofs.StandingReads.{SizesRead, rows_same, lists_same, sizes_others}
-use Rattle.ft_index.proofs.standing.has_right_index.Goals as goal
+use Rattle.ft_index.proofs.RowStateReads.{SizesRead, rows_same, lists_same, sizes_others}
+use Rattle.ft_index.proofs.row_state.has_right_index.Goals as goal
 
 pub returns-in-Some : goal.returns-in-Some
 returns-in-Some g c = record {

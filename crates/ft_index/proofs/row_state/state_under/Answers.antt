@@ -9,19 +9,19 @@ use Rattle.sqlite.specs.State.{HasCleanDisk}
 use Rattle.ft_store.specs.Kept.{shows, value_in}
 use Rattle.ft_values.specs.declared.rows.TabRow.{TabRow}
 use Rattle.ft_index.specs.Kept.{Stands}
-use Rattle.ft_index.specs.Opened.{IsFound, IsListed, standing_of}
+use Rattle.ft_index.specs.Opened.{IsFound, IsListed, state_of}
 use Rattle.ft_documents.specs.Tables.{table_rows, table_index}
 use Rattle.ft_index.proofs.HeldLemmas.{held_once}
 use Rattle.ft_index.proofs.OpenedTables.{found_listed}
-use Rattle.ft_index.proofs.StandingReads.{looked, looks_then}
-use Rattle.ft_index.proofs.standing.standing_under.Goals as goal
+use Rattle.ft_index.proofs.RowStateReads.{looked, looks_then}
+use Rattle.ft_index.proofs.row_state.state_under.Goals as goal
 
 pub returns-in-Some : goal.returns-in-Some
 returns-in-Some g c = record {
   told = λ named held clean is stands.
       let v = value_in g.S.Store c.args.store.now in
       let read = c.in_ok-tables.ensures.read in
-      let middle : HasCleanDisk (shows g.S.Store c.tables.new.self) = omega (arith, c.read_standing.ensures.only.survives.clean, clean) in
+      let middle : HasCleanDisk (shows g.S.Store c.tables.new.self) = omega (arith, c.read_state.ensures.only.survives.clean, clean) in
       let same = looked g.S.Store c.args.store.now c.tables.new.self (record { kept = read.kept; survives = read.survives }) read.live middle in
       let rows = c.in_ok-tables.field-0.items in
       let found : find (λ (t : TabRow). int_eq c.args.id t.id) rows ≡ Some c.in-Some.table =
@@ -30,9 +30,9 @@ returns-in-Some g c = record {
       let listed : IsListed v named c.in-Some.table = subst (IsFound v named) found (found_listed v c.args.id named rows v.tables (c.in_ok-tables.ensures.rows middle) is) in
       let all = table_rows named.0 v in
       let index = table_index named.0 v in
-      IfOk-weaker c.read_standing.result _ _ (λ s so. so.is ∙ ap standing_of (held_once named.1 all index so.held held (subst (λ w. Stands named.1 (table_rows named.0 w) (table_index named.0 w) so.held) same so.stands) stands))
-      (c.read_standing.ensures.told named clean (subst (λ w. IsListed w named c.in-Some.table) (sym same) listed));
-  only = looks_then g.S.Store c.args.store.now c.tables.new.self (record { kept = c.in_ok-tables.ensures.read.kept; survives = c.in_ok-tables.ensures.read.survives }) c.in_ok-tables.ensures.read.live c.read_standing.new.store c.read_standing.ensures.only;
+      IfOk-weaker c.read_state.result _ _ (λ s so. so.is ∙ ap state_of (held_once named.1 all index so.held held (subst (λ w. Stands named.1 (table_rows named.0 w) (table_index named.0 w) so.held) same so.stands) stands))
+      (c.read_state.ensures.told named clean (subst (λ w. IsListed w named c.in-Some.table) (sym same) listed));
+  only = looks_then g.S.Store c.args.store.now c.tables.new.self (record { kept = c.in_ok-tables.ensures.read.kept; survives = c.in_ok-tables.ensures.read.survives }) c.in_ok-tables.ensures.read.live c.read_state.new.store c.read_state.ensures.only;
   live = search rules;
 }
 

@@ -8,8 +8,8 @@ use Rattle.ft_content.specs.Views.{column_of}
 use Rattle.ft_content.specs.Index.{index_rows}
 use Rattle.ft_documents.specs.Standing.{AreContent, HaveContent, shown_row, listed_rows}
 use Rattle.ft_documents.specs.Tables.{table_rows, table_index}
-use Rattle.ft_index.proofs.StandingReads.{looked, looks_then, CellsRead, listed, stands_loose, stands_sound, stands_stale, have_content, have_columns, are_listed, are_named}
-use Rattle.ft_index.proofs.standing.read_standing.Goals as goal
+use Rattle.ft_index.proofs.RowStateReads.{looked, looks_then, CellsRead, listed, stands_loose, stands_sound, stands_stale, have_content, have_columns, are_listed, are_named}
+use Rattle.ft_index.proofs.row_state.read_state.Goals as goal
 
 pub returns-then-not-branch : goal.returns-then-not-branch
 returns-then-not-branch g c = record {

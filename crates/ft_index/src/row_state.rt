@@ -10,7 +10,7 @@ ghost use Rattle.ft_content.specs.Views.{column_of};
 ghost use Rattle.ft_content.specs.Deserved.{TableState};
 ghost use Rattle.ft_index.specs.DocumentsRead.{Asks, LooksTo};
 ghost use Rattle.ft_index.specs.Kept.{Stands, is_sound};
-ghost use Rattle.ft_index.specs.Opened.{standing_of, StandsSo, IsListed, IsNamed};
+ghost use Rattle.ft_index.specs.Opened.{state_of, StandsSo, IsListed, IsNamed};
 ghost use Rattle.ft_documents.specs.Standing as standing;
 ghost use Rattle.ft_documents.specs.Tables.{table_rows, table_index};
 
@@ -23,46 +23,46 @@ use std::alloc::Global;
 /// How the rows of a table stand: they are a content with exactly the index rows made from scratch,
 /// a content with others, or no content.
 #[derive(Clone, Copy, Debug)]
-pub(crate) enum Standing {
+pub(crate) enum RowState {
     Sound,
     Stale,
     Loose,
 }
 
-impl Standing {
+impl RowState {
     /// The mark of a table that stands so: it is sound where its index rows are those made from
     /// scratch out of its content.
     pub(crate) fn is_sound(self) -> bool
-        ensures { (held : TableState) → self ≡ standing_of held → result ≡ is_sound held }
+        ensures { (held : TableState) → self ≡ state_of held → result ≡ is_sound held }
     {
-        matches!(self, Standing::Sound)
+        matches!(self, RowState::Sound)
     }
 }
 
 /// How the rows of the table of an id stand. The store is only read, whatever is answered.
-pub(crate) fn standing_under<S: Alter>(
+pub(crate) fn state_under<S: Alter>(
     alloc: Global,
     store: &mut Store<S>,
     id: i64,
-) -> Result<Standing, StoreFault>
+) -> Result<RowState, StoreFault>
     ensures { LooksTo S.Store store.old store.new result
         ((named : ℤ × List ℕ) (held : TableState) → HasCleanDisk (shows S.Store store.new)
         → IsNamed (value_in S.Store store.old) id named → Stands named.1 (table_rows named.0
         (value_in S.Store store.old)) (table_index named.0 (value_in S.Store store.old)) held
-        → IfOk result (λ s. s ≡ standing_of held)) }
+        → IfOk result (λ s. s ≡ state_of held)) }
 {
     match store.tables()?.into_iter().find(|table| table.id == id) {
-        Some(table) => read_standing(alloc, store, &table),
-        None => Ok(Standing::Loose),
+        Some(table) => read_state(alloc, store, &table),
+        None => Ok(RowState::Loose),
     }
 }
 
 /// How the rows of a table that is listed stand. The store is only read, whatever is answered.
-pub(crate) fn read_standing<S: Alter>(
+pub(crate) fn read_state<S: Alter>(
     alloc: Global,
     store: &mut Store<S>,
     table: &TabRow,
-) -> Result<Standing, StoreFault>
+) -> Result<RowState, StoreFault>
     ensures { Asks S.Store store.old store.new result IsPlainFault
         ((named : ℤ × List ℕ) → HasCleanDisk (shows S.Store store.new)
         → IsListed (value_in S.Store store.old) named table.now
@@ -72,12 +72,12 @@ pub(crate) fn read_standing<S: Alter>(
     let columns = listed_columns(alloc, table)?;
     let cells = store.cells(table.id)?;
     if !is_content(alloc, table, columns.as_slice(), cells.as_slice())? {
-        return Ok(Standing::Loose);
+        return Ok(RowState::Loose);
     }
     if has_right_index(alloc, store, table.id, columns.as_slice(), cells.as_slice())? {
-        return Ok(Standing::Sound);
+        return Ok(RowState::Sound);
     }
-    Ok(Standing::Stale)
+    Ok(RowState::Stale)
 }
 
 // Whether the index rows of a table are those made from scratch out of the content that has these

@@ -23,10 +23,10 @@ use Rattle.ft_content.specs.Index.{Key, StoredSpot, SizeRow, IndexRows, index_ro
 use Rattle.ft_content.specs.Views.{TableInfo}
 use Rattle.ft_content.specs.Deserved.{TableState, Sound, Stale, Loose}
 use Rattle.ft_content.proofs.RowLemmas.{rows_are_read}
-use Rattle.ft_index.specs.declared.standing.Standing.TheVariants as standings
-use Rattle.ft_index.specs.declared.standing.Standing.{Standing}
+use Rattle.ft_index.specs.declared.row_state.RowState.TheVariants as states
+use Rattle.ft_index.specs.declared.row_state.RowState.{RowState}
 use Rattle.ft_index.specs.Kept.{Stands, held_columns, is_sound}
-use Rattle.ft_index.specs.Opened.{standing_of, StandsSo, IsListed, IsMarked}
+use Rattle.ft_index.specs.Opened.{state_of, StandsSo, IsListed, IsMarked}
 use Rattle.ft_documents.specs.RewriteRows.{sized}
 use Rattle.ft_documents.specs.Standing.{shown_size, shown_row, listed_rows, columns_in, AreContent, HaveContent}
 use Rattle.ft_documents.specs.Terms.{under_term, lists_of_terms}
@@ -138,13 +138,13 @@ listed store named table cells is read =
 
 -- ---- how rows stand
 
-pub stands_loose : (name : List ℕ) (rows : TableRows) (index : IndexRows) → ¬ AreContent name rows → StandsSo name rows index standings.Loose
+pub stands_loose : (name : List ℕ) (rows : TableRows) (index : IndexRows) → ¬ AreContent name rows → StandsSo name rows index states.Loose
 stands_loose name rows index none = record { held = Loose rows; stands = (refl, λ content is same. none (record { content = content; is_content = is; is = same })); is = refl }
 
-pub stands_sound : (name : List ℕ) (rows : TableRows) (index : IndexRows) (content : Content) → IsContent name content × (rows ≡ content_rows content) → index ≡ index_rows content → StandsSo name rows index standings.Sound
+pub stands_sound : (name : List ℕ) (rows : TableRows) (index : IndexRows) (content : Content) → IsContent name content × (rows ≡ content_rows content) → index ≡ index_rows content → StandsSo name rows index states.Sound
 stands_sound name rows index content are right = record { held = Sound content; stands = (are.0, are.1, right); is = refl }
 
-pub stands_stale : (name : List ℕ) (rows : TableRows) (index : IndexRows) (content : Content) → IsContent name content × (rows ≡ content_rows content) → index ≢ index_rows content → StandsSo name rows index standings.Stale
+pub stands_stale : (name : List ℕ) (rows : TableRows) (index : IndexRows) (content : Content) → IsContent name content × (rows ≡ content_rows content) → index ≢ index_rows content → StandsSo name rows index states.Stale
 stands_stale name rows index content are wrong = record { held = Stale content; stands = (are.0, are.1, wrong); is = refl }
 
 -- the columns of a content are those that its rows say
@@ -177,10 +177,10 @@ told_columns name rows index (Sound content) stands = said_columns name rows con
 told_columns name rows index (Stale content) stands = said_columns name rows content stands.0 stands.1
 told_columns name rows index (Loose loose) stands = ap (λ (r : TableRows). (content_in r).columns) (sym stands.0)
 
-pub marked : (store : StoreValue) (named : ℤ × List ℕ) (table : TabRow) (known : TableInfo) (standing : Standing) → IsListed store named table → StandsSo named.1 (table_rows named.0 store) (table_index named.0 store) standing →
+pub marked : (store : StoreValue) (named : ℤ × List ℕ) (table : TabRow) (known : TableInfo) (state : RowState) → IsListed store named table → StandsSo named.1 (table_rows named.0 store) (table_index named.0 store) state →
     known.id ≡ table.id → known.name ≡ string_bytes table.name → known.columns ≡ columns_in (listed_rows table []) →
-    ((held : TableState) → standing ≡ standing_of held → known.sound ≡ is_sound held) → IsMarked store named known
-marked store named table known standing is so id name columns sound =
+    ((held : TableState) → state ≡ state_of held → known.sound ≡ is_sound held) → IsMarked store named known
+marked store named table known state is so id name columns sound =
     let same_id = id ∙ ap (λ (l : shown.Listed). l.id) is in
     let same_name = name ∙ ap (λ (l : shown.Listed). l.name) is in
     let same_columns : known.columns ≡ held_columns so.held = columns ∙ (λ i. columns_in (record { columns = (is i).columns; skipped = (is i).skipped; cells = [] })) ∙ told_columns named.1 (table_rows named.0 store) (table_index named.0 store) so.held so.stands in
