@@ -6,7 +6,7 @@ use Rattle.ft_values.specs.Cells.{Cell}
 use Rattle.ft_content.specs.Content.{Column, Documents}
 use Rattle.ft_documents.specs.declared.document_index.DocumentIndex.{DocumentIndex}
 use Rattle.ft_documents.specs.RewriteRows.{lists_in, sizes_in, lists_with, sizes_with, AreShortNumbers}
-use Rattle.ft_documents.specs.MadeIndex.{HaveShortNumbers, Shows, Adds, IsIndexOf}
+use Rattle.ft_documents.specs.MadeIndex.{HaveShortNumbers, Adds, IsIndexOf}
 use Rattle.ft_documents.proofs.IndexOf.{lists_with-append, sizes_with-append, lists_made, sizes_made}
 
 -- what is left of documents joins an index, so that it is that of all
@@ -14,9 +14,6 @@ pub record ToJoin (columns : List Column) (left all : Documents) (index : Docume
   pub lists : lists_with columns left (lists_in index) ≡ lists_with columns all []
   pub sizes : sizes_with columns left (sizes_in index) ≡ sizes_with columns all []
   pub numbers : HaveShortNumbers columns left → HaveShortNumbers columns all
-
-pub all_to_join : (columns : List Column) (all : Documents) (index : DocumentIndex) → Shows index [] [] → ToJoin columns all all index
-all_to_join columns all index shows = record { lists = ap (lists_with columns all) shows.lists; sizes = ap (sizes_with columns all) shows.sizes; numbers = λ short. short }
 
 -- some documents more
 pub more_joined : (columns : List Column) (some rest left all : Documents) (old new : DocumentIndex) → left ≡ some ++ rest → Adds columns some old new → ToJoin columns left all old → ToJoin columns rest all new

@@ -1,6 +1,6 @@
 -- Steps. Documents that rows of an Insert make, beside those that a table has. All of it is our own
 -- choice.
-use Rattle.std.specs.Prelude.{◌≡◌, ◌⊎◌, ℤ, Option, List, [], map, Some, None, IsTrue}
+use Rattle.std.specs.Prelude.{◌≡◌, ◌⊎◌, ℤ, List, map, Some, None, IsTrue}
 use Rattle.std.specs.List.{AllByRecursion}
 use Rattle.std.specs.Ordering.{int_cmp}
 use Rattle.std.specs.FinMap.Entries.{find, is_sorted}
@@ -34,11 +34,6 @@ pub record AreBeside (documents : Documents) (new : NewDocuments) : Type 0 where
   pub rising : IsTrue (is_sorted int_cmp (documents_in new))
   pub apart : AllByRecursion (λ (d : ℤ × List Cell). find int_cmp d.0 documents ≡ None) (documents_in new)
   pub last : last_docid (with_new new documents) ≡ new.last
-
--- no new documents yet, for any table with this last docid
-pub record BeginsAfter (last : Option ℤ) (new : NewDocuments) : Type 0 where
-  pub none : documents_in new ≡ []
-  pub beside : (documents : Documents) → IsTrue (is_sorted int_cmp documents) → last_docid documents ≡ last → AreBeside documents new
 
 -- What comes of a row: the documents with its document, or the fault of its docid, but for want of
 -- memory.

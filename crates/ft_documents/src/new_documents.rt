@@ -27,19 +27,8 @@ impl NewDocuments {
     ghost use Rattle.ft_content.specs.Content.{Documents};
     ghost use Rattle.ft_content.specs.Deserved as deserved;
     ghost use Rattle.ft_content.specs.Views.{column_of};
-    ghost use Rattle.ft_documents.specs.NewDocuments.{documents_in, with_new, new_rewrite, AreBeside, Places, BeginsAfter};
+    ghost use Rattle.ft_documents.specs.NewDocuments.{documents_in, with_new, new_rewrite, AreBeside, Places};
     ghost use Rattle.ft_documents.specs.Rewrite.{shown_rewrite};
-
-    /// None yet, for a table with this last docid.
-    pub(crate) fn new(alloc: Global, last: Option<i64>) -> NewDocuments
-        ensures { BeginsAfter last result }
-    {
-        NewDocuments {
-            alloc,
-            last,
-            documents: BTreeMap::new(alloc),
-        }
-    }
 
     /// Adds the document of a row, whose docid, if it gives one, may be that of a document of the
     /// table.
@@ -98,7 +87,11 @@ pub fn made_documents(
         → Makes documents (insert_rows (map column_of columns.now)
         (map (zip (map (λ n. n.now) names.now)) (map cells_of rows.now)) documents) result }
 {
-    let mut new = NewDocuments::new(alloc, last);
+    let mut new = NewDocuments {
+        alloc,
+        last,
+        documents: BTreeMap::new(alloc),
+    };
     for (place, row) in rows.iter().enumerate() {
         let is_stored = stored.get(place).copied().unwrap_or(false);
         new.add(columns, names, row.as_slice(), is_stored)?;

@@ -1,5 +1,5 @@
 -- a row more
-use Rattle.std.proofs.Common.{◌≡◌, ◌+◌, inl, inr, Err, Result, map, zip, drop, refl, sym, ap, subst, ◌∙◌, rules, false, unwrap_or, get_or, ℕ, zero, suc, Bool, List, [], ◌∷◌}
+use Rattle.std.proofs.Common.{◌≡◌, ◌+◌, inl, inr, Err, Result, map, zip, drop, refl, sym, ap, subst, ◌∙◌, rules, true, false, None, ℤ, unwrap_or, get_or, ℕ, zero, suc, Bool, List, [], ◌∷◌}
 use Rattle.std.specs.Prelude.{slice_get}
 use Rattle.std.specs.Ordering.{int_cmp}
 use Rattle.std.proofs.lemmas.List.{drop_all}
@@ -8,7 +8,12 @@ use Rattle.ft_values.specs.declared.fault.Fault.{Fault}
 use Rattle.ft_content.specs.Deserved.{insert_rows}
 use Rattle.ft_content.specs.Views.{cells_of, column_of}
 use Rattle.ft_documents.specs.declared.new_documents.NewDocuments.{NewDocuments}
-use Rattle.ft_documents.specs.NewDocuments.{with_new}
+use Rattle.std.specs.List.{AllByRecursion}
+use Rattle.std.specs.FinMap.Entries.{find, is_sorted}
+use Rattle.ft_values.specs.Cells.{Cell}
+use Rattle.ft_content.specs.Content.{Documents}
+use Rattle.ft_content.specs.Views.{last_docid}
+use Rattle.ft_documents.specs.NewDocuments.{shown_entry, documents_in, with_new, AreBeside}
 use Rattle.ft_documents.specs.Inserted.{Makes}
 use Rattle.ft_documents.specs.RewriteRows.{all_put}
 use Rattle.ft_documents.proofs.Steps.{taken_more}
@@ -20,11 +25,21 @@ got_or [] k d = refl
 got_or (x ∷ xs) zero d = refl
 got_or (x ∷ xs) (suc k) d = got_or xs k d
 
+-- no new documents yet
+begins : (documents : Documents) (new : NewDocuments) → documents_in new ≡ [] → is_sorted int_cmp documents ≡ true → last_docid documents ≡ new.last → AreBeside documents new
+begins documents new none sorted last = record {
+  sorted = sorted;
+  rising = ap (is_sorted int_cmp) none;
+  apart = subst (AllByRecursion (λ (d : ℤ × List Cell). find int_cmp d.0 documents ≡ None)) (sym none) tt;
+  last = ap (λ new. last_docid (all_put int_cmp new documents)) none ∙ last;
+}
+
 pub loop-place-init : goal.loop-place-init
-loop-place-init c documents sorted last known = (
-  c.new-new.ensures.beside documents sorted last,
-  ap (λ new. insert_rows (map column_of c.args.columns.now) (map (zip (map (λ n. n.now) c.args.names.now)) (map cells_of c.args.rows.now)) (all_put int_cmp new documents)) c.new-new.ensures.none,
-)
+loop-place-init c documents sorted last known =
+    let none : map shown_entry c.new.result.entries ≡ [] = ap (map shown_entry) c.new.ensures.empty in (
+      begins documents _ none sorted last,
+      ap (λ new. insert_rows (map column_of c.args.columns.now) (map (zip (map (λ n. n.now) c.args.names.now)) (map cells_of c.args.rows.now)) (all_put int_cmp new documents)) none,
+    )
 
 pub loop-place-preserved : goal.loop-place-preserved
 loop-place-preserved c documents sorted last known =
