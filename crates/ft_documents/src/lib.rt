@@ -20,7 +20,7 @@ mod tokens;
 mod told;
 mod writes;
 
-pub use columns::{column_names, skipped};
+pub use columns::skipped;
 pub use document::Document;
 pub use documents::gathered;
 pub use groups::in_groups;

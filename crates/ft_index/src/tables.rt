@@ -11,9 +11,10 @@ ghost use Rattle.ft_documents.specs.Found.{with_told};
 
 use crate::change::change_rows;
 use ft_content::{
-    Creation, Fault, Reply, TableInfo, create_fault, free_id, made_columns, made_names,
+    Creation, Fault, Reply, TableInfo, column_names, create_fault, free_id, made_columns,
+    made_names,
 };
-use ft_documents::{column_names, insert_table, remove_table, skipped};
+use ft_documents::{insert_table, remove_table, skipped};
 use ft_store::{RowChange, Store};
 use ft_values::table_place;
 use sqlite::Alter;

@@ -1,8 +1,0 @@
--- the names so far
-use Rattle.std.proofs.Common.{◌≡◌, map, take, string_bytes}
-use Rattle.ft_content.specs.Content.{names_of}
-use Rattle.ft_content.specs.Views.{column_of}
-use Rattle.ft_documents.proofs.columns.column_names.Given as goal
-
-abbrev pub invariant-loop-column : goal.invariant-loop-column
-invariant-loop-column l = map string_bytes l.names.items ≡ names_of (map column_of (take l.column-index l.columns))
