@@ -87,8 +87,8 @@ impl<P: Alter, S: Alter> Session<P, S> {
     /// Runs the units of an input in turn, up to one that ends the session. Whatever a unit is
     /// refused for, the run goes on. However the run ends, the full-text tables are what the
     /// accepted commands make of them. The output is flushed before each read of the input, so that
-    /// whoever waits for an answer has it, before each fault line, and at the end. The status counts
-    /// the fault lines of this run alone.
+    /// whoever waits for an answer has it, before each fault line, and at the end. The status
+    /// counts the fault lines of this run alone.
     ///
     /// # Errors
     ///
