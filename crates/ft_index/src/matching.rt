@@ -44,10 +44,10 @@ fn opened<'q, S: Alter>(
     Matches::open(alloc, query, lists)
 }
 
-/// The documents that a MATCH chooses by the lists of a table's index, the first ones where a number
-/// is given, each with its offsets where they are wanted. One read for each term of its text's
-/// query: without a query there are none, and nothing is read. The store is only read, whatever
-/// is answered.
+/// The documents that a MATCH chooses by the lists of a table's index, the first ones where a
+/// number is given, each with its offsets where they are wanted. One read for each term of its
+/// text's query: without a query there are none, and nothing is read. The store is only read,
+/// whatever is answered.
 pub(crate) fn matched<S: Alter>(
     alloc: Global,
     store: &mut Store<S>,
