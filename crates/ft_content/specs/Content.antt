@@ -7,7 +7,7 @@ use Rattle.std.specs.Ordering.{int_cmp, int_eq}
 use Rattle.std.specs.Fmt.{signed_decimal}
 use Rattle.std.specs.FinMap.Entries.{is_sorted}
 pub use Rattle.ft_values.specs.Cells.{Cell, Null, Int, Text}
-pub use Rattle.ft_values.specs.Names.{same_name}
+pub use Rattle.ft_values.specs.Names.{same_name, repeats_name}
 
 -- The text of a cell: nothing, the decimal text, or the text. A cell is NULL, an integer or a text
 -- (own choice).
@@ -41,11 +41,6 @@ names_of columns = map (λ c. c.name) columns
 -- a name that a table or a column may be given (own choice)
 abbrev pub is_name : List ℕ → Bool
 is_name name = nat_lt 0 (length name) && nat_le (length name) 100 && not (list_any (λ b. b == 0) name)
-
--- whether a name comes twice
-abbrev pub repeats_name : List (List ℕ) → Bool
-repeats_name [] = false
-repeats_name (name ∷ names) = list_any (same_name name) names || repeats_name names
 
 -- whether columns of a table clash: two of one name, or one named as docid or as the table (own
 -- choice)

@@ -7,6 +7,7 @@ use Rattle.std.specs.Ordering.{nat_cmp, int_cmp, ordering_then}
 use Rattle.std.specs.Cmp.Lexicographic.{slice_cmp}
 use Rattle.std.specs.FinMap.Entries.{put, find}
 use Rattle.ft_values.specs.declared.rows.Spot as stored
+pub use Rattle.ft_values.specs.Spots.{Spot, stored_spot}
 use Rattle.ft_query.specs.Tokens.{PlainToken, tokens_of}
 use Rattle.ft_query.specs.Documents.{Posting, postings_of}
 use Rattle.ft_values.specs.Cells.{Cell}
@@ -29,13 +30,6 @@ document_tokens (column ∷ columns) (cell ∷ cells) = cell_tokens column cell 
 -- the tokens of a document under their terms
 abbrev pub document_postings : List Column → List Cell → List Posting
 document_postings columns cells = postings_of (document_tokens columns cells)
-
--- where a term stands in a document, as the store says it
-pub record Spot : Type 0 where
-  pub column : ℕ
-  pub pos : ℕ
-  pub place : ℕ
-  pub size : ℕ
 
 -- a term at a spot of a document
 pub record Entry : Type 0 where
@@ -109,9 +103,6 @@ pub record SizeRow : Type 0 where
 pub record IndexRows : Type 0 where
   pub lists : List (Key × List StoredSpot)
   pub sizes : List SizeRow
-
-abbrev pub stored_spot : Spot → StoredSpot
-stored_spot s = record { column = pos s.column; pos = pos s.pos; place = pos s.place; size = pos s.size }
 
 abbrev pub size_row : Size → SizeRow
 size_row s = record { docid = s.docid; column = pos s.column; n = pos s.n }

@@ -10,11 +10,15 @@ use Rattle.std.proofs.lemmas.List.Sums.{sum_by-cons}
 use Rattle.ft_query.specs.declared.lists.doc_list.DocList.{DocList}
 use Rattle.ft_query.specs.Documents.{PlaceList, plain_list, place_count}
 use Rattle.ft_documents.specs.declared.lists.Placed.{Placed}
-use Rattle.ft_documents.specs.Placed.{place_in, list_with, run_with, with_placed, by_docid}
+use Rattle.ft_documents.specs.Placed.{place_in, list_with, with_placed, by_docid}
 use Rattle.ft_documents.proofs.KeyedRows.{tie, turned_round, itself}
 
 pub docids_same : (x y : ℤ) → int_eq x y ≡ true → x ≡ y
 docids_same x y h = exact_signed x y (tie _ h)
+
+-- how many of the first places are in the document of this one
+abbrev pub run_with : Placed → List Placed → ℕ
+run_with first ps = prefix_len (λ p. int_eq p.docid first.docid) ps
 
 -- the first list is of the first place's docid
 apart : (p q : Placed) (ls : List PlaceList) → int_eq p.docid q.docid ≡ false → with_placed p (with_placed q ls) ≡ list_with p (p ∷ []) ∷ with_placed q ls

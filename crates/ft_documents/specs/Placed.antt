@@ -1,6 +1,6 @@
 -- Steps. Index rows, as the lists of places of documents that they mean (own choice).
 use Rattle.std.specs.Prelude.{◌≡◌, ℕ, ℤ, Bool, true, nat_lt, int_lt, ◌==◌, ◌&&◌, ◌||◌, if◌then◌else◌, List, [], ◌∷◌, map, nat_abs, IsPermutation, IsSorted}
-use Rattle.std.specs.List.{prefix_len, flat_map, list_all}
+use Rattle.std.specs.List.{flat_map, list_all}
 use Rattle.std.specs.declared.cmp.Ordering.{Ordering}
 use Rattle.std.specs.Ordering.{nat_cmp, int_cmp, int_eq, ordering_then}
 use Rattle.ft_query.specs.declared.lists.place.Place.{Place}
@@ -61,10 +61,6 @@ are_in_order rows = docids_rise rows && list_all is_in_order rows
 -- the list of a document's places, of which the first is this one
 abbrev pub list_with : Placed → List Placed → PlaceList
 list_with first ps = record { docid = first.docid; places = map place_in ps }
-
--- how many of the first places are in the document of this one
-abbrev pub run_with : Placed → List Placed → ℕ
-run_with first ps = prefix_len (λ p. int_eq p.docid first.docid) ps
 
 -- Places one after another, as lists of documents: a place joins the list after it, if that has its
 -- docid.

@@ -44,8 +44,8 @@ pub fn row_changes(
     columns: &[Column],
     rewrites: Vec<Rewrite>,
 ) -> Result<Vec<RowChange>, AllocError>
-    ensures plan { IfOk result (λ changes. map shown_change changes.items
-        ≡ rows.rewrite_changes tab (map column_of columns.now) (map shown_rewrite rewrites.items)) }
+    ensures plan { IfOk result (λ changes. map shown_change changes.items ≡ rows.rewrite_changes
+        tab (map column_of columns.now) (map shown_rewrite rewrites.items)) }
     ensures right { IfOk result (λ changes. AreRight tab (map column_of columns.now)
         (map shown_rewrite rewrites.items) (map shown_change changes.items)) }
     ensures packable { IfOk result (λ changes. length columns.now ≤ 100

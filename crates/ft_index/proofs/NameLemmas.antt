@@ -11,7 +11,8 @@ use Rattle.ft_content.specs.Content.{same_name, repeats_name}
 use Rattle.ft_content.specs.Command.{Command, Create, Drop, Insert, Update, Delete, Select, Rebuild, Check, Optimize}
 use Rattle.ft_content.specs.Deserved.{TableState, Table, Contents, table_named, made_columns}
 use Rattle.ft_content.specs.Step.{free_id_from, new_table, inserted, updated, deleted, with_documents, rebuilt, on_table, after}
-use Rattle.ft_index.specs.Called.{left_by, table_names, NamesStayApart}
+use Rattle.ft_content.specs.Views.{table_names}
+use Rattle.ft_index.specs.Called.{left_by, NamesStayApart}
 
 neither : (a b : Bool) → (a || b) ≡ false → (a ≡ false) × (b ≡ false)
 neither true b h = absurd (let no = h in cc)

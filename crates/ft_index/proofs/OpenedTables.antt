@@ -74,10 +74,7 @@ marked_contents store known all = found store store.tables known all
 pub marked_holds : (store : StoreValue) (known : List TableInfo) → AreNamedApart store → AreMarked store store.tables known → (contents : Contents) × AreHeld store known contents
 marked_holds store known apart all =
     let f = found store store.tables known all in
-    (f.contents, record { named_once = ap repeats_name f.names ∙ same_repeats (map (λ (t : ℤ × List ℕ). t.1) store.tables) ∙ apart; held = f.held; told = f.told })
-  where
-    same_repeats : (names : List (List ℕ)) → repeats_name names ≡ Rattle.ft_rows.specs.Shown.repeats_name names
-    same_repeats names = refl
+    (f.contents, record { named_once = ap repeats_name f.names ∙ apart; held = f.held; told = f.told })
 
 -- ---- a store that is taken
 

@@ -15,6 +15,7 @@ use Rattle.ft_content.specs.Content.{repeats_name}
 use Rattle.ft_content.specs.Command.{Command, Reply}
 use Rattle.ft_content.specs.Deserved.{Table, Contents}
 use Rattle.ft_content.specs.Step.{step, after}
+use Rattle.ft_content.specs.Views.{table_names}
 use Rattle.ft_index.specs.Kept.{FullText, IsUp, Holds, StoreHolds, Executes, Notes, is_outside, is_sound, value_of}
 use Rattle.ft_index.specs.Crashes.{HoldsLeft, IsSettled, LeavesCommand, LeavesNote, Name}
 
@@ -121,9 +122,6 @@ is_unsound id table = if is_sound table.1.held then false else int_eq id table.0
 abbrev pub NoneGetsUnsound : Type 0
 NoneGetsUnsound = (first : Contents) (commands : List Command) (id : ℤ) → IsTrue (list_any (is_unsound id) (left_by first commands))
     → IsTrue (list_any (is_unsound id) first)
-
-abbrev pub table_names : Contents → List (List ℕ)
-table_names contents = map (λ (t : ℤ × Table). t.1.name) contents
 
 -- Commands give no two tables one name.
 abbrev pub NamesStayApart : Type 0

@@ -30,7 +30,8 @@ impl Written<'_> {
 
     /// Their row changes.
     pub(crate) fn changes(self, alloc: Global) -> Result<Vec<RowChange>, AllocError>
-        ensures { IfOk result (λ changes. AreOfWritten self.entry (map shown_change changes.items)) }
+        ensures { IfOk result (λ changes. AreOfWritten self.entry
+            (map shown_change changes.items)) }
     {
         let Written { table, rewrites } = self;
         Ok(row_changes(alloc, table.id, table.columns.as_slice(), rewrites)?)

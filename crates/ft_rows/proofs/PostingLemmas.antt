@@ -7,7 +7,7 @@ use Rattle.std.proofs.lemmas.Bool.Decides.{Decides-int_eq}
 use Rattle.std.proofs.lemmas.List.Sums.{prefix_len-le-length}
 use Rattle.ft_values.specs.declared.rows.Spot.{Spot}
 use Rattle.ft_rows.specs.declared.terms.Posting.{Posting}
-use Rattle.ft_rows.specs.Terms.{spot_of, joined, lists_of_postings, run_with, AreFirstList}
+use Rattle.ft_rows.specs.Terms.{spot_of, joined, lists_of_postings, AreFirstList}
 
 pub itself : (n : ℤ) → int_eq n n ≡ true
 itself n = (Decides-int_eq n n).1 refl
@@ -25,6 +25,10 @@ turned_round m n = go (int_eq m n) (int_eq n m) refl refl
     go false true h j = sym h ∙ ap (int_eq m) (docids_same n m j) ∙ itself m
 
 -- ---- the first list
+
+-- how many of the first postings are in the document of this one
+abbrev pub run_with : Posting → List Posting → ℕ
+run_with first ps = prefix_len (λ p. int_eq p.docid first.docid) ps
 
 -- the list before others of another document
 apart : (p q : Posting) (ls : List (ℤ × List Spot)) → int_eq p.docid q.docid ≡ false → joined p (joined q ls) ≡ (p.docid, p.spot ∷ []) ∷ joined q ls

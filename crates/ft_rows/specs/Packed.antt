@@ -5,14 +5,7 @@ use Rattle.std.specs.Prelude.{[], ◌∷◌, map, Option, Some, None, nat_lt, na
 use Rattle.std.specs.List.{flat_map}
 use Rattle.std.specs.Option.{option_and_then}
 use Rattle.ft_values.specs.declared.rows.Spot.{Spot as StoredSpot}
-
--- where a term stands in a document: its column, its position among the tokens there, its place and
--- its size in bytes
-pub record Spot : Type 0 where
-  pub column : ℕ
-  pub pos : ℕ
-  pub place : ℕ
-  pub size : ℕ
+pub use Rattle.ft_values.specs.Spots.{Spot, stored_spot}
 
 -- unsigned LEB128 in at most k bytes: seven bits a byte from the lowest on, 128 more in each but
 -- the last
@@ -79,10 +72,6 @@ packed ss = flat_map leb128 (numbers_after origin ss)
 -- the spots whose packed list this is, None for any other bytes
 unfoldable pub unpacked : List ℕ → Option (List Spot)
 unpacked bytes = option_and_then (λ ss. if are_spots ss then Some ss else None) (option_and_then (spots_after origin) (numbers_in bytes))
-
--- a place as the store gives it
-abbrev pub stored_spot : Spot → StoredSpot
-stored_spot s = record { column = pos s.column; pos = pos s.pos; place = pos s.place; size = pos s.size }
 
 abbrev pub natural : ℤ → ℕ
 natural (pos n) = n

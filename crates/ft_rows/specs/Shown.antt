@@ -1,8 +1,7 @@
 -- Meaning. The rows that reads give, as rows under their keys.
 use Rattle.std.specs.Prelude.{◌≡◌, ◌≢◌, ℕ, ℤ, Bool, false, ◌&&◌, ◌||◌, List, [], ◌∷◌, map, length, sum_by, reverse, nat_eq}
 use Rattle.std.specs.Prelude.{slice_get, Option, option_map, string_bytes, String}
-use Rattle.std.specs.List.{AllByRecursion, flat_map, list_any, starts_with}
-use Rattle.std.specs.Str.{str_eq_ignore_ascii_case}
+use Rattle.std.specs.List.{AllByRecursion, flat_map, starts_with}
 use Rattle.std.specs.declared.alloc.Global.{Global}
 use Rattle.std.specs.Ordering.{int_eq, is_eq}
 use Rattle.std.specs.FinMap.Entries.{where_key}
@@ -14,6 +13,7 @@ use Rattle.ft_values.specs.declared.rows.ListRow.{ListRow}
 use Rattle.ft_values.specs.declared.rows.Spot.{Spot}
 use Rattle.ft_values.specs.declared.rows.TabRow.{TabRow}
 use Rattle.ft_values.specs.Cells.{Cell, shown_value}
+use Rattle.ft_values.specs.Names.{repeats_name}
 use Rattle.ft_rows.specs.Store.{CellKey, ListKey, ColumnKey, cell_key_cmp, list_key_cmp, column_key_cmp, name_cmp, StoreValue}
 
 abbrev pub shown_cell : ℤ → CellRow → CellKey × Cell
@@ -21,9 +21,6 @@ shown_cell tab row = ((tab, row.docid, row.column), shown_value row.value)
 
 abbrev pub shown_size : ℤ → SizeRow → CellKey × ℤ
 shown_size tab row = ((tab, row.docid, row.column), row.n)
-
-abbrev pub shown_name : ℤ × String Global → ℤ × List ℕ
-shown_name t = (t.0, string_bytes t.1)
 
 abbrev pub shown_column : ℤ → ℤ × String Global → ColumnKey × List ℕ
 shown_column tab c = ((tab, c.0), string_bytes c.1)
@@ -108,11 +105,6 @@ tables_listed store = map (table_listed store) store.tables
 -- one.
 abbrev pub last_docid_of : ℤ → List (CellKey × Cell) → Option ℤ
 last_docid_of tab cells = option_map (λ c. c.0.1) (slice_get (reverse (where_key cell_key_cmp (λ k. int_eq tab k.0) cells)) 0)
-
--- some name comes twice, without ASCII case
-abbrev pub repeats_name : List (List ℕ) → Bool
-repeats_name [] = false
-repeats_name (name ∷ names) = list_any (str_eq_ignore_ascii_case name) names || repeats_name names
 
 -- no two tables have one name
 abbrev pub AreNamedApart : StoreValue → Type 0

@@ -1,6 +1,6 @@
 -- Steps. Postings by their terms, as rows under their keys. All of it is our own choice.
 use Rattle.std.specs.Prelude.{◌≡◌, ◌<◌, ◌≤◌, ℕ, ℤ, if◌then◌else◌, List, [], ◌∷◌, map, length, take, drop, string_bytes}
-use Rattle.std.specs.List.{flat_map, prefix_len}
+use Rattle.std.specs.List.{flat_map}
 use Rattle.std.specs.Ordering.{int_eq}
 use Rattle.ft_values.specs.declared.rows.Spot.{Spot}
 use Rattle.ft_rows.specs.declared.terms.Posting.{Posting}
@@ -19,10 +19,6 @@ joined p (l ∷ ls) = if int_eq p.docid l.0 then (p.docid, p.spot ∷ l.1) ∷ l
 abbrev pub lists_of_postings : List Posting → List (ℤ × List Spot)
 lists_of_postings [] = []
 lists_of_postings (p ∷ ps) = joined p (lists_of_postings ps)
-
--- how many of the first postings are in the document of this one
-abbrev pub run_with : Posting → List Posting → ℕ
-run_with first ps = prefix_len (λ p. int_eq p.docid first.docid) ps
 
 -- so many postings are the first list
 abbrev pub AreFirstList : List Posting → ℕ → Type 0

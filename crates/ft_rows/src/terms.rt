@@ -1,6 +1,8 @@
 //! Postings by their terms.
 ghost use Rattle.std.specs.Prelude.{◌≡◌};
-ghost use Rattle.ft_rows.specs.Terms.{AreFirstList, run_with};
+ghost use Rattle.std.specs.List.{prefix_len};
+ghost use Rattle.std.specs.Ordering.{int_eq};
+ghost use Rattle.ft_rows.specs.Terms.{AreFirstList};
 
 use ft_values::Spot;
 
@@ -31,7 +33,7 @@ pub fn first_list(postings: &[Posting]) -> usize
 
 /// How many of the first postings are in the document of this one.
 fn count_with(first: &Posting, postings: &[Posting]) -> usize
-    ensures { result ≡ run_with first.now postings.now }
+    ensures { result ≡ prefix_len (λ p. int_eq p.docid first.now.docid) postings.now }
 {
     let docid = first.docid;
     postings.iter().take_while(|p| p.docid == docid).count()

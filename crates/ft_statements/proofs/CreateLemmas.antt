@@ -5,7 +5,7 @@ use Rattle.std.proofs.lemmas.List.{append-nil, map-append, take_all}
 use Rattle.ft_statements.specs.Words.{Token, bare}
 use Rattle.ft_statements.specs.Create.{Argument, Setting, Column, joined, settings_in, columns_in, tokenizer_of, argument_of, argument_at, arguments, arguments_of}
 use Rattle.ft_statements.specs.Reading.{◌>>=◌, each, parts, whole, parenthesized}
-use Rattle.ft_statements.specs.declared.words.Piece.{Piece}
+use Rattle.ft_statements.specs.declared.words.Token.{Token as RustToken}
 use Rattle.ft_statements.proofs.EachLemmas.{all_whole}
 use Rattle.ft_statements.specs.declared.create.Argument.{Argument as Code}
 use Rattle.ft_statements.specs.Views.{seen, plain, argument_as}
@@ -18,21 +18,21 @@ pub joined_behind : (t : Token) (ts : List Token) → joined (t ∷ ts) ≡ bare
 joined_behind t [] = sym (append-nil (bare t))
 joined_behind t (u ∷ us) = ap (λ later. bare t ++ 0x20 ∷ later) (joined_behind u us)
 
-pub joined_first : (ps : List Piece) (d : Piece) → 1 ≤ length ps → joined (plain ps) ≡ bare (seen (get_or ps 0 d)) ++ flat_map behind_space (plain (take (length ps - 1) (drop 1 ps)))
+pub joined_first : (ps : List RustToken) (d : RustToken) → 1 ≤ length ps → joined (plain ps) ≡ bare (seen (get_or ps 0 d)) ++ flat_map behind_space (plain (take (length ps - 1) (drop 1 ps)))
 joined_first [] d h = absurd (omega (arith, h))
 joined_first (p ∷ ps) d h = joined_behind (seen p) (plain ps) ∙ ap (λ qs. bare (seen p) ++ flat_map behind_space (plain qs)) (sym (take_all (length (p ∷ ps) - 1) ps (omega arith)))
 
 -- a tokenizer where there are words
-pub tokenizer_is : (ps : List Piece) → (length ps ≡ 0 → ⊥) → tokenizer_of (plain ps) ≡ Some (Setting (codes "tokenize") (joined (plain ps)))
+pub tokenizer_is : (ps : List RustToken) → (length ps ≡ 0 → ⊥) → tokenizer_of (plain ps) ≡ Some (Setting (codes "tokenize") (joined (plain ps)))
 tokenizer_is [] h = absurd (h refl)
 tokenizer_is (p ∷ ps) h = refl
 
 -- arguments where there are words, and in parentheses where there are words
-pub arguments_are : (ps : List Piece) → (length ps ≡ 0 → ⊥) → arguments (plain ps) ≡ (whole (parenthesized (plain ps)) >>= arguments_of)
+pub arguments_are : (ps : List RustToken) → (length ps ≡ 0 → ⊥) → arguments (plain ps) ≡ (whole (parenthesized (plain ps)) >>= arguments_of)
 arguments_are [] h = absurd (h refl)
 arguments_are (p ∷ ps) h = refl
 
-pub some_arguments : (ps : List Piece) → (length ps ≡ 0 → ⊥) → arguments_of (plain ps) ≡ each (λ part. whole (argument_at part)) (parts (plain ps))
+pub some_arguments : (ps : List RustToken) → (length ps ≡ 0 → ⊥) → arguments_of (plain ps) ≡ each (λ part. whole (argument_at part)) (parts (plain ps))
 some_arguments [] h = absurd (h refl)
 some_arguments (p ∷ ps) h = λ j. each (λ part. sym (all_whole (argument_of part)) j) (parts (plain (p ∷ ps)))
 

@@ -2,7 +2,7 @@
 use Rattle.std.proofs.Common.{◌≡◌, ℕ, ◌+◌, ◌-◌, ◌<◌, ◌≤◌, List, [], ◌∷◌, ◌++◌, length, take, drop, get_or, Option, Some, None, refl, sym, ap, ◌∙◌, if◌then◌else◌, Result, Ok, Err}
 use Rattle.std.specs.Borrow.{Bor}
 use Rattle.std.proofs.lemmas.List.{take_more, drop_more, take-append-drop, map-append}
-use Rattle.ft_statements.specs.declared.words.Piece.{Piece}
+use Rattle.ft_statements.specs.declared.words.Token.{Token as RustToken}
 use Rattle.ft_statements.specs.Words.{Token}
 use Rattle.ft_statements.specs.Reading.{◌>>=◌, is_empty, whole, each, with_last}
 use Rattle.ft_statements.specs.Views.{plain, runs, Gives}
@@ -30,14 +30,14 @@ each_stops f (z ∷ zs) later x none = ap (λ o. f z >>= λ y. o >>= λ ys. Some
   nothing None = refl
   nothing (Some y) = refl
 
-pub each_more : {B : Type 0} (f : List Token → Option B) (parts : List (Bor (List Piece))) (i : ℕ) (d : Bor (List Piece)) (ys : List B) (y : B) → i < length parts →
+pub each_more : {B : Type 0} (f : List Token → Option B) (parts : List (Bor (List RustToken))) (i : ℕ) (d : Bor (List RustToken)) (ys : List B) (y : B) → i < length parts →
     each f (runs (take i parts)) ≡ Some ys → f (plain (get_or parts i d).now) ≡ Some y → each f (runs (take (i + 1) parts)) ≡ Some (ys ++ y ∷ [])
 each_more f parts i d ys y h all one =
     ap (λ ps. each f (runs ps)) (take_more parts i d h) ∙ ap (each f) (runs_more (take i parts) (get_or parts i d))
     ∙ each_snoc f (runs (take i parts)) (plain (get_or parts i d).now)
     ∙ (λ j. all j >>= λ zs. one j >>= λ z. Some (zs ++ z ∷ []))
 
-pub each_ends : {B : Type 0} (f : List Token → Option B) (parts : List (Bor (List Piece))) (i : ℕ) (d : Bor (List Piece)) → i < length parts → f (plain (get_or parts i d).now) ≡ None → each f (runs parts) ≡ None
+pub each_ends : {B : Type 0} (f : List Token → Option B) (parts : List (Bor (List RustToken))) (i : ℕ) (d : Bor (List RustToken)) → i < length parts → f (plain (get_or parts i d).now) ≡ None → each f (runs parts) ≡ None
 each_ends f parts i d h none =
     ap (λ ps. each f (runs ps)) (sym (take-append-drop i parts) ∙ ap (λ ps. take i parts ++ ps) (drop_more parts i d h))
     ∙ ap (each f) (map-append (λ p. plain p.now) (take i parts) (get_or parts i d ∷ drop (i + 1) parts))
@@ -75,7 +75,7 @@ fault_goes shown (Err other) fault form is same none = record { found = tt; none
 -- ---- the parts but the last, and then the last one
 
 -- where there is no part
-abbrev pub no_part : Bor (List Piece)
+abbrev pub no_part : Bor (List RustToken)
 no_part = record { ref_ptr = (0, 0); now = [] }
 
 abbrev joined_last : {A B : Type 0} → (List Token → Option A) → (List Token → Option (A × B)) → Option (List (List Token) × List Token) → Option (List A × B)
@@ -87,6 +87,6 @@ onto_last g last front = front >>= λ xs. g last >>= λ r. Some (xs ++ r.0 ∷ [
 abbrev pub before_last : {A B : Type 0} → List A → Option (A × B) → Option (List A × B)
 before_last xs last = last >>= λ r. Some (xs ++ r.0 ∷ [], r.1)
 
-pub last_read : {A B : Type 0} (f : List Token → Option A) (g : List Token → Option (A × B)) (parts : List (Bor (List Piece))) → 1 ≤ length parts →
+pub last_read : {A B : Type 0} (f : List Token → Option A) (g : List Token → Option (A × B)) (parts : List (Bor (List RustToken))) → 1 ≤ length parts →
     with_last f g (runs parts) ≡ onto_last g (plain (get_or parts (length parts - 1) no_part).now) (each f (runs (take (length parts - 1) parts)))
 last_read f g parts some = ap (joined_last f g) (last_split parts no_part some)

@@ -5,7 +5,7 @@ use Rattle.std.specs.Prelude.{slice_get}
 use Rattle.std.proofs.lemmas.List.{drop_more, take_more, drop_all, map-append, get_or-drop, length-drop, length-map, take-map}
 use Rattle.ft_statements.specs.Words.{Token, is_symbol, all_but_last}
 use Rattle.ft_statements.specs.Reading.{◌>>=◌, Reads, depth_after, parts_at, front_and_last}
-use Rattle.ft_statements.specs.declared.words.Piece.{Piece}
+use Rattle.ft_statements.specs.declared.words.Token.{Token as RustToken}
 use Rattle.std.specs.Borrow.{Bor}
 use Rattle.ft_statements.specs.Views.{seen, plain, runs}
 
@@ -29,11 +29,11 @@ onto_empty : (before : List Token) (parts : List (List Token)) → all_onto_firs
 onto_empty [] parts = refl
 onto_empty (x ∷ xs) parts = ap (onto_first x) (onto_empty xs parts)
 
-parts_here : (ps : List Piece) (i depth : ℕ) (d : Piece) → i < length ps →
+parts_here : (ps : List RustToken) (i depth : ℕ) (d : RustToken) → i < length ps →
     parts_at depth (plain (drop i ps)) ≡ parts_at depth (seen (get_or ps i d) ∷ plain (drop (i + 1) ps))
 parts_here ps i depth d h = ap (λ qs. parts_at depth (plain qs)) (drop_more ps i d h)
 
-range_more : (ps : List Piece) (start i : ℕ) (d : Piece) → start ≤ i → i < length ps → plain (slice_range ps start (i + 1)) ≡ plain (slice_range ps start i) ++ seen (get_or ps i d) ∷ []
+range_more : (ps : List RustToken) (start i : ℕ) (d : RustToken) → start ≤ i → i < length ps → plain (slice_range ps start (i + 1)) ≡ plain (slice_range ps start i) ++ seen (get_or ps i d) ∷ []
 range_more ps start i d s h =
     let one : i + 1 - start ≡ (i - start) + 1 = omega (arith, s) in
     let here : start + (i - start) ≡ i = omega (arith, s) in
@@ -42,15 +42,15 @@ range_more ps start i d s h =
     ∙ map-append seen (take (i - start) (drop start ps)) (get_or (drop start ps) (i - start) d ∷ [])
     ∙ ap (λ p. plain (slice_range ps start i) ++ seen p ∷ []) (get_or-drop start ps (i - start) d ∙ ap (λ n. get_or ps n d) here)
 
-range_none : (ps : List Piece) (i : ℕ) → slice_range ps i i ≡ []
+range_none : (ps : List RustToken) (i : ℕ) → slice_range ps i i ≡ []
 range_none ps i = ap (λ n. take n (drop i ps)) (let none : i - i ≡ 0 = omega arith in none)
 
-pub runs_more : (found : List (Bor (List Piece))) (part : Bor (List Piece)) → runs (found ++ part ∷ []) ≡ runs found ++ plain part.now ∷ []
+pub runs_more : (found : List (Bor (List RustToken))) (part : Bor (List RustToken)) → runs (found ++ part ∷ []) ≡ runs found ++ plain part.now ∷ []
 runs_more [] part = refl
 runs_more (p ∷ ps) part = ap (λ parts. plain p.now ∷ parts) (runs_more ps part)
 
 -- a comma outside parentheses ends a part
-pub part_ends : (found : List (List Token)) (ps : List Piece) (start i depth : ℕ) (d : Piece) → i < length ps →
+pub part_ends : (found : List (List Token)) (ps : List RustToken) (start i depth : ℕ) (d : RustToken) → i < length ps →
     (is_symbol (codes ",") (seen (get_or ps i d)) && depth == 0) ≡ true →
     (found ++ plain (slice_range ps start i) ∷ []) ++ all_onto_first (plain (slice_range ps (i + 1) (i + 1))) (parts_at (depth_after depth (seen (get_or ps i d))) (plain (drop (i + 1) ps)))
     ≡ found ++ all_onto_first (plain (slice_range ps start i)) (parts_at depth (plain (drop i ps)))
@@ -64,7 +64,7 @@ part_ends found ps start i depth d h comma =
     ∙ ap (λ parts. found ++ all_onto_first (plain (slice_range ps start i)) parts) (sym (parts_here ps i depth d h))
 
 -- any other word is one more of a part
-pub part_grows : (found : List (List Token)) (ps : List Piece) (start i depth : ℕ) (d : Piece) → start ≤ i → i < length ps →
+pub part_grows : (found : List (List Token)) (ps : List RustToken) (start i depth : ℕ) (d : RustToken) → start ≤ i → i < length ps →
     (is_symbol (codes ",") (seen (get_or ps i d)) && depth == 0) ≡ false →
     found ++ all_onto_first (plain (slice_range ps start (i + 1))) (parts_at (depth_after depth (seen (get_or ps i d))) (plain (drop (i + 1) ps)))
     ≡ found ++ all_onto_first (plain (slice_range ps start i)) (parts_at depth (plain (drop i ps)))
@@ -77,7 +77,7 @@ part_grows found ps start i depth d s h other =
     ∙ ap (λ parts. found ++ all_onto_first (plain (slice_range ps start i)) parts) (sym (parts_here ps i depth d h))
 
 -- the last part goes to the end
-pub last_part : (found : List (List Token)) (ps : List Piece) (start i depth : ℕ) → i ≡ length ps →
+pub last_part : (found : List (List Token)) (ps : List RustToken) (start i depth : ℕ) → i ≡ length ps →
     found ++ plain (slice_range ps start (length ps)) ∷ [] ≡ found ++ all_onto_first (plain (slice_range ps start i)) (parts_at depth (plain (drop i ps)))
 last_part found ps start i depth h =
     ap (λ n. found ++ plain (slice_range ps start n) ∷ []) (sym h)
@@ -86,15 +86,15 @@ last_part found ps start i depth h =
 
 -- ---- the last part
 
-pub runs_front : (ps : List (Bor (List Piece))) → all_but_last (runs ps) ≡ runs (take (length ps - 1) ps)
+pub runs_front : (ps : List (Bor (List RustToken))) → all_but_last (runs ps) ≡ runs (take (length ps - 1) ps)
 runs_front ps = ap (λ n. take (n - 1) (runs ps)) (length-map ps (λ p. plain p.now)) ∙ take-map (λ p. plain p.now) (length ps - 1) ps
 
-runs_at : (ps : List (Bor (List Piece))) (i : ℕ) (d : Bor (List Piece)) → i < length ps → slice_get (runs ps) i ≡ Some (plain (get_or ps i d).now)
+runs_at : (ps : List (Bor (List RustToken))) (i : ℕ) (d : Bor (List RustToken)) → i < length ps → slice_get (runs ps) i ≡ Some (plain (get_or ps i d).now)
 runs_at [] i d h = absurd (omega (arith, h))
 runs_at (p ∷ ps) zero d h = refl
 runs_at (p ∷ ps) (suc i) d h = runs_at ps i d (omega (arith, h))
 
-pub last_split : (ps : List (Bor (List Piece))) (d : Bor (List Piece)) → 1 ≤ length ps → front_and_last (runs ps) ≡ Some (runs (take (length ps - 1) ps), plain (get_or ps (length ps - 1) d).now)
+pub last_split : (ps : List (Bor (List RustToken))) (d : Bor (List RustToken)) → 1 ≤ length ps → front_and_last (runs ps) ≡ Some (runs (take (length ps - 1) ps), plain (get_or ps (length ps - 1) d).now)
 last_split ps d h =
     let last = ap (λ n. slice_get (runs ps) (n - 1)) (length-map ps (λ p. plain p.now)) ∙ runs_at ps (length ps - 1) d (omega (arith, h)) in
     λ j. last j >>= λ part. Some (runs_front ps j, part)

@@ -2,7 +2,7 @@
 use Rattle.std.specs.Prelude.{ℕ, ◌≡◌, ◌≤◌, ◌+◌, Bool, List, map, Option, Some, None, Result, option_map, string_bytes, String, Vec, IfOk, OnErr, IsErrOf}
 use Rattle.std.specs.declared.alloc.Global.{Global}
 use Rattle.std.specs.Borrow.{Bor}
-use Rattle.ft_statements.specs.declared.words.Piece.{Piece}
+use Rattle.ft_statements.specs.declared.words.Token.{Token as RustToken}
 use Rattle.ft_statements.specs.declared.reading.Reader.{Reader}
 use Rattle.ft_statements.specs.declared.statement.StatementFault.{StatementFault}
 use Rattle.ft_statements.specs.declared.statement.StatementFault.TheVariants.{Syntax}
@@ -12,11 +12,11 @@ use Rattle.ft_statements.specs.Words.{Token}
 use Rattle.ft_statements.specs.Reading.{Reads, optional, depth_after}
 use Rattle.ft_statements.specs.Create as forms
 
-abbrev pub seen : Piece → Token
+abbrev pub seen : RustToken → Token
 seen p = record { kind = p.kind; text = p.text.now }
 
-abbrev pub plain : List Piece → List Token
-plain pieces = map seen pieces
+abbrev pub plain : List RustToken → List Token
+plain tokens = map seen tokens
 
 -- the words that are still to be read
 abbrev pub rest_of : Reader → List Token
@@ -26,7 +26,7 @@ rest_of reader = plain reader.left.now
 abbrev pub each_text : List (Bor (List ℕ)) → List (List ℕ)
 each_text texts = map (λ text. text.now) texts
 
-abbrev pub runs : List (Bor (List Piece)) → List (List Token)
+abbrev pub runs : List (Bor (List RustToken)) → List (List Token)
 runs parts = map (λ p. plain p.now) parts
 
 abbrev pub argument_as : Argument → forms.Argument

@@ -6,7 +6,7 @@ ghost use Rattle.ft_statements.specs.Views.{plain, rest_of, argument_as, AreSort
 
 use crate::reading::{Reader, Spelled};
 use crate::statement::StatementFault;
-use crate::words::{Piece, bare, literal_of, name_of};
+use crate::words::{Token, bare, literal_of, name_of};
 use ft_content::{Command, Creation};
 use std::alloc::{AllocError, Global};
 
@@ -19,7 +19,7 @@ pub(crate) enum Argument {
 
 // The texts of words, with a space between each two.
 #[tactic(auto, using(crate::proofs::CreateLemmas::joined_behind))]
-fn joined(alloc: Global, words: &[Piece<'_>]) -> Result<String, AllocError>
+fn joined(alloc: Global, words: &[Token<'_>]) -> Result<String, AllocError>
     ensures { IfOk result (λ text. string_bytes text ≡ forms.joined (plain words.now)) }
 {
     let [first, rest @ ..] = words else {

@@ -9,7 +9,7 @@ ghost use Rattle.ft_statements.specs.Views.{seen, plain, rest_of, Gives, Skips};
 
 use crate::reading::Reader;
 use crate::statement::StatementFault;
-use crate::words::{Piece, is_keyword, is_one_of, pieces_of};
+use crate::words::{Token, is_keyword, is_one_of, tokens_of};
 use shell_text::SqlWord;
 use std::alloc::{AllocError, Global};
 
@@ -23,7 +23,7 @@ pub struct PlainStatement {
 }
 
 // Whether RETURNING is one of the words.
-fn returns(words: &[Piece<'_>]) -> bool
+fn returns(words: &[Token<'_>]) -> bool
     ensures { result ≡ list_any (λ word. tokens.is_keyword (codes "RETURNING") (seen word))
         words.now }
 {
@@ -31,7 +31,7 @@ fn returns(words: &[Piece<'_>]) -> bool
 }
 
 // Whether a statement of these words is run as a query.
-fn asks(words: &[Piece<'_>]) -> bool
+fn asks(words: &[Token<'_>]) -> bool
     ensures { result ≡ forms.asks (plain words.now) }
 {
     let [first, rest @ ..] = words else {
@@ -71,8 +71,8 @@ pub fn read_plain(
     requires { words.now ≡ words_of text.now }
     ensures { IfOk result (IsRunAs (tokens.tokens_of text.now)) }
 {
-    let pieces = pieces_of(alloc, text, words)?;
-    let left = pieces.as_slice();
+    let tokens = tokens_of(alloc, text, words)?;
+    let left = tokens.as_slice();
     let asks = asks(left);
     let made = match made_name(Reader { alloc, left }) {
         Ok(name) => Some(name),

@@ -6,14 +6,14 @@ ghost use Rattle.ft_statements.specs.Reading as forms;
 ghost use Rattle.ft_statements.specs.Views.{seen, plain, rest_of, each_text, runs, IsDepthAfter, Gives, Advances, Passes, Takes};
 
 use crate::statement::StatementFault;
-use crate::words::{Piece, is_keyword, is_symbol, literal_of, name_of};
+use crate::words::{Token, is_keyword, is_symbol, literal_of, name_of};
 use std::alloc::{AllocError, Global};
 
 /// The words of a statement that are still to be read.
 #[derive(Clone, Copy)]
 pub(crate) struct Reader<'a> {
     pub(crate) alloc: Global,
-    pub(crate) left: &'a [Piece<'a>],
+    pub(crate) left: &'a [Token<'a>],
 }
 
 /// What words at the front spell.
@@ -94,7 +94,7 @@ impl<'a> Reader<'a> {
     }
 
     // The next word.
-    pub(crate) fn next(&mut self) -> Result<&'a Piece<'a>, StatementFault>
+    pub(crate) fn next(&mut self) -> Result<&'a Token<'a>, StatementFault>
         ensures { Advances (λ p. seen p.now) (forms.token_at Some) self.old self.new result }
     {
         let [first, rest @ ..] = self.left else {
@@ -176,7 +176,7 @@ impl<'a> Reader<'a> {
 }
 
 // What each of the parts spells.
-fn each<T: Spelled>(alloc: Global, parts: &[&[Piece<'_>]]) -> Result<Vec<T>, StatementFault>
+fn each<T: Spelled>(alloc: Global, parts: &[&[Token<'_>]]) -> Result<Vec<T>, StatementFault>
     ensures { Gives (λ found. map T.shown found.items) result
         (forms.each (λ part. forms.whole (T.form part)) (runs parts.now)) }
 {
@@ -191,7 +191,7 @@ fn each<T: Spelled>(alloc: Global, parts: &[&[Piece<'_>]]) -> Result<Vec<T>, Sta
 }
 
 // How many parentheses are open behind a word.
-fn depth_after(depth: usize, word: &Piece<'_>) -> usize
+fn depth_after(depth: usize, word: &Token<'_>) -> usize
     requires { depth < 2 ^ 64 - 1 }
     ensures { IsDepthAfter depth (seen word.now) result }
 {
@@ -205,14 +205,14 @@ fn depth_after(depth: usize, word: &Piece<'_>) -> usize
 }
 
 // Whether a word is a comma that stands in no parentheses.
-fn ends_part(depth: usize, word: &Piece<'_>) -> bool
+fn ends_part(depth: usize, word: &Token<'_>) -> bool
     ensures { result ≡ (is_symbol (codes ",") (seen word.now) && depth == 0) }
 {
     is_symbol(word, ",") && depth == 0
 }
 
 // The parts between commas that stand in no parentheses.
-fn parts<'a>(alloc: Global, words: &'a [Piece<'a>]) -> Result<Vec<&'a [Piece<'a>]>, AllocError>
+fn parts<'a>(alloc: Global, words: &'a [Token<'a>]) -> Result<Vec<&'a [Token<'a>]>, AllocError>
     ensures { IfOk result (λ parts. runs parts.items ≡ forms.parts (plain words.now)) }
 {
     let mut parts = Vec::new(alloc);

@@ -14,7 +14,7 @@ use crate::create::{create, drop_table};
 use crate::insert::insert;
 use crate::reading::Reader;
 use crate::select::select;
-use crate::words::{Piece, is_keyword, is_one_of, is_symbol, name_of, pieces_of};
+use crate::words::{Token, is_keyword, is_one_of, is_symbol, name_of, tokens_of};
 use ft_content::{Command, TableInfo};
 use shell_text::SqlWord;
 use std::alloc::{AllocError, AllocFailed, Global};
@@ -53,7 +53,7 @@ impl<T: Drop> From<AllocFailed<T>> for StatementFault {
 }
 
 // Without the semicolon at the end, if there is one.
-fn without_end<'a>(words: &'a [Piece<'a>]) -> &'a [Piece<'a>]
+fn without_end<'a>(words: &'a [Token<'a>]) -> &'a [Token<'a>]
     ensures { plain result.now ≡ forms.without_end (plain words.now) }
 {
     let [front @ .., last] = words else {
@@ -89,7 +89,7 @@ pub(crate) fn has_table(tables: &[TableInfo], name: &str) -> bool
 }
 
 // Whether this word is the name of one of these tables.
-fn is_table(alloc: Global, tables: &[TableInfo], word: &Piece<'_>) -> Result<bool, AllocError>
+fn is_table(alloc: Global, tables: &[TableInfo], word: &Token<'_>) -> Result<bool, AllocError>
     ensures { IfOk result (λ is. is ≡ forms.is_table (views.info_names tables.now)
         (seen word.now)) }
 {
@@ -101,7 +101,7 @@ fn is_table(alloc: Global, tables: &[TableInfo], word: &Piece<'_>) -> Result<boo
 }
 
 // Whether one of these tables is named behind a word that leads to it.
-fn names_table(alloc: Global, tables: &[TableInfo], words: &[Piece<'_>]) -> Result<bool, AllocError>
+fn names_table(alloc: Global, tables: &[TableInfo], words: &[Token<'_>]) -> Result<bool, AllocError>
     ensures { IfOk result (λ names. names ≡ forms.names_table (views.info_names tables.now)
         (plain words.now)) }
 {
@@ -138,8 +138,8 @@ pub fn read_statement(
     requires { words.now ≡ words_of text.now }
     ensures { ReadsClass (views.info_names tables.now) (tokens.tokens_of text.now) result }
 {
-    let pieces = pieces_of(alloc, text, words)?;
-    let left = pieces.as_slice();
+    let tokens = tokens_of(alloc, text, words)?;
+    let left = tokens.as_slice();
     if !is_full_text(Reader { alloc, left }, tables)? {
         return Ok(Class::Plain);
     }

@@ -7,7 +7,7 @@ ghost use Rattle.ft_statements.specs.Views.{seen, rest_of, Gives, Advances};
 
 use crate::reading::{Reader, Spelled};
 use crate::statement::StatementFault;
-use crate::words::Piece;
+use crate::words::Token;
 use ft_content::Value;
 use shell_text::SqlKind;
 
@@ -41,7 +41,7 @@ fn signed(negative: bool, number: u64) -> Option<i64>
 }
 
 // The number that a word is, where one that is too large stands as `digits_value` has it.
-fn number_of(word: &Piece<'_>) -> Result<u64, StatementFault>
+fn number_of(word: &Token<'_>) -> Result<u64, StatementFault>
     ensures { Gives (λ n. n) result
         (option_map (λ n. min n 9223372036854775809) (forms.number_of (seen word.now))) }
 {

@@ -1,5 +1,5 @@
 //! Words of a statement with their texts.
-ghost use Rattle.std.specs.Prelude.{◌≡◌, ◌-◌, false, take, length, string_bytes, encode_utf8_all, IfOk};
+ghost use Rattle.std.specs.Prelude.{◌≡◌, false, chars, string_bytes, encode_utf8_all, IfOk};
 ghost use Rattle.std.specs.List.{list_any};
 ghost use Rattle.shell_text.specs.Words.{words_of};
 ghost use Rattle.ft_statements.specs.Words as forms;
@@ -11,51 +11,51 @@ use std::alloc::{AllocError, Global};
 
 /// A word and its text, with the marks of a literal or a quoted name.
 #[derive(Clone, Copy)]
-pub(crate) struct Piece<'a> {
+pub(crate) struct Token<'a> {
     pub(crate) kind: SqlKind,
     pub(crate) text: &'a str,
 }
 
 // The words of a text, each with its own.
-pub(crate) fn pieces_of<'a>(
+pub(crate) fn tokens_of<'a>(
     alloc: Global,
     text: &'a str,
     words: &[SqlWord],
-) -> Result<Vec<Piece<'a>>, AllocError>
+) -> Result<Vec<Token<'a>>, AllocError>
     requires { words.now ≡ words_of text.now }
-    ensures { IfOk result (λ pieces. plain pieces.items ≡ forms.tokens_of text.now) }
+    ensures { IfOk result (λ tokens. plain tokens.items ≡ forms.tokens_of text.now) }
 {
     words_on_characters();
-    let mut pieces = Vec::new(alloc);
+    let mut tokens = Vec::new(alloc);
     for word in words {
-        pieces.push(Piece {
+        tokens.push(Token {
             kind: word.kind,
             text: &text[word.start..word.start + word.size],
         })?;
     }
-    Ok(pieces)
+    Ok(tokens)
 }
 
 // Whether a word is this keyword.
-pub(crate) fn is_keyword(piece: &Piece<'_>, keyword: &str) -> bool
-    ensures { result ≡ forms.is_keyword keyword.now (seen piece.now) }
+pub(crate) fn is_keyword(token: &Token<'_>, keyword: &str) -> bool
+    ensures { result ≡ forms.is_keyword keyword.now (seen token.now) }
 {
-    matches!(piece.kind, SqlKind::Word) && piece.text.eq_ignore_ascii_case(keyword)
+    matches!(token.kind, SqlKind::Word) && token.text.eq_ignore_ascii_case(keyword)
 }
 
 // Whether a word is one of these keywords.
-pub(crate) fn is_one_of(piece: &Piece<'_>, keywords: &[&str]) -> bool
-    ensures { result ≡ list_any (λ keyword. forms.is_keyword keyword.now (seen piece.now))
+pub(crate) fn is_one_of(token: &Token<'_>, keywords: &[&str]) -> bool
+    ensures { result ≡ list_any (λ keyword. forms.is_keyword keyword.now (seen token.now))
         keywords.now }
 {
-    keywords.iter().any(|keyword| is_keyword(piece, keyword))
+    keywords.iter().any(|keyword| is_keyword(token, keyword))
 }
 
 // Whether a word is this symbol.
-pub(crate) fn is_symbol(piece: &Piece<'_>, symbol: &str) -> bool
-    ensures { result ≡ forms.is_symbol symbol.now (seen piece.now) }
+pub(crate) fn is_symbol(token: &Token<'_>, symbol: &str) -> bool
+    ensures { result ≡ forms.is_symbol symbol.now (seen token.now) }
 {
-    matches!(piece.kind, SqlKind::Symbol) && piece.text == symbol
+    matches!(token.kind, SqlKind::Symbol) && token.text == symbol
 }
 
 fn closing(mark: char) -> char
@@ -64,19 +64,19 @@ fn closing(mark: char) -> char
     if mark == '[' { ']' } else { mark }
 }
 
-// The characters, with one mark for two.
-fn halved(alloc: Global, mark: char, characters: &[char]) -> Result<String, AllocError>
+// The characters of a text, with one mark for two.
+fn halved(alloc: Global, mark: char, text: &str) -> Result<String, AllocError>
     ensures { IfOk result (λ found. string_bytes found
-        ≡ encode_utf8_all (forms.halved mark false characters.now)) }
+        ≡ encode_utf8_all (forms.halved mark false (chars text.now))) }
 {
     let mut found = String::new(alloc);
     let mut after = false;
-    for c in characters {
-        if after && *c == mark {
+    for c in text.chars() {
+        if after && c == mark {
             after = false;
         } else {
-            found.push(*c)?;
-            after = *c == mark;
+            found.push(c)?;
+            after = c == mark;
         }
     }
     Ok(found)
@@ -86,39 +86,40 @@ fn halved(alloc: Global, mark: char, characters: &[char]) -> Result<String, Allo
 fn without_marks(alloc: Global, text: &str) -> Result<String, AllocError>
     ensures { IfOk result (λ found. string_bytes found ≡ forms.without_marks text.now) }
 {
-    let characters: Vec<char> = text.chars().collect(alloc)?;
-    match characters.as_slice() {
-        [mark, inside @ .., _] => halved(alloc, closing(*mark), inside),
-        _ => Ok(String::new(alloc)),
-    }
+    let mut inside = text.chars();
+    let Some(mark) = inside.next() else {
+        return Ok(String::new(alloc));
+    };
+    inside.next_back();
+    halved(alloc, closing(mark), inside.as_str())
 }
 
 // The text that a word stands for.
-pub(crate) fn bare(alloc: Global, piece: &Piece<'_>) -> Result<String, AllocError>
-    ensures { IfOk result (λ text. string_bytes text ≡ forms.bare (seen piece.now)) }
+pub(crate) fn bare(alloc: Global, token: &Token<'_>) -> Result<String, AllocError>
+    ensures { IfOk result (λ text. string_bytes text ≡ forms.bare (seen token.now)) }
 {
-    match piece.kind {
-        SqlKind::Quoted | SqlKind::Text => without_marks(alloc, piece.text),
-        _ => piece.text.to_string(alloc),
+    match token.kind {
+        SqlKind::Quoted | SqlKind::Text => without_marks(alloc, token.text),
+        _ => token.text.to_string(alloc),
     }
 }
 
 // The name that a word is.
-pub(crate) fn name_of(alloc: Global, piece: &Piece<'_>) -> Result<String, StatementFault>
-    ensures { Gives string_bytes result (forms.name_of (seen piece.now)) }
+pub(crate) fn name_of(alloc: Global, token: &Token<'_>) -> Result<String, StatementFault>
+    ensures { Gives string_bytes result (forms.name_of (seen token.now)) }
 {
-    match piece.kind {
-        SqlKind::Word | SqlKind::Quoted => Ok(bare(alloc, piece)?),
+    match token.kind {
+        SqlKind::Word | SqlKind::Quoted => Ok(bare(alloc, token)?),
         _ => Err(StatementFault::Syntax),
     }
 }
 
 // The text of a literal.
-pub(crate) fn literal_of(alloc: Global, piece: &Piece<'_>) -> Result<String, StatementFault>
-    ensures { Gives string_bytes result (forms.literal_of (seen piece.now)) }
+pub(crate) fn literal_of(alloc: Global, token: &Token<'_>) -> Result<String, StatementFault>
+    ensures { Gives string_bytes result (forms.literal_of (seen token.now)) }
 {
-    match piece.kind {
-        SqlKind::Text => Ok(without_marks(alloc, piece.text)?),
+    match token.kind {
+        SqlKind::Text => Ok(without_marks(alloc, token.text)?),
         _ => Err(StatementFault::Syntax),
     }
 }

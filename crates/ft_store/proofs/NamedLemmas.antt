@@ -17,7 +17,8 @@ use Rattle.sqlite_catalog.specs.Listing.{IsSound}
 use Rattle.ft_store.specs.Tables.{store_schema}
 use Rattle.ft_rows.specs.Store.{AreInOrder, cell_key_cmp, list_key_cmp, column_key_cmp, name_cmp}
 use Rattle.ft_store.specs.Rows.{keyed, table_entry, column_entry, skip_entry, cell_entry, list_entry, size_entry, note_entry, value_of}
-use Rattle.ft_rows.specs.Shown.{repeats_name, AreNamedApart}
+use Rattle.ft_values.specs.Names.{repeats_name}
+use Rattle.ft_rows.specs.Shown.{AreNamedApart}
 use Rattle.ft_store.proofs.KeyedLemmas.{AreApart, some_first, itself, is_sorted-keyed}
 use Rattle.ft_store.proofs.OrderLemmas.{tied_names, name_total, tied_ints, cell_key_total, tied_cell_keys, list_key_total, tied_list_keys, column_key_total, tied_column_keys}
 use Rattle.std.proofs.lemmas.Cmp.{int_cmp_total}

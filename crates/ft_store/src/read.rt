@@ -14,7 +14,7 @@ ghost use Rattle.ft_rows.specs.Store.{cell_key_cmp, column_key_cmp};
 ghost use Rattle.ft_values.specs.Cells.{shown_value};
 ghost use Rattle.ft_store.specs.Rows.{text_in, cell_in, value_of};
 ghost use Rattle.ft_store.specs.Found.{name_of};
-ghost use Rattle.ft_rows.specs.Shown.{shown_cell, shown_size, shown_name, shown_column, shown_skip, shown_note, last_docid_of};
+ghost use Rattle.ft_rows.specs.Shown.{shown_cell, shown_size, shown_column, shown_skip, shown_note, last_docid_of};
 ghost use Rattle.ft_store.specs.Docids.{docids_in, cut_to};
 ghost use Rattle.ft_store.specs.Calls.{IsAtRest};
 ghost use Rattle.ft_store.specs.Settled.{IsSettled, IsPlainIn, Finds, ReadsFor, GivesRows};

@@ -1,3 +1,4 @@
 -- Meaning
 pub mod Cells
 pub mod Names
+pub mod Spots

@@ -1,8 +1,9 @@
+-- words/halved/Invariants.antt
 -- what was taken, and then what is left
-use Rattle.std.proofs.Common.{◌≡◌, ◌++◌, false, drop, string_bytes}
-use Rattle.std.specs.Prelude.{encode_utf8_all}
-use Rattle.ft_statements.specs.Words.{halved}
+use Rattle.std.proofs.Common.{string_bytes}
+use Rattle.std.specs.Str.Iter.{chars_rest}
+use Rattle.ft_statements.proofs.WordLemmas.{Halves}
 use Rattle.ft_statements.proofs.words.halved.Given as goal
 
 abbrev pub invariant-loop-c : goal.invariant-loop-c
-invariant-loop-c l = string_bytes l.found ++ encode_utf8_all (halved l.mark l.after (drop l.c-index l.characters)) ≡ encode_utf8_all (halved l.mark false l.fn.characters)
+invariant-loop-c l = Halves l.mark l.text (string_bytes l.found) l.after (chars_rest l.c-iterator)
