@@ -10,7 +10,7 @@ use Rattle.ft_content.specs.Content.{Documents}
 use Rattle.ft_content.specs.Deserved.{next_docid}
 use Rattle.ft_content.specs.Views.{last_docid}
 
--- the docid behind the last one, if there is one
+-- the docid after the last one, if there is one
 abbrev pub next_after : Option ℤ → Option ℤ
 next_after None = Some (pos 1)
 next_after (Some n) = cond (int_eq n (pos (2 ^ 63 - 1))) None (Some (n +ℤ pos 1))

@@ -6,7 +6,7 @@ use Rattle.ft_content.proofs.Lists.{any_of_map}
 
 -- things that have names
 module _ {X : Type 0} (name_of : X → List ℕ) where
-  -- from a place on a name repeats where that name stands again behind it, or one of the later
+  -- from a place on a name repeats where that name stands again after it, or one of the later
   -- names does
   repeats_from : (xs : List X) (k : ℕ) (x : X) → k < length xs → x ≡ get_or xs k x →
       repeats_name (map name_of (drop k xs)) ≡ (list_any (λ o. same_name (name_of x) (name_of o)) (drop (k + 1) xs) || repeats_name (map name_of (drop (k + 1) xs)))
@@ -15,7 +15,7 @@ module _ {X : Type 0} (name_of : X → List ℕ) where
       ap (λ ys. repeats_name (map name_of ys)) front
       ∙ ap (λ b. b || repeats_name (map name_of (drop (k + 1) xs))) (any_of_map (same_name (name_of x)) name_of (drop (k + 1) xs))
 
-  -- a look at one name, whose bytes these are, and at the names behind it
+  -- a look at one name, whose bytes these are, and at the names after it
   pub repeats_here : (xs : List X) (k : ℕ) (x : X) (bytes : List ℕ) (found whole : Bool) → k < length xs → x ≡ get_or xs k x → bytes ≡ name_of x →
       found ≡ list_any (λ o. same_name bytes (name_of o)) (drop (k + 1) xs) → repeats_name (map name_of (drop k xs)) ≡ whole → found ≡ true → true ≡ whole
   repeats_here xs k x bytes found whole h e b f w is =

@@ -21,9 +21,8 @@ pub record ReadsQuery (content : Content) (name text : List ℕ) (result : Resul
   pub fine : OnOk result (query_fault content (Match name text) ≡ None)
   pub fault : IfErr result (λ fault. fault ≢ faults.Memory → query_fault content (Match name text) ≡ Some fault)
 
--- The row of a document, given its offsets: it is the one that a query tells which has these
--- offsets in it (asked), and where no offsets are asked for, the one that any query tells
--- (unasked).
+-- The row of a document, given its offsets: it is the one of a query which has these offsets in it
+-- (asked), and where no offsets are asked for, the one of any query (unasked).
 pub record IsItemRow (content : Content) (items : List Item) (document : ℤ × List Cell) (offsets : List ℕ) (row : List Cell) : Type 0 where
   pub asked : (query : Option Tree) → offsets_cell query content document ≡ Text offsets → row ≡ flat_map (item_cells query content document) items
   pub unasked : (query : Option Tree) → list_any is_offsets items ≡ false → row ≡ flat_map (item_cells query content document) items

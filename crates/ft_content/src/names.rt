@@ -71,7 +71,7 @@ fn repeats_in_set<T: Named>(alloc: Global, named: &[T]) -> Result<bool, AllocErr
     Ok(false)
 }
 
-// The same, each by those behind it.
+// The same, each by those after it.
 fn repeats_behind<T: Named>(named: &[T]) -> bool
     ensures { result ≡ content.repeats_name (map T.name_of named.now) }
 {

@@ -16,7 +16,7 @@ use Rattle.ft_content.specs.Content.{Content, Documents, IsContent}
 use Rattle.ft_content.specs.Command.{Filter, All, Docid}
 use Rattle.ft_content.specs.Answer.{is_chosen, chosen, query_in}
 use Rattle.ft_documents.specs.Chosen.{document_at}
-use Rattle.ft_documents.specs.Matched.{hit_read, chosen_hits, told}
+use Rattle.ft_documents.specs.Matched.{hit_read, chosen_hits, as_wanted}
 use Rattle.ft_documents.specs.Rewrite.{document_if}
 use Rattle.ft_documents.proofs.KeyedRows.{tie, none_below}
 
@@ -77,7 +77,7 @@ chosen_one name content docid is = one_of docid content.documents is.rising
 
 -- ---- the documents of hits
 
-pub of_hits : {H : Type 0} (docid : H → ℤ) (plain : H → PlainHit) → ((h : H) → (plain h).docid ≡ docid h) → (name : List ℕ) (content : Content) (f : Filter) (wanted : Bool) (hits : List H) → IsContent name content → map plain hits ≡ map (told wanted) (chosen_hits content f) →
+pub of_hits : {H : Type 0} (docid : H → ℤ) (plain : H → PlainHit) → ((h : H) → (plain h).docid ≡ docid h) → (name : List ℕ) (content : Content) (f : Filter) (wanted : Bool) (hits : List H) → IsContent name content → map plain hits ≡ map (as_wanted wanted) (chosen_hits content f) →
     map (λ h. document_at content (docid h)) hits ≡ chosen content f
 of_hits docid plain same name content f wanted hits is are =
     by_docid hits ∙ ap (map (λ (h : PlainHit). document_at content h.docid)) are ∙ by_document (query_in content f) (chosen content f) ∙ chosen_again name content f is
@@ -86,7 +86,7 @@ of_hits docid plain same name content f wanted hits is are =
     by_docid [] = refl
     by_docid (h ∷ hs) = λ i. document_at content (sym (same h) i) ∷ by_docid hs i
 
-    by_document : (query : Option Tree) (ds : Documents) → map (λ (h : PlainHit). document_at content h.docid) (map (told wanted) (map (hit_read content query) ds)) ≡ map (λ (d : ℤ × List Cell). document_at content d.0) ds
+    by_document : (query : Option Tree) (ds : Documents) → map (λ (h : PlainHit). document_at content h.docid) (map (as_wanted wanted) (map (hit_read content query) ds)) ≡ map (λ (d : ℤ × List Cell). document_at content d.0) ds
     by_document query [] = refl
     by_document query (d ∷ ds) = ap (λ l. document_at content d.0 ∷ l) (by_document query ds)
 

@@ -27,7 +27,7 @@ then_less Equal r h = absurd (let no = h in cc)
 then_less Greater r h = absurd (let no = h in cc)
 
 module _ {V : Type 0} where
-  -- what is found among rows of one docid, and behind them
+  -- what is found among rows of one docid, and after them
   find_under : (q : ℤ × ℤ) (docid : ℤ) (rows : List (ℤ × V)) (more : List ((ℤ × ℤ) × V)) → int_eq q.0 docid ≡ true → find column_key_cmp q more ≡ None → find column_key_cmp q (under docid rows ++ more) ≡ find int_cmp q.1 rows
   find_under q docid [] more same none = none
   find_under q docid (c ∷ cs) more same none =

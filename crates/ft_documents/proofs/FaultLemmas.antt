@@ -30,7 +30,7 @@ memory_or faults.DocidFull = inr (λ e. let no = e in cc)
 memory_or faults.Corrupt = inr (λ e. let no = e in cc)
 memory_or faults.Store = inr (λ e. let no = e in cc)
 
--- a fault that is told but for want of memory
+-- a fault that is answered but for want of memory
 pub if_err_memory : {X : Type 0} (r : Result X Fault) (P Q : Fault → Type 0) → ((fault : Fault) → P fault → Q fault) → IfErr r (λ fault. fault ≢ faults.Memory → P fault) → IfErr r (λ fault. (fault ≡ faults.Memory) ⊎ Q fault)
 if_err_memory (Ok x) P Q f h = tt
 if_err_memory (Err fault) P Q f h = elim (memory_or fault) [ inl is ↦ inl is | inr other ↦ inr (f fault (h other)) ]

@@ -1,4 +1,4 @@
--- The row changes of documents that are written anew group by group, one group's behind the
+-- The row changes of documents that are written anew group by group, one group's after the
 -- other's.
 use Rattle.std.proofs.Common.{◌≡◌, ℕ, Less, Equal, Greater, true, false, cond, ◌&&◌, not, List, [], ◌∷◌, ◌++◌, length, Option, Some, None, ℤ, refl, sym, ap, subst, ◌∙◌}
 use Rattle.std.specs.Prelude.{All, Contains, IfSome, IsTrue}
@@ -23,7 +23,7 @@ use Rattle.ft_documents.proofs.RewriteLemmas.{sorted_rewritten, written, find_re
 use Rattle.ft_documents.proofs.RightLemmas.{order_after, are_right}
 use Rattle.ft_documents.proofs.NearLemmas.{changes_near, contains_own}
 
--- ---- two lists, one behind the other
+-- ---- two lists, one after the other
 
 first_all : {X : Type 0} (P : X → Type 0) (xs ys : List X) → AllByRecursion P (xs ++ ys) → AllByRecursion P xs
 first_all P [] ys all = tt
@@ -53,7 +53,7 @@ sorted_last : (xs ys : List (ℤ × Rewrite)) → is_sorted int_cmp (xs ++ ys) �
 sorted_last [] ys h = h
 sorted_last (x ∷ xs) ys h = sorted_last xs ys (and_parts (below_all int_cmp x.0 (xs ++ ys)) (is_sorted int_cmp (xs ++ ys)) h).1
 
--- the documents of those behind aren't among the first
+-- the documents of those after aren't among the first
 none_yet : (rs : List Rewrite) → AllByRecursion (λ (r : Rewrite). find int_cmp r.docid (by_docid []) ≡ None) rs
 none_yet [] = tt
 none_yet (r ∷ rs) = (refl, none_yet rs)
@@ -101,7 +101,7 @@ fit_rewritten : (width : ℕ) (rewrites : List Rewrite) (documents : Documents) 
 fit_rewritten width [] documents fit h = h
 fit_rewritten width (r ∷ rs) documents fit h = fit_rewritten width rs (with_cells r.docid r.after documents) fit.1 (fit_with width r.docid r.after documents fit.0 h)
 
--- ---- what is known of documents behind the first
+-- ---- what is known of documents after the first
 
 known_still : (first rest : List Rewrite) (documents : Documents) → is_sorted int_cmp (by_docid first) ≡ true → AllByRecursion (λ (r : Rewrite). find int_cmp r.docid (by_docid first) ≡ None) rest → AllByRecursion (λ (r : Rewrite). r.before ≡ find int_cmp r.docid documents) rest
     → AllByRecursion (λ (r : Rewrite). r.before ≡ find int_cmp r.docid (rewritten first documents)) rest
@@ -148,7 +148,7 @@ module _ (first rest : List Rewrite) (content : Content) (are : AreOf content (f
 
 -- ---- groups
 
--- the changes of a group, and right ones of those behind it
+-- the changes of a group, and right ones of those after it
 then_right : (tab : ℤ) (columns : List Column) (first rest : List Rewrite) (changes : List Change) → AreRight tab columns rest changes → AreRight tab columns (first ++ rest) (rewrite_changes tab columns first ++ changes)
 then_right tab columns first rest changes right name content store has same are =
     let of_first = first_of first rest content are in

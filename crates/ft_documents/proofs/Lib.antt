@@ -46,4 +46,4 @@ pub mod StoreKeys
 pub mod TakenLemmas
 pub mod TermLemmas
 pub mod TokenSteps
-pub mod ToldLemmas
+pub mod TableListLemmas

@@ -20,7 +20,7 @@ kept_more {X} {Y} p f x xs old new all =
       | false ↦ λ same so_far. ap (λ ys. ys ++ map f (filter p xs)) same ∙ so_far
     ]
 
--- an element more behind those before, that may have no piece
+-- an element more after those before, that may have no piece
 pub kept_last : {X Y : Type 0} (p : X → Bool) (f : X → Y) (x : X) (xs : List X) (old new first : List Y) → new ≡ cond (p x) (old ++ f x ∷ []) old → old ≡ first ++ map f (filter p xs) → new ≡ first ++ map f (filter p (xs ++ x ∷ []))
 kept_last {X} {Y} p f x xs old new first grown so_far =
     elim (p x) as (λ b. new ≡ cond b (old ++ f x ∷ []) old → new ≡ first ++ (map f (filter p xs) ++ map f (cond b (x ∷ []) []))) [

@@ -9,7 +9,7 @@ use Rattle.ft_query.specs.Trees.{tree_of}
 use Rattle.ft_query.specs.Occurs.{PlainHit, hits_of}
 use Rattle.ft_query.specs.Walk.{Walk, Walked, WalkedTo, hit_list, hit_at}
 use Rattle.ft_content.specs.Answer.{cut}
-use Rattle.ft_documents.specs.Matched.{told, Tells}
+use Rattle.ft_documents.specs.Matched.{as_wanted, Tells}
 
 -- as many as are wanted
 pub full : (most : Option ℕ) (m n : ℕ) (hits rest : List PlainHit) → m ≡ unwrap_or most 18446744073709551615 → length hits ≡ n → n < 2 ^ 63 → m ≤ n → n ≤ m → hits ≡ cut most 0 (hits ++ rest)
@@ -24,32 +24,32 @@ whole None m hits is room = refl
 whole (Some k) m hits is room = sym (take_all k hits (omega arith))
 
 -- no hit is left
-pub ended : (wanted : Bool) (old new : Walk) (hit : Option Hit) (documents : List Document) → hit ≡ None → Tells wanted old new hit documents → map (told wanted) (hits_of (tree_of old.query) documents) ≡ []
-ended wanted old new hit documents none tells = tells.hits_are ∙ (λ i. hit_list (none i) ++ map (told wanted) (hits_of (tree_of old.query) (tells.ended none i)))
+pub ended : (wanted : Bool) (old new : Walk) (hit : Option Hit) (documents : List Document) → hit ≡ None → Tells wanted old new hit documents → map (as_wanted wanted) (hits_of (tree_of old.query) documents) ≡ []
+ended wanted old new hit documents none tells = tells.hits_are ∙ (λ i. hit_list (none i) ++ map (as_wanted wanted) (hits_of (tree_of old.query) (tells.ended none i)))
 
--- a hit with its offsets is told as it is
+-- a hit whose offsets are wanted stays as it is
 pub told_whole : (old new : Walk) (hit : Option Hit) (documents : List Document) → Walked old new hit documents → Tells true old new hit documents
 told_whole old new hit documents walked = record {
   rest = walked.went.rest;
   stands = walked.went.stands;
-  hits_are = ap (map (told true)) walked.went.hits_are ∙ map-append (told true) (hit_list hit) (hits_of (tree_of old.query) walked.went.rest) ∙ ap (λ hs. hs ++ map (told true) (hits_of (tree_of old.query) walked.went.rest)) (own hit);
+  hits_are = ap (map (as_wanted true)) walked.went.hits_are ∙ map-append (as_wanted true) (hit_list hit) (hits_of (tree_of old.query) walked.went.rest) ∙ ap (λ hs. hs ++ map (as_wanted true) (hits_of (tree_of old.query) walked.went.rest)) (own hit);
   ended = walked.ended;
 }
   where
-    own : (hit : Option Hit) → map (told true) (hit_list hit) ≡ hit_list hit
+    own : (hit : Option Hit) → map (as_wanted true) (hit_list hit) ≡ hit_list hit
     own None = refl
     own (Some h) = refl
 
--- a docid is told as a hit without offsets
+-- a docid is a hit without offsets
 pub told_bare : (old new : Walk) (docid : Option ℤ) (hit : Option Hit) (documents : List Document) → hit_list hit ≡ hit_at docid [] → WalkedTo old new docid documents → Tells false old new hit documents
 told_bare old new docid hit documents is walked = record {
   rest = walked.went.rest;
   stands = walked.went.stands;
-  hits_are = ap (map (told false)) walked.went.hits_are ∙ map-append (told false) (hit_at docid walked.offsets) (hits_of (tree_of old.query) walked.went.rest) ∙ ap (λ hs. hs ++ map (told false) (hits_of (tree_of old.query) walked.went.rest)) (own docid walked.offsets ∙ sym is);
+  hits_are = ap (map (as_wanted false)) walked.went.hits_are ∙ map-append (as_wanted false) (hit_at docid walked.offsets) (hits_of (tree_of old.query) walked.went.rest) ∙ ap (λ hs. hs ++ map (as_wanted false) (hits_of (tree_of old.query) walked.went.rest)) (own docid walked.offsets ∙ sym is);
   ended = λ none. walked.ended (no_docid docid (sym is ∙ ap hit_list none));
 }
   where
-    own : (docid : Option ℤ) (offsets : List Offset) → map (told false) (hit_at docid offsets) ≡ hit_at docid []
+    own : (docid : Option ℤ) (offsets : List Offset) → map (as_wanted false) (hit_at docid offsets) ≡ hit_at docid []
     own None offsets = refl
     own (Some d) offsets = refl
 

@@ -1,4 +1,4 @@
--- Meaning. The table of a name among those that are told.
+-- Meaning. The table of a name in a list of tables.
 use Rattle.std.specs.Prelude.{◌≡◌, ◌⊎◌, ℕ, ℤ, true, not, if◌then◌else◌, filter, map, List, [], ◌∷◌, Option, Some, None, IsTrue, false}
 use Rattle.std.specs.List.{find}
 use Rattle.std.specs.Ordering.{int_cmp, int_eq, is_lt}
@@ -10,7 +10,7 @@ use Rattle.ft_content.specs.Views.{TableInfo}
 abbrev pub info_named : List TableInfo → List ℕ → Option TableInfo
 info_named tables name = find (λ (t : TableInfo). same_name t.name name) tables
 
--- it is told so, and is sound
+-- it is in the list, and is sound
 abbrev pub IsSoundNamed : List TableInfo → List ℕ → TableInfo → Type 0
 IsSoundNamed tables name known = (info_named tables name ≡ Some known) × IsTrue known.sound
 
@@ -21,13 +21,13 @@ IsUnfit tables name fault =
     ⊎ ((fault ≡ faults.Unsound) × ((table : TableInfo) × (info_named tables name ≡ Some table) × (table.sound ≡ false)))
 
 -- the tables with one more, in its place by its id
-abbrev pub with_told : TableInfo → List TableInfo → List TableInfo
-with_told table [] = table ∷ []
-with_told table (t ∷ ts) = if is_lt (int_cmp table.id t.id) then (table ∷ t ∷ ts) else (t ∷ with_told table ts)
+abbrev pub with_info : TableInfo → List TableInfo → List TableInfo
+with_info table [] = table ∷ []
+with_info table (t ∷ ts) = if is_lt (int_cmp table.id t.id) then (table ∷ t ∷ ts) else (t ∷ with_info table ts)
 
 -- the tables without the one of an id
-abbrev pub without_told : ℤ → List TableInfo → List TableInfo
-without_told id tables = filter (λ (t : TableInfo). not (int_eq id t.id)) tables
+abbrev pub without_info : ℤ → List TableInfo → List TableInfo
+without_info id tables = filter (λ (t : TableInfo). not (int_eq id t.id)) tables
 
 -- the tables, the one of an id marked sound
 abbrev pub sound_if : ℤ → TableInfo → TableInfo

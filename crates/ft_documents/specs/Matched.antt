@@ -21,16 +21,16 @@ hit_read content query document = record { docid = document.0; offsets = option_
 abbrev pub chosen_hits : Content → Filter → List PlainHit
 chosen_hits content f = map (hit_read content (query_in content f)) (chosen content f)
 
--- a hit as it is told: with its offsets where they are wanted, else with none
-abbrev pub told : Bool → PlainHit → PlainHit
-told wanted hit = record { docid = hit.docid; offsets = if wanted then hit.offsets else [] }
+-- a hit with its offsets where they are wanted, else with none
+abbrev pub as_wanted : Bool → PlainHit → PlainHit
+as_wanted wanted hit = record { docid = hit.docid; offsets = if wanted then hit.offsets else [] }
 
--- From before these documents the walk went on to stand before the rest, with this hit between, as
--- it is told. Without one there is no rest.
+-- From before these documents the walk went on to stand before the rest, with this hit between,
+-- with its offsets if they are wanted. Without one there is no rest.
 pub record Tells (wanted : Bool) (old new : Walk) (hit : Option Hit) (documents : List Document) : Type 0 where
   pub rest : List Document
   pub stands : StandsBefore new rest
-  pub hits_are : map (told wanted) (hits_of (tree_of old.query) documents) ≡ hit_list hit ++ map (told wanted) (hits_of (tree_of old.query) rest)
+  pub hits_are : map (as_wanted wanted) (hits_of (tree_of old.query) documents) ≡ hit_list hit ++ map (as_wanted wanted) (hits_of (tree_of old.query) rest)
   pub ended : hit ≡ None → rest ≡ []
 
 -- what a look for the next hit makes of a walk, which passes a list at least where it finds one

@@ -108,7 +108,7 @@ pub record HaveContent (columns : List Column) (rows : List CellRow) (content : 
   pub cells_are : rows ≡ (content_rows content).cells
 
 -- The sizes are those of a content made from scratch, and lists by their terms are its posting
--- lists. No lists are told where the sizes are others.
+-- lists. Where the sizes are others there are no lists to compare.
 abbrev pub AreTheirs : Content → List ((ℤ × ℤ) × ℤ) → Option (Vec TermLists Global) → Type 0
 AreTheirs content sizes None = sizes ≢ sized (index_rows content).sizes
 AreTheirs content sizes (Some lists) = (sizes ≡ sized (index_rows content).sizes) × (lists_of_terms lists.items ≡ (index_rows content).lists)

@@ -5,7 +5,7 @@ ghost use Rattle.ft_query.specs.Trees.{tree_of};
 ghost use Rattle.ft_query.specs.Occurs.{plain_hit, hits_of};
 ghost use Rattle.ft_query.specs.Walk.{StandsBefore};
 ghost use Rattle.ft_content.specs.Answer.{cut};
-ghost use Rattle.ft_documents.specs.Matched.{told, TellsNext};
+ghost use Rattle.ft_documents.specs.Matched.{as_wanted, TellsNext};
 
 use ft_query::{Hit, Matches};
 use std::alloc::{AllocError, Global};
@@ -37,7 +37,7 @@ pub fn taken(
 ) -> Result<Vec<Hit>, AllocError>
     ensures { IfOk result (λ hits. (documents : List Document) → StandsBefore walk.old documents
         → map plain_hit hits.items ≡ cut most 0
-        (map (told wants_offsets) (hits_of (tree_of walk.old.query) documents))) }
+        (map (as_wanted wants_offsets) (hits_of (tree_of walk.old.query) documents))) }
 {
     let most = most.unwrap_or(u64::MAX);
     let mut hits = Vec::new(alloc);

@@ -15,9 +15,9 @@ mod query;
 mod rewrite;
 mod standing_index;
 mod standing_rows;
+mod table_list;
 mod term_index;
 mod tokens;
-mod told;
 mod writes;
 
 pub use columns::skipped;
@@ -32,5 +32,5 @@ pub use query::filter_query;
 pub use rewrite::{Rewrite, row_changes};
 pub use standing_index::index_lists;
 pub use standing_rows::{is_content, listed_columns};
-pub use told::{insert_table, mark_sound, remove_table};
+pub use table_list::{insert_table, mark_sound, remove_table};
 pub use writes::{additions, removals, update_rewrites};

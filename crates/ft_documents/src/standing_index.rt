@@ -24,7 +24,7 @@ fn is_size(sizes: &[SizeRow], count: usize, docid: i64, place: usize, n: usize) 
     }
 }
 
-// Adds the postings of a document behind those of others. How many of the first of these sizes are
+// Adds the postings of a document after those of others. How many of the first of these sizes are
 // its own; none where others stand there.
 fn add_document(
     lists: &mut TermIndex,

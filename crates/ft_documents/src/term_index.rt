@@ -35,7 +35,7 @@ impl TermIndex {
         }
     }
 
-    /// Adds the tokens of a cell that is indexed, of the last document or one behind it. How many
+    /// Adds the tokens of a cell that is indexed, of the last document or one after it. How many
     /// they are.
     pub(crate) fn add_cell(
         &mut self,

@@ -13,7 +13,7 @@ all_read (Some all) bytes few is =
     let count : length bytes ≡ _ = ap length is ∙ length-take (2 ^ 26 + 1) all in
     (few, is ∙ take_all (2 ^ 26 + 1) all (omega (arith, count, few)))
 
--- as the reader that stops behind the most tells it
+-- as the reader that stops after the most tells it
 pub all_taken : {R : Type 0} (remaining : R → Option (List ℕ)) (taken : Take R) (reader : R) (before bytes : List ℕ) → take_limit taken ≡ 2 ^ 26 + 1 → take_inner taken ≡ reader → before ≡ [] →
     IfSome (take_remaining remaining taken) (λ xs. bytes ≡ before ++ xs) → length bytes ≤ 2 ^ 26 → AreAll (remaining reader) bytes
 all_taken remaining taken reader before bytes limit inner none is few =

@@ -19,8 +19,7 @@ use Rattle.ft_store.specs.Opened.{IsNewFrom, IsNotTakenFrom, IsOpenedFrom}
 use Rattle.ft_files.specs.declared.databases.OpenFault.{OpenFault}
 use Rattle.ft_files.specs.declared.databases.OpenFault.TheVariants as fault
 
--- what is told of a store that is not opened: that it is none, its version where that is not taken,
--- or no more than that
+-- why a store is not opened: it is none, or of a version that is not taken, or no more is known
 abbrev pub fault_of : StoreFault → OpenFault
 fault_of store.NotAStore = fault.NotAStore
 fault_of (store.Version n) = fault.Version n

@@ -10,7 +10,7 @@ use Rattle.plain_shell.specs.Sources.{Files}
 abbrev pub unknown_files : Files
 unknown_files name = record { bytes = None; may_refuse = λ fault. true }
 
--- what is told of a reader's own fault
+-- which fault stands for a reader's own
 abbrev pub fault_of : ErrorKind → SourceFault
 fault_of kind.NotFound = fault.Missing
 fault_of kind.OutOfMemory = fault.Memory

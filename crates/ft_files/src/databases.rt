@@ -24,7 +24,7 @@ pub enum OpenFault {
     Store,
 }
 
-// What is told of a store that is not opened.
+// Why a store is not opened.
 fn store_fault(cause: StoreFault) -> OpenFault
     ensures { result ≡ forms.fault_of cause }
 {

@@ -15,7 +15,7 @@ use Rattle.ft_content.specs.Views.{TableInfo}
 use Rattle.ft_content.specs.Deserved.{TableState, Sound, Stale, Loose, Table, Contents, deserved}
 use Rattle.ft_content.specs.Step.{after, with_documents, on_table}
 use Rattle.ft_index.specs.DocumentsRead.{Looks}
-use Rattle.ft_index.specs.Kept.{IsUp, AreHeld, Executes, Answers, is_outside, told_table}
+use Rattle.ft_index.specs.Kept.{IsUp, AreHeld, Executes, Answers, is_outside, table_info}
 use Rattle.ft_index.specs.Changed.{Changed, with_tables}
 use Rattle.ft_index.specs.Written.{PlansTo}
 use Rattle.ft_index.proofs.CreateLemmas.{refused_answers}
@@ -23,22 +23,22 @@ use Rattle.ft_index.proofs.Executing.{executes_refused}
 
 -- ---- the tables that are told stay
 
-same_told : (t : ℤ × Table) (change : Content → Documents) (held : TableState) → t.1.held ≡ held → told_table (t.0, record { name = t.1.name; held = with_documents change held }) ≡ told_table (t.0, record { name = t.1.name; held = held })
+same_told : (t : ℤ × Table) (change : Content → Documents) (held : TableState) → t.1.held ≡ held → table_info (t.0, record { name = t.1.name; held = with_documents change held }) ≡ table_info (t.0, record { name = t.1.name; held = held })
 same_told t change (Sound content) is = refl
 same_told t change (Stale content) is = refl
 same_told t change (Loose rows) is = refl
 
-told_written : (name : List ℕ) (change : Content → Documents) (contents : Contents) → map told_table (on_table contents name (with_documents change)) ≡ map told_table contents
+told_written : (name : List ℕ) (change : Content → Documents) (contents : Contents) → map table_info (on_table contents name (with_documents change)) ≡ map table_info contents
 told_written name change [] = refl
 told_written name change (t ∷ ts) = λ i. here i ∷ told_written name change ts i
   where
-    here : told_table (cond (same_name t.1.name name) (t.0, record { name = t.1.name; held = with_documents change t.1.held }) t) ≡ told_table t
-    here = elim (same_name t.1.name name) as (λ b. told_table (cond b (t.0, record { name = t.1.name; held = with_documents change t.1.held }) t) ≡ told_table t) [ true ↦ same_told t change t.1.held refl | false ↦ refl ]
+    here : table_info (cond (same_name t.1.name name) (t.0, record { name = t.1.name; held = with_documents change t.1.held }) t) ≡ table_info t
+    here = elim (same_name t.1.name name) as (λ b. table_info (cond b (t.0, record { name = t.1.name; held = with_documents change t.1.held }) t) ≡ table_info t) [ true ↦ same_told t change t.1.held refl | false ↦ refl ]
 
 -- after a command that leaves other documents
 pub told_kept : (store : StoreValue) (tables : List TableInfo) (command : Command) (name : List ℕ) (change : Content → Documents) → ((contents : Contents) → after contents command ≡ on_table contents name (with_documents change)) →
-    (contents : Contents) → AreHeld store tables contents → deserved contents command ≡ None → tables ≡ map told_table (after contents command)
-told_kept store tables command name change leaves contents held fine = held.told ∙ sym (told_written name change contents) ∙ ap (map told_table) (sym (leaves contents))
+    (contents : Contents) → AreHeld store tables contents → deserved contents command ≡ None → tables ≡ map table_info (after contents command)
+told_kept store tables command name change leaves contents held fine = held.told ∙ sym (told_written name change contents) ∙ ap (map table_info) (sym (leaves contents))
 
 module _ {S : Type 0} (g : Ghosts S) where
   pub looks_up : (old new : StoreState S) (tables others : List TableInfo) → Looks g old new → IsUp g (with_tables new tables) → IsUp g (with_tables old others)

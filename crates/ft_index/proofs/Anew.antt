@@ -23,7 +23,7 @@ use Rattle.ft_documents.proofs.AddLemmas.{bare, added_rows, added_index}
 use Rattle.ft_documents.proofs.KeyedRows.{true_of, of_true, same_int, turned_round, sorted_put}
 use Rattle.ft_documents.proofs.StoreKeys.{column_total, column_exact}
 use Rattle.ft_index.specs.declared.written.Written.{Written}
-use Rattle.ft_index.specs.Kept.{AreHeld, StoreHolds, Stands, held_columns, told_table}
+use Rattle.ft_index.specs.Kept.{AreHeld, StoreHolds, Stands, held_columns, table_info}
 use Rattle.ft_index.specs.Opened.{IsNamed}
 use Rattle.ft_index.specs.Written.{MakeTable}
 use Rattle.ft_index.proofs.CheckLemmas.{IsTold, told_here}
@@ -120,7 +120,7 @@ module _ (store : StoreValue) (tables : List TableInfo) (contents : Contents) (n
   -- So a table that is told and is made anew with the documents of a content holds the content.
   pub anew_holds : (content : Content) (rewrites : List Rewrite) (changes : List Change) (change : TableState → TableState) → IsContent t.table.1.name content → held_columns t.table.1.held ≡ content.columns → AreOf (bare content.columns) rewrites → rewritten rewrites [] ≡ content.documents → change t.table.1.held ≡ Sound content →
       AreRight known.id known.columns rewrites changes → All (IsOfDocids known.id (docids_of rewrites)) changes → StoreHolds (all_applied (anew_change known ∷ changes) store) (on_table contents name change) × ((all_applied (anew_change known ∷ changes) store).noted ≡ store.noted)
-  anew_holds content rewrites changes change is columns_are are made changed = subst Holds t.told (subst (λ cs. Holds (record (told_table t.table) { columns = cs })) (sym columns_are) here)
+  anew_holds content rewrites changes change is columns_are are made changed = subst Holds t.told (subst (λ cs. Holds (record (table_info t.table) { columns = cs })) (sym columns_are) here)
     where
       Holds : TableInfo → Type 0
       Holds k = AreRight k.id k.columns rewrites changes → All (IsOfDocids k.id (docids_of rewrites)) changes → StoreHolds (all_applied (anew_change k ∷ changes) store) (on_table contents name change) × ((all_applied (anew_change k ∷ changes) store).noted ≡ store.noted)
@@ -128,7 +128,7 @@ module _ (store : StoreValue) (tables : List TableInfo) (contents : Contents) (n
       named : IsNamed store t.table.0 (t.table.0, t.table.1.name)
       named = subst (λ k. IsNamed store k (t.table.0, t.table.1.name)) (ap (λ (k : TableInfo). k.id) (sym t.told)) t.named
 
-      here : Holds (record (told_table t.table) { columns = content.columns })
+      here : Holds (record (table_info t.table) { columns = content.columns })
       here right near =
           let id = t.table.0 in
           let new = all_applied (AddTable id t.table.1.name (names_of content.columns) (skipped_from 0 content.columns) ∷ changes) store in

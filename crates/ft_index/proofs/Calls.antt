@@ -143,7 +143,7 @@ module _ {S : Type 0} (g : Ghosts S) where
         answered = answered_more first start runs.0 call calls runs.1 up_now holds rest.answered;
       }
 
-  -- behind a call that was answered
+  -- after a call that was answered
   stands_behind : (start end : FullText S) (calls before more : List Call) (call : Call) (first : Contents) → IsCleanAt end → Holds g start first → Runs g start calls end → calls ≡ before ++ call ∷ more → is_answered call ≡ true →
       (mid : FullText S) × Runs g start (before ++ call ∷ []) mid × Runs g mid more end × StandsAfter g first (value_of g start).noted (before ++ call ∷ []) mid
   stands_behind start end calls before more call first clean holds runs is done =

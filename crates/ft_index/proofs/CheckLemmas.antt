@@ -14,7 +14,7 @@ use Rattle.ft_content.specs.Views.{TableInfo, shown_info}
 use Rattle.ft_content.specs.Deserved.{TableState, Sound, Stale, Loose, Table, Contents, table_named, on_found, check_fault, deserved}
 use Rattle.ft_content.specs.Step.{step, step_by, reply_to, after}
 use Rattle.ft_documents.specs.Found.{info_named}
-use Rattle.ft_index.specs.Kept.{AreHeld, StoreHolds, Stands, AreSound, is_sound, told_table}
+use Rattle.ft_index.specs.Kept.{AreHeld, StoreHolds, Stands, AreSound, is_sound, table_info}
 use Rattle.ft_index.specs.Opened.{IsNamed, AreMarked}
 use Rattle.ft_documents.specs.Tables.{table_rows, table_index}
 use Rattle.ft_index.proofs.HeldLemmas.{holds_one_contents}
@@ -46,7 +46,7 @@ named_under store name t (n ∷ ns) (c ∷ cs) one held found = go (int_eq t.0 c
 pub record IsTold (store : StoreValue) (contents : Contents) (name : List ℕ) (known : TableInfo) : Type 0 where
   pub table : ℤ × Table
   pub found : table_named contents name ≡ Some table
-  pub told : told_table table ≡ known
+  pub told : table_info table ≡ known
   pub one : AllByRecursion (IsOne name table) contents
   pub named : IsNamed store known.id (table.0, table.1.name)
   pub stands : Stands table.1.name (table_rows table.0 store) (table_index table.0 store) table.1.held
@@ -88,7 +88,7 @@ unsound_due name (Sound content) h = absurd (let no = h in cc)
 unsound_due name (Stale content) h = refl
 unsound_due name (Loose rows) h = refl
 
-pub check_missing : (contents : Contents) (tables : List TableInfo) (name : List ℕ) → tables ≡ map told_table contents → info_named tables name ≡ None → step contents (Check name) ≡ (Err faults.NoSuchTable, contents)
+pub check_missing : (contents : Contents) (tables : List TableInfo) (name : List ℕ) → tables ≡ map table_info contents → info_named tables name ≡ None → step contents (Check name) ≡ (Err faults.NoSuchTable, contents)
 check_missing contents tables name told none = checked contents name (Some faults.NoSuchTable) (check_due contents name None (none_named contents name (ap (λ ts. info_named ts name) (sym told) ∙ none)))
 
 pub check_right : (contents : Contents) (name : List ℕ) (t : ℤ × Table) → table_named contents name ≡ Some t → is_sound t.1.held ≡ true → step contents (Check name) ≡ (Ok Done, contents)
@@ -99,14 +99,14 @@ check_wrong contents name t found unsound = checked contents name (Some faults.C
 
 -- ---- whether all tables are sound
 
-sound_marks : (contents : Contents) → list_all (λ (k : TableInfo). k.sound) (map told_table contents) ≡ list_all (λ (t : ℤ × Table). is_sound t.1.held) contents
-sound_marks contents = list_all-map (λ (k : TableInfo). k.sound) told_table contents
+sound_marks : (contents : Contents) → list_all (λ (k : TableInfo). k.sound) (map table_info contents) ≡ list_all (λ (t : ℤ × Table). is_sound t.1.held) contents
+sound_marks contents = list_all-map (λ (k : TableInfo). k.sound) table_info contents
 
 pub all_are_sound : (store : StoreValue) (infos : List RustTableInfo) (contents : Contents) (all : Bool) → AreMarked store store.tables (map shown_info infos) → StoreHolds store contents → all ≡ list_all (λ (t : RustTableInfo). t.sound) infos →
     (IsTrue all → AreSound contents) × (AreSound contents → IsTrue all)
 all_are_sound store infos contents all marked held is =
     let found = marked_contents store (map shown_info infos) marked in
-    let told : map shown_info infos ≡ map told_table contents = found.told ∙ ap (map told_table) (holds_one_contents store found.contents contents found.held held) in
+    let told : map shown_info infos ≡ map table_info contents = found.told ∙ ap (map table_info) (holds_one_contents store found.contents contents found.held held) in
     let same : all ≡ list_all (λ (t : ℤ × Table). is_sound t.1.held) contents = is ∙ sym (list_all-map (λ (k : TableInfo). k.sound) shown_info infos) ∙ ap (list_all (λ (k : TableInfo). k.sound)) told ∙ sound_marks contents in (
       (λ h. AllPass-from_list_all (λ (t : ℤ × Table). is_sound t.1.held) contents (sym same ∙ h)),
       (λ h. same ∙ list_all-from_AllPass (λ (t : ℤ × Table). is_sound t.1.held) contents h),

@@ -15,9 +15,9 @@ use Rattle.ft_content.specs.declared.command.Creation.{Creation}
 use Rattle.ft_content.specs.Views.{TableInfo, shown_info, option_of, names_in, creation_of}
 use Rattle.ft_content.specs.Deserved.{Table, Contents, table_named, made_columns, deserved}
 use Rattle.ft_content.specs.Step.{free_id_from, made_column, new_table, created, after, reply_to, step, step_by}
-use Rattle.ft_documents.specs.Found.{with_told}
+use Rattle.ft_documents.specs.Found.{with_info}
 use Rattle.ft_index.specs.Planned.{Makes, table_change}
-use Rattle.ft_index.specs.Kept.{AreHeld, StoreHolds, told_table}
+use Rattle.ft_index.specs.Kept.{AreHeld, StoreHolds, table_info}
 use Rattle.ft_index.proofs.OneTable.{ids_sorted}
 use Rattle.ft_documents.proofs.AddLemmas.{bare}
 use Rattle.ft_index.proofs.TableChanges.{free_is_free, adds_one}
@@ -25,15 +25,15 @@ use Rattle.ft_index.proofs.NameLemmas.{apart_after}
 use Rattle.ft_content.proofs.ContentLemmas.{create_makes_content}
 
 -- a table under a free id stands among those that are told as it stands among the contents
-told_put : (id : ℤ) (table : Table) (contents : Contents) → AllByRecursion (λ (c : ℤ × Table). int_eq id c.0 ≡ false) contents → map told_table (put int_cmp id table contents) ≡ with_told (told_table (id, table)) (map told_table contents)
+told_put : (id : ℤ) (table : Table) (contents : Contents) → AllByRecursion (λ (c : ℤ × Table). int_eq id c.0 ≡ false) contents → map table_info (put int_cmp id table contents) ≡ with_info (table_info (id, table)) (map table_info contents)
 told_put id table [] free = refl
 told_put id table (c ∷ cs) free = go (int_cmp id c.0) refl free.0 (told_put id table cs free.1)
   where
-    go : (o : Ordering) → int_cmp id c.0 ≡ o → int_eq id c.0 ≡ false → map told_table (put int_cmp id table cs) ≡ with_told (told_table (id, table)) (map told_table cs) →
-        map told_table (by_order (int_cmp id c.0) ((id, table) ∷ c ∷ cs) ((c.0, table) ∷ cs) (c ∷ put int_cmp id table cs)) ≡ cond (is_lt (int_cmp id c.0)) (told_table (id, table) ∷ told_table c ∷ map told_table cs) (told_table c ∷ with_told (told_table (id, table)) (map told_table cs))
-    go Less is apart rest = ap (λ o. map told_table (by_order o ((id, table) ∷ c ∷ cs) ((c.0, table) ∷ cs) (c ∷ put int_cmp id table cs))) is ∙ sym (ap (λ o. cond (is_lt o) (told_table (id, table) ∷ told_table c ∷ map told_table cs) (told_table c ∷ with_told (told_table (id, table)) (map told_table cs))) is)
+    go : (o : Ordering) → int_cmp id c.0 ≡ o → int_eq id c.0 ≡ false → map table_info (put int_cmp id table cs) ≡ with_info (table_info (id, table)) (map table_info cs) →
+        map table_info (by_order (int_cmp id c.0) ((id, table) ∷ c ∷ cs) ((c.0, table) ∷ cs) (c ∷ put int_cmp id table cs)) ≡ cond (is_lt (int_cmp id c.0)) (table_info (id, table) ∷ table_info c ∷ map table_info cs) (table_info c ∷ with_info (table_info (id, table)) (map table_info cs))
+    go Less is apart rest = ap (λ o. map table_info (by_order o ((id, table) ∷ c ∷ cs) ((c.0, table) ∷ cs) (c ∷ put int_cmp id table cs))) is ∙ sym (ap (λ o. cond (is_lt o) (table_info (id, table) ∷ table_info c ∷ map table_info cs) (table_info c ∷ with_info (table_info (id, table)) (map table_info cs))) is)
     go Equal is apart rest = absurd (let no = sym apart ∙ ap is_eq is in cc)
-    go Greater is apart rest = ap (λ o. map told_table (by_order o ((id, table) ∷ c ∷ cs) ((c.0, table) ∷ cs) (c ∷ put int_cmp id table cs))) is ∙ ap (λ l. told_table c ∷ l) rest ∙ sym (ap (λ o. cond (is_lt o) (told_table (id, table) ∷ told_table c ∷ map told_table cs) (told_table c ∷ with_told (told_table (id, table)) (map told_table cs))) is)
+    go Greater is apart rest = ap (λ o. map table_info (by_order o ((id, table) ∷ c ∷ cs) ((c.0, table) ∷ cs) (c ∷ put int_cmp id table cs))) is ∙ ap (λ l. table_info c ∷ l) rest ∙ sym (ap (λ o. cond (is_lt o) (table_info (id, table) ∷ table_info c ∷ map table_info cs) (table_info c ∷ with_info (table_info (id, table)) (map table_info cs))) is)
 
 some_columns : (names : List (List ℕ)) → nat_lt 0 (length (made_columns names)) ≡ true
 some_columns [] = refl
@@ -51,7 +51,7 @@ makes_content contents creation fine =
 
 pub made_is_held : (contents : Contents) (creation : Creation) (made : RustTableInfo) (store : StoreValue) (tables : List TableInfo) →
     Makes contents creation (Ok (Some made)) → AreInOrder store → AreHeld store tables contents →
-    AreHeld (applied (table_change made) store) (with_told (shown_info made) tables) (after contents (creation_of creation))
+    AreHeld (applied (table_change made) store) (with_info (shown_info made) tables) (after contents (creation_of creation))
 unfolding after
 made_is_held contents creation made store tables makes order held =
     let m = makes.2 in
@@ -64,12 +64,12 @@ made_is_held contents creation made store tables makes order held =
     let free = free_is_free 1 contents (ids_sorted store store.tables contents held.held order.tables) in
     let joined : created contents table options (made_columns names) ≡ put int_cmp id new contents = ap (λ found. cond (is_some found) contents (put int_cmp id new contents)) makes.1 in
     let change : AddTable id table (names_of columns) (skipped_from 0 columns) ≡ table_change made = sym (λ i. AddTable (m.id i) (m.name i) (names_of (m.columns i)) (skipped_from 0 (m.columns i))) in
-    let told : told_table (id, new) ≡ shown_info made = sym (λ i. record { id = m.id i; name = m.name i; columns = m.columns i; sound = m.sound i }) in
+    let told : table_info (id, new) ≡ shown_info made = sym (λ i. record { id = m.id i; name = m.name i; columns = m.columns i; sound = m.sound i }) in
     record {
       named_once = apart_after contents (creation_of creation) held.named_once;
       held = subst (λ cs. StoreHolds (applied (table_change made) store) cs) (sym joined)
           (subst (λ ch. StoreHolds (applied ch store) (put int_cmp id new contents)) change (adds_one id table columns store contents order (makes_content contents creation makes.0) free held.held));
-      told = ap (with_told (shown_info made)) held.told ∙ ap (λ k. with_told k (map told_table contents)) (sym told) ∙ sym (told_put id new contents free) ∙ ap (map told_table) (sym joined);
+      told = ap (with_info (shown_info made)) held.told ∙ ap (λ k. with_info k (map table_info contents)) (sym told) ∙ sym (told_put id new contents free) ∙ ap (map table_info) (sym joined);
     }
 
 pub create_answers : (contents : Contents) (creation : Creation) → deserved contents (creation_of creation) ≡ None →

@@ -18,7 +18,7 @@ use Rattle.ft_content.specs.Views.{TableInfo}
 use Rattle.ft_index.specs.Changed.{Does, MakesRows, with_tables}
 use Rattle.ft_index.specs.DocumentsRead.{Looks}
 use Rattle.ft_index.specs.declared.written.Written.{Written}
-use Rattle.ft_index.specs.Kept.{IsUp, AreHeld, is_outside, told_table}
+use Rattle.ft_index.specs.Kept.{IsUp, AreHeld, is_outside, table_info}
 use Rattle.ft_index.specs.Written.{PlansIn, PlansTo, PlansWritten, WritesIn}
 use Rattle.ft_index.proofs.Acting.{executes_failed, executes_undone, then_changed}
 use Rattle.ft_index.proofs.Crashing.{crash_read, crash_reached}
@@ -46,7 +46,7 @@ module _ {S : Type 0} (g : Ghosts S) (old mid : StoreState S) (tables : List Tab
         })
 
     -- and those that are made
-    pub does_made : (after_tables : List TableInfo) → result ≡ Ok tt → ((contents : Contents) → AreHeld (value_in g old) tables contents → deserved contents command ≡ None → after_tables ≡ map told_table (after contents command)) →
+    pub does_made : (after_tables : List TableInfo) → result ≡ Ok tt → ((contents : Contents) → AreHeld (value_in g old) tables contents → deserved contents command ≡ None → after_tables ≡ map table_info (after contents command)) →
         ((contents : Contents) → reply_to contents command ≡ Done) → Does g (with_tables old tables) command (Ok replies.Done) (with_tables new after_tables)
     does_made after_tables done told replies_so =
         let made = subst (MakesRows g mid new changes) done makes in

@@ -12,10 +12,10 @@ use Rattle.ft_content.specs.declared.command.Creation.{Creation}
 use Rattle.ft_content.specs.Views.{TableInfo, shown_info, creation_of}
 use Rattle.ft_content.specs.Deserved.{Contents, deserved}
 use Rattle.ft_content.specs.Step.{after, reply_to, step, step_by}
-use Rattle.ft_documents.specs.Found.{with_told}
+use Rattle.ft_documents.specs.Found.{with_info}
 use Rattle.ft_index.specs.Planned.{Makes, table_change}
 use Rattle.ft_index.specs.Changed.{Changed, with_tables}
-use Rattle.ft_index.specs.Kept.{FullText, IsUp, PlansFrom, AreHeld, StoreHolds, Holds, Executes, Answers, is_outside, told_table}
+use Rattle.ft_index.specs.Kept.{FullText, IsUp, PlansFrom, AreHeld, StoreHolds, Holds, Executes, Answers, is_outside, table_info}
 use Rattle.ft_index.proofs.NameLemmas.{apart_after}
 use Rattle.ft_index.proofs.CreateLemmas.{made_is_held, create_answers, refused_answers, nothing_made}
 
@@ -35,7 +35,7 @@ module _ {S : Type 0} (g : Ghosts S) (creation : Creation) where
   create = creation_of creation
 
   abbrev MakesAll : List TableInfo → Result (Option RustTableInfo) Fault → Type 0
-  MakesAll tables result = (contents : Contents) → tables ≡ map told_table contents → Makes contents creation result
+  MakesAll tables result = (contents : Contents) → tables ≡ map table_info contents → Makes contents creation result
 
   pub create_refused : (known : FullText S) (fault : Fault) → MakesAll known.tables (Err fault) → Executes g known create (Err fault) known
   create_refused known fault makes = executes_same g known create (Err fault) (λ first holds. due first (makes first holds.told))
@@ -49,15 +49,15 @@ module _ {S : Type 0} (g : Ghosts S) (creation : Creation) where
       inr (create_answers first creation (makes first holds.told).0 ∙ ap (λ cs. (Ok Done, cs)) (nothing_made first creation (makes first holds.told).1)))
 
   pub create_adds : (old new : StoreState S) (tables : List TableInfo) (made : RustTableInfo) → MakesAll tables (Ok (Some made)) → AreInOrder (value_in g old) → Changed g old new (table_change made ∷ []) true →
-      Executes g (with_tables old tables) create (Ok Done) (with_tables new (with_told (shown_info made) tables))
+      Executes g (with_tables old tables) create (Ok Done) (with_tables new (with_info (shown_info made) tables))
   create_adds old new tables made makes order changed = record {
-    was_up = λ up. changed.was_up (with_told (shown_info made) tables) tables up;
+    was_up = λ up. changed.was_up (with_info (shown_info made) tables) tables up;
     steps = λ up first holds. (
       after first create,
-      subst (λ v. AreHeld v (with_told (shown_info made) tables) (after first create)) (sym (changed.value (with_told (shown_info made) tables) up)) (made_is_held first creation made (value_in g old) tables (makes first holds.told) order holds),
+      subst (λ v. AreHeld v (with_info (shown_info made) tables) (after first create)) (sym (changed.value (with_info (shown_info made) tables) up)) (made_is_held first creation made (value_in g old) tables (makes first holds.told) order holds),
       inr (create_answers first creation (makes first holds.told).0),
     );
-    noted = λ up first holds. ap (λ v. v.noted) (changed.value (with_told (shown_info made) tables) up);
+    noted = λ up first holds. ap (λ v. v.noted) (changed.value (with_info (shown_info made) tables) up);
     unchanged = λ no up. absurd (let wrong = no in cc);
   }
 
@@ -91,7 +91,7 @@ reached contents command store changes plans = (plans.0, plans.1, plans.2)
 -- Such changes that are made, and the tables that are told as they are then.
 pub executes_planned : {S : Type 0} (g : Ghosts S) (old new : StoreState S) (tables after_tables : List TableInfo) (changes : List Change) (command : Command) →
     (IsUp g (with_tables new after_tables) → (contents : Contents) → AreHeld (value_in g old) tables contents → Reaches contents command (value_in g old) changes) → Changed g old new changes true →
-    ((contents : Contents) → AreHeld (value_in g old) tables contents → deserved contents command ≡ None → after_tables ≡ map told_table (after contents command)) → ((contents : Contents) → reply_to contents command ≡ Done) →
+    ((contents : Contents) → AreHeld (value_in g old) tables contents → deserved contents command ≡ None → after_tables ≡ map table_info (after contents command)) → ((contents : Contents) → reply_to contents command ≡ Done) →
     Executes g (with_tables old tables) command (Ok Done) (with_tables new after_tables)
 executes_planned g old new tables after_tables changes command reaches changed told replies = record {
   was_up = λ up. changed.was_up after_tables tables up;

@@ -43,7 +43,7 @@ parts_are : (tab : ℤ) (columns : List Column) (groups : Groups) → flat_map (
 parts_are tab columns [] = refl
 parts_are tab columns (group ∷ groups) = ap (λ l. rewrite_changes tab columns (map shown_rewrite group.items) ++ l) (parts_are tab columns groups)
 
--- a change that comes first, and the parts behind it
+-- a change that comes first, and the parts after it
 pub parts_behind : (first : Option RowChange) (parts : List (List Change)) → changes_in (first_parts first ++ parts) ≡ changes_in (first_parts first) ++ changes_in parts
 parts_behind None parts = refl
 parts_behind (Some change) parts = refl

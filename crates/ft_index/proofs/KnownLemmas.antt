@@ -9,17 +9,17 @@ use Rattle.ft_content.specs.Views.{TableInfo, shown_info, table_names, table_ids
 use Rattle.ft_content.specs.Deserved.{TableState, Sound, Stale, Loose, Table, Contents, table_named, on_sound, on_found, on_held, made_columns, create_fault, deserved}
 use Rattle.ft_content.specs.Command.{Create, Optimize, Done}
 use Rattle.ft_content.specs.Step.{after, reply_to, step, step_by}
-use Rattle.ft_index.specs.Kept.{told_table, is_sound}
+use Rattle.ft_index.specs.Kept.{table_info, is_sound}
 use Rattle.ft_documents.specs.Found.{info_named, IsUnfit}
 
-pub told_named : (contents : Contents) (name : List ℕ) → info_named (map told_table contents) name ≡ option_map told_table (table_named contents name)
+pub told_named : (contents : Contents) (name : List ℕ) → info_named (map table_info contents) name ≡ option_map table_info (table_named contents name)
 told_named [] name = refl
-told_named (t ∷ ts) name = elim (same_name t.1.name name) as (λ b. cond b (Some (told_table t)) (info_named (map told_table ts) name) ≡ option_map told_table (cond b (Some t) (table_named ts name))) [ true ↦ refl | false ↦ told_named ts name ]
+told_named (t ∷ ts) name = elim (same_name t.1.name name) as (λ b. cond b (Some (table_info t)) (info_named (map table_info ts) name) ≡ option_map table_info (cond b (Some t) (table_named ts name))) [ true ↦ refl | false ↦ told_named ts name ]
 
-pub same_names : (tables : List RustTableInfo) (contents : Contents) → map shown_info tables ≡ map told_table contents → table_names contents ≡ info_names tables
+pub same_names : (tables : List RustTableInfo) (contents : Contents) → map shown_info tables ≡ map table_info contents → table_names contents ≡ info_names tables
 same_names tables contents told = sym (names_back contents) ∙ ap (map (λ (k : TableInfo). k.name)) (sym told) ∙ info_back tables
   where
-    names_back : (cs : Contents) → map (λ (k : TableInfo). k.name) (map told_table cs) ≡ table_names cs
+    names_back : (cs : Contents) → map (λ (k : TableInfo). k.name) (map table_info cs) ≡ table_names cs
     names_back [] = refl
     names_back (c ∷ cs) = ap (λ l. c.1.name ∷ l) (names_back cs)
 
@@ -27,10 +27,10 @@ same_names tables contents told = sym (names_back contents) ∙ ap (map (λ (k :
     info_back [] = refl
     info_back (t ∷ ts) = ap (λ l. (shown_info t).name ∷ l) (info_back ts)
 
-pub same_ids : (tables : List RustTableInfo) (contents : Contents) → map shown_info tables ≡ map told_table contents → table_ids contents ≡ info_ids tables
+pub same_ids : (tables : List RustTableInfo) (contents : Contents) → map shown_info tables ≡ map table_info contents → table_ids contents ≡ info_ids tables
 same_ids tables contents told = sym (ids_back contents) ∙ ap (map (λ (k : TableInfo). k.id)) (sym told) ∙ info_back tables
   where
-    ids_back : (cs : Contents) → map (λ (k : TableInfo). k.id) (map told_table cs) ≡ table_ids cs
+    ids_back : (cs : Contents) → map (λ (k : TableInfo). k.id) (map table_info cs) ≡ table_ids cs
     ids_back [] = refl
     ids_back (c ∷ cs) = ap (λ l. c.0 ∷ l) (ids_back cs)
 
@@ -44,20 +44,20 @@ pub record IsSoundTable (contents : Contents) (name : List ℕ) (known : TableIn
   pub found : table_named contents name ≡ Some table
   pub content : Content
   pub held : table.1.held ≡ Sound content
-  pub told : told_table table ≡ known
+  pub told : table_info table ≡ known
 
 pub sound_held : (held : TableState) → is_sound held ≡ true → (content : Content) × (held ≡ Sound content)
 sound_held (Sound content) h = (content, refl)
 sound_held (Stale content) h = absurd (let no = h in cc)
 sound_held (Loose rows) h = absurd (let no = h in cc)
 
-pub sound_table : (contents : Contents) (name : List ℕ) (known : TableInfo) → info_named (map told_table contents) name ≡ Some known → IsTrue known.sound → IsSoundTable contents name known
+pub sound_table : (contents : Contents) (name : List ℕ) (known : TableInfo) → info_named (map table_info contents) name ≡ Some known → IsTrue known.sound → IsSoundTable contents name known
 sound_table contents name known named sound = go (table_named contents name) refl (sym (told_named contents name) ∙ named)
   where
-    go : (found : Option (ℤ × Table)) → table_named contents name ≡ found → option_map told_table found ≡ Some known → IsSoundTable contents name known
+    go : (found : Option (ℤ × Table)) → table_named contents name ≡ found → option_map table_info found ≡ Some known → IsSoundTable contents name known
     go None is h = absurd (let no = h in cc)
     go (Some t) is h =
-        let told : told_table t ≡ known = ap (λ o. cond_known o) h in
+        let told : table_info t ≡ known = ap (λ o. cond_known o) h in
         let held = sound_held t.1.held (ap (λ (k : TableInfo). k.sound) told ∙ sound) in
         record { table = t; found = is; content = held.0; held = held.1; told = told }
       where
@@ -74,15 +74,15 @@ unsound_is t test (Sound content) e h = absurd (let no = h in cc)
 unsound_is t test (Stale content) e h = refl
 unsound_is t test (Loose rows) e h = refl
 
-pub unfit_is : (contents : Contents) (name : List ℕ) (fault : Fault) (test : List ℕ → Content → Option Fault) → IsUnfit (map told_table contents) name fault → on_sound contents name test ≡ Some fault
+pub unfit_is : (contents : Contents) (name : List ℕ) (fault : Fault) (test : List ℕ → Content → Option Fault) → IsUnfit (map table_info contents) name fault → on_sound contents name test ≡ Some fault
 unfit_is contents name fault test (inl missing) = go (table_named contents name) (sym (told_named contents name) ∙ missing.1) ∙ ap Some (sym missing.0)
   where
-    go : (found : Option (ℤ × Table)) → option_map told_table found ≡ None → on_it found test ≡ Some faults.NoSuchTable
+    go : (found : Option (ℤ × Table)) → option_map table_info found ≡ None → on_it found test ≡ Some faults.NoSuchTable
     go None h = refl
     go (Some t) h = absurd (let no = h in cc)
 unfit_is contents name fault test (inr unsound) = go (table_named contents name) (sym (told_named contents name) ∙ unsound.1.1) ∙ ap Some (sym unsound.0)
   where
-    go : (found : Option (ℤ × Table)) → option_map told_table found ≡ Some unsound.1.0 → on_it found test ≡ Some faults.Unsound
+    go : (found : Option (ℤ × Table)) → option_map table_info found ≡ Some unsound.1.0 → on_it found test ≡ Some faults.Unsound
     go None h = absurd (let no = h in cc)
     go (Some t) h = unsound_is t test t.1.held refl (ap (λ o. is_some_sound o) h ∙ unsound.1.2)
       where
@@ -102,14 +102,14 @@ pub create_due : (contents : Contents) (table module_name : List ℕ) (options :
 unfolding deserved
 create_due contents table module_name options columns names if_new due made is = sym (is ∙ ap (λ ns. create_fault contents table module_name options ns if_new) made)
 
-pub is_named : (contents : Contents) (name : List ℕ) (known : Option TableInfo) → info_named (map told_table contents) name ≡ known → is_some (table_named contents name) ≡ is_some known
+pub is_named : (contents : Contents) (name : List ℕ) (known : Option TableInfo) → info_named (map table_info contents) name ≡ known → is_some (table_named contents name) ≡ is_some known
 is_named contents name known h = sym (some_told (table_named contents name)) ∙ ap is_some (sym (told_named contents name) ∙ h)
   where
-    some_told : (found : Option (ℤ × Table)) → is_some (option_map told_table found) ≡ is_some found
+    some_told : (found : Option (ℤ × Table)) → is_some (option_map table_info found) ≡ is_some found
     some_told None = refl
     some_told (Some t) = refl
 
-pub none_named : (contents : Contents) (name : List ℕ) → info_named (map told_table contents) name ≡ None → table_named contents name ≡ None
+pub none_named : (contents : Contents) (name : List ℕ) → info_named (map table_info contents) name ≡ None → table_named contents name ≡ None
 none_named contents name h = go (table_named contents name) (is_named contents name None h)
   where
     go : (found : Option (ℤ × Table)) → is_some found ≡ false → found ≡ None
@@ -117,25 +117,25 @@ none_named contents name h = go (table_named contents name) (is_named contents n
     go (Some t) h = absurd (let no = h in cc)
 
 -- a table that is told is one of the contents
-pub some_named : (contents : Contents) (name : List ℕ) (known : TableInfo) → info_named (map told_table contents) name ≡ Some known → (t : ℤ × Table) × (table_named contents name ≡ Some t) × (told_table t ≡ known)
+pub some_named : (contents : Contents) (name : List ℕ) (known : TableInfo) → info_named (map table_info contents) name ≡ Some known → (t : ℤ × Table) × (table_named contents name ≡ Some t) × (table_info t ≡ known)
 some_named contents name known named = go (table_named contents name) refl (sym (told_named contents name) ∙ named)
   where
     known_of : Option TableInfo → TableInfo
     known_of None = known
     known_of (Some k) = k
 
-    go : (found : Option (ℤ × Table)) → table_named contents name ≡ found → option_map told_table found ≡ Some known → (t : ℤ × Table) × (table_named contents name ≡ Some t) × (told_table t ≡ known)
+    go : (found : Option (ℤ × Table)) → table_named contents name ≡ found → option_map table_info found ≡ Some known → (t : ℤ × Table) × (table_named contents name ≡ Some t) × (table_info t ≡ known)
     go None is h = absurd (let no = h in cc)
     go (Some t) is h = (t, is, ap known_of h)
 
 -- ---- Optimize
 
-pub optimize_fine : (contents : Contents) (tables : List TableInfo) (name : List ℕ) (known : TableInfo) → tables ≡ map told_table contents → info_named tables name ≡ Some known → IsTrue known.sound → deserved contents (Optimize name) ≡ None
+pub optimize_fine : (contents : Contents) (tables : List TableInfo) (name : List ℕ) (known : TableInfo) → tables ≡ map table_info contents → info_named tables name ≡ Some known → IsTrue known.sound → deserved contents (Optimize name) ≡ None
 unfolding deserved
 optimize_fine contents tables name known told named sound =
     sound_is contents name known (sound_table contents name known (ap (λ ts. info_named ts name) (sym told) ∙ named) sound) (λ table content. None)
 
-pub optimize_unfit : (contents : Contents) (tables : List TableInfo) (name : List ℕ) (fault : Fault) → tables ≡ map told_table contents → IsUnfit tables name fault → deserved contents (Optimize name) ≡ Some fault
+pub optimize_unfit : (contents : Contents) (tables : List TableInfo) (name : List ℕ) (fault : Fault) → tables ≡ map table_info contents → IsUnfit tables name fault → deserved contents (Optimize name) ≡ Some fault
 unfolding deserved
 optimize_unfit contents tables name fault told unfit = unfit_is contents name fault (λ table content. None) (subst (λ ts. IsUnfit ts name fault) told unfit)
 

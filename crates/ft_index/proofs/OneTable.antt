@@ -28,7 +28,7 @@ pub record IsOne (name : List ℕ) (t x : ℤ × Table) : Type 0 where
 abbrev names_in : Contents → List (List ℕ)
 names_in contents = map (λ (t : ℤ × Table). t.1.name) contents
 
--- behind a table of this name stand others
+-- after a table of this name stand others
 others_from : (name : List ℕ) (t : ℤ × Table) (xs : Contents) → same_name t.1.name name ≡ true → below_all int_cmp t.0 xs ≡ true → list_any (same_name t.1.name) (names_in xs) ≡ false → AllByRecursion (IsOne name t) xs
 others_from name t [] is below apart = tt
 others_from name t (x ∷ xs) is below apart =

@@ -16,7 +16,7 @@ use Rattle.ft_content.specs.Views.{TableInfo}
 use Rattle.ft_content.specs.Deserved.{Table, Contents}
 use Rattle.ft_index.specs.Changed.{with_tables}
 use Rattle.ft_index.specs.DocumentsRead.{Looks}
-use Rattle.ft_index.specs.Kept.{AreHeld, StoreHolds, HoldsTable, HoldsSome, told_table}
+use Rattle.ft_index.specs.Kept.{AreHeld, StoreHolds, HoldsTable, HoldsSome, table_info}
 use Rattle.ft_index.specs.Opened.{IsListed, IsFound, IsMarked, AreMarked, Opens}
 use Rattle.ft_index.proofs.HeldLemmas.{holds_one_contents}
 use Rattle.ft_documents.specs.Tables.{table_rows, table_index}
@@ -50,7 +50,7 @@ are_marked store (r ∷ rs) (t ∷ ts) (x ∷ xs) all same =
 pub record FoundIn (store : StoreValue) (tables : List (ℤ × List ℕ)) (known : List TableInfo) : Type 0 where
   pub contents : Contents
   pub held : AllZip (λ (named : ℤ × List ℕ) (table : ℤ × Table). HoldsTable named (table_rows named.0 store) (table_index named.0 store) table) tables contents
-  pub told : known ≡ map told_table contents
+  pub told : known ≡ map table_info contents
   pub names : map (λ (t : ℤ × Table). t.1.name) contents ≡ map (λ (t : ℤ × List ℕ). t.1) tables
 
 found : (store : StoreValue) (tables : List (ℤ × List ℕ)) (known : List TableInfo) → AreMarked store tables known → FoundIn store tables known

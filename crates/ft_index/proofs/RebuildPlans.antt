@@ -24,7 +24,7 @@ use Rattle.ft_documents.proofs.InsertOf.{are_of}
 use Rattle.ft_documents.proofs.InsertRows.{befores_new, rewritten_new, sorted_new}
 use Rattle.ft_documents.proofs.KeyedRows.{put_in_order}
 use Rattle.ft_index.specs.declared.row_state.RowState.TheVariants as states
-use Rattle.ft_index.specs.Kept.{AreHeld, StoreHolds, Stands, PlansFrom, held_columns, told_table}
+use Rattle.ft_index.specs.Kept.{AreHeld, StoreHolds, Stands, PlansFrom, held_columns, table_info}
 use Rattle.ft_index.specs.Opened.{state_of}
 use Rattle.ft_index.proofs.Anew.{anew_change, anew_holds}
 use Rattle.ft_index.proofs.CheckLemmas.{IsTold}
@@ -112,32 +112,32 @@ module _ (store : StoreValue) (tables : List TableInfo) (contents : Contents) (n
 
 -- ---- the tables that are told after it
 
-told_sound : (id : ℤ) (name : List ℕ) (held : TableState) → rebuild_fault name held ≡ None → record (told_table (id, record { name = name; held = held })) { sound = true } ≡ told_table (id, record { name = name; held = rebuilt held })
+told_sound : (id : ℤ) (name : List ℕ) (held : TableState) → rebuild_fault name held ≡ None → record (table_info (id, record { name = name; held = held })) { sound = true } ≡ table_info (id, record { name = name; held = rebuilt held })
 told_sound id name (Sound content) fine = refl
 told_sound id name (Stale content) fine = refl
 told_sound id name (Loose rows) fine = absurd (let no = fine in cc)
 
-told_rebuilt : (name : List ℕ) (t : ℤ × Table) (contents : Contents) → AllByRecursion (IsOne name t) contents → rebuild_fault t.1.name t.1.held ≡ None → with_sound t.0 (map told_table contents) ≡ map told_table (on_table contents name rebuilt)
+told_rebuilt : (name : List ℕ) (t : ℤ × Table) (contents : Contents) → AllByRecursion (IsOne name t) contents → rebuild_fault t.1.name t.1.held ≡ None → with_sound t.0 (map table_info contents) ≡ map table_info (on_table contents name rebuilt)
 told_rebuilt name t [] one fine = refl
 told_rebuilt name t (c ∷ cs) one fine = go (int_eq t.0 c.0) refl (told_rebuilt name t cs one.1 fine)
   where
     new : ℤ × Table
     new = (c.0, record { name = c.1.name; held = rebuilt c.1.held })
 
-    go : (b : Bool) → int_eq t.0 c.0 ≡ b → with_sound t.0 (map told_table cs) ≡ map told_table (on_table cs name rebuilt) →
-        cond (int_eq t.0 c.0) (record (told_table c) { sound = true }) (told_table c) ∷ with_sound t.0 (map told_table cs) ≡ told_table (cond (same_name c.1.name name) new c) ∷ map told_table (on_table cs name rebuilt)
+    go : (b : Bool) → int_eq t.0 c.0 ≡ b → with_sound t.0 (map table_info cs) ≡ map table_info (on_table cs name rebuilt) →
+        cond (int_eq t.0 c.0) (record (table_info c) { sound = true }) (table_info c) ∷ with_sound t.0 (map table_info cs) ≡ table_info (cond (same_name c.1.name name) new c) ∷ map table_info (on_table cs name rebuilt)
     go true is rest =
         let fine_here : rebuild_fault c.1.name c.1.held ≡ None = ap (λ (x : ℤ × Table). rebuild_fault x.1.name x.1.held) (one.0.is is) ∙ fine in
-        let first = ap (λ b. cond b (record (told_table c) { sound = true }) (told_table c)) is ∙ told_sound c.0 c.1.name c.1.held fine_here ∙ sym (ap (λ b. told_table (cond b new c)) (one.0.agrees ∙ is)) in
+        let first = ap (λ b. cond b (record (table_info c) { sound = true }) (table_info c)) is ∙ told_sound c.0 c.1.name c.1.held fine_here ∙ sym (ap (λ b. table_info (cond b new c)) (one.0.agrees ∙ is)) in
         λ i. first i ∷ rest i
     go false is rest =
-        let first = ap (λ b. cond b (record (told_table c) { sound = true }) (told_table c)) is ∙ sym (ap (λ b. told_table (cond b new c)) (one.0.agrees ∙ is)) in
+        let first = ap (λ b. cond b (record (table_info c) { sound = true }) (table_info c)) is ∙ sym (ap (λ b. table_info (cond b new c)) (one.0.agrees ∙ is)) in
         λ i. first i ∷ rest i
 
-pub told_after : (store : StoreValue) (tables : List TableInfo) (contents : Contents) (name : List ℕ) (known : TableInfo) (t : IsTold store contents name known) → tables ≡ map told_table contents → deserved contents (Rebuild name) ≡ None → with_sound known.id tables ≡ map told_table (after contents (Rebuild name))
+pub told_after : (store : StoreValue) (tables : List TableInfo) (contents : Contents) (name : List ℕ) (known : TableInfo) (t : IsTold store contents name known) → tables ≡ map table_info contents → deserved contents (Rebuild name) ≡ None → with_sound known.id tables ≡ map table_info (after contents (Rebuild name))
 told_after store tables contents name known t told fine =
     let fault = sym (rebuild_due contents name (Some t.table) t.found) ∙ fine in
-    (λ i. with_sound (ap (λ (k : TableInfo). k.id) (sym t.told) i) (told i)) ∙ told_rebuilt name t.table contents t.one fault ∙ ap (map told_table) (sym (rebuild_after contents name))
+    (λ i. with_sound (ap (λ (k : TableInfo). k.id) (sym t.told) i) (told i)) ∙ told_rebuilt name t.table contents t.one fault ∙ ap (map table_info) (sym (rebuild_after contents name))
 
 pub rebuild_reply : (contents : Contents) (name : List ℕ) → reply_to contents (Rebuild name) ≡ Done
 unfolding reply_to

@@ -20,7 +20,7 @@ use Rattle.ft_content.proofs.AnswerLemmas.{item_cells_are, cut_of_map}
 use Rattle.ft_documents.specs.declared.document.Document.{Document}
 use Rattle.ft_documents.specs.Gathered.{shown_document}
 use Rattle.ft_documents.specs.Chosen.{cells_at, document_at}
-use Rattle.ft_documents.specs.Matched.{hit_read, chosen_hits, told}
+use Rattle.ft_documents.specs.Matched.{hit_read, chosen_hits, as_wanted}
 use Rattle.ft_index.specs.RowsRead.{is_column, has_column_item, entries_asked, rows_asked}
 use Rattle.ft_index.specs.Selected.{hit_cells}
 use Rattle.ft_documents.proofs.ChosenLemmas.{chosen_again, chosen_all}
@@ -130,17 +130,17 @@ module _ (name : List ℕ) (content : Content) (f : Filter) (columns : List Colu
   rows_are [] = refl
   rows_are (d ∷ ds) = λ i. sym (item_cells_are query content d items) i ∷ rows_are ds i
 
-  as_told : (cells : ℤ → List Cell) (hits : List PlainHit) → map (row_with content items cells) (map (told wanted) hits) ≡ map (row_with content items cells) hits
+  as_told : (cells : ℤ → List Cell) (hits : List PlainHit) → map (row_with content items cells) (map (as_wanted wanted) hits) ≡ map (row_with content items cells) hits
   as_told cells [] = refl
   as_told cells (h ∷ hs) =
       let one = offsets_if_asked (offsets_text (cond wanted h.offsets [])) (offsets_text h.offsets) content (h.docid, cells h.docid) items (λ asked. ap (λ b. offsets_text (cond b h.offsets [])) (asks ∙ asked)) in
       λ i. one i ∷ as_told cells hs i
 
   -- the hits that are answered, before they are told
-  answered_hits : cut limit offset (map (told wanted) (chosen_hits content f)) ≡ map (told wanted) (map (hit_read content query) answered_here)
-  answered_hits = cut_of_map (told wanted) limit offset (chosen_hits content f) ∙ ap (map (told wanted)) (cut_of_map (hit_read content query) limit offset (chosen content f))
+  answered_hits : cut limit offset (map (as_wanted wanted) (chosen_hits content f)) ≡ map (as_wanted wanted) (map (hit_read content query) answered_here)
+  answered_hits = cut_of_map (as_wanted wanted) limit offset (chosen_hits content f) ∙ ap (map (as_wanted wanted)) (cut_of_map (hit_read content query) limit offset (chosen content f))
 
-  pub hit_rows : (hits : List Hit) → map plain_hit hits ≡ cut limit offset (map (told wanted) (chosen_hits content f)) → map (hit_cells columns items (cells_at content)) hits ≡ cut limit offset (item_rows query content items (chosen content f))
+  pub hit_rows : (hits : List Hit) → map plain_hit hits ≡ cut limit offset (map (as_wanted wanted) (chosen_hits content f)) → map (hit_cells columns items (cells_at content)) hits ≡ cut limit offset (item_rows query content items (chosen content f))
   hit_rows hits are =
       plain_rows columns content items (cells_at content) hits same
       ∙ ap (map (row_with content items (cells_at content))) (are ∙ answered_hits)
@@ -148,8 +148,8 @@ module _ (name : List ℕ) (content : Content) (f : Filter) (columns : List Colu
       ∙ by_documents answered_here ∙ same_each (λ (d : ℤ × List Cell). document_at content d.0) row_of answered_here again ∙ rows_are answered_here
       ∙ sym (cut_of_map (λ (d : ℤ × List Cell). flat_map (item_cells query content d) items) limit offset (chosen content f))
 
-  pub as_many : (hits : List Hit) → map plain_hit hits ≡ cut limit offset (map (told wanted) (chosen_hits content f)) → length hits ≡ length answered_here
-  as_many hits are = sym (length-map hits plain_hit) ∙ ap length (are ∙ answered_hits) ∙ length-map (map (hit_read content query) answered_here) (told wanted) ∙ length-map answered_here (hit_read content query)
+  pub as_many : (hits : List Hit) → map plain_hit hits ≡ cut limit offset (map (as_wanted wanted) (chosen_hits content f)) → length hits ≡ length answered_here
+  as_many hits are = sym (length-map hits plain_hit) ∙ ap length (are ∙ answered_hits) ∙ length-map (map (hit_read content query) answered_here) (as_wanted wanted) ∙ length-map answered_here (hit_read content query)
 
 -- ---- as many cells as columns
 

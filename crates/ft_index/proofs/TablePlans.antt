@@ -10,8 +10,8 @@ use Rattle.ft_content.specs.Command.{Drop, Done}
 use Rattle.ft_content.specs.Views.{TableInfo}
 use Rattle.ft_content.specs.Deserved.{Table, Contents, table_named, first_of, deserved}
 use Rattle.ft_content.specs.Step.{dropped, after, reply_to}
-use Rattle.ft_documents.specs.Found.{info_named, without_told}
-use Rattle.ft_index.specs.Kept.{AreHeld, StoreHolds, PlansFrom, told_table}
+use Rattle.ft_documents.specs.Found.{info_named, without_info}
+use Rattle.ft_index.specs.Kept.{AreHeld, StoreHolds, PlansFrom, table_info}
 use Rattle.ft_index.proofs.OneTable.{IsOne, one_named, ids_sorted}
 use Rattle.ft_index.proofs.TableChanges.{drop_spares, drops_one}
 use Rattle.ft_index.proofs.KnownLemmas.{none_named, some_named}
@@ -64,27 +64,27 @@ drop_planned store tables contents name if_there known order held named =
 
 -- ---- the tables that are told after a Drop
 
-told_without : (name : List ℕ) (t : ℤ × Table) (contents : Contents) → AllByRecursion (IsOne name t) contents → without_told t.0 (map told_table contents) ≡ map told_table (dropped contents name)
-told_without name t [] one = refl
-told_without name t (c ∷ cs) one = go (int_eq t.0 c.0) refl (told_without name t cs one.1)
+info_without : (name : List ℕ) (t : ℤ × Table) (contents : Contents) → AllByRecursion (IsOne name t) contents → without_info t.0 (map table_info contents) ≡ map table_info (dropped contents name)
+info_without name t [] one = refl
+info_without name t (c ∷ cs) one = go (int_eq t.0 c.0) refl (info_without name t cs one.1)
   where
-    go : (b : Bool) → int_eq t.0 c.0 ≡ b → without_told t.0 (map told_table cs) ≡ map told_table (dropped cs name) →
-        cond (not (int_eq t.0 c.0)) (told_table c ∷ without_told t.0 (map told_table cs)) (without_told t.0 (map told_table cs)) ≡ map told_table (cond (not (same_name c.1.name name)) (c ∷ dropped cs name) (dropped cs name))
-    go true is rest = ap (λ b. cond (not b) (told_table c ∷ without_told t.0 (map told_table cs)) (without_told t.0 (map told_table cs))) is ∙ rest ∙ sym (ap (λ b. map told_table (cond (not b) (c ∷ dropped cs name) (dropped cs name))) (one.0.agrees ∙ is))
-    go false is rest = ap (λ b. cond (not b) (told_table c ∷ without_told t.0 (map told_table cs)) (without_told t.0 (map told_table cs))) is ∙ ap (λ l. told_table c ∷ l) rest ∙ sym (ap (λ b. map told_table (cond (not b) (c ∷ dropped cs name) (dropped cs name))) (one.0.agrees ∙ is))
+    go : (b : Bool) → int_eq t.0 c.0 ≡ b → without_info t.0 (map table_info cs) ≡ map table_info (dropped cs name) →
+        cond (not (int_eq t.0 c.0)) (table_info c ∷ without_info t.0 (map table_info cs)) (without_info t.0 (map table_info cs)) ≡ map table_info (cond (not (same_name c.1.name name)) (c ∷ dropped cs name) (dropped cs name))
+    go true is rest = ap (λ b. cond (not b) (table_info c ∷ without_info t.0 (map table_info cs)) (without_info t.0 (map table_info cs))) is ∙ rest ∙ sym (ap (λ b. map table_info (cond (not b) (c ∷ dropped cs name) (dropped cs name))) (one.0.agrees ∙ is))
+    go false is rest = ap (λ b. cond (not b) (table_info c ∷ without_info t.0 (map table_info cs)) (without_info t.0 (map table_info cs))) is ∙ ap (λ l. table_info c ∷ l) rest ∙ sym (ap (λ b. map table_info (cond (not b) (c ∷ dropped cs name) (dropped cs name))) (one.0.agrees ∙ is))
 
 pub told_dropped : (store : StoreValue) (tables : List TableInfo) (contents : Contents) (name : List ℕ) (if_there : Bool) (known : TableInfo) → AreInOrder store → AreHeld store tables contents → info_named tables name ≡ Some known →
-    without_told known.id tables ≡ map told_table (after contents (Drop name if_there))
+    without_info known.id tables ≡ map table_info (after contents (Drop name if_there))
 unfolding after
 told_dropped store tables contents name if_there known order held named =
     let it = some_named contents name known (ap (λ ts. info_named ts name) (sym held.told) ∙ named) in
     let one = one_named name it.0 contents (ids_sorted store store.tables contents held.held order.tables) held.named_once it.1 in
-    (λ i. without_told (ap (λ (k : TableInfo). k.id) (sym it.2) i) (held.told i)) ∙ told_without name it.0 contents one
+    (λ i. without_info (ap (λ (k : TableInfo). k.id) (sym it.2) i) (held.told i)) ∙ info_without name it.0 contents one
 
-pub told_spared : (store : StoreValue) (tables : List TableInfo) (contents : Contents) (name : List ℕ) (if_there : Bool) → AreHeld store tables contents → info_named tables name ≡ None → tables ≡ map told_table (after contents (Drop name if_there))
+pub told_spared : (store : StoreValue) (tables : List TableInfo) (contents : Contents) (name : List ℕ) (if_there : Bool) → AreHeld store tables contents → info_named tables name ≡ None → tables ≡ map table_info (after contents (Drop name if_there))
 unfolding after
 told_spared store tables contents name if_there held none =
-    held.told ∙ ap (map told_table) (sym (none_dropped contents name (none_named contents name (ap (λ ts. info_named ts name) (sym held.told) ∙ none))))
+    held.told ∙ ap (map table_info) (sym (none_dropped contents name (none_named contents name (ap (λ ts. info_named ts name) (sym held.told) ∙ none))))
 
 pub drop_done : (contents : Contents) (name : List ℕ) (if_there : Bool) → reply_to contents (Drop name if_there) ≡ Done
 unfolding reply_to

@@ -94,7 +94,7 @@ pub data LeftAfter (first : Contents) (names : List Name) (calls : List Call) (d
 
 -- What is promised of calls, on a disk that returned what was written to it.
 pub record CallsKept {S : Type 0} (g : Ghosts S) (first : Contents) (start : FullText S) (calls : List Call) (end : FullText S) : Type 0 where
-  -- so it stands behind each call that is answered, whatever comes after it
+  -- so it stands after each call that is answered, whatever comes after it
   pub stands : (before more : List Call) (call : Call) → calls ≡ before ++ call ∷ more → is_answered call ≡ true →
       (mid : FullText S) × Runs g start (before ++ call ∷ []) mid × Runs g mid more end × StandsAfter g first (value_of g start).noted (before ++ call ∷ []) mid
   -- and in the end, as long as the store is open

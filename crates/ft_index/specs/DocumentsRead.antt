@@ -25,7 +25,7 @@ pub record LooksOn {S X F : Type 0} (g : Ghosts S) (old new : StoreState S) (res
   pub only : Looks g old new
   pub live : HasCleanDisk (shows g new) → OnOk result (IsTrue (shows g old).is_open → IsTrue (shows g new).is_open)
 
--- the same with what is told
+-- the same with what is answered
 pub record LooksTo {S X F : Type 0} (g : Ghosts S) (old new : StoreState S) (result : Result X F) (Told : Type 0) : Type 0 where
   pub told : Told
   pub only : Looks g old new

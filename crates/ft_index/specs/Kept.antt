@@ -68,21 +68,21 @@ abbrev pub StoreHolds : StoreValue → Contents → Type 0
 StoreHolds store contents = AllZip (λ (named : ℤ × List ℕ) (table : ℤ × Table). HoldsTable named (table_rows named.0 store)
     (table_index named.0 store) table) store.tables contents
 
--- what is told of a table
+-- what is known of a table without its rows
 abbrev pub held_columns : TableState → List Column
 held_columns (Sound content) = content.columns
 held_columns (Stale content) = content.columns
 held_columns (Loose rows) = (content_in rows).columns
 
-abbrev pub told_table : ℤ × Table → TableInfo
-told_table table = record { id = table.0; name = table.1.name; columns = held_columns table.1.held; sound = is_sound table.1.held }
+abbrev pub table_info : ℤ × Table → TableInfo
+table_info table = record { id = table.0; name = table.1.name; columns = held_columns table.1.held; sound = is_sound table.1.held }
 
--- What a store holds, and the tables that are told of it with their marks, are these contents. No
--- two tables have one name.
+-- What a store holds, and the list of its tables with their marks, are these contents. No two
+-- tables have one name.
 pub record AreHeld (store : StoreValue) (tables : List TableInfo) (contents : Contents) : Type 0 where
   pub named_once : repeats_name (map (λ (t : ℤ × Table). t.1.name) contents) ≡ false
   pub held : StoreHolds store contents
-  pub told : tables ≡ map told_table contents
+  pub told : tables ≡ map table_info contents
 
 abbrev pub Holds : {S : Type 0} → Ghosts S → FullText S → Contents → Type 0
 Holds g known contents = AreHeld (value_of g known) known.tables contents

@@ -15,7 +15,7 @@ use Rattle.ft_content.specs.Deserved.{TableState, Sound, Stale, Loose, Contents}
 use Rattle.ft_index.specs.declared.row_state.RowState.{RowState}
 use Rattle.ft_index.specs.declared.row_state.RowState.TheVariants as states
 use Rattle.ft_index.specs.DocumentsRead.{Looks}
-use Rattle.ft_index.specs.Kept.{FullText, IsUp, Stands, StoreHolds, Holds, told_table}
+use Rattle.ft_index.specs.Kept.{FullText, IsUp, Stands, StoreHolds, Holds, table_info}
 use Rattle.ft_documents.specs.Tables.{table_rows, table_index}
 
 abbrev pub state_of : TableState → RowState
@@ -42,11 +42,11 @@ abbrev pub IsFound : StoreValue → ℤ × List ℕ → Option TabRow → Type 0
 IsFound store named None = ⊥
 IsFound store named (Some table) = IsListed store named table
 
--- what is told of a table that the store names is how its rows stand
+-- what is known of a table that the store names says how its rows stand
 pub record IsMarked (store : StoreValue) (named : ℤ × List ℕ) (known : TableInfo) : Type 0 where
   pub held : TableState
   pub stands : Stands named.1 (table_rows named.0 store) (table_index named.0 store) held
-  pub told : known ≡ told_table (named.0, record { name = named.1; held = held })
+  pub told : known ≡ table_info (named.0, record { name = named.1; held = held })
 
 -- so it is of all tables that it names
 abbrev pub AreMarked : StoreValue → List (ℤ × List ℕ) → List TableInfo → Type 0

@@ -1,4 +1,4 @@
--- Meaning. Plans over the tables that are told.
+-- Meaning. Plans over a list of tables.
 use Rattle.std.specs.Prelude.{◌≡◌, ◌⊎◌, List, map, Option, Some, None, Result, Ok, Err, pos, is_some, string_bytes, Vec, IsTrue}
 use Rattle.std.specs.declared.alloc.Global.{Global}
 use Rattle.ft_values.specs.declared.rows.RowChange.{RowChange}
@@ -20,8 +20,7 @@ abbrev pub changes_of : Result (Vec RowChange Global) Fault → Result (List Cha
 changes_of (Ok list) = Ok (map shown_change list.items)
 changes_of (Err fault) = Err fault
 
--- It is a plan whatever the store holds, as long as the tables that are told are those of what it
--- holds.
+-- It is a plan whatever the store holds, as long as the tables listed are those of what it holds.
 abbrev pub PlansOver : List TableInfo → Command → Result (Vec RowChange Global) Fault → Type 0
 PlansOver tables command answer = (store : StoreValue) (contents : Contents) → AreInOrder store → AreHeld store (map shown_info tables) contents
     → PlansFrom contents command store (changes_of answer)

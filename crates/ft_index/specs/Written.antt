@@ -72,7 +72,7 @@ abbrev pub first_parts : Option RowChange → List (List Change)
 first_parts None = []
 first_parts (Some change) = (shown_change change ∷ []) ∷ []
 
--- What the writing of documents behind other changes does: the store holds these and all of some
+-- What the writing of documents after other changes does: the store holds these and all of some
 -- right changes of its rows, or none.
 pub record MakesWritten {S X : Type 0} (g : Ghosts S) (first : List Change) (written : Written) (old new : StoreState S)
     (result : Result X Fault) : Type 0 where
@@ -80,7 +80,7 @@ pub record MakesWritten {S X : Type 0} (g : Ghosts S) (first : List Change) (wri
   pub of_written : AreOfWritten written changes
   pub makes : MakesRows g old new (first ++ changes) result
 
--- Row changes that make a table anew, with documents behind it.
+-- Row changes that make a table anew, with documents after it.
 pub record MakeTable (written : Written) (changes : List Change) : Type 0 where
   pub rest : List Change
   pub are : changes ≡ table_change written.table.now ∷ rest

@@ -18,7 +18,7 @@ use ft_store::Store;
 use sqlite::Alter;
 use std::alloc::Global;
 
-/// Executes a command over a store and the tables that are told of it.
+/// Executes a command over a store and the list of its tables.
 pub(crate) fn execute_command<S: Alter>(
     alloc: Global,
     store: &mut Store<S>,

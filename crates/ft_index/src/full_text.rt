@@ -200,7 +200,7 @@ impl<S: Alter> FullText<S> {
         ensures { HoldsOneContents }
     {}
 
-    /// A store that holds contents, as one that a crash left behind `execute`, `note` or the making
+    /// A store that holds contents, as one that a crash left after `execute`, `note` or the making
     /// of a store, is opened by `new` with their marks: what was sound is sound.
     pub fn opens_what_is_left()
         ensures { OpensWhatIsLeft S.Store }

@@ -10,7 +10,7 @@ ghost use Rattle.ft_content.specs.Meaning.{content_documents};
 ghost use Rattle.ft_content.specs.Command.{Match};
 ghost use Rattle.ft_content.specs.Answer.{reading, query_in, cut};
 ghost use Rattle.ft_index.specs.Walked.{IsIndexed};
-ghost use Rattle.ft_documents.specs.Matched.{chosen_hits, told};
+ghost use Rattle.ft_documents.specs.Matched.{chosen_hits, as_wanted};
 ghost use Rattle.ft_index.specs.RowsRead.{entries_asked};
 ghost use Rattle.ft_index.specs.DocumentsRead.{LooksOn, LooksFor};
 ghost use Rattle.ft_index.specs.Kept.{IsOutside};
@@ -60,7 +60,7 @@ pub(crate) fn matched<S: Alter>(
         (IfOk result (λ hits. (content : Content) (name text : List ℕ) → reading content name text
         ≡ Ok (option_map (λ q. tree_of q.now) query.entry)
         → IsIndexed S.Store tab store.old store.new content → map plain_hit hits.items
-        ≡ cut most 0 (map (told wants_offsets) (chosen_hits content (Match name text))))) }
+        ≡ cut most 0 (map (as_wanted wants_offsets) (chosen_hits content (Match name text))))) }
     ensures counted { OnOk result ((content : Content) (name text : List ℕ)
         → reading content name text ≡ Ok (option_map (λ q. tree_of q.now) query.entry)
         → IsIndexed S.Store tab store.old store.new content

@@ -1,4 +1,4 @@
-//! The tables of a store, as they are told when it is taken.
+//! The tables of a store, as they are listed when it is taken.
 ghost use Rattle.std.specs.Prelude.{map, IfOk};
 ghost use Rattle.sqlite.specs.State.{HasCleanDisk};
 ghost use Rattle.ft_store.specs.Calls.{IsPlainFault};

@@ -4,10 +4,10 @@ ghost use Rattle.ft_rows.specs.Changes.{shown_change};
 ghost use Rattle.ft_content.specs.Command as plain;
 ghost use Rattle.ft_content.specs.Views.{shown_info, creation_of};
 ghost use Rattle.ft_content.specs.Deserved.{Contents};
-ghost use Rattle.ft_index.specs.Kept.{told_table};
+ghost use Rattle.ft_index.specs.Kept.{table_info};
 ghost use Rattle.ft_index.specs.Planned.{PlansOver, Makes, table_change};
 ghost use Rattle.ft_index.specs.Changed.{with_tables, MakesRows, Does};
-ghost use Rattle.ft_documents.specs.Found.{with_told};
+ghost use Rattle.ft_documents.specs.Found.{with_info};
 
 use crate::change::change_rows;
 use ft_content::{
@@ -26,7 +26,7 @@ pub(crate) fn made_table(
     tables: &[TableInfo],
     creation: &Creation,
 ) -> Result<Option<TableInfo>, Fault>
-    ensures { (contents : Contents) → map shown_info tables.now ≡ map told_table contents
+    ensures { (contents : Contents) → map shown_info tables.now ≡ map table_info contents
         → Makes contents creation.now result }
 {
     let names = made_names(alloc, creation.columns.as_slice())?;
@@ -100,7 +100,7 @@ pub(crate) fn add_table<S: Alter>(
 ) -> Result<(), Fault>
     ensures makes { MakesRows S.Store store.old store.new (table_change made ∷ []) result }
     ensures told { map shown_info tables.new.items
-        ≡ (if is_ok result then with_told (shown_info made) (map shown_info tables.old.items) else
+        ≡ (if is_ok result then with_info (shown_info made) (map shown_info tables.old.items) else
         map shown_info tables.old.items) }
 {
     let mut changes = Vec::new(alloc);

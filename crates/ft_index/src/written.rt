@@ -37,7 +37,7 @@ impl Written<'_> {
         Ok(row_changes(alloc, table.id, table.columns.as_slice(), rewrites)?)
     }
 
-    /// Makes all their row changes or none, behind the change that comes first, if there is one.
+    /// Makes all their row changes or none, after the change that comes first, if there is one.
     /// They are made group by group, so that the changes of one group are in memory at a time.
     pub(crate) fn make<S: Alter>(
         self,
@@ -114,7 +114,7 @@ pub(crate) fn make_anew<S: Alter>(
     written.make(alloc, store, Some(first))
 }
 
-/// The row changes of documents, a part for each group, behind the change that comes first.
+/// The row changes of documents, a part for each group, after the change that comes first.
 #[derive(Drop)]
 struct GroupChanges<'t> {
     alloc: Global,

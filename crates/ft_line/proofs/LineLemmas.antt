@@ -33,7 +33,7 @@ left_more true word words = go (bytes_eq word (codes "--"))
     go true = refl
     go false = refl
 
--- one word more behind those that are done
+-- one word more after those that are done
 pub words_more : (rewrites : Bool) (words : List (Bor (List ℕ))) (i : ℕ) (d : Bor (List ℕ)) (done more all : List (List ℕ)) → i < length words
     → more ≡ done ++ (if rewrites && not (bytes_eq (get_or words i d).now (codes "--")) then dashed (get_or words i d).now else (get_or words i d).now) ∷ []
     → done ++ left rewrites (map (λ word. word.now) (drop i words)) ≡ all

@@ -33,7 +33,7 @@ two_modes : line_of (codes "--list" ∷ codes "--csv" ∷ []) ≡ Conflict
 unfolding clap_on_literals
 two_modes = refl
 
--- a separator that csv mode refuses, before the mode or behind it
+-- a separator that csv mode refuses, before the mode or after it
 bad_separator : line_of (codes "--csv" ∷ codes "--separator" ∷ codes "ab" ∷ []) ≡ BadSeparator
 unfolding clap_on_literals
 bad_separator = refl
@@ -77,7 +77,7 @@ unheaded : line_of (codes "--noheader" ∷ codes "--column" ∷ [] ∷ codes "SE
 unfolding clap_on_literals
 unheaded = refl
 
--- behind two dashes words stay as they are
+-- after two dashes words stay as they are
 behind_dashes : line_of (codes "-echo" ∷ codes "--" ∷ codes "-list" ∷ codes "-csv" ∷ []) ≡ Means (record {
   settings = record first_settings { echo = true };
   file = Some (codes "-list");

@@ -27,7 +27,7 @@ abbrev pub dashed : List ℕ → List ℕ
 dashed word = if is_single_dashed word then 0x2D ∷ word else word
 
 -- the words up to a word of two dashes, which ends the options, with two dashes for one, and those
--- behind it as they are
+-- after it as they are
 abbrev pub dashed_words : List (List ℕ) → List (List ℕ)
 dashed_words [] = []
 dashed_words (word ∷ words) = if bytes_eq word (codes "--") then word ∷ words else dashed word ∷ dashed_words words
@@ -46,7 +46,7 @@ value_option name = record (new_rule name) { long = Some name; action = Some Set
 abbrev pub file : Rule
 file = record (new_rule (codes "FILE")) { action = Some Set }
 
--- any number of SQL texts behind it (section "Command-line Options"; that there may be several is
+-- any number of SQL texts after it (section "Command-line Options"; that there may be several is
 -- our own choice)
 abbrev pub sql : Rule
 sql = record (new_rule (codes "SQL")) { action = Some Append }

@@ -12,8 +12,8 @@ use Rattle.ft_store.specs.Kept.{StoreState, value_in}
 use Rattle.ft_shell.specs.Shell.{Parts}
 
 -- Of a database that is closed the last commit stands in its file alone, as that reads now and
--- after a crash, if the disk did what it was told. Where the close is refused, a crash leaves what
--- it could leave before.
+-- after a crash, if the disk returned what was written. Where the close is refused, a crash leaves
+-- what it could leave before.
 abbrev pub IsLeft : {D : Type 0} {g : Ghosts D} → Held (FileStore D g) → Result (Files D) (FileStore D g) → Type 0
 IsLeft {D} {g} c (Ok files) = AreClean g files.log files.db → IsCopied c files
 IsLeft c (Err last) = IsClosed c last

@@ -50,7 +50,7 @@ pub record FromFiles {D E : Type 0} (g : disk.Ghosts D) (h : disk.Ghosts E) (tab
 abbrev pub IsCause : {E : Type 0} → disk.Ghosts E → Image → OpenFault → Type 0
 IsCause h texts why = (why ≡ opening.Database) ⊎ ((why ≡ opening.Store) ⊎ IsNoStoreFor h texts why)
 
--- so it is, or one of them isn't opened, and that is told
+-- so it is, or one of them isn't opened, and the program says so
 abbrev pub RunsFromFiles : {D E : Type 0} → disk.Ghosts D → disk.Ghosts E → Image → Image → Settings → List (Option (List ℕ)) → Outputs → Outputs → ℕ → Type 0
 RunsFromFiles g h tables texts settings inputs old new status =
     ((why : OpenFault) × IsCause h texts why × NotOpened why old new status) ⊎ FromFiles g h tables texts settings inputs old new status

@@ -1,4 +1,4 @@
--- Meaning. The inputs of a command line, run in turn over two databases, and what is told of how
+-- Meaning. The inputs of a command line, run in turn over two databases, and what is said of how
 -- that ends (own choice).
 use Rattle.std.specs.Prelude.{ℕ, ◌≡◌, ◌⊎◌, ◌^◌, ◌-◌, ◌++◌, ◌==◌, min, if◌then◌else◌, MatchBool, MatchResult, List, [], ◌∷◌, map}
 use Rattle.std.specs.Prelude.{codes, Option, Some, None, Result, Ok, Err}
@@ -58,7 +58,7 @@ module _ {P S : Type 0} (g : Ghosts P) (h : Ghosts S) where
   abbrev pub RunsOne : Option (List ℕ) → Result Status RunFault → Stage P S → Stage P S → Effects → Type 0
   RunsOne input ended old new own = (left : Option (List ℕ)) × Ran g h ended (console old input) (console new left) own
 
-  -- Inputs are run in turn, each from what the one before it left, with what all their turns told
+  -- Inputs are run in turn, each from what the one before it left, with what all their turns wrote
   -- and called. A quit ends it, and so does a fault of a run.
   abbrev pub InTurn : List (Option (List ℕ)) → Option RunFault → Stage P S → Stage P S → Effects → Type 0
   InTurn [] cause old new all = (cause ≡ None) × (new ≡ old) × (all ≡ idle)
@@ -93,7 +93,7 @@ own_line causes.Write = codes "Error: output fault" ++ 10 ∷ []
 own_line causes.TooMuch = codes "Error: input too large" ++ 10 ∷ []
 own_line causes.Memory = codes "Error: out of memory" ++ 10 ∷ []
 
--- it is written behind all else, or as much of it as goes out
+-- it is written after all else, or as much of it as goes out
 abbrev pub WritesOwn : Option RunFault → Option (List ℕ) → Option (List ℕ) → Type 0
 WritesOwn None old new = new ≡ old
 WritesOwn (Some fault) old new = AppendsUpTo old new (own_line fault)
@@ -115,7 +115,7 @@ opening_line opening.NotAStore = codes "Error: not a full-text store" ++ 10 ∷ 
 opening_line (opening.Version n) = codes "Error: full-text store of version " ++ (signed_decimal n ++ 10 ∷ [])
 opening_line opening.Store = codes "Error: unable to open full-text store" ++ 10 ∷ []
 
--- a database is not opened: why is told, and nothing else
+-- a database is not opened: one line says why, and there is nothing else
 pub record NotOpened (why : OpenFault) (old new : Outputs) (status : ℕ) : Type 0 where
   pub out : new.out ≡ old.out
   pub err : AppendsUpTo old.err new.err (opening_line why)

@@ -17,7 +17,7 @@ use Rattle.ft_index.specs.Crashes.{HoldsLeft, Name}
 use Rattle.ft_files.specs.Opening.{IsStoreFrom}
 
 -- Of files that held this image a store is opened that holds these contents and noted names; and
--- they are never told to be no store, or one of another version.
+-- they are never refused as no store, or as one of another version.
 pub record FindsLeft {D : Type 0} (g : disk.Ghosts D) (image : Image) (contents : Contents) (names : List Name) : Type 0 where
   pub held : (store : StoreState (FileStore D g)) → IsStoreFrom image store → HasCleanDisk (shows over_files store)
       → StoreHolds (value_in over_files store) contents

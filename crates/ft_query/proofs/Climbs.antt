@@ -41,7 +41,7 @@ joined_cost p by.And q ls = refl
 joined_cost p by.Or q ls = refl
 joined_cost p by.Not q ls = refl
 
--- the lists of a left side, and behind them those of a right one
+-- the lists of a left side, and after them those of a right one
 lists_front : (front own : List Places) (n : ℕ) → length front ≡ n → take n (plain_lists (front ++ own)) ≡ plain_lists front
 lists_front front own n same = ap (take n) (map-append (λ (l : Places). l.places.now) front own)
     ∙ take_at (plain_lists front) (plain_lists own) n (length-map front (λ l. l.places.now) ∙ same)

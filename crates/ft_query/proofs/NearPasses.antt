@@ -8,7 +8,7 @@ use Rattle.ft_query.specs.Occurs.{are_near}
 use Rattle.ft_query.specs.Visit.{is_behind, skip_behind, begin_near, near_those}
 use Rattle.ft_query.proofs.Merges.{Before, Rising, filter_same, all_weaker}
 
--- a begins too far behind b to be near it
+-- a begins too far after b to be near it
 abbrev Beyond : ℕ → ℕ → Place → Place → Type 0
 Beyond most m b a = (b.column < a.column) ⊎ ((a.column ≡ b.column) × (b.pos + m + most < a.pos))
 
@@ -59,7 +59,7 @@ second_by most k m a c b here there within later far far_too true is =
     let first = far_beyond most k m a b far here within (bar_moves a.pos c.pos k (b.pos + m) later is) in
     omega arith
 
--- of two neighbours that aren't near, the second begins too far behind
+-- of two neighbours that aren't near, the second begins too far after
 second_beyond : (most k m : ℕ) (a c b : Place) → Within most k a b → are_near most k a m b ≡ false → Before a c → are_near most k c m b ≡ false
     → Beyond most m b c
 second_beyond most k m a c b (inl h) far (inl i) far_too = inl (omega arith)

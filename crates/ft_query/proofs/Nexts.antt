@@ -40,7 +40,7 @@ itself a = ap is_eq (tied_itself int_cmp_total a)
 
 -- ---- one list
 
--- the first docid of a list is behind this one
+-- the first docid of a list is after this one
 IsLater : ℤ → List PlaceList → Type 0
 IsLater docid [] = Unit {0}
 IsLater docid (l ∷ ls) = docid <ℤ l.docid
@@ -130,7 +130,7 @@ module _ (d : Document) (ds : List Document) (later : AllByRecursion (λ e. d.do
       let right = sum_by-cons place_count (listed_for ds t) (map (listed_for ds) ts) in
       omega arith
 
-  -- the least docid so far is behind the document, or there is none
+  -- the least docid so far is after the document, or there is none
   abbrev IsBehind : Option ℤ → Type 0
   IsBehind None = Unit {0}
   IsBehind (Some docid) = d.docid <ℤ docid

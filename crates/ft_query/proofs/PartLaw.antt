@@ -148,7 +148,7 @@ run_stops (b ∷ bytes) = by_first (stops_chunk b) refl (run_stops bytes)
         let next : 1 + position_or_len stops_chunk bytes ≡ suc (position_or_len stops_chunk bytes) = omega arith in
         ap (λ n. ends_chunk (drop n (b ∷ bytes))) next ∙ rest
 
--- the bytes up to the next quote, and those behind it
+-- the bytes up to the next quote, and those after it
 next_quote : (bytes : List ℕ) → list_any is_quote bytes ≡ true → bytes ≡ before_first is_quote bytes ++ (34 ∷ after_first is_quote bytes)
 next_quote bytes some =
     let inside : position_or_len is_quote bytes < length bytes = ltb-true _ _ (sym (any_place is_quote bytes) ∙ some) in

@@ -125,7 +125,7 @@ pub marks_length : (i : ℕ) (lists : List (List Place)) (starts : List Place) �
 marks_length i [] starts = refl
 marks_length i (l ∷ ls) starts = ap (λ n. suc n) (marks_length (i + 1) ls starts)
 
--- what the lists of a phrase's terms add before the terms behind it
+-- what the lists of a phrase's terms add before the terms after it
 pub numbered_marks : (old : List Offset) (n : ℕ) (lists : List Places) (starts : List Place) (more : List (List Place))
     → old ++ numbered n (marks_from 0 (plain_lists lists) starts) ++ numbered (n + length lists) more
     ≡ old ++ numbered n (marks_from 0 (plain_lists lists) starts ++ more)
@@ -136,7 +136,7 @@ numbered_marks old n lists starts more =
     ∙ ap (λ k. old ++ (numbered n ms ++ numbered (n + k) more)) (sym many)
     ∙ sym (ap (λ os. old ++ os) (numbered-append n ms more))
 
--- ---- the lists of a phrase's terms, and those behind them
+-- ---- the lists of a phrase's terms, and those after them
 
 pub map-drop : (n : ℕ) (lists : List Places) → drop n (plain_lists lists) ≡ plain_lists (drop n lists)
 map-drop zero lists = refl
@@ -158,7 +158,7 @@ front_lists : (terms : List QueryTerm) (lists front : List Places) (n : ℕ) →
 front_lists terms lists front n size is =
     ap (λ k. take k (plain_lists lists)) (length-map terms plain_term ∙ sym size) ∙ map-take n lists ∙ ap plain_lists (sym is)
 
--- the marks of one link, and those of the links behind it
+-- the marks of one link, and those of the links after it
 pub link_marks_one : (k : ℕ) (starts : List Place) (link : Link) (links : List Link) (lists own behind : List Places) (others : Starts) (all : List Starts)
     (size : ℕ) (next : List Place)
     → size ≡ length link.to.terms.items → own ≡ take size lists → behind ≡ drop size lists → next ≡ near_those link.most k starts size others.places.items

@@ -44,7 +44,7 @@ Takes postings i ts s = take_row postings ts s.column (s.pos + i) ≡ true
 at_place : (i : ℕ) (at start : Place) → follows i at start ≡ true → (start.column ≡ at.column) × (start.pos + i ≡ at.pos)
 at_place i at start e = (grind (arith, nat_tests), grind (arith, nat_tests))
 
--- a place behind an occurrence is in the term's list
+-- a place after an occurrence is in the term's list
 listed_here : (postings : List Posting) (i : ℕ) (t : PlainTerm) (ts : List PlainTerm) (starts : List Place) (q : Posting)
     → AllByRecursion (Takes postings i (t ∷ ts)) starts
     → takes postings t q.place.column q.place.pos ≡ fits t q.term q.place.pos → list_any (follows i q.place) starts ≡ true → is_listed t q.term ≡ true

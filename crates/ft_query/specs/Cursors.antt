@@ -34,7 +34,7 @@ abbrev pub next_places : List PlaceList → List Place
 next_places [] = []
 next_places (l ∷ ls) = l.places
 
--- what is left behind the next document
+-- what is left after the next document
 abbrev pub after_next : List PlaceList → List PlaceList
 after_next [] = []
 after_next (l ∷ ls) = ls

@@ -8,7 +8,7 @@ use Rattle.ft_query.specs.Lists.{is_failed, Reaches, Answers}
 use Rattle.ft_query.specs.Cursors.{lists_kept, places_left, listed_for}
 
 -- What calls make of the lists: clean ones were clean and mean the documents that they meant, a
--- failure is told, and else each became what a call makes of it.
+-- failure is answered, and else each became what a call makes of it.
 pub record Asks {L X : Type 0} (g : Ghosts L) (old new : L) (result : Result X ListFault) : Type 0 where
   pub clean : g.is_clean new → g.is_clean old × (g.documents new ≡ g.documents old)
   pub failed : g.has_failed new ≡ (g.has_failed old || is_failed result)

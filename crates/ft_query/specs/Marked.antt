@@ -37,8 +37,8 @@ pub record Evaluates (result : Result Bool AllocError) (old new : Found) (tree :
   pub next : OnOk result (new.next ≡ old.next + length (if_wanted old.wanted (marks_of tree (plain_lists lists))))
   pub room : OnOk result (new.next ≤ old.next + length lists)
 
--- A right side is evaluated behind its left one, which accepts or not: whether both together accept
--- is answered, and the right side's marks are added if they are wanted and it isn't behind a NOT,
+-- A right side is evaluated after its left one, which accepts or not: whether both together accept
+-- is answered, and the right side's marks are added if they are wanted and it isn't after a NOT,
 -- with no more numbers than it has terms. What is asked stays.
 pub record Joins (by : By) (accepted : Bool) (result : Result Bool AllocError) (old new : Found) (tree : Tree) (lists : List Places) : Type 0 where
   pub both : IfOk result (λ b. b ≡ joined_answer by accepted (is_accepted tree (plain_lists lists)))

@@ -27,7 +27,7 @@ hits_in NoDocument offsets = []
 hits_in Passed offsets = []
 hits_in (Found hit) offsets = record { docid = hit.docid; offsets = offsets } ∷ []
 
--- of these offsets those that are wanted are told
+-- the hit has of these offsets those that are wanted
 abbrev pub Tells : Wanted → Considered → List Offset → Type 0
 Tells wanted NoDocument offsets = Unit {0}
 Tells wanted Passed offsets = Unit {0}
@@ -45,7 +45,7 @@ pub record Considers (wanted : Wanted) (old new : Walk) (considered : Considered
   pub told : Tells wanted considered offsets
   pub ended : considered ≡ NoDocument → went.rest ≡ []
 
--- The walk went on to the next hit, of whose offsets those that are wanted are told.
+-- The walk went on to the next hit, which has those of its offsets that are wanted.
 pub record Finds (wanted : Wanted) (old new : Walk) (hit : Option Hit) (documents : List Document) : Type 0 where
   pub offsets : List Offset
   pub went : Went old new (hit_at (option_map (λ h. h.docid) hit) offsets) documents

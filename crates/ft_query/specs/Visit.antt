@@ -23,7 +23,7 @@ use Rattle.ft_query.specs.Cursors.{lists_left, places_at}
 abbrev pub place_order : ℕ → Place → ℕ → Place → Ordering
 place_order i a j b = ordering_then (nat_cmp a.column b.column) (nat_cmp (a.pos + i) (b.pos + j))
 
--- whether a place moved by i is one of those moved by j, and which of them are behind it
+-- whether a place moved by i is one of those moved by j, and which of them are after it
 abbrev pub seek : ℕ → Place → ℕ → List Place → Bool × List Place
 seek i x j [] = (false, [])
 seek i x j (y ∷ ys) = match_ordering (place_order j y i x) (seek i x j ys) (true, ys) (false, y ∷ ys)

@@ -51,7 +51,7 @@ hit_at None offsets = []
 hit_at (Some docid) offsets = record { docid = docid; offsets = offsets } ∷ []
 
 -- The same where of the hit only its docid is answered: the offsets are those that the document
--- has, and aren't told.
+-- has, and aren't answered.
 pub record WalkedTo (old new : Walk) (docid : Option ℤ) (documents : List Document) : Type 0 where
   pub offsets : List Offset
   pub went : Went old new (hit_at docid offsets) documents

@@ -45,7 +45,7 @@ packed_stands spots can = ap (option_map (map stored_spot)) (packed_is_read (map
 pub none_can : (bytes : List ℕ) (spots : List StoredSpot) (can : Bool) → ((i : ℕ) → slice_index bytes i < 256) → can ≡ false → (CanPack spots → IsTrue can) → IsTrue false ↔ (spots_in bytes ≡ Some spots)
 none_can bytes spots can small is cannot = (λ h. absurd (true≢false (sym h)), λ h. absurd (true≢false (sym (cannot (stand_for bytes spots small h).can) ∙ is)))
 
--- ---- what comes behind the first bytes
+-- ---- what comes after the first bytes
 
 behind-append : (xs ys bs : List ℕ) → behind (xs ++ ys) bs ≡ option_and_then (behind ys) (behind xs bs)
 behind-append [] ys bs = refl

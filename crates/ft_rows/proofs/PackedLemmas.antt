@@ -53,7 +53,7 @@ reads_numbers (n ∷ ns) small = reads_number 9 n (flat_map leb128 ns) ns small.
 
 -- ---- spots
 
--- a spot that numbers can say behind last
+-- a spot that numbers can say after last
 record Follows (last s : Spot) : Type 0 where
   pub column : last.column ≤ s.column
   pub pos : s.column ≡ last.column → last.pos ≤ s.pos

@@ -72,7 +72,7 @@ first_run (q ∷ qs) p n is count =
 
 -- ---- one posting more
 
--- a posting behind lists: it joins the last, if that is of its document
+-- a posting after lists: it joins the last, if that is of its document
 abbrev pub with_posting : Posting → List (ℤ × List Spot) → List (ℤ × List Spot)
 with_posting q [] = (q.docid, q.spot ∷ []) ∷ []
 with_posting q (l ∷ []) = cond (int_eq q.docid l.0) ((l.0, l.1 ++ q.spot ∷ []) ∷ []) (l ∷ (q.docid, q.spot ∷ []) ∷ [])

@@ -49,7 +49,7 @@ spots_after last (c ∷ p ∷ l ∷ z ∷ ns) =
     let s : Spot = record { column = last.column + c; pos = (if c == 0 then last.pos else 0) + p; place = (if c == 0 then last.place else 0) + l; size = z } in
     option_and_then (λ ss. Some (s ∷ ss)) (spots_after s ns)
 
--- s stands behind last: in a later column, or later in the same one
+-- s stands after last: in a later column, or later in the same one
 abbrev pub is_after : Spot → Spot → Bool
 is_after last s = nat_lt last.column s.column || (last.column == s.column && nat_lt last.pos s.pos && nat_lt last.place s.place)
 

@@ -20,7 +20,7 @@ spot_from last c p l z = record {
 abbrev pub passes : Bool → Spot → Spot → Bool
 passes first last s = is_spot s && (first || is_after last s)
 
--- the places that numbers say behind the last one, each tested as it comes
+-- the places that numbers say after the last one, each tested as it comes
 abbrev pub checked : Bool → Spot → List ℕ → Option (List Spot)
 checked first last [] = Some []
 checked first last (c ∷ []) = None
@@ -30,12 +30,12 @@ checked first last (c ∷ p ∷ l ∷ z ∷ ns) =
     let s = spot_from last c p l z in
     if passes first last s then option_and_then (λ ss. Some (s ∷ ss)) (checked false s ns) else None
 
--- what comes behind the first bytes, None where others are first
+-- what comes after the first bytes, None where others are first
 abbrev pub behind : List ℕ → List ℕ → Option (List ℕ)
 behind [] bs = Some bs
 behind (x ∷ xs) [] = None
 behind (x ∷ xs) (b ∷ bs) = if b == x then behind xs bs else None
 
--- bytes that are found are what comes behind the first ones
+-- bytes that are found are what comes after the first ones
 abbrev pub Follows : Option (Bor (List ℕ)) → List ℕ → List ℕ → Type 0
 Follows found bytes first = MatchOption found (behind first bytes ≡ None) (λ rest. behind first bytes ≡ Some rest.now)

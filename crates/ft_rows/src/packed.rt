@@ -51,7 +51,7 @@ fn push_number(bytes: &mut Vec<u8>, number: u64) -> Result<(), AllocError>
     Ok(())
 }
 
-/// The four numbers of a place behind the last one.
+/// The four numbers of a place after the last one.
 fn push_spot(bytes: &mut Vec<u8>, last: &Spot, spot: &Spot) -> Result<(), AllocError>
     ensures { OnOk result (bytes.new.items ≡ bytes.old.items ++ flat_map leb128
         (numbers_after (plain_spot last.now) (plain_spot spot.now ∷ []))) }
@@ -91,7 +91,7 @@ fn is_natural(spot: &Spot) -> bool
     spot.column >= 0 && spot.pos >= 0 && spot.place >= 0 && spot.size >= 0
 }
 
-/// Whether a posting may have a place, the first or one behind the last.
+/// Whether a posting may have a place, the first or one after the last.
 fn may_follow(is_first: bool, last: &Spot, spot: &Spot) -> bool
     ensures { result ≡ (is_natural spot.now && passes is_first (plain_spot last.now)
         (plain_spot spot.now)) }
@@ -124,7 +124,7 @@ pub fn can_pack(spots: &[Spot]) -> bool
 
 // ---- comparing
 
-/// What comes behind a byte, where it is the first.
+/// What comes after a byte, where it is the first.
 fn behind_byte(bytes: &[u8], byte: u8) -> Option<&[u8]>
     ensures { Follows result bytes.now (byte ∷ []) }
 {
@@ -134,7 +134,7 @@ fn behind_byte(bytes: &[u8], byte: u8) -> Option<&[u8]>
     }
 }
 
-/// What comes behind a number, where it is the first.
+/// What comes after a number, where it is the first.
 fn behind_number(bytes: &[u8], number: u64) -> Option<&[u8]>
     ensures { Follows result bytes.now (leb128 number) }
 {
@@ -147,7 +147,7 @@ fn behind_number(bytes: &[u8], number: u64) -> Option<&[u8]>
     behind_byte(left, rest as u8)
 }
 
-/// What comes behind the four numbers of a place behind the last one, where they are the first.
+/// What comes after the four numbers of a place after the last one, where they are the first.
 fn behind_spot<'a>(bytes: &'a [u8], last: &Spot, spot: &Spot) -> Option<&'a [u8]>
     ensures { Follows result bytes.now (flat_map leb128
         (numbers_after (plain_spot last.now) (plain_spot spot.now ∷ []))) }
@@ -258,7 +258,7 @@ fn stored(column: u64, pos: u64, place: u64, size: u64) -> Spot
     }
 }
 
-/// The place that four numbers say behind the last one, if a posting may have it.
+/// The place that four numbers say after the last one, if a posting may have it.
 fn spot_at(last: &Spot, is_first: bool, c: u32, p: u32, l: u32, z: u32) -> Option<Spot>
     ensures found { IfSome result (λ spot. (passes is_first (plain_spot last.now)
         (spot_from (plain_spot last.now) c p l z) ≡ true)

@@ -13,7 +13,7 @@ pub struct Posting {
     pub spot: Spot,
 }
 
-/// The postings of one term, of a table that isn't told. Those of one document that stand beside
+/// The postings of one term, of a table that isn't named. Those of one document that stand beside
 /// each other are its posting list.
 #[derive(Debug, Drop)]
 pub struct TermLists {

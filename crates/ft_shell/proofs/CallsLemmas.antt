@@ -118,7 +118,7 @@ note_calls h lines name old new told it = notes_one h old new name (is_ok it.ans
 
 -- one Insert of these records
 abbrev Inserts : Settings → Import → ℕ → List (ℕ × List (List ℕ)) → Answer → List Call → Type 0
-Inserts settings what n rows told calls = OneCommand settings told calls (Insert what.table None (map (row_cells n) (records_in rows))) (imports.insert_told (warnings what.file n rows))
+Inserts settings what n rows told calls = OneCommand settings told calls (Insert what.table None (map (row_cells n) (records_in rows))) (imports.answer_of_insert (warnings what.file n rows))
 
 text_calls : {S : Type 0} (h : Ghosts S) (settings : Settings) (what : Import) (n : ℕ) (rows : List (ℕ × List (List ℕ))) (before after : FullText S) (told : Answer) → (it : TextImport h what n rows before after told) →
     Called h (λ calls. Inserts settings what n rows told calls ⊎ NoCall settings told calls) (text_in h what n rows before after told it) before after

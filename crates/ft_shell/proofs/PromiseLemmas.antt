@@ -23,7 +23,7 @@ use Rattle.ft_shell.specs.Shell.{Parts, Shell}
 use Rattle.plain_shell.specs.Imports.{row_cells}
 use Rattle.ft_shell.specs.ImportTurns.{columns_in}
 use Rattle.plain_shell.specs.Records.{kept, records_in}
-use Rattle.ft_shell.specs.FullTextTurns.{reply_told}
+use Rattle.ft_shell.specs.FullTextTurns.{answer_of_reply}
 use Rattle.ft_shell.specs.StatementTurns.{table_names}
 use Rattle.plain_shell.specs.Outcomes.{Answer, Outcome, Tells, says, echoed, lacks_memory, outcome_of}
 use Rattle.ft_shell.specs.Effects.{Effects, idle, and_then, outcome_in}
@@ -258,7 +258,7 @@ all_made g h old new all (last_ran ended from to own ran) = ran_made g h ended f
 all_made g h old new all (first_ran ended from to own rest last ran later) =
     runs_join h from.shell.full_text to.shell.full_text last.full_text own.calls rest.calls (ran_made g h ended from to own ran) (all_made g h (parts_of to.shell) last rest later)
 
--- in a run, behind none
+-- in a run, after none
 at_run : {P S : Type 0} (g : Ghosts P) (h : Ghosts S) (ended : Result Status RunFault) (from to : Console P S) (all : Effects) → Ran g h ended from to all → (before more : List Call) (command : Command) (answer : Result Reply Fault) → all.calls ≡ before ++ Executed command answer ∷ more → At g h (Reached g h (parts_of from.shell)) all before command answer more to.shell.full_text
 at_run g h ended from to all ran before more command answer is =
     let turns = ran_turns g h ended from to all ran in
@@ -342,7 +342,7 @@ module _ (table : List ℕ) (items : Items) (filter : Filter) (limit : Option �
   select_class settings told made (Some Plain) it = absurd (not_none (note_of made selected it))
   select_class settings told made (Some (FullTextClass command)) (inl (answer, is, tells)) =
       let same : answer ≡ Ok reply = (let e = is in cc) in
-      subst (λ a. Tells (reply_told settings a) told) same tells
+      subst (λ a. Tells (answer_of_reply settings a) told) same tells
   select_class settings told made (Some (FullTextClass command)) (inr it) = absurd (let wrong = it.0 in cc)
 
   select_import : (settings : Settings) (told : Answer) (holds : Files) (what : Import) (there : Option ℕ) → CallsOfImport settings told selected holds what there → ⊥

@@ -186,7 +186,7 @@ runs_err {P} {S} {W} {T} g h r fault due left a b is runs = subst (λ (x : Resul
 pub lacks_memory : {P S W : Type 0} (g : Ghosts P) (h : Ghosts S) (due left : W → List Member) (a : Moment P S) → Runs g h {W = W} {T = Unit {0}} (Err causes.Memory) due left a a
 lacks_memory g h due left a = (breaks_none g h causes.Memory due a, inr refl)
 
--- A turn was done. Its echo was written, and what it tells behind that, or a front of it.
+-- A turn was done. Its echo was written, and what it tells after that, or a front of it.
 pub runs_turn : {P S T : Type 0} (g : Ghosts P) (h : Ghosts S) (r : Result T RunFault) (member : Member) (a b : Moment P S) (told : Effects) (mid : Option (List ℕ)) (body : List ℕ) → Turn g h member a.shell b.shell told →
     told.out ≡ echo_of a.shell.settings member ++ body → Appends a.out mid (echo_of a.shell.settings member) → Sends r mid b.out body → Sends r a.err b.err told.err →
     IfErr r (λ fault. fault ≡ causes.Write) → OnOk r (b.status.faults ≡ min (a.status.faults + told.faults) (2 ^ 64 - 1)) → OnOk r (b.status.quit ≡ (a.status.quit || told.ends)) →

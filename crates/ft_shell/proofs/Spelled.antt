@@ -19,9 +19,9 @@ use Rattle.ft_shell.specs.Shell.{Shell}
 use Rattle.plain_shell.specs.Sources.{Files, Gives}
 use Rattle.plain_shell.specs.Imports.{delimiter_of, row_cells}
 use Rattle.plain_shell.specs.Records.{warnings}
-use Rattle.ft_shell.specs.FullTextTurns.{reply_told}
+use Rattle.ft_shell.specs.FullTextTurns.{answer_of_reply}
 use Rattle.ft_shell.specs.StatementTurns.{table_names}
-use Rattle.ft_shell.specs.ImportTurns.{columns_in, insert_told}
+use Rattle.ft_shell.specs.ImportTurns.{columns_in, answer_of_insert}
 use Rattle.plain_shell.specs.Records.{kept, records_in}
 use Rattle.plain_shell.specs.DotParts.{behind_stop}
 use Rattle.plain_shell.specs.Outcomes.{Answer, Tells, blames}
@@ -57,7 +57,7 @@ module _ (settings : Settings) (told : Answer) (calls : List Call) where
   abbrev pub CallsOfClass : Option (List ℕ) → Option Class → Type 0
   CallsOfClass made None = calls ≡ []
   CallsOfClass made (Some Plain) = MayNote made calls
-  CallsOfClass made (Some (FullText command)) = OneCommand command (reply_told settings) ⊎ NoCall
+  CallsOfClass made (Some (FullText command)) = OneCommand command (answer_of_reply settings) ⊎ NoCall
 
   -- the records go into a full-text table by one Insert; a plain table that is made for them is
   -- noted
@@ -65,7 +65,7 @@ module _ (settings : Settings) (told : Answer) (calls : List Call) where
   CallsOfImport holds what None = MayNote (Some what.table) calls
   CallsOfImport holds what (Some n) =
       ((found : List (List (List ℕ))) × HasRecords settings holds what found
-      × OneCommand (Insert what.table None (map (row_cells n) (records_in (kept what.skip found)))) (insert_told (warnings what.file n (kept what.skip found)))) ⊎ NoCall
+      × OneCommand (Insert what.table None (map (row_cells n) (records_in (kept what.skip found)))) (answer_of_insert (warnings what.file n (kept what.skip found)))) ⊎ NoCall
 
 -- what a member calls, over the tables and the files that are there, where this is told of it
 abbrev pub CallsOfDot : {P S : Type 0} → Shell P S → Answer → List Call → DotCommand → Type 0

@@ -1,10 +1,10 @@
--- Meaning. What turns of a session tell, and which calls they make of the full-text tables (own
+-- Meaning. What turns of a session write, and which calls they make of the full-text tables (own
 -- choice).
 use Rattle.std.specs.Prelude.{ℕ, Bool, false, List, [], ◌++◌, ◌+◌}
 use Rattle.ft_index.specs.Called.{Call}
 use Rattle.plain_shell.specs.Outcomes.{Outcome}
 
--- what one or more turns tell, and the calls that they make of the full-text tables
+-- what one or more turns write, and the calls that they make of the full-text tables
 pub record Effects : Type 0 where
   pub out : List ℕ
   pub err : List ℕ

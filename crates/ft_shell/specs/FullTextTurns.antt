@@ -11,29 +11,29 @@ use Rattle.ft_statements.specs.Texts.{fault_text}
 use Rattle.ft_statements.specs.Replies.{reply_text}
 use Rattle.plain_shell.specs.Outcomes.{Answer, says, warned, blames, complains, Tells}
 
--- what is told of an answer
-abbrev pub reply_told : Settings → Result Reply Fault → Answer
-reply_told settings (Ok reply) = says (reply_text settings reply)
-reply_told settings (Err fault) = blames (fault_text fault)
+-- what is printed of a reply, or the fault
+abbrev pub answer_of_reply : Settings → Result Reply Fault → Answer
+answer_of_reply settings (Ok reply) = says (reply_text settings reply)
+answer_of_reply settings (Err fault) = blames (fault_text fault)
 
--- The command is executed once, and its answer is told; where memory refuses the print, it was
+-- The command is executed once, and its reply is printed; where memory refuses the print, it was
 -- executed all the same.
 pub record FullTextTurn {S : Type 0} (h : Ghosts S) (settings : Settings) (command : Command) (old new : FullText S) (told : Answer) : Type 0 where
   pub answer : Result Reply Fault
   pub does : DoesCall h old (Executed command answer) new
-  pub tells : Tells (reply_told settings answer) told
+  pub tells : Tells (answer_of_reply settings answer) told
 
--- what is told of a note, behind warnings
-abbrev pub note_told : List ℕ → Result (Unit {0}) Fault → Answer
-note_told lines (Ok _) = warned lines
-note_told lines (Err faults.Memory) = complains lines (codes "out of memory")
-note_told lines (Err _) = complains lines (codes "table not noted")
+-- what is said of a note, after warnings
+abbrev pub answer_of_note : List ℕ → Result (Unit {0}) Fault → Answer
+answer_of_note lines (Ok _) = warned lines
+answer_of_note lines (Err faults.Memory) = complains lines (codes "out of memory")
+answer_of_note lines (Err _) = complains lines (codes "table not noted")
 
--- A new plain table's name is noted, behind warnings, or the note is refused.
+-- A new plain table's name is noted, after warnings, or the note is refused.
 pub record NoteTurn {S : Type 0} (h : Ghosts S) (lines name : List ℕ) (old new : FullText S) (told : Answer) : Type 0 where
   pub answer : Result (Unit {0}) Fault
   pub does : DoesCall h old (Noted name (is_ok answer)) new
-  pub tells : told ≡ note_told lines answer
+  pub tells : told ≡ answer_of_note lines answer
 
 -- it is noted if there is one
 abbrev pub MaybeNotes : {S : Type 0} → Ghosts S → Option (List ℕ) → FullText S → FullText S → Answer → Type 0

@@ -32,16 +32,16 @@ columns_in tables name = option_map (λ (t : TableInfo). length t.columns) (info
 
 -- ---- into a full-text table
 
--- what is told of the answer of the one command: the warnings, or the fault it deserves
-abbrev pub insert_told : List ℕ → Result Reply Fault → Answer
-insert_told lines (Ok reply) = warned lines
-insert_told lines (Err fault) = blames (fault_text fault)
+-- what is said of the one command: the warnings, or the fault it deserves
+abbrev pub answer_of_insert : List ℕ → Result Reply Fault → Answer
+answer_of_insert lines (Ok reply) = warned lines
+answer_of_insert lines (Err fault) = blames (fault_text fault)
 
--- The one command is executed, and its answer is told.
+-- The one command is executed, and what came of it is said.
 pub record InsertTurn {S : Type 0} (h : Ghosts S) (command : Command) (lines : List ℕ) (before after : FullText S) (told : Answer) : Type 0 where
   pub answer : Result Reply Fault
   pub does : DoesCall h before (Executed command answer) after
-  pub tells : told ≡ insert_told lines answer
+  pub tells : told ≡ answer_of_insert lines answer
 
 -- All records go in by one Insert, or none does. Where memory is wanting before it, nothing is
 -- done.
@@ -99,8 +99,8 @@ module _ {P S : Type 0} (g : Ghosts P) (h : Ghosts S) (what : Import) (old new :
     no_text : IsNoText (csv_reader delimiter) bytes → Declined (codes "file is not UTF-8") → BytesTurn delimiter bytes
     no_memory : Declined (codes "out of memory") → BytesTurn delimiter bytes
 
-  -- the file's bytes are those that its name holds, if they are there, or a fault of their fetch is
-  -- told
+  -- the file's bytes are those that its name holds, if they are there, or their fetch is refused by
+  -- this fault
   pub data FileTurn (holds : Files) (delimiter : ℕ) : Type 0 where
     fetched : (bytes : List ℕ) → Gives holds what.file bytes → BytesTurn delimiter bytes → FileTurn holds delimiter
     unfetched : (fault : SourceFault) → Refuses holds what.file fault → Declined (fetch_words fault) → FileTurn holds delimiter

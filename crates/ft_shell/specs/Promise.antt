@@ -26,13 +26,13 @@ abbrev pub parts_of : {P S : Type 0} → Shell P S → Parts P S
 parts_of shell = record { settings = shell.settings; plain = shell.plain; full_text = shell.full_text }
 
 module _ {P S : Type 0} (g : Ghosts P) (h : Ghosts S) where
-  -- A run, however it ended, with what its turns told and the calls that they made of the full-text
-  -- tables.
+  -- A run, however it ended, with what its turns wrote and the calls that they made of the
+  -- full-text tables.
   abbrev pub Ran : Result Status RunFault → Console P S → Console P S → Effects → Type 0
   Ran (Ok status) old new all = (it : Completes g h status old new) × (all ≡ it.effects)
   Ran (Err fault) old new all = (it : Stops g h fault old new) × (all ≡ it.effects)
 
-  -- Any runs one after another, or none, with what all their turns told and called. Each has an
+  -- Any runs one after another, or none, with what all their turns wrote and called. Each has an
   -- input, writers and files of its own, and begins with what the one before it left.
   pub data AllRan : Parts P S → Effects → Parts P S → Type 0 where
     none_ran : (parts : Parts P S) → AllRan parts idle parts
@@ -63,9 +63,9 @@ IsAny known = Unit {0}
 -- ---- the promise
 
 module _ {P S : Type 0} (g : Ghosts P) (h : Ghosts S) where
-  -- The turn of a Select among all calls, of which it is the one of its turn. What it tells is the
+  -- The turn of a Select among all calls, of which it is the one of its turn. What it writes is the
   -- reply by the settings that are in force there, or that it lacks memory for it, and stands on
-  -- both outputs between what the turns before it and those after it tell.
+  -- both outputs between what the turns before it and those after it write.
   pub record Lists (old : Parts P S) (all : Effects) (before : List Call) (select : Command) (reply : Reply) (more : List Call) (new : Parts P S) : Type 0 where
     pub line : ℕ
     pub text : List ℕ

@@ -35,7 +35,8 @@ abbrev pub GoesOn : Status → LinesRead → Type 0
 GoesOn status read = (status.quit ≡ false) × (read.splitting.waiting ≡ [])
 
 module _ {P S : Type 0} (g : Ghosts P) (h : Ghosts S) where
-  -- The members' turns were done one after the other, and what they tell was written and counted.
+  -- The members' turns were done one after the other, and what they have to say was written and
+  -- counted.
   -- The count of fault lines stays at 2 ^ 64 - 1 once there.
   pub record Did (members : List Member) (old new : Moment P S) : Type 0 where
     pub effects : Effects
@@ -45,7 +46,7 @@ module _ {P S : Type 0} (g : Ghosts P) (h : Ghosts S) where
     pub faults : min new.status.faults (2 ^ 64 - 1) ≡ min (old.status.faults + effects.faults) (2 ^ 64 - 1)
     pub quit : new.status.quit ≡ (old.status.quit || effects.ends)
 
-  -- The members' turns were done and told whole, and then what they are part of was cut short,
+  -- The members' turns were done and written whole, and then what they are part of was cut short,
   -- before these.
   pub record Cut (fault : RunFault) (members next : List Member) (old new : Moment P S) : Type 0 where
     pub mid : Moment P S

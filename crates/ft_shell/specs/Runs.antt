@@ -36,8 +36,8 @@ module _ {P S : Type 0} (g : Ghosts P) (h : Ghosts S) where
   abbrev pub IsFront : Option (List ℕ) → List ℕ → Shell P S → Shell P S → Effects → List Member → Type 0
   IsFront left read old new all next = (IsAtEnd left × Begins g h read old new all next) ⊎ ((rest : List ℕ) → Begins g h (read ++ rest) old new all next)
 
-  -- The input was run whole, and all that its turns tell was written. The count of fault lines
-  -- stays at 2 ^ 64 - 1 once there.
+  -- The input was run whole, and all that its turns have to say was written. The count of fault
+  -- lines stays at 2 ^ 64 - 1 once there.
   pub record Completes (status : Status) (old new : Console P S) : Type 0 where
     pub read : List ℕ
     pub consumed : Consumes old.input new.input read
@@ -48,9 +48,9 @@ module _ {P S : Type 0} (g : Ghosts P) (h : Ghosts S) where
     pub faults : status.faults ≡ min effects.faults (2 ^ 64 - 1)
     pub quit : status.quit ≡ effects.ends
 
-  -- A front of the input's turns was done and told whole, and then the run was cut short. An input
-  -- is too much only past 2 ^ 30 bytes, and what is done then doesn't hang on what is past them;
-  -- past them no more is read.
+  -- A front of the input's turns was done and written whole, and then the run was cut short. An
+  -- input is too much only past 2 ^ 30 bytes, and what is done then doesn't hang on what is past
+  -- them; past them no more is read.
   pub record Stops (fault : RunFault) (old new : Console P S) : Type 0 where
     pub read : List ℕ
     pub consumed : Consumes old.input new.input read

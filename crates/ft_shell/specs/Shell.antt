@@ -19,7 +19,7 @@ pub record Shell (P S : Type 0) : Type 0 where
 abbrev pub shell_of : {P S : Type 0} → Settings → Held P → FullText S → Files → Shell P S
 shell_of settings plain full_text holds = record { settings = settings; plain = plain; full_text = full_text; holds = holds }
 
--- the same without the files, which a session is lent for a run
+-- the same without the files, which a session borrows for a run
 pub record Parts (P S : Type 0) : Type 0 where
   pub settings : Settings
   pub plain : Held P
@@ -29,6 +29,6 @@ abbrev pub parts_code : {P S : Type 0} → Coded P → Coded S → Coded (Parts 
 parts_code {P} {S} p s = code_by (Settings × (Held P × FullText S)) (coded× settings.the_row.coded (coded× (held_code p) (full_text_code s)))
     (λ a. (a.settings, (a.plain, a.full_text))) (λ t. record { settings = t.0; plain = t.1.0; full_text = t.1.1 }) (λ _. refl)
 
--- a session with the files that it is lent
+-- a session with the files that it borrows
 abbrev pub shell_with : {P S : Type 0} → Parts P S → Files → Shell P S
 shell_with parts holds = record { settings = parts.settings; plain = parts.plain; full_text = parts.full_text; holds = holds }

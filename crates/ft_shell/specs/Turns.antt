@@ -1,5 +1,5 @@
 -- Meaning. A session: the turns of an input's members, one after the other, each from what the turn
--- before it left. What a unit is told as is that of its kind; echo and bail are of the section
+-- before it left. What is done with a unit is that of its kind; echo and bail are of the section
 -- "Special commands to sqlite3 (dot-commands)" of "Command Line Shell For SQLite".
 use Rattle.std.proofs.Common.{inl, inr}
 use Rattle.std.specs.Prelude.{ℕ, ◌≡◌, ◌⊎◌, MatchBool, List, [], ◌∷◌, ◌++◌, take, drop}

@@ -55,7 +55,7 @@ fn set_turn(settings: &mut Settings, command: &DotCommand) -> Answer
     Ok(Output::Nothing)
 }
 
-// What stands behind the full stop at its front.
+// What stands after the full stop at its front.
 fn behind_stop(text: &str) -> &str
     ensures { result.now ≡ parts.behind_stop text.now }
 {

@@ -221,7 +221,7 @@ impl<P: Alter, S: Alter> Session<P, S> {
         Ok(())
     }
 
-    // A line ends behind these bytes: it is refused, or the units that end in it are run.
+    // A line ends after these bytes: it is refused, or the units that end in it are run.
     fn end_line<O: Write, E: Write, F: Source>(
         &mut self,
         lines: &mut LineReader,
@@ -360,7 +360,7 @@ impl<P: Alter, S: Alter> Session<P, S> {
         self.finish_last(lines, source, outputs)
     }
 
-    // What is pending behind the last line is a unit, or it is refused.
+    // What is pending after the last line is a unit, or it is refused.
     fn finish_last<O: Write, E: Write, F: Source>(
         &mut self,
         lines: &mut LineReader,

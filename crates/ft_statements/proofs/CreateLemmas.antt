@@ -10,7 +10,7 @@ use Rattle.ft_statements.proofs.EachLemmas.{all_whole}
 use Rattle.ft_statements.specs.declared.create.Argument.{Argument as Code}
 use Rattle.ft_statements.specs.Views.{seen, plain, argument_as}
 
--- a word's text behind a space
+-- a word's text after a space
 abbrev pub behind_space : Token → List ℕ
 behind_space t = 0x20 ∷ bare t
 

@@ -11,7 +11,7 @@ use Rattle.ft_statements.specs.declared.statement.StatementFault.{StatementFault
 use Rattle.ft_statements.specs.declared.statement.StatementFault.TheVariants.{Syntax}
 use Rattle.ft_statements.proofs.ReadingLemmas.{runs_more, last_split}
 
--- one more behind others
+-- one more after others
 pub each_snoc : {A B : Type 0} (f : A → Option B) (xs : List A) (x : A) → each f (xs ++ x ∷ []) ≡ (each f xs >>= λ ys. f x >>= λ y. Some (ys ++ y ∷ []))
 each_snoc f [] x = refl
 each_snoc f (z ∷ zs) x = ap (λ o. f z >>= λ b. o >>= λ ys. Some (b ∷ ys)) (each_snoc f zs x) ∙ joined (f z) (each f zs) (f x) where

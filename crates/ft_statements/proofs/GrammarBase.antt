@@ -1,4 +1,4 @@
--- Reading one word, and what is read behind it.
+-- Reading one word, and what is read after it.
 use Rattle.std.proofs.Common.{◌≡◌, ℕ, Bool, true, false, cond, ◌&&◌, List, [], ◌∷◌, ◌++◌, Option, Some, None, refl, sym, ap, ◌∙◌, subst, codes, bytes_eq}
 use Rattle.std.specs.Option.{option_or}
 use Rattle.std.specs.Str.{str_eq_ignore_ascii_case, str_to_ascii_lowercase}
@@ -174,7 +174,7 @@ module _ {B : Type 0} (P : List Token → Type 0) where
     by_test None is later = cc
     by_test (Some n) is later = go t ts n is later
 
--- ---- words at the front, and what is behind them
+-- ---- words at the front, and what is after them
 
 pub record Spelled {A : Type 0} (R : List Token → A → Type 0) (ts : List Token) (x : A) (rest : List Token) : Type 0 where
   pub words : List Token

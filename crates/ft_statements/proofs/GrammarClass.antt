@@ -71,7 +71,7 @@ table_complete {tables} (table_name {t} {name} is any) =
 
 -- ---- full-text statements
 
--- a table's name directly behind such a word, anywhere
+-- a table's name directly after such a word, anywhere
 data NamesOne (tables : List (List ℕ)) : List Token → Type 0 where
   names_at : (before : List Token) {lead table : Token} (behind : List Token) → IsLead lead → IsTable tables table → NamesOne tables (before ++ lead ∷ table ∷ behind)
 

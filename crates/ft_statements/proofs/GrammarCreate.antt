@@ -126,7 +126,7 @@ create_sound ts command e =
           from_keywords (λ us. IsCreate (a ∷ b ∷ c ∷ i ∷ k ∷ us) command) (codes "EXISTS") [] r2 (λ us. Some us) rest e3 λ l r3 is_l e4.
           subst (λ us. IsCreate (a ∷ b ∷ c ∷ i ∷ k ∷ l ∷ us) command) (sym (some_inj e4)) (named_sound a b c (i ∷ k ∷ l ∷ []) rest true command is_a is_b is_c (if_new is_i is_k is_l) e1)
 
--- a name that is no IF NOT EXISTS, since USING stands behind it
+-- a name that is no IF NOT EXISTS, since USING stands after it
 no_if : (name using : Token) (rest : List Token) → IsKeyword (codes "USING") using → keywords_at if_words (name ∷ using ∷ rest) ≡ None
 no_if name using rest is = by_test (is_keyword (codes "IF") name) where
   by_test : (b : Bool) → (cond b (Some (using ∷ rest)) None >>= keywords_at (codes "NOT" ∷ codes "EXISTS" ∷ [])) ≡ None

@@ -120,7 +120,7 @@ skip_complete (skip_number {word} some few digits small) =
 abbrev with_files : Bool → Option ℕ → Option (List ℕ × List ℕ) → Option Import
 with_files csv skip files = files >>= λ f. Some (record { csv = csv; skip = skip; file = f.0; table = f.1 })
 
--- what is left behind the options are two words, the first no option
+-- what is left after the options are two words, the first no option
 files_sound : (P : Import → List (List ℕ) → Type 0) (csv : Bool) (skip : Option ℕ) (fs : List (List ℕ)) (what : Import) → files_of csv skip fs ≡ Some what →
     ((file table : List ℕ) → file ≢ codes "--csv" → file ≢ codes "--skip" → P (record { csv = csv; skip = skip; file = file; table = table }) (file ∷ table ∷ [])) → P what fs
 files_sound P csv skip [] what e go = cc
@@ -136,7 +136,7 @@ files_sound P csv skip (file ∷ table ∷ other ∷ more) what e go = cc
 options_sound : {options : List (List ℕ)} {csv : Bool} {skip : Option ℕ} → AreOptions options csv skip → (fs : List (List ℕ)) (what : Import) → files_of csv skip fs ≡ Some what → IsImport (options ++ fs) what
 options_sound {options} {csv} {skip} d fs what e = files_sound (λ w us. IsImport (options ++ us) w) csv skip fs what e λ file table a b. import_file file table d a b
 
--- a number, and the words behind it
+-- a number, and the words after it
 abbrev numbered : Option ℕ → List (List ℕ) → Option (Option ℕ × List (List ℕ))
 numbered o us = option_map (λ k. (Some k, us)) o
 
@@ -157,7 +157,7 @@ csv_sound (w ∷ n ∷ us) what e = word_case P (codes "--skip") w skips (λ oth
       skips : P (codes "--skip")
       skips e = by_number (skip_named n) refl e
 
--- behind a number
+-- after a number
 later_sound : (n : List ℕ) (k : ℕ) → IsSkip n k → (us : List (List ℕ)) (what : Import) → files_of (csv_at us).0 (Some k) (csv_at us).1 ≡ Some what → IsImport (codes "--skip" ∷ n ∷ us) what
 later_sound n k is [] what e = options_sound (skip_alone is) [] what e
 later_sound n k is (w ∷ us) what e = word_case P (codes "--csv") w (options_sound (skip_first is) us what) (λ other e1.
@@ -237,7 +237,7 @@ makes_no_usage makes_tables = refl
 makes_no_usage makes_quit = refl
 makes_no_usage makes_exit = refl
 
--- ---- one word behind a name
+-- ---- one word after a name
 
 lone_sound : {A : Type 0} (P : List (List ℕ) → DotCommand → Type 0) (g : List ℕ → Option A) (f : A → DotCommand) (words : List (List ℕ)) (c : DotCommand) → option_map f (lone words >>= g) ≡ Some c →
     ((word : List ℕ) (x : A) → g word ≡ Some x → P (word ∷ []) (f x)) → P words c

@@ -143,7 +143,7 @@ end_gone [] semicolon is = ap (λ b. cond b [] (semicolon ∷ [])) is
 end_gone (t ∷ []) semicolon is = ap (λ us. t ∷ us) (end_gone [] semicolon is)
 end_gone (t ∷ u ∷ us) semicolon is = ap (λ vs. t ∷ vs) (end_gone (u ∷ us) semicolon is)
 
--- the words are all, or a semicolon stands behind them
+-- the words are all, or a semicolon stands after them
 pub data EndOf : List Token → List Token → Type 0 where
   no_end : {ts : List Token} → EndOf ts ts
   one_end : {ts : List Token} (semicolon : Token) → IsSymbol (codes ";") semicolon → EndOf (ts ++ semicolon ∷ []) ts

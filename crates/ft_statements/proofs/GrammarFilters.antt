@@ -170,7 +170,7 @@ where_spelled (t ∷ ts) x rest e = by_test (is_keyword (codes "WHERE") t) refl 
   by_test true is e1 = let s = filter_spelled ts x rest e1 in record { words = t ∷ s.words; spell = where_filter is s.spell; are = ap (λ us. t ∷ us) s.are }
   by_test false is e1 = finally (λ p. Spelled IsWhere (t ∷ ts) p.0 p.1) (record { words = []; spell = no_filter; are = refl }) e1
 
--- behind the filter, no WHERE stands
+-- after the filter, no WHERE stands
 pub where_read : {us : List Token} {x : Filter} → IsWhere us x → (rest : List Token) → keyword_at (codes "WHERE") rest ≡ None → where_at (us ++ rest) ≡ Some (x, rest)
 unfolding where_at
 where_read no_filter rest none = ap (λ o. filter_behind o rest) none

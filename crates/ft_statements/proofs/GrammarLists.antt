@@ -41,7 +41,7 @@ depth_down d t is =
 
 -- ---- parentheses
 
--- words put before what is read behind them
+-- words put before what is read after them
 abbrev pub all_onto : List Token → Reads (List Token) → Reads (List Token)
 all_onto [] read = read
 all_onto (t ∷ ts) read = onto_read t (all_onto ts read)
@@ -170,7 +170,7 @@ parts_joined d (t ∷ ts) = by_test (is_symbol (codes ",") t && d == 0) refl (pa
   by_test true is more = then_run tt t (and_left _ _ is) more
   by_test false is more = word_joins t more
 
--- words put before the first of the parts behind them
+-- words put before the first of the parts after them
 abbrev pub all_onto_first : List Token → List (List Token) → List (List Token)
 all_onto_first [] parts = parts
 all_onto_first (t ∷ ts) parts = onto_first t (all_onto_first ts parts)
@@ -317,7 +317,7 @@ parens_whole {P} ts inside e go =
 pub whole_parens : (left : Token) (ts : List Token) (right : Token) → IsSymbol (codes "(") left → IsBalanced ts → IsSymbol (codes ")") right → whole (parenthesized (left ∷ ts ++ right ∷ [])) ≡ Some ts
 whole_parens left ts right is_left b is_right = ap whole (parens_read left ts right [] is_left b is_right)
 
--- ---- lists with something behind them
+-- ---- lists with something after them
 
 nothing : {A B : Type 0} (o : Option A) → (o >>= λ x. let none : Option B = None in none) ≡ None
 nothing None = refl
@@ -364,7 +364,7 @@ with_last_joined : {A B : Type 0} (f : List Token → Option A) (g : List Token 
 with_last_joined f g p (one_run {ts} a) = with_last_more f g p ts []
 with_last_joined f g p (then_run {ts} {us} {runs} a comma is more) = with_last_more f g p ts runs
 
--- words at the front, and what those behind them spell
+-- words at the front, and what those after them spell
 pub record Followed {A B : Type 0} (R : List Token → A → Type 0) (Behind : List Token → B → Type 0) (ts : List Token) (x : A) (b : B) : Type 0 where
   pub words : List Token
   pub behind : List Token

@@ -48,7 +48,7 @@ create_comma = no_class_is _ _ rows.create_comma
 create_unbalanced : (class : Class) → ¬ HasClass (codes "x" ∷ codes "mail" ∷ codes "d" ∷ []) (tokens_of (codes "CREATE VIRTUAL TABLE docs USING fts4(a));")) class
 create_unbalanced = no_class_is _ _ rows.create_unbalanced
 
--- without a word behind the sign it is a setting, without a sign a column
+-- without a word after the sign it is a setting, without a sign a column
 create_tokenize_empty : HasClass (codes "x" ∷ codes "mail" ∷ codes "d" ∷ []) (tokens_of (codes "CREATE VIRTUAL TABLE x USING fts4(tokenize=, tokenize)")) (FullText (Create (codes "x") (codes "fts4") ((codes "tokenize", []) ∷ []) (codes "tokenize" ∷ []) false))
 create_tokenize_empty = class_sound _ _ _ rows.create_tokenize_empty
 
@@ -152,6 +152,6 @@ integrity_check = class_sound _ _ _ rows.integrity_check
 quoted_docid : (class : Class) → ¬ HasClass (codes "d" ∷ []) (tokens_of (codes "SELECT \"docid\" FROM d WHERE \"docid\" = 1")) class
 quoted_docid = no_class_is _ _ rows.quoted_docid
 
--- a table behind JOIN makes a statement full-text, and this one spells no command
+-- a table after JOIN makes a statement full-text, and this one spells no command
 joined_table : (class : Class) → ¬ HasClass (codes "d" ∷ []) (tokens_of (codes "SELECT a FROM p JOIN [D]")) class
 joined_table = no_class_is _ _ rows.joined_table

@@ -44,7 +44,7 @@ item_spelled ts x rest e =
 item_whole : (us : List Token) (x : Item) → whole_item us ≡ Some x → IsItem us x
 item_whole us x e = let s = item_spelled us x [] (whole_is (item_at us) x e) in subst (λ us. IsItem us x) (sym (append-nil s.words) ∙ s.are) s.spell
 
--- the words behind
+-- the words after
 abbrev Rest : List Token → List Token → Type 0
 Rest us rest = us ≡ rest
 
@@ -208,7 +208,7 @@ limits_read (limit_from {a} {t} {b} {u} {n} {m} is_a c is_b d) =
     (goes_on _ (token_there count_of t (b ∷ u ∷ []) n (count_there c))
     (goes_on _ (goes_on (only count_of) (keyword_there (codes "OFFSET") b (u ∷ []) is_b) (only_there count_of u m (count_there d))) refl))
 
--- what stands behind the filter begins with no such word
+-- what stands after the filter begins with no such word
 no_word : (k : List ℕ) → str_eq_ignore_ascii_case (codes "LIMIT") k ≡ false → {ts : List Token} {l : Option ℕ} {o : ℕ} → AreLimits ts l o → keyword_at k ts ≡ None
 no_word k other no_limit = refl
 no_word k other (limit_to {a} {t} is_a c) = ap (λ b. cond b (Some (t ∷ [])) None) (one_keyword (codes "LIMIT") k other a is_a)

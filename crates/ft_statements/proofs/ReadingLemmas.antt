@@ -9,12 +9,12 @@ use Rattle.ft_statements.specs.declared.words.Token.{Token as RustToken}
 use Rattle.std.specs.Borrow.{Bor}
 use Rattle.ft_statements.specs.Views.{seen, plain, runs}
 
--- words put before what is read behind them
+-- words put before what is read after them
 abbrev pub all_onto : List Token → Reads (List Token) → Reads (List Token)
 all_onto before None = None
 all_onto before (Some r) = Some (before ++ r.0, r.1)
 
--- words put before the first of the parts behind them
+-- words put before the first of the parts after them
 abbrev pub all_onto_first : List Token → List (List Token) → List (List Token)
 all_onto_first [] parts = parts
 all_onto_first (t ∷ ts) parts = onto_first t (all_onto_first ts parts)

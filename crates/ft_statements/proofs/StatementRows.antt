@@ -62,7 +62,7 @@ pub create_unbalanced : class_of (codes "x" ∷ codes "mail" ∷ codes "d" ∷ [
 unfolding pieces_from turn begun chars lib.Utf8.encode class_of command_of where_at item_at items_of selection_at order_at limits_of
 create_unbalanced = refl
 
--- without a word behind the sign it is a setting, without a sign a column
+-- without a word after the sign it is a setting, without a sign a column
 pub create_tokenize_empty : class_of (codes "x" ∷ codes "mail" ∷ codes "d" ∷ []) (tokens_of (codes "CREATE VIRTUAL TABLE x USING fts4(tokenize=, tokenize)")) ≡ Some (FullText (Create (codes "x") (codes "fts4") ((codes "tokenize", []) ∷ []) (codes "tokenize" ∷ []) false))
 unfolding pieces_from turn begun chars lib.Utf8.encode class_of command_of where_at item_at items_of selection_at order_at limits_of
 create_tokenize_empty = refl
@@ -198,7 +198,7 @@ pub quoted_docid : class_of (codes "d" ∷ []) (tokens_of (codes "SELECT \"docid
 unfolding pieces_from turn begun chars lib.Utf8.encode class_of command_of where_at item_at items_of selection_at order_at limits_of
 quoted_docid = refl
 
--- a table behind JOIN makes a statement full-text, and this one spells no command
+-- a table after JOIN makes a statement full-text, and this one spells no command
 pub joined_table : class_of (codes "d" ∷ []) (tokens_of (codes "SELECT a FROM p JOIN [D]")) ≡ None
 unfolding pieces_from turn begun chars lib.Utf8.encode class_of command_of where_at item_at items_of selection_at order_at limits_of
 joined_table = refl

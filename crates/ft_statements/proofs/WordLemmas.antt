@@ -65,7 +65,7 @@ module _ (mark : ℕ) (text found : List ℕ) (after : Bool) (left : List ℕ) (
 pub no_mark : (text : List ℕ) → length text ≡ 0 → between_marks (chars text) ≡ []
 no_mark text none = ap (λ bs. between_marks (chars bs)) (no_text text none) ∙ ap between_marks chars-nil
 
--- behind the first character, and before the last if there is one
+-- after the first character, and before the last if there is one
 pub inside_marks : (text : List ℕ) (s t : Chars) (mark : ℕ) (last : Option ℕ) → IsUtf8 text → IsUtf8 (chars_rest t) → text ≡ encode_utf8 mark ++ chars_rest s → chars_steps_back s last t
     → between_marks (chars text) ≡ halved (closing mark) false (chars (chars_rest t))
 inside_marks text s t mark None u v is (none, same) =

@@ -8,7 +8,7 @@ use Rattle.ft_statements.specs.Words.{Token}
 use Rattle.ft_statements.specs.Reading.{Reads, ◌>>=◌, whole, name_at, literal_at, keyword_at, keywords_at, symbol_at, parts, with_last}
 use Rattle.ft_statements.specs.Values.{integer_at, value_at}
 
--- the words behind one of the two names of the docid
+-- the words after one of the two names of the docid
 abbrev pub key_at : List Token → Option (List Token)
 key_at ts = option_or (keyword_at (codes "docid") ts) (keyword_at (codes "rowid") ts)
 
@@ -25,7 +25,7 @@ abbrev pub filter_behind : Option (List Token) → List Token → Reads Filter
 filter_behind None ts = Some (All, ts)
 filter_behind (Some rest) ts = filter_at rest
 
--- the filter behind WHERE; all documents where that word doesn't stand there
+-- the filter after WHERE; all documents where that word doesn't stand there
 unfoldable pub where_at : List Token → Reads Filter
 where_at ts = filter_behind (keyword_at (codes "WHERE") ts) ts
 
@@ -35,11 +35,11 @@ set_at ts = name_at ts >>= λ name. symbol_at (codes "=") name.1 >>= λ value. v
 abbrev pub whole_set : List Token → Option (List ℕ × Cell)
 whole_set ts = whole (set_at ts)
 
--- the last of the new values, and the filter behind it
+-- the last of the new values, and the filter after it
 abbrev pub last_set : List Token → Option ((List ℕ × Cell) × Filter)
 last_set ts = set_at ts >>= λ set. whole (where_at set.1) >>= λ filter. Some (set.0, filter)
 
--- the parts between commas; the filter is behind the last of them
+-- the parts between commas; the filter is after the last of them
 abbrev pub sets_of : List (List Token) → Option (List (List ℕ × Cell) × Filter)
 sets_of parts = with_last whole_set last_set parts
 

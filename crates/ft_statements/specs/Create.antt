@@ -21,7 +21,7 @@ abbrev pub tokenizer_of : List Token → Option Argument
 tokenizer_of [] = None
 tokenizer_of (t ∷ ts) = Some (Setting (codes "tokenize") (joined (t ∷ ts)))
 
--- `tokenize` with the words of a tokenizer, behind an equals sign if there is one ("Tokenizers";
+-- `tokenize` with the words of a tokenizer, after an equals sign if there is one ("Tokenizers";
 -- that the sign may be missing is an own choice)
 abbrev pub tokenizer : List Token → Option Argument
 tokenizer ts = keyword_at (codes "tokenize") ts >>= λ rest. tokenizer_of (optional (symbol_at (codes "=") rest) rest).1

@@ -11,8 +11,8 @@ use Rattle.shell_text.specs.declared.settings.Mode.TheVariants as mode
 use Rattle.ft_statements.specs.Values.{digits_value}
 use Rattle.ft_statements.specs.Reading.{◌>>=◌}
 
--- what `.import` is told: whether a comma parts fields, how many records are skipped, and a file's
--- and a table's name
+-- the arguments of `.import`: whether a comma parts fields, how many records are skipped, and a
+-- file's and a table's name
 pub record Import : Type 0 where
   pub csv : Bool
   pub skip : Option ℕ
@@ -83,12 +83,12 @@ is_csv_option word = bytes_eq word (codes "--csv")
 abbrev pub is_skip_option : List ℕ → Bool
 is_skip_option word = bytes_eq word (codes "--skip")
 
--- whether `--csv` stands there, and the words behind it
+-- whether `--csv` stands there, and the words after it
 abbrev pub csv_at : List (List ℕ) → Bool × List (List ℕ)
 csv_at [] = (false, [])
 csv_at (word ∷ words) = if is_csv_option word then (true, words) else (false, word ∷ words)
 
--- the number behind `--skip`, if that stands there, and the words behind it
+-- the number after `--skip`, if that stands there, and the words after it
 abbrev pub skip_at : List (List ℕ) → Option (Option ℕ × List (List ℕ))
 skip_at [] = Some (None, [])
 skip_at (word ∷ []) = Some (None, word ∷ [])
@@ -114,12 +114,12 @@ files_of csv skip words = files_in words >>= λ files. Some (record { csv = csv;
 abbrev pub import_of : List (List ℕ) → Option Import
 import_of words = skip_at (csv_at words).1 >>= λ skip. files_of (csv_later (csv_at words).0 skip.1).0 skip.0 (csv_later (csv_at words).0 skip.1).1
 
--- a command that has no words behind it
+-- a command that has no words after it
 abbrev pub alone : DotCommand → List (List ℕ) → Option DotCommand
 alone command [] = Some command
 alone command (word ∷ words) = None
 
--- the command of a name, where the words behind it fit
+-- the command of a name, where the words after it fit
 unfoldable pub made : List ℕ → List (List ℕ) → Option DotCommand
 made name words =
     if bytes_eq name (codes "mode") then option_map SetMode (mode_in words)
@@ -155,7 +155,7 @@ abbrev pub of_name : Option (List ℕ) → Option DotCommand → DotCommand
 of_name None command = Unknown
 of_name (Some usage) command = or_usage usage command
 
--- the command that a dot line's words make: its name, and the words behind it
+-- the command that a dot line's words make: its name, and the words after it
 unfoldable pub dot_command_of : List (List ℕ) → DotCommand
 dot_command_of [] = Nothing
 dot_command_of (name ∷ words) = of_name (usage_of name) (made name words)

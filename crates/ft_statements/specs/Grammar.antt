@@ -137,7 +137,7 @@ pub data IsSetting : List Token → Argument → Type 0 where
   setting : {name sign : Token} {ts : List Token} {n : List ℕ} →
       IsName name n → IsSymbol (codes "=") sign → IsSetting (name ∷ sign ∷ ts) (Setting n (joined ts))
 
--- (name | text) {word}          a column; what stands behind its name is ignored ("Creating and
+-- (name | text) {word}          a column; what stands after its name is ignored ("Creating and
 -- Destroying FTS Tables")
 pub data IsColumn : List Token → Argument → Type 0 where
   named_column : {name : Token} {ts : List Token} {n : List ℕ} → IsName name n → IsColumn (name ∷ ts) (Column n)
@@ -311,7 +311,7 @@ pub data IsStatement : List Token → Command → Type 0 where
 
 -- ---- which statements are full-text, where tables of these names are there (our own choice)
 
--- FROM | INTO | UPDATE | TABLE | JOIN | EXISTS          a word behind which a table is named
+-- FROM | INTO | UPDATE | TABLE | JOIN | EXISTS          a word after which a table is named
 pub data IsLead : Token → Type 0 where
   from_word : {t : Token} → IsKeyword (codes "FROM") t → IsLead t
   into_word : {t : Token} → IsKeyword (codes "INTO") t → IsLead t

@@ -26,7 +26,7 @@ only_name ts = only name_of ts
 abbrev pub only_literal : List Token → Option (List ℕ)
 only_literal ts = only literal_of ts
 
--- behind the table's name: the one column is named as the table, and the one value is the word of a
+-- after the table's name: the one column is named as the table, and the one value is the word of a
 -- special command, in any case of ASCII letters
 abbrev pub special_behind : List ℕ → List Token → Option Command
 special_behind table ts = do
@@ -69,7 +69,7 @@ row_at ts = parenthesized ts >>= λ r. each only_value (parts r.0) >>= λ row. S
 abbrev pub row_of : List Token → Option (List Cell)
 row_of ts = whole (row_at ts)
 
--- behind the table's name: the columns, if they are named, and the rows
+-- after the table's name: the columns, if they are named, and the rows
 abbrev pub rows_behind : List ℕ → List Token → Option Command
 rows_behind table ts = do
   columns ← columns_at ts

@@ -12,12 +12,12 @@ abbrev pub may_return : Token → Bool
 may_return t = is_one_of (codes "INSERT" ∷ codes "UPDATE" ∷ codes "DELETE" ∷ codes "REPLACE" ∷ []) t
 
 -- Whether a plain statement is run as a query: its first word says so, or that it writes and
--- RETURNING stands behind it (own choice)
+-- RETURNING stands after it (own choice)
 abbrev pub asks : List Token → Bool
 asks [] = false
 asks (t ∷ ts) = begins_query t || (may_return t && list_any (is_keyword (codes "RETURNING")) ts)
 
--- the words behind CREATE [TEMP|TEMPORARY] TABLE
+-- the words after CREATE [TEMP|TEMPORARY] TABLE
 abbrev pub table_at : List Token → Option (List Token)
 table_at ts =
     option_or (keywords_at (codes "TEMP" ∷ codes "TABLE" ∷ []) ts)

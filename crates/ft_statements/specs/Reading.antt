@@ -3,7 +3,7 @@ use Rattle.std.specs.Prelude.{ℕ, ◌+◌, ◌-◌, Bool, true, false, ◌==◌
 use Rattle.std.specs.List.{onto_first}
 use Rattle.ft_statements.specs.Words.{Token, all_but_last, is_keyword, is_symbol, name_of, literal_of}
 
--- what the front of the words spells, if it does, and the words behind it
+-- what the front of the words spells, if it does, and the words after it
 abbrev pub Reads : Type 0 → Type 0
 Reads A = Option (A × List Token)
 
@@ -16,7 +16,7 @@ abbrev pub is_empty : {A : Type 0} → List A → Bool
 is_empty [] = true
 is_empty (x ∷ xs) = false
 
--- what was read, where nothing is behind it
+-- what was read, where nothing is after it
 abbrev pub whole : {A : Type 0} → Reads A → Option A
 whole read = read >>= λ r. if is_empty r.1 then Some r.0 else None
 
@@ -36,38 +36,38 @@ name_at ts = token_at name_of ts
 abbrev pub literal_at : List Token → Reads (List ℕ)
 literal_at ts = token_at literal_of ts
 
--- the words behind this keyword
+-- the words after this keyword
 abbrev pub keyword_at : List ℕ → List Token → Option (List Token)
 keyword_at keyword [] = None
 keyword_at keyword (t ∷ ts) = if is_keyword keyword t then Some ts else None
 
--- the words behind these keywords, which stand one after the other
+-- the words after these keywords, which stand one after the other
 abbrev pub keywords_at : List (List ℕ) → List Token → Option (List Token)
 keywords_at [] ts = Some ts
 keywords_at (k ∷ ks) ts = keyword_at k ts >>= keywords_at ks
 
--- the words behind this symbol
+-- the words after this symbol
 abbrev pub symbol_at : List ℕ → List Token → Option (List Token)
 symbol_at symbol [] = None
 symbol_at symbol (t ∷ ts) = if is_symbol symbol t then Some ts else None
 
--- whether something stands there that may be missing, and the words behind it
+-- whether something stands there that may be missing, and the words after it
 abbrev pub optional : Option (List Token) → List Token → Bool × List Token
 optional None ts = (false, ts)
 optional (Some rest) ts = (true, rest)
 
 -- ---- parentheses and commas
 
--- how many parentheses are open behind a word
+-- how many parentheses are open after a word
 abbrev pub depth_after : ℕ → Token → ℕ
 depth_after depth t = if is_symbol (codes "(") t then depth + 1 else if is_symbol (codes ")") t then depth - 1 else depth
 
--- a word in parentheses is put before what is read behind it
+-- a word in parentheses is put before what is read after it
 abbrev pub onto_read : Token → Reads (List Token) → Reads (List Token)
 onto_read t None = None
 onto_read t (Some r) = Some (t ∷ r.0, r.1)
 
--- the words up to the parenthesis that closes, and those behind it
+-- the words up to the parenthesis that closes, and those after it
 abbrev pub closed : ℕ → List Token → Reads (List Token)
 closed depth [] = None
 closed depth (t ∷ ts) =

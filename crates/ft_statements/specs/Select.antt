@@ -26,7 +26,7 @@ item_at ts = option_or (star_at ts) (option_or (offsets_at ts) (named_at ts))
 abbrev pub whole_item : List Token → Option Item
 whole_item ts = whole (item_at ts)
 
--- the parts between commas; what follows the items is behind the last of them
+-- the parts between commas; what follows the items is after the last of them
 unfoldable pub items_of : List (List Token) → Reads (List Item)
 items_of parts = with_last whole_item item_at parts
 
@@ -44,7 +44,7 @@ abbrev pub order_behind : Option (List Token) → List Token → Option (List To
 order_behind None ts = Some ts
 order_behind (Some rest) ts = key_at rest >>= λ behind. Some (optional (keyword_at (codes "ASC") behind) behind).1
 
--- the words behind ORDER BY and the docid, if they stand there
+-- the words after ORDER BY and the docid, if they stand there
 unfoldable pub order_at : List Token → Option (List Token)
 order_at ts = order_behind (keywords_at (codes "ORDER" ∷ codes "BY" ∷ []) ts) ts
 

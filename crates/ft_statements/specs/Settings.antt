@@ -7,7 +7,7 @@ use Rattle.shell_text.specs.declared.settings.SetFault.{SetFault}
 use Rattle.shell_text.specs.declared.settings.SetFault.TheVariants as fault
 use Rattle.ft_statements.specs.Dots.{DotCommand, SetMode, SetHeaders, SetSeparator, SetNull, SetEcho, SetBail}
 
--- the settings behind a command; a command that sets nothing leaves them
+-- the settings after a command; a command that sets nothing leaves them
 abbrev pub settings_after : DotCommand → Settings → Settings
 settings_after (SetMode mode) settings = with_mode mode settings
 settings_after (SetHeaders shown) settings = record settings { headers = Some shown }

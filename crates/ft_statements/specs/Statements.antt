@@ -28,7 +28,7 @@ command_of (t ∷ ts) =
     else if is_keyword (codes "DELETE") t then delete (t ∷ ts)
     else select (t ∷ ts)
 
--- the words behind which a full-text table's name makes a statement full-text
+-- the words after which a full-text table's name makes a statement full-text
 abbrev pub leads : Token → Bool
 leads t = is_one_of (codes "FROM" ∷ codes "INTO" ∷ codes "UPDATE" ∷ codes "TABLE" ∷ codes "JOIN" ∷ codes "EXISTS" ∷ []) t
 
@@ -39,7 +39,7 @@ is_named name table = same_name table name
 abbrev pub is_table : List (List ℕ) → Token → Bool
 is_table tables t = option_map_or (λ name. list_any (is_named name) tables) (name_of t) false
 
--- whether one of these tables is named directly behind such a word
+-- whether one of these tables is named directly after such a word
 abbrev pub names_table : List (List ℕ) → List Token → Bool
 names_table tables [] = false
 names_table tables (t ∷ []) = false

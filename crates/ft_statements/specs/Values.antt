@@ -27,7 +27,7 @@ signed false n = if nat_le n (2 ^ 63 - 1) then Some (pos n) else None
 abbrev pub integer_of : Bool → Token → Option ℤ
 integer_of negative t = number_of t >>= signed negative
 
--- whether a minus sign stands there, and the words behind a sign
+-- whether a minus sign stands there, and the words after a sign
 abbrev pub signed_at : Option (List Token) → Option (List Token) → List Token → Bool × List Token
 signed_at (Some rest) plus ts = (true, rest)
 signed_at None (Some rest) ts = (false, rest)

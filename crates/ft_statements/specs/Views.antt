@@ -45,7 +45,7 @@ pub record AreSortedOf {A B : Type 0} (all : List forms.Argument) (options : Vec
   pub settings : settings_as options ≡ forms.settings_in all
   pub columns : texts_of names ≡ forms.columns_in all
 
--- so many parentheses are open behind a word, at most one more than before it
+-- so many parentheses are open after a word, at most one more than before it
 pub record IsDepthAfter (before : ℕ) (word : Token) (now : ℕ) : Type 0 where
   pub depth : now ≡ depth_after before word
   pub most : now ≤ before + 1
@@ -61,13 +61,13 @@ pub record Gives {A B : Type 0} (shown : A → B) (result : Result A StatementFa
   pub found : IfOk result (λ x. form ≡ Some (shown x))
   pub none : IsErrOf result Syntax → form ≡ None
 
--- a value, as the form has it, and the words behind it are left
+-- a value, as the form has it, and the words after it are left
 pub record Advances {A B : Type 0} (shown : A → B) (form : List Token → Reads B) (before after : Reader)
     (result : Result A StatementFault) : Type 0 where
   pub found : IfOk result (λ x. form (rest_of before) ≡ Some (shown x, rest_of after))
   pub none : IsErrOf result Syntax → form (rest_of before) ≡ None
 
--- words whose meaning is that they stand there, and those behind them are left
+-- words whose meaning is that they stand there, and those after them are left
 pub record Skips {A : Type 0} (form : List Token → Option (List Token)) (before after : Reader)
     (result : Result A StatementFault) : Type 0 where
   pub found : IfOk result (λ x. form (rest_of before) ≡ Some (rest_of after))
@@ -80,6 +80,6 @@ pub record Passes {A : Type 0} (form : List Token → Option (List Token)) (befo
   pub none : OnErr result (form (rest_of before) ≡ None)
   pub stays : OnErr result (rest_of after ≡ rest_of before)
 
--- words that may be missing: whether they stand there, and the words behind them
+-- words that may be missing: whether they stand there, and the words after them
 abbrev pub Takes : (List Token → Option (List Token)) → Reader → Reader → Bool → Type 0
 Takes form before after there = (there, rest_of after) ≡ optional (form (rest_of before)) (rest_of before)

@@ -20,7 +20,7 @@ pub(crate) fn key(words: &mut Reader<'_>) -> Result<(), StatementFault>
     words.keyword("rowid")
 }
 
-// A docid, behind its name and an equals sign.
+// A docid, after its name and an equals sign.
 fn docid(words: &mut Reader<'_>) -> Result<Filter, StatementFault>
     ensures { Advances views.filter_of forms.docid_at words.old words.new result }
 {
@@ -29,7 +29,7 @@ fn docid(words: &mut Reader<'_>) -> Result<Filter, StatementFault>
     Ok(Filter::Docid(integer(words)?))
 }
 
-// A query, behind a name and MATCH.
+// A query, after a name and MATCH.
 fn matching(words: &mut Reader<'_>) -> Result<Filter, StatementFault>
     ensures { Advances views.filter_of forms.match_at words.old words.new result }
 {
@@ -39,7 +39,7 @@ fn matching(words: &mut Reader<'_>) -> Result<Filter, StatementFault>
     Ok(Filter::Match { name, query })
 }
 
-// The filter behind WHERE, or all documents where that word doesn't stand there.
+// The filter after WHERE, or all documents where that word doesn't stand there.
 #[tactic(auto, unfolding(crate::specs::Change::where_at))]
 pub(crate) fn filter(words: &mut Reader<'_>) -> Result<Filter, StatementFault>
     ensures { Advances views.filter_of forms.where_at words.old words.new result }

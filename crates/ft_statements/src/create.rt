@@ -58,7 +58,7 @@ fn setting(mut words: Reader<'_>) -> Result<Argument, StatementFault>
     Ok(Argument::Setting { name, value })
 }
 
-// A column by its name; what stands behind it is ignored.
+// A column by its name; what stands after it is ignored.
 fn column(mut words: Reader<'_>) -> Result<Argument, StatementFault>
     ensures { Gives argument_as result (forms.column (rest_of words.entry)) }
 {

@@ -9,7 +9,7 @@ use crate::values::digits_value;
 use shell_text::Mode;
 use std::alloc::{AllocError, Global};
 
-/// What `.import` is told.
+/// The arguments of `.import`.
 #[derive(Debug, Drop)]
 pub struct Import {
     /// Whether a comma parts fields, whatever the separator is.
@@ -40,7 +40,7 @@ pub enum DotCommand {
 }
 
 /// The command that a dot line's words make, as their grammar says. A line without words is none; a
-/// known name with a wrong number or form of words is told how it is used; any other name is
+/// known name with a wrong number or form of words gives its usage; any other name is
 /// unknown.
 pub fn dot_command(alloc: Global, words: &[String]) -> Result<DotCommand, AllocError>
     ensures { IfOk result (IsSaid (map string_bytes words.now)) }
@@ -85,7 +85,7 @@ fn usage_of(name: &str) -> Option<&'static str>
     }
 }
 
-// The command of a name, where the words behind it fit.
+// The command of a name, where the words after it fit.
 #[tactic(auto, unfolding(crate::specs::Dots::made))]
 fn made(alloc: Global, name: &str, words: &[String]) -> Result<Option<DotCommand>, AllocError>
     ensures { IfOk result (λ command. option_map command_as command
@@ -164,7 +164,7 @@ fn copied(alloc: Global, words: &[String]) -> Result<Vec<String>, AllocError>
     Ok(copies)
 }
 
-// A command that has no words behind it.
+// A command that has no words after it.
 fn alone(command: DotCommand, words: &[String]) -> Option<DotCommand>
     ensures { option_map command_as result
         ≡ forms.alone (command_as command) (map string_bytes words.now) }
@@ -205,7 +205,7 @@ fn files_in(words: &[String]) -> Option<(&String, &String)>
     }
 }
 
-// Whether `--csv` was read before, or stands there, and the words behind it.
+// Whether `--csv` was read before, or stands there, and the words after it.
 fn csv_at(before: bool, words: &[String]) -> (bool, &[String])
     ensures { csv_words result ≡ forms.csv_later before (map string_bytes words.now) }
 {
@@ -215,7 +215,7 @@ fn csv_at(before: bool, words: &[String]) -> (bool, &[String])
     }
 }
 
-// The number behind `--skip`, if that stands there, and the words behind it.
+// The number after `--skip`, if that stands there, and the words after it.
 fn skip_at(words: &[String]) -> Option<(Option<u64>, &[String])>
     ensures { skip_words result ≡ forms.skip_at (map string_bytes words.now) }
 {

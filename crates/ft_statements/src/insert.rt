@@ -24,7 +24,7 @@ fn special_of(table: String, word: &str) -> Result<Command, StatementFault>
     }
 }
 
-// The special command of this table that stands behind its name.
+// The special command of this table that stands after its name.
 fn special(mut words: Reader<'_>, table: &str) -> Result<Command, StatementFault>
     ensures { Gives views.command_of result (forms.special_behind table.now (rest_of words.entry)) }
 {

@@ -62,7 +62,7 @@ fn made_name(mut words: Reader<'_>) -> Result<String, StatementFault>
 }
 
 /// How a plain statement is run: as a query where its first word is SELECT, VALUES or WITH, or
-/// where it writes and RETURNING stands behind its first word. The words are those of the text.
+/// where it writes and RETURNING stands after its first word. The words are those of the text.
 pub fn read_plain(
     alloc: Global,
     text: &str,

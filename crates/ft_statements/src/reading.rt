@@ -157,7 +157,7 @@ impl<'a> Reader<'a> {
         each(self.alloc, parts.as_slice())
     }
 
-    // What the parts between commas spell; the words behind the last of them are left.
+    // What the parts between commas spell; the words after the last of them are left.
     #[tactic(auto, using(crate::proofs::EachLemmas::last_read))]
     pub(crate) fn list<T: Spelled>(&mut self) -> Result<Vec<T>, StatementFault>
         ensures { Advances (λ found. map T.shown found.items)
@@ -190,7 +190,7 @@ fn each<T: Spelled>(alloc: Global, parts: &[&[Token<'_>]]) -> Result<Vec<T>, Sta
     Ok(found)
 }
 
-// How many parentheses are open behind a word.
+// How many parentheses are open after a word.
 fn depth_after(depth: usize, word: &Token<'_>) -> usize
     requires { depth < 2 ^ 64 - 1 }
     ensures { IsDepthAfter depth (seen word.now) result }

@@ -78,7 +78,7 @@ fn command(words: Reader<'_>) -> Result<Command, StatementFault>
     }
 }
 
-// The words behind which a full-text table's name makes a statement full-text.
+// The words after which a full-text table's name makes a statement full-text.
 const LEADS: [&str; 6] = ["FROM", "INTO", "UPDATE", "TABLE", "JOIN", "EXISTS"];
 
 // Whether one of these tables has this name.
@@ -100,7 +100,7 @@ fn is_table(alloc: Global, tables: &[TableInfo], word: &Token<'_>) -> Result<boo
     }
 }
 
-// Whether one of these tables is named behind a word that leads to it.
+// Whether one of these tables is named after a word that leads to it.
 fn names_table(alloc: Global, tables: &[TableInfo], words: &[Token<'_>]) -> Result<bool, AllocError>
     ensures { IfOk result (λ names. names ≡ forms.names_table (views.info_names tables.now)
         (plain words.now)) }
@@ -125,7 +125,7 @@ fn is_full_text(mut words: Reader<'_>, tables: &[TableInfo]) -> Result<bool, All
 
 /// The class of a statement, where these full-text tables are there, as the grammar of full-text
 /// statements spells it. A full-text statement is one that begins with CREATE VIRTUAL or names one
-/// of the tables directly behind FROM, INTO, UPDATE, TABLE, JOIN or EXISTS; one that spells no
+/// of the tables directly after FROM, INTO, UPDATE, TABLE, JOIN or EXISTS; one that spells no
 /// command has no class and is refused as `Syntax`. Any other is plain. The words are those of the
 /// text.
 #[tactic(auto, unfolding(crate::specs::Statements::class_of), using(crate::proofs::GrammarClass::class_sound, crate::proofs::GrammarClass::no_class_is))]

@@ -27,7 +27,7 @@ term_here ts i n t h is = drop_more ts i t (inside_terms ts i n h) ∙ ap (λ u.
 inside_postings : (ts : List TermLists) (i n : ℕ) (t : TermLists) → HasMore (drop i ts) n → t ≡ get_or ts i t → n < length t.postings.items
 inside_postings ts i n t h is = subst (λ us. HasMore us n) (term_here ts i n t h is) h
 
--- the next list, and what is left behind it
+-- the next list, and what is left after it
 next_list : (tab : ℤ) (ts : List TermLists) (i n : ℕ) (t : TermLists) (p : Posting) (ps : List Posting) (count : ℕ) → HasMore (drop i ts) n → t ≡ get_or ts i t → p ∷ ps ≡ drop n t.postings.items → AreFirstList (p ∷ ps) count
     → left_of tab (drop i ts) n ≡ ((tab, string_bytes t.term, p.docid), map spot_of (take count (p ∷ ps))) ∷ left_of tab (drop i ts) (n + count)
 next_list tab ts i n t p ps count h is rest first =
@@ -81,7 +81,7 @@ module _ {X Y : Type 0} (found : X → Y) (rows : List X) where
     row_found row y rest true is same = one_found row rest (is ∙ ap (λ z. z ∷ rest) (sym (same.0 refl)))
     row_found row y rest false is same = another_found row y rest is (λ e. true≢false (sym (same.1 e)))
 
-    -- behind the last row a list is left, or none is
+    -- after the last row a list is left, or none is
     pub at_end : (value : List Y) (Some None : Type 0) (some : Bool) → map found rows ≡ value → MatchBool some Some None → (Some → left ≡ [] → ⊥) → (None → left ≡ []) → IsTrue (not some) ↔ (value ≡ all)
     at_end value Some None true shown has if_some if_none = (
       λ t. absurd (true≢false (sym t)),

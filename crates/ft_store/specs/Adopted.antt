@@ -56,7 +56,7 @@ error_cause (SqliteFailure code.DiskFull) = fault.Refused
 error_cause (SqliteFailure code.Closed) = fault.Refused
 error_cause _ = fault.NotAStore
 
--- why a database that tells this of its version is not taken
+-- why a database that answers this for its version is not taken
 abbrev pub told_cause : Result (Vec Row Global) Error → StoreFault
 told_cause (Ok rows) = rows_cause rows.items
 told_cause (Err e) = error_cause e
@@ -104,7 +104,7 @@ pub record IsNotTaken {S : Type 0} (g : Ghosts S) (old new : Held S) (cause : St
   -- with the tables of a store, of version 2 or of version 3, `meta` decides
   pub unmarked : HasCleanDisk (state g new) → HasStoreTables old.schema → cause ≡ fault.NotAStore → length ((state g old).now.trees 0) ≢ 1
   pub version : HasCleanDisk (state g new) → (n : ℤ) → HasStoreTables old.schema → cause ≡ fault.Version n → IsOfVersion n (state g old).now.trees
-  -- with other tables it is what the database tells, if one of them has a name of ours
+  -- with other tables it is what the database answers, if one of them has a name of ours
   pub other : old.schema ≢ no_schema → (HasStoreTables old.schema → ⊥) → has_our_name old.schema ≡ false → cause ≡ fault.Refused
   pub told : HasCleanDisk (state g new) → old.schema ≢ no_schema → (HasStoreTables old.schema → ⊥) → IsTrue (has_our_name old.schema)
       → (found : Result (Vec Row Global) Error) × TellsAs g old found × (cause ≡ told_cause found)

@@ -67,8 +67,8 @@ pub record Reads {S X : Type 0} (g : Ghosts S) (old new : Held S) (result : Resu
   pub survives : Survives (state g old) (state g new) (λ _. IsTrue (state g old).is_open → ⊥)
   pub fault : IfErr result IsFault
 
--- What one statement of a change does in a transaction: where the disk did what it was told and the
--- call is Ok, the value is that of `f`.
+-- What one statement of a change does in a transaction: where the disk returned what was written
+-- and the call is Ok, the value is that of `f`.
 abbrev pub StepsOnOk : {S : Type 0} → Ghosts S → Held S → Held S → Result (Unit {0}) StoreFault → (StoreValue → StoreValue) → Type 0
 StepsOnOk g old new result f =
     HasCleanDisk (state g new) → IsTrue (state g old).in_transaction → (IsTrue (state g old).is_open → IsStore (state g old).now)
@@ -114,7 +114,7 @@ pub record IsStored (db : Trees) (value : StoreValue) : Type 0 where
   pub marked : IsMarked db
   pub is : value_of db ≡ value
 
--- lists whose entries can be told: none is damaged, and the term of each is a text
+-- lists whose entries can be read: none is damaged, and the term of each is a text
 abbrev pub AreTold : List (ListKey × List Spot) → Type 0
 AreTold lists = AllByRecursion (λ l. (l.1 ≢ []) × IsUtf8 l.0.1) lists
 

@@ -13,7 +13,7 @@ use Rattle.ft_store.specs.Found.{found_places}
 abbrev pub left_under : ℤ → TermLists → ℕ → List (ListKey × List Spot)
 left_under tab t n = map (λ (l : ℤ × List Spot). ((tab, string_bytes t.term, l.0), l.1)) (lists_of_postings (drop n t.postings.items))
 
--- of the first of these terms the lists behind so many of its postings, and all of the later terms
+-- of the first of these terms the lists after so many of its postings, and all of the later terms
 abbrev pub left_of : ℤ → List TermLists → ℕ → List (ListKey × List Spot)
 left_of tab [] n = []
 left_of tab (t ∷ ts) n = left_under tab t n ++ lists_by_terms tab ts

@@ -37,7 +37,7 @@ found_note row = (without_case (bytes (column row 0)), bytes (column row 0))
 abbrev pub found_spots : Row → ℤ × List Spot
 found_spots row = (id_in (column row 0), unwrap_or (spots_in (bytes (column row 1))) [])
 
--- a list as its bytes, with its term behind them
+-- a list as its bytes, with its term after them
 abbrev pub found_list : ℤ → Row → ListKey × List ℕ
 found_list tab row = ((tab, bytes (column row 2), id_in (column row 0)), bytes (column row 1))
 

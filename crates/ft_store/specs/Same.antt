@@ -38,7 +38,7 @@ table_of shape =
     a_table shape.1 shape.0.now (map column_of shape.2.now) shape.3.0 shape.3.1.now (uniques_of shape.3.2.now) (orders_of shape.3.2.now shape.3.3)
     (if shape.4 then cell_check else [])
 
--- the index of a table's key, of which the tree stands behind that of the table
+-- the index of a table's key, of which the tree stands after that of the table
 abbrev pub index_name : List ℕ → List ℕ
 index_name table = codes "sqlite_autoindex_" ++ table ++ codes "_1"
 

@@ -26,8 +26,8 @@ use Rattle.ft_store.specs.Older.{schema_of}
 use Rattle.ft_store.specs.Calls.{AreNumbered, AreTold, IsStore, IsPlainFault, IsReadFault, Keeps, Reads}
 use Rattle.ft_store.specs.Adopted.{IsOfVersion}
 
--- Outside a transaction, with a database that has this property as long as the disk does what it is
--- told and the connection is open.
+-- Outside a transaction, with a database that has this property as long as the disk returns what
+-- was written and the connection is open.
 pub record IsSettled (Has : Database → Type 0) (s : State) : Type 0 where
   pub settled : s.in_transaction ≡ false
   pub shown : HasCleanDisk s → IsTrue s.is_open → Has s.now
@@ -48,7 +48,7 @@ IsBare db = db.schema ≡ no_schema
 abbrev pub IsEmptyStore : Database → Type 0
 IsEmptyStore db = IsStore db × (value_of db.trees ≡ nothing_held)
 
--- what is known of the rowids of its tables, as long as the disk does what it is told and the
+-- what is known of the rowids of its tables, as long as the disk returns what was written and the
 -- connection is open
 abbrev pub AreAsKnown : Rowids → State → Type 0
 AreAsKnown Apart s = HasCleanDisk s → IsTrue s.is_open → AreNumbered s.now.schema.tables s.now.trees
@@ -83,15 +83,15 @@ pub record IsJudged (db : Trees) (result : Result (Unit {0}) StoreFault) : Type 
   pub unmarked : result ≡ Err fault.NotAStore → length (db 0) ≢ 1
   pub version : (n : ℤ) → result ≡ Err (fault.Version n) → IsOfVersion n db
 
--- What a read answers and leaves: where the disk did what it was told, an answer of Ok is such a
--- value.
+-- What a read answers and leaves: where the disk returned what was written, an answer of Ok is such
+-- a value.
 pub record ReadsFor {S X : Type 0} (g : Ghosts S) (old new : Held S) (result : Result X StoreFault) (Is : X → Type 0) : Type 0 where
   pub rows : HasCleanDisk (state g new) → IfOk result Is
   pub read : Reads g old new result IsPlainFault
 
--- What a read of lists answers and leaves: where the disk did what it was told, an answer of Ok is
--- such a value, and Damaged means that one of the lists is, or has a term that is no text, and
--- leaves the connection open.
+-- What a read of lists answers and leaves: where the disk returned what was written, an answer of
+-- Ok is such a value, and Damaged means that one of the lists is, or has a term that is no text,
+-- and leaves the connection open.
 pub record ReadsLists {S X : Type 0} (g : Ghosts S) (old new : Held S) (result : Result X StoreFault) (Are : X → Type 0) (IsDamaged : Type 0) : Type 0 where
   pub rows : HasCleanDisk (state g new) → IfOk result Are
   pub damaged : HasCleanDisk (state g new) → result ≡ Err fault.Damaged → IsDamaged

@@ -8,7 +8,7 @@ pub(crate) const CELLS: &str =
 pub(crate) const DOCUMENT: &str =
     "SELECT docid, col, num, txt FROM cell WHERE tab = ?1 AND docid = ?2 ORDER BY tab, docid, col";
 
-/// The docids of the cells of column 0, so many behind an offset.
+/// The docids of the cells of column 0, so many after an offset.
 pub(crate) const DOCIDS: &str =
     "SELECT docid FROM cell WHERE tab = ?1 AND col = 0 ORDER BY tab, docid, col LIMIT ?2 OFFSET ?3";
 

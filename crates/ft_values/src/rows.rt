@@ -44,7 +44,7 @@ pub struct EntryRow {
     pub spot: Spot,
 }
 
-/// The places of one term in one document, of a term and a table that aren't told.
+/// The places of one term in one document, of a term and a table that aren't named.
 #[derive(Debug, Drop)]
 pub struct ListRow {
     pub docid: i64,

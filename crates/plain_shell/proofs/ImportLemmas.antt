@@ -8,7 +8,7 @@ use Rattle.plain_shell.specs.Imports.{with_commas}
 abbrev pub marks : ℕ → List ℕ
 marks n = with_commas (λ mark. mark) (replicate n (codes "?"))
 
--- one more behind others
+-- one more after others
 commas_more : {A : Type 0} (f : A → List ℕ) (x : A) (xs : List A) (y : A) → with_commas f (x ∷ (xs ++ y ∷ [])) ≡ with_commas f (x ∷ xs) ++ (codes ", " ++ f y)
 commas_more f x xs y =
     ap (λ later. f x ++ later) (flat_map-append (λ z. codes ", " ++ f z) xs (y ∷ []) ∙ ap (λ last. flat_map (λ z. codes ", " ++ f z) xs ++ last) (append-nil (codes ", " ++ f y)))

@@ -125,7 +125,7 @@ kept_left a bytes rest n h plain size = ap (λ ms. a.splitting.waiting ++ ms) (k
 
 -- ---- the first line feed
 
--- the bytes before a place and behind it, where no line feed stands before it
+-- the bytes before a place and after it, where no line feed stands before it
 pub line_before : (bytes : List ℕ) (end : ℕ) → end < length bytes → ((k : ℕ) → k < end → ¬ ((slice_index bytes k == 10) ≡ true)) → (slice_index bytes end == 10) ≡ true → HasNoEnd (take end bytes) × (bytes ≡ take end bytes ++ 10 ∷ drop (suc end) bytes)
 line_before [] end within before is = absurd (omega (arith, within))
 line_before (b ∷ bs) zero within before is = (refl, ap (λ c. c ∷ bs) (eqb-true b 10 is))

@@ -9,7 +9,7 @@ use Rattle.ft_statements.specs.Views.{texts_of}
 
 -- ---- fields
 
--- a field of a row that none stands behind is the field, or none
+-- a field of a row that none stands after is the field, or none
 filled : {A : Type 0} (fields : List A) (n at : ℕ) → get_or (map Some fields ++ replicate n None) at None ≡ slice_get fields at
 filled [] zero at = refl
 filled [] (suc n) zero = refl

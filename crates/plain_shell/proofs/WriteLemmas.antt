@@ -58,7 +58,7 @@ sends_err Q (Err e) a b x is front = front
 pub same_then : {O E : Type 0} (a b c : Outputs O E) → SameWriters a b → SameWriters b c → SameWriters a c
 same_then a b c h k = (k.0 ∙ h.0, k.1 ∙ h.1)
 
--- ---- parts, one behind the other
+-- ---- parts, one after the other
 
 abbrev text_in : Bor (List ℕ) → List ℕ
 text_in part = part.now

@@ -1,4 +1,4 @@
--- Meaning. What is told of the rows that `sqlite` answers ("Changing Output Formats" of "Command
+-- Meaning. What is printed of the rows that `sqlite` answers ("Changing Output Formats" of "Command
 -- Line Shell For SQLite").
 use Rattle.std.specs.Prelude.{ℕ, ◌+◌, Bool, true, false, List, [], ◌∷◌, ◌++◌, map, codes, decimal, if◌then◌else◌}
 use Rattle.std.specs.List.{list_any}
@@ -44,6 +44,6 @@ abbrev pub has_float : List Row → Bool
 has_float rows = list_any (list_any is_float) rows
 
 -- An answer with a float is refused before anything is printed (own choice).
-abbrev pub rows_told : Settings → List (List ℕ) → List Row → Answer
-rows_told settings names rows =
+abbrev pub answer_of_rows : Settings → List (List ℕ) → List Row → Answer
+answer_of_rows settings names rows =
     if has_float rows then blames (codes "floating-point value in result") else says (printed settings (table_of names rows))

@@ -6,7 +6,7 @@ use Rattle.ft_statements.specs.Dots.{DotCommand}
 use Rattle.ft_statements.specs.Settings.{settings_after, may_set}
 use Rattle.plain_shell.specs.Outcomes.{Answer, silent, blames}
 
--- what stands behind the full stop at its front
+-- what stands after the full stop at its front
 abbrev pub behind_stop : List ℕ → List ℕ
 behind_stop [] = []
 behind_stop (b ∷ text) = if b == 0x2E then text else b ∷ text

@@ -1,4 +1,4 @@
--- Meaning. What an import into a plain table that is there does, and what is told of it ("Importing
+-- Meaning. What an import into a plain table that is there does, and what is said of it ("Importing
 -- files as CSV or other formats" of "Command Line Shell For SQLite"; that an import is one command,
 -- whole or not at all, and each refusal, are own choices).
 use Rattle.std.specs.Prelude.{ℕ, ◌≡◌, List, codes, None}
@@ -18,7 +18,7 @@ fault_words Refused = codes "import refused"
 fault_words Memory = codes "out of memory"
 
 module _ {P : Type 0} (g : Ghosts P) where
-  -- it is refused, or memory is wanting: what was committed stays, and nothing else is told
+  -- it is refused, or memory is wanting: what was committed stays, and nothing else is said
   abbrev pub IsLeft : List ℕ → Held P → Held P → Answer → Type 0
   IsLeft why old new answer = IfClean g old new (CommitsNothing (state g old) (state g new)) × (answer ≡ blames why)
 

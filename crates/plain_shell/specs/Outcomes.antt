@@ -13,8 +13,8 @@ pub record Outcome : Type 0 where
   pub faults : ℕ
   pub ends : Bool
 
--- what a turn answers: bytes for the output, warnings, the text of its fault line if it has one, and
--- whether the session ends there
+-- what a turn answers: bytes for the output, warnings, the text of its fault line if it has one,
+-- and whether the session ends there
 pub record Answer : Type 0 where
   pub out : List ℕ
   pub warnings : List ℕ
@@ -35,18 +35,18 @@ warned lines = record { out = []; warnings = lines; fault = None; ends = false }
 abbrev pub quits : Answer
 quits = record { out = []; warnings = []; fault = None; ends = true }
 
--- a fault, behind warnings
+-- a fault, after warnings
 abbrev pub complains : List ℕ → List ℕ → Answer
 complains lines text = record { out = []; warnings = lines; fault = Some text; ends = false }
 
 abbrev pub blames : List ℕ → Answer
 blames text = complains [] text
 
--- nothing was done, or told of what was done, for want of memory
+-- nothing was done, or said of what was done, for want of memory
 abbrev pub lacks_memory : Answer
 lacks_memory = blames (codes "out of memory")
 
--- it tells what is due, or else that it lacks memory
+-- the answer is what is due, or else that memory is lacking
 abbrev pub Tells : Answer → Answer → Type 0
 Tells due answer = (answer ≡ due) ⊎ (answer ≡ lacks_memory)
 
@@ -73,6 +73,6 @@ outcome_of bail line answer = record {
 abbrev pub echo_text : Bool → List ℕ → List ℕ
 echo_text echo text = if echo then text ++ 10 ∷ [] else []
 
--- so they stand before what it tells
+-- so they stand before its own output
 abbrev pub echoed : Settings → List ℕ → Outcome → Outcome
 echoed settings text told = record told { out = echo_text settings.echo text ++ told.out }

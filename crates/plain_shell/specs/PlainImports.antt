@@ -141,8 +141,8 @@ module _ {P : Type 0} (g : Ghosts P) where
     untold : (n : ℕ) (mid : Held P) → IfClean g old mid (Stays (state g old) (state g mid)) → IsRefused (Prepare (insertion_of name n)) mid new
         → Uncounted name old new
 
-  -- It is tried whether so many values may be put into a table: that is told, and the database is
-  -- as before; or `sqlite` refuses to say.
+  -- It is tried whether so many values may be put into a table: that is answered, and the database
+  -- is as before; or `sqlite` refuses to say.
   pub record TriesCount (name : List ℕ) (n : ℕ) (old new : Held P) (result : Result Bool ImportFault) : Type 0 where
     pub told : IfOk result (λ takes. IfClean g old new (Stays (state g old) (state g new) × (takes ≡ takes_values (state g old).now.schema name n)))
     pub refused : IsErrOf result Refused → IsRefused (Prepare (insertion_of name n)) old new
@@ -162,7 +162,7 @@ module _ {P : Type 0} (g : Ghosts P) where
   KeepsLast old new = IfClean g old new (KeepsCommit (state g old) (state g new))
 
   -- What is done in a transaction leaves, whatever it is answered: the transaction is of the same
-  -- connection, nothing of what was committed is changed, and behind an Ok the transaction is still
+  -- connection, nothing of what was committed is changed, and after an Ok the transaction is still
   -- open.
   pub record StaysInside {X : Type 0} (old new : MutBor (Held P)) (result : Result X ImportFault) : Type 0 where
     pub same_reference : new.ghost_name ≡ old.ghost_name

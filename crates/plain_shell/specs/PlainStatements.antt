@@ -1,6 +1,6 @@
--- Meaning. What a query of plain SQL does in a session, and what is told of a refusal ("Command
+-- Meaning. What a query of plain SQL does in a session, and what is said of a refusal ("Command
 -- Line Shell For SQLite"; that a query is prepared for its names and then executed once, and how a
--- refusal is told, are own choices).
+-- refusal is worded, are own choices).
 use Rattle.std.specs.Prelude.{ℕ, ◌≡◌, List, [], Bool, true, false, MatchBool}
 use Rattle.sqlite.specs.Store.{Ghosts}
 use Rattle.sqlite_value.specs.Order.{Row}
@@ -13,7 +13,7 @@ use Rattle.sqlite.specs.declared.error.Error.{Error}
 use Rattle.sqlite.specs.declared.error.Error.TheVariants.{SqliteFailure}
 use Rattle.sqlite.specs.declared.error.ErrorCode.TheVariants as code
 use Rattle.shell_text.specs.Print.{Settings}
-use Rattle.plain_shell.specs.Answers.{rows_told}
+use Rattle.plain_shell.specs.Answers.{answer_of_rows}
 use Rattle.plain_shell.specs.Outcomes.{Answer, blames, lacks_memory, Tells}
 
 abbrev pub is_memory_error : Error → Bool
@@ -31,7 +31,7 @@ module _ {P : Type 0} (g : Ghosts P) where
   abbrev pub IfClean : Held P → Held P → Type 0 → Type 0
   IfClean old new Step = HasCleanDisk (state g new) → HasCleanDisk (state g old) × Step
 
-  -- the statement was prepared, which tells its columns' names
+  -- the statement was prepared, which gives its columns' names
   pub record Prepares (text : List ℕ) (old new : Held P) (names : List (List ℕ)) : Type 0 where
     pub outline : Outline
     pub columns : names ≡ outline.columns
@@ -56,6 +56,6 @@ module _ {P : Type 0} (g : Ghosts P) where
     refused : (prepared : Held P) (names : List (List ℕ)) → Prepares text old prepared names → Refuses text prepared new e → FailsToAnswer text old new e
 
   pub data QueryTurn (settings : Settings) (text : List ℕ) (old new : Held P) (answer : Answer) : Type 0 where
-    answered : (names : List (List ℕ)) (rows : List Row) → Answers text old new names rows → Tells (rows_told settings names rows) answer
+    answered : (names : List (List ℕ)) (rows : List Row) → Answers text old new names rows → Tells (answer_of_rows settings names rows) answer
         → QueryTurn settings text old new answer
     refused : (e : Error) → FailsToAnswer text old new e → TellsRefusal e answer → QueryTurn settings text old new answer

@@ -111,9 +111,14 @@ fn column_names(alloc: Global, names: &[Bytes]) -> Result<Vec<String>, AllocErro
     Ok(texts)
 }
 
-/// What is told of an answer with these columns.
-pub(crate) fn rows_told(alloc: Global, settings: &Settings, names: &[Bytes], rows: &[Row]) -> Answer
-    ensures { Tells (forms.rows_told settings.now names.now rows.now) (answer_as result) }
+/// What is printed of an answer with these columns.
+pub(crate) fn answer_of_rows(
+    alloc: Global,
+    settings: &Settings,
+    names: &[Bytes],
+    rows: &[Row],
+) -> Answer
+    ensures { Tells (forms.answer_of_rows settings.now names.now rows.now) (answer_as result) }
 {
     if have_float(rows) {
         return Err(Complaint::fixed("floating-point value in result"));

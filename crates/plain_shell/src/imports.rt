@@ -5,7 +5,7 @@ ghost use Rattle.plain_shell.specs.Imports as forms;
 use shell_text::{Settings, is_csv_separator};
 use std::alloc::{AllocError, Global};
 
-// Puts a name between quotation marks behind a text. Each mark in it is doubled.
+// Puts a name between quotation marks after a text. Each mark in it is doubled.
 fn push_identifier(text: &mut String, name: &str) -> Result<(), AllocError>
     ensures { OnOk result (string_bytes text.new
         ≡ string_bytes text.old ++ forms.identifier name.now) }
@@ -18,7 +18,7 @@ fn push_identifier(text: &mut String, name: &str) -> Result<(), AllocError>
     Ok(())
 }
 
-// Puts a character behind a text, or two quotation marks for one.
+// Puts a character after a text, or two quotation marks for one.
 fn push_doubled(text: &mut String, c: char) -> Result<(), AllocError>
     ensures { OnOk result (string_bytes text.new ≡ string_bytes text.old ++ forms.doubled c) }
 {
@@ -39,7 +39,7 @@ pub(crate) fn reading_text(alloc: Global, name: &str) -> Result<String, AllocErr
     Ok(text)
 }
 
-// Puts so many marks behind a text, with a comma between each two.
+// Puts so many marks after a text, with a comma between each two.
 fn push_marks(text: &mut String, count: usize) -> Result<(), AllocError>
     ensures { OnOk result (string_bytes text.new
         ≡ string_bytes text.old ++ forms.with_commas (λ mark. mark) (replicate count (codes "?"))) }
@@ -75,7 +75,7 @@ fn push_column(text: &mut String, column: &str) -> Result<(), AllocError>
     Ok(())
 }
 
-// Puts columns behind a text, with a comma between each two.
+// Puts columns after a text, with a comma between each two.
 fn push_columns(text: &mut String, columns: &[String]) -> Result<(), AllocError>
     ensures { OnOk result (string_bytes text.new
         ≡ string_bytes text.old ++ forms.with_commas forms.text_column

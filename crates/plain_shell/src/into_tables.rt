@@ -1,4 +1,4 @@
-//! Records into a plain table that is there, and what is told of it.
+//! Records into a plain table that is there, and what is said of it.
 ghost use Rattle.std.specs.Prelude.{◌≡◌, ◌+◌, ◌^◌, ◌<◌, length, map};
 ghost use Rattle.std.specs.List.{enumerate_from};
 ghost use Rattle.ft_statements.specs.DotViews.{import_as};

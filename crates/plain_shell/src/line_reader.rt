@@ -17,7 +17,7 @@ pub struct Refusal {
     pub fault: SplitFault,
 }
 
-// The most bytes of a line that are told apart.
+// The most bytes of a line; a longer one is refused.
 const MOST_BYTES: usize = 1_000_000;
 
 /// What was read of an input. Of a line that is too long the front is kept, so that it stays too
@@ -68,7 +68,7 @@ impl LineReader {
         Ok(())
     }
 
-    /// The line ends behind these bytes. No unit waits. Where nothing was kept of the line, it is
+    /// The line ends after these bytes. No unit waits. Where nothing was kept of the line, it is
     /// taken as it stands in them.
     pub fn end_line(&mut self, bytes: &[u8]) -> Result<Option<Refusal>, AllocError>
         requires waiting { self.old.splitting.waiting ≡ [] }
@@ -129,7 +129,7 @@ impl LineReader {
         self.line.is_empty()
     }
 
-    /// The input ends, behind a line: what is pending is a unit, or it is refused.
+    /// The input ends, after a line: what is pending is a unit, or it is refused.
     pub fn finish(&mut self) -> Result<Option<Unit>, SplitFault>
         requires waiting { self.old.splitting.waiting ≡ [] }
         requires between { self.old.line ≡ [] }
@@ -139,7 +139,7 @@ impl LineReader {
     }
 }
 
-/// The bytes before the first line feed and those behind it, if there is one.
+/// The bytes before the first line feed and those after it, if there is one.
 pub fn first_line(bytes: &[u8]) -> Option<(&[u8], &[u8])>
     ensures some { IfSome result (λ parts. HasNoEnd parts.0.now
         × (bytes.now ≡ parts.0.now ++ 10 ∷ parts.1.now)) }

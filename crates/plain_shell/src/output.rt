@@ -41,7 +41,7 @@ impl Complaint {
         Complaint::from(FaultText::Fixed(text))
     }
 
-    /// The same behind warnings.
+    /// The same after warnings.
     pub fn behind(warnings: String, text: &'static str) -> Complaint
         ensures { complaint_as result ≡ forms.complains (string_bytes warnings) text.now }
     {

@@ -1,10 +1,10 @@
-//! What a query does in a session, and what is told of a refusal.
+//! What a query does in a session, and what is said of a refusal.
 ghost use Rattle.std.specs.Prelude.{◌≡◌, IfOk, IfErr};
 ghost use Rattle.plain_shell.specs.OutputViews.{answer_as, complaint_as};
 ghost use Rattle.plain_shell.specs.PlainStatements as turns;
 ghost use Rattle.plain_shell.specs.PlainStatements.{TellsRefusal, Answers, FailsToAnswer, QueryTurn};
 
-use crate::answers::rows_told;
+use crate::answers::answer_of_rows;
 use crate::output::{Answer, Complaint};
 use ft_statements::FaultText;
 use shell_text::Settings;
@@ -42,7 +42,7 @@ fn asked<P: Alter>(plain: &mut Connection<P>, text: &str) -> Result<(Statement, 
     Ok((statement, rows))
 }
 
-/// Runs a query of plain SQL, and tells its answer.
+/// Runs a query of plain SQL, and prints its answer.
 pub fn query_turn<P: Alter>(
     alloc: Global,
     settings: &Settings,
@@ -52,7 +52,7 @@ pub fn query_turn<P: Alter>(
     ensures { QueryTurn P.Store settings.now text.now plain.old plain.new (answer_as result) }
 {
     match asked(plain, text) {
-        Ok((statement, rows)) => rows_told(
+        Ok((statement, rows)) => answer_of_rows(
             alloc,
             settings,
             statement.column_names(),

@@ -21,7 +21,7 @@ pub struct Status {
     pub quit: bool,
 }
 
-/// The two writers that a run is lent, with its status so far.
+/// The two writers that a run borrows, with its status so far.
 #[derive(Drop)]
 pub struct Outputs<'w, O, E> {
     pub status: Status,
@@ -76,7 +76,7 @@ impl From<Refused> for RunFault {
     }
 }
 
-/// Whether a run is over behind a piece of so many bytes.
+/// Whether a run is over after a piece of so many bytes.
 pub fn is_over(read: usize, status: Status) -> bool
     ensures over { result ≡ true → (read ≡ 0) ⊎ ((0 < read) × (status.quit ≡ true)) }
     ensures goes { result ≡ false → (0 < read) × (status.quit ≡ false) }

@@ -25,7 +25,7 @@ fn write_bytes<W: Write>(to: &mut W, bytes: &[u8]) -> Result<(), Refused>
     }
 }
 
-/// Writes texts, one behind the other.
+/// Writes texts, one after the other.
 pub(crate) fn write_parts<W: Write>(to: &mut W, parts: &[&str]) -> Result<(), Refused>
     ensures { Sends result (W.contents to.old) (W.contents to.new)
         (flat_map (λ part. part.now) parts.now) }

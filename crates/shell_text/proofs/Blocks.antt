@@ -144,7 +144,7 @@ closes a m u g x is = append_assoc a m x ∙ ap (λ z. a ++ z) (ap (λ y. m ++ y
 continues : (a u v g h x : List Member) → x ≡ u ++ g → u ≡ a ++ v → g ≡ h → x ≡ a ++ (v ++ h)
 continues a u v g h x is units rest = is ∙ ap (λ y. y ++ g) units ∙ append_assoc a v g ∙ ap (λ y. a ++ (v ++ y)) rest
 
--- one line, where the lines behind it give the same
+-- one line, where the lines after it give the same
 one_line : (role : Role) (r : Reading) (line : List ℕ) (lines : List (List ℕ))
     → members_from (after_role role r line) lines ≡ units_in (after_role role r line) ++ given_by (without_ended (after_role role r line)) lines
     → (closed_by role r ++ member_of role r line) ++ members_from (after_role role r line) lines

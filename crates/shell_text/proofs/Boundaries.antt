@@ -260,7 +260,7 @@ cut_before : (text : List ℕ) (at : ℕ) (ys : List Piece) → AllBegin text at
 cut_before text at [] h end e = end (sym (add-zero at) ∙ e)
 cut_before text at (y ∷ ys) h end e = h.0
 
--- behind some of a text's pieces it may be cut
+-- after some of a text's pieces it may be cut
 pub cut_at : (text : List ℕ) (xs ys : List Piece) → IsUtf8 text → pieces_of text ≡ xs ++ ys → IsCharBoundary text (length (text_of xs))
 cut_at text xs ys utf8 e =
     let n = length (text_of xs) in

@@ -92,7 +92,7 @@ line_on b (c ∷ bytes) behind lacks stop =
     goes LineComment b (c ∷ (bytes ++ behind)) LineComment (passed _ _ (ne_eqb c 0x0A (lacks_first 0x0A c bytes lacks)))
     ∙ ap (onto_piece b) (line_on c bytes behind (lacks_tail (codes "\n") c bytes lacks) stop)
 
--- inside a comment, behind a star or not
+-- inside a comment, after a star or not
 abbrev in_block : Bool → Place
 in_block true = Star
 in_block false = BlockComment

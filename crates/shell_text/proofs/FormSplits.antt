@@ -15,7 +15,7 @@ use Rattle.shell_text.proofs.FormRuns.{passed}
 
 -- ---- up to the next byte of a kind
 
--- a part stands behind some bytes that lack it, or nowhere
+-- a part stands after some bytes that lack it, or nowhere
 pub data UpTo (part text : List ℕ) : Type 0 where
   there : (inside behind : List ℕ) → text ≡ inside ++ (part ++ behind) → Lacks part inside → UpTo part text
   nowhere : Lacks part text → UpTo part text
@@ -143,7 +143,7 @@ pub data Begins (b : ℕ) (text : List ℕ) : Type 0 where
   with_form : (kind : PieceKind) (more behind : List ℕ) → text ≡ more ++ behind → IsForm kind (b ∷ more) behind → Begins b text
   with_symbol : begun b (first_byte text) ≡ Ends (Word kinds.Symbol) → Begins b text
 
--- a text behind which nothing stands
+-- a text after which nothing stands
 alone : (text : List ℕ) → text ≡ text ++ []
 alone text = sym (append-nil text)
 

@@ -45,7 +45,7 @@ keeps_goes {before} {rest} {b} {p} to k e = record {
   line = line_on b k;
 }
 
--- the pending text behind the end of a piece
+-- the pending text after the end of a piece
 abbrev pub behind_piece : Pending → ℕ → ℕ → Option Spot → Pending
 behind_piece p b at word = record { first = p.first; line = byte_line p b; place = Between; piece = record { at = at; line = byte_line p b }; word = word }
 

@@ -54,7 +54,7 @@ turn_at_end : (at : Place) (b : ℕ) (more : List ℕ) → ends_line (first_byte
 turn_at_end at b [] h = refl
 turn_at_end at b (c ∷ more) h = ap (λ d. turn at b (Some d)) (eqb-true c 0x0A h) ∙ same_turn at b
 
--- so the lines behind a text change no turn in it
+-- so the lines after a text change no turn in it
 turn_before : (at : Place) (b : ℕ) (rest more : List ℕ) → ends_line (first_byte more) ≡ true → turn at b (first_byte (rest ++ more)) ≡ turn at b (first_byte rest)
 turn_before at b [] more h = turn_at_end at b more h
 turn_before at b (c ∷ rest) more h = refl

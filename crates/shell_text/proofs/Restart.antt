@@ -1,4 +1,4 @@
--- A text may be read anew behind each semicolon that ends a statement.
+-- A text may be read anew after each semicolon that ends a statement.
 use Rattle.std.proofs.Common.{◌≡◌, refl, sym, ap, subst, ◌∙◌, ℕ, Bool, true, false, List, [], ◌∷◌, ◌++◌, Option, Some, None}
 use Rattle.std.specs.Prelude.{◌==◌, ◌&&◌, if◌then◌else◌}
 use Rattle.std.specs.List.{onto_first}
@@ -178,7 +178,7 @@ parts_of-onto b (p ∷ ps) h =
 -- ---- cuts
 
 -- a text from a place is one part; or some statements end in it, and what follows the last of them
--- is read anew, whatever comes behind it
+-- is read anew, whatever comes after it
 pub data Cuts (at : Place) (text : List ℕ) : Type 0 where
   uncut : parts_of (pieces_from at text) ≡ pieces_from at text ∷ [] → Cuts at text
   cut : (first : List Piece) (ended : List (List Piece)) (tail : List ℕ)
@@ -231,7 +231,7 @@ opens : (at : Place) (b : ℕ) (rest : List ℕ) (t : Turn) → turn at b (first
 unfolding pieces_from
 opens at b rest t e = ap (λ u. with_byte u b (pieces_from (place_after u) rest)) e
 
--- the byte's turn is the same whatever stands behind the rest
+-- the byte's turn is the same whatever stands after the rest
 abbrev pub IsSame : Place → ℕ → List ℕ → Turn → Type 0
 IsSame at b rest t = (more : List ℕ) → turn at b (first_byte (rest ++ more)) ≡ t
 

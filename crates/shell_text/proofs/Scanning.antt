@@ -132,7 +132,7 @@ pub one_part : (done : List Piece) → list_any ends_statement done ≡ false �
 one_part [] h = refl
 one_part (q ∷ done) h = let k = none_ends q done h in kept_part q done k.0 ∙ ap (onto_first q) (one_part done k.1)
 
--- and with one that does, behind them, they are the first part
+-- and with one that does, after them, they are the first part
 pub first_part : (done : List Piece) (p : Piece) (ps : List Piece) → list_any ends_statement done ≡ false → ends_statement p ≡ true → parts_of (done ++ p ∷ ps) ≡ (done ++ p ∷ []) ∷ parts_of ps
 first_part [] p ps h e = ended_part p ps e
 first_part (q ∷ done) p ps h e = let k = none_ends q done h in kept_part q (done ++ p ∷ ps) k.0 ∙ ap (onto_first q) (first_part done p ps k.1 e)
@@ -153,7 +153,7 @@ tail_first n part ps =
 count-cons : (q : Piece) (done : List Piece) → count_by is_word (q ∷ done) ≡ cond (is_word q) 1 0 + count_by is_word done
 count-cons q done = sum_by-cons (λ p. cond (is_word p) 1 0) q done
 
--- for a closed piece and those behind it, by its kind
+-- for a closed piece and those after it, by its kind
 no_word_if : (kind : PieceKind) (text : List ℕ) (done : List Piece) (at n : ℕ) → is_open (record { kind = kind; text = text }) ≡ false → first_word at n (record { kind = kind; text = text } ∷ done) ≡ None
     → (first_word (at + length text) (line_behind n text) done ≡ None → count_by is_word done ≡ 0) → count_by is_word (record { kind = kind; text = text } ∷ done) ≡ 0
 no_word_if (Closed (Word kind)) text done at n o e f = cc

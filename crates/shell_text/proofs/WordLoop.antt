@@ -87,7 +87,7 @@ piece_length {text} {front} {i} {b} {start} {place} {done} at from r =
     let sum : length (take i text) ≡ length (text_of done) + length front = read_length r in
     omega (arith, length-append front (b ∷ []))
 
--- the next piece begins behind the byte
+-- the next piece begins after the byte
 next_start : {text front : List ℕ} {i b start : ℕ} {place : Place} {done : List Piece} (what : Ended) → IsByte text i b → start ≡ length (text_of done)
     → Reads (take i text) (drop i text) place front done → i + 1 ≡ length (text_of (done ++ closed what (front ++ b ∷ []) ∷ []))
 next_start {text} {front} {i} {b} {start} {place} {done} what at from r =

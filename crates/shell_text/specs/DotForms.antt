@@ -1,5 +1,5 @@
 -- Meaning. The words of a dot-command's line by their forms: which characters are a word, what they
--- stand for, and what stands behind them, without a state. A line falls into such words in one way,
+-- stand for, and what stands after them, without a state. A line falls into such words in one way,
 -- which is `dot_word_chars`: the law `dot_words_by_forms`. The rules are those of "Command Line
 -- Shell For SQLite", section "Dot-command arguments", where a comment says no more.
 use Rattle.std.specs.Prelude.{◌≡◌, ◌==◌, ◌||◌, ℕ, Bool, true, false, List, [], ◌∷◌, ◌++◌, codes}
@@ -27,7 +27,7 @@ abbrev pub ends_bare : List ℕ → Bool
 ends_bare [] = true
 ends_bare (c ∷ cs) = is_blank c
 
--- The forms of words: their characters, the word that these stand for, and what stands behind them
+-- The forms of words: their characters, the word that these stand for, and what stands after them
 -- up to the line's end. A mark that isn't closed goes to the line's end (own choice), and what
 -- follows a closing mark begins the next word (own choice).
 pub data IsDotWord : List ℕ → List ℕ → List ℕ → Type 0 where
@@ -41,7 +41,7 @@ pub data IsDotWord : List ℕ → List ℕ → List ℕ → Type 0 where
   bare : {c : ℕ} {cs word behind : List ℕ} → begins_other c ≡ false → StandsFor is_blank behind (c ∷ cs) word → ends_bare behind ≡ true
       → IsDotWord (c ∷ cs) word behind
 
--- The words of a line, with blanks before, between and behind them.
+-- The words of a line, with blanks before, between and after them.
 pub data AreDotWords : List ℕ → List (List ℕ) → Type 0 where
   no_word : AreDotWords [] []
   blank : {c : ℕ} {behind : List ℕ} {words : List (List ℕ)} → is_blank c ≡ true → AreDotWords behind words → AreDotWords (c ∷ behind) words

@@ -69,7 +69,7 @@ last_of p text =
     if is_between p.place then handed p.word text
     else (let line = (unwrap_or p.word p.piece).line in Fault line (fault.Incomplete line) ∷ [])
 
--- of a text that begins on line n, the statements that semicolons end are told behind `told`, and
+-- of a text that begins on line n, the statements that semicolons end are given after `told`, and
 -- what follows byte `cut` is kept
 pub record Splits (n : ℕ) (text : List ℕ) (told now : List Member) (cut : ℕ) (p : Pending) : Type 0 where
   pub units : now ≡ told ++ ended_units n (parts_of (pieces_of text))

@@ -94,7 +94,7 @@ abbrev pub IsKept : Option Pending → List ℕ → Type 0
 IsKept None text = text ≡ []
 IsKept (Some p) text = KeepsPending text [] p
 
--- a text that begins on line n was read: its statements are told behind `told`, and `text` is what
+-- a text that begins on line n was read: its statements are given after `told`, and `text` is what
 -- follows the last of them
 pub record TakesText (n : ℕ) (whole : List ℕ) (told now : List Member) (text : List ℕ) (p : Pending) : Type 0 where
   pub units : now ≡ told ++ ended_units n (parts_of (pieces_of whole))

@@ -54,7 +54,7 @@ gaps_before ps = take_while is_gap ps
 abbrev pub from_first_word : List Piece → List Piece
 from_first_word ps = drop (prefix_len is_gap ps) ps
 
--- the line on which pieces begin, behind the gaps before them, where the gaps begin on line n
+-- the line on which pieces begin, after the gaps before them, where the gaps begin on line n
 abbrev pub line_of : ℕ → List Piece → ℕ
 line_of n ps = line_behind n (text_of (gaps_before ps))
 
@@ -158,20 +158,20 @@ at_line n = record { line = n; first = n; block = None }
 abbrev pub without_block : Reading → Reading
 without_block r = at_line (numbered (r.line + 1))
 
--- how reading goes on behind a line of a role; in a block a line has lost the carriage return at
+-- how reading goes on after a line of a role; in a block a line has lost the carriage return at
 -- its end, if it had one
 abbrev pub after_role : Role → Reading → List ℕ → Reading
 after_role (Refused why) r line = without_block r
 after_role Command r line = without_block r
 after_role Joins r line = with_line r (strip_carriage_return line)
 
--- what a line is told as, beside the statements: a fault or a dot-command, with the line's number
+-- what a line gives, beside the statements: a fault or a dot-command, with the line's number
 abbrev pub member_of : Role → Reading → List ℕ → List Member
 member_of (Refused why) r line = Fault r.line why ∷ []
 member_of Command r line = Dot r.line (strip_carriage_return line) ∷ []
 member_of Joins r line = []
 
--- how reading goes on behind a line
+-- how reading goes on after a line
 abbrev pub after : Reading → List ℕ → Reading
 after r line = after_role (role_of r line) r line
 
@@ -180,7 +180,7 @@ abbrev pub closed_by : Role → Reading → List Member
 closed_by Joins r = []
 closed_by _ r = units_in r
 
--- what is told as a line is read
+-- what is given as a line is read
 abbrev pub told_by : Reading → List ℕ → List Member
 told_by r line = closed_by (role_of r line) r ++ member_of (role_of r line) r line
 

@@ -1,5 +1,5 @@
 -- Meaning. The words of SQL by their forms: which bytes of a text are a word, a comment or white
--- space, by what stands in them and behind them, without a state. A text falls into such pieces in
+-- space, by what stands in them and after them, without a state. A text falls into such pieces in
 -- one way, which is `pieces_of`: the law `words_by_forms`. The sections and pages in quotes are
 -- those of "SQL As Understood By SQLite".
 use Rattle.std.specs.Prelude.{◌≡◌, ◌≢◌, ◌==◌, ℕ, Bool, true, false, List, [], ◌∷◌, ◌++◌, All, codes}
@@ -13,7 +13,7 @@ use Rattle.shell_text.specs.Words.{Piece, PieceKind, Closed, Open, is_space, beg
 abbrev pub Lacks : List ℕ → List ℕ → Type 0
 Lacks part bytes = (before behind : List ℕ) → bytes ≢ before ++ (part ++ behind)
 
--- each of the bytes passes, and the one behind them doesn't, if there is one
+-- each of the bytes passes, and the one after them doesn't, if there is one
 pub record IsRun (p : ℕ → Bool) (bytes behind : List ℕ) : Type 0 where
   pub run : All (λ b. p b ≡ true) bytes
   pub ends : next_is p (first_byte behind) ≡ false
@@ -31,18 +31,18 @@ pub data IsMarked (mark : ℕ) : List ℕ → Type 0 where
   other_byte : {b : ℕ} {bytes : List ℕ} → b ≢ mark → IsMarked mark bytes → IsMarked mark (b ∷ bytes)
   doubled_mark : {bytes : List ℕ} → IsMarked mark bytes → IsMarked mark (mark ∷ mark ∷ bytes)
 
--- The forms of pieces: their kind, their bytes, and what stands behind them up to the text's end.
+-- The forms of pieces: their kind, their bytes, and what stands after them up to the text's end.
 pub data IsForm : PieceKind → List ℕ → List ℕ → Type 0 where
   -- white space is one byte ("SQL Comment Syntax")
   white_space : {b : ℕ} {behind : List ℕ} → is_space b ≡ true → IsForm (Closed Gap) (b ∷ []) behind
   -- a comment of two hyphens goes up to before the next line feed, or to the end ("SQL Comment
   -- Syntax")
   line_comment : {inside behind : List ℕ} → Lacks (codes "\n") inside → ends_line (first_byte behind) ≡ true → IsForm (Closed Gap) (codes "--" ++ inside) behind
-  -- one of a slash and a star goes up to the next star and slash behind these, and else is open
+  -- one of a slash and a star goes up to the next star and slash after these, and else is open
   -- ("SQL Comment Syntax")
   block_comment : {inside behind : List ℕ} → Lacks (codes "*/") inside → IsForm (Closed Gap) (codes "/*" ++ (inside ++ codes "*/")) behind
   open_comment : {inside : List ℕ} → Lacks (codes "*/") inside → IsForm Open (codes "/*" ++ inside) []
-  -- a literal or a name between marks; one more mark behind it would double the last one
+  -- a literal or a name between marks; one more mark after it would double the last one
   marked : {mark : ℕ} {kind : SqlKind} {inside behind : List ℕ} → IsMark mark kind → IsMarked mark inside
       → next_is (λ b. b == mark) (first_byte behind) ≡ false → IsForm (Closed (Word kind)) (mark ∷ (inside ++ mark ∷ [])) behind
   open_mark : {mark : ℕ} {kind : SqlKind} {inside : List ℕ} → IsMark mark kind → IsMarked mark inside → IsForm Open (mark ∷ inside) []
@@ -60,7 +60,7 @@ pub data IsPiece : PieceKind → List ℕ → List ℕ → Type 0 where
   symbol : {b : ℕ} {behind : List ℕ} → ((kind : PieceKind) (bytes rest : List ℕ) → bytes ++ rest ≡ b ∷ behind → ¬ IsForm kind bytes rest)
       → IsPiece (Closed (Word kinds.Symbol)) (b ∷ []) behind
 
--- The pieces of a text, one behind the other up to its end.
+-- The pieces of a text, one after the other up to its end.
 pub data ArePieces : List ℕ → List Piece → Type 0 where
   no_piece : ArePieces [] []
   next_piece : {kind : PieceKind} {bytes behind : List ℕ} {pieces : List Piece} → IsPiece kind bytes behind → ArePieces behind pieces

@@ -66,7 +66,7 @@ in_word next = if next_is goes_on_word next then Goes InWord else Ends (Word kin
 abbrev pub in_number : Option ℕ → Turn
 in_number next = if next_is is_ascii_digit next then Goes InNumber else Ends (Word kinds.Number)
 
--- a byte of what goes up to a mark, by the place behind a first one of two: inside, the mark is
+-- a byte of what goes up to a mark, by the place after a first one of two: inside, the mark is
 -- doubled ("Literal Values (Constants)", "SQLite Keywords")
 abbrev pub in_marks : Place → Place → SqlKind → ℕ → ℕ → Option ℕ → Turn
 in_marks inside doubled kind mark b next =
@@ -88,7 +88,7 @@ begun b next =
     else if is_ascii_digit b then in_number next
     else Ends (Word kinds.Symbol)
 
--- a byte of a block comment, behind what opens it; a slash behind a star closes it ("SQL Comment
+-- a byte of a block comment, after what opens it; a slash after a star closes it ("SQL Comment
 -- Syntax")
 abbrev pub in_comment : ℕ → Turn
 in_comment b = if b == 0x2A then Goes Star else Goes BlockComment
@@ -135,7 +135,7 @@ unfoldable pub pieces_from : Place → List ℕ → List Piece
 pieces_from at [] = []
 pieces_from at (b ∷ rest) = with_byte (turn at b (first_byte rest)) b (pieces_from (place_after (turn at b (first_byte rest))) rest)
 
--- the pieces of a text, in order: with their bytes one behind the other they are the text
+-- the pieces of a text, in order: with their bytes one after the other they are the text
 abbrev pub pieces_of : List ℕ → List Piece
 pieces_of text = pieces_from Between text
 
@@ -196,7 +196,7 @@ pub record FindsWords (text : List ℕ) (result : Result (Vec SqlWord Global) Le
   pub closed : OnOk result (is_unclosed text ≡ false)
   pub «open» : IsErrOf result fault.Open → is_unclosed text ≡ true
 
--- each word begins at or behind the end of the one before it, from a place on
+-- each word begins at or after the end of the one before it, from a place on
 abbrev pub IsRising : ℕ → List SqlWord → Type 0
 IsRising from [] = ⊤
 IsRising from (w ∷ ws) = (from ≤ w.start) × (0 < w.size) × IsRising (w.start + w.size) ws

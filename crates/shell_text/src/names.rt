@@ -33,7 +33,7 @@ fn across(width: usize) -> usize
     }
 }
 
-// The names on a line: those at a place, and at each place that lies a number of places behind.
+// The names on a line: those at a place, and at each place that lies a number of places after.
 fn names_on(
     alloc: Global,
     names: &[String],

@@ -131,7 +131,7 @@ fn in_number(next: Option<u8>) -> Turn
     }
 }
 
-// A byte of what goes up to a mark, by the place behind the first of two marks.
+// A byte of what goes up to a mark, by the place after the first of two marks.
 fn in_marks(inside: Place, doubled: Place, kind: SqlKind, mark: u8, b: u8, next: Option<u8>) -> Turn
     ensures { result ≡ in_marks inside doubled kind mark b next }
 {

@@ -93,7 +93,7 @@ impl Place {
         is_within && (!first || pos == 0)
     }
 
-    /// The offset with this number that is told of this place. The position isn't looked at.
+    /// The offset of this place, for the term with this number. The position isn't looked at.
     pub(crate) fn offset(&self, number: usize) -> Offset
         ensures { result ≡ offset_at number self.now }
     {

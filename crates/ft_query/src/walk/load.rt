@@ -32,7 +32,7 @@ fn load_term<L: Lists>(alloc: Global, term: &QueryTerm, lists: &mut L) -> Result
 }
 
 #[tactic(auto, using(crate::proofs::Reaching::reaches_on))]
-/// The lists of some terms, behind those that are there.
+/// The lists of some terms, after those that are there.
 fn load_terms<L: Lists>(
     alloc: Global,
     terms: &[QueryTerm],

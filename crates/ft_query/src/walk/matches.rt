@@ -40,7 +40,7 @@ fn keep(cursors: &mut [Cursor])
     }
 }
 
-/// The next hit, without offsets where they aren't wanted. The walk then stands behind it, and
+/// The next hit, without offsets where they aren't wanted. The walk then stands after it, and
 /// after an error where it stood.
 fn advance(
     alloc: Global,

@@ -33,7 +33,7 @@ impl<'a> Places<'a> {
         !self.places.is_empty()
     }
 
-    /// The first one, and those behind it.
+    /// The first one, and those after it.
     pub(crate) fn split_first(self) -> Option<(&'a Place, Places<'a>)>
         ensures { MatchOption result (self.entry.places.now ≡ [])
             (λ r. self.entry.places.now ≡ r.0.now ∷ r.1.places.now) }

@@ -97,7 +97,7 @@ fn consider(
 }
 
 /// The next document that the query accepts, without offsets where they aren't wanted. The search
-/// then stands behind it.
+/// then stands after it.
 pub(crate) fn search(
     alloc: Global,
     query: &Query,

@@ -9,7 +9,7 @@ use crate::walk::{Offset, Steps};
 use std::alloc::{AllocError, Global};
 use std::cmp::Ordering;
 
-// Whether a place moved by i is one of those moved by j, and which of them are behind it.
+// Whether a place moved by i is one of those moved by j, and which of them are after it.
 fn seek<'a>(
     place: &Place,
     i: usize,

@@ -14,7 +14,7 @@ use sqlite_disk::{Crash, Disk, Fuse, Memory};
 use std::alloc::{AllocError, Global};
 use std::test::Fail;
 
-/// A file that holds bytes, and stops behind so many calls.
+/// A file that holds bytes, and stops after so many calls.
 trait Stops: Crash + Drop {
     fn holding(alloc: Global, bytes: &[u8], calls: u64) -> Result<Self, Fail>;
 
@@ -203,7 +203,7 @@ fn answers<D: Stops>(file: &mut D) -> bool {
     file.may_be_used() && file.len().is_ok()
 }
 
-// One stop behind so many calls. Where none was met, what is left then.
+// One stop after so many calls. Where none was met, what is left then.
 fn stopped<D: Stops>(
     alloc: Global,
     case: &Case<'_>,
@@ -246,7 +246,7 @@ fn calls_of_opening<D: Stops>(alloc: Global, first: &Image, part: Part) -> Resul
     Ok(enough)
 }
 
-// A stop behind each number of calls of a file that opens the database, up to that of all its
+// A stop after each number of calls of a file that opens the database, up to that of all its
 // calls, and what is left then.
 fn each_stopped<D: Stops>(alloc: Global, case: &Case<'_>, part: Part) -> Result<Image, Fail> {
     for calls in calls_of_opening::<D>(alloc, case.first, part)?..NEVER {

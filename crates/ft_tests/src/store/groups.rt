@@ -140,7 +140,7 @@ fn put_replaces_what_is_there(rt: HostRuntime) -> Result<(), Fail> {
 }
 
 // All words are put again, as they are and then with other lists; of one word that is put eight
-// times by one call the last list stays; what comes behind eight words of which one is there is
+// times by one call the last list stays; what comes after eight words of which one is there is
 // done too.
 #[test]
 fn words_are_put_again(rt: HostRuntime) -> Result<(), Fail> {

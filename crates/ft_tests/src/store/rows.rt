@@ -22,7 +22,7 @@ fn some_read<S: Alter>(store: &mut Store<S>, alloc: Global) -> Result<String, St
     Ok(format!(in alloc; "{document:?} {term:?} {prefix:?}")?)
 }
 
-// The last docids of two tables, all docids, those behind the first, whether two documents are
+// The last docids of two tables, all docids, those after the first, whether two documents are
 // there, the noted names, and how many rows that were.
 fn rest_read<S: Alter>(store: &mut Store<S>, alloc: Global) -> Result<String, StoreFault> {
     let first = store.last_docid(1)?;

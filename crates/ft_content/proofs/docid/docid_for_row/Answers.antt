@@ -1,4 +1,4 @@
--- behind the last docid
+-- after the last docid
 use mir.Val.{to_z, of_z}
 use Rattle.std.proofs.Common.{◌≡◌, List, [], ◌∷◌, Option, Some, None, ℤ, pos, sym, ap, subst, ◌∙◌, rules}
 use Rattle.std.specs.Prelude.{◌+ℤ◌, FitsSigned, slice_get, ok_or}

@@ -6,7 +6,7 @@ use Rattle.std.proofs.lemmas.Result.{IfOk-at_ok}
 use Rattle.ft_query.specs.Trees.{tree_of}
 use Rattle.ft_query.specs.Occurs.{PlainHit, plain_hit, hits_of}
 use Rattle.ft_content.specs.Answer.{cut}
-use Rattle.ft_documents.specs.Matched.{told}
+use Rattle.ft_documents.specs.Matched.{as_wanted}
 use Rattle.ft_documents.proofs.TakenLemmas.{full, whole, ended}
 use Rattle.ft_documents.proofs.hits.taken.Goals as goal
 use Rattle.ft_documents.proofs.hits.taken.Goals.{else-loop-alloc-test, then-loop-alloc-test+in_ok-hit+in_default}
@@ -15,7 +15,7 @@ pub returns : goal.returns
 returns c documents stands =
     let so_far = c.loop-alloc.invariant.rest documents stands in
     let tree = tree_of c.args.walk.now.query in
-    let as_told : List PlainHit → List PlainHit = map (told c.args.wants_offsets) in
+    let as_told : List PlainHit → List PlainHit = map (as_wanted c.args.wants_offsets) in
     let count : length c.loop-alloc.hits.items ≡ vec_len c.loop-alloc.hits = search rules in
     let hits : List PlainHit = map plain_hit c.loop-alloc.hits.items in
     let many : length hits ≡ vec_len c.loop-alloc.hits = length-map c.loop-alloc.hits.items plain_hit ∙ count in

@@ -8,7 +8,7 @@ use Rattle.std.specs.Ordering.{int_cmp, int_eq, is_lt}
 use Rattle.ft_documents.specs.declared.rewrite.Rewrite as source
 use Rattle.ft_documents.specs.Rewrite.{shown_rewrite}
 use Rattle.ft_documents.specs.Updated.{leaving, coming, moved_from, MovesOnly}
-use Rattle.ft_documents.proofs.ToldLemmas.{less_is}
+use Rattle.ft_documents.proofs.TableListLemmas.{less_is}
 use Rattle.ft_documents.proofs.writes.move_only.Goals as goal
 
 as_byte : (b : Bool) → bool_byte b ≡ cond b 1 0

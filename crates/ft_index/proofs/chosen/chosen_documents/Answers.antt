@@ -21,7 +21,7 @@ use Rattle.ft_content.specs.Views.{cells_of, filter_of}
 use Rattle.ft_index.specs.DocumentsRead.{HasRows, Looks}
 use Rattle.ft_index.specs.Walked.{IsIndexed}
 use Rattle.ft_documents.specs.Chosen.{ReadsAs, document_at}
-use Rattle.ft_documents.specs.Matched.{chosen_hits, told}
+use Rattle.ft_documents.specs.Matched.{chosen_hits, as_wanted}
 use Rattle.ft_documents.proofs.ChosenLemmas.{chosen_all, chosen_one, of_hits}
 use Rattle.ft_index.proofs.LookLemmas.{rows_then, index_first}
 use Rattle.ft_index.proofs.chosen.chosen_documents.Goals as goal
@@ -80,7 +80,7 @@ returns-in_ok-docids-in-Match g c = record {
       let at = subst (λ (k : ℤ). IsIndexed g.S.Store k first last content) t indexed in
       let query : Option Tree = option_map {T = Bor _} (λ q. tree_of q.now) c.args.query in
       let as_read = subst (λ (f : Filter). ReadsAs content (filter_of f) query) c.in-Match.is reads in
-      let hits : map plain_hit c.in_ok-hits-in-Match.hits.items ≡ map (told false) (chosen_hits content (Match name text)) =
+      let hits : map plain_hit c.in_ok-hits-in-Match.hits.items ≡ map (as_wanted false) (chosen_hits content (Match name text)) =
       c.in_ok-hits-in-Match.ensures.looks.told content name text as_read (index_first g.S.Store first middle last one two tab content at) in
       let ok : c.collect.result ≡ Ok c.in_ok-docids-in-Match.docids = search rules in
       let numbers : c.in_ok-docids-in-Match.docids.items ≡ map (λ (h : Hit). h.docid) c.deref.result.now =

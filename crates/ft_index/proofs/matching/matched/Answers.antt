@@ -6,7 +6,7 @@ use Rattle.ft_query.specs.Occurs.{plain_hit, hits_of}
 use Rattle.ft_store.specs.Kept.{StoreState}
 use Rattle.ft_content.specs.Answer.{query_read, cut}
 use Rattle.ft_content.specs.Meaning.{content_documents}
-use Rattle.ft_documents.specs.Matched.{told}
+use Rattle.ft_documents.specs.Matched.{as_wanted}
 use Rattle.ft_documents.proofs.MatchedLemmas.{hits_chosen, none_chosen, cut_none}
 use Rattle.ft_index.specs.RowsRead.{entries_asked}
 use Rattle.ft_index.specs.Walked.{IsIndexed}
@@ -20,8 +20,8 @@ returns-in_ok-taken-in-Ok-clause-looks g c = record {
       let tab : c.new-lists.result.tab ≡ c.args.tab = search rules in
       let at : IsIndexed g.S.Store c.new-lists.result.tab c.new-lists.result.store.now c.opened.new.lists.store.now content = indexed_at _ _ _ indexed tab c.new-lists.ensures.same_store (search rules) in
       c.in_ok-taken-in-Ok.ensures (content_documents content) (c.in-Ok.ensures.stands content at)
-      ∙ ap (λ q. cut c.args.most 0 (map (told c.args.wants_offsets) (hits_of (tree_of q) (content_documents content)))) c.in-Ok.ensures.query
-      ∙ ap (λ hs. cut c.args.most 0 (map (told c.args.wants_offsets) hs)) (hits_chosen indexed.name content name text tree indexed.is_content (read ∙ ap (λ q. Ok (option_map (λ q. tree_of q.now) q)) c.in-Some.is));
+      ∙ ap (λ q. cut c.args.most 0 (map (as_wanted c.args.wants_offsets) (hits_of (tree_of q) (content_documents content)))) c.in-Ok.ensures.query
+      ∙ ap (λ hs. cut c.args.most 0 (map (as_wanted c.args.wants_offsets) hs)) (hits_chosen indexed.name content name text tree indexed.is_content (read ∙ ap (λ q. Ok (option_map (λ q. tree_of q.now) q)) c.in-Some.is));
   only = search rules;
   live = search rules;
   cause = search rules;
@@ -42,7 +42,7 @@ returns-in_default-clause-looks g c = record {
   told = λ content name text read indexed.
       let none : c.args.query ≡ None = search rules in
       ap (map plain_hit) c.new.ensures.items
-      ∙ sym (ap (λ hs. cut c.args.most 0 (map (told c.args.wants_offsets) hs)) (none_chosen content name text (read ∙ ap (λ q. Ok (option_map (λ q. tree_of q.now) q)) none)) ∙ cut_none c.args.most);
+      ∙ sym (ap (λ hs. cut c.args.most 0 (map (as_wanted c.args.wants_offsets) hs)) (none_chosen content name text (read ∙ ap (λ q. Ok (option_map (λ q. tree_of q.now) q)) none)) ∙ cut_none c.args.most);
   only = search rules;
   live = search rules;
   cause = search rules;

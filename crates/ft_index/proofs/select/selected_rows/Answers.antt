@@ -17,7 +17,7 @@ use Rattle.ft_content.specs.Deserved.{is_match}
 use Rattle.ft_content.specs.Views.{items_of, filter_of, column_of, item_of}
 use Rattle.ft_documents.specs.declared.document.Document.{Document}
 use Rattle.ft_documents.specs.Chosen.{document_at}
-use Rattle.ft_documents.specs.Matched.{chosen_hits, told}
+use Rattle.ft_documents.specs.Matched.{chosen_hits, as_wanted}
 use Rattle.ft_index.specs.DocumentsRead.{HasRows, Looks}
 use Rattle.ft_index.specs.RowsRead.{is_column, has_column_item, rows_asked}
 use Rattle.ft_index.specs.Selected.{IsAsked, IsOf}
@@ -60,7 +60,7 @@ returns-in_ok-hits-in-Match-clause-looks g c = record {
       let here = subst (λ (k : ℤ). HasRows g.S.Store k first last content) t asked.held.rows in
       let at = subst (λ (k : ℤ). IsIndexed g.S.Store k first last content) t asked.held.index in
       let before = index_first g.S.Store first middle last one two tab content at in
-      let all = map (told c.any_offsets.result) (chosen_hits content f) in
+      let all = map (as_wanted c.any_offsets.result) (chosen_hits content f) in
       let hits = c.in_ok-hits-in-Match.ensures.looks.told content (string_bytes c.in-Match.name) (string_bytes c.in-Match.query) asked.reads before in
       let answered : map plain_hit c.cut-answered.result.now ≡ cut select.limit select.offset all =
       hits_answered select.limit c.most_hits-most.result select.offset c.in_ok-hits-in-Match.hits.items c.cut-answered.result.now all
@@ -92,7 +92,7 @@ returns-in_ok-hits-in-Match-clause-counted g c = on_ok_from c.hit_rows.result _ 
     let here = subst (λ (k : ℤ). HasRows g.S.Store k first last content) t asked.held.rows in
     let at = subst (λ (k : ℤ). IsIndexed g.S.Store k first last content) t asked.held.index in
     let before = index_first g.S.Store first middle last one two tab content at in
-    let all = map (told c.any_offsets.result) (chosen_hits content f) in
+    let all = map (as_wanted c.any_offsets.result) (chosen_hits content f) in
     let hits = c.in_ok-hits-in-Match.ensures.looks.told content (string_bytes c.in-Match.name) (string_bytes c.in-Match.query) asked.reads before in
     let answered : map plain_hit c.cut-answered.result.now ≡ cut select.limit select.offset all =
     hits_answered select.limit c.most_hits-most.result select.offset c.in_ok-hits-in-Match.hits.items c.cut-answered.result.now all

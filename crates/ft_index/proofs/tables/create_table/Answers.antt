@@ -6,10 +6,10 @@ use Rattle.ft_content.specs.declared.command.Reply.{Reply}
 use Rattle.ft_values.specs.declared.table.TableInfo.{TableInfo}
 use Rattle.ft_content.specs.Command as plain
 use Rattle.ft_content.specs.Views.{shown_info, creation_of, answer_of}
-use Rattle.ft_index.specs.Kept.{FullText, Executes, told_table}
+use Rattle.ft_index.specs.Kept.{FullText, Executes, table_info}
 use Rattle.ft_content.specs.Deserved.{Contents}
 use Rattle.ft_index.specs.Planned.{Makes, table_change}
-use Rattle.ft_documents.specs.Found.{with_told}
+use Rattle.ft_documents.specs.Found.{with_info}
 use Rattle.ft_values.specs.declared.fault.Fault.TheVariants as faults
 use Rattle.ft_index.specs.Changed.{Changed, with_tables}
 use Rattle.ft_index.proofs.Executing.{create_refused, create_nothing, create_adds, executes_refused}
@@ -42,7 +42,7 @@ returns-in_err-add_table g c = record {
       let refused : c.add_table.result ≡ Err fault = search rules in
       let tables = map shown_info c.args.tables.now.items in
       let changed = subst (λ (r : Result (Unit {0}) Fault). Changed g.S.Store c.args.store.now c.add_table.new.store (table_change c.in-Some.made ∷ []) (is_ok r)) refused c.add_table.ensures.makes.changed in
-      let told : map shown_info c.add_table.new.tables.items ≡ tables = c.add_table.ensures.told ∙ ap (λ (r : Result (Unit {0}) Fault). cond (is_ok r) (with_told (shown_info c.in-Some.made) tables) tables) refused in
+      let told : map shown_info c.add_table.new.tables.items ≡ tables = c.add_table.ensures.told ∙ ap (λ (r : Result (Unit {0}) Fault). cond (is_ok r) (with_info (shown_info c.in-Some.made) tables) tables) refused in
       let command = creation_of c.args.creation.now in
       let outside : (fault ≡ faults.Store) ⊎ (fault ≡ faults.Memory) = search rules in
       subst (λ ts. Executes g.S.Store (with_tables c.args.store.now tables) command (answer_of c.from_residual-in_err-add_table.result) (with_tables c.add_table.new.store ts)) (sym told)
@@ -52,7 +52,7 @@ returns-in_err-add_table g c = record {
       let tables = map shown_info c.args.tables.now.items in
       let command = creation_of c.args.creation.now in
       let made : c.made_table.result ≡ Ok c.in_ok-made.made = search rules in
-      let makes : (contents : Contents) → tables ≡ map told_table contents → Makes contents c.args.creation.now (Ok (Some c.in-Some.made)) =
+      let makes : (contents : Contents) → tables ≡ map table_info contents → Makes contents c.args.creation.now (Ok (Some c.in-Some.made)) =
       λ contents told. subst (λ o. Makes contents c.args.creation.now (Ok o)) c.in-Some.is
       (subst (Makes contents c.args.creation.now) made (c.made_table.ensures contents (ap (map shown_info) c.as_slice.ensures.value ∙ told))) in
       crash_changed g.S.Store c.args.store.now c.add_table.new.store tables (map shown_info c.add_table.new.tables.items) command (table_change c.in-Some.made ∷ [])
@@ -67,13 +67,13 @@ returns g c = record {
       let tables = map shown_info c.args.tables.now.items in
       let command = creation_of c.args.creation.now in
       let made : c.made_table.result ≡ Ok c.in_ok-made.made = search rules in
-      let makes : (contents : Contents) → tables ≡ map told_table contents → Makes contents c.args.creation.now (Ok c.in_ok-made.made) =
+      let makes : (contents : Contents) → tables ≡ map table_info contents → Makes contents c.args.creation.now (Ok c.in_ok-made.made) =
       λ contents told. subst (Makes contents c.args.creation.now) made (c.made_table.ensures contents (ap (map shown_info) c.as_slice.ensures.value ∙ told)) in
       elim c.match-made.branch [
         | in-Some+in_ok-add_table w ↦
             let added : w.add_table.result ≡ Ok tt = search rules in
             let changed = subst (λ (r : Result (Unit {0}) Fault). Changed g.S.Store c.args.store.now w.add_table.new.store (table_change w.in-Some.made ∷ []) (is_ok r)) added w.add_table.ensures.makes.changed in
-            let told : map shown_info w.add_table.new.tables.items ≡ with_told (shown_info w.in-Some.made) tables = w.add_table.ensures.told ∙ ap (λ (r : Result (Unit {0}) Fault). cond (is_ok r) (with_told (shown_info w.in-Some.made) tables) tables) added in
+            let told : map shown_info w.add_table.new.tables.items ≡ with_info (shown_info w.in-Some.made) tables = w.add_table.ensures.told ∙ ap (λ (r : Result (Unit {0}) Fault). cond (is_ok r) (with_info (shown_info w.in-Some.made) tables) tables) added in
             let here = subst (λ (k : FullText g.row.S.Denot). Executes g.S.Store (with_tables c.args.store.now tables) command (Ok plain.Done) k) (sym (λ i. with_tables (w.store-is i) ((ap (λ (v : Vec TableInfo Global). map shown_info v.items) w.tables-is ∙ told) i)))
             (create_adds g.S.Store c.args.creation.now c.args.store.now w.add_table.new.store tables w.in-Some.made
             (λ contents is. subst (λ o. Makes contents c.args.creation.now (Ok o)) w.in-Some.is (makes contents is)) c.is_in_order.ensures.order changed) in
@@ -91,7 +91,7 @@ returns g c = record {
       let after = map shown_info c.match-made.tables.items in
       elim c.match-made.branch [
         | in-Some+in_ok-add_table w ↦
-            let makes : (contents : Contents) → tables ≡ map told_table contents → Makes contents c.args.creation.now (Ok (Some w.in-Some.made)) =
+            let makes : (contents : Contents) → tables ≡ map table_info contents → Makes contents c.args.creation.now (Ok (Some w.in-Some.made)) =
             λ contents told. subst (λ o. Makes contents c.args.creation.now (Ok o)) w.in-Some.is
             (subst (Makes contents c.args.creation.now) made (c.made_table.ensures contents (ap (map shown_info) c.as_slice.ensures.value ∙ told))) in
             subst (λ (s : StoreState g.row.S.Denot). CommandSurvives g.S.Store (with_tables c.args.store.now tables) command (with_tables s after)) (sym w.store-is)

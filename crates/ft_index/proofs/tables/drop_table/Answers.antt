@@ -13,7 +13,7 @@ use Rattle.ft_content.specs.Content.{same_name}
 use Rattle.ft_content.specs.Command as plain
 use Rattle.ft_content.specs.Deserved.{Contents}
 use Rattle.ft_content.specs.Views.{TableInfo, shown_info, answer_of}
-use Rattle.ft_documents.specs.Found.{info_named, without_told}
+use Rattle.ft_documents.specs.Found.{info_named, without_info}
 use Rattle.ft_index.specs.Kept.{AreHeld, Executes, PlansFrom}
 use Rattle.ft_index.specs.Planned.{changes_of}
 use Rattle.ft_index.specs.Changed.{Changed, with_tables}
@@ -90,13 +90,13 @@ returns g c = record {
             let s = placed shown_info (λ (t : TableInfo). same_name t.name c.args.table.now) c.as_slice-known.result.now w.in-Some.place (sym c.table_place.ensures ∙ w.in-Some.is) in
             let named = ap (λ ts. info_named (map shown_info ts) c.args.table.now) (sym here) ∙ s.found in
             let fits : FitsSigned w64 w.index-known-place.result.id = search rules in
-            let told : map shown_info c.match-table_place.tables.items ≡ without_told s.item.id tables =
+            let told : map shown_info c.match-table_place.tables.items ≡ without_info s.item.id tables =
             ap (λ (v : Vec RustTableInfo Global). map shown_info v.items) w.tables-is ∙ w.remove_table.ensures
-            ∙ ap (λ (t : RustTableInfo). without_told (to_z w64 (of_z w64 t.id)) tables) (sym w.index-known-place.is)
-            ∙ ap (λ k. without_told k tables) (to_z-of_z fits)
-            ∙ ap (λ (t : RustTableInfo). without_told t.id tables) (same_Some w.index-known-place.result s.item (sym (slice_get_read c.as_slice-known.result.now _ w.in-Some.place w.index-known-place.result refl (slice_get_within c.as_slice-known.result.now w.in-Some.place s.item s.is) w.index-known-place.is) ∙ s.is)) in
+            ∙ ap (λ (t : RustTableInfo). without_info (to_z w64 (of_z w64 t.id)) tables) (sym w.index-known-place.is)
+            ∙ ap (λ k. without_info k tables) (to_z-of_z fits)
+            ∙ ap (λ (t : RustTableInfo). without_info t.id tables) (same_Some w.index-known-place.result s.item (sym (slice_get_read c.as_slice-known.result.now _ w.in-Some.place w.index-known-place.result refl (slice_get_within c.as_slice-known.result.now w.in-Some.place s.item s.is) w.index-known-place.is) ∙ s.is)) in
             subst (λ (ts : List TableInfo). Executes g.S.Store (with_tables c.args.store.now tables) command (Ok plain.Done) (with_tables c.change_rows.new.store ts)) (sym told)
-            (executes_planned g.S.Store c.args.store.now c.change_rows.new.store tables (without_told s.item.id tables) changes command (λ up. reaches) changed
+            (executes_planned g.S.Store c.args.store.now c.change_rows.new.store tables (without_info s.item.id tables) changes command (λ up. reaches) changed
             (λ contents held fine. told_dropped value tables contents c.args.table.now c.args.if_there (shown_info s.item) c.is_in_order.ensures.order held named) (λ contents. drop_done contents c.args.table.now c.args.if_there))
         | in_default w ↦
             let here : c.as_slice-known.result.now ≡ c.args.tables.now.items = c.as_slice-known.ensures.value in

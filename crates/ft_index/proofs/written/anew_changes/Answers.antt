@@ -1,4 +1,4 @@
--- by the table that comes first, and the changes behind it
+-- by the table that comes first, and the changes after it
 use Rattle.std.proofs.Common.{◌∷◌, map, sym, ap, subst, ◌∙◌}
 use Rattle.ft_rows.specs.Changes.{shown_change}
 use Rattle.ft_index.specs.Written.{AreOfAnew}

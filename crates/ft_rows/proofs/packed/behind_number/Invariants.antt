@@ -1,4 +1,4 @@
--- what comes behind what is left of the number in what is left
+-- what comes after what is left of the number in what is left
 use Rattle.std.proofs.Common.{◌≡◌}
 use Rattle.ft_rows.specs.Packed.{leb128}
 use Rattle.ft_rows.specs.Unpacking.{behind}

@@ -1,4 +1,4 @@
--- by the tests of the places to come, and by what comes behind their bytes
+-- by the tests of the places to come, and by what comes after their bytes
 use Rattle.std.proofs.Common.{◌≡◌, ℕ, ◌+◌, ◌<◌, Bool, not, ◌&&◌, true, false, true≢false, [], refl, sym, ap, ◌∙◌, drop, map, length, rules}
 use Rattle.std.specs.Prelude.{◌==◌, slice_index}
 use Rattle.std.proofs.lemmas.List.{drop_all}

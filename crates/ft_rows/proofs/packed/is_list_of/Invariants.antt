@@ -1,4 +1,4 @@
--- the tests of all places are those of the places to come, and so is what comes behind their bytes
+-- the tests of all places are those of the places to come, and so is what comes after their bytes
 use Rattle.std.proofs.Common.{◌≡◌, true, map, drop}
 use Rattle.std.specs.Prelude.{◌==◌}
 use Rattle.std.specs.List.{flat_map}

@@ -1,4 +1,4 @@
--- the note, behind the warnings
+-- the note, after the warnings
 use Rattle.std.proofs.Common.{refl, Ok, Err}
 use Rattle.ft_values.specs.declared.fault.Fault.TheVariants as faults
 use Rattle.ft_shell.proofs.full_text_turn.note_turn.Goals as goal

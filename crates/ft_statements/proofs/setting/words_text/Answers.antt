@@ -1,4 +1,4 @@
--- the first word and those behind it
+-- the first word and those after it
 use Rattle.std.proofs.Common.{◌++◌, map, string_bytes, sym, ap, ◌∙◌}
 use Rattle.std.specs.List.{flat_map}
 use Rattle.std.proofs.lemmas.List.{take_all}

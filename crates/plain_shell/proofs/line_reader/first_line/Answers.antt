@@ -1,4 +1,4 @@
--- what stands before the first line feed, and behind it
+-- what stands before the first line feed, and after it
 use Rattle.std.proofs.Common.{rules, ◌≡◌, ◌∷◌, ◌++◌, ◌+◌, ◌-◌, ◌∙◌, ap, sym, suc, take, drop, length, arith}
 use Rattle.std.proofs.lemmas.List.{length-drop, take_all}
 use Rattle.plain_shell.specs.LinesRead.{HasNoEnd}

@@ -1,4 +1,4 @@
--- one text behind the other
+-- one text after the other
 use Rattle.std.proofs.Common.{◌++◌, ◌∷◌, [], List, ℕ, codes, decimal, subst}
 use Rattle.std.specs.Io.KnownBytes.{Appends}
 use Rattle.ft_statements.specs.Texts.{text_as}

@@ -1,4 +1,4 @@
--- each right side is less wide, and its lists come behind those of the part that it is joined to
+-- each right side is less wide, and its lists come after those of the part that it is joined to
 use Rattle.std.proofs.Common.{◌≡◌, ◌++◌, ◌∷◌, [], List, subst, rules, arith}
 use Rattle.std.proofs.lemmas.Grind.{common_steps}
 use Rattle.ft_query.specs.declared.walk.spine.Joint.{Joint}

@@ -17,7 +17,7 @@ last_of first [] = first
 last_of first (link ∷ links) = last_of link.to links
 
 -- Behind the links that are left stand those that are done. What is found is what these link from
--- the last phrase before them on, in the lists behind those that are left, and took no more steps
+-- the last phrase before them on, in the lists after those that are left, and took no more steps
 -- than that. The lists that are left are those of the phrases before that one.
 pub record IsBack (first : Phrase) (links left : List Link) (lists front : List Places) (next : Starts) (rest : List Starts) (begun steps : Steps) : Type 0 where
   pub done : List Link

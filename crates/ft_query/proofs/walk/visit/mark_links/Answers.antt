@@ -19,7 +19,7 @@ use Rattle.ft_query.proofs.walk.visit.mark_links.Goals as goal
 
 -- ---- one link
 
--- the steps for the marks of one link, and those for the links behind it
+-- the steps for the marks of one link, and those for the links after it
 cost_one : (k : ℕ) (starts : List Place) (link : Link) (links : List Link) (lists own behind : List Places) (others : Starts) (all : List Starts) (size : ℕ)
     (next : List Place) → size ≡ length link.to.terms.items → own ≡ take size lists → behind ≡ drop size lists
     → next ≡ near_those link.most k starts size others.places.items

@@ -1,4 +1,4 @@
--- A table in its place among those that are told.
+-- A table in its place in a list of tables.
 use Rattle.std.proofs.Common.{◌≡◌, ◌++◌, ◌≤◌, ◌+◌, ℕ, zero, suc, List, [], ◌∷◌, map, take, drop, length, cond, true, false, not, ltb, unwrap_or, Some, None, ℤ, refl, sym, ap, ◌∙◌, arith}
 use Rattle.std.specs.Prelude.{int_lt}
 use Rattle.std.specs.Ordering.{int_cmp, is_lt}
@@ -8,19 +8,19 @@ use Rattle.std.proofs.lemmas.Bool.Decides.{nat_tests}
 use Rattle.std.proofs.lemmas.List.{map-append, take-map, drop-map}
 use Rattle.ft_values.specs.declared.table.TableInfo.{TableInfo as RustTableInfo}
 use Rattle.ft_content.specs.Views.{TableInfo, shown_info}
-use Rattle.ft_documents.specs.Found.{with_told}
+use Rattle.ft_documents.specs.Found.{with_info}
 
 pub less_is : (a b : ℤ) → is_lt (int_cmp a b) ≡ int_lt a b
 less_is a b = elim (int_lt a b) as (λ l. is_lt (cond l Less (cond (int_lt b a) Greater Equal)) ≡ l) [ true ↦ refl | false ↦ elim (int_lt b a) as (λ g. is_lt (cond g Greater Equal) ≡ false) [ true ↦ refl | false ↦ refl ] ]
 
 -- before how many tables of a greater id it stands
-pub told_there : (table : TableInfo) (ts : List RustTableInfo) → with_told table (map shown_info ts) ≡ insert (map shown_info ts) (position_or_len (λ (t : RustTableInfo). int_lt table.id t.id) ts) table
+pub told_there : (table : TableInfo) (ts : List RustTableInfo) → with_info table (map shown_info ts) ≡ insert (map shown_info ts) (position_or_len (λ (t : RustTableInfo). int_lt table.id t.id) ts) table
 told_there table [] = refl
 told_there table (t ∷ ts) =
     let n = position_or_len (λ (t : RustTableInfo). int_lt table.id t.id) ts in
     let more : suc n ≡ 1 + n = omega arith in
-    ap (λ b. cond b (table ∷ shown_info t ∷ map shown_info ts) (shown_info t ∷ with_told table (map shown_info ts))) (less_is table.id t.id)
-    ∙ elim (int_lt table.id t.id) as (λ b. cond b (table ∷ shown_info t ∷ map shown_info ts) (shown_info t ∷ with_told table (map shown_info ts)) ≡ insert (shown_info t ∷ map shown_info ts) (cond (not b) (1 + n) 0) table) [
+    ap (λ b. cond b (table ∷ shown_info t ∷ map shown_info ts) (shown_info t ∷ with_info table (map shown_info ts))) (less_is table.id t.id)
+    ∙ elim (int_lt table.id t.id) as (λ b. cond b (table ∷ shown_info t ∷ map shown_info ts) (shown_info t ∷ with_info table (map shown_info ts)) ≡ insert (shown_info t ∷ map shown_info ts) (cond (not b) (1 + n) 0) table) [
       | true ↦ refl
       | false ↦ ap (λ l. shown_info t ∷ l) (told_there table ts) ∙ ap (λ k. insert (shown_info t ∷ map shown_info ts) k table) more
     ]

@@ -6,8 +6,8 @@ use Rattle.ft_query.proofs.Sweeps.{swept, sweep_next, sweep_end}
 use Rattle.ft_values.specs.declared.table.TableInfo.{TableInfo}
 use Rattle.ft_content.specs.Views.{shown_info}
 use Rattle.ft_documents.specs.Found.{sound_if, with_sound}
-use Rattle.ft_documents.proofs.told.mark_sound.Goals as goal
-use Rattle.ft_documents.proofs.told.mark_sound.Goals.{then-table-id, else-table-id}
+use Rattle.ft_documents.proofs.table_list.mark_sound.Goals as goal
+use Rattle.ft_documents.proofs.table_list.mark_sound.Goals.{then-table-id, else-table-id}
 
 pub loop-table-preserved : goal.loop-table-preserved
 loop-table-preserved c =

@@ -8,8 +8,8 @@ use Rattle.std.proofs.lemmas.Iterator.{YieldsList-from_slice}
 use Rattle.std.proofs.lemmas.Iterator.Search.{position_from_yields_List}
 use Rattle.ft_values.specs.declared.table.TableInfo.{TableInfo}
 use Rattle.ft_content.specs.Views.{shown_info}
-use Rattle.ft_documents.proofs.ToldLemmas.{told_there, place_or_end, info_insert, taken_out}
-use Rattle.ft_documents.proofs.told.insert_table.Goals as goal
+use Rattle.ft_documents.proofs.TableListLemmas.{told_there, place_or_end, info_insert, taken_out}
+use Rattle.ft_documents.proofs.table_list.insert_table.Goals as goal
 
 pub returns-clause-added : goal.returns-clause-added
 returns-clause-added c =
