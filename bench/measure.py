@@ -55,7 +55,7 @@ def queries(words, frequent, middle, letters):
         ("one document by its docid", "SELECT subject FROM mail WHERE docid = 77;", []),
         ("all documents, counted", "SELECT count(*) FROM mail;", []),
         ("all documents, ten docids", "SELECT docid FROM mail LIMIT 10;", []),
-        ("all documents, ten texts behind a thousand", "SELECT * FROM mail LIMIT 10 OFFSET 1000;", []),
+        ("all documents, ten texts after a thousand", "SELECT * FROM mail LIMIT 10 OFFSET 1000;", []),
     ]
 
 
