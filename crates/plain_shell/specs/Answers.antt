@@ -44,6 +44,6 @@ abbrev pub has_float : List Row → Bool
 has_float rows = list_any (list_any is_float) rows
 
 -- An answer with a float is refused before anything is printed (own choice).
-abbrev pub answer_of_rows : Settings → List (List ℕ) → List Row → Answer
-answer_of_rows settings names rows =
+abbrev pub row_print : Settings → List (List ℕ) → List Row → Answer
+row_print settings names rows =
     if has_float rows then blames (codes "floating-point value in result") else says (printed settings (table_of names rows))

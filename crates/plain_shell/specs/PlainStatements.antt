@@ -13,7 +13,7 @@ use Rattle.sqlite.specs.declared.error.Error.{Error}
 use Rattle.sqlite.specs.declared.error.Error.TheVariants.{SqliteFailure}
 use Rattle.sqlite.specs.declared.error.ErrorCode.TheVariants as code
 use Rattle.shell_text.specs.Print.{Settings}
-use Rattle.plain_shell.specs.Answers.{answer_of_rows}
+use Rattle.plain_shell.specs.Answers.{row_print}
 use Rattle.plain_shell.specs.Outcomes.{Answer, blames, lacks_memory, Tells}
 
 abbrev pub is_memory_error : Error → Bool
@@ -56,6 +56,6 @@ module _ {P : Type 0} (g : Ghosts P) where
     refused : (prepared : Held P) (names : List (List ℕ)) → Prepares text old prepared names → Refuses text prepared new e → FailsToAnswer text old new e
 
   pub data QueryTurn (settings : Settings) (text : List ℕ) (old new : Held P) (answer : Answer) : Type 0 where
-    answered : (names : List (List ℕ)) (rows : List Row) → Answers text old new names rows → Tells (answer_of_rows settings names rows) answer
+    answered : (names : List (List ℕ)) (rows : List Row) → Answers text old new names rows → Tells (row_print settings names rows) answer
         → QueryTurn settings text old new answer
     refused : (e : Error) → FailsToAnswer text old new e → TellsRefusal e answer → QueryTurn settings text old new answer

@@ -112,13 +112,8 @@ fn column_names(alloc: Global, names: &[Bytes]) -> Result<Vec<String>, AllocErro
 }
 
 /// What is printed of an answer with these columns.
-pub(crate) fn answer_of_rows(
-    alloc: Global,
-    settings: &Settings,
-    names: &[Bytes],
-    rows: &[Row],
-) -> Answer
-    ensures { Tells (forms.answer_of_rows settings.now names.now rows.now) (answer_as result) }
+pub(crate) fn row_print(alloc: Global, settings: &Settings, names: &[Bytes], rows: &[Row]) -> Answer
+    ensures { Tells (forms.row_print settings.now names.now rows.now) (answer_as result) }
 {
     if have_float(rows) {
         return Err(Complaint::fixed("floating-point value in result"));

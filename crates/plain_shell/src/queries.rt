@@ -4,7 +4,7 @@ ghost use Rattle.plain_shell.specs.OutputViews.{answer_as, complaint_as};
 ghost use Rattle.plain_shell.specs.PlainStatements as turns;
 ghost use Rattle.plain_shell.specs.PlainStatements.{TellsRefusal, Answers, FailsToAnswer, QueryTurn};
 
-use crate::answers::answer_of_rows;
+use crate::answers::row_print;
 use crate::output::{Answer, Complaint};
 use ft_statements::FaultText;
 use shell_text::Settings;
@@ -52,7 +52,7 @@ pub fn query_turn<P: Alter>(
     ensures { QueryTurn P.Store settings.now text.now plain.old plain.new (answer_as result) }
 {
     match asked(plain, text) {
-        Ok((statement, rows)) => answer_of_rows(
+        Ok((statement, rows)) => row_print(
             alloc,
             settings,
             statement.column_names(),

@@ -1,14 +1,14 @@
 -- it is answered, or refused
 use Rattle.std.proofs.Common.{rules}
 use Rattle.plain_shell.specs.Outcomes.{Tells}
-use Rattle.plain_shell.specs.Answers.{answer_of_rows}
+use Rattle.plain_shell.specs.Answers.{row_print}
 use Rattle.plain_shell.specs.OutputViews.{answer_as}
 use Rattle.plain_shell.specs.PlainStatements.{answered, refused}
 use Rattle.plain_shell.proofs.queries.query_turn.Goals as goal
 
 pub returns-in-Ok : goal.returns-in-Ok
 returns-in-Ok g c =
-    let tells : Tells (answer_of_rows c.args.settings.now c.in-Ok.statement.columns c.in-Ok.rows.items) (answer_as c.answer_of_rows.result) = search rules in
+    let tells : Tells (row_print c.args.settings.now c.in-Ok.statement.columns c.in-Ok.rows.items) (answer_as c.row_print.result) = search rules in
     answered c.in-Ok.statement.columns c.in-Ok.rows.items c.in-Ok.ensures.answered tells
 
 pub returns-in-Err : goal.returns-in-Err
