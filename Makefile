@@ -28,7 +28,7 @@ build:
 	mkdir -p bin
 	cp crates/ft_main/out/ft_main bin/ft4sh
 
-# `prove-NAME` proves a library, behind those that it stands on.
+# `prove-NAME` proves a library, after those that it stands on.
 $(foreach it,$(CRATES),$(eval prove-$(it): $(addprefix prove-,$(call below,$(it)))))
 $(LIBRARIES:%=prove-%): prove-%:
 	@tests/gate/prove $* $(CHECK_FLAGS)

@@ -2,7 +2,7 @@
 
 The table is loaded into a file by .import. A copy of that file's full-text store is then opened by the same program as a plain file, so
 that the engine's part stands by itself: its reading of the rows of a term, and its opening of the file, to which the opening of the
-table's file is compared, and the statements that look at the whole table behind it. Times are processor time, as in measure.py.
+table's file is compared, and the statements that look at the whole table after it. Times are processor time, as in measure.py.
 """
 import os
 import shutil
@@ -48,7 +48,7 @@ def in_turns(program, *runs):
 
 
 def checked(program, path):
-    """Seconds of the two statements that look at a whole table, behind the opening."""
+    """Seconds of the two statements that look at a whole table, after the opening."""
     shell = Shell(program, path, os.devnull)
     shell.seconds(ONE)
     told = [(name, shell.seconds(f"INSERT INTO mail(mail) VALUES('{name}');")) for name in ("integrity-check", "rebuild")]

@@ -1,6 +1,6 @@
 """Measures both shells over the inputs that corpus.py wrote, by turns, and prints tables: measure.py PROGRAM SQLITE3 NAME=FOLDER ..
 
-A shell reads its statements from a pipe. To know when it is done with some of them, an unknown dot-command is sent behind them: both
+A shell reads its statements from a pipe. To know when it is done with some of them, an unknown dot-command is sent after them: both
 shells answer it by a line on standard error. A table has for each corpus what ft4sh takes, and how many times sqlite3's that is. Times are
 processor time of the shell, user's and system's. Memory is the most that a shell has: launch.c makes the shell and tells it, since a process
 counts in that figure what its parent had.

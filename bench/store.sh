@@ -17,7 +17,7 @@ use std::time::Instant;
 
 const ROWS: usize = 100_000;
 
-// A row by its number in key order: 10,000 documents have the term `a`, and ten have each of the 9,000 terms behind it.
+// A row by its number in key order: 10,000 documents have the term `a`, and ten have each of the 9,000 terms after it.
 fn row(alloc: Global, number: usize) -> Result<RowChange, AllocError> {
     let mut spots: Vec<Spot> = Vec::new(alloc);
     spots.push(Spot { column: 0, pos: 5, place: 30, size: 5 })?;

@@ -123,7 +123,7 @@ class Reader:
         return Chain(phrases, mosts)
 
     def phrase(self):
-        """A filter restricts the phrase behind it; a phrase without one is restricted by the column before MATCH."""
+        """A filter restricts the phrase after it; a phrase without one is restricted by the column before MATCH."""
         on = self.next(Filter)
         return self.needed(Phrase)._replace(column=on.column if on else self.default)
 
