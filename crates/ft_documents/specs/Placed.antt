@@ -1,5 +1,5 @@
 -- Steps. Index rows, as the lists of places of documents that they mean (own choice).
-use Rattle.std.specs.Prelude.{◌≡◌, ℕ, ℤ, Bool, true, nat_lt, int_lt, ◌==◌, ◌&&◌, ◌||◌, if◌then◌else◌, List, [], ◌∷◌, map, nat_abs, IsPermutation, IsSorted}
+use Rattle.std.specs.Prelude.{◌≡◌, ℤ, Bool, true, nat_lt, int_lt, ◌==◌, ◌&&◌, ◌||◌, if◌then◌else◌, List, [], ◌∷◌, map, nat_abs, IsPermutation, IsSorted}
 use Rattle.std.specs.List.{flat_map, list_all}
 use Rattle.std.specs.declared.cmp.Ordering.{Ordering}
 use Rattle.std.specs.Ordering.{nat_cmp, int_cmp, int_eq, ordering_then}

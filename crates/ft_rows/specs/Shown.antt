@@ -1,5 +1,5 @@
 -- Meaning. The rows that reads give, as rows under their keys.
-use Rattle.std.specs.Prelude.{◌≡◌, ◌≢◌, ℕ, ℤ, Bool, false, ◌&&◌, ◌||◌, List, [], ◌∷◌, map, length, sum_by, reverse, nat_eq}
+use Rattle.std.specs.Prelude.{◌≡◌, ◌≢◌, ℕ, ℤ, false, ◌&&◌, List, [], map, length, sum_by, reverse, nat_eq}
 use Rattle.std.specs.Prelude.{slice_get, Option, option_map, string_bytes, String}
 use Rattle.std.specs.List.{AllByRecursion, flat_map, starts_with}
 use Rattle.std.specs.declared.alloc.Global.{Global}

@@ -7,7 +7,7 @@ use Rattle.std.specs.declared.str.Chars.{Chars}
 use Rattle.std.proofs.lemmas.List.{length-append}
 use Rattle.std.proofs.lemmas.Str.{chars-encodes, chars-nil, encodes_same, encodes-append, cons_from_encodes, length-le-encodes}
 use Rattle.std.proofs.Math.Seq.{take-append_seam}
-use Rattle.ft_statements.specs.Words.{halved, closing, all_but_last, between_marks}
+use Rattle.ft_statements.specs.Words.{halved, closing, between_marks}
 
 characters_are : (text : List ℕ) (u : IsUtf8 text) → chars text ≡ u.0
 characters_are text u = sym (ap chars u.1.1) ∙ chars-encodes u.0 u.1.0

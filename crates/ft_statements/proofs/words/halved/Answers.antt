@@ -1,10 +1,10 @@
 -- words/halved/Answers.antt
 -- one character at a time
-use Rattle.std.proofs.Common.{◌≡◌, true, false, sym, ap, subst, ◌∙◌, string_bytes, arith, rules}
+use Rattle.std.proofs.Common.{◌≡◌, true, false, ap, ◌∙◌, string_bytes, arith}
 use Rattle.std.specs.Prelude.{◌&&◌, ◌==◌}
 use Rattle.std.specs.Str.Iter.{chars_rest}
 use Rattle.std.proofs.lemmas.Bool.Decides.{nat_tests}
-use Rattle.ft_statements.proofs.WordLemmas.{Halves, begins, passes, takes, ends}
+use Rattle.ft_statements.proofs.WordLemmas.{begins, passes, takes, ends}
 use Rattle.ft_statements.proofs.words.halved.Goals as goal
 use Rattle.ft_statements.proofs.words.halved.Goals.{else-after-via-then-after+else-c-mark, else-after-via-else-after}
 
