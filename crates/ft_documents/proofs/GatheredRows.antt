@@ -6,7 +6,7 @@ use Rattle.std.proofs.lemmas.List.{map-append}
 use Rattle.std.proofs.lemmas.Bool.Decides.{Decides-int_eq}
 use Rattle.ft_values.specs.Cells.{Cell, shown_value}
 use Rattle.ft_content.specs.Content.{CellRow, Documents, with_cell, gathered}
-use Rattle.ft_documents.specs.declared.document.Document.{Document}
+use Rattle.ft_documents.specs.declared.documents.Document.{Document}
 use Rattle.ft_documents.specs.Gathered.{shown_document, with_last}
 
 joins_last : (row : CellRow) (documents : Documents) (d : ℤ × List Cell) → int_eq d.0 row.docid ≡ true → with_last row (documents ++ d ∷ []) ≡ documents ++ (d.0, d.1 ++ row.value ∷ []) ∷ []

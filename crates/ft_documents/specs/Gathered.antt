@@ -5,7 +5,7 @@ use Rattle.ft_values.specs.declared.rows.CellRow as source
 use Rattle.ft_values.specs.Cells.{Cell, shown_value}
 use Rattle.ft_content.specs.Content.{CellRow, Documents}
 use Rattle.ft_content.specs.Deserved.{has_docid}
-use Rattle.ft_documents.specs.declared.document.Document.{Document}
+use Rattle.ft_documents.specs.declared.documents.Document.{Document}
 
 -- a document as it is read
 abbrev pub shown_document : Document → ℤ × List Cell

@@ -1,11 +1,18 @@
-//! The documents of rows.
+//! Documents that are held in memory.
 ghost use Rattle.std.specs.Prelude.{◌≡◌, map, IfOk};
-ghost use Rattle.ft_content.specs.Content as content;
 ghost use Rattle.ft_documents.specs.Gathered.{shown_document, shown_row};
+ghost use Rattle.ft_content.specs.Content as content;
 
-use crate::document::Document;
+use ft_content::Value;
 use ft_values::CellRow;
 use std::alloc::{AllocError, Global};
+
+/// A document: its docid, and a cell for each column.
+#[derive(Drop)]
+pub struct Document {
+    pub docid: i64,
+    pub cells: Vec<Value>,
+}
 
 /// The documents that rows of cells are of.
 pub fn gathered(alloc: Global, rows: Vec<CellRow>) -> Result<Vec<Document>, AllocError>

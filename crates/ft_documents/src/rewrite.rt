@@ -1,4 +1,4 @@
-//! Documents that are written anew, as row changes.
+//! Documents that are written anew, as row changes, and in groups.
 ghost use Rattle.std.specs.Prelude.{◌≡◌, ◌++◌, ◌≤◌, map, length, All, IsTrue, IfOk, OnOk};
 ghost use Rattle.std.specs.Ordering.{int_cmp};
 ghost use Rattle.std.specs.FinMap.Entries.{is_sorted};
@@ -7,6 +7,8 @@ ghost use Rattle.ft_rows.specs.Changes.{shown_change, CanApply};
 ghost use Rattle.ft_content.specs.Views.{column_of};
 ghost use Rattle.ft_documents.specs.Tables.{IsOfDocids};
 ghost use Rattle.ft_documents.specs.Rewrite.{shown_rewrite, docids_of, by_docid, AreRight, AreNew, FitIfAny};
+ghost use Rattle.std.specs.Vec.{vec_items};
+ghost use Rattle.std.specs.List.{flat_map};
 ghost use Rattle.ft_documents.specs.RewriteRows as rows;
 
 use crate::document_index::DocumentIndex;
@@ -113,4 +115,41 @@ fn put_cells(
         }
     }
     Ok(())
+}
+
+/// With so many bytes of text a group is full.
+const GROUP_BYTES: usize = 524_288;
+
+/// Documents that are written anew in groups, in their order. A group ends with the document that
+/// fills it, so that the row changes of a group take few megabytes, however many documents there
+/// are.
+pub fn in_groups(alloc: Global, rewrites: Vec<Rewrite>) -> Result<Vec<Vec<Rewrite>>, AllocError>
+    ensures { IfOk result (λ groups. flat_map vec_items groups.items ≡ rewrites.items) }
+{
+    let mut groups = Vec::new(alloc);
+    let mut group = Vec::new(alloc);
+    let mut bytes: usize = 0;
+    for rewrite in rewrites {
+        bytes = bytes.saturating_add(text_bytes(&rewrite.before));
+        bytes = bytes.saturating_add(text_bytes(&rewrite.after));
+        group.push(rewrite)?;
+        if bytes >= GROUP_BYTES {
+            groups.push(group)?;
+            group = Vec::new(alloc);
+            bytes = 0;
+        }
+    }
+    groups.push(group)?;
+    Ok(groups)
+}
+
+// How many bytes of text a document has, none where there is none.
+fn text_bytes(cells: &Option<Vec<Value>>) -> usize {
+    let mut bytes: usize = 0;
+    for cell in cells.as_deref().unwrap_or(&[]) {
+        if let Value::Text(text) = cell {
+            bytes = bytes.saturating_add(text.len());
+        }
+    }
+    bytes
 }

@@ -4,7 +4,7 @@ ghost use Rattle.ft_content.specs.Content as content;
 ghost use Rattle.ft_content.specs.Views.{column_of};
 ghost use Rattle.ft_documents.specs.Standing as standing;
 
-use crate::columns::skipped;
+use crate::tables::skipped;
 use ft_content::{Column, are_names, column_names, has_nul, is_too_long, names_clash};
 use ft_values::{CellRow, TabRow};
 use std::alloc::{AllocError, Global};

@@ -6,7 +6,7 @@ ghost use Rattle.ft_documents.specs.NewDocuments.{new_rewrite};
 ghost use Rattle.ft_documents.specs.Rewrite.{shown_rewrite, removal};
 ghost use Rattle.ft_documents.specs.Updated.{changing, MovesOnly, MayMove};
 
-use crate::document::Document;
+use crate::documents::Document;
 use crate::rewrite::Rewrite;
 use ft_content::{Column, Value, with_values};
 use std::alloc::{AllocError, Global};

@@ -17,7 +17,7 @@ use Rattle.ft_content.specs.Command.{Filter, All, Docid, Match, Item, AllColumns
 use Rattle.ft_content.specs.Answer.{cells_with, named_cell, item_cells, offsets_cell, item_rows, column_place, cut, query_in, chosen}
 use Rattle.ft_content.specs.Deserved.{is_match, is_offsets}
 use Rattle.ft_content.proofs.AnswerLemmas.{item_cells_are, cut_of_map}
-use Rattle.ft_documents.specs.declared.document.Document.{Document}
+use Rattle.ft_documents.specs.declared.documents.Document.{Document}
 use Rattle.ft_documents.specs.Gathered.{shown_document}
 use Rattle.ft_documents.specs.Chosen.{cells_at, document_at}
 use Rattle.ft_documents.specs.Matched.{hit_read, chosen_hits, as_wanted}

@@ -18,7 +18,7 @@ use Rattle.ft_content.specs.Command.{Filter}
 use Rattle.ft_content.specs.Answer.{is_chosen, chosen}
 use Rattle.ft_content.specs.Deserved.{docids_in, with_values, has_docid, moves_fault}
 use Rattle.ft_content.specs.Step.{docids_of, docid_if_any, without_docid, moved, updated}
-use Rattle.ft_documents.specs.declared.document.Document.{Document}
+use Rattle.ft_documents.specs.declared.documents.Document.{Document}
 use Rattle.ft_documents.specs.Gathered.{shown_document}
 use Rattle.ft_documents.specs.Rewrite.{Rewrite, by_docid, rewritten}
 use Rattle.ft_documents.specs.Updated.{changing, leaving, coming, moved_from, MayMove}

@@ -57,8 +57,8 @@ pub(crate) fn chosen_documents<S: Alter>(
     }
 }
 
-/// The documents of docids. One that isn't there is a refusal by the store.
-pub(crate) fn documents_under<S: Alter>(
+// The documents of docids. One that isn't there is a refusal by the store.
+fn documents_under<S: Alter>(
     alloc: Global,
     store: &mut Store<S>,
     tab: i64,

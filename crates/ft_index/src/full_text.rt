@@ -1,8 +1,7 @@
 //! Full-text tables over a store.
-use crate::change::{note_name, noted_names};
-use crate::execute::execute_command;
-use crate::open::opened_tables;
-use crate::plan::planned_changes;
+use crate::commands::{execute_command, planned_changes};
+use crate::row_state::opened_tables;
+use crate::tables::{note_name, noted_names};
 use ft_content::{Command, Fault, Reply, TableInfo};
 use ft_store::{RowChange, Store, StoreFault};
 use sqlite::Alter;

@@ -1,24 +1,16 @@
 //! Full-text tables over a store, with an index that is always the one made from scratch.
 #![tactic(auto)]
 
-mod change;
-mod check;
 mod chosen;
-mod delete;
+mod commands;
 mod documents;
-mod execute;
 mod full_text;
-mod insert;
 mod matching;
-mod open;
-mod optimize;
-mod plan;
-mod rebuild;
 mod row_state;
 mod select;
+mod special;
 mod table_lists;
 mod tables;
-mod update;
 mod written;
 
 pub use ft_content::{

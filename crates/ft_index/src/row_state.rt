@@ -1,4 +1,4 @@
-//! How the rows of a table stand.
+//! How the rows of tables stand, as a store is taken and as one table is asked for.
 ghost use Rattle.std.specs.Prelude.{◌≡◌, ◌<◌, ◌↔◌, ℤ, ℕ, List, map, length, IsTrue, IfOk};
 ghost use Rattle.std.specs.List.{find};
 ghost use Rattle.sqlite.specs.State.{HasCleanDisk};
@@ -6,15 +6,15 @@ ghost use Rattle.ft_store.specs.Calls.{IsPlainFault};
 ghost use Rattle.ft_store.specs.Kept.{shows, value_in};
 ghost use Rattle.ft_content.specs.Content.{Content};
 ghost use Rattle.ft_content.specs.Index.{index_rows};
-ghost use Rattle.ft_content.specs.Views.{column_of};
+ghost use Rattle.ft_content.specs.Views.{column_of, shown_info};
 ghost use Rattle.ft_content.specs.Deserved.{TableState};
 ghost use Rattle.ft_index.specs.DocumentsRead.{Asks, LooksTo};
 ghost use Rattle.ft_index.specs.Kept.{Stands, is_sound};
-ghost use Rattle.ft_index.specs.Opened.{state_of, StandsSo, IsListed, IsNamed};
-ghost use Rattle.ft_documents.specs.Standing as standing;
+ghost use Rattle.ft_index.specs.Opened.{state_of, StandsSo, IsListed, IsNamed, AreMarked};
 ghost use Rattle.ft_documents.specs.Tables.{table_rows, table_index};
+ghost use Rattle.ft_documents.specs.Standing as standing;
 
-use ft_content::Column;
+use ft_content::{Column, TableInfo};
 use ft_documents::{index_lists, is_content, listed_columns};
 use ft_store::{CellRow, Store, StoreFault, TabRow};
 use sqlite::Alter;
@@ -57,8 +57,8 @@ pub(crate) fn state_under<S: Alter>(
     }
 }
 
-/// How the rows of a table that is listed stand. The store is only read, whatever is answered.
-pub(crate) fn read_state<S: Alter>(
+// How the rows of a table that is listed stand. The store is only read, whatever is answered.
+fn read_state<S: Alter>(
     alloc: Global,
     store: &mut Store<S>,
     table: &TabRow,
@@ -102,4 +102,31 @@ fn has_right_index<S: Alter>(
         Some(lists) => store.has_lists(tab, lists),
         None => Ok(false),
     }
+}
+
+/// All tables of a store by rising id, each with its mark. The store is only read, whatever is
+/// answered.
+pub(crate) fn opened_tables<S: Alter>(
+    alloc: Global,
+    store: &mut Store<S>,
+) -> Result<Vec<TableInfo>, StoreFault>
+    ensures { Asks S.Store store.old store.new result IsPlainFault
+        (HasCleanDisk (shows S.Store store.new) → IfOk result (λ tables. AreMarked
+        (value_in S.Store store.old) (value_in S.Store store.old).tables
+        (map shown_info tables.items))) }
+{
+    let rows = store.tables()?;
+    let mut tables = Vec::new(alloc);
+    for row in rows {
+        let columns = listed_columns(alloc, &row)?;
+        let sound = read_state(alloc, store, &row)?.is_sound();
+        let TabRow { id, name, .. } = row;
+        tables.push(TableInfo {
+            id,
+            name,
+            columns,
+            sound,
+        })?;
+    }
+    Ok(tables)
 }

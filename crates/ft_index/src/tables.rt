@@ -1,27 +1,30 @@
-//! Making and removing tables.
+//! Tables that are made and removed, and names that are noted.
 ghost use Rattle.std.specs.Prelude.{◌≡◌, ◌∷◌, [], if◌then◌else◌, map, is_ok, IfOk};
 ghost use Rattle.ft_rows.specs.Changes.{shown_change};
-ghost use Rattle.ft_content.specs.Command as plain;
 ghost use Rattle.ft_content.specs.Views.{shown_info, creation_of};
 ghost use Rattle.ft_content.specs.Deserved.{Contents};
 ghost use Rattle.ft_index.specs.Kept.{table_info};
 ghost use Rattle.ft_index.specs.Planned.{PlansOver, Makes, table_change};
-ghost use Rattle.ft_index.specs.Changed.{with_tables, MakesRows, Does};
+ghost use Rattle.ft_index.specs.Changed.{with_tables, MakesRows, Does, LooksAsked, MakesAsked};
 ghost use Rattle.ft_documents.specs.Found.{with_info};
+ghost use Rattle.sqlite.specs.State.{HasCleanDisk};
+ghost use Rattle.ft_rows.specs.Shown.{shown_note};
+ghost use Rattle.ft_rows.specs.Store.{Note};
+ghost use Rattle.ft_store.specs.Kept.{shows, value_in};
+ghost use Rattle.ft_content.specs.Command as plain;
 
-use crate::change::change_rows;
 use ft_content::{
     Creation, Fault, Reply, TableInfo, column_names, create_fault, free_id, made_columns,
     made_names,
 };
 use ft_documents::{insert_table, remove_table, skipped};
-use ft_store::{RowChange, Store};
+use ft_store::{RowChange, Store, StoreFault};
 use ft_values::table_place;
 use sqlite::Alter;
 use std::alloc::{AllocError, Global};
 
-/// The table that a Create makes, or None where one of its name may be there and is.
-pub(crate) fn made_table(
+// The table that a Create makes, or None where one of its name may be there and is.
+fn made_table(
     alloc: Global,
     tables: &[TableInfo],
     creation: &Creation,
@@ -91,8 +94,8 @@ pub(crate) fn create_table<S: Alter>(
     Ok(Reply::Done)
 }
 
-/// Makes a table, in the store and in the list that is kept beside it, or does nothing.
-pub(crate) fn add_table<S: Alter>(
+// Makes a table, in the store and in the list that is kept beside it, or does nothing.
+fn add_table<S: Alter>(
     alloc: Global,
     store: &mut Store<S>,
     tables: &mut Vec<TableInfo>,
@@ -152,4 +155,35 @@ pub(crate) fn drop_table<S: Alter>(
         remove_table(tables, id);
     }
     Ok(Reply::Done)
+}
+
+// Makes all changes or none.
+fn change_rows<S: Alter>(store: &mut Store<S>, changes: &[RowChange]) -> Result<(), Fault>
+    ensures { MakesRows S.Store store.old store.new (map shown_change changes.now) result }
+{
+    Ok(store.change(changes)?)
+}
+
+/// Notes a name, where the store is open: it is asked first.
+pub(crate) fn note_name<S: Alter>(
+    alloc: Global,
+    store: &mut Store<S>,
+    name: &str,
+) -> Result<(), Fault>
+    ensures { MakesAsked S.Store store.old store.new (Note name.now ∷ []) result }
+{
+    let mut changes = Vec::new(alloc);
+    changes.push(RowChange::Note(String::from_str(alloc, name)?))?;
+    store.ping()?;
+    change_rows(store, changes.as_slice())
+}
+
+/// The noted names, where the store is open.
+pub(crate) fn noted_names<S: Alter>(store: &mut Store<S>) -> Result<Vec<String>, StoreFault>
+    ensures names { HasCleanDisk (shows S.Store store.new)
+        → IfOk result (λ found. map shown_note found.items ≡ (value_in S.Store store.old).noted) }
+    ensures looks { LooksAsked S.Store store.old store.new result }
+{
+    store.ping()?;
+    store.noted()
 }

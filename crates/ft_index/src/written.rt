@@ -1,15 +1,34 @@
-//! Documents that a command writes anew.
-ghost use Rattle.std.specs.Prelude.{◌++◌, map, IfOk};
+//! Documents that commands write: which they are, and how they are made.
+ghost use Rattle.std.specs.Prelude.{◌++◌, map, IfOk, ◌≡◌, zip, slice_get, unwrap_or, ◌⊎◌, IfErr, OnOk, IsTrue, Some};
 ghost use Rattle.std.specs.Vec.Iter.{into_iter_items};
-ghost use Rattle.ft_content.specs.Views.{column_of};
+ghost use Rattle.ft_content.specs.Views.{column_of, cells_of, insertion_of, shown_info, modification_of, deletion_of};
 ghost use Rattle.ft_documents.specs.Rewrite.{shown_rewrite};
 ghost use Rattle.ft_documents.specs.RewriteRows.{rewrite_changes};
 ghost use Rattle.ft_rows.specs.Changes.{shown_change};
-ghost use Rattle.ft_index.specs.Written.{first_parts, AnswersWritten, PlansWritten, AreOfAnew, MakesAnew};
+ghost use Rattle.ft_index.specs.Written.{first_parts, AnswersWritten, PlansWritten, AreOfAnew, MakesAnew, WritesIn};
+ghost use Rattle.sqlite.specs.State.{HasCleanDisk};
+ghost use Rattle.ft_store.specs.Kept.{shows};
+ghost use Rattle.ft_content.specs.Content.{Content};
+ghost use Rattle.ft_content.specs.Deserved.{docids_in};
+ghost use Rattle.ft_index.specs.DocumentsRead.{HasRows, Looks, LooksTo};
+ghost use Rattle.ft_documents.specs.Gathered.{has_given};
+ghost use Rattle.ft_content.specs.Answer.{chosen};
+ghost use Rattle.ft_index.specs.Changed.{with_tables, Does};
+ghost use Rattle.ft_content.specs.Content as content;
+ghost use Rattle.ft_values.specs.declared.fault.Fault.TheVariants as faults;
 
+use crate::chosen::chosen_documents;
+use crate::documents::has_document;
 use crate::tables::adding;
-use ft_content::{Fault, Reply, TableInfo};
-use ft_documents::{Rewrite, in_groups, row_changes};
+use ft_content::{
+    Deletion, Fault, Filter, Insertion, Modification, Reply, TableInfo, Value, delete_tests,
+    insert_tests, listed_names, moves_fault, repeats_name, repeats_set, row_docid, set_docid,
+    update_tests,
+};
+use ft_documents::{
+    Rewrite, filter_query, in_groups, made_documents, removals, row_changes, sound_table,
+    update_rewrites,
+};
 use ft_store::{Parts, RowChange, Store};
 use sqlite::Alter;
 use std::alloc::{AllocError, Global};
@@ -37,9 +56,9 @@ impl Written<'_> {
         Ok(row_changes(alloc, table.id, table.columns.as_slice(), rewrites)?)
     }
 
-    /// Makes all their row changes or none, after the change that comes first, if there is one.
-    /// They are made group by group, so that the changes of one group are in memory at a time.
-    pub(crate) fn make<S: Alter>(
+    // Makes all their row changes or none, after the change that comes first, if there is one.
+    // They are made group by group, so that the changes of one group are in memory at a time.
+    fn make<S: Alter>(
         self,
         alloc: Global,
         store: &mut Store<S>,
@@ -141,4 +160,141 @@ impl Parts for GroupChanges<'_> {
         let changes = row_changes(self.alloc, table.id, table.columns.as_slice(), group)?;
         Ok(Some(changes))
     }
+}
+
+/// The documents that an Insert makes, or its fault. The store is only read, whatever is answered.
+pub(crate) fn insert_written<'t, S: Alter>(
+    alloc: Global,
+    store: &mut Store<S>,
+    tables: &'t [TableInfo],
+    insertion: &Insertion,
+) -> Result<Written<'t>, Fault>
+    ensures { LooksTo S.Store store.old store.new result
+        (WritesIn S.Store (map shown_info tables.now) store.old store.new
+        (insertion_of insertion.now) result) }
+{
+    store.is_in_order();
+    let listed = insertion.columns.as_deref();
+    if repeats_name(alloc, listed.unwrap_or(&[])) {
+        return Err(Fault::DuplicateColumn);
+    }
+    let table = sound_table(tables, insertion.table.as_str())?;
+    let columns = table.columns.as_slice();
+    let names = listed_names(alloc, columns, listed)?;
+    let (names, rows) = (names.as_slice(), insertion.rows.as_slice());
+    if let Some(fault) = insert_tests(columns, names, rows) {
+        return Err(fault);
+    }
+    let last = store.last_docid(table.id)?;
+    let stored = stored_docids(alloc, store, table.id, names, rows)?;
+    let new = made_documents(alloc, last, columns, names, rows, stored.as_slice())?;
+    let rewrites = new.into_rewrites()?;
+    Ok(Written { table, rewrites })
+}
+
+/// Of each row, whether the table has a document with the docid that the row gives. The store,
+/// which is open if it is clean, is only read, whatever is answered.
+fn stored_docids<S: Alter>(
+    alloc: Global,
+    store: &mut Store<S>,
+    tab: i64,
+    names: &[&str],
+    rows: &[Vec<Value>],
+) -> Result<Vec<bool>, Fault>
+    ensures found { IfOk result (λ stored. (HasCleanDisk (shows S.Store store.old)
+        → IsTrue (shows S.Store store.old).is_open) → (content : Content)
+        → HasRows S.Store tab store.old store.new content
+        → stored.items ≡ map (λ row. has_given content.documents
+        (slice_get (docids_in (zip (map (λ n. n.now) names.now) (cells_of row))) 0)) rows.now) }
+    ensures faults { IfErr result (λ fault. (fault ≡ faults.Store) ⊎ (fault ≡ faults.Memory)) }
+    ensures looks { (HasCleanDisk (shows S.Store store.old)
+        → IsTrue (shows S.Store store.old).is_open) → Looks S.Store store.old store.new }
+    ensures live { HasCleanDisk (shows S.Store store.new)
+        → OnOk result (IsTrue (shows S.Store store.old).is_open
+        → IsTrue (shows S.Store store.new).is_open) }
+{
+    let mut stored = Vec::new(alloc);
+    for row in rows {
+        let given = row_docid(names, row.as_slice());
+        stored.push(has_document(store, tab, given)?)?;
+    }
+    Ok(stored)
+}
+
+/// The documents that an Update changes, or its fault. The store is only read, whatever is
+/// answered.
+pub(crate) fn update_written<'t, S: Alter>(
+    alloc: Global,
+    store: &mut Store<S>,
+    tables: &'t [TableInfo],
+    modification: &Modification,
+) -> Result<Written<'t>, Fault>
+    ensures { LooksTo S.Store store.old store.new result
+        (WritesIn S.Store (map shown_info tables.now) store.old store.new
+        (modification_of modification.now) result) }
+{
+    store.is_in_order();
+    let sets = modification.sets.as_slice();
+    if repeats_set(alloc, sets) {
+        return Err(Fault::DuplicateColumn);
+    }
+    let table = sound_table(tables, modification.table.as_str())?;
+    let (columns, filter) = (table.columns.as_slice(), &modification.filter);
+    if let Some(fault) = update_tests(table.name.as_str(), columns, sets, filter) {
+        return Err(fault);
+    }
+    let query = filter_query(alloc, columns, filter)?;
+    let documents = chosen_documents(alloc, store, table.id, filter, query.as_ref())?;
+    let given = set_docid(sets);
+    let docids: Vec<i64> = documents.iter().map(|chosen| chosen.docid).collect(alloc)?;
+    let is_taken = has_document(store, table.id, given)?;
+    if let Some(fault) = moves_fault(docids.as_slice(), given, is_taken) {
+        return Err(fault);
+    }
+    let rewrites = update_rewrites(alloc, columns, sets, documents, given)?;
+    Ok(Written { table, rewrites })
+}
+
+/// Answers a Delete. One of all documents makes the table anew, and reads nothing of the store.
+pub(crate) fn delete_from<S: Alter>(
+    alloc: Global,
+    store: &mut Store<S>,
+    tables: &[TableInfo],
+    deletion: &Deletion,
+) -> Result<Reply, Fault>
+    ensures { Does S.Store (with_tables store.old (map shown_info tables.now))
+        (deletion_of deletion.now) result (with_tables store.new (map shown_info tables.now)) }
+{
+    store.is_in_order();
+    if let Filter::All = &deletion.filter {
+        let table = sound_table(tables, deletion.table.as_str())?;
+        let rewrites = Vec::new(alloc);
+        make_anew(alloc, store, Some(Written { table, rewrites }))?;
+        return Ok(Reply::Done);
+    }
+    let written = delete_written(alloc, store, tables, deletion);
+    write_found(alloc, store, written)
+}
+
+/// The documents that a Delete removes, or its fault. The store is only read, whatever is answered.
+pub(crate) fn delete_written<'t, S: Alter>(
+    alloc: Global,
+    store: &mut Store<S>,
+    tables: &'t [TableInfo],
+    deletion: &Deletion,
+) -> Result<Written<'t>, Fault>
+    ensures { LooksTo S.Store store.old store.new result
+        (WritesIn S.Store (map shown_info tables.now) store.old store.new
+        (deletion_of deletion.now) result) }
+{
+    store.is_in_order();
+    let table = sound_table(tables, deletion.table.as_str())?;
+    let (columns, filter) = (table.columns.as_slice(), &deletion.filter);
+    if let Some(fault) = delete_tests(table.name.as_str(), columns, filter) {
+        return Err(fault);
+    }
+    let query = filter_query(alloc, columns, filter)?;
+    let documents = chosen_documents(alloc, store, table.id, filter, query.as_ref())?;
+    let rewrites = removals(alloc, documents)?;
+    Ok(Written { table, rewrites })
 }

@@ -20,7 +20,7 @@ use Rattle.ft_shell.specs.Effects.{Effects, and_then}
 use Rattle.ft_content.specs.Command.{Insert}
 use Rattle.ft_statements.specs.Dots.{DotCommand, Import, Nothing, SetMode, SetHeaders, SetSeparator, SetNull, SetEcho, SetBail, Print, Importing, Tables, Quit, Usage, Unknown, dot_command_of}
 use Rattle.ft_shell.specs.DotTurns.{DotTurn}
-use Rattle.plain_shell.specs.DotParts.{behind_stop}
+use Rattle.plain_shell.specs.DotParts.{after_stop}
 use Rattle.ft_shell.specs.FullTextTurns.{MaybeNotes, NoteTurn}
 use Rattle.plain_shell.specs.Imports.{delimiter_of, row_cells}
 use Rattle.plain_shell.specs.Records.{warnings}
@@ -208,8 +208,8 @@ dot_none h old new told (Importing what) same is = go (columns_in old.full_text.
 pub body_calls : {P S : Type 0} (g : Ghosts P) (h : Ghosts S) (member : Member) (old new : Shell P S) (told : Answer) → (it : Body g h member old new told) → Called h (λ calls. CallsOf member old told calls) (calls_in g h member old new told it) old.full_text new.full_text
 body_calls g h (Fault line fault) old new told it = same_shell h old new it.0
 body_calls g h (Sql line text) old new told it = statement_calls g h old.settings text old.plain new.plain old.full_text new.full_text told it.2
-body_calls g h (Dot line text) old new told (inl it) = dot_calls g h old new told (dot_command_of (dot_words_of (behind_stop text))) it
-body_calls g h (Dot line text) old new told (inr nothing) = dot_none h old new told (dot_command_of (dot_words_of (behind_stop text))) nothing.0 nothing.1
+body_calls g h (Dot line text) old new told (inl it) = dot_calls g h old new told (dot_command_of (dot_words_of (after_stop text))) it
+body_calls g h (Dot line text) old new told (inr nothing) = dot_none h old new told (dot_command_of (dot_words_of (after_stop text))) nothing.0 nothing.1
 
 pub turn_spelled : {P S : Type 0} (g : Ghosts P) (h : Ghosts S) (member : Member) (old new : Shell P S) (all : Effects) → (turn : Turn g h member old new all) → CallsOf member old turn.body all.calls
 turn_spelled g h member old new all turn = subst (λ calls. CallsOf member old turn.body calls) (sym turn.calls) (body_calls g h member old new turn.body turn.done).0

@@ -6,7 +6,7 @@ use Rattle.shell_text.specs.Units.{Member, Sql, Dot, Fault, members_of}
 use Rattle.shell_text.specs.Dot.{dot_words_of}
 use Rattle.plain_shell.specs.declared.run.Status.{Status}
 use Rattle.plain_shell.specs.declared.run.RunFault.{RunFault}
-use Rattle.plain_shell.specs.DotParts.{behind_stop}
+use Rattle.plain_shell.specs.DotParts.{after_stop}
 use Rattle.plain_shell.specs.Outcomes.{Answer}
 use Rattle.ft_statements.specs.Dots.{DotCommand, Nothing, SetMode, SetHeaders, SetSeparator, SetNull, SetEcho, SetBail, Print, Importing, Tables, Quit, Usage, Unknown, dot_command_of}
 use Rattle.ft_shell.specs.Shell.{Shell}
@@ -39,7 +39,7 @@ module _ {P S : Type 0} (g : Ghosts P) (h : Ghosts S) where
   body_holds : (member : Member) (old new : Shell P S) (told : Answer) → Body g h member old new told → new.holds ≡ old.holds
   body_holds (Fault line fault) old new told it = shell_holds old new it.0
   body_holds (Sql line text) old new told it = it.1
-  body_holds (Dot line text) old new told (inl it) = dot_holds old new told (dot_command_of (dot_words_of (behind_stop text))) it
+  body_holds (Dot line text) old new told (inl it) = dot_holds old new told (dot_command_of (dot_words_of (after_stop text))) it
   body_holds (Dot line text) old new told (inr nothing) = shell_holds old new nothing.0
 
   -- turns one after the other

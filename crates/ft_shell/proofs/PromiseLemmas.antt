@@ -27,7 +27,7 @@ use Rattle.ft_shell.specs.FullTextTurns.{answer_of_reply}
 use Rattle.ft_shell.specs.StatementTurns.{table_names}
 use Rattle.plain_shell.specs.Outcomes.{Answer, Outcome, Tells, says, echoed, lacks_memory, outcome_of}
 use Rattle.ft_shell.specs.Effects.{Effects, idle, and_then, outcome_in}
-use Rattle.plain_shell.specs.DotParts.{behind_stop}
+use Rattle.plain_shell.specs.DotParts.{after_stop}
 use Rattle.ft_shell.proofs.Spelled.{MayNote, MayRead, CallsOf, CallsOfClass, CallsOfDot, CallsOfImport}
 use Rattle.ft_shell.specs.Turns.{Turn, Turns}
 use Rattle.ft_shell.specs.Ran.{Ends}
@@ -131,7 +131,7 @@ few (Sql line text) old told calls it = go (is_unclosed text) it
     go : (is_open : Bool) → MatchBool is_open (calls ≡ []) (CallsOfClass old.settings told calls (made_name (tokens_of text)) (class_of (table_names old.full_text) (tokens_of text))) → Few calls
     go true it = inl (none_of calls it)
     go false it = few_class old.settings told calls (made_name (tokens_of text)) (class_of (table_names old.full_text) (tokens_of text)) it
-few (Dot line text) old told calls it = few_dot old told calls (dot_command_of (dot_words_of (behind_stop text))) it
+few (Dot line text) old told calls it = few_dot old told calls (dot_command_of (dot_words_of (after_stop text))) it
 
 not_noted : (before more : List Call) (command : Command) (answer : Result Reply Fault) → NoCommand (before ++ Executed command answer ∷ more) → ⊥
 not_noted [] more command answer it = it
@@ -377,7 +377,7 @@ module _ (table : List ℕ) (items : Items) (filter : Filter) (limit : Option �
     where
       go : (member : Member) → Turn g h member it.was it.now it.own → Lists g h old all before (Select table items filter limit offset) reply more new
       go (units.Fault line fault) turn = absurd (not_none (none_of selected (sym it.only ∙ turn_spelled g h (units.Fault line fault) it.was it.now it.own turn)))
-      go (Dot line text) turn = absurd (select_dot it.was turn.body (dot_command_of (dot_words_of (behind_stop text))) (subst (λ calls. CallsOfDot it.was turn.body calls (dot_command_of (dot_words_of (behind_stop text)))) it.only (turn_spelled g h (Dot line text) it.was it.now it.own turn)))
+      go (Dot line text) turn = absurd (select_dot it.was turn.body (dot_command_of (dot_words_of (after_stop text))) (subst (λ calls. CallsOfDot it.was turn.body calls (dot_command_of (dot_words_of (after_stop text)))) it.only (turn_spelled g h (Dot line text) it.was it.now it.own turn)))
       go (Sql line text) turn = record {
         line = line;
         text = text;

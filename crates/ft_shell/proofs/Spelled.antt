@@ -23,7 +23,7 @@ use Rattle.ft_shell.specs.FullTextTurns.{answer_of_reply}
 use Rattle.ft_shell.specs.StatementTurns.{table_names}
 use Rattle.ft_shell.specs.ImportTurns.{columns_in, answer_of_insert}
 use Rattle.plain_shell.specs.Records.{kept, records_in}
-use Rattle.plain_shell.specs.DotParts.{behind_stop}
+use Rattle.plain_shell.specs.DotParts.{after_stop}
 use Rattle.plain_shell.specs.Outcomes.{Answer, Tells, blames}
 
 -- nothing is called, or the table that is made, if one may be, is noted once
@@ -76,4 +76,4 @@ CallsOfDot old told calls _ = calls ≡ []
 abbrev pub CallsOf : {P S : Type 0} → Member → Shell P S → Answer → List Call → Type 0
 CallsOf (Fault line fault) old told calls = calls ≡ []
 CallsOf (Sql line text) old told calls = MatchBool (is_unclosed text) (calls ≡ []) (CallsOfClass old.settings told calls (made_name (tokens_of text)) (class_of (table_names old.full_text) (tokens_of text)))
-CallsOf (Dot line text) old told calls = CallsOfDot old told calls (dot_command_of (dot_words_of (behind_stop text)))
+CallsOf (Dot line text) old told calls = CallsOfDot old told calls (dot_command_of (dot_words_of (after_stop text)))

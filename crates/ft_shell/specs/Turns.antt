@@ -10,7 +10,7 @@ use Rattle.ft_shell.specs.Shell.{Shell}
 use Rattle.ft_statements.specs.Texts.{split_text}
 use Rattle.ft_statements.specs.Dots.{DotCommand, dot_command_of}
 use Rattle.ft_shell.specs.DotTurns.{DotTurn}
-use Rattle.plain_shell.specs.DotParts.{behind_stop}
+use Rattle.plain_shell.specs.DotParts.{after_stop}
 use Rattle.ft_shell.specs.StatementTurns.{StatementTurn}
 use Rattle.ft_index.specs.Called.{Call}
 use Rattle.ft_shell.specs.TurnCalls.{dot_in, statement_in}
@@ -34,13 +34,13 @@ module _ {P S : Type 0} (g : Ghosts P) (h : Ghosts S) where
   Body (Fault line fault) old new told = (new ≡ old) × (told ≡ blames (split_text fault))
   Body (Sql line text) old new told = (new.settings ≡ old.settings) × (new.holds ≡ old.holds)
       × StatementTurn g h old.settings text old.plain new.plain old.full_text new.full_text told
-  Body (Dot line text) old new told = DotOrLacks old new told (dot_command_of (dot_words_of (behind_stop text)))
+  Body (Dot line text) old new told = DotOrLacks old new told (dot_command_of (dot_words_of (after_stop text)))
 
   -- the calls that this makes of the full-text tables
   abbrev pub calls_in : (member : Member) (old new : Shell P S) (told : Answer) → Body member old new told → List Call
   calls_in (Fault line fault) old new told it = []
   calls_in (Sql line text) old new told it = statement_in g h old.settings text old.plain new.plain old.full_text new.full_text told it.2
-  calls_in (Dot line text) old new told (inl it) = dot_in g h old new told (dot_command_of (dot_words_of (behind_stop text))) it
+  calls_in (Dot line text) old new told (inl it) = dot_in g h old new told (dot_command_of (dot_words_of (after_stop text))) it
   calls_in (Dot line text) old new told (inr nothing) = []
 
   -- The answer is written with the line that the member begins on. The text of a unit is echoed

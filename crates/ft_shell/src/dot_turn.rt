@@ -4,17 +4,17 @@ ghost use Rattle.shell_text.specs.Dot.{dot_words_of};
 ghost use Rattle.plain_shell.specs.OutputViews.{answer_as};
 ghost use Rattle.ft_statements.specs.DotViews.{command_as};
 ghost use Rattle.ft_statements.specs.Dots.{dot_command_of};
-ghost use Rattle.plain_shell.specs.DotParts as parts;
 ghost use Rattle.plain_shell.specs.Outcomes.{lacks_memory};
 ghost use Rattle.ft_shell.specs.Turns.{DotOrLacks};
 ghost use Rattle.ft_shell.specs.Shell.{shell_of};
+ghost use Rattle.ft_shell.specs.TablesTurns.{TablesTurn};
+ghost use Rattle.plain_shell.specs.DotParts as parts;
 
 use crate::import::import_turn;
-use crate::listing::tables_turn;
 use ft_index::FullText;
-use ft_statements::{DotCommand, FaultText, apply, dot_command, print_text};
-use plain_shell::{Answer, Complaint, Output, Source};
-use shell_text::{Settings, dot_words};
+use ft_statements::{DotCommand, FaultText, apply, dot_command, listed_tables, print_text};
+use plain_shell::{Answer, Complaint, Output, Source, found_tables};
+use shell_text::{Settings, dot_words, write_names};
 use sqlite::{Alter, Connection};
 use std::alloc::Global;
 
@@ -56,8 +56,8 @@ fn set_turn(settings: &mut Settings, command: &DotCommand) -> Answer
 }
 
 // What stands after the full stop at its front.
-fn behind_stop(text: &str) -> &str
-    ensures { result.now ≡ parts.behind_stop text.now }
+fn after_stop(text: &str) -> &str
+    ensures { result.now ≡ parts.after_stop text.now }
 {
     match text.as_bytes() {
         [b'.', ..] => &text[1..],
@@ -77,9 +77,26 @@ pub(crate) fn dot_line_turn<P: Alter, S: Alter, F: Source>(
     ensures { DotOrLacks P.Store S.Store
         (shell_of settings.old plain.old full_text.old (F.holds source.old))
         (shell_of settings.new plain.new full_text.new (F.holds source.new)) (answer_as result)
-        (dot_command_of (dot_words_of (parts.behind_stop text.now))) }
+        (dot_command_of (dot_words_of (parts.after_stop text.now))) }
 {
-    let words = dot_words(alloc, behind_stop(text))?;
+    let words = dot_words(alloc, after_stop(text))?;
     let command = dot_command(alloc, words.as_slice())?;
     dot_turn(alloc, settings, plain, full_text, source, &command)
+}
+
+// Lists the full-text tables, and those plain tables that were noted and can be read.
+fn tables_turn<P: Alter, S: Alter>(
+    alloc: Global,
+    plain: &mut Connection<P>,
+    full_text: &mut FullText<S>,
+) -> Answer
+    ensures { TablesTurn P.Store S.Store plain.old plain.new full_text.old full_text.new
+        (answer_as result) }
+{
+    let noted = full_text.noted()?;
+    let found = found_tables(alloc, plain, noted.as_slice())?;
+    let names = listed_tables(alloc, full_text.tables(), found)?;
+    let mut bytes: Vec<u8> = Vec::new(alloc);
+    write_names(alloc, names.as_slice(), &mut bytes)?;
+    Ok(Output::Bytes(bytes))
 }

@@ -1,5 +1,5 @@
 //! What `.import` does in a session.
-ghost use Rattle.std.specs.Prelude.{◌≡◌, ◌+◌, ◌^◌, ◌<◌, length, map};
+ghost use Rattle.std.specs.Prelude.{◌≡◌, ◌+◌, ◌^◌, ◌<◌, length, map, None, option_map, string_bytes, IfOk};
 ghost use Rattle.std.specs.List.{enumerate_from};
 ghost use Rattle.ft_content.specs.Views.{shown_info};
 ghost use Rattle.ft_statements.specs.DotViews.{import_as};
@@ -9,20 +9,23 @@ ghost use Rattle.ft_shell.specs.Shell.{shell_of};
 ghost use Rattle.ft_statements.specs.Dots.{Importing};
 ghost use Rattle.plain_shell.specs.OutputViews.{answer_as};
 ghost use Rattle.ft_statements.specs.Views.{texts_of};
+ghost use Rattle.ft_values.specs.Cells.{shown_value};
+ghost use Rattle.ft_content.specs.Command.{Insert};
+ghost use Rattle.ft_content.specs.Views as views;
+ghost use Rattle.plain_shell.specs.Imports as forms;
 
-use crate::full_text_turn::note_turn;
-use crate::insertion::insert_of;
-use ft_content::TableInfo;
+use crate::turns::note_turn;
+use ft_content::{Command, Insertion, TableInfo, Value};
 use ft_index::FullText;
 use ft_statements::Import;
 use ft_values::table_place;
 use plain_shell::{
-    Answer, Complaint, ImportFault, Output, Source, delimiter_of, import_records, into_table,
-    left_records, reads_table, skipped, warnings,
+    Answer, Complaint, ImportFault, Output, Source, delimiter_of, fitted, import_records,
+    into_table, left_records, reads_table, skipped, warnings,
 };
 use shell_text::{Settings, read_records};
 use sqlite::{Alter, Connection};
-use std::alloc::Global;
+use std::alloc::{AllocError, Global};
 
 /// Puts the records of a file into a table, all of them or none.
 pub(crate) fn import_turn<P: Alter, S: Alter, F: Source>(
@@ -150,4 +153,48 @@ fn into_new_table<P: Alter, S: Alter>(
     let lines = warnings(alloc, what.file.as_str(), columns, first + 1, rest)?;
     import_records(alloc, plain, table, Some(names.as_slice()), columns, rest)?;
     note_turn(full_text, table, lines)
+}
+
+// A field as a value: its text, or NULL.
+fn field_cell(alloc: Global, field: Option<&str>) -> Result<Value, AllocError>
+    ensures { IfOk result (λ value. shown_value value
+        ≡ forms.field_cell (option_map (λ text. text.now) field.entry)) }
+{
+    match field {
+        Some(text) => Ok(Value::Text(String::from_str(alloc, text)?)),
+        None => Ok(Value::Null),
+    }
+}
+
+// A record as a row of so many values of a full-text table.
+fn row_cells(alloc: Global, fields: &[String], columns: usize) -> Result<Vec<Value>, AllocError>
+    ensures { IfOk result (λ row. views.cells_of row
+        ≡ forms.row_cells columns (map string_bytes fields.now)) }
+{
+    let mut row = Vec::new(alloc);
+    for field in fitted(alloc, fields, columns)? {
+        row.push(field_cell(alloc, field)?)?;
+    }
+    Ok(row)
+}
+
+// The command that puts records into a full-text table with so many columns.
+fn insert_of(
+    alloc: Global,
+    table: &str,
+    columns: usize,
+    records: Vec<Vec<String>>,
+) -> Result<Command, AllocError>
+    ensures { IfOk result (λ command. views.command_of command
+        ≡ Insert table.now None (map (forms.row_cells columns) (map texts_of records.items))) }
+{
+    let mut rows: Vec<Vec<Value>> = Vec::new(alloc);
+    for fields in records {
+        rows.push(row_cells(alloc, fields.as_slice(), columns)?)?;
+    }
+    Ok(Command::Insert(Insertion {
+        table: String::from_str(alloc, table)?,
+        columns: None,
+        rows,
+    }))
 }

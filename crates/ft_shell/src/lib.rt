@@ -2,14 +2,9 @@
 #![tactic(auto)]
 
 mod dot_turn;
-mod full_text_turn;
 mod import;
-mod insertion;
-mod listing;
-mod plain_turn;
 mod session;
-mod statement_turn;
-mod unit_turn;
+mod turns;
 
 pub use crate::session::Session;
 pub use plain_shell::{Outputs, RunFault, Source, SourceFault, Status};

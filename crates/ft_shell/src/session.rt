@@ -11,7 +11,7 @@ ghost use Rattle.ft_shell.specs.Shell.{shell_with};
 ghost use Rattle.plain_shell.specs.Sources.{Files};
 ghost use Rattle.plain_shell.specs.Writing.{SameWriters};
 
-use crate::unit_turn::unit_turn;
+use crate::turns::unit_turn;
 use ft_index::FullText;
 use ft_statements::split_text;
 use plain_shell::{
@@ -211,12 +211,12 @@ impl<P: Alter, S: Alter> Session<P, S> {
     {
         let mut rest = bytes;
         while !outputs.status.quit {
-            let Some((line, behind)) = first_line(rest) else {
+            let Some((line, after)) = first_line(rest) else {
                 lines.keep(rest)?;
                 return Ok(());
             };
             self.end_line(lines, line, source, outputs)?;
-            rest = behind;
+            rest = after;
         }
         Ok(())
     }

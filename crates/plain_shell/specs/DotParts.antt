@@ -7,9 +7,9 @@ use Rattle.ft_statements.specs.Settings.{settings_after, may_set}
 use Rattle.plain_shell.specs.Outcomes.{Answer, silent, blames}
 
 -- what stands after the full stop at its front
-abbrev pub behind_stop : List ℕ → List ℕ
-behind_stop [] = []
-behind_stop (b ∷ text) = if b == 0x2E then text else b ∷ text
+abbrev pub after_stop : List ℕ → List ℕ
+after_stop [] = []
+after_stop (b ∷ text) = if b == 0x2E then text else b ∷ text
 
 -- a setting is changed, but for a separator that may not be set
 abbrev pub Sets : DotCommand → Settings → Settings → Answer → Type 0

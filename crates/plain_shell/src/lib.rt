@@ -4,9 +4,7 @@
 
 mod answers;
 mod imports;
-mod into_tables;
 mod line_reader;
-mod listing;
 mod output;
 mod plain_import;
 mod queries;
@@ -17,13 +15,11 @@ mod source;
 mod written;
 
 pub use crate::imports::delimiter_of;
-pub use crate::into_tables::into_table;
 pub use crate::line_reader::{LineReader, Refusal, end_refusal, first_line};
-pub use crate::listing::found_tables;
 pub use crate::output::{Answer, Complaint, Output};
-pub use crate::plain_import::{ImportFault, import_records};
+pub use crate::plain_import::{ImportFault, import_records, into_table};
 pub use crate::queries::{query_turn, refusal};
-pub use crate::readable::reads_table;
+pub use crate::readable::{found_tables, reads_table};
 pub use crate::records::{fitted, left_records, skipped, warnings};
 pub use crate::run::{Outputs, RunFault, Status, echo_text, flush, is_over, read_chunk, tell};
 pub use crate::source::{Source, SourceFault};

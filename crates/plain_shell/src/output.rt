@@ -42,7 +42,7 @@ impl Complaint {
     }
 
     /// The same after warnings.
-    pub fn behind(warnings: String, text: &'static str) -> Complaint
+    pub fn after(warnings: String, text: &'static str) -> Complaint
         ensures { complaint_as result ≡ forms.complains (string_bytes warnings) text.now }
     {
         Complaint {

@@ -1,5 +1,5 @@
-//! Records into a table of the plain database, in one transaction.
-ghost use Rattle.std.specs.Prelude.{ℕ, List, ◌≡◌, ◌+◌, ◌≤◌, [], ◌∷◌, map, if◌then◌else◌, option_map, string_bytes, IfOk, OnOk, OnErr, IsErrOf, MatchResult};
+//! An import into a plain table, in one transaction, and what is said of it.
+ghost use Rattle.std.specs.Prelude.{ℕ, List, ◌≡◌, ◌+◌, ◌≤◌, [], ◌∷◌, map, if◌then◌else◌, option_map, string_bytes, IfOk, OnOk, OnErr, IsErrOf, MatchResult, ◌^◌, ◌<◌, length};
 ghost use Rattle.sqlite_value.specs.Value.{owned};
 ghost use Rattle.sqlite.specs.Values.{bound};
 ghost use Rattle.sqlite.specs.Schema.{Schema};
@@ -9,13 +9,19 @@ ghost use Rattle.plain_shell.specs.declared.plain_import.ImportFault.TheVariants
 ghost use Rattle.plain_shell.specs.Imports.{creation_of, insertion_of};
 ghost use Rattle.plain_shell.specs.PlainImports.{HasColumns, IsOnlyBelow, CommitsNothing, Prepare, Run, runs_of, insertions, import_steps, CommitsAll, CountsColumns, Declines, IsInside, StaysInside, TriesCount, TriesStep, TriesSteps};
 ghost use Rattle.plain_shell.specs.PlainStatements.{IfClean};
+ghost use Rattle.ft_statements.specs.Views.{texts_of};
+ghost use Rattle.std.specs.List.{enumerate_from};
+ghost use Rattle.ft_statements.specs.DotViews.{import_as};
+ghost use Rattle.plain_shell.specs.IntoTables.{IntoTable};
+ghost use Rattle.plain_shell.specs.OutputViews.{answer_as};
 ghost use Rattle.plain_shell.specs.PlainStatements as turns;
 ghost use Rattle.plain_shell.specs.PlainImports as forms;
-ghost use Rattle.ft_statements.specs.Views.{texts_of};
 
 use crate::imports::{creation_text, insertion_text};
+use crate::output::{Answer, Output};
 use crate::queries::is_memory_error;
-use crate::records::fitted;
+use crate::records::{fitted, warnings};
+use ft_statements::Import;
 use sqlite::types::ValueRef;
 use sqlite::{Alter, Connection, Error, Statement, Transaction};
 use std::alloc::{AllocError, AllocFailed, Global};
@@ -227,8 +233,8 @@ fn field_value(field: Option<&str>) -> ValueRef<'_>
     }
 }
 
-/// How many columns a plain table has: the one number from 1 to 100 of values that it takes.
-pub(crate) fn column_count<P: Alter>(
+// How many columns a plain table has: the one number from 1 to 100 of values that it takes.
+fn column_count<P: Alter>(
     alloc: Global,
     plain: &mut Connection<P>,
     table: &str,
@@ -282,4 +288,23 @@ fn with_count(found: Option<usize>, takes: bool, count: usize) -> Result<Option<
         Some(_) => Err(ImportFault::Refused),
         None => Ok(Some(count)),
     }
+}
+
+/// Records into a plain table that is there. The first of them has this number.
+pub fn into_table<P: Alter>(
+    alloc: Global,
+    plain: &mut Connection<P>,
+    what: &Import,
+    first: usize,
+    records: &[Vec<String>],
+) -> Answer
+    requires { first + length records.now < 2 ^ 64 }
+    ensures { IntoTable P.Store (import_as what.now)
+        (enumerate_from first (map texts_of records.now)) plain.old plain.new (answer_as result) }
+{
+    let table = what.table.as_str();
+    let columns = column_count(alloc, plain, table)?;
+    let lines = warnings(alloc, what.file.as_str(), columns, first, records)?;
+    import_records(alloc, plain, table, None, columns, records)?;
+    Ok(Output::Warnings(lines))
 }

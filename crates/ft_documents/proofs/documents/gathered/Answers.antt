@@ -4,7 +4,7 @@ use Rattle.std.proofs.lemmas.List.{map-append}
 use Rattle.ft_values.specs.declared.rows.Value.{Value}
 use Rattle.ft_values.specs.Cells.{shown_value}
 use Rattle.ft_content.specs.Content.{gathered}
-use Rattle.ft_documents.specs.declared.document.Document.{Document}
+use Rattle.ft_documents.specs.declared.documents.Document.{Document}
 use Rattle.ft_documents.specs.Gathered.{shown_document, shown_row, with_last}
 use Rattle.ft_documents.proofs.GatheredRows.{joined, behind, first_of_all, gathered_more, gathered_none}
 use Rattle.ft_documents.proofs.documents.gathered.Goals as goal

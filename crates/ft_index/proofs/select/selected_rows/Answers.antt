@@ -15,7 +15,7 @@ use Rattle.ft_content.specs.Command.{All, Match, Listed}
 use Rattle.ft_content.specs.Answer.{cut, answer_rows}
 use Rattle.ft_content.specs.Deserved.{is_match}
 use Rattle.ft_content.specs.Views.{items_of, filter_of, column_of, item_of}
-use Rattle.ft_documents.specs.declared.document.Document.{Document}
+use Rattle.ft_documents.specs.declared.documents.Document.{Document}
 use Rattle.ft_documents.specs.Chosen.{document_at}
 use Rattle.ft_documents.specs.Matched.{chosen_hits, as_wanted}
 use Rattle.ft_index.specs.DocumentsRead.{HasRows, Looks}

@@ -30,21 +30,21 @@ returns-in_err-end_line-clause-runs g c =
     let goes : c.loop-outputs.outputs.status.quit ≡ false = search rules in
     let is : c.from_residual-in_err-end_line.result ≡ Err c.in_err-end_line.field-0.0 = search rules in
     let line = c.in-Some.line.now in
-    let behind = c.in-Some.behind.now in
+    let after = c.in-Some.after.now in
     runs_err g.P.Store g.S.Store c.from_residual-in_err-end_line.result c.in_err-end_line.field-0.0 _ _ _ _ is
-    (runs_then {T = Unit {0}} g.P.Store g.S.Store (Err c.in_err-end_line.field-0.0) _ _ (λ (more : List ℕ). members_left c.end_line.new.lines (behind ++ more)) _ _ _ c.loop-outputs.invariant.run goes
-    (runs_as {T = Unit {0}} g.P.Store g.S.Store (Err c.in_err-end_line.field-0.0) (λ (more : List ℕ). members_left c.loop-outputs.lines (line ++ 10 ∷ more)) (λ (more : List ℕ). members_left c.end_line.new.lines more) (λ (more : List ℕ). members_left c.loop-outputs.lines (c.loop-outputs.rest.now ++ more)) (λ (more : List ℕ). members_left c.end_line.new.lines (behind ++ more)) (λ more. behind ++ more) _ _
-    (λ more. ap (λ xs. members_left c.loop-outputs.lines (xs ++ more)) c.in-Some.ensures.some.1 ∙ ap (members_left c.loop-outputs.lines) (append_assoc line (10 ∷ behind) more)) (λ more goes. refl) c.in_err-end_line.ensures.runs))
+    (runs_then {T = Unit {0}} g.P.Store g.S.Store (Err c.in_err-end_line.field-0.0) _ _ (λ (more : List ℕ). members_left c.end_line.new.lines (after ++ more)) _ _ _ c.loop-outputs.invariant.run goes
+    (runs_as {T = Unit {0}} g.P.Store g.S.Store (Err c.in_err-end_line.field-0.0) (λ (more : List ℕ). members_left c.loop-outputs.lines (line ++ 10 ∷ more)) (λ (more : List ℕ). members_left c.end_line.new.lines more) (λ (more : List ℕ). members_left c.loop-outputs.lines (c.loop-outputs.rest.now ++ more)) (λ (more : List ℕ). members_left c.end_line.new.lines (after ++ more)) (λ more. after ++ more) _ _
+    (λ more. ap (λ xs. members_left c.loop-outputs.lines (xs ++ more)) c.in-Some.ensures.some.1 ∙ ap (members_left c.loop-outputs.lines) (append_assoc line (10 ∷ after) more)) (λ more goes. refl) c.in_err-end_line.ensures.runs))
 
 pub loop-outputs-preserved : goal.loop-outputs-preserved
 loop-outputs-preserved g c =
     let goes : c.loop-outputs.outputs.status.quit ≡ false = search rules in
     let line = c.in-Some.line.now in
-    let behind = c.in-Some.behind.now in
+    let after = c.in-Some.after.now in
     record {
       run = passes_then g.P.Store g.S.Store _ _ _ _ _ _ c.loop-outputs.invariant.run goes
-          (passes_as g.P.Store g.S.Store (λ (more : List ℕ). members_left c.loop-outputs.lines (line ++ 10 ∷ more)) (λ (more : List ℕ). members_left c.end_line.new.lines more) (λ (more : List ℕ). members_left c.loop-outputs.lines (c.loop-outputs.rest.now ++ more)) (λ (more : List ℕ). members_left c.end_line.new.lines (behind ++ more)) (λ more. behind ++ more) _ _
-          (λ more. ap (λ xs. members_left c.loop-outputs.lines (xs ++ more)) c.in-Some.ensures.some.1 ∙ ap (members_left c.loop-outputs.lines) (append_assoc line (10 ∷ behind) more)) (λ more goes. refl) c.in_ok-end_line.ensures.runs);
+          (passes_as g.P.Store g.S.Store (λ (more : List ℕ). members_left c.loop-outputs.lines (line ++ 10 ∷ more)) (λ (more : List ℕ). members_left c.end_line.new.lines more) (λ (more : List ℕ). members_left c.loop-outputs.lines (c.loop-outputs.rest.now ++ more)) (λ (more : List ℕ). members_left c.end_line.new.lines (after ++ more)) (λ more. after ++ more) _ _
+          (λ more. ap (λ xs. members_left c.loop-outputs.lines (xs ++ more)) c.in-Some.ensures.some.1 ∙ ap (members_left c.loop-outputs.lines) (append_assoc line (10 ∷ after) more)) (λ more goes. refl) c.in_ok-end_line.ensures.runs);
       waits = c.in_ok-end_line.ensures.waiting;
       writers = same_then c.args.outputs.now c.loop-outputs.outputs c.end_line.new.outputs c.loop-outputs.invariant.writers c.in_ok-end_line.ensures.writers;
     }

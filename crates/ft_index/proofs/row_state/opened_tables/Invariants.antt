@@ -1,0 +1,14 @@
+-- the tables so far, in a store that was only read and is open if it is clean
+use Rattle.std.proofs.Common.{map}
+use Rattle.std.specs.Prelude.{IsTrue}
+use Rattle.sqlite.specs.State.{HasCleanDisk}
+use Rattle.ft_store.specs.Kept.{shows, value_in}
+use Rattle.ft_content.specs.Views.{shown_info}
+use Rattle.ft_index.specs.DocumentsRead.{Looks}
+use Rattle.ft_index.proofs.OpenedTables.{AreMarkedRows}
+use Rattle.ft_index.proofs.row_state.opened_tables.Given as goal
+
+abbrev pub invariant-loop-row : goal.invariant-loop-row
+invariant-loop-row g l =
+    Looks g.S.Store l.fn.store l.store × (HasCleanDisk (shows g.S.Store l.store) → IsTrue (shows g.S.Store l.store).is_open)
+    × (HasCleanDisk (shows g.S.Store l.store) → HasCleanDisk (shows g.S.Store l.initial.store)) × (HasCleanDisk (shows g.S.Store l.store) → AreMarkedRows (value_in g.S.Store l.fn.store) l.yielded (map shown_info l.tables.items))

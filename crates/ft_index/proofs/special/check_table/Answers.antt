@@ -1,0 +1,61 @@
+-- by the table of the name, and its rows as they are read
+use Rattle.std.proofs.Common.{rules, ◌≡◌, inr, map, Err, Result, sym, subst, ◌∙◌, FitsSigned, w64, to_z-of_z}
+use Rattle.ft_store.specs.Kept.{value_in}
+use Rattle.ft_values.specs.declared.fault.Fault.{Fault}
+use Rattle.ft_content.specs.declared.command.Reply.{Reply}
+use Rattle.ft_content.specs.Command as plain
+use Rattle.ft_content.specs.Views.{shown_info, answer_of}
+use Rattle.ft_index.specs.Kept.{Executes}
+use Rattle.ft_index.specs.Opened.{IsNamed}
+use Rattle.ft_index.specs.Changed.{with_tables}
+use Rattle.ft_index.proofs.Acting.{executes_read}
+use Rattle.ft_index.proofs.CheckLemmas.{told_here, check_missing, check_right, check_wrong}
+use Rattle.ft_index.proofs.Executing.{executes_same}
+use Rattle.ft_index.proofs.special.check_table.Goals as goal
+
+pub returns-in_err-known : goal.returns-in_err-known
+returns-in_err-known g c = record {
+  told =
+      let tables = map shown_info c.args.tables.now in
+      let known = with_tables c.args.store.now tables in
+      let command = plain.Check c.args.table.now in
+      let fault : Fault = c.in_err-known.field-0.0 in
+      let is : c.from_residual.result ≡ Err fault = search rules in
+      let missing = c.in_err-known.ensures in
+      subst (λ (a : Result Reply Fault). Executes g.S.Store known command (answer_of a) known) (sym is)
+      (subst (λ f. Executes g.S.Store known command (Err f) known) (sym missing.0) (executes_same g.S.Store known command _ (λ first holds. inr (check_missing first tables c.args.table.now holds.told missing.1))));
+  only = search rules;
+  live = search rules;
+}
+
+pub returns-then-is_sound : goal.returns-then-is_sound
+returns-then-is_sound g c = record {
+  told =
+      let tables = map shown_info c.args.tables.now in
+      let known = shown_info c.in_ok-known.known.now in
+      let v = value_in g.S.Store c.args.store.now in
+      let fits : FitsSigned w64 known.id = search rules in
+      executes_read g.S.Store c.args.store.now c.state_under.new.store tables (plain.Check c.args.table.now) _ c.in_ok-state.ensures.only (λ up first holds.
+      let t = told_here v tables first c.args.table.now known c.is_in_order.ensures.order holds c.in_ok-known.ensures in
+      let named = subst (λ k. IsNamed v k (t.table.0, t.table.1.name)) (sym (to_z-of_z fits)) t.named in
+      let stands = c.in_ok-state.ensures.told (t.table.0, t.table.1.name) t.table.1.held up.clean named t.stands in
+      inr (check_right first c.args.table.now t.table t.found (sym (c.is_sound.ensures t.table.1.held stands) ∙ c.if-is_sound.true)));
+  only = search rules;
+  live = search rules;
+}
+
+pub returns-else-is_sound : goal.returns-else-is_sound
+returns-else-is_sound g c = record {
+  told =
+      let tables = map shown_info c.args.tables.now in
+      let known = shown_info c.in_ok-known.known.now in
+      let v = value_in g.S.Store c.args.store.now in
+      let fits : FitsSigned w64 known.id = search rules in
+      executes_read g.S.Store c.args.store.now c.state_under.new.store tables (plain.Check c.args.table.now) _ c.in_ok-state.ensures.only (λ up first holds.
+      let t = told_here v tables first c.args.table.now known c.is_in_order.ensures.order holds c.in_ok-known.ensures in
+      let named = subst (λ k. IsNamed v k (t.table.0, t.table.1.name)) (sym (to_z-of_z fits)) t.named in
+      let stands = c.in_ok-state.ensures.told (t.table.0, t.table.1.name) t.table.1.held up.clean named t.stands in
+      inr (check_wrong first c.args.table.now t.table t.found (sym (c.is_sound.ensures t.table.1.held stands) ∙ c.if-is_sound.false)));
+  only = search rules;
+  live = search rules;
+}

@@ -1,0 +1,72 @@
+-- by how the rows of the table stand
+use Rattle.std.proofs.Common.{rules, ◌≡◌, List, map, Ok, sym, ap, subst, ◌∙◌, FitsSigned, w64, to_z, of_z, to_z-of_z}
+use Rattle.ft_rows.specs.Store.{Change}
+use Rattle.ft_store.specs.Kept.{value_in}
+use Rattle.ft_content.specs.Command as plain
+use Rattle.ft_content.specs.Content.{Content, IsContent, content_rows}
+use Rattle.ft_content.specs.Views.{TableInfo, shown_info}
+use Rattle.ft_documents.specs.NewDocuments.{new_rewrite}
+use Rattle.ft_documents.specs.Rewrite.{shown_rewrite}
+use Rattle.ft_documents.specs.Tables.{table_rows}
+use Rattle.ft_index.specs.DocumentsRead.{HasRows}
+use Rattle.ft_index.specs.Kept.{PlansFrom}
+use Rattle.ft_index.specs.Opened.{IsNamed}
+use Rattle.ft_index.proofs.Acting.{looks_up}
+use Rattle.ft_index.proofs.CheckLemmas.{told_here}
+use Rattle.ft_index.proofs.LookLemmas.{rows_then}
+use Rattle.ft_index.proofs.RebuildPlans.{plan_right, plan_stale, plan_loose}
+use Rattle.ft_index.proofs.special.rebuilt.Goals as goal
+
+pub returns-in-Sound : goal.returns-in-Sound
+returns-in-Sound g c = record {
+  told = λ tables name is changes are up contents held.
+      let v = value_in g.S.Store c.args.store.now in
+      let known = shown_info c.args.table.now in
+      let t = told_here v tables contents name known c.is_in_order.ensures.order held is in
+      let fits : FitsSigned w64 known.id = search rules in
+      let named = subst (λ k. IsNamed v k (t.table.0, t.table.1.name)) (sym (to_z-of_z fits)) t.named in
+      let stands = c.in_ok-state.ensures.told (t.table.0, t.table.1.name) t.table.1.held up.clean named t.stands in
+      subst (λ (cs : List Change). PlansFrom contents (plain.Rebuild name) v (Ok cs)) (sym are) (plan_right v tables contents name known c.is_in_order.ensures.order held t (sym c.in-Sound.is ∙ stands));
+  only = search rules;
+  live = search rules;
+}
+
+pub returns-in_ok-rewrites-in-Stale : goal.returns-in_ok-rewrites-in-Stale
+returns-in_ok-rewrites-in-Stale g c = record {
+  told = λ tables name is changes are up contents held.
+      let v = value_in g.S.Store c.args.store.now in
+      let known = shown_info c.args.table.now in
+      let t = told_here v tables contents name known c.is_in_order.ensures.order held is in
+      let fits : FitsSigned w64 known.id = search rules in
+      let named = subst (λ k. IsNamed v k (t.table.0, t.table.1.name)) (sym (to_z-of_z fits)) t.named in
+      let old = c.args.store.now in
+      let mid = c.state_under.new.store in
+      let new = c.all_documents.new.store in
+      let one = c.in_ok-state.ensures.only in
+      let two = c.in_ok-documents-in-Stale.ensures.only in
+      let stands = c.in_ok-state.ensures.told (t.table.0, t.table.1.name) t.table.1.held (looks_up g.S.Store mid new tables tables two up).clean named t.stands in
+      let rewrites = map shown_rewrite c.in_ok-rewrites-in-Stale.rewrites.items in
+      let id : to_z w64 (of_z w64 known.id) ≡ t.table.0 = to_z-of_z fits ∙ ap (λ (k : TableInfo). k.id) (sym t.told) in
+      let all : (content : Content) → IsContent t.table.1.name content → table_rows t.table.0 v ≡ content_rows content → rewrites ≡ map new_rewrite content.documents =
+      λ content is_content rows.
+      let has : HasRows g.S.Store (to_z w64 (of_z w64 known.id)) old new content = record { clean = up.clean; is_open = up.is_open; name = t.table.1.name; is_content = is_content; rows = ap (λ k. table_rows k v) id ∙ rows } in
+      c.in_ok-rewrites-in-Stale.ensures ∙ ap (map new_rewrite) (c.in_ok-documents-in-Stale.ensures.told content (rows_then g.S.Store old mid new one two (to_z w64 (of_z w64 known.id)) content has)) in
+      subst (λ (cs : List Change). PlansFrom contents (plain.Rebuild name) v (Ok cs)) (sym are.are)
+      (plan_stale v tables contents name known c.is_in_order.ensures.order held t rewrites are.rest (sym c.in-Stale.is ∙ stands) all are.of_written.0 are.of_written.1);
+  only = search rules;
+  live = search rules;
+}
+
+pub returns-in-Loose : goal.returns-in-Loose
+returns-in-Loose g c = record {
+  told = λ tables name is up contents held.
+      let v = value_in g.S.Store c.args.store.now in
+      let known = shown_info c.args.table.now in
+      let t = told_here v tables contents name known c.is_in_order.ensures.order held is in
+      let fits : FitsSigned w64 known.id = search rules in
+      let named = subst (λ k. IsNamed v k (t.table.0, t.table.1.name)) (sym (to_z-of_z fits)) t.named in
+      let stands = c.in_ok-state.ensures.told (t.table.0, t.table.1.name) t.table.1.held up.clean named t.stands in
+      plan_loose v tables contents name known c.is_in_order.ensures.order held t (sym c.in-Loose.is ∙ stands);
+  only = search rules;
+  live = search rules;
+}

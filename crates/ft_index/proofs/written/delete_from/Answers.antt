@@ -1,0 +1,70 @@
+-- all documents, or those that were found
+use Rattle.std.proofs.Common.{rules, ◌≡◌, [], map, string_bytes, Err, Ok, sym, ap, subst}
+use Rattle.ft_store.specs.Kept.{value_in}
+use Rattle.ft_values.specs.declared.fault.Fault.{Fault}
+use Rattle.ft_content.specs.declared.command.Reply.TheVariants as reply
+use Rattle.ft_content.specs.Command as plain
+use Rattle.ft_content.specs.Command.{Command}
+use Rattle.ft_content.specs.Views.{filter_of, deletion_of, shown_info}
+use Rattle.ft_documents.specs.Rewrite.{shown_rewrite}
+use Rattle.ft_index.specs.Changed.{Does, with_tables}
+use Rattle.ft_index.proofs.Acting.{told_kept}
+use Rattle.ft_index.proofs.Anew.{delete_reaches}
+use Rattle.ft_index.proofs.DeleteWrites.{due, made, gone, leaves, replies, is_write, writes_table}
+use Rattle.ft_index.proofs.Doing.{does_failed, does_undone, does_made}
+use Rattle.ft_index.proofs.LookLemmas.{no_look}
+use Rattle.ft_index.proofs.Planning.{plans_unfit}
+use Rattle.ft_index.proofs.written.delete_from.Goals as goal
+
+pub returns-in_err-table : goal.returns-in_err-table
+returns-in_err-table g c =
+    let f : plain.Filter = plain.All in
+    let table = c.as_str.result.now in
+    let command = plain.Delete table f in
+    let same : command ≡ deletion_of c.args.deletion.now = λ i. plain.Delete (c.as_str.ensures.value i) (sym (λ j. filter_of (c.in-All.is j)) i) in
+    let tables = map shown_info c.args.tables.now in
+    let old = c.args.store.now in
+    let fault : Fault = c.in_err-table.field-0.0 in
+    let is : c.from_residual.result ≡ Err fault = search rules in
+    subst (λ (x : Command). Does g.S.Store (with_tables old tables) x c.from_residual.result (with_tables old tables)) same
+    (does_failed g.S.Store old old tables command (no_look g.S.Store old) fault c.from_residual.result is
+    (plans_unfit g.S.Store command table (due f) (made f) (gone f) (is_write f table) old old tables fault c.in_err-table.ensures))
+
+pub returns-in_err-make_anew : goal.returns-in_err-make_anew
+returns-in_err-make_anew g c =
+    let table = c.as_str.result.now in
+    let command = plain.Delete table plain.All in
+    let same : command ≡ deletion_of c.args.deletion.now = λ i. plain.Delete (c.as_str.ensures.value i) (sym (λ j. filter_of (c.in-All.is j)) i) in
+    let tables = map shown_info c.args.tables.now in
+    let old = c.args.store.now in
+    let new = c.make_anew.new.store in
+    let fault : Fault = c.in_err-make_anew.field-0.0 in
+    let is : c.from_residual-in_err-make_anew.result ≡ Err fault = search rules in
+    let refused : c.make_anew.result ≡ Err fault = search rules in
+    let did = c.make_anew.ensures in
+    let none : map shown_rewrite c.new-rewrites.result.items ≡ [] = ap (map shown_rewrite) c.new-rewrites.ensures.items in
+    subst (λ (x : Command). Does g.S.Store (with_tables old tables) x c.from_residual-in_err-make_anew.result (with_tables new tables)) same
+    (does_undone g.S.Store old old tables command (no_look g.S.Store old) (λ clean is_open. is_open) new did.changes c.make_anew.result did.makes
+    (λ up first holds. delete_reaches (value_in g.S.Store old) tables first table did.changes did.of_anew c.is_in_order.ensures.order holds c.in_ok-table.ensures none) fault c.from_residual-in_err-make_anew.result is refused)
+
+pub returns-in-All : goal.returns-in-All
+returns-in-All g c =
+    let f : plain.Filter = plain.All in
+    let table = c.as_str.result.now in
+    let command = plain.Delete table f in
+    let same : command ≡ deletion_of c.args.deletion.now = λ i. plain.Delete (c.as_str.ensures.value i) (sym (λ j. filter_of (c.in-All.is j)) i) in
+    let tables = map shown_info c.args.tables.now in
+    let old = c.args.store.now in
+    let new = c.make_anew.new.store in
+    let done : c.make_anew.result ≡ Ok tt = search rules in
+    let did = c.make_anew.ensures in
+    let none : map shown_rewrite c.new-rewrites.result.items ≡ [] = ap (map shown_rewrite) c.new-rewrites.ensures.items in
+    subst (λ (x : Command). Does g.S.Store (with_tables old tables) x (Ok reply.Done) (with_tables new tables)) same
+    (does_made g.S.Store old old tables command (no_look g.S.Store old) (λ clean is_open. is_open) new did.changes c.make_anew.result did.makes
+    (λ up first holds. delete_reaches (value_in g.S.Store old) tables first table did.changes did.of_anew c.is_in_order.ensures.order holds c.in_ok-table.ensures none) tables done
+    (told_kept (value_in g.S.Store old) tables command table (made f) (leaves f table)) (replies f table))
+
+pub returns : goal.returns
+returns g c =
+    let deletion = c.args.deletion.now in
+    c.write_found.ensures c.args.store.now (map shown_info c.args.tables.now) (deletion_of deletion) (writes_table (filter_of deletion.filter) (string_bytes deletion.table)) c.delete_written-written.ensures

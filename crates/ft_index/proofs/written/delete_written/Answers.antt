@@ -1,0 +1,132 @@
+-- by the table, the tests, and the documents that are chosen
+use Rattle.std.proofs.Common.{rules, ◌≡◌, ◌≢◌, inl, inr, map, string_bytes, option_map, Err, Some, None, Result, refl, sym, ap, subst, ◌∙◌, to_z-of_z, to_z, of_z, w64, FitsSigned}
+use Rattle.ft_query.specs.Trees.{tree_of}
+use Rattle.ft_values.specs.declared.fault.Fault.{Fault}
+use Rattle.ft_values.specs.declared.fault.Fault.TheVariants as faults
+use Rattle.ft_values.specs.declared.table.TableInfo.{TableInfo as RustTableInfo}
+use Rattle.ft_content.specs.Deserved.{delete_tests, query_fault}
+use Rattle.ft_content.specs.Views.{bare_content, column_of, filter_of, deletion_of, shown_info}
+use Rattle.ft_documents.specs.Chosen.{ReadsAs}
+use Rattle.ft_documents.specs.Found.{IsSoundNamed, IsUnfit}
+use Rattle.ft_documents.specs.Rewrite.{removal}
+use Rattle.ft_documents.proofs.BareLemmas.{reads_bare}
+use Rattle.ft_index.specs.declared.written.Written.{Written}
+use Rattle.ft_index.specs.Written.{Writes, WritesIn, LeadsTo}
+use Rattle.ft_index.proofs.DeleteWrites.{due, made, gone, is_write, leads, tested_due, text_due, none_due}
+use Rattle.ft_index.proofs.Planning.{plans_unfit, plans_failed, plans_do}
+use Rattle.ft_index.proofs.WholeReads.{rows_of, index_of}
+use Rattle.ft_index.proofs.written.delete_written.Goals as goal
+
+pub returns-in_err-table : goal.returns-in_err-table
+returns-in_err-table g c = record {
+  told =
+      let deletion = c.args.deletion.now in
+      let f = filter_of deletion.filter in
+      let name = string_bytes deletion.table in
+      let tables = map shown_info c.args.tables.now in
+      let fault : Fault = c.in_err-table.field-0.0 in
+      let is : c.from_residual.result ≡ Err fault = search rules in
+      let unfit : IsUnfit tables name fault = subst (λ n. IsUnfit tables n fault) c.as_str.ensures.value c.in_err-table.ensures in
+      subst (λ (r : Result Written Fault). WritesIn g.S.Store tables c.args.store.now c.args.store.now (deletion_of deletion) r) (sym is)
+      (plans_unfit g.S.Store (deletion_of deletion) name (due f) (made f) (gone f) (is_write f name) c.args.store.now c.args.store.now tables fault unfit);
+  only = search rules;
+  live = search rules;
+}
+
+pub returns-in-Some : goal.returns-in-Some
+returns-in-Some g c = record {
+  told =
+      let deletion = c.args.deletion.now in
+      let f = filter_of deletion.filter in
+      let name = string_bytes deletion.table in
+      let info : RustTableInfo = c.in_ok-table.table.now in
+      let named : IsSoundNamed (map shown_info c.args.tables.now) name (shown_info info) = subst (λ n. IsSoundNamed (map shown_info c.args.tables.now) n (shown_info info)) c.as_str.ensures.value c.in_ok-table.ensures in
+      let fault : Fault = c.in-Some.fault in
+      plans_failed g.S.Store (deletion_of deletion) name (due f) (made f) (gone f) (is_write f name) c.args.store.now c.args.store.now (map shown_info c.args.tables.now) (shown_info info) c.is_in_order.ensures.order named fault (Err fault) refl (λ content has.
+      let cols = c.as_slice-columns.result.now in
+      let columns_are : content.columns ≡ map column_of cols = has.columns_are ∙ ap (map column_of) (sym c.as_slice-columns.ensures.value) in
+      let tested : delete_tests c.as_str-2.result.now (bare_content cols) f ≡ Some fault = search rules in
+      inr (subst (λ n. due f n content ≡ Some fault) c.as_str-2.ensures.value (tested_due f content cols columns_are c.as_str-2.result.now fault tested)));
+  only = search rules;
+  live = search rules;
+}
+
+pub returns-in_err-query : goal.returns-in_err-query
+returns-in_err-query g c = record {
+  told =
+      let deletion = c.args.deletion.now in
+      let f = filter_of deletion.filter in
+      let name = string_bytes deletion.table in
+      let info : RustTableInfo = c.in_ok-table.table.now in
+      let named : IsSoundNamed (map shown_info c.args.tables.now) name (shown_info info) = subst (λ n. IsSoundNamed (map shown_info c.args.tables.now) n (shown_info info)) c.as_str.ensures.value c.in_ok-table.ensures in
+      let fault : Fault = c.in_err-query.field-0.0 in
+      let is : c.from_residual-in_err-query.result ≡ Err fault = search rules in
+      plans_failed g.S.Store (deletion_of deletion) name (due f) (made f) (gone f) (is_write f name) c.args.store.now c.args.store.now (map shown_info c.args.tables.now) (shown_info info) c.is_in_order.ensures.order named fault _ is (λ content has.
+      let cols = c.as_slice-columns.result.now in
+      let columns_are : content.columns ≡ map column_of cols = has.columns_are ∙ ap (map column_of) (sym c.as_slice-columns.ensures.value) in
+      let tested : delete_tests c.as_str-2.result.now (bare_content cols) f ≡ None = search rules in
+      let refused : fault ≢ faults.Memory → query_fault (bare_content cols) f ≡ Some fault = search rules in
+      subst (λ n. Writes content (due f n content) (made f content) (gone f content) (Err fault)) c.as_str-2.ensures.value (text_due f content cols columns_are c.as_str-2.result.now fault tested refused));
+  only = search rules;
+  live = search rules;
+}
+
+pub returns-in_err-documents : goal.returns-in_err-documents
+returns-in_err-documents g c = record {
+  told =
+      let deletion = c.args.deletion.now in
+      let f = filter_of deletion.filter in
+      let name = string_bytes deletion.table in
+      let info : RustTableInfo = c.in_ok-table.table.now in
+      let named : IsSoundNamed (map shown_info c.args.tables.now) name (shown_info info) = subst (λ n. IsSoundNamed (map shown_info c.args.tables.now) n (shown_info info)) c.as_str.ensures.value c.in_ok-table.ensures in
+      let fault : Fault = c.in_err-documents.field-0.0 in
+      let is : c.from_residual-in_err-documents.result ≡ Err fault = search rules in
+      plans_failed g.S.Store (deletion_of deletion) name (due f) (made f) (gone f) (is_write f name) c.args.store.now c.chosen_documents.new.store (map shown_info c.args.tables.now) (shown_info info) c.is_in_order.ensures.order named fault _ is (λ content has.
+      inl c.in_err-documents.ensures.cause);
+  only = search rules;
+  live = search rules;
+}
+
+pub returns-in_err-rewrites : goal.returns-in_err-rewrites
+returns-in_err-rewrites g c = record {
+  told =
+      let deletion = c.args.deletion.now in
+      let f = filter_of deletion.filter in
+      let name = string_bytes deletion.table in
+      let info : RustTableInfo = c.in_ok-table.table.now in
+      let named : IsSoundNamed (map shown_info c.args.tables.now) name (shown_info info) = subst (λ n. IsSoundNamed (map shown_info c.args.tables.now) n (shown_info info)) c.as_str.ensures.value c.in_ok-table.ensures in
+      let fault : Fault = faults.Memory in
+      let is : c.from_residual-in_err-rewrites.result ≡ Err fault = search rules in
+      plans_failed g.S.Store (deletion_of deletion) name (due f) (made f) (gone f) (is_write f name) c.args.store.now c.chosen_documents.new.store (map shown_info c.args.tables.now) (shown_info info) c.is_in_order.ensures.order named fault _ is (λ content has.
+      inl (inr refl));
+  only = search rules;
+  live = search rules;
+}
+
+pub returns : goal.returns
+returns g c = record {
+  told = λ changes of_written.
+      let deletion = c.args.deletion.now in
+      let f = filter_of deletion.filter in
+      let name = string_bytes deletion.table in
+      let info : RustTableInfo = c.in_ok-table.table.now in
+      let named : IsSoundNamed (map shown_info c.args.tables.now) name (shown_info info) = subst (λ n. IsSoundNamed (map shown_info c.args.tables.now) n (shown_info info)) c.as_str.ensures.value c.in_ok-table.ensures in
+      plans_do g.S.Store (deletion_of deletion) name (due f) (made f) (gone f) (is_write f name) c.args.store.now c.chosen_documents.new.store (map shown_info c.args.tables.now) (shown_info info) c.is_in_order.ensures.order named c.in_ok-rewrites.rewrites changes (λ content has.
+      let cols = c.as_slice-columns.result.now in
+      let columns_are : content.columns ≡ map column_of cols = has.columns_are ∙ ap (map column_of) (sym c.as_slice-columns.ensures.value) in
+      let tested : delete_tests c.as_str-2.result.now (bare_content cols) f ≡ None = search rules in
+      let fine : query_fault (bare_content cols) f ≡ None = search rules in
+      let reads : ReadsAs (bare_content cols) f (option_map tree_of c.in_ok-query.query) = search rules in
+      let fits : FitsSigned w64 info.id = search rules in
+      let tab = to_z w64 (of_z w64 info.id) in
+      let rows = rows_of g.S.Store tab info.id (to_z-of_z fits) (string_bytes info.name) (map column_of info.columns.items) c.args.store.now c.chosen_documents.new.store content has in
+      let index = index_of g.S.Store tab info.id (to_z-of_z fits) (string_bytes info.name) (map column_of info.columns.items) c.args.store.now c.chosen_documents.new.store content has in
+      let shown : option_map (λ q. tree_of q.now) c.as_ref.result ≡ option_map tree_of c.in_ok-query.query = search rules in
+      let here = subst (ReadsAs content f) (sym shown) (reads_bare content cols columns_are f (option_map tree_of c.in_ok-query.query) reads) in
+      let found = c.in_ok-documents.ensures.told content rows index here in (
+        subst (λ n. due f n content ≡ None) c.as_str-2.ensures.value (none_due f content cols columns_are c.as_str-2.result.now tested fine),
+        subst (LeadsTo content (made f content) (gone f content)) (sym (c.in_ok-rewrites.ensures ∙ ap (map removal) found)) (leads f (string_bytes info.name) content has.has.is_content),
+      )) of_written.0 of_written.1;
+  only = search rules;
+  live = search rules;
+}

@@ -1,0 +1,208 @@
+-- by the table, the tests, and what the rows make where docids are read
+use Rattle.std.proofs.Common.{rules, ℕ, false, zip, ◌≡◌, inl, inr, ℤ, List, [], Bor, String, Option, None, Some, map, option_map, string_bytes, Err, Ok, Result, Vec, Global, refl, sym, ap, subst, ◌∙◌, arith, to_z-of_z, to_z, of_z, w64, FitsSigned}
+use Rattle.std.specs.Prelude.{unwrap_or}
+use Rattle.sqlite.specs.State.{HasCleanDisk}
+use Rattle.sqlite.specs.Store.{Ghosts}
+use Rattle.sqlite.specs.Effect.{Database}
+use Rattle.ft_store.specs.Calls.{fault_of_read}
+use Rattle.ft_rows.specs.Store.{AreInOrder}
+use Rattle.ft_store.specs.Kept.{StoreState, shows, value_in}
+use Rattle.ft_store.specs.Rows.{value_of}
+use Rattle.ft_values.specs.declared.fault.Fault.{Fault}
+use Rattle.ft_values.specs.declared.fault.Fault.TheVariants as faults
+use Rattle.ft_values.specs.declared.rows.Value.{Value}
+use Rattle.ft_values.specs.declared.table.TableInfo.{TableInfo as RustTableInfo}
+use Rattle.ft_content.specs.Command as plain
+use Rattle.ft_content.specs.Command.{Command}
+use Rattle.ft_content.specs.declared.command.Insertion.{Insertion}
+use Rattle.ft_content.specs.Content.{Content, repeats_name, content_rows}
+use Rattle.ft_content.specs.Deserved.{insert_rows, listed_columns}
+use Rattle.ft_content.specs.Views.{TableInfo, bare_content, cells_of, column_of, insertion_of, names_in, shown_info}
+use Rattle.ft_documents.specs.Found.{IsSoundNamed, IsUnfit}
+use Rattle.ft_documents.specs.Inserted.{AreKnown, Inserts}
+use Rattle.ft_documents.specs.Rewrite.{shown_rewrite}
+use Rattle.ft_documents.specs.Tables.{table_rows}
+use Rattle.ft_documents.proofs.InsertDue.{insert_repeats}
+use Rattle.ft_documents.proofs.InsertRows.{known_from, new_are_inserts}
+use Rattle.ft_documents.proofs.ReadRows.{last_read}
+use Rattle.ft_index.specs.declared.written.Written.{Written}
+use Rattle.ft_index.specs.Written.{HasAll, Writes, PlansTo, WritesIn}
+use Rattle.ft_index.proofs.InsertWrites.{due, made, news, is_write, tested_writes, tests_are, rows_are, writes}
+use Rattle.ft_index.proofs.Pinging.{outside_of}
+use Rattle.ft_index.proofs.Planning.{plans_unfit, plans_failed, plans_do}
+use Rattle.ft_index.proofs.written.insert_written.Goals as goal
+
+-- the columns that are listed
+listed_are : (o : Option (Bor (List (String Global)))) (q : Option (Vec (String Global) Global)) → option_map (λ (r : Bor (List (String Global))). r.now) o ≡ option_map (λ (v : Vec (String Global) Global). v.items) q →
+    option_map (λ (r : Bor (List (String Global))). map string_bytes r.now) o ≡ option_map names_in q
+listed_are None None same = refl
+listed_are None (Some v) same = absurd (let no = same in cc)
+listed_are (Some r) None same = absurd (let no = same in cc)
+listed_are (Some r) (Some v) same = ap (option_map (map string_bytes)) same
+
+-- whether one is listed twice
+twice_is : (o : Option (Bor (List (String Global)))) (none : Bor (List (String Global))) → none.now ≡ [] → repeats_name (unwrap_or (option_map (λ (x : Bor (List (String Global))). map string_bytes x.now) o) []) ≡ repeats_name (map string_bytes (unwrap_or o none).now)
+twice_is None none is = sym (ap (λ ns. repeats_name (map string_bytes ns)) is)
+twice_is (Some x) none is = refl
+
+pub returns-then-repeats_name : goal.returns-then-repeats_name
+returns-then-repeats_name g c = record {
+  told =
+      let w = c.args.insertion.now in
+      subst (λ (command : Command). PlansTo g.S.Store (map shown_info c.args.tables.now) c.args.store.now c.args.store.now command (Err faults.DuplicateColumn)) (λ i. plain.Insert (string_bytes w.table) (listed_are c.as_deref-listed.result c.args.insertion.now.columns c.as_deref-listed.ensures.value i) (map cells_of w.rows.items))
+      (λ up contents held.
+      let columns = option_map (λ n. map string_bytes n.now) c.as_deref-listed.result in
+      inr (insert_repeats contents (string_bytes w.table) columns (map cells_of w.rows.items) (twice_is c.as_deref-listed.result _ refl ∙ sym (c.repeats_name.ensures ∙ ap (λ (r : Bor (List (String Global))). repeats_name (map string_bytes r.now)) c.unwrap_or.ensures) ∙ c.if-repeats_name.true)));
+  only = search rules;
+  live = search rules;
+}
+
+pub returns-in_err-table : goal.returns-in_err-table
+returns-in_err-table g c = record {
+  told =
+      subst (λ (command : Command). WritesIn g.S.Store (map shown_info c.args.tables.now) c.args.store.now c.args.store.now command c.from_residual.result) (λ i. plain.Insert (c.as_str.ensures.value i) (listed_are c.as_deref-listed.result c.args.insertion.now.columns c.as_deref-listed.ensures.value i) (map cells_of (c.args.insertion.now.rows.items)))
+      (
+      let columns = option_map (λ n. map string_bytes n.now) c.as_deref-listed.result in
+      let rows = map cells_of c.args.insertion.now.rows.items in
+      let tables = map shown_info c.args.tables.now in
+      let fault : Fault = c.in_err-table.field-0.0 in
+      let is : c.from_residual.result ≡ Err fault = search rules in
+      let unfit : IsUnfit tables c.as_str.result.now fault = c.in_err-table.ensures in
+      let apart = twice_is c.as_deref-listed.result _ refl ∙ sym (c.repeats_name.ensures ∙ ap (λ (r : Bor (List (String Global))). repeats_name (map string_bytes r.now)) c.unwrap_or.ensures) ∙ c.if-repeats_name.false in
+      let command = plain.Insert c.as_str.result.now columns rows in
+      subst (λ (r : Result Written Fault). WritesIn g.S.Store tables c.args.store.now c.args.store.now command r) (sym is)
+      (plans_unfit g.S.Store command c.as_str.result.now (λ table content. due columns rows content) (made columns rows) (news columns rows) (is_write columns rows c.as_str.result.now apart) c.args.store.now c.args.store.now tables fault unfit));
+  only = search rules;
+  live = search rules;
+}
+
+-- a fault of the table, or one from outside
+fails : {S : Type 0} (g : Ghosts S) (w : Insertion) (listed : Option (Bor (List (String Global)))) (none : Bor (List (String Global))) (rows : List (Vec Value Global)) (info : RustTableInfo) (tables : List TableInfo) (old new : StoreState S) → AreInOrder (value_in g old) →
+    option_map (λ (r : Bor (List (String Global))). r.now) listed ≡ option_map (λ (v : Vec (String Global) Global). v.items) w.columns → rows ≡ w.rows.items → none.now ≡ [] → repeats_name (map string_bytes (unwrap_or listed none).now) ≡ false →
+    (text : List ℕ) → text ≡ string_bytes w.table → IsSoundNamed tables text (shown_info info) → (fault : Fault) (found : Result Written Fault) → found ≡ Err fault →
+    ((content : Content) → HasAll g info.id (string_bytes info.name) (map column_of info.columns.items) old new content → Writes content (due (option_map (λ (r : Bor (List (String Global))). map string_bytes r.now) listed) (map cells_of rows) content) (made (option_map (λ (r : Bor (List (String Global))). map string_bytes r.now) listed) (map cells_of rows) content) (news (option_map (λ (r : Bor (List (String Global))). map string_bytes r.now) listed) (map cells_of rows) content) (Err fault)) →
+    WritesIn g tables old new (insertion_of w) found
+fails g w listed none rows info tables old new order same are is_none apart text is named fault found failed writes =
+    let columns = option_map (λ (r : Bor (List (String Global))). map string_bytes r.now) listed in
+    let cells = map cells_of rows in
+    let name = string_bytes w.table in
+    subst (λ (x : Command). WritesIn g tables old new x found) (λ i. plain.Insert name (listed_are listed w.columns same i) (map cells_of (are i)))
+    (plans_failed g (plain.Insert name columns cells) name (λ table content. due columns cells content) (made columns cells) (news columns cells) (is_write columns cells name (twice_is listed none is_none ∙ apart)) old new tables (shown_info info) order (subst (λ n. IsSoundNamed tables n (shown_info info)) is named) fault found failed writes)
+
+pub returns-in_err-names : goal.returns-in_err-names
+returns-in_err-names g c = record {
+  told = fails g.S.Store c.args.insertion.now c.as_deref-listed.result _ c.args.insertion.now.rows.items c.in_ok-table.table.now (map shown_info c.args.tables.now) c.args.store.now c.args.store.now c.is_in_order.ensures.order c.as_deref-listed.ensures.value refl refl (sym (c.repeats_name.ensures ∙ ap (λ (r : Bor (List (String Global))). repeats_name (map string_bytes r.now)) c.unwrap_or.ensures) ∙ c.if-repeats_name.false) _ c.as_str.ensures.value c.in_ok-table.ensures faults.Memory c.from_residual-in_err-names.result (search rules) (λ content has.
+      inl (inr refl));
+  only = search rules;
+  live = search rules;
+}
+
+pub returns-in-Some : goal.returns-in-Some
+returns-in-Some g c = record {
+  told = fails g.S.Store c.args.insertion.now c.as_deref-listed.result _ c.as_slice-rows.result.now c.in_ok-table.table.now (map shown_info c.args.tables.now) c.args.store.now c.args.store.now c.is_in_order.ensures.order c.as_deref-listed.ensures.value c.as_slice-rows.ensures.value refl (sym (c.repeats_name.ensures ∙ ap (λ (r : Bor (List (String Global))). repeats_name (map string_bytes r.now)) c.unwrap_or.ensures) ∙ c.if-repeats_name.false) _ c.as_str.ensures.value c.in_ok-table.ensures c.in-Some.fault (Err c.in-Some.fault) refl (λ content has.
+      let columns = option_map (λ n. map string_bytes n.now) c.as_deref-listed.result in
+      let rows = map cells_of c.as_slice-rows.result.now in
+      let names = map (λ n. n.now) c.as_slice-names.result.now in
+      let cols = c.as_slice-columns.result.now in
+      let columns_are : content.columns ≡ map column_of cols = has.columns_are ∙ ap (map column_of) (sym c.as_slice-columns.ensures.value) in
+      let those : names ≡ listed_columns (bare_content cols) columns = search rules in
+      inr (tested_writes columns rows content c.in-Some.fault (tests_are columns rows content cols names (Some c.in-Some.fault) columns_are those (search rules))));
+  only = search rules;
+  live = search rules;
+}
+
+pub returns-in_err-last : goal.returns-in_err-last
+returns-in_err-last g c = record {
+  told = fails g.S.Store c.args.insertion.now c.as_deref-listed.result _ c.as_slice-rows.result.now c.in_ok-table.table.now (map shown_info c.args.tables.now) c.args.store.now c.last_docid.new.self c.is_in_order.ensures.order c.as_deref-listed.ensures.value c.as_slice-rows.ensures.value refl (sym (c.repeats_name.ensures ∙ ap (λ (r : Bor (List (String Global))). repeats_name (map string_bytes r.now)) c.unwrap_or.ensures) ∙ c.if-repeats_name.false) _ c.as_str.ensures.value c.in_ok-table.ensures (fault_of_read c.in_err-last.field-0.0) c.from_residual-in_err-last.result (search rules) (λ content has.
+      inl (outside_of c.in_err-last.field-0.0));
+  only = search rules;
+  live = search rules;
+}
+
+pub returns-in_err-stored : goal.returns-in_err-stored
+returns-in_err-stored g c = record {
+  told = fails g.S.Store c.args.insertion.now c.as_deref-listed.result _ c.as_slice-rows.result.now c.in_ok-table.table.now (map shown_info c.args.tables.now) c.args.store.now c.stored_docids.new.store c.is_in_order.ensures.order c.as_deref-listed.ensures.value c.as_slice-rows.ensures.value refl (sym (c.repeats_name.ensures ∙ ap (λ (r : Bor (List (String Global))). repeats_name (map string_bytes r.now)) c.unwrap_or.ensures) ∙ c.if-repeats_name.false) _ c.as_str.ensures.value c.in_ok-table.ensures c.in_err-stored.field-0.0 c.from_residual-in_err-stored.result (search rules) (λ content has.
+      inl c.in_err-stored.ensures.faults);
+  only = search rules;
+  live = search rules;
+}
+
+pub returns-in_err-new : goal.returns-in_err-new
+returns-in_err-new g c = record {
+  told = fails g.S.Store c.args.insertion.now c.as_deref-listed.result _ c.as_slice-rows.result.now c.in_ok-table.table.now (map shown_info c.args.tables.now) c.args.store.now c.stored_docids.new.store c.is_in_order.ensures.order c.as_deref-listed.ensures.value c.as_slice-rows.ensures.value refl (sym (c.repeats_name.ensures ∙ ap (λ (r : Bor (List (String Global))). repeats_name (map string_bytes r.now)) c.unwrap_or.ensures) ∙ c.if-repeats_name.false) _ c.as_str.ensures.value c.in_ok-table.ensures c.in_err-new.field-0.0 c.from_residual-in_err-new.result (search rules) (λ content has.
+      let columns = option_map (λ n. map string_bytes n.now) c.as_deref-listed.result in
+      let rows = map cells_of c.as_slice-rows.result.now in
+      let info : RustTableInfo = c.in_ok-table.table.now in
+      let fault : Fault = c.in_err-new.field-0.0 in
+      let names = map (λ n. n.now) c.as_slice-names.result.now in
+      let cols = c.as_slice-columns.result.now in
+      let columns_are : content.columns ≡ map column_of cols = has.columns_are ∙ ap (map column_of) (sym c.as_slice-columns.ensures.value) in
+      let those : names ≡ listed_columns (bare_content cols) columns = search rules in
+      let old = value_in g.S.Store c.args.store.now in
+      let tab = to_z w64 (of_z w64 info.id) in
+      let values = map (zip names) rows in
+      let tested = tests_are columns rows content cols names None columns_are those (search rules) in
+      let fits : FitsSigned w64 info.id = search rules in
+      let live = c.in_ok-last.ensures.read.live in
+      let looks = c.in_ok-stored.ensures.looks live in
+      let clean : HasCleanDisk (shows g.S.Store c.last_docid.new.self) = omega (arith, looks.survives.clean, has.clean) in
+      let is_open = (looks.kept has.clean has.is_open).2 in
+      let same : value_in g.S.Store c.last_docid.new.self ≡ old = ap (λ (d : Database). value_of d.trees) (c.in_ok-last.ensures.read.kept clean is_open).0 in
+      let held : table_rows tab old ≡ content_rows content = ap (λ (k : ℤ). table_rows k old) (to_z-of_z fits) ∙ has.has.rows in
+      let last = last_read tab old (string_bytes info.name) content has.has.is_content held ∙ sym (c.in_ok-last.ensures.last clean) in
+      let stored = c.in_ok-stored.ensures.found live content (record { clean = has.clean; is_open = has.is_open; name = string_bytes info.name; is_content = has.has.is_content; rows = ap (table_rows tab) same ∙ held }) in
+      let known = subst (AreKnown content.documents values) (sym (c.as_slice.ensures.value ∙ stored)) (known_from content.documents names cells_of c.as_slice-rows.result.now) in
+      let made_of : Inserts content.documents (insert_rows (map column_of cols) values content.documents) (Err fault) =
+      elim (c.in_err-new.ensures content.documents has.has.is_content.rising last known) [ inl memory ↦ inl (inr memory) | inr failed ↦ inr failed ] in
+      writes columns rows (string_bytes info.name) content (Err fault) has.has.is_content tested (rows_are columns rows content cols names (Err fault) columns_are those made_of));
+  only = search rules;
+  live = search rules;
+}
+
+pub returns-in_err-rewrites : goal.returns-in_err-rewrites
+returns-in_err-rewrites g c = record {
+  told = fails g.S.Store c.args.insertion.now c.as_deref-listed.result _ c.as_slice-rows.result.now c.in_ok-table.table.now (map shown_info c.args.tables.now) c.args.store.now c.stored_docids.new.store c.is_in_order.ensures.order c.as_deref-listed.ensures.value c.as_slice-rows.ensures.value refl (sym (c.repeats_name.ensures ∙ ap (λ (r : Bor (List (String Global))). repeats_name (map string_bytes r.now)) c.unwrap_or.ensures) ∙ c.if-repeats_name.false) _ c.as_str.ensures.value c.in_ok-table.ensures faults.Memory c.from_residual-in_err-rewrites.result (search rules) (λ content has.
+      inl (inr refl));
+  only = search rules;
+  live = search rules;
+}
+
+pub returns : goal.returns
+returns g c = record {
+  told = λ changes of_written.
+      let w = c.args.insertion.now in
+      let columns = option_map (λ n. map string_bytes n.now) c.as_deref-listed.result in
+      let rows = map cells_of c.as_slice-rows.result.now in
+      let name = string_bytes w.table in
+      let tables = map shown_info c.args.tables.now in
+      let info : RustTableInfo = c.in_ok-table.table.now in
+      let named : IsSoundNamed tables name (shown_info info) = subst (λ n. IsSoundNamed tables n (shown_info info)) c.as_str.ensures.value c.in_ok-table.ensures in
+      let apart = twice_is c.as_deref-listed.result _ refl ∙ sym (c.repeats_name.ensures ∙ ap (λ (r : Bor (List (String Global))). repeats_name (map string_bytes r.now)) c.unwrap_or.ensures) ∙ c.if-repeats_name.false in
+      let command = plain.Insert name columns rows in
+      let rewrites = c.in_ok-rewrites.rewrites in
+      subst (λ (x : Command). PlansTo g.S.Store tables c.args.store.now c.stored_docids.new.store x (Ok changes)) (λ i. plain.Insert name (listed_are c.as_deref-listed.result w.columns c.as_deref-listed.ensures.value i) (map cells_of (c.as_slice-rows.ensures.value i)))
+      (plans_do g.S.Store command name (λ table content. due columns rows content) (made columns rows) (news columns rows) (is_write columns rows name apart) c.args.store.now c.stored_docids.new.store tables (shown_info info) c.is_in_order.ensures.order named rewrites changes (λ content has.
+      let names = map (λ n. n.now) c.as_slice-names.result.now in
+      let cols = c.as_slice-columns.result.now in
+      let columns_are : content.columns ≡ map column_of cols = has.columns_are ∙ ap (map column_of) (sym c.as_slice-columns.ensures.value) in
+      let those : names ≡ listed_columns (bare_content cols) columns = search rules in
+      let old = value_in g.S.Store c.args.store.now in
+      let tab = to_z w64 (of_z w64 info.id) in
+      let values = map (zip names) rows in
+      let tested = tests_are columns rows content cols names None columns_are those (search rules) in
+      let fits : FitsSigned w64 info.id = search rules in
+      let live = c.in_ok-last.ensures.read.live in
+      let looks = c.in_ok-stored.ensures.looks live in
+      let clean : HasCleanDisk (shows g.S.Store c.last_docid.new.self) = omega (arith, looks.survives.clean, has.clean) in
+      let is_open = (looks.kept has.clean has.is_open).2 in
+      let same : value_in g.S.Store c.last_docid.new.self ≡ old = ap (λ (d : Database). value_of d.trees) (c.in_ok-last.ensures.read.kept clean is_open).0 in
+      let held : table_rows tab old ≡ content_rows content = ap (λ (k : ℤ). table_rows k old) (to_z-of_z fits) ∙ has.has.rows in
+      let last = last_read tab old (string_bytes info.name) content has.has.is_content held ∙ sym (c.in_ok-last.ensures.last clean) in
+      let stored = c.in_ok-stored.ensures.found live content (record { clean = has.clean; is_open = has.is_open; name = string_bytes info.name; is_content = has.has.is_content; rows = ap (table_rows tab) same ∙ held }) in
+      let known = subst (AreKnown content.documents values) (sym (c.as_slice.ensures.value ∙ stored)) (known_from content.documents names cells_of c.as_slice-rows.result.now) in
+      let new = c.in_ok-new.ensures content.documents has.has.is_content.rising last known in
+      let made_of = new_are_inserts content.documents c.in_ok-new.new (map shown_rewrite rewrites.items) (insert_rows (map column_of cols) values content.documents) c.in_ok-rewrites.ensures new.0 new.1 in
+      writes columns rows (string_bytes info.name) content (Ok rewrites) has.has.is_content tested (rows_are columns rows content cols names (Ok rewrites) columns_are those made_of)) of_written.0 of_written.1);
+  only = search rules;
+  live = search rules;
+}

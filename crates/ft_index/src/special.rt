@@ -1,0 +1,112 @@
+//! The special commands: integrity-check, rebuild and optimize.
+ghost use Rattle.std.specs.Prelude.{map, ◌≡◌, ℕ, List, Some};
+ghost use Rattle.ft_content.specs.Views.{shown_info, answer_of};
+ghost use Rattle.ft_index.specs.Changed.{with_tables, Does};
+ghost use Rattle.ft_index.specs.DocumentsRead.{LooksTo};
+ghost use Rattle.ft_index.specs.Kept.{Executes, Answers, table_info};
+ghost use Rattle.ft_documents.specs.Found.{info_named};
+ghost use Rattle.ft_index.specs.Written.{PlansIn, RebuildsIn};
+ghost use Rattle.ft_content.specs.Deserved.{Contents};
+ghost use Rattle.ft_content.specs.Command as plain;
+ghost use Rattle.ft_content.specs.Views as views;
+
+use crate::documents::all_documents;
+use crate::row_state::{RowState, state_under};
+use crate::written::{Written, anew_changes, make_anew};
+use ft_content::{Fault, Reply, TableInfo};
+use ft_documents::{additions, mark_sound, named_table, sound_table};
+use ft_store::{RowChange, Store};
+use sqlite::Alter;
+use std::alloc::Global;
+
+/// Answers a Check, by the rows as they are read.
+pub(crate) fn check_table<S: Alter>(
+    alloc: Global,
+    store: &mut Store<S>,
+    tables: &[TableInfo],
+    table: &str,
+) -> Result<Reply, Fault>
+    ensures { LooksTo S.Store store.old store.new result
+        (Executes S.Store (with_tables store.old (map shown_info tables.now))
+        (plain.Check table.now) (answer_of result) (with_tables store.new
+        (map shown_info tables.now))) }
+{
+    store.is_in_order();
+    let known = named_table(tables, table)?;
+    let state = state_under(alloc, store, known.id)?;
+    if state.is_sound() {
+        Ok(Reply::Done)
+    } else {
+        Err(Fault::Corrupt)
+    }
+}
+
+/// Answers a Rebuild: a table whose rows are right as they are read stays, and another is made anew
+/// with its documents. It is marked sound.
+pub(crate) fn rebuild_table<S: Alter>(
+    alloc: Global,
+    store: &mut Store<S>,
+    tables: &mut Vec<TableInfo>,
+    table: &str,
+) -> Result<Reply, Fault>
+    ensures { Does S.Store (with_tables store.old (map shown_info tables.old.items))
+        (plain.Rebuild table.now) result (with_tables store.new (map shown_info tables.new.items)) }
+{
+    store.is_in_order();
+    let known = named_table(tables.as_slice(), table)?;
+    let id = known.id;
+    let anew = rebuilt(alloc, store, known)?;
+    make_anew(alloc, store, anew)?;
+    mark_sound(tables, id);
+    Ok(Reply::Done)
+}
+
+/// The row changes of a Rebuild. The store is only read, whatever is answered.
+pub(crate) fn rebuild_changes<S: Alter>(
+    alloc: Global,
+    store: &mut Store<S>,
+    tables: &[TableInfo],
+    table: &str,
+) -> Result<Vec<RowChange>, Fault>
+    ensures { LooksTo S.Store store.old store.new result
+        (PlansIn S.Store (map shown_info tables.now) store.old store.new (plain.Rebuild table.now)
+        result) }
+{
+    let known = named_table(tables, table)?;
+    let anew = rebuilt(alloc, store, known)?;
+    Ok(anew_changes(alloc, anew)?)
+}
+
+// The table with the documents that it is made anew with, none where its rows are right as they are
+// read; or the fault of a Rebuild. The store is only read, whatever is answered.
+fn rebuilt<'t, S: Alter>(
+    alloc: Global,
+    store: &mut Store<S>,
+    table: &'t TableInfo,
+) -> Result<Option<Written<'t>>, Fault>
+    ensures { LooksTo S.Store store.old store.new result
+        ((tables : List views.TableInfo) (name : List ℕ)
+        → info_named tables name ≡ Some (shown_info table.now)
+        → RebuildsIn S.Store tables store.old store.new (plain.Rebuild name) result) }
+{
+    store.is_in_order();
+    let state = state_under(alloc, store, table.id)?;
+    match state {
+        RowState::Sound => Ok(None),
+        RowState::Stale => {
+            let documents = all_documents(alloc, store, table.id)?;
+            let rewrites = additions(alloc, documents)?;
+            Ok(Some(Written { table, rewrites }))
+        }
+        RowState::Loose => Err(Fault::Corrupt),
+    }
+}
+
+/// Answers an Optimize.
+pub(crate) fn optimize(tables: &[TableInfo], table: &str) -> Result<Reply, Fault>
+    ensures { (contents : Contents) → map shown_info tables.now ≡ map table_info contents →
+        Answers contents (plain.Optimize table.now) (answer_of result) contents }
+{
+    sound_table(tables, table)?;
+    Ok(Reply::Done)
+}
