@@ -1,23 +1,23 @@
 -- The evaluation of a query from its first operand on, one joint after the other.
 use Rattle.std.proofs.Common.{◌≡◌, ℕ, ◌+◌, ◌-◌, ◌≤◌, ◌<◌, ◌^◌, Bool, List, [], ◌∷◌, ◌++◌}
 use Rattle.std.proofs.Common.{length, take, drop, refl, sym, ap, ◌∙◌, subst, append-nil, append_assoc, add_assoc, arith, Ok}
-use Rattle.std.proofs.lemmas.List.{map-append, length-append, length-map, length-take-le, take-append-drop, take_at, drop_at}
+use Rattle.std.proofs.lemmas.List.{map-append, length-append, length-map, length-take-le, take-append-drop, take-append-le, drop-append-le, take_at, drop_at}
 use Rattle.ft_query.specs.declared.lists.place.Place.{Place}
 use Rattle.ft_query.specs.declared.walk.Offset.{Offset}
-use Rattle.ft_query.specs.declared.walk.matches.steps.Steps.{Steps}
+use Rattle.ft_query.specs.declared.walk.standing.Steps.{Steps}
 use Rattle.ft_query.specs.declared.walk.places.Places.{Places}
-use Rattle.ft_query.specs.declared.walk.spine.By.{By}
-use Rattle.ft_query.specs.declared.walk.spine.By.TheVariants as by
-use Rattle.ft_query.specs.declared.walk.spine.Joint.{Joint}
+use Rattle.ft_query.specs.declared.walk.joint.By.{By}
+use Rattle.ft_query.specs.declared.walk.joint.By.TheVariants as by
+use Rattle.ft_query.specs.declared.walk.joint.Joint.{Joint}
 use Rattle.ft_query.specs.declared.walk.visit.Found.{Found}
 use Rattle.ft_query.specs.declared.walk.visit.Wanted.{Wanted}
 use Rattle.ft_query.specs.declared.walk.visit.Wanted.TheVariants.{Docids, Offsets}
 use Rattle.ft_query.specs.Trees.{Tree, phrase, chain, both, either, without, tree_of}
-use Rattle.ft_query.specs.Work.{terms_in, width}
-use Rattle.ft_query.specs.Taken.{Takes, TakesOf, TakesSome}
+use Rattle.ft_query.specs.Work.{terms_in, node_count, width}
+use Rattle.ft_query.specs.Taken.{more_steps, TakesAtMost}
 use Rattle.ft_query.specs.Spines.{joined, joined_answer, joined_marks, whole}
 use Rattle.ft_query.specs.Visit.{is_accepted, marks_of, numbered, if_wanted, plain_lists, visit_cost}
-use Rattle.ft_query.specs.Marked.{Evaluates, Joins}
+use Rattle.ft_query.specs.Marked.{own_lists, lists_after, HaveLists, Evaluates, Joins}
 use Rattle.ft_query.proofs.Marks.{numbered_more}
 use Rattle.ft_query.proofs.Spines.{joined_terms, part_terms, right_width, whole_last}
 
@@ -112,17 +112,25 @@ cost_front p front own same b q =
     (length (terms_in p)) same)
     ∙ ap (λ l. 1 + (visit_cost p (plain_lists front) + visit_cost q l)) (lists_back front own (length (terms_in p)) same)
 
-pub some_cost : (t : Tree) (ls : List (List Place)) → 1 ≤ visit_cost t ls
-some_cost (phrase p) ls = omega arith
-some_cost (chain p links) ls = omega arith
-some_cost (both p q) ls = omega arith
-some_cost (either p q) ls = omega arith
-some_cost (without p q) ls = omega arith
+-- each node is a step
+pub nodes_cost : (t : Tree) (ls : List (List Place)) → node_count t ≤ visit_cost t ls
+nodes_cost (phrase p) ls = omega arith
+nodes_cost (chain p links) ls = omega arith
+nodes_cost (both p q) ls =
+    let one = nodes_cost p (take (length (terms_in p)) ls) in let other = nodes_cost q (drop (length (terms_in p)) ls) in omega (arith, one, other)
+nodes_cost (either p q) ls =
+    let one = nodes_cost p (take (length (terms_in p)) ls) in let other = nodes_cost q (drop (length (terms_in p)) ls) in omega (arith, one, other)
+nodes_cost (without p q) ls =
+    let one = nodes_cost p (take (length (terms_in p)) ls) in let other = nodes_cost q (drop (length (terms_in p)) ls) in omega (arith, one, other)
 
-takes_then : (m n : ℕ) (a b c : Steps) → TakesSome m a b → TakesSome n b c → TakesSome (m + n) a c
+joined_nodes : (p : Tree) (b : By) (q : Tree) → node_count (joined p b q) ≡ 1 + (node_count p + node_count q)
+joined_nodes p by.And q = refl
+joined_nodes p by.Or q = refl
+joined_nodes p by.Not q = refl
+
+takes_then : (m n : ℕ) (a b c : Steps) → TakesAtMost m a b → TakesAtMost n b c → TakesAtMost (m + n) a c
 takes_then m n a b c one two = record {
-  rises = omega (arith, one.rises, two.rises);
-  at_least = omega (arith, one.at_least, two.rises);
+  at_least = omega (arith, one.at_least, two.at_least);
   at_most = omega (arith, one.at_most, two.at_most);
 }
 
@@ -166,34 +174,25 @@ pub record Climbs (query : Tree) (lists rest : List Places) (joints : List Joint
   pub each : length front ≡ length (terms_in part)
   pub split : front ++ rest ≡ lists
   pub evaluates : Evaluates (Ok accepted) old now part front
-  pub taken : TakesSome (visit_cost part (plain_lists front)) begun steps
-
-pub with_joints : {query : Tree} {lists rest : List Places} {js ks : List Joint} {left : Bool} {old now : Found} {begun steps : Steps}
-    → js ≡ ks → Climbs query lists rest js left old now begun steps → Climbs query lists rest ks left old now begun steps
-with_joints {query} {lists} {rest} {js} {ks} {left} {old} {now} {begun} {steps} is at =
-    subst (λ joints. Climbs query lists rest joints left old now begun steps) is at
+  pub taken : TakesAtMost (visit_cost part (plain_lists front)) begun steps
+  pub nodes : more_steps (node_count part) begun ≤ steps.taken
 
 -- what a first operand takes where no memory is left
-pub first_failed : {query : Tree} {lists : List Places} {begun steps : Steps} (leaf : Tree) (own rest : List Places) (joints : List Joint) (s : Steps)
+first_failed : {query : Tree} {lists : List Places} {begun steps : Steps} (leaf : Tree) (own rest : List Places) (joints : List Joint)
     → whole joints leaf ≡ query → own ++ rest ≡ lists → length own ≡ length (terms_in leaf) → length lists ≡ length (terms_in query)
-    → Takes 1 begun s → TakesOf (visit_cost leaf (plain_lists own)) 1 s steps
-    → TakesSome (visit_cost query (plain_lists lists)) begun steps
-first_failed {query} {lists} {begun} {steps} leaf own rest joints s all split each same one more =
+    → TakesAtMost (visit_cost leaf (plain_lists own)) begun steps → TakesAtMost (visit_cost query (plain_lists lists)) begun steps
+first_failed {query} {lists} {begun} {steps} leaf own rest joints all split each same taken =
     let cost = part_cost joints leaf own rest each (ap length split ∙ same ∙ ap (λ t. length (terms_in t)) (sym all)) in
     let whole_cost = ap (λ t. visit_cost t (plain_lists (own ++ rest))) all ∙ ap (λ l. visit_cost query (plain_lists l)) split in
-    record {
-      rises = omega (arith, one.at_least, more.at_least);
-      at_least = omega (arith, one.taken, more.at_least);
-      at_most = omega (arith, one.at_most, more.at_most, cost, whole_cost);
-    }
+    record { at_least = taken.at_least; at_most = omega (arith, taken.at_most, cost, whole_cost) }
 
 -- what the next right side needs: it has its lists, and is less wide than the query
-pub record Fits (query right : Tree) (rest : List Places) (mid : Found) : Type 0 where
+record Fits (query right : Tree) (rest : List Places) (mid : Found) : Type 0 where
   pub lists : length (terms_in right) ≤ length rest
   pub numbers : mid.next + length rest < 2 ^ 64
   pub less : width right < width query
 
-pub climbs_fit : {query : Tree} {lists rest : List Places} (js : List Joint) (j : Joint) {left : Bool} {old mid : Found} {begun steps : Steps}
+climbs_fit : {query : Tree} {lists rest : List Places} (js : List Joint) (j : Joint) {left : Bool} {old mid : Found} {begun steps : Steps}
     → Climbs query lists rest (js ++ j ∷ []) left old mid begun steps → length lists ≡ length (terms_in query) → old.next + length lists < 2 ^ 64
     → Fits query (tree_of j.right.now) rest mid
 climbs_fit {query} {lists} {rest} js j {left} {old} {mid} {begun} {steps} at same fits =
@@ -212,12 +211,12 @@ climbs_fit {query} {lists} {rest} js j {left} {old} {mid} {begun} {steps} at sam
     }
 
 -- a right side more
-pub climbs_on : {query : Tree} {lists rest own behind : List Places} {js : List Joint}
+climbs_on : {query : Tree} {lists rest own behind : List Places} {js : List Joint}
     (j : Joint) {left all : Bool} {old mid new : Found} {begun steps after : Steps}
     → Climbs query lists rest (js ++ j ∷ []) left old mid begun steps → own ++ behind ≡ rest → length own ≡ length (terms_in (tree_of j.right.now))
-    → Joins j.by left (Ok all) mid new (tree_of j.right.now) own → TakesSome (1 + visit_cost (tree_of j.right.now) (plain_lists own)) steps after
-    → Climbs query lists behind js all old new begun after
-climbs_on {query} {lists} {rest} {own} {behind} {js} j {left} {all} {old} {mid} {new} {begun} {steps} {after} at parts count joins taken =
+    → Joins j.by left (Ok all) mid new (tree_of j.right.now) own → TakesAtMost (1 + visit_cost (tree_of j.right.now) (plain_lists own)) steps after
+    → more_steps (1 + node_count (tree_of j.right.now)) steps ≤ after.taken → Climbs query lists behind js all old new begun after
+climbs_on {query} {lists} {rest} {own} {behind} {js} j {left} {all} {old} {mid} {new} {begun} {steps} {after} at parts count joins taken nodes =
     let p = at.part in
     let q = tree_of j.right.now in
     let sum = ap length (joined_terms p j.by q) ∙ length-append (terms_in p) (terms_in q) in
@@ -232,16 +231,17 @@ climbs_on {query} {lists} {rest} {own} {behind} {js} j {left} {all} {old} {mid} 
       each = omega (arith, sum, two, at.each, count);
       split = append_assoc at.front own behind ∙ ap (λ l. at.front ++ l) parts ∙ at.split;
       evaluates = joined_evaluates j.by p q at.front own left all old mid new at.each at.evaluates joins;
-      taken = subst (λ n. TakesSome n begun after) same (takes_then _ _ begun steps after at.taken taken);
+      taken = subst (λ n. TakesAtMost n begun after) same (takes_then _ _ begun steps after at.taken taken);
+      nodes = omega (arith, joined_nodes p j.by q, at.nodes, nodes);
     }
 
 -- what is taken where a right side finds no memory
-pub climb_failed : {query : Tree} {lists rest : List Places} (own behind : List Places) (js : List Joint)
+climb_failed : {query : Tree} {lists rest : List Places} (own behind : List Places) (js : List Joint)
     (j : Joint) {left : Bool} {old mid : Found} {begun steps after : Steps}
     → Climbs query lists rest (js ++ j ∷ []) left old mid begun steps → own ++ behind ≡ rest → length own ≡ length (terms_in (tree_of j.right.now))
     → length lists ≡ length (terms_in query)
-    → TakesSome (1 + visit_cost (tree_of j.right.now) (plain_lists own)) steps after
-    → TakesSome (visit_cost query (plain_lists lists)) begun after
+    → TakesAtMost (1 + visit_cost (tree_of j.right.now) (plain_lists own)) steps after
+    → TakesAtMost (visit_cost query (plain_lists lists)) begun after
 climb_failed {query} {lists} {rest} own behind js j {left} {old} {mid} {begun} {steps} {after} at parts count same taken =
     let p = at.part in
     let q = tree_of j.right.now in
@@ -254,8 +254,240 @@ climb_failed {query} {lists} {rest} own behind js j {left} {old} {mid} {begun} {
     let more = part_cost js (joined p j.by q) (at.front ++ own) behind each (ap length split ∙ same ∙ ap (λ t. length (terms_in t)) (sym is)) in
     let all_cost = ap (λ t. visit_cost t (plain_lists (at.front ++ own ++ behind))) is ∙ ap (λ l. visit_cost query (plain_lists l)) split in
     let both_taken = takes_then _ _ begun steps after at.taken taken in
+    record { at_least = both_taken.at_least; at_most = omega (arith, both_taken.at_most, cost, more, all_cost) }
+
+-- ---- the same, where the lists of other parts come after the query's
+
+-- Lists are left for the joints, and after them those that come after the query's.
+pub record Climbing (query : Tree) (lists left : List Places) (joints : List Joint) (accepted : Bool) (old now : Found) (begun steps : Steps) : Type 0 where
+  pub rest : List Places
+  pub stands : left ≡ rest ++ lists_after query lists
+  pub climbs : Climbs query (own_lists query lists) rest joints accepted old now begun steps
+
+pub with_joints : {query : Tree} {lists left : List Places} {js ks : List Joint} {accepted : Bool} {old now : Found} {begun steps : Steps}
+    → js ≡ ks → Climbing query lists left js accepted old now begun steps → Climbing query lists left ks accepted old now begun steps
+with_joints {query} {lists} {left} {js} {ks} {accepted} {old} {now} {begun} {steps} is at =
+    subst (λ joints. Climbing query lists left joints accepted old now begun steps) is at
+
+-- the lists of a part are the first of those that are the query's
+record IsFront (leaf query : Tree) (lists : List Places) : Type 0 where
+  own : own_lists leaf lists ≡ own_lists leaf (own_lists query lists)
+  after : lists_after leaf lists ≡ lists_after leaf (own_lists query lists) ++ lists_after query lists
+  each : length (own_lists leaf (own_lists query lists)) ≡ length (terms_in leaf)
+  all : length (own_lists query lists) ≡ length (terms_in query)
+
+front_is : (joints : List Joint) (leaf query : Tree) (lists : List Places) → whole joints leaf ≡ query → length (terms_in query) ≤ length lists
+    → IsFront leaf query lists
+front_is joints leaf query lists all enough =
+    let k = length (terms_in leaf) in
+    let few = part_terms joints leaf in
+    let same = ap (λ t. length (terms_in t)) all in
+    let own = own_lists query lists in
+    let long = length-take-le (length (terms_in query)) lists enough in
+    let parts = take-append-drop (length (terms_in query)) lists in
+    let short : k ≤ length own = omega (arith, few, same, long) in
     record {
-      rises = both_taken.rises;
-      at_least = both_taken.at_least;
-      at_most = omega (arith, both_taken.at_most, cost, more, all_cost);
+      own = ap (take k) (sym parts) ∙ take-append-le k own (lists_after query lists) short;
+      after = ap (drop k) (sym parts) ∙ drop-append-le k own (lists_after query lists) short;
+      each = length-take-le k own short;
+      all = long;
     }
+
+pub leaf_fits : {query : Tree} {lists : List Places} {found : Found} (joints : List Joint) (leaf : Tree) → whole joints leaf ≡ query
+    → HaveLists found (terms_in query) lists → HaveLists found (terms_in leaf) lists
+leaf_fits {query} {lists} {found} joints leaf all have =
+    let few = part_terms joints leaf in
+    let same = ap (λ t. length (terms_in t)) all in
+    record { each = omega (arith, few, same, have.each); fits = have.fits }
+
+-- the first operand
+pub climb_begun : {query : Tree} {lists left : List Places} {accepted : Bool} {old now : Found} {begun steps : Steps} (joints : List Joint) (leaf : Tree)
+    → whole joints leaf ≡ query → length (terms_in query) ≤ length lists
+    → Evaluates (Ok accepted) old now leaf (own_lists leaf lists) → left ≡ lists_after leaf lists
+    → TakesAtMost (visit_cost leaf (plain_lists (own_lists leaf lists))) begun steps → more_steps (node_count leaf) begun ≤ steps.taken
+    → Climbing query lists left joints accepted old now begun steps
+climb_begun {query} {lists} {left} {accepted} {old} {now} {begun} {steps} joints leaf all enough evaluates left_is taken nodes =
+    let k = length (terms_in leaf) in
+    let own = own_lists query lists in
+    let front = front_is joints leaf query lists all enough in
+    record {
+      rest = drop k own;
+      stands = left_is ∙ front.after;
+      climbs = record {
+        part = leaf;
+        front = take k own;
+        all = all;
+        each = front.each;
+        split = take-append-drop k own;
+        evaluates = subst (λ l. Evaluates (Ok accepted) old now leaf l) front.own evaluates;
+        taken = subst (λ l. TakesAtMost (visit_cost leaf (plain_lists l)) begun steps) front.own taken;
+        nodes = nodes;
+      };
+    }
+
+pub begun_failed : {query : Tree} {begun steps : Steps} (lists : List Places) (joints : List Joint) (leaf : Tree)
+    → whole joints leaf ≡ query → length (terms_in query) ≤ length lists
+    → TakesAtMost (visit_cost leaf (plain_lists (own_lists leaf lists))) begun steps
+    → TakesAtMost (visit_cost query (plain_lists (own_lists query lists))) begun steps
+begun_failed {query} {begun} {steps} lists joints leaf all enough taken =
+    let k = length (terms_in leaf) in
+    let own = own_lists query lists in
+    let front = front_is joints leaf query lists all enough in
+    first_failed leaf (take k own) (drop k own) joints all (take-append-drop k own) front.each front.all
+    (subst (λ l. TakesAtMost (visit_cost leaf (plain_lists l)) begun steps) front.own taken)
+
+-- what the next right side needs
+pub record FitsNext (query right : Tree) (left : List Places) (mid : Found) : Type 0 where
+  pub have : HaveLists mid (terms_in right) left
+  pub less : width right < width query
+
+pub climbing_fits : {query : Tree} {lists left : List Places} (js : List Joint) (j : Joint) {accepted : Bool} {old mid : Found} {begun steps : Steps}
+    → Climbing query lists left (js ++ j ∷ []) accepted old mid begun steps → HaveLists old (terms_in query) lists
+    → FitsNext query (tree_of j.right.now) left mid
+climbing_fits {query} {lists} {left} js j {accepted} {old} {mid} {begun} {steps} at have =
+    let own = own_lists query lists in
+    let after = lists_after query lists in
+    let long = length-take-le (length (terms_in query)) lists have.each in
+    let parts = ap length (sym (take-append-drop (length (terms_in query)) lists)) ∙ length-append own after in
+    let fit = climbs_fit js j at.climbs long (omega (arith, have.fits, long, have.each)) in
+    let is = ap length at.stands ∙ length-append at.rest after in
+    let split = sym (ap length at.climbs.split) ∙ length-append at.climbs.front at.rest in
+    record {
+      have = record {
+        each = omega (arith, fit.lists, is);
+        fits = omega (arith, have.fits, parts, is, split, at.climbs.evaluates.room);
+      };
+      less = fit.less;
+    }
+
+-- the lists of the next right side are the first of those that are left
+record IsNext (right : Tree) (left rest after : List Places) : Type 0 where
+  own : own_lists right left ≡ own_lists right rest
+  behind : lists_after right left ≡ lists_after right rest ++ after
+  each : length (own_lists right rest) ≡ length (terms_in right)
+
+next_is : (right : Tree) (left rest after : List Places) → left ≡ rest ++ after → length (terms_in right) ≤ length rest → IsNext right left rest after
+next_is right left rest after is short =
+    let m = length (terms_in right) in
+    record {
+      own = ap (take m) is ∙ take-append-le m rest after short;
+      behind = ap (drop m) is ∙ drop-append-le m rest after short;
+      each = length-take-le m rest short;
+    }
+
+pub climbing_on : {query : Tree} {lists left behind : List Places} (js : List Joint) (j : Joint)
+    {accepted all : Bool} {old mid new : Found} {begun steps after : Steps}
+    → Climbing query lists left (js ++ j ∷ []) accepted old mid begun steps → HaveLists old (terms_in query) lists
+    → Joins j.by accepted (Ok all) mid new (tree_of j.right.now) (own_lists (tree_of j.right.now) left)
+    → behind ≡ lists_after (tree_of j.right.now) left
+    → TakesAtMost (1 + visit_cost (tree_of j.right.now) (plain_lists (own_lists (tree_of j.right.now) left))) steps after
+    → more_steps (1 + node_count (tree_of j.right.now)) steps ≤ after.taken
+    → Climbing query lists behind js all old new begun after
+climbing_on {query} {lists} {left} {behind} js j {accepted} {all} {old} {mid} {new} {begun} {steps} {after} at have joins behind_is taken nodes =
+    let q = tree_of j.right.now in
+    let m = length (terms_in q) in
+    let long = length-take-le (length (terms_in query)) lists have.each in
+    let fit = climbs_fit js j at.climbs long (omega (arith, have.fits, long, have.each)) in
+    let next = next_is q left at.rest (lists_after query lists) at.stands fit.lists in
+    record {
+      rest = drop m at.rest;
+      stands = behind_is ∙ next.behind;
+      climbs =
+          climbs_on j at.climbs (take-append-drop m at.rest) next.each (subst (λ l. Joins j.by accepted (Ok all) mid new q l) next.own joins)
+          (subst (λ l. TakesAtMost (1 + visit_cost q (plain_lists l)) steps after) next.own taken) nodes;
+    }
+
+pub climbing_failed : {query : Tree} {lists left : List Places} (js : List Joint) (j : Joint) {accepted : Bool} {old mid : Found} {begun steps after : Steps}
+    → Climbing query lists left (js ++ j ∷ []) accepted old mid begun steps → HaveLists old (terms_in query) lists
+    → TakesAtMost (1 + visit_cost (tree_of j.right.now) (plain_lists (own_lists (tree_of j.right.now) left))) steps after
+    → TakesAtMost (visit_cost query (plain_lists (own_lists query lists))) begun after
+climbing_failed {query} {lists} {left} js j {accepted} {old} {mid} {begun} {steps} {after} at have taken =
+    let q = tree_of j.right.now in
+    let m = length (terms_in q) in
+    let long = length-take-le (length (terms_in query)) lists have.each in
+    let fit = climbs_fit js j at.climbs long (omega (arith, have.fits, long, have.each)) in
+    let next = next_is q left at.rest (lists_after query lists) at.stands fit.lists in
+    climb_failed (take m at.rest) (drop m at.rest) js j at.climbs (take-append-drop m at.rest) next.each long
+    (subst (λ l. TakesAtMost (1 + visit_cost q (plain_lists l)) steps after) next.own taken)
+
+-- the whole query
+pub record IsClimbed (query : Tree) (lists left : List Places) (accepted : Bool) (old now : Found) (begun steps : Steps) : Type 0 where
+  pub evaluates : Evaluates (Ok accepted) old now query (own_lists query lists)
+  pub left_is : left ≡ lists_after query lists
+  pub taken : TakesAtMost (visit_cost query (plain_lists (own_lists query lists))) begun steps
+  pub nodes : more_steps (node_count query) begun ≤ steps.taken
+
+pub climbed : {query : Tree} {lists left : List Places} {accepted : Bool} {old now : Found} {begun steps : Steps}
+    → Climbing query lists left [] accepted old now begun steps → length (terms_in query) ≤ length lists
+    → IsClimbed query lists left accepted old now begun steps
+climbed {query} {lists} {left} {accepted} {old} {now} {begun} {steps} at enough =
+    let long = length-take-le (length (terms_in query)) lists enough in
+    let split = sym (ap length at.climbs.split) ∙ length-append at.climbs.front at.rest in
+    let terms = ap (λ t. length (terms_in t)) at.climbs.all in
+    let none = nothing at.rest (omega (arith, split, long, terms, at.climbs.each)) in
+    let front : at.climbs.front ≡ own_lists query lists =
+    sym (append-nil at.climbs.front) ∙ ap (λ l. at.climbs.front ++ l) (sym none) ∙ at.climbs.split in
+    let is = at.climbs.all in
+    record {
+      evaluates =
+          subst (λ t. Evaluates (Ok accepted) old now t (own_lists query lists)) is
+          (subst (λ l. Evaluates (Ok accepted) old now at.climbs.part l) front at.climbs.evaluates);
+      left_is = at.stands ∙ ap (λ l. l ++ lists_after query lists) none;
+      taken =
+          subst (λ t. TakesAtMost (visit_cost t (plain_lists (own_lists query lists))) begun steps) is
+          (subst (λ l. TakesAtMost (visit_cost at.climbs.part (plain_lists l)) begun steps) front at.climbs.taken);
+      nodes = subst (λ t. more_steps (node_count t) begun ≤ steps.taken) is at.climbs.nodes;
+    }
+
+-- ---- the joints that wait, behind those of the parts around
+
+pub record ClimbingOver (query : Tree) (lists left : List Places) (around joints : List Joint)
+    (accepted : Bool) (old now : Found) (begun steps : Steps) : Type 0 where
+  pub own : List Joint
+  pub behind : joints ≡ around ++ own
+  pub climbs : Climbing query lists left own accepted old now begun steps
+
+abbrev first_or : Joint → List Joint → Joint
+first_or j [] = j
+first_or j (i ∷ js) = i
+
+-- the last one is the part's own
+record IsOwn (around own joints : List Joint) (j : Joint) : Type 0 where
+  rest : List Joint
+  own_is : own ≡ rest ++ j ∷ []
+  behind : joints ≡ around ++ rest
+
+own_last : (around own joints : List Joint) (j : Joint) → around ++ own ≡ joints ++ j ∷ [] → length around < length (joints ++ j ∷ [])
+    → IsOwn around own joints j
+own_last [] own joints j same more = record { rest = joints; own_is = same; behind = refl }
+own_last (i ∷ around) own [] j same more = absurd (omega arith)
+own_last (i ∷ around) own (k ∷ joints) j same more =
+    let is = own_last around own joints j (ap (drop 1) same) (omega arith) in
+    record {
+      rest = is.rest;
+      own_is = is.own_is;
+      behind = ap (λ l. k ∷ l) is.behind ∙ ap (λ x. x ∷ around ++ is.rest) (sym (ap (first_or i) same));
+    }
+
+pub record ClimbingNext (query : Tree) (lists left : List Places) (around joints : List Joint) (j : Joint)
+    (accepted : Bool) (old now : Found) (begun steps : Steps) : Type 0 where
+  pub rest : List Joint
+  pub behind : joints ≡ around ++ rest
+  pub climbs : Climbing query lists left (rest ++ j ∷ []) accepted old now begun steps
+
+pub next_joint : {query : Tree} {lists left : List Places} {around all joints : List Joint} {j : Joint}
+    {accepted : Bool} {old now : Found} {begun steps : Steps}
+    → ClimbingOver query lists left around all accepted old now begun steps → all ≡ joints ++ j ∷ [] → length around < length all
+    → ClimbingNext query lists left around joints j accepted old now begun steps
+next_joint {query} {lists} {left} {around} {all} {joints} {j} {accepted} {old} {now} {begun} {steps} at last more =
+    let long = ap length last in
+    let is = own_last around at.own joints j (sym at.behind ∙ last) (omega (arith, more, long)) in
+    record { rest = is.rest; behind = is.behind; climbs = with_joints is.own_is at.climbs }
+
+pub no_joint : {query : Tree} {lists left : List Places} {around all : List Joint} {accepted : Bool} {old now : Found} {begun steps : Steps}
+    → ClimbingOver query lists left around all accepted old now begun steps → length all ≤ length around
+    → (all ≡ around) × Climbing query lists left [] accepted old now begun steps
+no_joint {query} {lists} {left} {around} {all} {accepted} {old} {now} {begun} {steps} at few =
+    let sum = ap length at.behind ∙ length-append around at.own in
+    let none = nothing at.own (omega (arith, sum, few)) in
+    (at.behind ∙ ap (λ l. around ++ l) none ∙ append-nil around, with_joints none at.climbs)

@@ -4,6 +4,7 @@ use Rattle.std.specs.Prelude.{AllPairs, sum_by, int_lt, if◌then◌else◌, opt
 use Rattle.std.specs.Ordering.{int_eq}
 use Rattle.std.proofs.Math.Nat.{mul-suc}
 use Rattle.std.proofs.lemmas.Simd.{map-map}
+use Rattle.ft_query.proofs.Spines.{some_nodes}
 use Rattle.ft_query.proofs.Widths.{all_terms}
 use Rattle.std.proofs.lemmas.List.Elements.{recursion_from_All, All-nil, All-head}
 use Rattle.std.proofs.lemmas.Bool.Decides.{Decides-int_eq}
@@ -18,13 +19,13 @@ use Rattle.ft_query.specs.declared.walk.search.Considered.TheVariants.{NoDocumen
 use Rattle.ft_query.specs.Documents.{Posting, Document, AreDocuments, IsBefore, PlaceList, place_count}
 use Rattle.ft_query.specs.Trees.{Tree, tree_of}
 use Rattle.ft_query.specs.Occurs.{PlainHit, accepts, offsets_of, hits_of}
-use Rattle.ft_query.specs.Work.{terms_in, lists_of, width, entry_count, candidate_count}
+use Rattle.ft_query.specs.Work.{terms_in, lists_of, node_count, width, entry_count, candidate_count}
 use Rattle.ft_query.specs.Cursors.{lists_left, places_at, passed, least_of, least_from, listed_for}
 use Rattle.ft_query.specs.Visit.{listed_places, if_wanted}
 use Rattle.ft_query.specs.Walk.{Walk, StandsBefore, steps_to_come, Went, hit_at}
 use Rattle.ft_query.specs.Search.{walk_at, Considers}
-use Rattle.ft_query.specs.declared.walk.matches.steps.Steps.{Steps}
-use Rattle.ft_query.specs.Taken.{Takes, TakesSome}
+use Rattle.ft_query.specs.declared.walk.standing.Steps.{Steps}
+use Rattle.ft_query.specs.Taken.{more_steps, Takes, TakesAtMost}
 use Rattle.ft_query.proofs.Nexts.{Next, Nothing, First, next_of, are_more, all_places, all_passed, all_counted, without_it, with_it}
 
 no_documents : AreDocuments []
@@ -149,10 +150,11 @@ pub went_on : (wanted : Wanted) (q : Query) (cursors passed_by : List Cursor) (s
     (terms_in (tree_of q)) → offsets ≡ (if accepts postings (tree_of q) then Some (if_wanted wanted (offsets_of postings (tree_of q))) else None)) →
     map lists_left passed_by ≡ map (passed docid) (map lists_left cursors) → length cursors ≡ length
     (terms_in (tree_of q)) → s.taken ≤ a.taken → a.taken ≤ s.taken + length cursors →
-    TakesSome (12 * sum_by (λ c. length (places_at docid (lists_left c))) cursors + 3 * width (tree_of q)) a b → Takes (length cursors) b t →
+    TakesAtMost (12 * sum_by (λ c. length (places_at docid (lists_left c))) cursors + 3 * width (tree_of q)) a b →
+    more_steps (length cursors + node_count (tree_of q)) a ≤ b.taken → Takes (length cursors) b t →
     Adds wanted (walk_at q cursors s.taken) (walk_at q passed_by t.taken) docid offsets documents
-went_on wanted q cursors passed_by s a b t docid offsets documents stands least given left number first_least first_most visit last =
-    let visit_least = visit.at_least in
+went_on wanted q cursors passed_by s a b t docid offsets documents stands least given left number first_least first_most visit nodes last =
+    let some = some_nodes (tree_of q) in
     let visit_most = visit.at_most in
     let pass = last.taken in
     let ls = map lists_left cursors in

@@ -6,10 +6,12 @@ use Rattle.std.proofs.lemmas.List.{length-append, length-take-le, length-drop, l
 use Rattle.std.proofs.lemmas.List.Sums.{sum_by-cons}
 use Rattle.ft_query.specs.declared.lists.place.Place.{Place}
 use Rattle.ft_query.specs.declared.walk.cursor.Cursor.{Cursor}
+use Rattle.ft_query.specs.declared.walk.places.Places.{Places}
+use Rattle.ft_query.specs.Marked.{own_lists}
 use Rattle.ft_query.specs.Trees.{PlainTerm, PlainPhrase, PlainLink, Tree, phrase, chain, both, either, without}
 use Rattle.ft_query.specs.Work.{terms_in, width}
 use Rattle.ft_query.specs.Cursors.{lists_left, places_at}
-use Rattle.ft_query.specs.Visit.{among, may_begin, followed, starts_from, starts_of, near_those, head_of, linked, total, linked_cost, link_cost, visit_cost, places_in}
+use Rattle.ft_query.specs.Visit.{among, may_begin, followed, starts_from, starts_of, near_those, head_of, linked, total, linked_cost, link_cost, visit_cost, plain_lists, places_in}
 use Rattle.ft_query.proofs.Passes.{among_short, followed_few, near_short, filter_short}
 
 total_split : (n : ℕ) (ls : List (List Place)) → total (take n ls) + total (drop n ls) ≡ total ls
@@ -125,8 +127,15 @@ links_bound p (link ∷ links) ls starts same =
 some_width : (p : PlainPhrase) → 1 ≤ max 1 (length p.terms)
 some_width p = omega arith
 
+links_few : (links : List PlainLink) → length links ≤ sum_by (λ link. max 1 (length link.to.terms)) links
+links_few [] = omega arith
+links_few (link ∷ links) =
+    let rest = links_few links in
+    let all = sum_by-cons (λ (l : PlainLink). max 1 (length l.to.terms)) link links in
+    omega (arith, rest, all)
+
 chain_bound : (p : PlainPhrase) (links : List PlainLink) (ls : List (List Place)) → length ls ≡ length (p.terms ++ link_terms links)
-    → visit_cost (chain p links) ls ≤ 1 + 12 * total ls
+    → visit_cost (chain p links) ls ≤ 1 + length links + 12 * total ls
 chain_bound p links ls same =
     let n = length p.terms in
     let back = linked_bound p links ls in
@@ -159,7 +168,8 @@ visit_bound (phrase p) ls same =
 visit_bound (chain p links) ls same =
     let cost = chain_bound p links ls same in
     let some = some_width p in
-    omega (arith, cost, some)
+    let few = links_few links in
+    omega (arith, cost, some, few)
 visit_bound (both p q) ls same = two_bound p q ls same (visit_bound p) (visit_bound q)
 visit_bound (either p q) ls same = two_bound p q ls same (visit_bound p) (visit_bound q)
 visit_bound (without p q) ls same = two_bound p q ls same (visit_bound p) (visit_bound q)
@@ -198,3 +208,11 @@ document_bound tree docid cursors lists same is =
     let all = ap total is ∙ total_is docid cursors in
     let terms = terms_width tree in
     omega (arith, cost, all, terms, same)
+
+-- where the lists are just those of the query's terms, they are all its own
+pub own_are : (tree : Tree) (docid : ℤ) (cursors : List Cursor) (lists : List Places) → length cursors ≡ length (terms_in tree)
+    → plain_lists lists ≡ places_in docid cursors → plain_lists (own_lists tree lists) ≡ places_in docid cursors
+own_are tree docid cursors lists same is =
+    let many : length lists ≡ length (terms_in tree) =
+    sym (length-map lists (λ l. l.places.now)) ∙ ap length is ∙ length-map cursors (λ c. places_at docid (lists_left c)) ∙ same in
+    ap plain_lists (take_all (length (terms_in tree)) lists (omega (arith, many))) ∙ is

@@ -1,13 +1,16 @@
 -- What a search answers, as callers of a walk are told it.
-use Rattle.std.proofs.Common.{◌≡◌, ◌<◌, true, false, true≢false, [], ◌∷◌, refl, sym, ap, subst, Option, Some, None, Result, Ok, Err, IfOk}
+use Rattle.std.proofs.Common.{◌≡◌, ℕ, ◌<◌, map, true, false, true≢false, [], ◌∷◌, refl, sym, ap, subst, Option, Some, None, Result, Ok, Err, IfOk}
 use Rattle.std.specs.Prelude.{List, option_map, IfSome}
 use Rattle.std.specs.declared.alloc.AllocError.{AllocError}
+use Rattle.ft_query.specs.declared.query.Query.{Query}
 use Rattle.ft_query.specs.declared.walk.Hit.{Hit}
+use Rattle.ft_query.specs.declared.walk.cursor.Cursor.{Cursor}
 use Rattle.ft_query.specs.declared.walk.visit.Wanted.{Wanted}
 use Rattle.ft_query.specs.declared.walk.visit.Wanted.TheVariants.{Docids, Offsets}
 use Rattle.ft_query.specs.Documents.{Document}
 use Rattle.ft_query.specs.Walk.{Walk, StandsBefore, Went, Walked, WalkedTo, lists_to_come}
-use Rattle.ft_query.specs.Search.{Finds, FindsNext}
+use Rattle.ft_query.specs.Cursors.{lists_left, lists_kept}
+use Rattle.ft_query.specs.Search.{walk_at, stands_at, Finds, FindsNext}
 
 there_is : {X : Type 0} {x : X} → Some x ≡ None → ⊥
 there_is same = true≢false (ap (λ o. elim o [ Some _ ↦ true | None ↦ false ]) same)
@@ -35,3 +38,12 @@ pub found_docid : (old new : Walk) (hit : Option Hit) (documents : List Document
     → WalkedTo old new (option_map (λ h. h.docid) hit) documents
 found_docid old new None documents found = record { offsets = found.offsets; went = found.went; ended = λ _. found.ended refl }
 found_docid old new (Some hit) documents found = record { offsets = found.offsets; went = found.went; ended = λ never. absurd (there_is never) }
+
+-- a search begins where the walk stands, which is kept where the search ends
+pub kept_on : {wanted : Wanted} {q : Query} (old begun found kept : List Cursor) {taken from to : ℕ} {hit : Option Hit}
+    → FindsNext wanted (walk_at q begun from) (walk_at q found to) hit → from ≡ taken → map lists_left begun ≡ map lists_kept old
+    → map lists_kept kept ≡ map lists_left found → FindsNext wanted (stands_at q old taken) (stands_at q kept to) hit
+kept_on {wanted} {q} old begun found kept {taken} {from} {to} {hit} finds first begins keeps =
+    let one = subst (λ n. FindsNext wanted (walk_at q begun n) (walk_at q found to) hit) first finds in
+    let two = subst (λ ls. FindsNext wanted (record { query = q; lists = ls; steps = taken }) (walk_at q found to) hit) begins one in
+    subst (λ ls. FindsNext wanted (stands_at q old taken) (record { query = q; lists = ls; steps = to }) hit) (sym keeps) two

@@ -6,7 +6,7 @@ use Rattle.ft_query.specs.declared.lists.Lists.{Ghosts}
 use Rattle.ft_query.specs.declared.walk.cursor.Cursor.{Cursor}
 use Rattle.ft_query.specs.Documents.{Document}
 use Rattle.ft_query.specs.Cursors.{lists_kept, listed_for}
-use Rattle.ft_query.specs.declared.walk.spine.Joint.{Joint}
+use Rattle.ft_query.specs.declared.walk.joint.Joint.{Joint}
 use Rattle.ft_query.specs.Trees.{PlainTerm, Tree, tree_of}
 use Rattle.ft_query.specs.Work.{terms_in}
 use Rattle.ft_query.specs.Spines.{joined, whole}

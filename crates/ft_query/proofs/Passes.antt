@@ -222,7 +222,8 @@ pub chain_cost : (first : Phrase) (links : List Link) (lists own behind : List P
     → size ≡ length first.terms.items → own ≡ take size lists → behind ≡ drop size lists
     → starts ≡ head_of (linked (plain_phrase first) (map plain_link links) (plain_lists lists))
     → all ≡ drop 1 (linked (plain_phrase first) (map plain_link links) (plain_lists lists))
-    → 1 + (linked_cost (plain_phrase first) (map plain_link links) (plain_lists lists) + total (plain_lists own) + size * length starts + link_cost size starts
+    → 1 + length (map plain_link links)
+    + (linked_cost (plain_phrase first) (map plain_link links) (plain_lists lists) + total (plain_lists own) + size * length starts + link_cost size starts
     (map plain_link links) (plain_lists behind) all) ≡ visit_cost (chain (plain_phrase first) (map plain_link links)) (plain_lists lists)
 chain_cost first links lists own behind starts all size is_size is_own is_behind is_starts is_all =
     let terms = first.terms.items in
@@ -232,7 +233,7 @@ chain_cost first links lists own behind starts all size is_size is_own is_behind
     let later = drop 1 (linked (plain_phrase first) (map plain_link links) (plain_lists lists)) in
     let back = linked_cost (plain_phrase first) (map plain_link links) (plain_lists lists) in
     let cost : ℕ → List Place → List (List Place) → List (List Place) → List (List Place) → ℕ =
-    λ m s ss front rest. 1 + (back + total front + m * length s + link_cost m s (map plain_link links) rest ss) in
+    λ m s ss front rest. 1 + length (map plain_link links) + (back + total front + m * length s + link_cost m s (map plain_link links) rest ss) in
     ap (λ s. cost size s all (plain_lists own) (plain_lists behind)) is_starts
     ∙ ap (λ ss. cost size begun ss (plain_lists own) (plain_lists behind)) is_all
     ∙ ap (λ m. cost m begun later (plain_lists own) (plain_lists behind)) same

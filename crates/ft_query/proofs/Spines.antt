@@ -1,12 +1,12 @@
 -- What is joined to the first operand of a query, one joint after the other.
-use Rattle.std.proofs.Common.{◌≡◌, ◌+◌, ◌≤◌, ◌<◌, List, [], ◌∷◌, ◌++◌, length, refl, sym, ap, ◌∙◌, arith}
+use Rattle.std.proofs.Common.{◌≡◌, ◌+◌, ◌≤◌, ◌<◌, List, [], ◌∷◌, ◌++◌, length, refl, sym, ap, subst, ◌∙◌, append-nil, append_assoc, arith}
 use Rattle.std.proofs.lemmas.List.{length-append}
-use Rattle.ft_query.specs.declared.walk.spine.By.{By}
-use Rattle.ft_query.specs.declared.walk.spine.By.TheVariants as by
-use Rattle.ft_query.specs.declared.walk.spine.Joint.{Joint}
+use Rattle.ft_query.specs.declared.walk.joint.By.{By}
+use Rattle.ft_query.specs.declared.walk.joint.By.TheVariants as by
+use Rattle.ft_query.specs.declared.walk.joint.Joint.{Joint}
 use Rattle.ft_query.specs.Trees.{Tree, phrase, chain, both, either, without, tree_of}
-use Rattle.ft_query.specs.Work.{terms_in, width}
-use Rattle.ft_query.specs.Spines.{joined, whole}
+use Rattle.ft_query.specs.Work.{terms_in, node_count, width}
+use Rattle.ft_query.specs.Spines.{joined, whole, AddsSpine}
 
 -- the last joint is joined first
 pub whole_last : (js : List Joint) (j : Joint) (p : Tree) → whole (js ++ j ∷ []) p ≡ whole js (joined p j.by (tree_of j.right.now))
@@ -29,6 +29,28 @@ some_width (chain p links) = omega arith
 some_width (both p q) = let one = some_width p in omega (arith, one)
 some_width (either p q) = let one = some_width p in omega (arith, one)
 some_width (without p q) = let one = some_width p in omega (arith, one)
+
+pub spine_begun : (js : List Joint) (p : Tree) → AddsSpine js js p p
+spine_begun js p = record { own = []; added = sym (append-nil js); all = refl }
+
+-- a left side's joint more
+pub spine_on : (old now new : List Joint) (j : Joint) (left : Tree) {query : Tree} → AddsSpine old now (joined left j.by (tree_of j.right.now)) query
+    → new ≡ now ++ j ∷ [] → AddsSpine old new left query
+spine_on old now new j left {query} at more = record {
+  own = at.own ++ j ∷ [];
+  added = more ∙ ap (λ l. l ++ j ∷ []) at.added ∙ append_assoc old at.own (j ∷ []);
+  all = whole_last at.own j left ∙ at.all;
+}
+
+pub spine_alone : (js : List Joint) {part query : Tree} → AddsSpine [] js part query → whole js part ≡ query
+spine_alone js {part} {query} at = subst (λ l. whole l part ≡ query) (sym at.added) at.all
+
+pub some_nodes : (t : Tree) → 1 ≤ node_count t
+some_nodes (phrase p) = omega arith
+some_nodes (chain p links) = omega arith
+some_nodes (both p q) = omega arith
+some_nodes (either p q) = omega arith
+some_nodes (without p q) = omega arith
 
 pub part_terms : (js : List Joint) (p : Tree) → length (terms_in p) ≤ length (terms_in (whole js p))
 part_terms [] p = omega arith

@@ -1,7 +1,7 @@
 -- Steps one after the other.
-use Rattle.std.proofs.Common.{ℕ, ◌+◌, arith}
-use Rattle.ft_query.specs.declared.walk.matches.steps.Steps.{Steps}
-use Rattle.ft_query.specs.Taken.{Takes}
+use Rattle.std.proofs.Common.{◌≡◌, ℕ, ◌+◌, ◌-◌, ◌≤◌, arith}
+use Rattle.ft_query.specs.declared.walk.standing.Steps.{Steps}
+use Rattle.ft_query.specs.Taken.{Takes, more_steps}
 
 pub takes_then : (m n : ℕ) (a b c : Steps) → Takes m a b → Takes n b c → Takes (m + n) a c
 takes_then m n a b c one two =
@@ -12,3 +12,10 @@ takes_then m n a b c one two =
     let least = two.at_least in
     let most = two.at_most in
     record { taken = omega arith; at_least = omega arith; at_most = omega arith }
+
+-- of so many steps so many are left
+pub record TakesBefore (all left : ℕ) (old new : Steps) : Type 0 where
+  pub few : left ≤ all
+  pub taken : new.taken ≡ more_steps (all - left) old
+  pub at_least : old.taken ≤ new.taken
+  pub at_most : new.taken + left ≤ old.taken + all

@@ -1,5 +1,5 @@
 -- Steps. What the evaluation of a document adds to what was found in it.
-use Rattle.std.specs.Prelude.{◌≡◌, ℕ, ◌+◌, ◌^◌, ◌<◌, ◌≤◌, ◌++◌, Bool, List, [], length, drop, reverse, map, Result, IfOk, OnOk}
+use Rattle.std.specs.Prelude.{◌≡◌, ℕ, ◌+◌, ◌^◌, ◌<◌, ◌≤◌, ◌++◌, Bool, List, [], length, take, drop, reverse, map, Result, IfOk, OnOk}
 use Rattle.std.specs.declared.alloc.AllocError.{AllocError}
 use Rattle.ft_query.specs.declared.lists.place.Place.{Place}
 use Rattle.ft_query.specs.declared.query.Chain.{Chain}
@@ -8,7 +8,8 @@ use Rattle.ft_query.specs.declared.walk.places.Starts.{Starts}
 use Rattle.ft_query.specs.declared.walk.visit.Found.{Found}
 use Rattle.ft_query.specs.declared.walk.visit.Wanted.{Wanted}
 use Rattle.ft_query.specs.Trees.{PlainTerm, Tree, chain, plain_phrase, plain_link}
-use Rattle.ft_query.specs.declared.walk.spine.By.{By}
+use Rattle.ft_query.specs.declared.walk.joint.By.{By}
+use Rattle.ft_query.specs.Work.{terms_in}
 use Rattle.ft_query.specs.Spines.{joined_answer, joined_marks}
 use Rattle.ft_query.specs.Visit.{is_accepted, marks_of, numbered, if_wanted, plain_lists, plain_starts, head_of}
 
@@ -19,6 +20,20 @@ chain_tree near = chain (plain_phrase near.first) (map plain_link near.links.ite
 -- Each of these terms has its list, and their numbers, from the next one on, fit.
 pub record AreNumbered (found : Found) (terms : List PlainTerm) (lists : List Places) : Type 0 where
   pub each : length lists ≡ length terms
+  pub fits : found.next + length lists < 2 ^ 64
+
+-- the lists of a query's terms, where they are the first of these
+abbrev pub own_lists : Tree → List Places → List Places
+own_lists tree lists = take (length (terms_in tree)) lists
+
+-- and those that come after them
+abbrev pub lists_after : Tree → List Places → List Places
+lists_after tree lists = drop (length (terms_in tree)) lists
+
+-- Each of these terms has its list, the first of these, and the numbers of all, from the next one
+-- on, fit.
+pub record HaveLists (found : Found) (terms : List PlainTerm) (lists : List Places) : Type 0 where
+  pub each : length terms ≤ length lists
   pub fits : found.next + length lists < 2 ^ 64
 
 -- These marks are added, with the numbers of so many terms from the next one on. What is asked

@@ -1,8 +1,8 @@
 -- Steps. A query from its first operand on, as a list of what is joined to it.
-use Rattle.std.specs.Prelude.{◌&&◌, ◌||◌, Bool, not, List, [], ◌∷◌, map}
-use Rattle.ft_query.specs.declared.walk.spine.By.{By}
-use Rattle.ft_query.specs.declared.walk.spine.By.TheVariants as by
-use Rattle.ft_query.specs.declared.walk.spine.Joint.{Joint}
+use Rattle.std.specs.Prelude.{◌≡◌, ◌++◌, ◌&&◌, ◌||◌, Bool, not, List, [], ◌∷◌, map}
+use Rattle.ft_query.specs.declared.walk.joint.By.{By}
+use Rattle.ft_query.specs.declared.walk.joint.By.TheVariants as by
+use Rattle.ft_query.specs.declared.walk.joint.Joint.{Joint}
 use Rattle.ft_query.specs.declared.walk.spine.Leaf.{Leaf}
 use Rattle.ft_query.specs.declared.walk.spine.Leaf.TheVariants as leaf
 use Rattle.ft_query.specs.Trees.{Tree, phrase, chain, both, either, without, plain_phrase, plain_link, tree_of}
@@ -21,6 +21,12 @@ joined p by.Not q = without p q
 abbrev pub whole : List Joint → Tree → Tree
 whole [] p = p
 whole (j ∷ js) p = joined (whole js p) j.by (tree_of j.right.now)
+
+-- These joints come behind those that are there, and a part with them is the query.
+pub record AddsSpine (old new : List Joint) (part query : Tree) : Type 0 where
+  pub own : List Joint
+  pub added : new ≡ old ++ own
+  pub all : whole own part ≡ query
 
 -- whether both sides together accept, from what each answers
 abbrev pub joined_answer : By → Bool → Bool → Bool

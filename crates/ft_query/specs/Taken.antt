@@ -1,6 +1,6 @@
 -- Steps. How many steps a call of a walk takes.
-use Rattle.std.specs.Prelude.{◌≡◌, ℕ, ℤ, ◌+◌, ◌-◌, ◌^◌, ◌≤◌, min, List, Option, None, if◌then◌else◌, Result, OnErr}
-use Rattle.ft_query.specs.declared.walk.matches.steps.Steps.{Steps}
+use Rattle.std.specs.Prelude.{◌≡◌, ℕ, ℤ, ◌+◌, ◌-◌, ◌^◌, ◌≤◌, min, List, Option, None, if◌then◌else◌, Result, OnOk}
+use Rattle.ft_query.specs.declared.walk.standing.Steps.{Steps}
 use Rattle.ft_query.specs.Documents.{PlaceList, is_filled}
 
 -- so many steps more, as a number of 64 bits that stays at its greatest value
@@ -23,17 +23,11 @@ pub record TakesOf (most left : ℕ) (old new : Steps) : Type 0 where
   pub at_least : old.taken ≤ new.taken
   pub at_most : new.taken + left ≤ old.taken + most
 
--- one or more, but at most so many
-pub record TakesSome (most : ℕ) (old new : Steps) : Type 0 where
-  pub rises : old.taken ≤ new.taken
-  pub at_least : more_steps 1 old ≤ new.taken
-  pub at_most : new.taken ≤ old.taken + most
-
--- none or more, and one or more where no memory is left, but at most so many
+-- so many, or at most so many where no memory is left
 pub record LooksForAll {X F : Type 0} (most : ℕ) (result : Result X F) (old new : Steps) : Type 0 where
   pub at_least : old.taken ≤ new.taken
   pub at_most : new.taken ≤ old.taken + most
-  pub refused : OnErr result (more_steps 1 old ≤ new.taken)
+  pub all : OnOk result (more_steps most old ≤ new.taken)
 
 -- one where there is a next docid, and none where there is none and so no answer
 pub record LooksAt (lists : List PlaceList) (answer : Option ℤ) (old new : Steps) : Type 0 where

@@ -183,12 +183,12 @@ link_cost k starts (link ∷ links) lists all =
     length starts + 3 * length (head_of all) + total (take (length link.to.terms) lists) + length link.to.terms * length next
     + link_cost (length link.to.terms) next links (drop (length link.to.terms) lists) (drop 1 all)
 
--- the most steps for a query: one for each of its parts, and those of its phrases and chains
+-- the most steps for a query: one for each of its nodes, and those of its phrases and chains
 abbrev pub visit_cost : Tree → List (List Place) → ℕ
 visit_cost (phrase p) lists = 1 + (3 * total lists + length lists * length (starts_of p lists))
 visit_cost (chain p links) lists =
     let all = linked p links lists in
-    1 + (linked_cost p links lists + total (take (length p.terms) lists) + length p.terms * length (head_of all)
+    1 + length links + (linked_cost p links lists + total (take (length p.terms) lists) + length p.terms * length (head_of all)
     + link_cost (length p.terms) (head_of all) links (drop (length p.terms) lists) (drop 1 all))
 visit_cost (both p q) lists = 1 + (visit_cost p (take (length (terms_in p)) lists) + visit_cost q (drop (length (terms_in p)) lists))
 visit_cost (either p q) lists = 1 + (visit_cost p (take (length (terms_in p)) lists) + visit_cost q (drop (length (terms_in p)) lists))

@@ -21,6 +21,14 @@ width (both p q) = width p + width q
 width (either p q) = width p + width q
 width (without p q) = width p + width q
 
+-- how many nodes a query has: each phrase, also of a chain, and each AND, OR and NOT
+abbrev pub node_count : Tree → ℕ
+node_count (phrase p) = 1
+node_count (chain p links) = 1 + length links
+node_count (both p q) = 1 + (node_count p + node_count q)
+node_count (either p q) = 1 + (node_count p + node_count q)
+node_count (without p q) = 1 + (node_count p + node_count q)
+
 -- For each term its list: of the term itself, or of all that begins so where it is a prefix term. A
 -- first term's list is that of the term in every position.
 abbrev pub lists_of : Tree → List Document → List (List PlaceList)

@@ -4,17 +4,19 @@ ghost use Rattle.std.specs.List.{join_with_byte};
 ghost use Rattle.ft_query.specs.Occurs.{offset_numbers, offsets_text};
 
 mod cursor;
+mod joint;
 mod load;
 mod matches;
 mod places;
 mod search;
 mod spine;
+mod standing;
 mod starts;
 mod visit;
 
 use itoa::Buffer;
 pub use matches::Matches;
-pub(crate) use matches::Steps;
+pub(crate) use standing::Steps;
 use std::alloc::{AllocError, Global};
 
 /// One term of a phrase's occurrence: its column, the term's number in the query, and its place and

@@ -353,6 +353,138 @@ fn steps_of_many_documents_are_bounded(rt: HostRuntime) -> Result<(), Fail> {
     counts(rt.alloc(), &many, "a", 40_001, 1_000)
 }
 
+// Where the docid is 2 the list of `a` is at its end.
+const TWO: [Texts<'static>; 2] = [(1, &["a b"]), (2, &["b"])];
+
+const FOUR: [Texts<'static>; 2] = [(1, &["a b c d"]), (2, &["b a d c"])];
+
+// Documents, a text, and the steps of its whole walk: for docids alone, and how many more offsets
+// take. A step is a docid considered at a list, a comparison of positions, or a node visited:
+//
+// - For each document each list is asked for its next docid, where it has one left, whether that is
+//   the document's, and as the walk goes on.
+// - Each phrase is a node, and so is each AND, OR and NOT.
+// - The places of a phrase's first word are taken over, one by one, but for a single word only where
+//   offsets are wanted. Where the next word stands is sought on from where it was found before.
+// - NEAR asks for each place on its left which on its right is not too far ahead, and whether that one
+//   is near, or else the one behind it. For offsets it then asks the same for those on its right.
+// - For an offset its place is sought in the occurrences, and told. None is made right of a NOT.
+const BY_HAND: [(&[Texts<'static>], &str, u64, u64); 15] = [
+    // 3 docids, 1 node; 2 places, each taken over, sought and told
+    (&[(1, &["a b a b"])], "a", 3 + 1, 2 * 3),
+    // 6 docids, 1 node, 2 places of `a`, 2 comparisons of `b`; 4 places, each sought and told
+    (&[(1, &["a b a b"])], "\"a b\"", 6 + 1 + 2 + 2, 4 * 2),
+    // `b` is compared with the first `a` in vain, also for the offsets
+    (&[(1, &["a a b"])], "\"a b\"", 6 + 1 + 2 + 2, 2 * 2 + 1),
+    // 2 places are taken over, and `b` is not too far ahead of `a`, and near; the same for `b`
+    (&[(1, &["a x b"])], "a NEAR b", 6 + 2 + 2 + 2, 2 + 2 * 2),
+    // `b` isn't near, and with no occurrence left there is nothing to compare with
+    (&[(1, &["a x b"])], "a NEAR/0 b", 6 + 2 + 2 + 2, 0),
+    // 3 places; for `a` the first `b` is too far ahead, and the other isn't, and is near. For each `b`
+    // two comparisons with `a`; the first `b` is sought in vain, and 2 places are told
+    (
+        &[(1, &["b x a b"])],
+        "a NEAR/0 b",
+        6 + 2 + 3 + 3,
+        4 + 1 + 2 * 2,
+    ),
+    // 6 docids in the one document, 5 in the other, 3 nodes in both; 3 places
+    (&TWO, "a AND b", 6 + 5 + 2 * 3, 3 * 3),
+    (&TWO, "a OR b", 6 + 5 + 2 * 3, 3 * 3),
+    // the offsets of `a` alone; where `a` rejects `b` is a node, too
+    (&TWO, "a NOT b", 6 + 5 + 2 * 3, 3),
+    // 12 docids, 7 nodes; the offsets of all but `d`
+    (
+        &[(1, &["a b c d"])],
+        "a OR (b AND (c NOT d))",
+        12 + 7,
+        3 * 3,
+    ),
+    // the list of `a` is at its end: it rejects, and the 5 nodes right of it are counted, too
+    (&[(1, &["b c d"])], "a NOT (b OR (c NOT d))", 11 + 7, 0),
+    // 12 docids and 7 nodes in both documents, however they are nested
+    (&FOUR, "a OR b OR c OR d", 2 * (12 + 7), 8 * 3),
+    (&FOUR, "a OR (b OR (c OR d))", 2 * (12 + 7), 8 * 3),
+    (
+        &FOUR,
+        "((((a OR b)))) OR ((((c OR d))))",
+        2 * (12 + 7),
+        8 * 3,
+    ),
+    // `c NOT d` rejects, so that `b NOT ..` accepts and `a NOT ..` rejects; the offsets of `a` are made
+    // before that
+    (&FOUR, "a NOT (b NOT (c NOT d))", 2 * (12 + 7), 2 * 3),
+];
+
+// Whether there was a further hit.
+fn goes_on(matches: &mut Matches<'_>, wants_offsets: bool) -> Result<bool, Fail> {
+    if wants_offsets {
+        return Ok(next(matches)?.is_some());
+    }
+    Ok(matches.next_docid()?.is_some())
+}
+
+// Refuses another number of steps of the whole walk than the wanted one.
+fn takes(
+    alloc: Global,
+    documents: &[Texts<'_>],
+    text: &str,
+    wants_offsets: bool,
+    want: u64,
+) -> Result<(), Fail> {
+    let Some(query) = query_of(alloc, &["x"], text)? else {
+        return Err("no query")?;
+    };
+    let mut matches = open(alloc, &query, documents)?;
+    for _ in 0..u64::MAX {
+        if !goes_on(&mut matches, wants_offsets)? {
+            break;
+        }
+    }
+    if matches.steps() != want {
+        return Err(format!(in alloc; "{text}: {} steps", matches.steps())?)?;
+    }
+    Ok(())
+}
+
+#[test]
+fn steps_are_those_counted_by_hand(rt: HostRuntime) -> Result<(), Fail> {
+    let alloc = rt.alloc();
+    for (documents, text, docids, more) in BY_HAND {
+        takes(alloc, documents, text, false, docids)?;
+        takes(alloc, documents, text, true, docids.saturating_add(more))?;
+    }
+    Ok(())
+}
+
+// `w0 OR w1 OR w2 ..`, 64 words, where every other OR may open a parenthesis, which makes 31 of them.
+fn or_of_words(alloc: Global, is_nested: bool) -> Result<String, AllocError> {
+    let mut text = format!(in alloc; "w0")?;
+    for i in 1..64 {
+        let opening = if is_nested && i % 2 == 0 { "(" } else { "" };
+        write!(text, " OR {opening}w{i}")?;
+    }
+    if is_nested {
+        text.push_str(")".repeat(alloc, 31)?.as_str())?;
+    }
+    Ok(text)
+}
+
+// In the one document, which has one of the 64 words, 1 list has a next docid, 64 are asked twice,
+// and 127 nodes are visited. The one place takes 3 for its offset. The bound is 32 * 1 + 8 * 64 * 1.
+#[test]
+fn nested_words_take_as_many_steps_as_flat_ones(rt: HostRuntime) -> Result<(), Fail> {
+    let alloc = rt.alloc();
+    let all: [Texts<'_>; 1] = [(1, &["w0"])];
+    for is_nested in [false, true] {
+        let text = or_of_words(alloc, is_nested)?;
+        takes(alloc, &all, text.as_str(), false, 1 + 2 * 64 + 127)?;
+        takes(alloc, &all, text.as_str(), true, 256 + 3)?;
+        counts(alloc, &all, text.as_str(), 32 + 8 * 64, 1)?;
+    }
+    Ok(())
+}
+
 const FIRST: Offset = Offset {
     column: 1,
     term: 0,

@@ -93,10 +93,13 @@ impl Place {
         is_within && (!first || pos == 0)
     }
 
-    /// The offset of this place, for the term with this number. The position isn't looked at.
-    pub(crate) fn offset(&self, number: usize) -> Offset
-        ensures { result ≡ offset_at number self.now }
+    /// The offset of this place, for the term with this number: a look, too, since it tells which of
+    /// two places comes first.
+    pub(crate) fn offset(&self, number: usize, steps: &mut Steps) -> Offset
+        ensures offset { result ≡ offset_at number self.now }
+        ensures step { Takes 1 steps.old steps.new }
     {
+        let _pos = self.look(steps);
         Offset {
             column: self.column,
             term: number,

@@ -7,71 +7,22 @@ ghost use Rattle.ft_query.specs.Work.{terms_in, entry_count};
 ghost use Rattle.ft_query.specs.Cursors.{lists_left, lists_kept};
 ghost use Rattle.ft_query.specs.Walk.{lists_to_come, StandsBefore, Walked, WalkedTo};
 ghost use Rattle.ft_query.specs.Search.{stands_at, FindsNext};
-ghost use Rattle.ft_query.specs.Sought.{AllSearchOn};
-
-mod steps;
 
 use crate::lists::{ListFault, Lists};
 use crate::query::Query;
 use crate::walk::Hit;
-use crate::walk::cursor::Cursor;
 use crate::walk::load::load;
-use crate::walk::search::search;
+use crate::walk::standing::Standing;
 use crate::walk::visit::Wanted;
 use std::alloc::{AllocError, Global};
 use std::marker::Model;
-pub(crate) use steps::Steps;
-
-/// Begins a search where the walk stands.
-fn begin(cursors: &mut [Cursor])
-    ensures { AllSearchOn cursors.old cursors.new (map lists_kept cursors.old) }
-{
-    for cursor in cursors.iter_mut() {
-        cursor.begin();
-    }
-}
-
-/// The walk now stands where the search is.
-fn keep(cursors: &mut [Cursor])
-    ensures { map lists_kept cursors.new ≡ map lists_left cursors.old }
-{
-    for cursor in cursors.iter_mut() {
-        cursor.keep();
-    }
-}
-
-/// The next hit, without offsets where they aren't wanted. The walk then stands after it, and
-/// after an error where it stood.
-fn advance(
-    alloc: Global,
-    query: &Query,
-    cursors: &mut [Cursor],
-    wanted: Wanted,
-    steps: &mut Steps,
-) -> Result<Option<Hit>, AllocError>
-    requires { length cursors.old ≡ length (terms_in (tree_of query.now)) }
-    ensures finds { IfOk result
-        (FindsNext wanted (stands_at query.now cursors.old steps.old.taken)
-        (stands_at query.now cursors.new steps.new.taken)) }
-    ensures rise { steps.old.taken ≤ steps.new.taken }
-    ensures err { OnErr result ((map lists_kept cursors.new ≡ map lists_kept cursors.old)
-        × (steps.new.taken ≡ steps.old.taken)) }
-{
-    let mut taken = steps.going_on();
-    begin(cursors);
-    let hit = search(alloc, query, cursors, wanted, &mut taken)?;
-    keep(cursors);
-    *steps = taken;
-    Ok(hit)
-}
 
 /// The walk over the documents that a query accepts, by rising docid. It goes over the lists of the
 /// query's terms once.
 #[derive(Drop)]
 pub struct Matches<'q> {
     query: &'q Query,
-    cursors: Vec<Cursor>,
-    steps: Steps,
+    standing: Standing,
     alloc: Global,
 }
 
@@ -88,9 +39,9 @@ impl<'q> Model for Matches<'q> {
 
     ghost coded = { Prim.hlevel (codes, q.the_row.coded) };
 
-    ghost view = { λ m. record { query = m.query.now; lists = map lists_kept m.cursors.items; steps = m.steps.taken } };
+    ghost view = { λ m. record { query = m.query.now; lists = map lists_kept m.standing.cursors.items; steps = m.standing.kept } };
 
-    ghost invariant = { λ m. vec_len m.cursors ≡ length (terms_in (tree_of m.query.now)) };
+    ghost invariant = { λ m. vec_len m.standing.cursors ≡ length (terms_in (tree_of m.query.now)) };
 }
 
 impl<'q> Matches<'q> {
@@ -117,10 +68,10 @@ impl<'q> Matches<'q> {
     {
         let mut cursors = Vec::new(alloc);
         load(alloc, query, lists, &mut cursors)?;
+        let standing = Standing::before(cursors);
         Ok(Matches {
             query,
-            cursors,
-            steps: Steps::none(),
+            standing,
             alloc,
         })
     }
@@ -132,8 +83,7 @@ impl<'q> Matches<'q> {
         ensures query { self.new.query ≡ self.old.query }
         ensures err { OnErr result (self.new ≡ self.old) }
     {
-        let cursors = self.cursors.as_mut_slice();
-        advance(self.alloc, self.query, cursors, wanted, &mut self.steps)
+        self.standing.search(self.alloc, self.query, wanted)
     }
 
     /// The next hit, or `None` where there is none. After an error the walk stands where it stood.
@@ -166,11 +116,11 @@ impl<'q> Matches<'q> {
         }
     }
 
-    /// The steps that the walk has taken: docids and positions that were looked at, and parts of
+    /// The steps that the walk has taken: docids and positions that were looked at, and nodes of
     /// the query that were visited for a document.
     pub fn steps(&self) -> u64
         ensures { result ≡ self.now.steps }
     {
-        self.steps.taken()
+        self.standing.steps()
     }
 }

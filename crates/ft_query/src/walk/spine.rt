@@ -3,26 +3,14 @@
 ghost use Rattle.std.specs.Prelude.{◌≡◌, ◌<◌, ◌+◌, ◌^◌, length, map, vec_len, flat_map, IfOk};
 ghost use Rattle.ft_query.specs.Trees.{plain_phrase, plain_link, tree_of, chain};
 ghost use Rattle.ft_query.specs.Marked.{chain_tree};
-ghost use Rattle.ft_query.specs.Work.{terms_in};
-ghost use Rattle.ft_query.specs.Spines.{leaf_tree, whole};
+ghost use Rattle.ft_query.specs.Taken.{Takes};
+ghost use Rattle.ft_query.specs.Work.{terms_in, node_count};
+ghost use Rattle.ft_query.specs.Spines.{leaf_tree, whole, AddsSpine};
 
 use crate::query::{Chain, Phrase, Query};
+use crate::walk::Steps;
+use crate::walk::joint::{By, Joint};
 use std::alloc::{AllocError, Global};
-
-/// How a right side is joined to its left one.
-#[derive(Clone, Copy, Debug, PartialEq, Eq)]
-pub(crate) enum By {
-    And,
-    Or,
-    Not,
-}
-
-/// A right side, and how it is joined to what is left of it.
-#[derive(Clone, Copy)]
-pub(crate) struct Joint<'q> {
-    pub(crate) by: By,
-    pub(crate) right: &'q Query,
-}
 
 /// A query that joins nothing.
 #[derive(Clone, Copy)]
@@ -31,7 +19,30 @@ pub(crate) enum Leaf<'q> {
     Near(&'q Chain),
 }
 
-#[tactic(auto, using(crate::proofs::Spines::whole_last))]
+#[tactic(auto, using(crate::proofs::Spines::spine_on))]
+/// The first operand of a query. What is joined to it comes behind these joints, the last one first.
+pub(crate) fn add_spine<'q>(
+    query: &'q Query,
+    joints: &mut Vec<Joint<'q>>,
+) -> Result<Leaf<'q>, AllocError>
+    ensures { IfOk result (λ leaf.
+        AddsSpine joints.old.items joints.new.items (leaf_tree leaf) (tree_of query.now)) }
+{
+    let mut part = query;
+    loop {
+        let (by, left, right) = match part {
+            Query::Phrase(phrase) => return Ok(Leaf::Phrase(phrase)),
+            Query::Near(chain) => return Ok(Leaf::Near(chain)),
+            Query::And(left, right) => (By::And, left, right),
+            Query::Or(left, right) => (By::Or, left, right),
+            Query::Not(left, right) => (By::Not, left, right),
+        };
+        joints.push(Joint::new(by, right))?;
+        part = left;
+    }
+}
+
+#[tactic(auto, using(crate::proofs::Spines::spine_alone))]
 /// The first operand of a query, and what is joined to it, the last joint first.
 pub(crate) fn spine_of<'q>(
     alloc: Global,
@@ -40,26 +51,18 @@ pub(crate) fn spine_of<'q>(
     ensures { IfOk result (λ s. whole s.1.items (leaf_tree s.0) ≡ tree_of query.now) }
 {
     let mut joints = Vec::new(alloc);
-    let mut part = query;
-    loop {
-        let (by, left, right) = match part {
-            Query::Phrase(phrase) => return Ok((Leaf::Phrase(phrase), joints)),
-            Query::Near(chain) => return Ok((Leaf::Near(chain), joints)),
-            Query::And(left, right) => (By::And, left, right),
-            Query::Or(left, right) => (By::Or, left, right),
-            Query::Not(left, right) => (By::Not, left, right),
-        };
-        joints.push(Joint { by, right })?;
-        part = left;
-    }
+    let leaf = add_spine(query, &mut joints)?;
+    Ok((leaf, joints))
 }
 
 #[tactic(auto, using(crate::proofs::Marks::count_more))]
-// How many terms a chain has.
-fn chain_count(near: &Chain) -> usize
+/// How many terms a chain has. Each of its phrases after the first one is a step.
+pub(crate) fn chain_count(near: &Chain, steps: &mut Steps) -> usize
     requires { length (terms_in (chain_tree near.now)) < 2 ^ 64 }
-    ensures { result ≡ length (terms_in (chain_tree near.now)) }
+    ensures count { result ≡ length (terms_in (chain_tree near.now)) }
+    ensures steps { Takes (vec_len near.now.links) steps.old steps.new }
 {
+    steps.take_all(near.links.len());
     let mut count = near.first.terms.len();
     for link in &near.links {
         count += link.to.terms.len();
@@ -67,31 +70,22 @@ fn chain_count(near: &Chain) -> usize
     count
 }
 
-/// How many terms a first operand has.
-pub(crate) fn leaf_count(leaf: Leaf<'_>) -> usize
-    requires { length (terms_in (leaf_tree leaf)) < 2 ^ 64 }
-    ensures { result ≡ length (terms_in (leaf_tree leaf.entry)) }
-{
-    match leaf {
-        Leaf::Phrase(phrase) => phrase.terms.len(),
-        Leaf::Near(near) => chain_count(near),
-    }
-}
-
 #[tactic(auto, using(crate::proofs::Spines::some_width))]
-/// How many terms a query has.
-pub(crate) fn term_count(query: &Query) -> usize
+/// How many terms a query has. Each of its nodes is a step.
+pub(crate) fn term_count(query: &Query, steps: &mut Steps) -> usize
     requires { length (terms_in (tree_of query.now)) < 2 ^ 64 }
-    ensures { result ≡ length (terms_in (tree_of query.now)) }
+    ensures count { result ≡ length (terms_in (tree_of query.now)) }
+    ensures steps { Takes (node_count (tree_of query.now)) steps.old steps.new }
 {
     let mut count = 0;
     let mut part = query;
     loop {
+        steps.take();
         match part {
             Query::Phrase(phrase) => return count + phrase.terms.len(),
-            Query::Near(chain) => return count + chain_count(chain),
+            Query::Near(chain) => return count + chain_count(chain, steps),
             Query::And(left, right) | Query::Or(left, right) | Query::Not(left, right) => {
-                count += term_count(right);
+                count += term_count(right, steps);
                 part = left;
             }
         }

@@ -1,5 +1,5 @@
 //! Where phrases occur in one document.
-ghost use Rattle.std.specs.Prelude.{◌≡◌, ◌+◌, ◌*◌, ◌++◌, length, filter, map, IfOk, OnOk};
+ghost use Rattle.std.specs.Prelude.{◌≡◌, ◌+◌, ◌*◌, ◌++◌, if◌then◌else◌, length, filter, map, IfOk, OnOk};
 ghost use Rattle.ft_query.specs.Visit.{seek, among, skip_behind, begin_near, near_those, may_begin, offset_at};
 ghost use Rattle.ft_query.specs.Taken.{TakesAtMost, TakesOf};
 
@@ -9,7 +9,8 @@ use crate::walk::{Offset, Steps};
 use std::alloc::{AllocError, Global};
 use std::cmp::Ordering;
 
-// Whether a place moved by i is one of those moved by j, and which of them are after it.
+// Whether a place moved by i is one of those moved by j, and which of them are after it. Each step
+// passes a place, but for the last one where it isn't there.
 fn seek<'a>(
     place: &Place,
     i: usize,
@@ -19,8 +20,8 @@ fn seek<'a>(
 ) -> (bool, Places<'a>)
     ensures found { (result.0, result.1.places.now)
         ≡ seek i place.now j places.entry.places.now }
-    ensures steps { TakesOf (length places.entry.places.now + 1) (length result.1.places.now)
-        steps.old steps.new }
+    ensures steps { TakesOf (length places.entry.places.now + (if result.0 then 0 else 1))
+        (length result.1.places.now) steps.old steps.new }
 {
     let mut left = places;
     loop {
@@ -192,7 +193,7 @@ impl Starts {
         while let Some((spot, more)) = spots.split_first() {
             let (is_there, behind) = seek(spot, 0, left, i, steps);
             if is_there {
-                found.push(spot.offset(number))?;
+                found.push(spot.offset(number, steps))?;
             }
             left = behind;
             spots = more;

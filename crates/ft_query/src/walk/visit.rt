@@ -1,20 +1,21 @@
 //! The evaluation of a query in one document.
-ghost use Rattle.std.specs.Prelude.{◌≡◌, ◌≤◌, ◌<◌, ◌+◌, ◌*◌, ◌^◌, [], if◌then◌else◌, length, map, flat_map, vec_len, option_map, sum_by, List, AllPairs, Some, None, IfOk, OnErr};
+ghost use Rattle.std.specs.Prelude.{◌≡◌, ◌≤◌, ◌<◌, ◌+◌, ◌-◌, ◌*◌, ◌^◌, [], if◌then◌else◌, length, take, drop, map, flat_map, vec_len, option_map, sum_by, List, AllPairs, Some, None, IfOk, OnOk, OnErr};
 ghost use Rattle.std.specs.List.Sorted.{IsPermutation, IsSortedBy};
 ghost use Rattle.ft_query.specs.Cursors.{lists_left, places_at};
 ghost use Rattle.ft_query.specs.Documents.{Posting, IsBefore, is_filled};
 ghost use Rattle.ft_query.specs.Occurs.{accepts, offsets_of};
 ghost use Rattle.ft_query.specs.Trees.{plain_term, plain_phrase, plain_link, tree_of, phrase, chain};
-ghost use Rattle.ft_query.specs.Marked.{chain_tree, AreNumbered, IsEmpty, AreLinked, Marks, Evaluates, Joins};
+ghost use Rattle.ft_query.specs.Marked.{chain_tree, own_lists, lists_after, AreNumbered, HaveLists, IsEmpty, AreLinked, Marks, Evaluates, Joins};
 ghost use Rattle.ft_query.specs.Spines.{leaf_tree};
-ghost use Rattle.ft_query.specs.Taken.{Takes, TakesAtMost, TakesOf, TakesSome, LooksForAll};
-ghost use Rattle.ft_query.specs.Work.{terms_in, width};
+ghost use Rattle.ft_query.specs.Taken.{more_steps, Takes, TakesAtMost, TakesOf, LooksForAll};
+ghost use Rattle.ft_query.specs.Work.{terms_in, node_count, width};
 ghost use Rattle.ft_query.specs.Visit.{among, followed, if_wanted, starts_of, marks_from, linked, link_marks, plain_starts, plain_lists, listed_places, precedes, places_in, total, linked_cost, link_cost, visit_cost};
 
 use crate::query::{Chain, Link, Phrase, Query, QueryTerm};
 use crate::walk::cursor::Cursor;
+use crate::walk::joint::{By, Joint};
 use crate::walk::places::{Places, Starts};
-use crate::walk::spine::{By, Joint, Leaf, leaf_count, spine_of, term_count};
+use crate::walk::spine::{Leaf, add_spine, chain_count, term_count};
 use crate::walk::{Offset, Steps};
 use std::alloc::{AllocError, Global};
 
@@ -274,8 +275,8 @@ fn visit_chain(
 ) -> Result<bool, AllocError>
     requires { AreNumbered found.old (terms_in (chain_tree near.now)) lists.now }
     ensures evaluates { Evaluates result found.old found.new (chain_tree near.now) lists.now }
-    ensures steps { TakesOf (visit_cost (chain_tree near.now) (plain_lists lists.now)) 1
-        steps.old steps.new }
+    ensures steps { TakesOf (visit_cost (chain_tree near.now) (plain_lists lists.now))
+        (node_count (chain_tree near.now)) steps.old steps.new }
 {
     let links = near.links.as_slice();
     let (starts, mut all) = linked(found.alloc, &near.first, links, lists, steps)?;
@@ -292,59 +293,90 @@ fn visit_chain(
     }
 }
 
+// The first so many of these lists, which are taken off.
+fn take_lists<'l, 'p>(lists: &mut &'l [Places<'p>], count: usize) -> &'l [Places<'p>]
+    requires { count ≤ length lists.old.now }
+    ensures taken { result.now ≡ take count lists.old.now }
+    ensures left { lists.new.now ≡ drop count lists.old.now }
+{
+    let all: &'l [Places<'p>] = *lists;
+    *lists = &all[count..];
+    &all[..count]
+}
+
 // Adds the offsets of a first operand, if they are wanted, and says whether it accepts the
-// document.
+// document. Its lists are taken off, and each of its phrases is a step.
 fn visit_leaf(
     leaf: Leaf<'_>,
-    lists: &[Places<'_>],
+    lists: &mut &[Places<'_>],
     found: &mut Found,
     steps: &mut Steps,
 ) -> Result<bool, AllocError>
-    requires { AreNumbered found.old (terms_in (leaf_tree leaf)) lists.now }
-    ensures evaluates { Evaluates result found.old found.new (leaf_tree leaf.entry) lists.now }
-    ensures steps { TakesOf (visit_cost (leaf_tree leaf.entry) (plain_lists lists.now)) 1
-        steps.old steps.new }
+    requires { HaveLists found.old (terms_in (leaf_tree leaf)) lists.old.now }
+    ensures evaluates { Evaluates result found.old found.new (leaf_tree leaf.entry)
+        (own_lists (leaf_tree leaf.entry) lists.old.now) }
+    ensures left { lists.new.now ≡ lists_after (leaf_tree leaf.entry) lists.old.now }
+    ensures steps { TakesAtMost (visit_cost (leaf_tree leaf.entry)
+        (plain_lists (own_lists (leaf_tree leaf.entry) lists.old.now))) steps.old steps.new }
+    ensures nodes { OnOk result (more_steps (node_count (leaf_tree leaf.entry)) steps.old
+        ≤ steps.new.taken) }
 {
+    steps.take();
     match leaf {
-        Leaf::Phrase(phrase) => visit_phrase(phrase, lists, found, steps),
-        Leaf::Near(near) => visit_chain(near, lists, found, steps),
+        Leaf::Phrase(phrase) => {
+            let own = take_lists(lists, phrase.terms.len());
+            visit_phrase(phrase, own, found, steps)
+        }
+        Leaf::Near(near) => {
+            let count = chain_count(near, steps);
+            let own = take_lists(lists, count);
+            visit_chain(near, own, found, steps)
+        }
     }
 }
 
 #[cycle(visit_part)]
 // Adds the offsets of a right side, if they are wanted, and says whether it and its left one accept
 // the document, where `accepted` is what the left one answers. Nothing is added right of a NOT,
-// which is visited only where its left side accepts.
-fn visit_joint(
-    joint: Joint<'_>,
+// which is evaluated only where its left side accepts. Its lists are taken off.
+fn visit_joint<'q>(
+    joint: Joint<'q>,
     accepted: bool,
-    lists: &[Places<'_>],
+    joints: &mut Vec<Joint<'q>>,
+    lists: &mut &[Places<'_>],
     found: &mut Found,
     steps: &mut Steps,
 ) -> Result<bool, AllocError>
-    requires { AreNumbered found.old (terms_in (tree_of joint.right.now)) lists.now }
+    requires { HaveLists found.old (terms_in (tree_of joint.right.now)) lists.old.now }
     ensures joins { Joins joint.entry.by accepted result found.old found.new
-        (tree_of joint.entry.right.now) lists.now }
-    ensures steps { TakesSome
-        (1 + visit_cost (tree_of joint.entry.right.now) (plain_lists lists.now))
+        (tree_of joint.entry.right.now)
+        (own_lists (tree_of joint.entry.right.now) lists.old.now) }
+    ensures left { OnOk result
+        (lists.new.now ≡ lists_after (tree_of joint.entry.right.now) lists.old.now) }
+    ensures steps { TakesAtMost (1 + visit_cost (tree_of joint.entry.right.now)
+        (plain_lists (own_lists (tree_of joint.entry.right.now) lists.old.now)))
         steps.old steps.new }
+    ensures nodes { OnOk result (more_steps (1 + node_count (tree_of joint.entry.right.now))
+        steps.old ≤ steps.new.taken) }
+    ensures joints { OnOk result (joints.new.items ≡ joints.old.items) }
 {
-    steps.take();
-    match joint.by {
+    match joint.visit(steps) {
         By::And => {
-            let is_right = visit_part(joint.right, lists, found, steps)?;
+            let is_right = visit_part(joint.right, joints, lists, found, steps)?;
             Ok(accepted && is_right)
         }
         By::Or => {
-            let is_right = visit_part(joint.right, lists, found, steps)?;
+            let is_right = visit_part(joint.right, joints, lists, found, steps)?;
             Ok(accepted || is_right)
         }
         By::Not => {
             if !accepted {
+                let count = term_count(joint.right, steps);
+                take_lists(lists, count);
                 return Ok(false);
             }
             let mut unmarked = no_offsets(found.alloc, Wanted::Docids);
-            let is_right = visit_part(joint.right, lists, &mut unmarked, steps)?;
+            let is_right = visit_part(joint.right, joints, lists, &mut unmarked, steps)?;
             Ok(!is_right)
         }
     }
@@ -352,26 +384,35 @@ fn visit_joint(
 
 #[cycle(visit_part)]
 // Adds the offsets of a query or of a part of one, if they are wanted, and says whether it accepts
-// the document. It goes up from the first operand, since a text can join thousands of phrases.
-fn visit_part(
-    query: &Query,
-    lists: &[Places<'_>],
+// the document. It goes up from the first operand, since a text can join thousands of phrases. Its
+// lists are taken off, and each of its nodes is visited once. The joints that wait stand behind those
+// of the parts around it, so that no part needs memory of its own.
+fn visit_part<'q>(
+    query: &'q Query,
+    joints: &mut Vec<Joint<'q>>,
+    lists: &mut &[Places<'_>],
     found: &mut Found,
     steps: &mut Steps,
 ) -> Result<bool, AllocError>
-    requires { AreNumbered found.old (terms_in (tree_of query.now)) lists.now }
-    ensures evaluates { Evaluates result found.old found.new (tree_of query.now) lists.now }
-    ensures steps { TakesSome (visit_cost (tree_of query.now) (plain_lists lists.now))
-        steps.old steps.new }
+    requires { HaveLists found.old (terms_in (tree_of query.now)) lists.old.now }
+    ensures evaluates { Evaluates result found.old found.new (tree_of query.now)
+        (own_lists (tree_of query.now) lists.old.now) }
+    ensures left { OnOk result
+        (lists.new.now ≡ lists_after (tree_of query.now) lists.old.now) }
+    ensures steps { TakesAtMost (visit_cost (tree_of query.now)
+        (plain_lists (own_lists (tree_of query.now) lists.old.now))) steps.old steps.new }
+    ensures nodes { OnOk result (more_steps (node_count (tree_of query.now)) steps.old
+        ≤ steps.new.taken) }
+    ensures joints { OnOk result (joints.new.items ≡ joints.old.items) }
 {
-    steps.take();
-    let (leaf, mut joints) = spine_of(found.alloc, query)?;
-    let (own, mut rest) = lists.split_at(leaf_count(leaf));
-    let mut accepted = visit_leaf(leaf, own, found, steps)?;
-    while let Some(joint) = joints.pop() {
-        let (own, behind) = rest.split_at(term_count(joint.right));
-        accepted = visit_joint(joint, accepted, own, found, steps)?;
-        rest = behind;
+    let around = joints.len();
+    let leaf = add_spine(query, joints)?;
+    let mut accepted = visit_leaf(leaf, lists, found, steps)?;
+    while joints.len() > around {
+        let Some(joint) = joints.pop() else {
+            unreachable!();
+        };
+        accepted = visit_joint(joint, accepted, joints, lists, found, steps)?;
     }
     Ok(accepted)
 }
@@ -431,13 +472,17 @@ pub(crate) fn visit(
         ≡ map (listed_places postings) (terms_in (tree_of query.now))
         → option_map (λ o. o.items) offsets ≡ (if accepts postings (tree_of query.now) then Some
         (if_wanted wanted (offsets_of postings (tree_of query.now))) else None)) }
-    ensures steps { TakesSome
+    ensures steps { TakesAtMost
         (12 * (sum_by (λ c. length (places_at docid (lists_left c))) cursors.now)
         + 3 * width (tree_of query.now)) steps.old steps.new }
+    ensures nodes { OnOk result (more_steps
+        (length cursors.now + node_count (tree_of query.now)) steps.old ≤ steps.new.taken) }
 {
     let lists = lists_of(alloc, cursors, docid, steps)?;
+    let mut left = lists.as_slice();
     let mut found = no_offsets(alloc, wanted);
-    if !visit_part(query, &lists, &mut found, steps)? {
+    let mut joints = Vec::new(alloc);
+    if !visit_part(query, &mut joints, &mut left, &mut found, steps)? {
         return Ok(None);
     }
     let mut offsets = found.offsets;

@@ -1,7 +1,7 @@
 -- each right side is less wide, and its lists come after those of the part that it is joined to
 use Rattle.std.proofs.Common.{◌≡◌, ◌++◌, ◌∷◌, [], List, subst, rules, arith}
 use Rattle.std.proofs.lemmas.Grind.{common_steps}
-use Rattle.ft_query.specs.declared.walk.spine.Joint.{Joint}
+use Rattle.ft_query.specs.declared.walk.joint.Joint.{Joint}
 use Rattle.ft_query.specs.Trees.{tree_of}
 use Rattle.ft_query.specs.Spines.{whole}
 use Rattle.ft_query.proofs.Loading.{front_with, loads_on}

@@ -35,7 +35,7 @@ returns-in-Some-offsets-clause-considers c =
           (Some c.in-Some-offsets.offsets.items) documents stands one
           (λ postings ordered places. sym (ap (option_map (λ (o : Vec Offset Global). o.items)) c.in-Some-offsets.is)
           ∙ c.in_ok-offsets.ensures.offsets postings ordered places)
-          c.pass.ensures.go.left c.requires c.least.ensures.steps.at_least c.least.ensures.steps.at_most c.in_ok-offsets.ensures.steps c.pass.ensures.steps in
+          c.pass.ensures.go.left c.requires c.least.ensures.steps.at_least c.least.ensures.steps.at_most c.in_ok-offsets.ensures.steps c.in_ok-offsets.ensures.nodes c.pass.ensures.steps in
           record { offsets = added.offsets; went = added.went; told = added.told; ended = λ never. absurd (found_some never) };
       passes = λ _. fewer_left _ c.args.cursors.now c.pass.new.cursors one c.pass.ensures.go.left;
     }
@@ -52,16 +52,16 @@ returns-in-None-clause-considers c =
           c.pass.new.steps _ None documents stands one
           (λ postings ordered places. sym (ap (option_map (λ (o : Vec Offset Global). o.items)) c.in-None.is)
           ∙ c.in_ok-offsets.ensures.offsets postings ordered places)
-          c.pass.ensures.go.left c.requires c.least.ensures.steps.at_least c.least.ensures.steps.at_most c.in_ok-offsets.ensures.steps c.pass.ensures.steps in
+          c.pass.ensures.go.left c.requires c.least.ensures.steps.at_least c.least.ensures.steps.at_most c.in_ok-offsets.ensures.steps c.in_ok-offsets.ensures.nodes c.pass.ensures.steps in
           record { offsets = added.offsets; went = added.went; told = tt; ended = λ never. absurd (passed_none never) };
       passes = λ _. fewer_left _ c.args.cursors.now c.pass.new.cursors one c.pass.ensures.go.left;
     }
 
 pub returns-in_err-offsets-clause-rise : goal.returns-in_err-offsets-clause-rise
-returns-in_err-offsets-clause-rise c = omega (arith, c.least.ensures.steps.at_least, c.in_err-offsets.ensures.steps.rises)
+returns-in_err-offsets-clause-rise c = omega (arith, c.least.ensures.steps.at_least, c.in_err-offsets.ensures.steps.at_least)
 
 pub returns-in-Some-offsets-clause-rise : goal.returns-in-Some-offsets-clause-rise
-returns-in-Some-offsets-clause-rise c = omega (arith, c.least.ensures.steps.at_least, c.in_ok-offsets.ensures.steps.rises, c.pass.ensures.steps.at_least)
+returns-in-Some-offsets-clause-rise c = omega (arith, c.least.ensures.steps.at_least, c.in_ok-offsets.ensures.steps.at_least, c.pass.ensures.steps.at_least)
 
 pub returns-in-None-clause-rise : goal.returns-in-None-clause-rise
-returns-in-None-clause-rise c = omega (arith, c.least.ensures.steps.at_least, c.in_ok-offsets.ensures.steps.rises, c.pass.ensures.steps.at_least)
+returns-in-None-clause-rise c = omega (arith, c.least.ensures.steps.at_least, c.in_ok-offsets.ensures.steps.at_least, c.pass.ensures.steps.at_least)

@@ -1,7 +1,7 @@
 use Rattle.std.proofs.Common.{◌+◌, ◌*◌, vec_len}
 use Rattle.ft_query.specs.Trees.{tree_of}
 use Rattle.ft_query.specs.Work.{width}
-use Rattle.ft_query.proofs.Climbs.{Climbs}
+use Rattle.ft_query.proofs.Climbs.{ClimbingOver}
 use Rattle.ft_query.proofs.walk.visit.+visit_part.Given as goal
 
 abbrev pub decreases-visit_joint : goal.decreases-visit_joint
@@ -10,8 +10,9 @@ decreases-visit_joint l = 2 * width (tree_of l.joint.right.now) + 1
 abbrev pub decreases-visit_part : goal.decreases-visit_part
 decreases-visit_part l = 2 * width (tree_of l.query.now)
 
-abbrev pub invariant-visit_part-loop-joint : goal.invariant-visit_part-loop-joint
-invariant-visit_part-loop-joint l = Climbs (tree_of l.query) l.lists l.rest l.joints.items l.accepted l.fn.found l.found l.fn.steps l.steps
+abbrev pub invariant-visit_part-loop-joints : goal.invariant-visit_part-loop-joints
+invariant-visit_part-loop-joints l =
+    ClimbingOver (tree_of l.query) l.fn.lists.now l.lists.now l.fn.joints.items l.joints.items l.accepted l.fn.found l.found l.fn.steps l.steps
 
-abbrev pub decreases-visit_part-loop-joint : goal.decreases-visit_part-loop-joint
-decreases-visit_part-loop-joint l = vec_len l.joints
+abbrev pub decreases-visit_part-loop-joints : goal.decreases-visit_part-loop-joints
+decreases-visit_part-loop-joints l = vec_len l.joints

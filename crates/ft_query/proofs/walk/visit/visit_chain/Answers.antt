@@ -86,6 +86,7 @@ returns-in_err-mark_links-in-Offsets-clause-steps c =
     let same = ap (λ ls. visit_cost (chain (plain_phrase first) (map plain_link ls)) (plain_lists lists)) c.as_slice-links.ensures.value in
     let links_too = ap (link_cost c.len-size.result starts (map plain_link links) (plain_lists behind)) all in
     let own_too = ap (λ n. n * length starts) c.split_at.ensures.front_len in
+    let many = ap (λ ls. length (map plain_link ls)) c.as_slice-links.ensures.value in
     record {
       at_least = grind arith;
       at_most =
@@ -95,6 +96,7 @@ returns-in_err-mark_links-in-Offsets-clause-steps c =
             same,
             links_too,
             own_too,
+            many,
             c.in_ok-starts.ensures.steps.at_most,
             c.in_ok-mark_phrase-in-Offsets.ensures.steps.at_most,
             c.in_err-mark_links-in-Offsets.ensures.steps.at_most,
@@ -119,6 +121,7 @@ returns-clause-steps c =
     let same = ap (λ ls. visit_cost (chain (plain_phrase first) (map plain_link ls)) (plain_lists lists)) c.as_slice-links.ensures.value in
     let links_too = ap (link_cost c.len-size.result starts (map plain_link links) (plain_lists behind)) all in
     let own_too = ap (λ n. n * length starts) c.split_at.ensures.front_len in
+    let many = ap (λ ls. length (map plain_link ls)) c.as_slice-links.ensures.value in
     record {
       at_least = grind arith;
       at_most =
@@ -128,6 +131,7 @@ returns-clause-steps c =
             same,
             links_too,
             own_too,
+            many,
             c.in_ok-starts.ensures.steps.at_most,
             c.in_ok-mark_phrase-in-Offsets.ensures.steps.at_most,
             c.in_ok-mark_links-in-Offsets.ensures.steps.at_most,
