@@ -1,6 +1,6 @@
 //! Laws of the definitions.
 ghost use Rattle.ft_content.specs.Content.{RowsHoldContent};
-ghost use Rattle.ft_content.specs.Laws.{CommandsKeepContent, IndexGoesByDocument, GoInPieces};
+ghost use Rattle.ft_content.specs.Laws.{CommandsKeepContent, GoInPieces};
 ghost use Rattle.ft_content.specs.Meaning.{ListsMeanContent};
 
 /// What a command makes of a content is a content.
@@ -17,11 +17,6 @@ pub fn rows_hold_one_content()
 /// are made.
 pub fn commands_in_pieces()
     ensures { GoInPieces }
-{}
-
-/// The index follows the content one document at a time.
-pub fn index_by_document()
-    ensures { IndexGoesByDocument }
 {}
 
 /// The posting lists of a content mean its documents, so a query over the lists finds the documents

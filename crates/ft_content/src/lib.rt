@@ -24,8 +24,7 @@ pub use docid::{docid_for_row, last_docid_after, moves_fault};
 pub use ft_values::{Column, Fault, TableInfo, Value};
 pub use insert::{insert_tests, listed_names, new_cells, row_docid};
 pub use laws::{
-    commands_in_pieces, commands_keep_contents, index_by_document, lists_mean_documents,
-    rows_hold_one_content,
+    commands_in_pieces, commands_keep_contents, lists_mean_documents, rows_hold_one_content,
 };
 pub use limit::cut;
 pub use names::{are_names, is_docid, names_clash, repeats_name};
