@@ -12,9 +12,8 @@ use Rattle.sqlite.specs.Tree.{Trees}
 use Rattle.ft_rows.specs.Store.{StoreValue, applied, Note}
 use Rattle.ft_store.specs.Kept.{shows}
 use Rattle.ft_index.specs.Kept.{StoreHolds, FullText, IsUp, value_of, Holds, Answers, is_outside}
-use Rattle.ft_index.specs.Crashes.{HoldsLeft, IsSettled, CommitsCommand, CommitsNote, LeavesNote, LeavesRead, Name}
-use Rattle.ft_index.proofs.Crashing.{survives_as}
-use Rattle.ft_index.specs.Called.{Call, Executed, Noted, DoesCall, Runs, is_answered, accepted, left_by, with_name, noted_by, contents_with, names_with, AreAnswered, StandsAfter, LeftAfter, at_rest, running, KeptByCalls}
+use Rattle.ft_index.specs.Crashes.{HoldsLeft, IsSettled, CommitsCommand, CommitsNote, Name}
+use Rattle.ft_index.specs.Called.{Call, Executed, Looked, Noted, DoesCall, Runs, is_answered, accepted, left_by, with_name, noted_by, contents_with, names_with, AreAnswered, StandsAfter, LeftAfter, at_rest, running, KeptByCalls}
 
 -- a step that is done leaves what comes after it, and one that is refused leaves the contents
 done : (due : Option Fault) (first mid : Contents) (command : Command) (reply : Reply) → step_by due first command ≡ (Ok reply, mid) → mid ≡ after first command
@@ -55,6 +54,7 @@ module _ {S : Type 0} (g : Ghosts S) where
   call_clean : (old new : FullText S) (call : Call) → DoesCall g old call new → IsCleanAt new → IsCleanAt old
   call_clean old new (Executed command answer) does clean = omega (arith, does.1.survives.clean, clean)
   call_clean old new (Noted name is_done) does clean = omega (arith, does.1.survives.clean, clean)
+  call_clean old new (Looked is_done) does clean = omega (arith, does.1.survives.clean, clean)
 
   -- the disk did what it was told at each call
   pub clean_before : (start end : FullText S) (calls : List Call) → Runs g start calls end → IsCleanAt end → IsCleanAt start
@@ -64,6 +64,7 @@ module _ {S : Type 0} (g : Ghosts S) where
   call_up : (old new : FullText S) (call : Call) → DoesCall g old call new → IsUp g new → IsUp g old
   call_up old new (Executed command answer) does up = does.0.was_up up
   call_up old new (Noted name is_done) does up = does.0.was_up up
+  call_up old new (Looked is_done) does up = does.0.was_up up
 
   -- what is up in the end was so at each call
   up_before : (start end : FullText S) (calls : List Call) → IsUp g end → Runs g start calls end → IsUp g start
@@ -74,10 +75,12 @@ module _ {S : Type 0} (g : Ghosts S) where
   call_live : (old new : FullText S) (call : Call) → DoesCall g old call new → is_answered call ≡ true → IsCleanAt new → IsUp g new
   call_live old new (Executed command answer) does done clean = record { clean = clean; is_open = does.1.live clean done }
   call_live old new (Noted name is_done) does done clean = record { clean = clean; is_open = does.1.live clean done }
+  call_live old new (Looked is_done) does done clean = record { clean = clean; is_open = does.1.live clean done }
 
   call_settled : (old new : FullText S) (call : Call) → DoesCall g old call new → IsSettled g new
   call_settled old new (Executed command answer) does = does.1.settled
   call_settled old new (Noted name is_done) does = does.1.settled
+  call_settled old new (Looked is_done) does = does.1.settled
 
   pub runs_split : (start end : FullText S) (xs ys : List Call) → Runs g start (xs ++ ys) end → (mid : FullText S) × Runs g start xs mid × Runs g mid ys end
   runs_split start end [] ys runs = (start, refl, runs)
@@ -101,32 +104,43 @@ module _ {S : Type 0} (g : Ghosts S) where
   abbrev contents_next : Contents → Call → Contents
   contents_next first (Executed command answer) = next_of first command answer
   contents_next first (Noted name is_done) = first
+  contents_next first (Looked is_done) = first
 
   abbrev names_next : List Name → Call → List Name
   names_next names (Executed command answer) = names
   names_next names (Noted name is_done) = cond is_done (with_name name names) names
+  names_next names (Looked is_done) = names
 
   call_holds : (old new : FullText S) (call : Call) (first : Contents) → DoesCall g old call new → IsUp g new → Holds g old first → Holds g new (contents_next first call)
   call_holds old new (Executed command answer) first does up holds =
       let stepped = does.0.steps up first holds in subst (Holds g new) (next_is first stepped.0 command answer stepped.2) stepped.1
   call_holds old new (Noted name is_done) first does up holds = note_holds old new name is_done first (does.0.noted up) does.0.tables holds
+  call_holds old new (Looked is_done) first does up holds = record {
+    named_once = holds.named_once;
+    held = subst (λ v. StoreHolds v first) (sym (does.0.value up)) holds.held;
+    told = does.0.tables ∙ holds.told;
+  }
 
   call_names : (old new : FullText S) (call : Call) (first : Contents) → DoesCall g old call new → IsUp g new → Holds g old first → (value_of g new).noted ≡ names_next (value_of g old).noted call
   call_names old new (Executed command answer) first does up holds = does.0.noted up first holds
   call_names old new (Noted name is_done) first does up holds = name_noted old new name is_done (does.0.noted up)
+  call_names old new (Looked is_done) first does up holds = ap (λ (v : StoreValue). v.noted) (does.0.value up)
 
   left_after : (first : Contents) (call : Call) (calls : List Call) → left_by (contents_next first call) (accepted calls) ≡ left_by first (accepted (call ∷ calls))
   left_after first (Executed command answer) calls = left_next first command (accepted calls) answer
   left_after first (Noted name is_done) calls = refl
+  left_after first (Looked is_done) calls = refl
 
   names_after : (names : List Name) (call : Call) (calls : List Call) → noted_by (names_next names call) calls ≡ noted_by names (call ∷ calls)
   names_after names (Executed command answer) calls = refl
   names_after names (Noted name is_done) calls = refl
+  names_after names (Looked is_done) calls = refl
 
   answered_more : (first : Contents) (old new : FullText S) (call : Call) (calls : List Call) → DoesCall g old call new → IsUp g new → Holds g old first → AreAnswered (contents_next first call) calls → AreAnswered first (call ∷ calls)
   unfolding AreAnswered
   answered_more first old new (Executed command answer) calls does up holds rest = let stepped = does.0.steps up first holds in (is_answered_by first stepped.0 command answer stepped.2, rest)
   answered_more first old new (Noted name is_done) calls does up holds rest = rest
+  answered_more first old new (Looked is_done) calls does up holds rest = rest
 
   -- what stands after calls, where the store is up
   stands_up : (start end : FullText S) (calls : List Call) (first : Contents) → IsUp g end → Holds g start first → Runs g start calls end → StandsAfter g first (value_of g start).noted calls end
@@ -173,6 +187,11 @@ module _ {S : Type 0} (g : Ghosts S) where
       only : {B C : Type 0} → B ⊎ (IsUp g old × C) → B
       only (inl kept) = kept
       only (inr more) = absurd (shut more.0)
+  shut_call old new (Looked is_done) does shut clean db may = only (does.1.survives.crash clean db may)
+    where
+      only : {B C : Type 0} → B ⊎ (IsUp g old × C) → B
+      only (inl kept) = kept
+      only (inr more) = absurd (shut more.0)
 
   -- what calls leave that found it so, and that none of them was answered
   shut_calls : (start end : FullText S) (calls : List Call) → Runs g start calls end → (IsUp g start → ⊥) → IsCleanAt end → (db : Trees) → (shows g end.store).may_leave db → (shows g start.store).may_leave db
@@ -204,6 +223,8 @@ module _ {S : Type 0} (g : Ghosts S) where
   refused_left first names (Executed command (Err fault) ∷ calls) none = refused_left first names calls none
   refused_left first names (Noted name true ∷ calls) none = absurd (let wrong = none in cc)
   refused_left first names (Noted name false ∷ calls) none = refused_left first names calls none
+  refused_left first names (Looked true ∷ calls) none = absurd (let wrong = none in cc)
+  refused_left first names (Looked false ∷ calls) none = refused_left first names calls none
 
   -- what a call commits
   call_commits : (old new : FullText S) (call : Call) (first : Contents) → DoesCall g old call new → Holds g old first → IsSettled g old → IsUp g old → IsCleanAt new → (db : Trees) → (shows g new.store).may_leave db →
@@ -218,6 +239,11 @@ module _ {S : Type 0} (g : Ghosts S) where
       go : (shows g old.store).may_leave db ⊎ (IsUp g old × CommitsNote g old name db) → HoldsLeft first (value_of g old).noted db ⊎ HoldsLeft first (with_name name (value_of g old).noted) db
       go (inl kept) = inl (record { left = value_of g old; stored = settled up db kept; held = holds.held; noted = refl })
       go (inr commits) = inr (record { left = applied (Note name) (value_of g old); stored = commits.1 commits.0; held = holds.held; noted = refl })
+  call_commits old new (Looked is_done) first does holds settled up clean db may = go (does.1.survives.crash clean db may)
+    where
+      go : (shows g old.store).may_leave db ⊎ (IsUp g old × ⊥) → HoldsLeft first (value_of g old).noted db ⊎ HoldsLeft first (value_of g old).noted db
+      go (inl kept) = inl (record { left = value_of g old; stored = settled up db kept; held = holds.held; noted = refl })
+      go (inr nothing) = absurd nothing.1
 
   -- one call more in front
   left_more : (first : Contents) (names : List Name) (call : Call) (calls : List Call) (db : Trees) → LeftAfter (contents_next first call) (names_next names call) calls db → LeftAfter first names (call ∷ calls) db
@@ -261,12 +287,4 @@ kept g start end calls first clean holds settled runs = record {
   ends = λ is_open. stands_up g start end calls first (record { clean = clean; is_open = is_open }) holds runs;
   refused = λ before more command fault is. refused_behind g start end calls before more command fault runs is;
   crash = λ up db may. crash_after g start end calls first runs clean up holds settled db may;
-}
-
--- what a read leaves is left by a note that is refused, too
-pub read_leaves_note : {S : Type 0} (g : Ghosts S) (old new : FullText S) (is_answered : Bool) (name : List ℕ) → LeavesRead g old is_answered new → LeavesNote g old name false new
-read_leaves_note g old new is_answered name leaves = record {
-  live = λ clean no. absurd (let wrong = no in cc);
-  settled = leaves.settled;
-  survives = survives_as (shows g old.store) (shows g new.store) _ _ (λ clean db none. absurd none.1) leaves.survives;
 }

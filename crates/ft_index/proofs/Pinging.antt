@@ -6,13 +6,20 @@ use Rattle.sqlite.specs.State.{State, HasCleanDisk, Survives}
 use Rattle.sqlite.specs.Store.{Ghosts}
 use Rattle.sqlite.specs.Tree.{Trees}
 use Rattle.sqlite.proofs.StateLemmas.{survives_then}
-use Rattle.ft_store.specs.Calls.{IsPlainFault, IsStored, fault_of_read}
+use Rattle.std.proofs.Common.{All as AllOf}
+use Rattle.std.proofs.lemmas.List.Elements.{All-weaker}
+use Rattle.ft_values.specs.declared.rows.RowChange.{RowChange}
+use Rattle.ft_values.specs.declared.rows.RowChange.TheVariants as row
+use Rattle.ft_rows.specs.Changes.{CanApply}
+use Rattle.ft_store.specs.Blame.{TakesOut}
+use Rattle.ft_store.specs.Calls.{IsPlainFault, IsChangeFault, IsStored, fault_of_read}
 use Rattle.ft_store.specs.Kept.{StoreState, Pings, ReadsRows, shows, value_in}
 use Rattle.ft_store.proofs.ChainLemmas.{kept_then}
 use Rattle.ft_store.specs.declared.fault.StoreFault.{StoreFault}
 use Rattle.ft_store.specs.declared.fault.StoreFault.TheVariants as causes
 use Rattle.ft_rows.specs.Store.{StoreValue, Change, all_applied}
 use Rattle.ft_values.specs.declared.fault.Fault.{Fault}
+use Rattle.ft_values.specs.declared.fault.Fault.TheVariants as faults
 use Rattle.ft_content.specs.declared.command.Reply.{Reply as RustReply}
 use Rattle.ft_content.specs.Command.{Command, Create, Drop, Insert, Update, Delete, Select, Rebuild, Check, Optimize, Filter, All, Docid, Match, Items, Reply, Done, Rows}
 use Rattle.ft_content.specs.Deserved.{TableState, Sound, Stale, Loose, Table, Contents, table_named}
@@ -204,3 +211,20 @@ read_looks g old new tables read it = record {
   where
     looks : Looks g old new
     looks = record { kept = it.kept; survives = survives_as (shows g old) (shows g new) _ _ (λ clean db none is_open. none) it.survives }
+
+-- a question that is told as `Store` was refused
+pub is_refused : {X : Type 0} (fault : StoreFault) (result : Result X Fault) → result ≡ Err (fault_of_read fault) → IsPlainFault fault → result ≡ Err faults.Store → fault ≡ causes.Refused
+is_refused fault result is (inl memory) store = absurd (let e = sym store ∙ is ∙ ap (λ f. Err (fault_of_read f)) memory in cc)
+is_refused fault result is (inr refused) store = refused
+
+pub clean_before : (a b : State) {C : _} → Survives a b C → HasCleanDisk b → HasCleanDisk a
+clean_before a b survives clean = omega (arith, survives.clean, clean)
+
+takes_one : (change : RowChange) → TakesOut change → CanApply change
+takes_one (row.PutEntries tab term docid spots) takes = absurd (let e = takes in cc)
+takes_one _ takes = tt
+
+-- what only takes rows out is refused by no damage
+pub takes_plain : (changes : List RowChange) (fault : StoreFault) → AllOf TakesOut changes → IsChangeFault (AllOf CanApply changes) fault → IsPlainFault fault
+takes_plain changes fault takes (inl plain) = plain
+takes_plain changes fault takes (inr damaged) = absurd (damaged.1 (All-weaker TakesOut CanApply takes_one changes takes))

@@ -5,7 +5,9 @@ use Rattle.std.specs.Ordering.{int_eq}
 use Rattle.std.specs.FinMap.Entries.{where_key}
 use Rattle.std.proofs.lemmas.List.{map-append}
 use Rattle.sqlite_keyed.proofs.ListLemmas.{map-map}
-use Rattle.sqlite.specs.State.{HasCleanDisk}
+use Rattle.sqlite.specs.State.{HasCleanDisk, Survives}
+use Rattle.ft_store.specs.Blame.{IsBlamed}
+use Rattle.ft_store.proofs.BlameLemmas.{blamed_then}
 use Rattle.sqlite.specs.Effect.{Database}
 use Rattle.sqlite.specs.Store.{Ghosts}
 use Rattle.ft_store.specs.Kept.{StoreState, shows, value_in}
@@ -113,6 +115,10 @@ module _ {S : Type 0} (g : Ghosts S) (a b : StoreState S) (first : Looks g a b) 
     kept = λ clean. kept_then (shows g a) (shows g b) (shows g c) (first.kept (omega (arith, next.survives.clean, clean))) (next.kept clean);
     survives = reads_then (shows g a) (shows g b) (shows g c) live first.survives next.survives;
   }
+
+-- a read is refused for what lies outside the store also since the first one
+pub blamed_after : {S : Type 0} (g : Ghosts S) (a b c : StoreState S) {C D : _} → Survives (shows g a) (shows g b) C → Survives (shows g b) (shows g c) D → HasCleanDisk (shows g c) → IsBlamed (shows g b) (shows g c) → IsBlamed (shows g a) (shows g c)
+blamed_after g a b c first second clean = blamed_then (shows g a) (shows g b) (shows g c) _ _ (omega (arith, second.clean, clean)) first second
 
 -- ---- a table that is listed
 

@@ -16,17 +16,20 @@ use Rattle.ft_content.specs.Command.{Command, Reply}
 use Rattle.ft_content.specs.Deserved.{Table, Contents}
 use Rattle.ft_content.specs.Step.{step, after}
 use Rattle.ft_content.specs.Views.{table_names}
-use Rattle.ft_index.specs.Kept.{FullText, IsUp, Holds, StoreHolds, Executes, Notes, is_outside, is_sound, value_of}
-use Rattle.ft_index.specs.Crashes.{HoldsLeft, IsSettled, LeavesCommand, LeavesNote, Name}
+use Rattle.ft_index.specs.Kept.{FullText, IsUp, Holds, StoreHolds, Executes, Notes, OnlyLooks, is_outside, is_sound, value_of}
+use Rattle.ft_index.specs.Crashes.{HoldsLeft, IsSettled, LeavesCommand, LeavesNote, LeavesRead, Name}
 
--- a call of `execute` with its answer, or of `note`, which was done or refused
+-- a call of `execute` with its answer, of `note`, which was done or refused, or one that reads at
+-- most, which was answered or not
 pub data Call : Type 0 where
   Executed : (command : Command) → (answer : Result Reply Fault) → Call
   Noted : (name : List ℕ) → (is_done : Bool) → Call
+  Looked : (is_done : Bool) → Call
 
 abbrev pub DoesCall : {S : Type 0} → Ghosts S → FullText S → Call → FullText S → Type 0
 DoesCall g old (Executed command answer) new = Executes g old command answer new × LeavesCommand g old command (is_ok answer) new
 DoesCall g old (Noted name is_done) new = Notes g old name is_done new × LeavesNote g old name is_done new
+DoesCall g old (Looked is_done) new = OnlyLooks g old new × LeavesRead g old is_done new
 
 -- calls one after another
 abbrev pub Runs : {S : Type 0} → Ghosts S → FullText S → List Call → FullText S → Type 0
@@ -37,12 +40,14 @@ Runs {S} g old (call ∷ calls) new = (mid : FullText S) × DoesCall g old call 
 abbrev pub is_answered : Call → Bool
 is_answered (Executed command answer) = is_ok answer
 is_answered (Noted name is_done) = is_done
+is_answered (Looked is_done) = is_done
 
 -- the commands that were answered
 abbrev pub accepted : List Call → List Command
 accepted [] = []
 accepted (Executed command answer ∷ calls) = if is_ok answer then (command ∷ accepted calls) else accepted calls
 accepted (Noted name is_done ∷ calls) = accepted calls
+accepted (Looked is_done ∷ calls) = accepted calls
 
 -- the contents that commands leave which are done one after another
 unfoldable pub left_by : Contents → List Command → Contents
@@ -58,6 +63,7 @@ abbrev pub noted_by : List Name → List Call → List Name
 noted_by names [] = names
 noted_by names (Executed command answer ∷ calls) = noted_by names calls
 noted_by names (Noted name is_done ∷ calls) = noted_by (if is_done then with_name name names else names) calls
+noted_by names (Looked is_done ∷ calls) = noted_by names calls
 
 -- Each answer is that of the definitions over the contents that the accepted commands before it
 -- left, or a refusal from outside.
@@ -66,6 +72,7 @@ AreAnswered first [] = Unit {0}
 AreAnswered first (Executed command answer ∷ calls) =
     (IsTrue (is_outside answer) ⊎ (answer ≡ (step first command).0)) × AreAnswered (if is_ok answer then after first command else first) calls
 AreAnswered first (Noted name is_done ∷ calls) = AreAnswered first calls
+AreAnswered first (Looked is_done ∷ calls) = AreAnswered first calls
 
 -- The store is up after these calls, and holds what the accepted commands made of the contents
 -- before them: so the index rows of each sound table are exactly those made from scratch. And each
@@ -80,10 +87,12 @@ pub record StandsAfter {S : Type 0} (g : Ghosts S) (first : Contents) (names : L
 abbrev pub contents_with : Call → Contents → Contents
 contents_with (Executed command answer) contents = (step contents command).1
 contents_with (Noted name is_done) contents = contents
+contents_with (Looked is_done) contents = contents
 
 abbrev pub names_with : Call → List Name → List Name
 names_with (Executed command answer) names = names
 names_with (Noted name is_done) names = with_name name names
+names_with (Looked is_done) names = names
 
 -- What a crash may leave after calls: what the answered ones leave, whole; or that and one call
 -- more, which was running, of which no call was answered since.

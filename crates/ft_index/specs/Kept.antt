@@ -3,9 +3,10 @@ use Rattle.std.specs.Prelude.{◌≡◌, ◌≢◌, ◌⊎◌, ℕ, Bool, true, 
 use Rattle.std.specs.Prelude.{Err, ℤ, IsTrue, is_ok, All, refl}
 use Rattle.std.specs.List.{AllZip}
 use Rattle.std.specs.Coded.{Coded, code_by, coded×, coded_ℤ, coded_ℕ, coded_bool, coded_list}
-use Rattle.sqlite.specs.State.{HasCleanDisk, Survives}
+use Rattle.sqlite.specs.State.{State, HasCleanDisk, Survives}
 use Rattle.sqlite.specs.Store.{Ghosts}
 use Rattle.ft_rows.specs.Store.{StoreValue, Change, with_note, all_applied}
+use Rattle.ft_store.specs.Blame.{IsBlamed}
 use Rattle.ft_store.specs.Kept.{StoreState, store_code, shows, value_in}
 use Rattle.ft_values.specs.declared.fault.Fault.{Fault}
 use Rattle.ft_values.specs.declared.fault.Fault.TheVariants as faults
@@ -97,6 +98,16 @@ pub record OnlyLooks {S : Type 0} (g : Ghosts S) (old new : FullText S) : Type 0
   pub value : IsUp g new → value_of g new ≡ value_of g old
   pub survives : Survives (shows g old.store) (shows g new.store) (λ _. IsTrue (shows g old.store).is_open → ⊥)
   pub tables : new.tables ≡ old.tables
+
+-- a call is answered `Store` only for what lies outside the store
+abbrev pub BlamesStore : {X : Type 0} → State → State → Result X Fault → Type 0
+BlamesStore old new result = HasCleanDisk new → result ≡ Err faults.Store → IsBlamed old new
+
+-- the command takes a table out, or looks at one
+abbrev pub IsDropOrCheck : Command → Type 0
+IsDropOrCheck (Drop table if_there) = Unit {0}
+IsDropOrCheck (Check table) = Unit {0}
+IsDropOrCheck _ = ⊥
 
 abbrev pub AreSound : Contents → Type 0
 AreSound contents = All (λ (table : ℤ × Table). IsTrue (is_sound table.1.held)) contents

@@ -46,7 +46,9 @@ impl<S: Alter> Model for FullText<S> {
 impl<S: Alter> FullText<S> {
     ghost use Rattle.std.specs.Prelude.{◌≡◌, ◌⊎◌, ◌↔◌, [], map, string_bytes, is_ok, IsTrue, IfOk, IfErr};
     ghost use Rattle.ft_store.specs.Calls.{IsPlainFault};
-    ghost use Rattle.ft_store.specs.Kept.{value_in};
+    ghost use Rattle.ft_store.specs.Blame.{IsBlamed, AreTableTexts, AreNotedTexts};
+    ghost use Rattle.ft_store.specs.Kept.{shows, value_in};
+    ghost use Rattle.sqlite.specs.State.{HasCleanDisk};
     ghost use Rattle.ft_rows.specs.Store.{nothing_held};
     ghost use Rattle.ft_values.specs.declared.fault.Fault.TheVariants as faults;
     ghost use Rattle.ft_content.specs.Deserved.{Contents};
@@ -56,7 +58,7 @@ impl<S: Alter> FullText<S> {
     ghost use Rattle.ft_index.specs.RowsRead.{CountsRows};
     ghost use Rattle.ft_index.specs.DocumentsRead.{Looks};
     ghost use Rattle.ft_index.specs.Opened.{Opens, OpensWhatIsLeft};
-    ghost use Rattle.ft_index.specs.Kept.{IsUp, value_of, Holds, AreSound, OnlyLooks, Executes, Plans, Notes};
+    ghost use Rattle.ft_index.specs.Kept.{IsUp, value_of, Holds, AreSound, OnlyLooks, BlamesStore, IsDropOrCheck, Executes, Plans, Notes};
     ghost use Rattle.ft_index.specs.Called.{KeptByCalls, NoneGetsUnsound, NamesStayApart, HoldsOneContents};
 
     /// Takes a store, and marks each table whose rows aren't documents with exactly the index rows
@@ -69,6 +71,9 @@ impl<S: Alter> FullText<S> {
             → IfOk result (λ made. IsUp S.Store made → Holds S.Store made []) }
         ensures refused { IfErr result (λ fault. Looks S.Store store fault.store) }
         ensures cause { IfErr result (λ fault. IsPlainFault fault.cause) }
+        ensures blames { IfErr result (λ fault. AreTableTexts (value_in S.Store store)
+            → HasCleanDisk (shows S.Store fault.store) → fault.cause ≡ StoreFault.Refused
+            → IsBlamed (shows S.Store store) (shows S.Store fault.store)) }
     {
         let mut store = store;
         store.is_in_order();
@@ -106,6 +111,9 @@ impl<S: Alter> FullText<S> {
         // documents that it answers.
         ensures counts { CountsRows S.Store self.old (command_of command.now) (answer_of result)
             self.new }
+        ensures refused { IsDropOrCheck (command_of command.now)
+            → AreTableTexts (value_of S.Store self.old)
+            → BlamesStore (shows S.Store self.old.store) (shows S.Store self.new.store) result }
     {
         if let Err(fault) = self.store.ping() {
             self.store.is_settled();
@@ -138,6 +146,9 @@ impl<S: Alter> FullText<S> {
             → IsTrue all ↔ AreSound contents) }
         ensures fault { IfErr result (λ fault. (fault ≡ faults.Store) ⊎ (fault ≡ faults.Memory)) }
         ensures looks { OnlyLooks S.Store self.old self.new }
+        ensures refused { AreTableTexts (value_of S.Store self.old)
+            → BlamesStore (shows S.Store self.old.store) (shows S.Store self.new.store)
+            result }
     {
         let tables = opened_tables(self.alloc, &mut self.store)?;
         Ok(tables.iter().all(|table| table.sound))
@@ -169,6 +180,9 @@ impl<S: Alter> FullText<S> {
         ensures fault { IfErr result (λ fault. (fault ≡ faults.Store) ⊎ (fault ≡ faults.Memory)) }
         ensures looks { OnlyLooks S.Store self.old self.new }
         ensures leaves { LeavesRead S.Store self.old (is_ok result) self.new }
+        ensures refused { AreNotedTexts (value_of S.Store self.old)
+            → BlamesStore (shows S.Store self.old.store) (shows S.Store self.new.store)
+            result }
     {
         self.store.is_settled();
         let names = noted_names(&mut self.store)?;

@@ -2,13 +2,14 @@
 ghost use Rattle.std.specs.Prelude.{◌≡◌, ◌<◌, ◌↔◌, ℤ, ℕ, List, map, length, IsTrue, IfOk};
 ghost use Rattle.std.specs.List.{find};
 ghost use Rattle.sqlite.specs.State.{HasCleanDisk};
+ghost use Rattle.ft_store.specs.Blame.{Blames, AreTableTexts};
 ghost use Rattle.ft_store.specs.Calls.{IsPlainFault};
 ghost use Rattle.ft_store.specs.Kept.{shows, value_in};
 ghost use Rattle.ft_content.specs.Content.{Content};
 ghost use Rattle.ft_content.specs.Index.{index_rows};
 ghost use Rattle.ft_content.specs.Views.{column_of, shown_info};
 ghost use Rattle.ft_content.specs.Deserved.{TableState};
-ghost use Rattle.ft_index.specs.DocumentsRead.{Asks, LooksTo};
+ghost use Rattle.ft_index.specs.DocumentsRead.{Asks, LooksFor};
 ghost use Rattle.ft_index.specs.Kept.{Stands, is_sound};
 ghost use Rattle.ft_index.specs.Opened.{state_of, StandsSo, IsListed, IsNamed, AreMarked};
 ghost use Rattle.ft_documents.specs.Tables.{table_rows, table_index};
@@ -45,11 +46,13 @@ pub(crate) fn state_under<S: Alter>(
     store: &mut Store<S>,
     id: i64,
 ) -> Result<RowState, StoreFault>
-    ensures { LooksTo S.Store store.old store.new result
+    ensures looks { LooksFor S.Store store.old store.new result IsPlainFault
         ((named : ℤ × List ℕ) (held : TableState) → HasCleanDisk (shows S.Store store.new)
         → IsNamed (value_in S.Store store.old) id named → Stands named.1 (table_rows named.0
         (value_in S.Store store.old)) (table_index named.0 (value_in S.Store store.old)) held
         → IfOk result (λ s. s ≡ state_of held)) }
+    ensures refused { AreTableTexts (value_in S.Store store.old)
+        → Blames (shows S.Store store.old) (shows S.Store store.new) result }
 {
     match store.tables()?.into_iter().find(|table| table.id == id) {
         Some(table) => read_state(alloc, store, &table),
@@ -63,11 +66,12 @@ fn read_state<S: Alter>(
     store: &mut Store<S>,
     table: &TabRow,
 ) -> Result<RowState, StoreFault>
-    ensures { Asks S.Store store.old store.new result IsPlainFault
+    ensures asks { Asks S.Store store.old store.new result IsPlainFault
         ((named : ℤ × List ℕ) → HasCleanDisk (shows S.Store store.new)
         → IsListed (value_in S.Store store.old) named table.now
         → IfOk result (λ s. StandsSo named.1 (table_rows named.0 (value_in S.Store store.old))
         (table_index named.0 (value_in S.Store store.old)) s)) }
+    ensures refused { Blames (shows S.Store store.old) (shows S.Store store.new) result }
 {
     let columns = listed_columns(alloc, table)?;
     let cells = store.cells(table.id)?;
@@ -91,11 +95,12 @@ fn has_right_index<S: Alter>(
     cells: &[CellRow],
 ) -> Result<bool, StoreFault>
     requires { 0 < length columns.now }
-    ensures { Asks S.Store store.old store.new result IsPlainFault
+    ensures asks { Asks S.Store store.old store.new result IsPlainFault
         ((content : Content) → HasCleanDisk (shows S.Store store.new)
         → standing.HaveContent (map column_of columns.now)
         (map standing.shown_row cells.now) content → IfOk result (λ b. IsTrue b ↔ (table_index tab
         (value_in S.Store store.old) ≡ index_rows content))) }
+    ensures refused { Blames (shows S.Store store.old) (shows S.Store store.new) result }
 {
     let sizes = store.sizes(tab)?;
     match index_lists(alloc, columns, cells, sizes.as_slice())? {
@@ -110,10 +115,12 @@ pub(crate) fn opened_tables<S: Alter>(
     alloc: Global,
     store: &mut Store<S>,
 ) -> Result<Vec<TableInfo>, StoreFault>
-    ensures { Asks S.Store store.old store.new result IsPlainFault
+    ensures asks { Asks S.Store store.old store.new result IsPlainFault
         (HasCleanDisk (shows S.Store store.new) → IfOk result (λ tables. AreMarked
         (value_in S.Store store.old) (value_in S.Store store.old).tables
         (map shown_info tables.items))) }
+    ensures refused { AreTableTexts (value_in S.Store store.old)
+        → Blames (shows S.Store store.old) (shows S.Store store.new) result }
 {
     let rows = store.tables()?;
     let mut tables = Vec::new(alloc);

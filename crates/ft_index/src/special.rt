@@ -3,7 +3,9 @@ ghost use Rattle.std.specs.Prelude.{map, ◌≡◌, ℕ, List, Some};
 ghost use Rattle.ft_content.specs.Views.{shown_info, answer_of};
 ghost use Rattle.ft_index.specs.Changed.{with_tables, Does};
 ghost use Rattle.ft_index.specs.DocumentsRead.{LooksTo};
-ghost use Rattle.ft_index.specs.Kept.{Executes, Answers, table_info};
+ghost use Rattle.ft_index.specs.Kept.{Executes, Answers, BlamesStore, table_info};
+ghost use Rattle.ft_store.specs.Blame.{AreTableTexts};
+ghost use Rattle.ft_store.specs.Kept.{shows, value_in};
 ghost use Rattle.ft_documents.specs.Found.{info_named};
 ghost use Rattle.ft_index.specs.Written.{PlansIn, RebuildsIn};
 ghost use Rattle.ft_content.specs.Deserved.{Contents};
@@ -26,10 +28,12 @@ pub(crate) fn check_table<S: Alter>(
     tables: &[TableInfo],
     table: &str,
 ) -> Result<Reply, Fault>
-    ensures { LooksTo S.Store store.old store.new result
+    ensures looks { LooksTo S.Store store.old store.new result
         (Executes S.Store (with_tables store.old (map shown_info tables.now))
         (plain.Check table.now) (answer_of result) (with_tables store.new
         (map shown_info tables.now))) }
+    ensures refused { AreTableTexts (value_in S.Store store.old)
+        → BlamesStore (shows S.Store store.old) (shows S.Store store.new) result }
 {
     store.is_in_order();
     let known = named_table(tables, table)?;

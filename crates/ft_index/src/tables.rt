@@ -1,9 +1,9 @@
 //! Tables that are made and removed, and names that are noted.
-ghost use Rattle.std.specs.Prelude.{◌≡◌, ◌∷◌, [], if◌then◌else◌, map, is_ok, IfOk};
+ghost use Rattle.std.specs.Prelude.{◌≡◌, ◌∷◌, [], if◌then◌else◌, map, is_ok, All, Err, IfOk};
 ghost use Rattle.ft_rows.specs.Changes.{shown_change};
 ghost use Rattle.ft_content.specs.Views.{shown_info, creation_of};
 ghost use Rattle.ft_content.specs.Deserved.{Contents};
-ghost use Rattle.ft_index.specs.Kept.{table_info};
+ghost use Rattle.ft_index.specs.Kept.{BlamesStore, table_info};
 ghost use Rattle.ft_index.specs.Planned.{PlansOver, Makes, table_change};
 ghost use Rattle.ft_index.specs.Changed.{with_tables, MakesRows, Does, LooksAsked, MakesAsked};
 ghost use Rattle.ft_documents.specs.Found.{with_info};
@@ -12,6 +12,7 @@ ghost use Rattle.ft_rows.specs.Shown.{shown_note};
 ghost use Rattle.ft_rows.specs.Store.{Note};
 ghost use Rattle.ft_store.specs.Kept.{shows, value_in};
 ghost use Rattle.ft_content.specs.Command as plain;
+ghost use Rattle.ft_store.specs.Blame.{Blames, AreNotedTexts, TakesOut};
 
 use ft_content::{
     Creation, Fault, Reply, TableInfo, column_names, create_fault, free_id, made_columns,
@@ -123,7 +124,9 @@ pub(crate) fn drop_changes(
     table: &str,
     if_there: bool,
 ) -> Result<Vec<RowChange>, Fault>
-    ensures { PlansOver tables.now (plain.Drop table.now if_there) result }
+    ensures plans { PlansOver tables.now (plain.Drop table.now if_there) result }
+    ensures drops { IfOk result (λ changes. All TakesOut changes.items) }
+    ensures fault { result ≡ Err Fault.Store → ⊥ }
 {
     let mut changes = Vec::new(alloc);
     match table_place(tables, table) {
@@ -142,9 +145,10 @@ pub(crate) fn drop_table<S: Alter>(
     table: &str,
     if_there: bool,
 ) -> Result<Reply, Fault>
-    ensures { Does S.Store (with_tables store.old (map shown_info tables.old.items))
+    ensures does { Does S.Store (with_tables store.old (map shown_info tables.old.items))
         (plain.Drop table.now if_there) result (with_tables store.new
         (map shown_info tables.new.items)) }
+    ensures refused { BlamesStore (shows S.Store store.old) (shows S.Store store.new) result }
 {
     store.is_in_order();
     let changes = drop_changes(alloc, tables.as_slice(), table, if_there)?;
@@ -159,7 +163,9 @@ pub(crate) fn drop_table<S: Alter>(
 
 // Makes all changes or none.
 fn change_rows<S: Alter>(store: &mut Store<S>, changes: &[RowChange]) -> Result<(), Fault>
-    ensures { MakesRows S.Store store.old store.new (map shown_change changes.now) result }
+    ensures makes { MakesRows S.Store store.old store.new (map shown_change changes.now) result }
+    ensures refused { All TakesOut changes.now
+        → BlamesStore (shows S.Store store.old) (shows S.Store store.new) result }
 {
     Ok(store.change(changes)?)
 }
@@ -183,6 +189,8 @@ pub(crate) fn noted_names<S: Alter>(store: &mut Store<S>) -> Result<Vec<String>,
     ensures names { HasCleanDisk (shows S.Store store.new)
         → IfOk result (λ found. map shown_note found.items ≡ (value_in S.Store store.old).noted) }
     ensures looks { LooksAsked S.Store store.old store.new result }
+    ensures refused { AreNotedTexts (value_in S.Store store.old)
+        → Blames (shows S.Store store.old) (shows S.Store store.new) result }
 {
     store.ping()?;
     store.noted()

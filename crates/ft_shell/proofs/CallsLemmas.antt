@@ -10,8 +10,7 @@ use Rattle.shell_text.specs.Dot.{dot_words_of}
 use Rattle.shell_text.specs.Words.{is_unclosed}
 use Rattle.ft_index.specs.Kept.{FullText, OnlyLooks}
 use Rattle.ft_index.specs.Crashes.{LeavesRead}
-use Rattle.ft_index.proofs.Calls.{read_leaves_note}
-use Rattle.ft_index.specs.Called.{Call, Noted, DoesCall, Runs}
+use Rattle.ft_index.specs.Called.{Call, Looked, Noted, DoesCall, Runs}
 use Rattle.ft_statements.specs.Words.{tokens_of}
 use Rattle.ft_statements.specs.Plain.{asks, made_name}
 use Rattle.ft_shell.specs.Shell.{Shell}
@@ -34,7 +33,7 @@ use Rattle.ft_shell.specs.PlainTurns.{CommandTurn, PlainTurn, done, refused}
 use Rattle.plain_shell.specs.PlainStatements.{QueryTurn}
 use Rattle.ft_statements.specs.Statements.{Class, Plain, FullText as FullTextClass, class_of}
 use Rattle.ft_shell.specs.StatementTurns.{ClassTurn, Declines, StatementTurn, table_names}
-use Rattle.ft_shell.specs.TurnCalls.{bytes_in, class_in, closed_in, command_in, delimited_in, dot_in, file_in, named_in, new_in, note_in, plain_in, statement_in, table_in, text_in}
+use Rattle.ft_shell.specs.TurnCalls.{bytes_in, class_in, closed_in, command_in, delimited_in, dot_in, file_in, named_in, new_in, note_in, plain_in, statement_in, table_in, tables_in, text_in}
 use Rattle.ft_shell.proofs.Spelled.{MayNote, MayRead, NoCall, CallsOf, CallsOfClass, CallsOfDot, CallsOfImport, HasRecords, OneCommand}
 use Rattle.plain_shell.specs.Sources.{Files, Gives}
 use Rattle.ft_shell.specs.Turns.{Body, Turn, Turns, calls_in}
@@ -103,13 +102,13 @@ statement_calls g h settings text old new before after told (inl it) = go (is_un
     go true it = calls_nothing h before after it.1
     go false it = class_calls g h settings text old new before after told (class_of (table_names before) (tokens_of text)) it
 
--- what only looks does what a note does that is refused
-looks_call : {S : Type 0} (h : Ghosts S) (old new : FullText S) (is_answered : Bool) → OnlyLooks h old new → LeavesRead h old is_answered new → Called h MayRead (Noted [] false ∷ []) old new
-looks_call h old new is_answered looks leaves = (inr refl, (new, (record { was_up = looks.was_up; noted = looks.value; tables = looks.tables }, read_leaves_note h old new is_answered [] leaves), refl))
+looks_call : {S : Type 0} (h : Ghosts S) (old new : FullText S) (is_done : Bool) → OnlyLooks h old new → LeavesRead h old is_done new → Called h MayRead (Looked is_done ∷ []) old new
+looks_call h old new is_done looks leaves = (inr (is_done, refl), (new, (looks, leaves), refl))
 
-tables_calls : {P S : Type 0} (g : Ghosts P) (h : Ghosts S) (old new : Held P) (before after : FullText S) (told : Answer) → TablesTurn g h old new before after told → Called h MayRead (Noted [] false ∷ []) before after
-tables_calls g h old new before after told (tables.lists noted looks leaves is it) = looks_call h before after true looks leaves
-tables_calls g h old new before after told (tables.refused looks leaves same tells) = looks_call h before after false looks leaves
+tables_calls : {P S : Type 0} (g : Ghosts P) (h : Ghosts S) (old new : Shell P S) (told : Answer) → (it : TablesTurn g h old.plain new.plain old.full_text new.full_text told) →
+    Called h MayRead (tables_in g h old new told it) old.full_text new.full_text
+tables_calls g h old new told (tables.lists noted looks leaves is it) = looks_call h old.full_text new.full_text true looks leaves
+tables_calls g h old new told (tables.refused looks leaves same tells) = looks_call h old.full_text new.full_text false looks leaves
 
 note_calls : {S : Type 0} (h : Ghosts S) (lines name : List ℕ) (old new : FullText S) (told : Answer) → (it : NoteTurn h lines name old new told) → Called h (MayNote (Some name)) (Noted name (is_ok it.answer) ∷ []) old new
 note_calls h lines name old new told it = notes_one h old new name (is_ok it.answer) it.does
@@ -180,7 +179,7 @@ dot_calls g h old new told (SetEcho on) it = calls_nothing h old.full_text new.f
 dot_calls g h old new told (SetBail on) it = calls_nothing h old.full_text new.full_text it.1
 dot_calls g h old new told (Print words) it = same_shell h old new it.0
 dot_calls g h old new told (Importing what) it = delimited_calls g h old.settings what old.plain new.plain old.full_text new.full_text told old.holds (delimiter_of what.csv old.settings) refl it.1
-dot_calls g h old new told Tables it = tables_calls g h old.plain new.plain old.full_text new.full_text told it.1
+dot_calls g h old new told Tables it = tables_calls g h old new told it.1
 dot_calls g h old new told Quit it = same_shell h old new it.0
 dot_calls g h old new told (Usage text) it = same_shell h old new it.0
 dot_calls g h old new told Unknown it = same_shell h old new it.0

@@ -12,7 +12,7 @@ use Rattle.ft_content.specs.Command.{Command, Filter, Insert, Items, Reply, Sele
 use Rattle.ft_content.specs.Deserved.{Contents, deserved}
 use Rattle.ft_content.specs.Step.{after, reply_to, step, step_by}
 use Rattle.ft_index.specs.Kept.{FullText, is_outside}
-use Rattle.ft_index.specs.Called.{Call, CallsKept, Executed, Noted, Runs, KeptByCalls, NoneGetsUnsound, accepted, left_by, AreAnswered}
+use Rattle.ft_index.specs.Called.{Call, CallsKept, Executed, Looked, Noted, Runs, KeptByCalls, NoneGetsUnsound, accepted, left_by, AreAnswered}
 use Rattle.ft_statements.specs.Words.{tokens_of}
 use Rattle.ft_statements.specs.Statements.{Class, Plain, FullText as FullTextClass, class_of}
 use Rattle.ft_statements.specs.Dots.{DotCommand, Import, Nothing, SetMode, SetHeaders, SetSeparator, SetNull, SetEcho, SetBail, Print, Importing, Tables, Quit, Usage, Unknown, dot_command_of}
@@ -49,6 +49,7 @@ answer_at first [] more command answer it = it.0
 answer_at first (Executed c (Ok reply) ∷ before) more command answer it = answer_at (after first c) before more command answer it.1
 answer_at first (Executed c (Err fault) ∷ before) more command answer it = answer_at first before more command answer it.1
 answer_at first (Noted name is_done ∷ before) more command answer it = answer_at first before more command answer it
+answer_at first (Looked is_done ∷ before) more command answer it = answer_at first before more command answer it
 
 reply_is : (contents : Contents) (command : Command) (reply : Reply) → IsTrue (is_outside (Ok reply)) ⊎ (Ok reply ≡ (step contents command).0) → reply ≡ reply_to contents command
 unfolding step
@@ -81,6 +82,7 @@ abbrev NoCommand : List Call → Type 0
 NoCommand [] = Unit {0}
 NoCommand (Executed command answer ∷ calls) = ⊥
 NoCommand (Noted name is_done ∷ calls) = NoCommand calls
+NoCommand (Looked is_done ∷ calls) = NoCommand calls
 
 -- the calls of a turn: one command, or none
 abbrev Few : List Call → Type 0
@@ -96,7 +98,7 @@ note_of (Some name) calls (inr it) = subst NoCommand (sym it.1) tt
 
 read_of : (calls : List Call) → MayRead calls → NoCommand calls
 read_of calls (inl is) = none_of calls is
-read_of calls (inr is) = subst NoCommand (sym is) tt
+read_of calls (inr it) = subst NoCommand (sym it.1) tt
 
 few_class : (settings : Settings) (told : Answer) (calls : List Call) (made : Option (List ℕ)) (class : Option Class) → CallsOfClass settings told calls made class → Few calls
 few_class settings told calls made None it = inl (none_of calls it)
@@ -137,6 +139,7 @@ not_noted : (before more : List Call) (command : Command) (answer : Result Reply
 not_noted [] more command answer it = it
 not_noted (Executed c a ∷ before) more command answer it = it
 not_noted (Noted name is_done ∷ before) more command answer it = not_noted before more command answer it
+not_noted (Looked is_done ∷ before) more command answer it = not_noted before more command answer it
 
 few_is : (calls before more : List Call) (command : Command) (answer : Result Reply Fault) → Few calls → calls ≡ before ++ Executed command answer ∷ more → (before ≡ []) × (more ≡ [])
 few_is calls before more command answer (inl only_notes) is = absurd (not_noted before more command answer (subst NoCommand is only_notes))

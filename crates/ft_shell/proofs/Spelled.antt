@@ -1,6 +1,6 @@
 -- What is so of the calls that a member's turn makes of the full-text tables: the command that a
 -- full-text statement spells, or the one Insert of an import.
-use Rattle.std.specs.Prelude.{ℕ, ◌≡◌, ◌⊎◌, Bool, false, MatchBool, List, [], ◌∷◌, map, Option, Some, None, Result}
+use Rattle.std.specs.Prelude.{ℕ, ◌≡◌, ◌⊎◌, Bool, MatchBool, List, [], ◌∷◌, map, Option, Some, None, Result}
 use Rattle.csv.specs.Reading.{AreRecords, strip_bom}
 use Rattle.csv.specs.declared.parser.State.TheVariants as csv
 use Rattle.shell_text.specs.Print.{Settings}
@@ -10,7 +10,7 @@ use Rattle.shell_text.specs.Records.{csv_reader}
 use Rattle.shell_text.specs.Words.{is_unclosed}
 use Rattle.ft_values.specs.declared.fault.Fault.{Fault as Cause}
 use Rattle.ft_content.specs.Command.{Command, Insert, Reply}
-use Rattle.ft_index.specs.Called.{Call, Executed, Noted}
+use Rattle.ft_index.specs.Called.{Call, Executed, Looked, Noted}
 use Rattle.ft_statements.specs.Words.{tokens_of}
 use Rattle.ft_statements.specs.Statements.{Class, Plain, FullText, class_of}
 use Rattle.ft_statements.specs.Dots.{DotCommand, Import, Importing, Tables, dot_command_of}
@@ -31,9 +31,9 @@ abbrev pub MayNote : Option (List ℕ) → List Call → Type 0
 MayNote None calls = calls ≡ []
 MayNote (Some name) calls = (calls ≡ []) ⊎ ((is_done : Bool) × (calls ≡ Noted name is_done ∷ []))
 
--- nothing is called, or the noted names are read, which leaves what a note leaves that is refused
+-- nothing is called, or the noted names are read
 abbrev pub MayRead : List Call → Type 0
-MayRead calls = (calls ≡ []) ⊎ (calls ≡ Noted [] false ∷ [])
+MayRead calls = (calls ≡ []) ⊎ ((is_done : Bool) × (calls ≡ Looked is_done ∷ []))
 
 -- the records that `csv` reads in the bytes of the file that an import names
 pub record HasRecords (settings : Settings) (holds : Files) (what : Import) (found : List (List (List ℕ))) : Type 0 where

@@ -7,7 +7,7 @@ use Rattle.sqlite.specs.State.{Executes}
 use Rattle.sqlite.specs.declared.error.Error.{Error}
 use Rattle.shell_text.specs.Print.{Settings}
 use Rattle.ft_index.specs.Kept.{FullText}
-use Rattle.ft_statements.specs.Plain.{asks, made_name}
+use Rattle.ft_statements.specs.Plain.{asks, made_name, seeks}
 use Rattle.ft_statements.specs.Words.{tokens_of}
 use Rattle.plain_shell.specs.PlainStatements.{TellsRefusal, IfClean, QueryTurn}
 use Rattle.plain_shell.specs.Outcomes.{Answer, lacks_memory}
@@ -18,7 +18,8 @@ module _ {P S : Type 0} (g : Ghosts P) (h : Ghosts S) where
   pub data CommandTurn (text : List ℕ) (made : Option (List ℕ)) (old new : Held P) (before after : FullText S) (told : Answer) : Type 0 where
     done : (count : ℕ) → IfClean g old new (Executes text [] (state g old) (state g new) (Ok count)) → MaybeNotes h made before after told
         → CommandTurn text made old new before after told
-    refused : (e : Error) → IfClean g old new (Executes text [] (state g old) (state g new) (Err e)) → after ≡ before → TellsRefusal e told
+    refused : (e : Error) → IfClean g old new (Executes text [] (state g old) (state g new) (Err e)) → after ≡ before
+        → TellsRefusal (seeks (tokens_of text)) e told
         → CommandTurn text made old new before after told
 
   -- a plain statement: a query, or a command

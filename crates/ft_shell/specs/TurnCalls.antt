@@ -8,7 +8,7 @@ use Rattle.shell_text.specs.Print.{Settings}
 use Rattle.shell_text.specs.Words.{is_unclosed}
 use Rattle.ft_content.specs.Command.{Insert}
 use Rattle.ft_index.specs.Kept.{FullText}
-use Rattle.ft_index.specs.Called.{Call, Executed, Noted}
+use Rattle.ft_index.specs.Called.{Call, Executed, Looked, Noted}
 use Rattle.ft_statements.specs.Words.{tokens_of}
 use Rattle.ft_statements.specs.Plain.{asks, made_name}
 use Rattle.ft_statements.specs.Statements.{Class, Plain, FullText as FullTextClass, class_of}
@@ -23,6 +23,8 @@ use Rattle.plain_shell.specs.PlainStatements.{QueryTurn}
 use Rattle.ft_shell.specs.StatementTurns.{ClassTurn, Declines, StatementTurn, table_names}
 use Rattle.ft_shell.specs.DotTurns.{DotTurn}
 use Rattle.ft_shell.specs.ImportTurns as imports
+use Rattle.ft_shell.specs.TablesTurns as tables
+use Rattle.ft_shell.specs.TablesTurns.{TablesTurn}
 use Rattle.ft_shell.specs.ImportTurns.{BytesTurn, DelimitedTurn, FileTurn, IntoNamed, IntoNew, PlainImport, TextImport, columns_in}
 use Rattle.plain_shell.specs.Records.{kept, records_in}
 use Rattle.plain_shell.specs.Outcomes.{Answer}
@@ -108,11 +110,15 @@ module _ {P S : Type 0} (g : Ghosts P) (h : Ghosts S) where
 -- ---- dot-commands
 
 module _ {P S : Type 0} (g : Ghosts P) (h : Ghosts S) (old new : Shell P S) (told : Answer) where
-  -- `.tables` reads the noted names, which leaves what a note leaves that is refused
+  -- `.tables` reads the noted names
+  abbrev pub tables_in : TablesTurn g h old.plain new.plain old.full_text new.full_text told → List Call
+  tables_in (tables.lists noted looks leaves are lists) = Looked true ∷ []
+  tables_in (tables.refused looks leaves same tells) = Looked false ∷ []
+
   abbrev pub dot_in : (command : DotCommand) → DotTurn g h old new told command → List Call
   dot_in (Importing what) it = delimited_in g h what old.plain new.plain old.full_text new.full_text told old.holds
       (delimiter_of what.csv old.settings) it.1
-  dot_in Tables it = Noted [] false ∷ []
+  dot_in Tables it = tables_in it.1
   dot_in Nothing it = []
   dot_in (SetMode mode) it = []
   dot_in (SetHeaders shown) it = []

@@ -8,12 +8,14 @@ ghost use Rattle.ft_shell.specs.StatementTurns.{StatementTurn};
 ghost use Rattle.ft_shell.specs.FullTextTurns.{FullTextTurn, NoteTurn};
 ghost use Rattle.ft_shell.specs.PlainTurns.{CommandTurn, PlainTurn, OrNothing};
 ghost use Rattle.shell_text.specs.Words.{words_of};
+ghost use Rattle.ft_statements.specs.Plain.{seeks};
+ghost use Rattle.ft_statements.specs.Words.{tokens_of};
 ghost use Rattle.ft_content.specs.Views as views;
 
 use crate::dot_turn::dot_line_turn;
 use ft_content::{Command, Fault};
 use ft_index::FullText;
-use ft_statements::{Class, read_plain, read_statement, write_reply};
+use ft_statements::{Class, PlainStatement, read_plain, read_statement, write_reply};
 use plain_shell::{Answer, Complaint, Output, Source, query_turn, refusal};
 use shell_text::{Settings, SqlWord, Unit, UnitKind, sql_words};
 use sqlite::{Alter, Connection};
@@ -96,17 +98,19 @@ fn command_turn<P: Alter, S: Alter>(
     plain: &mut Connection<P>,
     full_text: &mut FullText<S>,
     text: &str,
-    made: &Option<String>,
+    statement: &PlainStatement,
 ) -> Answer
-    ensures { CommandTurn P.Store S.Store text.now (option_map string_bytes made.now) plain.old
-        plain.new full_text.old full_text.new (answer_as result) }
+    requires { statement.now.seeks ≡ seeks (tokens_of text.now) }
+    ensures { CommandTurn P.Store S.Store text.now
+        (option_map string_bytes statement.now.made) plain.old plain.new full_text.old
+        full_text.new (answer_as result) }
 {
     match plain.execute(text, &[]) {
-        Ok(_) => match made {
+        Ok(_) => match &statement.made {
             Some(name) => note_turn(full_text, name.as_str(), String::new(alloc)),
             None => Ok(Output::Nothing),
         },
-        Err(error) => Err(refusal(alloc, error)),
+        Err(error) => Err(refusal(alloc, error, statement.seeks)),
     }
 }
 
@@ -126,7 +130,7 @@ fn plain_turn<P: Alter, S: Alter>(
 {
     let statement = read_plain(alloc, text, words)?;
     if statement.asks {
-        return query_turn(alloc, settings, plain, text);
+        return query_turn(alloc, settings, plain, text, statement.seeks);
     }
-    command_turn(alloc, plain, full_text, text, &statement.made)
+    command_turn(alloc, plain, full_text, text, &statement)
 }

@@ -2,6 +2,8 @@ pub mod AdoptLemmas
 pub mod AnswerLemmas
 pub mod ApartLemmas
 pub mod ApplyLemmas
+pub mod AskedLemmas
+pub mod BlameLemmas
 pub mod CallLemmas
 pub mod ChainLemmas
 pub mod ChangeLemmas
@@ -21,6 +23,7 @@ pub mod OrderLemmas
 pub mod PartLemmas
 pub mod PutLemmas
 pub mod RangeLemmas
+pub mod RefusedLemmas
 pub mod RowidLemmas
 pub mod SameLemmas
 pub mod ScanLemmas

@@ -107,14 +107,17 @@ are_cells db sound = all_both _ (λ row. passes NotNull store_schema db (cell_ta
 pub record IsColumnRow (row : Row) : Type 0 where
   pub tab : column row 1 ≡ Int (id_in (column row 1))
   pub at : column row 2 ≡ Int (id_in (column row 2))
+  pub name : column row 3 ≡ Text (bytes (column row 3))
 
 column_typed : (db : Trees) (row : Row) → passes Datatype store_schema db (col_table 3) row ≡ true → passes NotNull store_schema db (col_table 3) row ≡ true → IsColumnRow row
 column_typed db [] typed there = absurd (true≢false (sym there))
 column_typed db (r ∷ values) typed there =
     let kinds = typed_at 0 (col_table 3).columns values (and_first _ _ typed) in
+    let n1 = and_second _ _ there in
     record {
       tab = is_integer _ (kinds 0 _ refl refl) (not_null _ (and_first _ _ there));
-      at = is_integer _ (kinds 1 _ refl refl) (not_null _ (and_first _ _ (and_second _ _ there)));
+      at = is_integer _ (kinds 1 _ refl refl) (not_null _ (and_first _ _ n1));
+      name = is_text _ (kinds 2 _ refl refl) (not_null _ (and_first _ _ (and_second _ _ n1)));
     }
 
 pub are_columns : (db : Trees) → IsSound store_schema db → AllByRecursion IsColumnRow (db 3)

@@ -1,7 +1,9 @@
 -- Steps. What the functions of a transaction do, each as one relation: what it made, and the frame
 -- of all of them.
-use Rattle.std.specs.Prelude.{ℕ, Bool, true, MatchBool, Result, Ok, All, List, map, IsTrue, IfOk, OnOk}
+use Rattle.std.specs.Prelude.{ℕ, ℤ, Bool, true, not, MatchBool, Result, Ok, All, List, map, IsTrue, IfOk, OnOk}
 use Rattle.std.specs.Borrow.{MutBor}
+use Rattle.std.specs.Ordering.{int_cmp, int_eq}
+use Rattle.std.specs.FinMap.Entries.{where_key}
 use Rattle.sqlite.specs.Order.{Row}
 use Rattle.sqlite.specs.Schema.{Schema}
 use Rattle.sqlite.specs.Table.{Table}
@@ -11,7 +13,7 @@ use Rattle.sqlite.specs.State.{HasCleanDisk, Shows, ExecutesInside, IsUnchanged}
 use Rattle.sqlite.specs.Store.{Ghosts}
 use Rattle.sqlite.specs.Held.{Held, state}
 use Rattle.ft_values.specs.declared.rows.RowChange.{RowChange}
-use Rattle.ft_rows.specs.Store.{StoreValue, all_applied}
+use Rattle.ft_rows.specs.Store.{cell_key_cmp, list_key_cmp, column_key_cmp, StoreValue, all_applied}
 use Rattle.ft_rows.specs.Changes.{shown_change, CanApply}
 use Rattle.ft_store.specs.declared.fault.StoreFault.{StoreFault}
 use Rattle.ft_store.specs.Calls.{StepsOnOk, StepsIfOpen, StaysInside, StaysUncommitted, IsChangeFault}
@@ -68,3 +70,22 @@ pub record ChangesInside {S X : Type 0} (g : Ghosts S) (old new : MutBor (Held S
 abbrev pub AppliesInside : {S : Type 0} → Ghosts S → MutBor (Held S) → MutBor (Held S) → Result (Unit {0}) StoreFault → List RowChange → Type 0
 AppliesInside g old new result changes =
     ChangesInside g old new result (All CanApply changes) (GoesOnOk g old.now new.now result (λ _ v. all_applied (map shown_change changes) v))
+
+-- without the rows of a table, those of one kind
+abbrev pub without_name : ℤ → StoreValue → StoreValue
+without_name tab v = record v { tables = where_key int_cmp (λ k. not (int_eq tab k)) v.tables }
+
+abbrev pub without_columns : ℤ → StoreValue → StoreValue
+without_columns tab v = record v { columns = where_key column_key_cmp (λ k. not (int_eq tab k.0)) v.columns }
+
+abbrev pub without_skips : ℤ → StoreValue → StoreValue
+without_skips tab v = record v { skipped = where_key column_key_cmp (λ k. not (int_eq tab k.0)) v.skipped }
+
+abbrev pub without_contents : ℤ → StoreValue → StoreValue
+without_contents tab v = record v { cells = where_key cell_key_cmp (λ k. not (int_eq tab k.0)) v.cells }
+
+abbrev pub without_lists : ℤ → StoreValue → StoreValue
+without_lists tab v = record v { lists = where_key list_key_cmp (λ k. not (int_eq tab k.0)) v.lists }
+
+abbrev pub without_sizes : ℤ → StoreValue → StoreValue
+without_sizes tab v = record v { sizes = where_key cell_key_cmp (λ k. not (int_eq tab k.0)) v.sizes }

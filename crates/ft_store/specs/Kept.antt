@@ -1,6 +1,6 @@
 -- Meaning. A store as callers see it: the connection that it holds, and how many rows its reads
 -- gave.
-use Rattle.std.specs.Prelude.{◌≡◌, ℕ, ◌+◌, ◌-◌, ◌^◌, min, false, refl, Result, IsTrue, IfOk, IfErr, OnOk, OnErr}
+use Rattle.std.specs.Prelude.{◌≡◌, ℕ, ◌+◌, ◌-◌, ◌^◌, min, false, refl, Result, Err, IsTrue, IfOk, IfErr, OnOk, OnErr}
 use Rattle.std.specs.Coded.{Coded, code_by, coded×, coded_ℕ}
 use Rattle.sqlite.specs.State.{State, HasCleanDisk, Survives}
 use Rattle.sqlite.specs.Store.{Ghosts}
@@ -9,6 +9,8 @@ use Rattle.ft_rows.specs.Store.{StoreValue}
 use Rattle.ft_store.specs.Rows.{value_of}
 use Rattle.ft_store.specs.Calls.{IsPlainFault, IsStored, IsStoreIfOpen, Keeps}
 use Rattle.ft_store.specs.declared.fault.StoreFault.{StoreFault}
+use Rattle.ft_store.specs.declared.fault.StoreFault.TheVariants as fault
+use Rattle.ft_store.specs.Blame.{IsBlamed}
 
 pub record StoreState (S : Type 0) : Type 0 where
   pub held : Held S
@@ -51,10 +53,11 @@ pub record ReadsRows {S X : Type 0} (g : Ghosts S) (old new : StoreState S) (res
   pub causes : IfErr result IsFault
 
 -- What is left by a question whether the database is open: nothing is changed, read or committed,
--- and Ok says that it is open.
+-- Ok says that it is open, and Refused that it wasn't or that its disk failed.
 pub record Pings {S : Type 0} (g : Ghosts S) (old new : StoreState S) (result : Result (Unit {0}) StoreFault) : Type 0 where
   pub kept : HasCleanDisk (shows g new) → Keeps (shows g old) (shows g new)
   pub live : HasCleanDisk (shows g new) → OnOk result (IsTrue (shows g new).is_open)
   pub survives : Survives (shows g old) (shows g new) (λ _. ⊥)
   pub unread : new.rows_read ≡ old.rows_read
   pub cause : IfErr result IsPlainFault
+  pub refused : HasCleanDisk (shows g new) → result ≡ Err fault.Refused → IsBlamed (shows g old) (shows g new)

@@ -1,5 +1,6 @@
 -- Meaning
 pub mod Adopted
+pub mod Blame
 pub mod Calls
 pub mod Docids
 pub mod Kept

@@ -1,5 +1,5 @@
 //! Whether the lists of a table are exactly those that are expected.
-ghost use Rattle.std.specs.Prelude.{◌≡◌, ◌↔◌, ℤ, ◌-◌, ◌^◌, min, map, drop, [], Some, IsTrue, MatchBool};
+ghost use Rattle.std.specs.Prelude.{◌≡◌, ◌↔◌, ℤ, ◌-◌, ◌^◌, min, map, drop, [], Some, Err, IsTrue, MatchBool};
 ghost use Rattle.std.specs.Ordering.{int_eq};
 ghost use Rattle.std.specs.FinMap.Entries.{where_key};
 ghost use Rattle.sqlite.specs.Held.{state};
@@ -10,6 +10,7 @@ ghost use Rattle.ft_rows.specs.Store.{list_key_cmp};
 ghost use Rattle.ft_rows.specs.Terms.{spot_of, lists_by_terms};
 ghost use Rattle.ft_store.specs.Rows.{value_of};
 ghost use Rattle.ft_store.specs.Expected.{left_of, HasMore, IsList, place_count};
+ghost use Rattle.ft_store.specs.Blame.{Blames, IsTermRow};
 ghost use Rattle.ft_store.specs.Calls.{IsAtRest};
 ghost use Rattle.ft_store.specs.Settled.{Finds, ReadsFor};
 
@@ -65,8 +66,9 @@ impl Expected {
 /// Whether a row, in which docid and packed list come before the term, is this list of the term. No
 /// row is the list of no postings.
 fn is_list(row: &Row, term: &str, list: &[Posting]) -> Result<bool, StoreFault>
-    ensures { Finds result (λ b. (tab : ℤ)
+    ensures found { Finds result (λ b. (tab : ℤ)
         → IsTrue b ↔ IsList tab row.now term.now list.now) }
+    ensures refused { result ≡ Err StoreFault.Refused → IsTermRow row.now → ⊥ }
 {
     let docid: i64 = row.get(0)?;
     let ValueRef::Text(bytes) = row.get_ref(2)? else {
@@ -92,6 +94,8 @@ impl Gathered for Expected {
     ghost use Rattle.ft_store.specs.Expected.{left_of};
 
     ghost expects = { λ made. made.terms.items };
+
+    ghost takes = { IsTermRow };
 
     ghost is_made_of = { λ made whole rows. (tab : ℤ) → MatchBool whole
         (map (found_places tab) rows
@@ -125,9 +129,10 @@ pub(crate) fn has_lists<S: Alter>(
     terms: Vec<TermLists>,
 ) -> Result<bool, StoreFault>
     requires { IsAtRest (state S.Store conn.old) }
-    ensures { ReadsFor S.Store conn.old conn.new result
+    ensures given { ReadsFor S.Store conn.old conn.new result
         (λ b. IsTrue b ↔ (where_key list_key_cmp (λ k. int_eq tab k.0)
         (value_of (state S.Store conn.old).now.trees).lists ≡ lists_by_terms tab terms.items)) }
+    ensures refused { Blames (state S.Store conn.old) (state S.Store conn.new) result }
 {
     let mut expected = Expected {
         terms,

@@ -32,8 +32,12 @@ const MOST_CACHE: u64 = 20_000;
 // most, beside what the last command wrote.
 const CHECKPOINT_FRAMES: usize = 4000;
 
-// The files of a database, as they are opened.
-fn open_pair<S: Start>(rt: &HostRuntime, path: &str, start: S) -> Result<Files<FileFrom<S>>, Error>
+/// The files of a database, as they are opened.
+pub fn open_pair<S: Start>(
+    rt: &HostRuntime,
+    path: &str,
+    start: S,
+) -> Result<Files<FileFrom<S>>, Error>
     ensures memory { path.now ≡ codes ":memory:"
         → result ≡ Err (Error.SqliteFailure ErrorCode.CannotOpen) }
     ensures named { IfErr result (λ e. IsTrue (is_open_error e)) }
@@ -60,9 +64,9 @@ fn cache_pages(rt: &HostRuntime, path: &str) -> usize {
     pages.clamp(LEAST_CACHE, MOST_CACHE) as usize
 }
 
-// The options that suit a file (our own choice): what a command writes stays in memory up to its
-// end, as far as that holds it.
-fn file_options(rt: &HostRuntime, path: &str) -> Result<Options, Error>
+/// The options that suit a file (our own choice): what a command writes stays in memory up to its
+/// end, as far as that holds it.
+pub fn file_options(rt: &HostRuntime, path: &str) -> Result<Options, Error>
     ensures { IfErr result (λ e. e ≡ Error.SqliteFailure ErrorCode.CannotOpen) }
 {
     let seed = RandomState::new(rt)

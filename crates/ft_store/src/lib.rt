@@ -20,7 +20,7 @@ mod tables;
 mod write;
 
 pub use fault::StoreFault;
-pub use files::open_database;
+pub use files::{file_options, open_database, open_pair};
 pub use ft_rows::{Posting, TermLists, packed_lists};
 pub use ft_values::{CellRow, EntryRow, ListRow, RowChange, SizeRow, Spot, TabRow, Value};
 pub use parts::Parts;

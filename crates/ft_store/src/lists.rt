@@ -16,6 +16,7 @@ ghost use Rattle.ft_store.specs.Rows.{value_of};
 ghost use Rattle.ft_store.specs.Range.{after_last, limit_of};
 ghost use Rattle.ft_store.specs.Found.{found_spots, found_places};
 ghost use Rattle.ft_rows.specs.Shown.{shown_list, shown_entry, entries_with, entries_of, lists_of_term, lists_of_prefix, spot_count, AreWhole, SomeDamaged};
+ghost use Rattle.ft_store.specs.Blame.{Blames, RefusesRead, IsListRow, IsTermRow};
 ghost use Rattle.ft_store.specs.Calls.{AreTold, IsAtRest};
 ghost use Rattle.ft_store.specs.Settled.{IsSettled, IsPlainIn, Finds, ReadsLists, GivesLists, GivesTold, GivesRows};
 
@@ -32,8 +33,9 @@ use std::alloc::{AllocError, Global};
 
 /// A list, of its row, in which docid and packed list come first; none where its bytes are damaged.
 fn list_row(alloc: Global, row: &Row) -> Result<Option<ListRow>, StoreFault>
-    ensures { Finds result (λ list. MatchOption list ((found_spots row.now).1 ≡ [])
+    ensures found { Finds result (λ list. MatchOption list ((found_spots row.now).1 ≡ [])
         (λ l. (shown_list l ≡ found_spots row.now) × ((found_spots row.now).1 ≢ []))) }
+    ensures refused { result ≡ Err StoreFault.Refused → IsListRow row.now → ⊥ }
 {
     let docid: i64 = row.get(0)?;
     let ValueRef::Blob(bytes) = row.get_ref(1)? else {
@@ -47,8 +49,9 @@ fn list_row(alloc: Global, row: &Row) -> Result<Option<ListRow>, StoreFault>
 
 /// The term of a row, in which it stands last; none where it is no text.
 fn row_term(row: &Row) -> Result<Option<&str>, StoreFault>
-    ensures { Finds result (λ term. let stored = bytes (column row.now 2)
+    ensures found { Finds result (λ term. let stored = bytes (column row.now 2)
         in MatchOption term (¬ (IsUtf8 stored)) (λ t. (t.now ≡ stored) × IsUtf8 stored)) }
+    ensures refused { result ≡ Err StoreFault.Refused → IsTermRow row.now → ⊥ }
 {
     let ValueRef::Text(bytes) = row.get_ref(2)? else {
         return Err(StoreFault::Refused);
@@ -67,6 +70,8 @@ impl Gathered for ListsOf {
     ghost use Rattle.std.specs.Prelude.{◌≡◌, map, MatchBool};
     ghost use Rattle.ft_store.specs.Found.{found_spots};
     ghost use Rattle.ft_rows.specs.Shown.{shown_list, AreWhole, SomeDamaged};
+
+    ghost takes = { IsListRow };
 
     ghost is_made_of = { λ made whole rows. MatchBool whole
         ((map shown_list made.lists.items ≡ map found_spots rows) × AreWhole (map found_spots rows))
@@ -92,11 +97,13 @@ fn select_lists<S: Alter>(
     params: &[ValueRef<'_>],
 ) -> Result<Vec<ListRow>, StoreFault>
     requires { IsSettled (IsPlainIn sql.now) (state S.Store conn.old) }
-    ensures { ReadsLists S.Store conn.old conn.new result
+    ensures given { ReadsLists S.Store conn.old conn.new result
         (λ lists. GivesRows S.Store conn.old conn.new sql.now (bound params.now) (λ rows.
         (map shown_list lists.items ≡ map found_spots rows) × AreWhole (map found_spots rows)))
         (GivesRows S.Store conn.old conn.new sql.now (bound params.now) (λ rows.
         SomeDamaged (map found_spots rows))) }
+    ensures refused { RefusesRead S.Store conn.old conn.new result sql.now (bound params.now)
+        IsListRow }
 {
     let mut found = ListsOf {
         alloc,
@@ -154,6 +161,8 @@ impl Gathered for EntriesOf {
     ghost use Rattle.ft_store.specs.Found.{found_places};
     ghost use Rattle.ft_rows.specs.Shown.{shown_entry, entries_of};
 
+    ghost takes = { IsTermRow };
+
     ghost is_made_of = { λ made whole rows. (tab : ℤ) → MatchBool whole
         ((map shown_entry made.entries.items ≡ entries_of (map (found_places tab) rows))
         × AreTold (map (found_places tab) rows))
@@ -183,12 +192,14 @@ fn select_entries<S: Alter>(
     params: &[ValueRef<'_>],
 ) -> Result<Vec<EntryRow>, StoreFault>
     requires { IsSettled (IsPlainIn sql.now) (state S.Store conn.old) }
-    ensures { ReadsLists S.Store conn.old conn.new result
+    ensures given { ReadsLists S.Store conn.old conn.new result
         (λ entries. GivesRows S.Store conn.old conn.new sql.now (bound params.now) (λ rows.
         (tab : ℤ) → (map shown_entry entries.items ≡ entries_of (map (found_places tab) rows))
         × AreTold (map (found_places tab) rows)))
         (GivesRows S.Store conn.old conn.new sql.now (bound params.now) (λ rows.
         (tab : ℤ) → ¬ AreTold (map (found_places tab) rows))) }
+    ensures refused { RefusesRead S.Store conn.old conn.new result sql.now (bound params.now)
+        IsTermRow }
 {
     let mut found = EntriesOf {
         alloc,
@@ -227,8 +238,9 @@ pub(crate) fn term_lists<S: Alter>(
     term: &str,
 ) -> Result<Vec<ListRow>, StoreFault>
     requires { IsAtRest (state S.Store conn.old) }
-    ensures { GivesLists S.Store conn.old conn.new result
+    ensures given { GivesLists S.Store conn.old conn.new result
         (lists_of_term tab term.now (value_of (state S.Store conn.old).now.trees)) }
+    ensures refused { Blames (state S.Store conn.old) (state S.Store conn.new) result }
 {
     select_lists(conn, alloc, TERM_LISTS, params![tab, term])
 }
@@ -281,8 +293,9 @@ pub(crate) fn prefix<S: Alter>(
     begin: &str,
 ) -> Result<Vec<EntryRow>, StoreFault>
     requires { IsAtRest (state S.Store conn.old) }
-    ensures { GivesTold S.Store conn.old conn.new result
+    ensures given { GivesTold S.Store conn.old conn.new result
         (lists_of_prefix tab begin.now (value_of (state S.Store conn.old).now.trees)) }
+    ensures refused { Blames (state S.Store conn.old) (state S.Store conn.new) result }
 {
     let end = after_last(alloc, begin.as_bytes())?;
     let end = end.as_slice();
@@ -302,8 +315,9 @@ pub(crate) fn prefix_lists<S: Alter>(
     begin: &str,
 ) -> Result<Vec<ListRow>, StoreFault>
     requires { IsAtRest (state S.Store conn.old) }
-    ensures { GivesLists S.Store conn.old conn.new result
+    ensures given { GivesLists S.Store conn.old conn.new result
         (lists_of_prefix tab begin.now (value_of (state S.Store conn.old).now.trees)) }
+    ensures refused { Blames (state S.Store conn.old) (state S.Store conn.new) result }
 {
     let end = after_last(alloc, begin.as_bytes())?;
     let end = end.as_slice();

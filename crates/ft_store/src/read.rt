@@ -1,5 +1,5 @@
 //! What stands in the rows of queries.
-ghost use Rattle.std.specs.Prelude.{◌≡◌, ℤ, ◌&&◌, map, slice_get, is_some, option_map, string_bytes, IsTrue, IfOk};
+ghost use Rattle.std.specs.Prelude.{◌≡◌, ◌<◌, Err, length, ℤ, ◌&&◌, map, slice_get, is_some, option_map, string_bytes, IsTrue, IfOk};
 ghost use Rattle.std.specs.Ordering.{int_eq};
 ghost use Rattle.std.specs.FinMap.Entries.{where_key};
 ghost use Rattle.sqlite.specs.State.{Shown};
@@ -42,8 +42,9 @@ fn shown_text(alloc: Global, stored: &[u8]) -> Result<String, AllocError>
 
 /// The value of a cell, of its two columns.
 fn cell_value(alloc: Global, row: &Row) -> Result<Value, StoreFault>
-    ensures { Finds result (λ value. shown_value value
+    ensures found { Finds result (λ value. shown_value value
         ≡ cell_in (column row.now 2) (column row.now 3)) }
+    ensures refused { result ≡ Err StoreFault.Refused → 3 < length row.now → ⊥ }
 {
     if let ValueRef::Int(number) = row.get_ref(2)? {
         return Ok(Value::Int(number));
@@ -59,12 +60,17 @@ impl InRow for CellRow {
     ghost use Rattle.ft_store.specs.Found.{found_cell};
     ghost use Rattle.ft_rows.specs.Store.{CellKey};
     ghost use Rattle.ft_values.specs.Cells.{Cell};
+    ghost use Rattle.std.specs.Prelude.{◌<◌, length};
+    ghost use Rattle.sqlite.specs.Values.{IsInt};
+    ghost use Rattle.sqlite.specs.Order.{column};
 
     ghost Shown = { CellKey × Cell };
 
     ghost shown = { shown_cell };
 
     ghost found = { found_cell };
+
+    ghost is_readable = { λ row. (3 < length row) × IsInt (column row 0) × IsInt (column row 1) };
 
     fn read(alloc: Global, row: &Row) -> Result<CellRow, StoreFault> {
         Ok(CellRow {
@@ -76,7 +82,9 @@ impl InRow for CellRow {
 }
 
 impl InRow for SizeRow {
-    ghost use Rattle.std.specs.Prelude.{ℤ};
+    ghost use Rattle.std.specs.Prelude.{◌<◌, ℤ, length};
+    ghost use Rattle.sqlite.specs.Values.{IsInt};
+    ghost use Rattle.sqlite.specs.Order.{column};
     ghost use Rattle.ft_rows.specs.Shown.{shown_size};
     ghost use Rattle.ft_store.specs.Found.{found_size};
     ghost use Rattle.ft_rows.specs.Store.{CellKey};
@@ -86,6 +94,9 @@ impl InRow for SizeRow {
     ghost shown = { shown_size };
 
     ghost found = { found_size };
+
+    ghost is_readable = { λ row. (2 < length row) × IsInt (column row 0) × IsInt (column row 1)
+        × IsInt (column row 2) };
 
     fn read(_alloc: Global, row: &Row) -> Result<SizeRow, StoreFault> {
         Ok(SizeRow {
@@ -98,7 +109,10 @@ impl InRow for SizeRow {
 
 /// A table's number and name. Its columns come later.
 impl InRow for TabRow {
-    ghost use Rattle.std.specs.Prelude.{ℤ, ℕ, List};
+    ghost use Rattle.std.specs.Prelude.{◌≡◌, ◌<◌, ℤ, ℕ, List, length, IsUtf8};
+    ghost use Rattle.sqlite.specs.Order.{column};
+    ghost use Rattle.sqlite.specs.Values.{IsInt};
+    ghost use Rattle.sqlite.specs.declared.types.Value.TheVariants.{Text};
     ghost use Rattle.ft_store.specs.Found.{name_of, found_table};
 
     ghost Shown = { ℤ × List ℕ };
@@ -106,6 +120,9 @@ impl InRow for TabRow {
     ghost shown = { λ _. name_of };
 
     ghost found = { λ _. found_table };
+
+    ghost is_readable = { λ row. (1 < length row) × IsInt (column row 0)
+        × ((t : List ℕ) × (column row 1 ≡ Text t) × IsUtf8 t) };
 
     fn read(alloc: Global, row: &Row) -> Result<TabRow, StoreFault> {
         Ok(TabRow {
@@ -119,7 +136,10 @@ impl InRow for TabRow {
 
 /// A column's number and name.
 impl InRow for (i64, String) {
-    ghost use Rattle.std.specs.Prelude.{ℕ, List};
+    ghost use Rattle.std.specs.Prelude.{◌≡◌, ◌<◌, ℕ, List, length};
+    ghost use Rattle.sqlite.specs.Order.{column};
+    ghost use Rattle.sqlite.specs.Values.{IsInt};
+    ghost use Rattle.sqlite.specs.declared.types.Value.TheVariants.{Text};
     ghost use Rattle.ft_rows.specs.Shown.{shown_column};
     ghost use Rattle.ft_store.specs.Found.{found_column};
     ghost use Rattle.ft_rows.specs.Store.{ColumnKey};
@@ -129,6 +149,9 @@ impl InRow for (i64, String) {
     ghost shown = { shown_column };
 
     ghost found = { found_column };
+
+    ghost is_readable = { λ row. (1 < length row) × IsInt (column row 0)
+        × ((t : List ℕ) × (column row 1 ≡ Text t)) };
 
     fn read(alloc: Global, row: &Row) -> Result<(i64, String), StoreFault> {
         let ValueRef::Text(stored) = row.get_ref(1)? else {
@@ -143,12 +166,16 @@ impl InRow for i64 {
     ghost use Rattle.sqlite.specs.Order.{column};
     ghost use Rattle.sqlite.specs.declared.types.Value.{Value as SqlValue};
     ghost use Rattle.sqlite.specs.declared.types.Value.TheVariants.{Int};
+    ghost use Rattle.std.specs.Prelude.{◌<◌, length};
+    ghost use Rattle.sqlite.specs.Values.{IsInt};
 
     ghost Shown = { SqlValue };
 
     ghost shown = { λ _ number. Int number };
 
     ghost found = { λ _ row. column row 0 };
+
+    ghost is_readable = { λ row. (0 < length row) × IsInt (column row 0) };
 
     fn read(_alloc: Global, row: &Row) -> Result<i64, StoreFault> {
         Ok(row.get(0)?)
@@ -157,7 +184,9 @@ impl InRow for i64 {
 
 /// A noted name.
 impl InRow for String {
-    ghost use Rattle.std.specs.Prelude.{ℕ, List};
+    ghost use Rattle.std.specs.Prelude.{◌≡◌, ◌<◌, ℕ, List, length, IsUtf8};
+    ghost use Rattle.sqlite.specs.Order.{column};
+    ghost use Rattle.sqlite.specs.declared.types.Value.TheVariants.{Text};
     ghost use Rattle.ft_rows.specs.Shown.{shown_note};
     ghost use Rattle.ft_store.specs.Found.{found_note};
 
@@ -166,6 +195,9 @@ impl InRow for String {
     ghost shown = { λ _. shown_note };
 
     ghost found = { λ _. found_note };
+
+    ghost is_readable = { λ row. (0 < length row)
+        × ((t : List ℕ) × (column row 0 ≡ Text t) × IsUtf8 t) };
 
     fn read(_alloc: Global, row: &Row) -> Result<String, StoreFault> {
         Ok(row.get(0)?)

@@ -1,7 +1,7 @@
 //! The statements that change rows, each with what it makes of the store's value.
 ghost use Rattle.std.specs.Prelude.{◌≡◌, List, [], length, not, ◌&&◌, if◌then◌else◌, unwrap_or, None};
 ghost use Rattle.std.specs.List.{flat_map};
-ghost use Rattle.std.specs.Ordering.{int_cmp, int_eq, eq_by_cmp};
+ghost use Rattle.std.specs.Ordering.{int_eq, eq_by_cmp};
 ghost use Rattle.std.specs.FinMap.Entries.{put, where_key, find};
 ghost use Rattle.sqlite.specs.Values.{bound};
 ghost use Rattle.sqlite_value.specs.Value.{owned};
@@ -10,8 +10,9 @@ ghost use Rattle.sqlite.specs.declared.types.Value.TheVariants.{Int};
 ghost use Rattle.ft_rows.specs.Packed.{spots_in};
 ghost use Rattle.ft_rows.specs.Store.{cell_key_cmp, list_key_cmp, column_key_cmp, name_cmp};
 ghost use Rattle.ft_values.specs.Cells.{shown_value};
+ghost use Rattle.ft_store.specs.Blame.{RefusesRun, BlamesOutside};
 ghost use Rattle.ft_store.specs.Rows.{cell_in, num_of, txt_of};
-ghost use Rattle.ft_store.specs.Inside.{DoneInside, StepsInside, RunsOnOk, RunsOrKeeps};
+ghost use Rattle.ft_store.specs.Inside.{DoneInside, StepsInside, RunsOnOk, RunsOrKeeps, without_name, without_columns, without_skips, without_contents, without_lists, without_sizes};
 ghost use Rattle.ft_store.specs.Groups.{Entry, entry_values, with_entries, GoesOnOk};
 
 use crate::fault::StoreFault;
@@ -25,8 +26,10 @@ pub(crate) fn run<S: Alter>(
     sql: &str,
     params: &[ValueRef<'_>],
 ) -> Result<(), StoreFault>
-    ensures { DoneInside S.Store tx.old.conn tx.new.conn result
+    ensures done { DoneInside S.Store tx.old.conn tx.new.conn result
         (RunsOnOk S.Store tx.old.conn.now tx.new.conn.now result sql.now (bound params.now)) }
+    ensures refused { RefusesRun S.Store tx.old.conn.now tx.new.conn.now result sql.now
+        (bound params.now) }
 {
     let _count = tx.execute(sql, params)?;
     Ok(())
@@ -84,17 +87,78 @@ fn text_of(value: &Value) -> ValueRef<'_>
     }
 }
 
+/// Takes the name of a table out.
+pub(crate) fn drop_name<S: Alter>(tx: &mut Transaction<'_, S>, tab: i64) -> Result<(), StoreFault>
+    ensures done { StepsInside S.Store tx.old.conn tx.new.conn result
+        (λ v. without_name tab v) }
+    ensures refused { BlamesOutside S.Store tx.old.conn.now tx.new.conn.now result }
+{
+    run(tx, "DELETE FROM tab WHERE id = ?1", &[tab.to_sql()])
+}
+
+/// Takes the names of all columns of a table out.
+pub(crate) fn drop_columns<S: Alter>(
+    tx: &mut Transaction<'_, S>,
+    tab: i64,
+) -> Result<(), StoreFault>
+    ensures done { StepsInside S.Store tx.old.conn tx.new.conn result
+        (λ v. without_columns tab v) }
+    ensures refused { BlamesOutside S.Store tx.old.conn.now tx.new.conn.now result }
+{
+    run(tx, "DELETE FROM col WHERE tab = ?1", &[tab.to_sql()])
+}
+
+/// Takes out which columns of a table aren't indexed.
+pub(crate) fn drop_skips<S: Alter>(tx: &mut Transaction<'_, S>, tab: i64) -> Result<(), StoreFault>
+    ensures done { StepsInside S.Store tx.old.conn tx.new.conn result
+        (λ v. without_skips tab v) }
+    ensures refused { BlamesOutside S.Store tx.old.conn.now tx.new.conn.now result }
+{
+    run(tx, "DELETE FROM skip WHERE tab = ?1", &[tab.to_sql()])
+}
+
+/// Takes all cells of a table out.
+pub(crate) fn drop_contents<S: Alter>(
+    tx: &mut Transaction<'_, S>,
+    tab: i64,
+) -> Result<(), StoreFault>
+    ensures done { StepsInside S.Store tx.old.conn tx.new.conn result
+        (λ v. without_contents tab v) }
+    ensures refused { BlamesOutside S.Store tx.old.conn.now tx.new.conn.now result }
+{
+    run(tx, "DELETE FROM cell WHERE tab = ?1", &[tab.to_sql()])
+}
+
+/// Takes all lists of a table out.
+pub(crate) fn drop_lists<S: Alter>(tx: &mut Transaction<'_, S>, tab: i64) -> Result<(), StoreFault>
+    ensures done { StepsInside S.Store tx.old.conn tx.new.conn result
+        (λ v. without_lists tab v) }
+    ensures refused { BlamesOutside S.Store tx.old.conn.now tx.new.conn.now result }
+{
+    run(tx, "DELETE FROM posting WHERE tab = ?1", &[tab.to_sql()])
+}
+
+/// Takes all sizes of a table out.
+pub(crate) fn drop_sizes<S: Alter>(tx: &mut Transaction<'_, S>, tab: i64) -> Result<(), StoreFault>
+    ensures done { StepsInside S.Store tx.old.conn tx.new.conn result
+        (λ v. without_sizes tab v) }
+    ensures refused { BlamesOutside S.Store tx.old.conn.now tx.new.conn.now result }
+{
+    run(tx, "DELETE FROM sizes WHERE tab = ?1", &[tab.to_sql()])
+}
+
 /// Takes the cells of a document out.
 pub(crate) fn drop_cells<S: Alter>(
     tx: &mut Transaction<'_, S>,
     tab: i64,
     docid: i64,
 ) -> Result<(), StoreFault>
-    ensures { StepsInside S.Store tx.old.conn tx.new.conn result
+    ensures done { StepsInside S.Store tx.old.conn tx.new.conn result
         (λ v. record v {
           cells = where_key cell_key_cmp
               (λ k. not (int_eq tab k.0 && int_eq docid k.1)) v.cells;
         }) }
+    ensures refused { BlamesOutside S.Store tx.old.conn.now tx.new.conn.now result }
 {
     run(
         tx,
@@ -110,11 +174,12 @@ pub(crate) fn drop_list<S: Alter>(
     term: &str,
     docid: i64,
 ) -> Result<(), StoreFault>
-    ensures { StepsInside S.Store tx.old.conn tx.new.conn result
+    ensures done { StepsInside S.Store tx.old.conn tx.new.conn result
         (λ v. record v {
           lists = where_key list_key_cmp
               (λ k. not (eq_by_cmp list_key_cmp (tab, term.now, docid) k)) v.lists;
         }) }
+    ensures refused { BlamesOutside S.Store tx.old.conn.now tx.new.conn.now result }
 {
     run(
         tx,
@@ -130,11 +195,12 @@ pub(crate) fn drop_size<S: Alter>(
     docid: i64,
     column: i64,
 ) -> Result<(), StoreFault>
-    ensures { StepsInside S.Store tx.old.conn tx.new.conn result
+    ensures done { StepsInside S.Store tx.old.conn tx.new.conn result
         (λ v. record v {
           sizes = where_key cell_key_cmp
               (λ k. not (eq_by_cmp cell_key_cmp (tab, docid, column) k)) v.sizes;
         }) }
+    ensures refused { BlamesOutside S.Store tx.old.conn.now tx.new.conn.now result }
 {
     run(
         tx,

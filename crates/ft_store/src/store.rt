@@ -12,6 +12,7 @@ ghost use Rattle.ft_rows.specs.Store.{cell_key_cmp, list_key_cmp, name_cmp, noth
 ghost use Rattle.ft_rows.specs.Changes.{shown_change, CanApply};
 ghost use Rattle.ft_rows.specs.Shown.{shown_cell, shown_size, shown_note, shown_list, shown_entry, lists_of_term, lists_of_prefix, spot_count, tables_listed, shown_table, last_docid_of, entries_of, AreWhole, AreRead, SomeDamaged, AreNamedApart};
 ghost use Rattle.ft_rows.specs.Terms.{lists_by_terms};
+ghost use Rattle.ft_store.specs.Blame.{Blames, AreTableTexts, AreNotedTexts, TakesOut};
 ghost use Rattle.ft_store.specs.Docids.{docids_in, cut_to};
 ghost use Rattle.ft_store.specs.Expected.{place_count};
 ghost use Rattle.ft_store.specs.Calls.{AreTold, IsPlainFault, IsReadFault, IsChangeFault, IsStored, Keeps, MakesAllOrNone};
@@ -128,6 +129,32 @@ impl<B: Start> Store<FileStore<FileFrom<B>>> {
     }
 }
 
+impl<S: Alter> Store<S> {
+    /// As `adopt`, of a database whose rowids are known to be apart, as those of every database are
+    /// that was opened over files: they aren't looked at.
+    pub fn adopt_opened(alloc: Global, conn: Connection<S>) -> Result<Store<S>, AdoptFault<S>>
+        requires settled { conn.in_transaction ≡ false }
+        requires known { AreAsKnown Apart (state S.Store conn) }
+        ensures taken { IfOk result (λ store. IsTaken S.Store conn store.held
+            × LeavesMade S.Store conn store.held × (store.rows_read ≡ 0)) }
+        ensures refused { IfErr result (λ fault. IsNotTaken S.Store conn fault.connection fault.cause
+            × LeavesMade S.Store conn fault.connection) }
+    {
+        let mut conn = conn;
+        match take(&mut conn, alloc, Rowids::Apart) {
+            Ok(()) => Ok(Store {
+                conn,
+                alloc,
+                rows_read: UNREAD,
+            }),
+            Err(cause) => Err(AdoptFault {
+                connection: conn,
+                cause,
+            }),
+        }
+    }
+}
+
 impl<S: Alter + Drop> Store<S> {
     // The database, whose rowids are apart, as a store, or why it is not taken: then what it stands
     // on is let go here alone.
@@ -216,6 +243,8 @@ impl<S: Alter> Store<S> {
             → IfOk result (λ found. map shown_table found.items
             ≡ tables_listed (value_in S.Store self.old)) }
         ensures read { ReadsRows S.Store self.old self.new result vec_len IsPlainFault }
+        ensures refused { AreTableTexts (value_in S.Store self.old)
+            → Blames (shows S.Store self.old) (shows S.Store self.new) result }
     {
         let found = tables::tables(&mut self.conn, self.alloc)?;
         self.rows_read = self.rows_read.saturating_add(found.len() as u64);
@@ -228,6 +257,7 @@ impl<S: Alter> Store<S> {
             → IfOk result (λ found. map (shown_cell tab) found.items
             ≡ where_key cell_key_cmp (λ k. int_eq tab k.0) (value_in S.Store self.old).cells) }
         ensures read { ReadsRows S.Store self.old self.new result vec_len IsPlainFault }
+        ensures refused { Blames (shows S.Store self.old) (shows S.Store self.new) result }
     {
         let found = select(&mut self.conn, self.alloc, CELLS, params![tab])?;
         self.rows_read = self.rows_read.saturating_add(found.len() as u64);
@@ -241,6 +271,7 @@ impl<S: Alter> Store<S> {
             ≡ where_key cell_key_cmp (λ k. int_eq tab k.0 && int_eq docid k.1)
             (value_in S.Store self.old).cells) }
         ensures read { ReadsRows S.Store self.old self.new result vec_len IsPlainFault }
+        ensures refused { Blames (shows S.Store self.old) (shows S.Store self.new) result }
     {
         let found = select(&mut self.conn, self.alloc, DOCUMENT, params![tab, docid])?;
         self.rows_read = self.rows_read.saturating_add(found.len() as u64);
@@ -259,6 +290,7 @@ impl<S: Alter> Store<S> {
             → IfOk result (λ found. found.items
             ≡ cut_to most offset (docids_in tab (value_in S.Store self.old).cells)) }
         ensures read { ReadsRows S.Store self.old self.new result vec_len IsPlainFault }
+        ensures refused { Blames (shows S.Store self.old) (shows S.Store self.new) result }
     {
         let limit = row_limit(most);
         let found = select(
@@ -279,6 +311,7 @@ impl<S: Alter> Store<S> {
             (value_in S.Store self.old).cells) 0)) }
         ensures read { ReadsRows S.Store self.old self.new result
             (λ found. if found then 1 else 0) IsPlainFault }
+        ensures refused { Blames (shows S.Store self.old) (shows S.Store self.new) result }
     {
         let found: Vec<i64> = select(&mut self.conn, self.alloc, ONE_CELL, params![tab, docid])?;
         let is_there = !found.is_empty();
@@ -292,6 +325,7 @@ impl<S: Alter> Store<S> {
             → IfOk result (λ last. last ≡ last_docid_of tab (value_in S.Store self.old).cells) }
         ensures read { ReadsRows S.Store self.old self.new result
             (λ last. length (option_to_list last)) IsPlainFault }
+        ensures refused { Blames (shows S.Store self.old) (shows S.Store self.new) result }
     {
         let found: Vec<i64> = select(&mut self.conn, self.alloc, LAST_DOCID, params![tab])?;
         let last = found.first().copied();
@@ -311,6 +345,7 @@ impl<S: Alter> Store<S> {
             → SomeDamaged (where_key list_key_cmp
             (λ k. int_eq tab k.0 && is_eq (name_cmp term.now k.1))
             (value_in S.Store self.old).lists) }
+        ensures refused { Blames (shows S.Store self.old) (shows S.Store self.new) result }
     {
         let lists = lists::term_lists(&mut self.conn, self.alloc, tab, term)?;
         let found = term_entries(self.alloc, term, lists.as_slice())?;
@@ -328,6 +363,7 @@ impl<S: Alter> Store<S> {
             (λ found. spot_count (map shown_list found.items)) IsReadFault }
         ensures damaged { HasCleanDisk (shows S.Store self.new) → result ≡ Err StoreFault.Damaged
             → SomeDamaged (lists_of_term tab term.now (value_in S.Store self.old)) }
+        ensures refused { Blames (shows S.Store self.old) (shows S.Store self.new) result }
     {
         let found = lists::term_lists(&mut self.conn, self.alloc, tab, term)?;
         self.rows_read = self.rows_read.saturating_add(count_spots(found.as_slice()));
@@ -347,6 +383,7 @@ impl<S: Alter> Store<S> {
             → ¬ AreTold (where_key list_key_cmp
             (λ k. int_eq tab k.0 && starts_with nat_eq k.1 begin.now)
             (value_in S.Store self.old).lists) }
+        ensures refused { Blames (shows S.Store self.old) (shows S.Store self.new) result }
     {
         let found = lists::prefix(&mut self.conn, self.alloc, tab, begin)?;
         self.rows_read = self.rows_read.saturating_add(found.len() as u64);
@@ -363,6 +400,7 @@ impl<S: Alter> Store<S> {
             (λ found. spot_count (map shown_list found.items)) IsReadFault }
         ensures damaged { HasCleanDisk (shows S.Store self.new) → result ≡ Err StoreFault.Damaged
             → SomeDamaged (lists_of_prefix tab begin.now (value_in S.Store self.old)) }
+        ensures refused { Blames (shows S.Store self.old) (shows S.Store self.new) result }
     {
         let found = lists::prefix_lists(&mut self.conn, self.alloc, tab, begin)?;
         self.rows_read = self.rows_read.saturating_add(count_spots(found.as_slice()));
@@ -382,6 +420,7 @@ impl<S: Alter> Store<S> {
             (value_in S.Store self.old).lists) }
         ensures stays { HasCleanDisk (shows S.Store self.new) → result ≡ Err StoreFault.Damaged
             → IsTrue (shows S.Store self.new).is_open }
+        ensures refused { Blames (shows S.Store self.old) (shows S.Store self.new) result }
     {
         let found = lists::prefix(&mut self.conn, self.alloc, tab, "")?;
         self.rows_read = self.rows_read.saturating_add(found.len() as u64);
@@ -396,6 +435,7 @@ impl<S: Alter> Store<S> {
             (value_in S.Store self.old).lists ≡ lists_by_terms tab terms.items)) }
         ensures read { ReadsRows S.Store self.old self.new result
             (λ b. if b then place_count terms.items else 0) IsPlainFault }
+        ensures refused { Blames (shows S.Store self.old) (shows S.Store self.new) result }
     {
         let places = count_places(terms.as_slice());
         let same = expected::has_lists(&mut self.conn, tab, terms)?;
@@ -411,6 +451,7 @@ impl<S: Alter> Store<S> {
             → IfOk result (λ found. map (shown_size tab) found.items
             ≡ where_key cell_key_cmp (λ k. int_eq tab k.0) (value_in S.Store self.old).sizes) }
         ensures read { ReadsRows S.Store self.old self.new result vec_len IsPlainFault }
+        ensures refused { Blames (shows S.Store self.old) (shows S.Store self.new) result }
     {
         let found = select(&mut self.conn, self.alloc, SIZES, params![tab])?;
         self.rows_read = self.rows_read.saturating_add(found.len() as u64);
@@ -423,6 +464,8 @@ impl<S: Alter> Store<S> {
             → IfOk result (λ found. map shown_note found.items
             ≡ (value_in S.Store self.old).noted) }
         ensures read { ReadsRows S.Store self.old self.new result vec_len IsPlainFault }
+        ensures refused { AreNotedTexts (value_in S.Store self.old)
+            → Blames (shows S.Store self.old) (shows S.Store self.new) result }
     {
         let found = select(&mut self.conn, self.alloc, NOTED, &[])?;
         self.rows_read = self.rows_read.saturating_add(found.len() as u64);
@@ -436,6 +479,8 @@ impl<S: Alter> Store<S> {
         ensures made { MakesAllOrNone (shows S.Store self.old) (shows S.Store self.new) result
             (map shown_change changes.now) }
         ensures unread { self.new.rows_read ≡ self.old.rows_read }
+        ensures refused { All TakesOut changes.now
+            → Blames (shows S.Store self.old) (shows S.Store self.new) result }
 
         // After Ok, and while the store is open, a crash leaves that store alone.
         ensures alone { HasCleanDisk (shows S.Store self.new)

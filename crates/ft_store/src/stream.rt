@@ -4,6 +4,7 @@ ghost use Rattle.sqlite.specs.Order as order;
 ghost use Rattle.sqlite.specs.Values.{bound};
 ghost use Rattle.sqlite.specs.Held.{state};
 ghost use Rattle.ft_rows.specs.declared.terms.TermLists.{TermLists};
+ghost use Rattle.ft_store.specs.Blame.{RefusesRead};
 ghost use Rattle.ft_store.specs.Calls.{IsPlainFault};
 ghost use Rattle.ft_store.specs.Settled.{IsSettled, IsPlainIn, Finds, ReadsFor, GivesRows};
 
@@ -20,12 +21,16 @@ pub(crate) trait Gathered: Sized {
     /// The lists that the rows are compared with, which stay. Mostly there are none.
     ghost expects: { Self → List TermLists } = { λ _. [] };
 
+    /// The rows that are taken, where it is said which.
+    ghost takes: { order.Row → Type 0 } = { λ _. ⊥ };
+
     /// Adds what a row gives, where those before it are whole, and says whether all still are.
     fn add(&mut self, whole: bool, row: &Row) -> Result<bool, StoreFault>
         ensures added { IfOk result (λ still. (rows : List order.Row)
             → is_made_of self.old whole rows → is_made_of self.new still (rows ++ row.now ∷ [])) }
         ensures expects { IfOk result (λ _. expects self.new ≡ expects self.old) }
-        ensures fault { IfErr result IsPlainFault };
+        ensures fault { IfErr result IsPlainFault }
+        ensures refused { result ≡ Err StoreFault.Refused → takes row.now → ⊥ };
 }
 
 /// Gathers the rows that a query gives, and says whether all are whole. It changes nothing.
@@ -42,6 +47,8 @@ pub(crate) fn gather<S: Alter, G: Gathered>(
         (G.Gathered.is_made_of into.new whole)) }
     ensures expects { IfOk result (λ _.
         G.Gathered.expects into.new ≡ G.Gathered.expects into.old) }
+    ensures refused { RefusesRead S.Store conn.old conn.new result sql.now (bound params.now)
+        G.Gathered.takes }
 {
     // For the proof: an open database keeps the rules of its schema.
     let _schema = conn.schema();
@@ -55,7 +62,8 @@ pub(crate) fn gather<S: Alter, G: Gathered>(
             None => return Ok(whole),
         }
     }
-    Err(StoreFault::Refused)
+    // So many rows can't be held.
+    Err(StoreFault::Memory)
 }
 
 /// What stands in a row of a query.
@@ -67,8 +75,12 @@ pub(crate) trait InRow: Drop {
 
     ghost found: { ℤ → order.Row → Shown };
 
+    /// The rows that are read, where it is said which.
+    ghost is_readable: { order.Row → Type 0 } = { λ _. ⊥ };
+
     fn read(alloc: Global, row: &Row) -> Result<Self, StoreFault>
-        ensures { Finds result (λ x. (tab : ℤ) → shown tab x ≡ found tab row.now) };
+        ensures found { Finds result (λ x. (tab : ℤ) → shown tab x ≡ found tab row.now) }
+        ensures refused { result ≡ Err StoreFault.Refused → is_readable row.now → ⊥ };
 }
 
 /// What stands in rows, as they come.
@@ -84,6 +96,8 @@ impl<T: InRow> Gathered for InRows<T> {
     ghost is_made_of = { λ made whole rows. IsTrue whole
         × ((tab : ℤ) → map (T.InRow.shown tab) made.items.items ≡ map (T.InRow.found tab) rows) };
 
+    ghost takes = { T.InRow.is_readable };
+
     fn add(&mut self, whole: bool, row: &Row) -> Result<bool, StoreFault> {
         self.items.push(T::read(self.alloc, row)?)?;
         Ok(whole)
@@ -98,9 +112,11 @@ pub(crate) fn select<S: Alter, T: InRow>(
     params: &[ValueRef<'_>],
 ) -> Result<Vec<T>, StoreFault>
     requires { IsSettled (IsPlainIn sql.now) (state S.Store conn.old) }
-    ensures { ReadsFor S.Store conn.old conn.new result
+    ensures given { ReadsFor S.Store conn.old conn.new result
         (λ found. GivesRows S.Store conn.old conn.new sql.now (bound params.now) (λ rows.
         (tab : ℤ) → map (T.InRow.shown tab) found.items ≡ map (T.InRow.found tab) rows)) }
+    ensures refused { RefusesRead S.Store conn.old conn.new result sql.now (bound params.now)
+        T.InRow.is_readable }
 {
     let mut found = InRows {
         alloc,

@@ -3,6 +3,7 @@ ghost use Rattle.std.specs.Prelude.{◌≡◌, map, string_bytes};
 ghost use Rattle.sqlite.specs.Held.{state};
 ghost use Rattle.ft_store.specs.Rows.{value_of};
 ghost use Rattle.ft_rows.specs.Shown.{shown_table, table_listed, tables_listed};
+ghost use Rattle.ft_store.specs.Blame.{Blames, AreTableTexts};
 ghost use Rattle.ft_store.specs.Calls.{IsAtRest};
 ghost use Rattle.ft_store.specs.Settled.{ReadsFor};
 
@@ -21,9 +22,10 @@ fn table<S: Alter>(
     name: String,
 ) -> Result<TabRow, StoreFault>
     requires { IsAtRest (state S.Store conn.old) }
-    ensures { ReadsFor S.Store conn.old conn.new result
+    ensures given { ReadsFor S.Store conn.old conn.new result
         (λ found. shown_table found
         ≡ table_listed (value_of (state S.Store conn.old).now.trees) (id, string_bytes name)) }
+    ensures refused { Blames (state S.Store conn.old) (state S.Store conn.new) result }
 {
     let columns = select(conn, alloc, COLUMNS, params![id])?;
     let skipped = select(conn, alloc, SKIPS, params![id])?;
@@ -41,9 +43,11 @@ pub(crate) fn tables<S: Alter>(
     alloc: Global,
 ) -> Result<Vec<TabRow>, StoreFault>
     requires { IsAtRest (state S.Store conn.old) }
-    ensures { ReadsFor S.Store conn.old conn.new result
+    ensures given { ReadsFor S.Store conn.old conn.new result
         (λ found. map shown_table found.items
         ≡ tables_listed (value_of (state S.Store conn.old).now.trees)) }
+    ensures refused { AreTableTexts (value_of (state S.Store conn.old).now.trees)
+        → Blames (state S.Store conn.old) (state S.Store conn.new) result }
 {
     let names: Vec<TabRow> = select(conn, alloc, NAMES, &[])?;
     let mut found = Vec::new(alloc);

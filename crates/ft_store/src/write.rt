@@ -1,5 +1,5 @@
 //! Row changes, all in one transaction.
-ghost use Rattle.std.specs.Prelude.{◌≡◌, false, ◌<◌, ◌≤◌, [], ◌++◌, length, map, if◌then◌else◌, unwrap_or, string_bytes, All, IsTrue, IfOk, IfSome, OnOk};
+ghost use Rattle.std.specs.Prelude.{◌≡◌, Err, false, ◌<◌, ◌≤◌, [], ◌++◌, length, map, if◌then◌else◌, unwrap_or, string_bytes, All, IsTrue, IfOk, IfSome, OnOk};
 ghost use Rattle.std.specs.Vec.{vec_items};
 ghost use Rattle.std.specs.List.{enumerate_from, flat_map};
 ghost use Rattle.std.specs.FinMap.Entries.{put};
@@ -11,15 +11,18 @@ ghost use Rattle.ft_rows.specs.Store.{cell_key_cmp, list_key_cmp, column_key_cmp
 ghost use Rattle.ft_values.specs.Cells.{shown_value};
 ghost use Rattle.ft_rows.specs.Changes.{shown_change, CanApply};
 ghost use Rattle.ft_store.specs.Calls.{StepsOnOk, ChangesAllOrNone, IsAtRest};
-ghost use Rattle.ft_store.specs.Inside.{StepsInside, StepsInsideIfOpen, DoneInside, ChangesInside, AppliesInside};
+ghost use Rattle.ft_store.specs.Inside.{StepsInside, StepsInsideIfOpen, DoneInside, ChangesInside, AppliesInside, without_columns, without_skips, without_contents};
 ghost use Rattle.ft_store.specs.Groups.{entry_values, entry_put, PutsList, ArePacked, GoesOnOk};
+ghost use Rattle.sqlite.specs.State.{HasCleanDisk};
+ghost use Rattle.ft_store.specs.Blame.{Blames, TakesOut, BlamesOutside};
 ghost use Rattle.ft_store.specs.Parts.{changes_in, CanMake};
 
 use crate::fault::StoreFault;
 use crate::parts::Parts;
 use crate::statements::{
-    add_lists, beside, drop_cells, drop_list, drop_size, put_cell, put_column, put_list, put_note,
-    put_size, put_skip, run,
+    add_lists, beside, drop_cells, drop_columns, drop_contents, drop_list, drop_lists, drop_name,
+    drop_size, drop_sizes, drop_skips, put_cell, put_column, put_list, put_note, put_size,
+    put_skip, run,
 };
 use ft_rows::{can_pack, pack};
 use ft_values::{RowChange, Spot, Value};
@@ -49,23 +52,43 @@ fn put_entries<S: Alter>(
 
 /// Takes all index rows of a table out.
 fn clear_index<S: Alter>(tx: &mut Transaction<'_, S>, tab: i64) -> Result<(), StoreFault>
-    ensures { StepsInside S.Store tx.old.conn tx.new.conn result
+    ensures done { StepsInside S.Store tx.old.conn tx.new.conn result
         (λ v. without_index tab v) }
+    ensures refused { BlamesOutside S.Store tx.old.conn.now tx.new.conn.now result }
 {
-    run(tx, "DELETE FROM posting WHERE tab = ?1", &[tab.to_sql()])?;
-    run(tx, "DELETE FROM sizes WHERE tab = ?1", &[tab.to_sql()])
+    drop_lists(tx, tab)?;
+    drop_sizes(tx, tab)
+}
+
+/// Takes the documents of a table out, with its index rows.
+fn clear_documents<S: Alter>(tx: &mut Transaction<'_, S>, tab: i64) -> Result<(), StoreFault>
+    ensures done { StepsInside S.Store tx.old.conn tx.new.conn result
+        (λ v. without_contents tab (without_index tab v)) }
+    ensures refused { BlamesOutside S.Store tx.old.conn.now tx.new.conn.now result }
+{
+    clear_index(tx, tab)?;
+    drop_contents(tx, tab)
+}
+
+/// Takes the columns of a table out.
+fn clear_columns<S: Alter>(tx: &mut Transaction<'_, S>, tab: i64) -> Result<(), StoreFault>
+    ensures done { StepsInside S.Store tx.old.conn tx.new.conn result
+        (λ v. without_columns tab (without_skips tab v)) }
+    ensures refused { BlamesOutside S.Store tx.old.conn.now tx.new.conn.now result }
+{
+    drop_skips(tx, tab)?;
+    drop_columns(tx, tab)
 }
 
 /// Takes all rows of a table out.
 fn clear_rows<S: Alter>(tx: &mut Transaction<'_, S>, tab: i64) -> Result<(), StoreFault>
-    ensures { StepsInside S.Store tx.old.conn tx.new.conn result
+    ensures done { StepsInside S.Store tx.old.conn tx.new.conn result
         (λ v. without_rows tab v) }
+    ensures refused { BlamesOutside S.Store tx.old.conn.now tx.new.conn.now result }
 {
-    clear_index(tx, tab)?;
-    run(tx, "DELETE FROM cell WHERE tab = ?1", &[tab.to_sql()])?;
-    run(tx, "DELETE FROM skip WHERE tab = ?1", &[tab.to_sql()])?;
-    run(tx, "DELETE FROM col WHERE tab = ?1", &[tab.to_sql()])?;
-    run(tx, "DELETE FROM tab WHERE id = ?1", &[tab.to_sql()])
+    clear_documents(tx, tab)?;
+    clear_columns(tx, tab)?;
+    drop_name(tx, tab)
 }
 
 /// Puts the names of a table's columns, which are numbered from 0.
@@ -128,9 +151,11 @@ fn apply<S: Alter>(
     alloc: Global,
     change: &RowChange,
 ) -> Result<(), StoreFault>
-    ensures { ChangesInside S.Store tx.old.conn tx.new.conn result (CanApply change.now)
+    ensures done { ChangesInside S.Store tx.old.conn tx.new.conn result (CanApply change.now)
         (StepsOnOk S.Store tx.old.conn.now tx.new.conn.now result
         (λ v. applied (shown_change change.now) v)) }
+    ensures refused { TakesOut change.now
+        → BlamesOutside S.Store tx.old.conn.now tx.new.conn.now result }
 {
     match change {
         RowChange::AddTable(tab, name, columns, skipped) => add_table(
@@ -160,7 +185,9 @@ fn apply_each<S: Alter>(
     alloc: Global,
     changes: &[RowChange],
 ) -> Result<(), StoreFault>
-    ensures { AppliesInside S.Store tx.old.conn tx.new.conn result changes.now }
+    ensures done { AppliesInside S.Store tx.old.conn tx.new.conn result changes.now }
+    ensures refused { All TakesOut changes.now
+        → BlamesOutside S.Store tx.old.conn.now tx.new.conn.now result }
 {
     for change in changes {
         apply(tx, alloc, change)?;
@@ -256,6 +283,8 @@ fn add_group<S: Alter>(
     ensures goes { DoneInside S.Store tx.old.conn tx.new.conn result
         (GoesOnOk S.Store tx.old.conn.now tx.new.conn.now result
         (λ added v. if added then all_applied (map shown_change changes.now) v else v)) }
+    ensures refused { All TakesOut changes.now
+        → BlamesOutside S.Store tx.old.conn.now tx.new.conn.now result }
 {
     if changes.len() != GROUP {
         return Ok(false);
@@ -273,7 +302,9 @@ fn apply_group<S: Alter>(
     alloc: Global,
     changes: &[RowChange],
 ) -> Result<(), StoreFault>
-    ensures { AppliesInside S.Store tx.old.conn tx.new.conn result changes.now }
+    ensures done { AppliesInside S.Store tx.old.conn tx.new.conn result changes.now }
+    ensures refused { All TakesOut changes.now
+        → BlamesOutside S.Store tx.old.conn.now tx.new.conn.now result }
 {
     let added = add_group(tx, alloc, changes)?;
     if added {
@@ -288,7 +319,9 @@ fn apply_all<S: Alter>(
     alloc: Global,
     changes: &[RowChange],
 ) -> Result<(), StoreFault>
-    ensures { AppliesInside S.Store tx.old.conn tx.new.conn result changes.now }
+    ensures done { AppliesInside S.Store tx.old.conn tx.new.conn result changes.now }
+    ensures refused { All TakesOut changes.now
+        → BlamesOutside S.Store tx.old.conn.now tx.new.conn.now result }
 {
     let mut at = 0;
     while at < changes.len() {
@@ -306,8 +339,10 @@ pub(crate) fn change<S: Alter>(
     changes: &[RowChange],
 ) -> Result<(), StoreFault>
     requires { IsAtRest (state S.Store conn.old) }
-    ensures { ChangesAllOrNone (state S.Store conn.old) (state S.Store conn.new) result
+    ensures done { ChangesAllOrNone (state S.Store conn.old) (state S.Store conn.new) result
         (All CanApply changes.now) (map shown_change changes.now) }
+    ensures refused { All TakesOut changes.now
+        → Blames (state S.Store conn.old) (state S.Store conn.new) result }
 {
     // For the proof: outside a transaction an open database is as the last commit left it.
     let _settled = conn.is_autocommit();

@@ -10,10 +10,11 @@ use Rattle.ft_rows.specs.Terms.{lists_by_terms}
 use Rattle.ft_store.specs.Kept.{shows, value_in}
 use Rattle.ft_store.specs.Rows.{value_of}
 use Rattle.ft_index.proofs.RowStateReads.{SizesRead, rows_same, lists_same, sizes_others}
+use Rattle.ft_index.proofs.RowStateReads.{blamed_after}
 use Rattle.ft_index.proofs.row_state.has_right_index.Goals as goal
 
-pub returns-in-Some : goal.returns-in-Some
-returns-in-Some g c = record {
+pub returns-in-Some-clause-asks : goal.returns-in-Some-clause-asks
+returns-in-Some-clause-asks g c = record {
   told = λ content clean have.
       let tab = c.args.tab in
       let middle : HasCleanDisk (shows g.S.Store c.sizes.new.self) = omega (arith, c.has_lists.ensures.read.survives.clean, clean) in
@@ -31,8 +32,8 @@ returns-in-Some g c = record {
   cause = search rules;
 }
 
-pub returns : goal.returns
-returns g c = record {
+pub returns-clause-asks : goal.returns-clause-asks
+returns-clause-asks g c = record {
   told = λ content clean have.
       let old = value_in g.S.Store c.args.store.now in
       let sizes = subst (SizesRead c.args.tab old) (sym c.as_slice.ensures.value) ((simp (to_z-of_z, c.ranges.tab) at c.in_ok-sizes.ensures.rows) clean) in
@@ -44,3 +45,6 @@ returns g c = record {
   live = search rules;
   cause = search rules;
 }
+
+pub returns-in-Some-clause-refused : goal.returns-in-Some-clause-refused
+returns-in-Some-clause-refused g c = λ clean is. blamed_after g.S.Store c.args.store.now c.sizes.new.self c.has_lists.new.self c.in_ok-sizes.ensures.read.survives c.has_lists.ensures.read.survives clean (c.has_lists.ensures.refused clean is)

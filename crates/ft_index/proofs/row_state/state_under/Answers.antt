@@ -14,14 +14,15 @@ use Rattle.ft_documents.specs.Tables.{table_rows, table_index}
 use Rattle.ft_index.proofs.HeldLemmas.{held_once}
 use Rattle.ft_index.proofs.OpenedTables.{found_listed}
 use Rattle.ft_index.proofs.RowStateReads.{looked, looks_then}
+use Rattle.ft_index.proofs.RowStateReads.{blamed_after}
 use Rattle.ft_index.proofs.row_state.state_under.Goals as goal
 
-pub returns-in-Some : goal.returns-in-Some
-returns-in-Some g c = record {
+pub returns-in-Some-clause-looks : goal.returns-in-Some-clause-looks
+returns-in-Some-clause-looks g c = record {
   told = λ named held clean is stands.
       let v = value_in g.S.Store c.args.store.now in
       let read = c.in_ok-tables.ensures.read in
-      let middle : HasCleanDisk (shows g.S.Store c.tables.new.self) = omega (arith, c.read_state.ensures.only.survives.clean, clean) in
+      let middle : HasCleanDisk (shows g.S.Store c.tables.new.self) = omega (arith, c.read_state.ensures.asks.only.survives.clean, clean) in
       let same = looked g.S.Store c.args.store.now c.tables.new.self (record { kept = read.kept; survives = read.survives }) read.live middle in
       let rows = c.in_ok-tables.field-0.items in
       let found : find (λ (t : TabRow). int_eq c.args.id t.id) rows ≡ Some c.in-Some.table =
@@ -31,13 +32,14 @@ returns-in-Some g c = record {
       let all = table_rows named.0 v in
       let index = table_index named.0 v in
       IfOk-weaker c.read_state.result _ _ (λ s so. so.is ∙ ap state_of (held_once named.1 all index so.held held (subst (λ w. Stands named.1 (table_rows named.0 w) (table_index named.0 w) so.held) same so.stands) stands))
-      (c.read_state.ensures.told named clean (subst (λ w. IsListed w named c.in-Some.table) (sym same) listed));
-  only = looks_then g.S.Store c.args.store.now c.tables.new.self (record { kept = c.in_ok-tables.ensures.read.kept; survives = c.in_ok-tables.ensures.read.survives }) c.in_ok-tables.ensures.read.live c.read_state.new.store c.read_state.ensures.only;
+      (c.read_state.ensures.asks.told named clean (subst (λ w. IsListed w named c.in-Some.table) (sym same) listed));
+  only = looks_then g.S.Store c.args.store.now c.tables.new.self (record { kept = c.in_ok-tables.ensures.read.kept; survives = c.in_ok-tables.ensures.read.survives }) c.in_ok-tables.ensures.read.live c.read_state.new.store c.read_state.ensures.asks.only;
   live = search rules;
+  cause = search rules;
 }
 
-pub returns : goal.returns
-returns g c = record {
+pub returns-clause-looks : goal.returns-clause-looks
+returns-clause-looks g c = record {
   told = λ named held clean is stands.
       let v = value_in g.S.Store c.args.store.now in
       let rows = c.in_ok-tables.field-0.items in
@@ -47,4 +49,8 @@ returns g c = record {
       absurd (subst (IsFound v named) none (found_listed v c.args.id named rows v.tables (c.in_ok-tables.ensures.rows clean) is));
   only = search rules;
   live = search rules;
+  cause = search rules;
 }
+
+pub returns-in-Some-clause-refused : goal.returns-in-Some-clause-refused
+returns-in-Some-clause-refused g c = λ texts clean is. blamed_after g.S.Store c.args.store.now c.tables.new.self c.read_state.new.store c.in_ok-tables.ensures.read.survives c.read_state.ensures.asks.only.survives clean (c.read_state.ensures.refused clean is)

@@ -11,10 +11,13 @@ use Rattle.ft_index.specs.Changed.{with_tables}
 use Rattle.ft_index.proofs.Acting.{executes_read}
 use Rattle.ft_index.proofs.CheckLemmas.{told_here, check_missing, check_right, check_wrong}
 use Rattle.ft_index.proofs.Executing.{executes_same}
+use Rattle.ft_store.specs.Calls.{fault_of_read}
+use Rattle.ft_store.specs.declared.fault.StoreFault.TheVariants as causes
+use Rattle.ft_index.proofs.Pinging.{is_refused}
 use Rattle.ft_index.proofs.special.check_table.Goals as goal
 
-pub returns-in_err-known : goal.returns-in_err-known
-returns-in_err-known g c = record {
+pub returns-in_err-known-clause-looks : goal.returns-in_err-known-clause-looks
+returns-in_err-known-clause-looks g c = record {
   told =
       let tables = map shown_info c.args.tables.now in
       let known = with_tables c.args.store.now tables in
@@ -28,34 +31,42 @@ returns-in_err-known g c = record {
   live = search rules;
 }
 
-pub returns-then-is_sound : goal.returns-then-is_sound
-returns-then-is_sound g c = record {
+pub returns-then-is_sound-clause-looks : goal.returns-then-is_sound-clause-looks
+returns-then-is_sound-clause-looks g c = record {
   told =
       let tables = map shown_info c.args.tables.now in
       let known = shown_info c.in_ok-known.known.now in
       let v = value_in g.S.Store c.args.store.now in
       let fits : FitsSigned w64 known.id = search rules in
-      executes_read g.S.Store c.args.store.now c.state_under.new.store tables (plain.Check c.args.table.now) _ c.in_ok-state.ensures.only (λ up first holds.
+      executes_read g.S.Store c.args.store.now c.state_under.new.store tables (plain.Check c.args.table.now) _ c.in_ok-state.ensures.looks.only (λ up first holds.
       let t = told_here v tables first c.args.table.now known c.is_in_order.ensures.order holds c.in_ok-known.ensures in
       let named = subst (λ k. IsNamed v k (t.table.0, t.table.1.name)) (sym (to_z-of_z fits)) t.named in
-      let stands = c.in_ok-state.ensures.told (t.table.0, t.table.1.name) t.table.1.held up.clean named t.stands in
+      let stands = c.in_ok-state.ensures.looks.told (t.table.0, t.table.1.name) t.table.1.held up.clean named t.stands in
       inr (check_right first c.args.table.now t.table t.found (sym (c.is_sound.ensures t.table.1.held stands) ∙ c.if-is_sound.true)));
   only = search rules;
   live = search rules;
 }
 
-pub returns-else-is_sound : goal.returns-else-is_sound
-returns-else-is_sound g c = record {
+pub returns-else-is_sound-clause-looks : goal.returns-else-is_sound-clause-looks
+returns-else-is_sound-clause-looks g c = record {
   told =
       let tables = map shown_info c.args.tables.now in
       let known = shown_info c.in_ok-known.known.now in
       let v = value_in g.S.Store c.args.store.now in
       let fits : FitsSigned w64 known.id = search rules in
-      executes_read g.S.Store c.args.store.now c.state_under.new.store tables (plain.Check c.args.table.now) _ c.in_ok-state.ensures.only (λ up first holds.
+      executes_read g.S.Store c.args.store.now c.state_under.new.store tables (plain.Check c.args.table.now) _ c.in_ok-state.ensures.looks.only (λ up first holds.
       let t = told_here v tables first c.args.table.now known c.is_in_order.ensures.order holds c.in_ok-known.ensures in
       let named = subst (λ k. IsNamed v k (t.table.0, t.table.1.name)) (sym (to_z-of_z fits)) t.named in
-      let stands = c.in_ok-state.ensures.told (t.table.0, t.table.1.name) t.table.1.held up.clean named t.stands in
+      let stands = c.in_ok-state.ensures.looks.told (t.table.0, t.table.1.name) t.table.1.held up.clean named t.stands in
       inr (check_wrong first c.args.table.now t.table t.found (sym (c.is_sound.ensures t.table.1.held stands) ∙ c.if-is_sound.false)));
   only = search rules;
   live = search rules;
 }
+
+pub returns-in_err-state-clause-refused : goal.returns-in_err-state-clause-refused
+returns-in_err-state-clause-refused g c = λ texts clean told.
+    let fault = c.in_err-state.field-0.0 in
+    let is : c.from_residual-in_err-state.result ≡ Err (fault_of_read fault) = search rules in
+    let why = is_refused fault c.from_residual-in_err-state.result is (search rules) told in
+    let refused : c.state_under.result ≡ Err causes.Refused = search rules in
+    c.state_under.ensures.refused texts clean refused

@@ -15,16 +15,19 @@ use Rattle.ft_index.specs.Kept.{PlansFrom}
 use Rattle.ft_documents.proofs.FoundLemmas.{placed, unplaced}
 use Rattle.ft_index.proofs.KnownLemmas.{none_named}
 use Rattle.ft_index.proofs.TablePlans.{drop_missing, drop_spared, drop_planned}
+use Rattle.std.proofs.Common.{All, ℤ}
+use Rattle.std.proofs.lemmas.List.Elements.{All-from_recursion}
+use Rattle.ft_store.specs.Blame.{TakesOut}
 use Rattle.ft_index.proofs.tables.drop_changes.Goals as goal
 use Rattle.ft_index.proofs.tables.drop_changes.Goals.{in-Some+in_ok-push-in-Some, in-None+else-not-if_there}
 
-pub returns-in-None : goal.returns-in-None
-returns-in-None c = λ store contents order held. inr (drop_missing contents c.args.table.now c.args.if_there
+pub returns-in-None-clause-plans : goal.returns-in-None-clause-plans
+returns-in-None-clause-plans c = λ store contents order held. inr (drop_missing contents c.args.table.now c.args.if_there
     (none_named contents c.args.table.now (ap (λ ts. info_named ts c.args.table.now) (sym held.told) ∙ unplaced shown_info (λ (t : TableInfo). same_name t.name c.args.table.now) c.args.tables.now (sym c.table_place.ensures ∙ c.in-None.is)))
     c.if-not-if_there.true)
 
-pub returns : goal.returns
-returns c = elim c.match-table_place.branch [
+pub returns-clause-plans : goal.returns-clause-plans
+returns-clause-plans c = elim c.match-table_place.branch [
   | in-Some+in_ok-push-in-Some w ↦ λ store contents order held.
       let fits : FitsSigned w64 w.index-tables-place.result.id = search rules in
       let s = placed shown_info (λ (t : TableInfo). same_name t.name c.args.table.now) c.args.tables.now w.in-Some.place (sym c.table_place.ensures ∙ w.in-Some.is) in
@@ -37,4 +40,15 @@ returns c = elim c.match-table_place.branch [
   | in-None+else-not-if_there w ↦ λ store contents order held.
       let same : map shown_change c.match-table_place.changes.items ≡ [] = ap (λ (v : Vec RowChange Global). map shown_change v.items) w.changes-is ∙ ap (map shown_change) c.new-changes.ensures.items in
       subst (λ (cs : List Change). PlansFrom contents (Drop c.args.table.now c.args.if_there) store (Ok cs)) (sym same) (drop_spared store (map shown_info c.args.tables.now) contents c.args.table.now c.args.if_there w.if-not-if_there.false held (unplaced shown_info (λ (t : TableInfo). same_name t.name c.args.table.now) c.args.tables.now (sym c.table_place.ensures ∙ w.in-None.is)))
+]
+
+one_drop : (id : ℤ) → All TakesOut (changes.DropTable id ∷ [])
+one_drop id = All-from_recursion TakesOut (changes.DropTable id ∷ []) (refl, tt)
+
+pub returns-clause-drops : goal.returns-clause-drops
+returns-clause-drops c = elim c.match-table_place.branch [
+  | in-Some+in_ok-push-in-Some w ↦
+      subst (All TakesOut) (sym (ap (λ (v : Vec RowChange Global). v.items) w.changes-is ∙ w.in_ok-push-in-Some.ensures.items ∙ ap (λ l. l ++ changes.DropTable (to_z w64 (of_z w64 (slice_index_or c.args.tables.now w.in-Some.place w.index-tables-place.result).id)) ∷ []) c.new-changes.ensures.items))
+      (one_drop _)
+  | in-None+else-not-if_there w ↦ subst (All TakesOut) (sym (ap (λ (v : Vec RowChange Global). v.items) w.changes-is ∙ c.new-changes.ensures.items)) (All-from_recursion TakesOut [] tt)
 ]

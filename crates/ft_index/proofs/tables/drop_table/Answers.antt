@@ -23,11 +23,13 @@ use Rattle.ft_index.proofs.Executing.{Reaches, reached, executes_unplanned, exec
 use Rattle.sqlite.specs.State.{Survives}
 use Rattle.ft_store.specs.Kept.{shows}
 use Rattle.ft_index.proofs.Crashing.{CommitsRows, crash_changed}
+use Rattle.std.proofs.Common.{All}
+use Rattle.ft_store.specs.Blame.{TakesOut}
 use Rattle.ft_index.proofs.tables.drop_table.Goals as goal
 use Rattle.ft_index.proofs.tables.drop_table.Goals.{in-Some, in_default}
 
-pub returns-in_err-changes : goal.returns-in_err-changes
-returns-in_err-changes g c = record {
+pub returns-in_err-changes-clause-does : goal.returns-in_err-changes-clause-does
+returns-in_err-changes-clause-does g c = record {
   executes =
       let fault : Fault = c.in_err-changes.field-0.0 in
       let is : c.from_residual.result ≡ Err fault = search rules in
@@ -38,13 +40,13 @@ returns-in_err-changes g c = record {
       subst (λ (a : Result Reply Fault). Executes g.S.Store (with_tables c.args.store.now tables) command (answer_of a) (with_tables c.args.store.now tables)) (sym is)
       (executes_unplanned g.S.Store c.args.store.now tables command fault
       (λ contents held. subst (λ (r : Result (Vec RowChange Global) Fault). PlansFrom contents command value (changes_of r)) planned
-      (c.drop_changes.ensures value contents c.is_in_order.ensures.order (subst (λ ts. AreHeld value (map shown_info ts) contents) (sym c.as_slice.ensures.value) held))));
+      (c.drop_changes.ensures.plans value contents c.is_in_order.ensures.order (subst (λ ts. AreHeld value (map shown_info ts) contents) (sym c.as_slice.ensures.value) held))));
   crash = search rules;
   live = search rules;
 }
 
-pub returns-in_err-change_rows : goal.returns-in_err-change_rows
-returns-in_err-change_rows g c = record {
+pub returns-in_err-change_rows-clause-does : goal.returns-in_err-change_rows-clause-does
+returns-in_err-change_rows-clause-does g c = record {
   executes =
       let fault : Fault = c.in_err-change_rows.field-0.0 in
       let is : c.from_residual-in_err-change_rows.result ≡ Err fault = search rules in
@@ -52,7 +54,7 @@ returns-in_err-change_rows g c = record {
       let tables = map shown_info c.args.tables.now.items in
       let command = plain.Drop c.args.table.now c.args.if_there in
       let outside : (fault ≡ faults.Store) ⊎ (fault ≡ faults.Memory) = search rules in
-      let changed = subst (λ (r : Result (Unit {0}) Fault). Changed g.S.Store c.args.store.now c.change_rows.new.store (map shown_change c.as_slice-2.result.now) (is_ok r)) refused c.change_rows.ensures.changed in
+      let changed = subst (λ (r : Result (Unit {0}) Fault). Changed g.S.Store c.args.store.now c.change_rows.new.store (map shown_change c.as_slice-2.result.now) (is_ok r)) refused c.change_rows.ensures.makes.changed in
       subst (λ (a : Result Reply Fault). Executes g.S.Store (with_tables c.args.store.now tables) command (answer_of a) (with_tables c.change_rows.new.store tables)) (sym is)
       (executes_refused g.S.Store c.args.store.now c.change_rows.new.store tables (map shown_change c.as_slice-2.result.now) command fault outside changed);
   crash =
@@ -63,14 +65,14 @@ returns-in_err-change_rows g c = record {
       let planned : c.drop_changes.result ≡ Ok c.in_ok-changes.changes = search rules in
       let reaches : (contents : Contents) → AreHeld value tables contents → Reaches contents command value changes =
       λ contents held. reached contents command value changes (subst (λ (r : Result (Vec RowChange Global) Fault). PlansFrom contents command value (changes_of r)) planned
-      (c.drop_changes.ensures value contents c.is_in_order.ensures.order (subst (λ ts. AreHeld value (map shown_info ts) contents) (sym c.as_slice.ensures.value) held))) in
+      (c.drop_changes.ensures.plans value contents c.is_in_order.ensures.order (subst (λ ts. AreHeld value (map shown_info ts) contents) (sym c.as_slice.ensures.value) held))) in
       crash_changed g.S.Store c.args.store.now c.change_rows.new.store tables tables command changes (λ up. reaches)
-      (subst (λ (cs : List RowChange). Survives (shows g.S.Store c.args.store.now) (shows g.S.Store c.change_rows.new.store) (CommitsRows g.S.Store c.args.store.now (map shown_change cs))) c.as_slice-2.ensures.value c.change_rows.ensures.crash);
+      (subst (λ (cs : List RowChange). Survives (shows g.S.Store c.args.store.now) (shows g.S.Store c.change_rows.new.store) (CommitsRows g.S.Store c.args.store.now (map shown_change cs))) c.as_slice-2.ensures.value c.change_rows.ensures.makes.crash);
   live = search rules;
 }
 
-pub returns : goal.returns
-returns g c = record {
+pub returns-clause-does : goal.returns-clause-does
+returns-clause-does g c = record {
   executes =
       let tables = map shown_info c.args.tables.now.items in
       let command = plain.Drop c.args.table.now c.args.if_there in
@@ -80,10 +82,10 @@ returns g c = record {
       let done : c.change_rows.result ≡ Ok tt = search rules in
       let changed : Changed g.S.Store c.args.store.now c.change_rows.new.store changes true =
       subst (λ (cs : List RowChange). Changed g.S.Store c.args.store.now c.change_rows.new.store (map shown_change cs) true) c.as_slice-2.ensures.value
-      (subst (λ (r : Result (Unit {0}) Fault). Changed g.S.Store c.args.store.now c.change_rows.new.store (map shown_change c.as_slice-2.result.now) (is_ok r)) done c.change_rows.ensures.changed) in
+      (subst (λ (r : Result (Unit {0}) Fault). Changed g.S.Store c.args.store.now c.change_rows.new.store (map shown_change c.as_slice-2.result.now) (is_ok r)) done c.change_rows.ensures.makes.changed) in
       let reaches : (contents : Contents) → AreHeld value tables contents → Reaches contents command value changes =
       λ contents held. reached contents command value changes (subst (λ (r : Result (Vec RowChange Global) Fault). PlansFrom contents command value (changes_of r)) planned
-      (c.drop_changes.ensures value contents c.is_in_order.ensures.order (subst (λ ts. AreHeld value (map shown_info ts) contents) (sym c.as_slice.ensures.value) held))) in
+      (c.drop_changes.ensures.plans value contents c.is_in_order.ensures.order (subst (λ ts. AreHeld value (map shown_info ts) contents) (sym c.as_slice.ensures.value) held))) in
       elim c.match-table_place.branch [
         | in-Some w ↦
             let here : c.as_slice-known.result.now ≡ c.args.tables.now.items = c.as_slice-known.ensures.value in
@@ -115,8 +117,11 @@ returns g c = record {
       let planned : c.drop_changes.result ≡ Ok c.in_ok-changes.changes = search rules in
       let reaches : (contents : Contents) → AreHeld value tables contents → Reaches contents command value changes =
       λ contents held. reached contents command value changes (subst (λ (r : Result (Vec RowChange Global) Fault). PlansFrom contents command value (changes_of r)) planned
-      (c.drop_changes.ensures value contents c.is_in_order.ensures.order (subst (λ ts. AreHeld value (map shown_info ts) contents) (sym c.as_slice.ensures.value) held))) in
+      (c.drop_changes.ensures.plans value contents c.is_in_order.ensures.order (subst (λ ts. AreHeld value (map shown_info ts) contents) (sym c.as_slice.ensures.value) held))) in
       crash_changed g.S.Store c.args.store.now c.change_rows.new.store tables tables command changes (λ up. reaches)
-      (subst (λ (cs : List RowChange). Survives (shows g.S.Store c.args.store.now) (shows g.S.Store c.change_rows.new.store) (CommitsRows g.S.Store c.args.store.now (map shown_change cs))) c.as_slice-2.ensures.value c.change_rows.ensures.crash);
+      (subst (λ (cs : List RowChange). Survives (shows g.S.Store c.args.store.now) (shows g.S.Store c.change_rows.new.store) (CommitsRows g.S.Store c.args.store.now (map shown_change cs))) c.as_slice-2.ensures.value c.change_rows.ensures.makes.crash);
   live = search rules;
 }
+
+pub returns-in_err-change_rows-clause-refused : goal.returns-in_err-change_rows-clause-refused
+returns-in_err-change_rows-clause-refused g c = λ clean is. c.change_rows.ensures.refused (subst (All TakesOut) (sym c.as_slice-2.ensures.value) c.in_ok-changes.ensures.drops) clean (search rules)

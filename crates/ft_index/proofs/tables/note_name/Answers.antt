@@ -28,4 +28,4 @@ pub returns : goal.returns
 returns g c =
     let same : map shown_change c.as_slice.result.now ≡ Note c.args.name.now ∷ [] = search rules in
     makes_then g.S.Store c.args.store.now c.ping.new.self _ c.ping.ensures c.in_ok-ping.ensures.live c.change_rows.new.store (Note c.args.name.now ∷ []) c.change_rows.result
-    (subst (λ (cs : List Change). MakesRows g.S.Store c.ping.new.self c.change_rows.new.store cs c.change_rows.result) same c.change_rows.ensures)
+    (subst (λ (cs : List Change). MakesRows g.S.Store c.ping.new.self c.change_rows.new.store cs c.change_rows.result) same c.change_rows.ensures.makes)

@@ -2,8 +2,9 @@
 use Rattle.std.proofs.Common.{rules, ◌≡◌, ℕ, List, [], refl, string_bytes, subst, sym}
 use Rattle.std.specs.Prelude.{option_map}
 use Rattle.plain_shell.proofs.QueryLemmas.{if_clean}
-use Rattle.plain_shell.specs.OutputViews.{answer_as}
+use Rattle.plain_shell.specs.OutputViews.{answer_as, complaint_as}
 use Rattle.plain_shell.specs.Outcomes.{silent}
+use Rattle.plain_shell.specs.PlainStatements.{TellsRefusal}
 use Rattle.ft_shell.specs.FullTextTurns.{MaybeNotes, NoteTurn}
 use Rattle.ft_shell.specs.PlainTurns.{done, refused}
 use Rattle.ft_shell.proofs.turns.command_turn.Goals as goal
@@ -23,4 +24,6 @@ returns-in-None g c =
     (subst (λ made. MaybeNotes g.S.Store (option_map string_bytes made) c.args.full_text.now c.args.full_text.now silent) (sym c.in-None.is) (refl, refl))
 
 pub returns-in-Err : goal.returns-in-Err
-returns-in-Err g c = refused c.in-Err.error (if_clean g.P.Store c.args.plain.now c.execute.new.self c.execute.ensures.survives c.in-Err.ensures.runs) refl c.refusal.ensures
+returns-in-Err g c =
+    refused c.in-Err.error (if_clean g.P.Store c.args.plain.now c.execute.new.self c.execute.ensures.survives c.in-Err.ensures.runs) refl
+    (subst (λ seeks. TellsRefusal seeks c.in-Err.error (complaint_as c.refusal.result)) c.requires c.refusal.ensures)

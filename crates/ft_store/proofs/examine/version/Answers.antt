@@ -16,10 +16,10 @@ returns-then-len-ne1 g c = record {
   rows = λ clean.
       let old = state g.S.Store c.args.conn.now in
       let new = state g.S.Store c.select.new.conn in
-      let h = c.in_ok-found.ensures.rows clean in
-      let schema = c.requires.shown (omega (arith, c.select.ensures.read.survives.clean)) (shown_open _ _ old new _ h.1) in
+      let h = c.in_ok-found.ensures.given.rows clean in
+      let schema = c.requires.shown (omega (arith, c.select.ensures.given.read.survives.clean)) (shown_open _ _ old new _ h.1) in
       not_one c.in_ok-found.found.items h.0 (old.now.trees 0) (h.2 (pos 0)) (version_seen c.args.layout old new schema h.0 h.1) (search rules);
-  read = reads_on g.S.Store _ _ _ _ c.in_ok-found.ensures.read tt;
+  read = reads_on g.S.Store _ _ _ _ c.in_ok-found.ensures.given.read tt;
 }
 
 pub returns : goal.returns
@@ -27,9 +27,9 @@ returns g c = record {
   rows = λ clean.
       let old = state g.S.Store c.args.conn.now in
       let new = state g.S.Store c.select.new.conn in
-      let h = c.in_ok-found.ensures.rows clean in
-      let schema = c.requires.shown (omega (arith, c.select.ensures.read.survives.clean)) (shown_open _ _ old new _ h.1) in
+      let h = c.in_ok-found.ensures.given.rows clean in
+      let schema = c.requires.shown (omega (arith, c.select.ensures.given.read.survives.clean)) (shown_open _ _ old new _ h.1) in
       let fits : FitsSigned w64 c.index.result.now = search rules in
       rw (to_z-of_z fits) (only_one c.in_ok-found.found.items h.0 (old.now.trees 0) c.index.result.now (h.2 (pos 0)) (version_seen c.args.layout old new schema h.0 h.1) (search rules) (search rules));
-  read = reads_on g.S.Store _ _ _ _ c.in_ok-found.ensures.read tt;
+  read = reads_on g.S.Store _ _ _ _ c.in_ok-found.ensures.given.read tt;
 }

@@ -9,14 +9,15 @@ use Rattle.ft_store.proofs.Texts.{lists_text}
 use Rattle.ft_store.proofs.TextLemmas.{lists_plain}
 use Rattle.ft_store.proofs.AnswerLemmas.{lists_stored_shown, placed}
 use Rattle.ft_store.proofs.ExpectedLemmas.{some_left, at_end, others_at_end}
+use Rattle.ft_store.proofs.AskedLemmas.{lists_blamed}
 use Rattle.ft_store.proofs.expected.has_lists.Goals as goal
 use Rattle.ft_store.proofs.expected.has_lists.Goals.{then-whole, else-whole}
 
 pub gather-requires-clause-asked : goal.gather-requires-clause-asked
 gather-requires-clause-asked g c = record { settled = c.requires.settled; shown = λ clean is_open. subst (λ s. IsPlain (understood s lists_text)) (sym (c.requires.store clean is_open).schema) lists_plain }
 
-pub returns : goal.returns
-returns g c = record {
+pub returns-clause-given : goal.returns-clause-given
+returns-clause-given g c = record {
   rows = λ clean.
       let old = state g.S.Store c.args.conn.now in
       let new = state g.S.Store c.gather.new.conn in
@@ -36,3 +37,8 @@ returns g c = record {
       ];
   read = record { kept = c.in_ok-whole.ensures.given.read.kept; live = c.in_ok-whole.ensures.given.read.live; mode = c.in_ok-whole.ensures.given.read.mode; survives = c.in_ok-whole.ensures.given.read.survives; fault = search rules };
 }
+
+pub returns-in_err-whole-clause-refused : goal.returns-in_err-whole-clause-refused
+returns-in_err-whole-clause-refused g c = λ clean is.
+    lists_blamed c.args.tab (state g.S.Store c.args.conn.now) (state g.S.Store c.gather.new.conn) (c.requires.store (omega (arith, c.gather.ensures.given.read.survives.clean, clean)))
+    (simp (to_z-of_z, c.ranges.tab) at (rw c.params-to_sql.ensures at (c.gather.ensures.refused clean (search rules))))

@@ -9,8 +9,8 @@ use Rattle.ft_rows.specs.Packed.{spots_in}
 use Rattle.ft_rows.proofs.ReadLemmas.{some_places}
 use Rattle.ft_store.proofs.lists.list_row.Goals as goal
 
-pub returns-in-Some : goal.returns-in-Some
-returns-in-Some c =
+pub returns-in-Some-clause-found : goal.returns-in-Some-clause-found
+returns-in-Some-clause-found c =
     let fits : FitsSigned w64 c.in_ok-docid.docid = search rules in
     let docid : c.in_ok-docid.docid ≡ id_in (column c.args.row.now 0) = search rules in
     let list : c.in-Blob.bytes.now ≡ bytes (column c.args.row.now 1) = ap (λ (v : ValueRef). bytes (owned v)) (sym c.in-Blob.is) ∙ ap bytes c.in_ok-bytes.ensures.ok.1 in
@@ -25,7 +25,7 @@ returns-in-Some c =
       fault = search rules;
     }
 
-pub returns-in-None : goal.returns-in-None
-returns-in-None c =
+pub returns-in-None-clause-found : goal.returns-in-None-clause-found
+returns-in-None-clause-found c =
     let list : c.in-Blob.bytes.now ≡ bytes (column c.args.row.now 1) = ap (λ (v : ValueRef). bytes (owned v)) (sym c.in-Blob.is) ∙ ap bytes c.in_ok-bytes.ensures.ok.1 in
     record { found = ap (λ o. unwrap_or o []) (ap spots_in (sym list) ∙ (rw c.in-None.is at c.in_ok-spots.ensures)); fault = search rules }

@@ -1,8 +1,8 @@
 use Rattle.std.proofs.Common.{rules}
 use Rattle.ft_store.proofs.lists.select_entries.Goals as goal
 
-pub returns-then-branch : goal.returns-then-branch
-returns-then-branch g c =
+pub returns-then-branch-clause-given : goal.returns-then-branch-clause-given
+returns-then-branch-clause-given g c =
     let it = c.in_ok-gather.ensures.given in
     record {
       rows = λ clean. rw c.if-branch.true at (it.rows clean);
@@ -11,8 +11,8 @@ returns-then-branch g c =
       read = record { kept = it.read.kept; live = it.read.live; mode = it.read.mode; survives = it.read.survives; fault = search rules };
     }
 
-pub returns-else-branch : goal.returns-else-branch
-returns-else-branch g c =
+pub returns-else-branch-clause-given : goal.returns-else-branch-clause-given
+returns-else-branch-clause-given g c =
     let it = c.in_ok-gather.ensures.given in
     record {
       rows = search rules;

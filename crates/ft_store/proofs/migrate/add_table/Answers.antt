@@ -11,6 +11,6 @@ returns g c = record {
   steps = λ clean inside was.
       let old = state g.S.Store c.args.tx.now.conn.now in
       let new = state g.S.Store c.run.new.tx.conn.now in
-      on_ok_weaker c.run.result (λ (ran : (count : ℕ) × ExecutesInside 0 make_skip_text [] old new (Ok count)). (adds old new ran.0 (was ran.1.1.was_open) ran.1.0, ran.1.1)) (c.run.ensures.steps clean inside);
-  stays = c.run.ensures.stays;
+      on_ok_weaker c.run.result (λ (ran : (count : ℕ) × ExecutesInside 0 make_skip_text [] old new (Ok count)). (adds old new ran.0 (was ran.1.1.was_open) ran.1.0, ran.1.1)) (c.run.ensures.done.steps clean inside);
+  stays = c.run.ensures.done.stays;
 }

@@ -18,10 +18,10 @@ returns g c = record {
       let old = state g.S.Store c.args.tx.now.conn.now in
       let mid = state g.S.Store c.run.new.tx.conn.now in
       let new = state g.S.Store c.run-2.new.tx.conn.now in
-      let clean_1 : HasCleanDisk mid = omega (arith, c.run-2.ensures.stays.survives.clean) in
-      let gone : (count : ℕ) × ExecutesInside 0 drop_cell_text (Int c.args.tab ∷ Int c.args.docid ∷ Int c.args.column ∷ []) old mid (Ok count) = (simp (to_z-of_z, c.ranges.tab, c.ranges.docid, c.ranges.column) at (rw (c.beside_value.ensures, c.beside_value-2.ensures, c.beside_value-3.ensures) at c.in_ok-run.ensures.steps)) clean_1 inside in
+      let clean_1 : HasCleanDisk mid = omega (arith, c.run-2.ensures.done.stays.survives.clean) in
+      let gone : (count : ℕ) × ExecutesInside 0 drop_cell_text (Int c.args.tab ∷ Int c.args.docid ∷ Int c.args.column ∷ []) old mid (Ok count) = (simp (to_z-of_z, c.ranges.tab, c.ranges.docid, c.ranges.column) at (rw (c.beside_value.ensures, c.beside_value-2.ensures, c.beside_value-3.ensures) at c.in_ok-run.ensures.done.steps)) clean_1 inside in
       let one = does_drop_cell old mid (kept gone.1.1.was_open) gone.1.1 c.args.tab c.args.docid c.args.column gone.0 gone.1.0 in
       on_ok_weaker c.run-2.result (λ (ran : (count : ℕ) × ExecutesInside 0 add_cell_text (Int c.args.tab ∷ Int c.args.docid ∷ Int c.args.column ∷ num_of (shown_value c.args.value.now) ∷ txt_of (shown_value c.args.value.now) ∷ []) mid new (Ok count)). puts_cells old mid new (c.args.tab, c.args.docid, c.args.column) (shown_value c.args.value.now) one (λ free. does_add_cell mid new one.store ran.1.1 c.args.tab c.args.docid c.args.column (shown_value c.args.value.now) ran.0 c.text_of.ensures.again free ran.1.0))
-      ((simp (to_z-of_z, c.ranges.tab, c.ranges.docid, c.ranges.column, bound_num, bound_txt) at (rw (c.beside_value-4.ensures, c.beside_value-5.ensures, c.beside_value-6.ensures, c.number_of.ensures, c.text_of.ensures.value) at c.run-2.ensures.steps)) clean one.shown.mode);
-  stays = stays_then g.S.Store IsPlainFault c.args.tx.now.conn c.run.new.tx.conn c.run-2.new.tx.conn c.run.result c.run-2.result c.run.ensures.stays c.run-2.ensures.stays;
+      ((simp (to_z-of_z, c.ranges.tab, c.ranges.docid, c.ranges.column, bound_num, bound_txt) at (rw (c.beside_value-4.ensures, c.beside_value-5.ensures, c.beside_value-6.ensures, c.number_of.ensures, c.text_of.ensures.value) at c.run-2.ensures.done.steps)) clean one.shown.mode);
+  stays = stays_then g.S.Store IsPlainFault c.args.tx.now.conn c.run.new.tx.conn c.run-2.new.tx.conn c.run.result c.run-2.result c.run.ensures.done.stays c.run-2.ensures.done.stays;
 }

@@ -17,10 +17,10 @@ returns g c = record {
       let old = state g.S.Store c.args.tx.now.conn.now in
       let mid = state g.S.Store c.run.new.tx.conn.now in
       let new = state g.S.Store c.run-2.new.tx.conn.now in
-      let clean_1 : HasCleanDisk mid = omega (arith, c.run-2.ensures.stays.survives.clean) in
-      let gone : (count : ℕ) × ExecutesInside 0 drop_note_text (Text c.args.name.now ∷ []) old mid (Ok count) = (rw c.to_sql.ensures at c.in_ok-run.ensures.steps) clean_1 inside in
+      let clean_1 : HasCleanDisk mid = omega (arith, c.run-2.ensures.done.stays.survives.clean) in
+      let gone : (count : ℕ) × ExecutesInside 0 drop_note_text (Text c.args.name.now ∷ []) old mid (Ok count) = (rw c.to_sql.ensures at c.in_ok-run.ensures.done.steps) clean_1 inside in
       let one = does_drop_note old mid (kept gone.1.1.was_open) gone.1.1 c.args.name.now gone.0 gone.1.0 in
       on_ok_weaker c.run-2.result (λ (ran : (count : ℕ) × ExecutesInside 0 add_note_text (Text c.args.name.now ∷ []) mid new (Ok count)). puts_noted old mid new (without_case c.args.name.now) c.args.name.now one (λ free. does_add_note mid new one.store ran.1.1 c.args.name.now ran.0 free ran.1.0))
-      ((rw c.to_sql-2.ensures at c.run-2.ensures.steps) clean one.shown.mode);
-  stays = stays_then g.S.Store IsPlainFault c.args.tx.now.conn c.run.new.tx.conn c.run-2.new.tx.conn c.run.result c.run-2.result c.run.ensures.stays c.run-2.ensures.stays;
+      ((rw c.to_sql-2.ensures at c.run-2.ensures.done.steps) clean one.shown.mode);
+  stays = stays_then g.S.Store IsPlainFault c.args.tx.now.conn c.run.new.tx.conn c.run-2.new.tx.conn c.run.result c.run-2.result c.run.ensures.done.stays c.run-2.ensures.done.stays;
 }

@@ -16,9 +16,9 @@ returns g c = record {
       let old = state g.S.Store c.args.tx.now.conn.now in
       let mid = state g.S.Store c.drop_size.new.tx.conn.now in
       let new = state g.S.Store c.run.new.tx.conn.now in
-      let clean_1 : HasCleanDisk mid = omega (arith, c.run.ensures.stays.survives.clean) in
-      let one = (simp (to_z-of_z, c.ranges.tab, c.ranges.docid, c.ranges.column) at c.in_ok-drop_size.ensures.steps) clean_1 inside kept in
+      let clean_1 : HasCleanDisk mid = omega (arith, c.run.ensures.done.stays.survives.clean) in
+      let one = (simp (to_z-of_z, c.ranges.tab, c.ranges.docid, c.ranges.column) at c.in_ok-drop_size.ensures.done.steps) clean_1 inside kept in
       on_ok_weaker c.run.result (λ (ran : (count : ℕ) × ExecutesInside 0 add_size_text (Int c.args.tab ∷ Int c.args.docid ∷ Int c.args.column ∷ Int c.args.n ∷ []) mid new (Ok count)). puts_sizes old mid new (c.args.tab, c.args.docid, c.args.column) c.args.n one (λ free. does_add_size mid new one.store ran.1.1 c.args.tab c.args.docid c.args.column c.args.n ran.0 free ran.1.0))
-      ((simp (to_z-of_z, c.ranges.tab, c.ranges.docid, c.ranges.column, c.ranges.n) at (rw (c.to_sql.ensures, c.to_sql-2.ensures, c.to_sql-3.ensures, c.to_sql-4.ensures) at c.run.ensures.steps)) clean one.shown.mode);
-  stays = stays_then g.S.Store IsPlainFault c.args.tx.now.conn c.drop_size.new.tx.conn c.run.new.tx.conn c.drop_size.result c.run.result c.drop_size.ensures.stays c.run.ensures.stays;
+      ((simp (to_z-of_z, c.ranges.tab, c.ranges.docid, c.ranges.column, c.ranges.n) at (rw (c.to_sql.ensures, c.to_sql-2.ensures, c.to_sql-3.ensures, c.to_sql-4.ensures) at c.run.ensures.done.steps)) clean one.shown.mode);
+  stays = stays_then g.S.Store IsPlainFault c.args.tx.now.conn c.drop_size.new.tx.conn c.run.new.tx.conn c.drop_size.result c.run.result c.drop_size.ensures.done.stays c.run.ensures.done.stays;
 }

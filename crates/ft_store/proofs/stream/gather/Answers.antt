@@ -6,6 +6,9 @@ use Rattle.sqlite.specs.Held.{Held, state}
 use Rattle.ft_store.specs.Calls.{Keeps}
 use Rattle.ft_store.proofs.CallLemmas.{refused_keeps, kept_either, commits_nothing}
 use Rattle.ft_store.proofs.StreamLemmas.{begun, one_row, rows_shown, moved_unchanged, moved_survives, stopped_keeps, keeps_unchanged}
+use Rattle.std.proofs.Common.{inl, inr, arith, ◌⊎◌}
+use Rattle.ft_store.specs.Blame.{IsBlamed, IsUnasked, GivesUntaken}
+use Rattle.ft_store.proofs.BlameLemmas.{query_blamed, next_blamed, row_untaken, not_memory}
 use Rattle.ft_store.proofs.stream.gather.Goals as goal
 
 pub returns-in_err-rows-clause-given : goal.returns-in_err-rows-clause-given
@@ -95,3 +98,23 @@ returns-clause-given g c =
         fault = search rules;
       };
     }
+
+pub returns-in_err-rows-clause-refused : goal.returns-in_err-rows-clause-refused
+returns-in_err-rows-clause-refused g c = λ clean is.
+    let refused = rw c.in_err-rows.was at c.query.follows.holds-at-none in
+    let other = not_memory c.in_err-rows.field-0.0 (search rules) in
+    elim (query_blamed _ _ _ _ _ (c.requires.asked.shown (omega (arith, refused.survives.clean, clean))) other (refused.err clean)) [ inl blamed ↦ inl blamed | inr unasked ↦ inr (inl unasked) ]
+
+pub returns-in_err-row-clause-refused : goal.returns-in_err-row-clause-refused
+returns-in_err-row-clause-refused g c =
+    let moved = c.next.follows.holds-at-none in
+    let ended = c.conn-in_err-row-1.given.1 (sym (moved.same_reference ∙ c.rows.invariant.1 ∙ c.in_ok-rows.ensures.same_reference)) ∙ c.drop-rows.ensures in
+    subst (λ (now : Held g.row.S.Denot). HasCleanDisk (state g.S.Store now) → c.from_residual-in_err-row.result ≡ Rattle.std.proofs.Common.Err Rattle.ft_store.specs.declared.fault.StoreFault.TheVariants.Refused → IsBlamed (state g.S.Store c.args.conn.now) (state g.S.Store now) ⊎ (IsUnasked (state g.S.Store c.args.conn.now) c.args.sql.now (bound c.args.params.now) ⊎ GivesUntaken (state g.S.Store c.args.conn.now) c.args.sql.now (bound c.args.params.now) g.G.Gathered.takes))
+    (sym ended)
+    (λ clean is. elim (next_blamed g.S.Store c.args.sql.now (bound c.args.params.now) c.args.conn.now c.requires.asked.shown c.rows.rows c.next.follows.lender-at-none c.next.result moved _ c.rows.invariant.0 _ c.in_err-row.was (not_memory _ (search rules)) clean) [ inl blamed ↦ inl blamed | inr unasked ↦ inr (inl unasked) ])
+
+pub returns-in_err-whole-in-Some-clause-refused : goal.returns-in_err-whole-in-Some-clause-refused
+returns-in_err-whole-in-Some-clause-refused g c =
+    let moved = c.next.follows.holds-at-none in
+    let ended = c.conn-in_err-whole-in-Some-1.given.1 (sym (moved.same_reference ∙ c.rows.invariant.1 ∙ c.in_ok-rows.ensures.same_reference)) ∙ c.drop-rows-in_err-whole-in-Some.ensures in
+    λ clean is. inr (inr (row_untaken g.S.Store c.args.sql.now (bound c.args.params.now) c.args.conn.now c.requires.asked.shown c.rows.rows c.next.follows.lender-at-none c.next.result moved _ c.rows.invariant.0 c.in-Some.row (c.in_ok-row.was ∙ ap Ok c.in-Some.is) g.G.Gathered.takes (c.add.ensures.refused (search rules)) (subst (λ (now : Held g.row.S.Denot). HasCleanDisk (state g.S.Store now)) ended clean)))

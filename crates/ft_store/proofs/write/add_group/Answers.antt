@@ -5,6 +5,7 @@ use Rattle.sqlite.specs.Held.{state}
 use Rattle.sqlite.specs.Values.{bound}
 use Rattle.ft_store.specs.Groups.{entry_put}
 use Rattle.ft_store.proofs.GroupLemmas.{adds_all}
+use Rattle.ft_store.proofs.RefusedLemmas.{no_group}
 use Rattle.ft_store.proofs.write.add_group.Goals as goal
 
 pub returns-clause-goes : goal.returns-clause-goes
@@ -19,3 +20,7 @@ returns-clause-goes g c = record {
       (c.add_lists.ensures.steps (map entry_put changes) eight (ap bound c.as_slice-2.ensures.value ∙ c.in_ok-values.ensures) clean inside kept);
   stays = c.add_lists.ensures.stays;
 }
+
+pub returns-clause-refused : goal.returns-clause-refused
+returns-clause-refused g c = λ taken clean inside kept is.
+    absurd (no_group c.args.changes.now (omega (arith, c.if-changes-ne-GROUP.false)) (rw c.in-Some.is at c.in_ok-lists.ensures).puts taken)

@@ -10,6 +10,9 @@ use Rattle.ft_rows.specs.Changes.{shown_change, CanApply}
 use Rattle.ft_store.specs.Calls.{Goes}
 use Rattle.ft_store.proofs.CallLemmas.{keeps_then}
 use Rattle.ft_store.proofs.PutLemmas.{goes_on}
+use Rattle.std.proofs.Common.{sym}
+use Rattle.ft_store.specs.Blame.{TakesOut}
+use Rattle.ft_store.proofs.BlameLemmas.{blamed_then}
 use Rattle.ft_store.proofs.write.apply_each.Goals as goal
 
 pub loop-change-preserved : goal.loop-change-preserved
@@ -19,19 +22,19 @@ loop-change-preserved g c =
     let now = state g.S.Store c.apply.new.tx.conn.now in
     let at = c.loop-change.change-index in (
       (
-        c.apply.ensures.stays.same_reference ∙ c.loop-change.invariant.0.0,
-        All-more CanApply c.args.changes.now at c.change-item.result c.loop-change-test.true c.loop-change.invariant.0.1 (subst CanApply c.change-item.is c.in_ok-apply.ensures.packable),
+        c.apply.ensures.done.stays.same_reference ∙ c.loop-change.invariant.0.0,
+        All-more CanApply c.args.changes.now at c.change-item.result c.loop-change-test.true c.loop-change.invariant.0.1 (subst CanApply c.change-item.is c.in_ok-apply.ensures.done.packable),
       ),
-      survives_then old was now _ _ _ (λ _ db none. none) (λ _ db none. none) c.loop-change.invariant.1 c.apply.ensures.stays.survives,
-      λ clean. keeps_then old was now (c.loop-change.invariant.2 (omega (arith, c.apply.ensures.stays.survives.clean))) (c.apply.ensures.stays.kept clean),
+      survives_then old was now _ _ _ (λ _ db none. none) (λ _ db none. none) c.loop-change.invariant.1 c.apply.ensures.done.stays.survives,
+      λ clean. keeps_then old was now (c.loop-change.invariant.2 (omega (arith, c.apply.ensures.done.stays.survives.clean))) (c.apply.ensures.done.stays.kept clean),
       λ clean inside kept.
-          let before = c.loop-change.invariant.3 (omega (arith, c.apply.ensures.stays.survives.clean)) inside kept in
+          let before = c.loop-change.invariant.3 (omega (arith, c.apply.ensures.done.stays.survives.clean)) inside kept in
           goes_on old was now c.args.changes.now at c.change-item.result (value_of old.now.trees) c.loop-change-test.true c.change-item.is before
-          (c.in_ok-apply.ensures.steps clean before.inside (λ is_open. (before.going (before.was_open is_open)).1)),
+          (c.in_ok-apply.ensures.done.steps clean before.inside (λ is_open. (before.going (before.was_open is_open)).1)),
     )
 
-pub returns : goal.returns
-returns g c = record {
+pub returns-clause-done : goal.returns-clause-done
+returns-clause-done g c = record {
   packable = subst (All CanApply) (take_all c.loop-change.change-index c.args.changes.now c.loop-change-test.false) c.loop-change.invariant.0.1;
   steps = λ clean inside kept.
       let old = state g.S.Store c.args.tx.now.conn.now in
@@ -39,3 +42,12 @@ returns g c = record {
       (take_all c.loop-change.change-index c.args.changes.now c.loop-change-test.false) (c.loop-change.invariant.3 clean inside kept);
   stays = record { same_reference = c.loop-change.invariant.0.0; kept = c.loop-change.invariant.2; survives = c.loop-change.invariant.1; fault = search rules };
 }
+
+pub returns-in_err-apply-clause-refused : goal.returns-in_err-apply-clause-refused
+returns-in_err-apply-clause-refused g c = λ taken clean inside kept is.
+    let old = state g.S.Store c.args.tx.now.conn.now in
+    let was = state g.S.Store c.loop-change.tx.conn.now in
+    let now = state g.S.Store c.apply.new.tx.conn.now in
+    let before = c.loop-change.invariant.3 (omega (arith, c.apply.ensures.done.stays.survives.clean, clean)) inside kept in
+    blamed_then old was now _ _ (omega (arith, c.apply.ensures.done.stays.survives.clean, clean)) c.loop-change.invariant.1 c.apply.ensures.done.stays.survives
+    (c.apply.ensures.refused (subst TakesOut (sym c.change-item.is) (taken c.loop-change.change-index c.change-item.result c.loop-change-test.true)) clean before.inside (λ is_open. (before.going (before.was_open is_open)).1) (search rules))

@@ -9,19 +9,31 @@ use Rattle.ft_rows.specs.Changes.{shown_change, CanApply}
 use Rattle.ft_store.specs.Calls.{Goes, IsChangeFault}
 use Rattle.ft_store.proofs.GroupLemmas.{goes_then}
 use Rattle.ft_store.proofs.InsideLemmas.{stays_then, changed_only}
+use Rattle.ft_store.proofs.BlameLemmas.{blamed_then}
 use Rattle.ft_store.proofs.write.apply_group.Goals as goal
 
-pub returns : goal.returns
-returns g c = record {
+pub returns-clause-done : goal.returns-clause-done
+returns-clause-done g c = record {
   packable = search rules;
   steps = λ clean inside kept.
       let old = state g.S.Store c.args.tx.now.conn.now in
       let mid = state g.S.Store c.add_group.new.tx.conn.now in
       let new = state g.S.Store c.apply_each.new.tx.conn.now in
       let v = value_of old.now.trees in
-      let clean_mid : HasCleanDisk mid = omega (arith, c.apply_each.ensures.stays.survives.clean) in
+      let clean_mid : HasCleanDisk mid = omega (arith, c.apply_each.ensures.done.stays.survives.clean) in
       let one = subst (λ (b : Bool). Goes old mid (if b then all_applied (map shown_change c.args.changes.now) v else v)) c.if-added.false (c.in_ok-added.ensures.goes.steps clean_mid inside kept) in
       IfOk-weaker c.apply_each.result _ _ (λ _. goes_then old mid new v (all_applied (map shown_change c.args.changes.now)) one)
-      (c.apply_each.ensures.steps clean one.inside (λ is_open. (one.going (one.was_open is_open)).1));
-  stays = stays_then g.S.Store (IsChangeFault (All CanApply c.args.changes.now)) c.args.tx.now.conn c.add_group.new.tx.conn c.apply_each.new.tx.conn c.add_group.result c.apply_each.result (changed_only _ _ _ _ _ c.add_group.ensures.goes.stays) c.apply_each.ensures.stays;
+      (c.apply_each.ensures.done.steps clean one.inside (λ is_open. (one.going (one.was_open is_open)).1));
+  stays = stays_then g.S.Store (IsChangeFault (All CanApply c.args.changes.now)) c.args.tx.now.conn c.add_group.new.tx.conn c.apply_each.new.tx.conn c.add_group.result c.apply_each.result (changed_only _ _ _ _ _ c.add_group.ensures.goes.stays) c.apply_each.ensures.done.stays;
 }
+
+pub returns-clause-refused : goal.returns-clause-refused
+returns-clause-refused g c = λ taken clean inside kept is.
+    let old = state g.S.Store c.args.tx.now.conn.now in
+    let mid = state g.S.Store c.add_group.new.tx.conn.now in
+    let new = state g.S.Store c.apply_each.new.tx.conn.now in
+    let v = value_of old.now.trees in
+    let clean_mid : HasCleanDisk mid = omega (arith, c.apply_each.ensures.done.stays.survives.clean, clean) in
+    let one = subst (λ (b : Bool). Goes old mid (if b then all_applied (map shown_change c.args.changes.now) v else v)) c.if-added.false (c.in_ok-added.ensures.goes.steps clean_mid inside kept) in
+    blamed_then old mid new _ _ clean_mid c.add_group.ensures.goes.stays.survives c.apply_each.ensures.done.stays.survives
+    (c.apply_each.ensures.refused taken clean one.inside (λ is_open. (one.going (one.was_open is_open)).1) is)

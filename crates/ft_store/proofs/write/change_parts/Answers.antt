@@ -27,7 +27,7 @@ returns-in_err-apply_all g c =
       fault =
           subst (λ r. IfErr r (IsChangeFault (All CanMake whole))) (sym is)
           (part_fault whole c.loop-tx.invariant.2.0 left rest part.items c.loop-tx.invariant.2.1 next fault
-          (subst (λ l. IsChangeFault (All CanApply l) fault) c.as_slice.ensures.value c.in_err-apply_all.ensures.stays.fault));
+          (subst (λ l. IsChangeFault (All CanApply l) fault) c.as_slice.ensures.value c.in_err-apply_all.ensures.done.stays.fault));
     }
 
 pub loop-tx-preserved : goal.loop-tx-preserved
@@ -41,17 +41,17 @@ loop-tx-preserved g c =
     let done = c.loop-tx.invariant.2.0 in
     let part = c.in-Some.changes in
     let next : left ≡ map shown_change part.items ∷ rest = subst (λ r. IsNext left r rest) (c.in_ok-changes.was ∙ ap Ok c.in-Some.is) c.next.ensures in
-    let can = subst (λ l. All CanApply l) c.as_slice.ensures.value c.in_ok-apply_all.ensures.packable in (
-      c.apply_all.ensures.stays.same_reference ∙ c.loop-tx.invariant.0,
-      survives_then old was now _ _ _ (λ _ db none. none) (λ _ db none. none) c.loop-tx.invariant.1 c.apply_all.ensures.stays.survives,
+    let can = subst (λ l. All CanApply l) c.as_slice.ensures.value c.in_ok-apply_all.ensures.done.packable in (
+      c.apply_all.ensures.done.stays.same_reference ∙ c.loop-tx.invariant.0,
+      survives_then old was now _ _ _ (λ _ db none. none) (λ _ db none. none) c.loop-tx.invariant.1 c.apply_all.ensures.done.stays.survives,
       (
         done ++ map shown_change part.items,
         one_part whole done left rest part.items c.loop-tx.invariant.2.1 next,
         parts_can done part.items c.loop-tx.invariant.2.2 can,
         λ clean.
-            let before = c.loop-tx.invariant.2.3 (omega (arith, c.apply_all.ensures.stays.survives.clean)) in
+            let before = c.loop-tx.invariant.2.3 (omega (arith, c.apply_all.ensures.done.stays.survives.clean)) in
             part_goes old was now (value_of old.now.trees) done (map shown_change part.items) before
             (subst (λ l. Goes was now (all_applied (map shown_change l) (value_of was.now.trees))) c.as_slice.ensures.value
-            (c.in_ok-apply_all.ensures.steps clean before.inside (λ is_open. (before.going (before.was_open is_open)).1))),
+            (c.in_ok-apply_all.ensures.done.steps clean before.inside (λ is_open. (before.going (before.was_open is_open)).1))),
       ),
     )

@@ -10,6 +10,14 @@ use Rattle.ft_index.specs.Crashes.{LeavesCommand}
 use Rattle.ft_index.specs.Changed.{with_tables}
 use Rattle.ft_index.specs.RowsRead.{CountsRows}
 use Rattle.ft_index.proofs.Pinging.{counts_nothing, counts_then, does_nothing, does_then, outside_of, ok_then}
+use Rattle.std.proofs.Common.{sym, ap, ◌∙◌}
+use Rattle.sqlite.specs.Effect.{Database}
+use Rattle.ft_store.specs.Blame.{AreTableTexts}
+use Rattle.ft_store.specs.Kept.{shows}
+use Rattle.ft_store.specs.declared.fault.StoreFault.TheVariants as causes
+use Rattle.ft_store.specs.Rows.{value_of as rows_of}
+use Rattle.ft_store.proofs.BlameLemmas.{blamed_then}
+use Rattle.ft_index.proofs.Pinging.{is_refused, clean_before}
 use Rattle.ft_index.proofs.full_text.FullText.execute.Goals as goal
 
 pub returns-in-Err : goal.returns-in-Err
@@ -31,6 +39,10 @@ returns-in-Err g c =
       });
       counts = subst (λ (k : FullText g.row.S.Denot). CountsRows g.S.Store k command (answer_of answer) new) c.self.view_is
           (counts_nothing g.S.Store old mid _ c.ping.ensures tables command answer (fault_of_read c.in-Err.fault) is);
+      refused = λ only texts clean told.
+          let why = is_refused c.in-Err.fault answer is (search rules) told in
+          let refused : c.ping.result ≡ Err causes.Refused = search rules in
+          rw (sym c.self.view_is) (c.ping.ensures.refused clean refused);
     }
 
 pub returns : goal.returns
@@ -51,4 +63,9 @@ returns g c =
       });
       counts = subst (λ (k : FullText g.row.S.Denot). CountsRows g.S.Store k command (answer_of done.result) new) c.self.view_is
           (counts_then g.S.Store old mid _ c.ping.ensures c.in_default.ensures.live tables new command done.result done.ensures.does done.ensures.counts);
+      refused = λ only texts clean told.
+          let mid_clean = clean_before (shows g.S.Store mid) (shows g.S.Store done.new.store) done.ensures.does.crash clean in
+          let same = (c.ping.ensures.kept mid_clean (c.in_default.ensures.live mid_clean)).0 in
+          rw (sym c.self.view_is) (blamed_then (shows g.S.Store old) (shows g.S.Store mid) (shows g.S.Store done.new.store) _ _ mid_clean c.ping.ensures.survives done.ensures.does.crash
+          (done.ensures.refused only (subst (λ (d : Database). AreTableTexts (rows_of d.trees)) (sym same) (rw (← c.self.view_is) at texts)) clean told));
     }

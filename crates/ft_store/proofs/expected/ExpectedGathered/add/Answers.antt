@@ -12,4 +12,4 @@ returns-clause-added c = λ rows h tab.
     let so_far = ap (λ ls. map (found_places tab) rows ++ ls) (next.left tab) ∙ before ∙ ap (λ ts. lists_by_terms tab ts.items) (sym next.terms) in
     let rest = c.split_at.ensures.back ∙ ap (drop left.posting) c.as_slice.ensures.value in
     next_found tab left.terms.items left.term left.posting c.index-term.result.now c.split_at.result.1.now c.split_at-2.result.0.now c.first_list-count.result next.next c.index-term.ensures rest c.first_list-count.ensures c.split_at-2.ensures.front
-    rows _ so_far c.args.row.now c.in_ok-same.same (rw c.as_str.ensures.value at (c.in_ok-same.ensures.found tab))
+    rows _ so_far c.args.row.now c.in_ok-same.same (rw c.as_str.ensures.value at (c.in_ok-same.ensures.found.found tab))

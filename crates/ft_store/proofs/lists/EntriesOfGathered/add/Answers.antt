@@ -29,8 +29,8 @@ pub returns-clause-added : goal.returns-clause-added
 returns-clause-added c = λ rows h tab.
     let row = c.args.row.now in
     let before = rw c.if-not-whole.false at (h tab) in
-    let found = rw c.in-Some.is at c.in_ok-list.ensures.found in
-    let term = rw c.in-Some-2.is at c.in_ok-term.ensures.found in
+    let found = rw c.in-Some.is at c.in_ok-list.ensures.found.found in
+    let term = rw c.in-Some-2.is at c.in_ok-term.ensures.found.found in
     let old = map shown_entry c.args.self.now.entries.items in (
       entries_more (found_places tab) row list_entries rows old _ (c.in_ok-push_entries.ensures ∙ ap₂ (λ t l. old ++ entries_with t l) term.0 found.0) before.0,
       all_more IsTold (found_places tab) row rows before.1 (found.1, term.1),

@@ -11,4 +11,4 @@ use Rattle.ft_store.proofs.store.Store.entries.Goals as goal
 pub returns-clause-rows : goal.returns-clause-rows
 returns-clause-rows g c = λ clean.
     let lists = (value_of (state g.S.Store c.self.inside.conn).now.trees).lists in
-    rw (← c.self.view_is) (subst (λ (p : ListKey → Bool). (map shown_entry c.in_ok-found.found.items ≡ entries_of (where_key list_key_cmp p lists)) × AreTold (where_key list_key_cmp p lists)) (sym (all_begin c.args.tab [] refl)) (simp (to_z-of_z, c.ranges.tab) at (c.in_ok-found.ensures.rows clean)))
+    rw (← c.self.view_is) (subst (λ (p : ListKey → Bool). (map shown_entry c.in_ok-found.found.items ≡ entries_of (where_key list_key_cmp p lists)) × AreTold (where_key list_key_cmp p lists)) (sym (all_begin c.args.tab [] refl)) (simp (to_z-of_z, c.ranges.tab) at (c.in_ok-found.ensures.given.rows clean)))

@@ -1,4 +1,4 @@
-use Rattle.std.proofs.Common.{pos, sym, subst, ◌∙◌, arith}
+use Rattle.std.proofs.Common.{rules, pos, sym, subst, ◌∙◌, arith}
 use Rattle.sqlite.specs.Given.{IsPlain}
 use Rattle.sqlite.specs.Listing.{understood}
 use Rattle.sqlite.specs.Held.{state}
@@ -6,6 +6,7 @@ use Rattle.ft_rows.specs.Store.{name_cmp}
 use Rattle.ft_store.proofs.Texts.{noted_text}
 use Rattle.ft_store.proofs.TextLemmas.{noted_plain}
 use Rattle.ft_store.proofs.AnswerLemmas.{noted_shown, all_kept}
+use Rattle.ft_store.proofs.AskedLemmas.{noted_blamed}
 use Rattle.ft_store.proofs.store.Store.noted.Goals as goal
 
 pub select-requires : goal.select-requires
@@ -15,7 +16,14 @@ pub returns-clause-rows : goal.returns-clause-rows
 returns-clause-rows g c = λ clean.
     let old = state g.S.Store c.self.inside.conn in
     let new = state g.S.Store c.select.new.conn in
-    let store = c.self.invariant.store (omega (arith, c.select.ensures.read.survives.clean)) in
+    let store = c.self.invariant.store (omega (arith, c.select.ensures.given.read.survives.clean)) in
     let found = c.in_ok-found.found in
-    let h = c.in_ok-found.ensures.rows clean in
+    let h = c.in_ok-found.ensures.given.rows clean in
     rw (sym c.self.view_is) (h.2 (pos 0) ∙ noted_shown old new h.0 store h.1 ∙ all_kept name_cmp _)
+
+pub returns-in_err-found-clause-refused : goal.returns-in_err-found-clause-refused
+returns-in_err-found-clause-refused g c = λ texts clean is.
+    let old = state g.S.Store c.self.inside.conn in
+    let new = state g.S.Store c.select.new.conn in
+    let why = c.select.ensures.refused clean (search rules) in
+    rw (sym c.self.view_is) (noted_blamed old new (rw (← c.self.view_is) at texts) (c.self.invariant.store (omega (arith, c.select.ensures.given.read.survives.clean, clean))) why)

@@ -1,7 +1,9 @@
 -- where it is refused, nothing is run
-use Rattle.std.proofs.Common.{not, [], refl, ap, ◌∙◌, subst, rules}
+use Rattle.std.proofs.Common.{not, [], refl, ap, ◌∙◌, subst, rules, arith}
 use Rattle.sqlite.specs.Held.{state}
 use Rattle.ft_store.specs.Kept.{Pings, StoreState}
+use Rattle.ft_store.proofs.AskedLemmas.{nothing_blamed}
+use Rattle.ft_store.proofs.BlameLemmas.{not_memory}
 use Rattle.ft_store.proofs.CallLemmas.{kept_either, not_run}
 use Rattle.ft_store.proofs.ChainLemmas.{kept_store}
 use Rattle.ft_store.proofs.store.Store.ping.Goals as goal
@@ -27,4 +29,5 @@ returns-in_err-_statement g c =
       survives = c.prepare.ensures.survives;
       unread = refl;
       cause = search rules;
+      refused = λ clean is. nothing_blamed old new (c.self.invariant.store (omega (arith, c.prepare.ensures.survives.clean, clean))) _ (not_memory _ (search rules)) (c.in_err-_statement.ensures.err clean []);
     })

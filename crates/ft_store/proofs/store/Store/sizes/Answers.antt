@@ -1,10 +1,11 @@
-use Rattle.std.proofs.Common.{to_z-of_z, sym, subst, ◌∙◌, arith}
+use Rattle.std.proofs.Common.{rules, to_z-of_z, sym, subst, ◌∙◌, arith}
 use Rattle.sqlite.specs.Given.{IsPlain}
 use Rattle.sqlite.specs.Listing.{understood}
 use Rattle.sqlite.specs.Held.{state}
 use Rattle.ft_store.proofs.Texts.{sizes_text}
 use Rattle.ft_store.proofs.TextLemmas.{sizes_plain}
 use Rattle.ft_store.proofs.AnswerLemmas.{sizes_shown}
+use Rattle.ft_store.proofs.AskedLemmas.{sizes_blamed}
 use Rattle.ft_store.proofs.store.Store.sizes.Goals as goal
 
 pub select-requires : goal.select-requires
@@ -14,7 +15,14 @@ pub returns-clause-rows : goal.returns-clause-rows
 returns-clause-rows g c = λ clean.
     let old = state g.S.Store c.self.inside.conn in
     let new = state g.S.Store c.select.new.conn in
-    let store = c.self.invariant.store (omega (arith, c.select.ensures.read.survives.clean)) in
+    let store = c.self.invariant.store (omega (arith, c.select.ensures.given.read.survives.clean)) in
     let found = c.in_ok-found.found in
-    let h = c.in_ok-found.ensures.rows clean in
+    let h = c.in_ok-found.ensures.given.rows clean in
     rw (sym c.self.view_is) (h.2 c.args.tab ∙ sizes_shown c.args.tab old new h.0 store (simp (to_z-of_z, c.ranges.tab) at (rw c.params-to_sql.ensures at h.1)))
+
+pub returns-in_err-found-clause-refused : goal.returns-in_err-found-clause-refused
+returns-in_err-found-clause-refused g c = λ clean is.
+    let old = state g.S.Store c.self.inside.conn in
+    let new = state g.S.Store c.select.new.conn in
+    let why = c.select.ensures.refused clean (search rules) in
+    rw (sym c.self.view_is) (sizes_blamed c.args.tab old new (c.self.invariant.store (omega (arith, c.select.ensures.given.read.survives.clean, clean))) (simp (to_z-of_z, c.ranges.tab) at (rw (c.params-to_sql.ensures) at why)))

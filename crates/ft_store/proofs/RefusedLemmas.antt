@@ -1,0 +1,286 @@
+-- A statement of a change is refused only by what lies outside the store.
+use Rattle.std.proofs.Common.{◌≡◌, ◌≢◌, ◌∙◌, ◌∷◌, ◌||◌, ◌⊎◌, ℕ, zero, suc, ℤ, Bool, true, false, not, nat_lt, List, [], length, Option, Some, None, Ok, Err, inl, inr, refl, sym, ap, subst, arith, IsTrue, true≢false, append-nil, length-append, slice_get, ne_eqb, eq-eqb}
+use Rattle.std.specs.Prelude.{IsSome}
+use Rattle.sqlite.specs.Order.{Row}
+use Rattle.sqlite.specs.Tree.{Trees}
+use Rattle.sqlite.specs.Table.{Table}
+use Rattle.sqlite.specs.Term.{Term}
+use Rattle.sqlite_trees.specs.Tree.{IsAscending, with_tree}
+use Rattle.sqlite.specs.Command.{Command}
+use Rattle.sqlite.specs.Command.TheVariants.{Delete}
+use Rattle.sqlite.specs.Effect.{is_query}
+use Rattle.sqlite.specs.Listing.{understood}
+use Rattle.sqlite.specs.Rows.{Task, Queried}
+use Rattle.sqlite.specs.Does.{Does, OnRows, AtPlace, due}
+use Rattle.sqlite.specs.State.{State, HasCause, IsNotRun, ExecutesIn, ExecutesInside, EndsScope, Fails, text_of, mode_of, store_error, is_pragma}
+use Rattle.sqlite.specs.declared.error.Error.{Error}
+use Rattle.sqlite.specs.declared.error.Error.TheVariants.{SqliteFailure}
+use Rattle.sqlite.specs.declared.error.ErrorCode.TheVariants as code
+use Rattle.sqlite.proofs.Callers.{IsPlain, command_of}
+use Rattle.sqlite_trees.specs.declared.error.StoreError.{StoreError}
+use Rattle.sqlite_trees.specs.declared.error.StoreError.TheVariants.{OutOfMemory, Io, Corrupt, Full, Broken, Unstorable}
+use Rattle.sqlite_schema.specs.declared.schema.Among.{Among}
+use Rattle.sqlite_schema.specs.declared.schema.Constraint.TheVariants.{Datatype, NotNull, Check, PrimaryKey, Unique, ForeignKey}
+use Rattle.sqlite_schema.specs.declared.schema.Keys.TheVariants.{Enforced}
+use Rattle.sqlite_schema.specs.Rules.{Refers}
+use Rattle.sqlite_rules.specs.Lists.{Has}
+use Rattle.sqlite_rules.specs.Keys.{are_unique}
+use Rattle.sqlite_rules.specs.Edit.{Edit, edit_of, edited, without_all, IsRefused}
+use Rattle.sqlite_rules.specs.Calls.{ids_of}
+use Rattle.sqlite_rules.specs.declared.error.Rowids.TheVariants.{Given}
+use Rattle.sqlite_rules.specs.declared.error.Refusal.{Refusal}
+use Rattle.sqlite_rules.specs.declared.error.Refusal.TheVariants.{Violates, Mismatch, NoRowid, BadReference, TooDeep}
+use Rattle.sqlite_rules.specs.Action.{Writes, Leads}
+use Rattle.sqlite_rules.proofs.RuleLemmas.{Turns, unique_kept}
+use Rattle.sqlite_rules.proofs.TableLemmas.{without_all_has}
+use Rattle.sqlite_catalog.specs.Listing.{IsSound}
+use Rattle.sqlite_keyed.proofs.ListLemmas.{all_of}
+use Rattle.ft_store.specs.Tables.{store_schema, tab_table, col_table, cell_table, posting_table, sizes_table, skip_table}
+use Rattle.ft_values.specs.declared.rows.RowChange.{RowChange}
+use Rattle.ft_values.specs.declared.rows.RowChange.TheVariants as row
+use Rattle.std.proofs.Common.{All}
+use Rattle.ft_store.specs.Groups.{PutsList}
+use Rattle.ft_store.specs.Blame.{IsBlamed, TakesOut}
+use Rattle.ft_store.specs.Calls.{IsStore}
+use Rattle.ft_store.proofs.TextLemmas.{table_query, no_limit, no_offset, drop_name_terms, drop_name_is, drop_name_plain, drop_columns_terms, drop_columns_is, drop_columns_plain, drop_contents_terms, drop_contents_is, drop_contents_plain, drop_cells_terms, drop_cells_is, drop_cells_plain, drop_lists_terms, drop_lists_is, drop_lists_plain, drop_list_terms, drop_list_is, drop_list_plain, drop_sizes_terms, drop_sizes_is, drop_sizes_plain, drop_size_terms, drop_size_is, drop_size_plain, drop_skips_terms, drop_skips_is, drop_skips_plain}
+use Rattle.ft_store.proofs.Texts.{drop_name_text, drop_columns_text, drop_contents_text, drop_cells_text, drop_lists_text, drop_list_text, drop_sizes_text, drop_size_text, drop_skips_text}
+use Rattle.sqlite.specs.Query.{Query}
+use Rattle.sqlite.specs.Calls.{IsWrite}
+use Rattle.sqlite_tied.specs.Compute.{everything}
+use Rattle.sqlite.specs.declared.types.Value.TheVariants.{Int, Text}
+use Rattle.ft_store.proofs.BlameLemmas.{fails_blamed}
+use Rattle.ft_store.proofs.AskedLemmas.{is_whole, is_statement, IsTyped, table_limited}
+
+-- ---- any statement
+
+fails_unless : (old new : State) (e : Error) (TooBig Why : Type 0) → (IsBlamed old new → Why) → (TooBig → Why) → e ≢ SqliteFailure code.OutOfMemory → Fails old new TooBig e → Why
+fails_unless old new e TooBig Why blamed big other h = go h.0 h.1 h.2
+  where
+    go : (cause : StoreError) → e ≡ store_error cause → HasCause old new TooBig cause → Why
+    go OutOfMemory is cause = absurd (other is)
+    go Io is cause = blamed (inl cause)
+    go Corrupt is cause = blamed (inl cause)
+    go Full is cause = blamed (inl cause)
+    go Broken is cause = blamed (inr (inl cause))
+    go Unstorable is cause = big cause
+
+-- a statement on an open store is refused only by what lies outside it
+abbrev pub RunOnlyBlamed : State → State → List ℕ → Row → Type 0
+RunOnlyBlamed old new sql params = (IsTrue old.is_open → IsStore old.now) → (e : Error) × (e ≢ SqliteFailure code.OutOfMemory) × ExecutesInside 0 sql params old new (Err e) → IsBlamed old new
+
+-- the command can't be done on the rows that are there
+abbrev pub CantDo : State → Row → Command → Type 0
+CantDo s params command = (text : List ℕ) × (stop : Option Error) × Does s.step_limit (mode_of s) params s.now text None command (Err stop)
+
+-- why a statement that writes is refused
+module _ (old new : State) (sql : List ℕ) (params : Row) (has : old.now.schema ≡ store_schema) (command : Command) (is : command_of (understood store_schema sql) ≡ command) (plain : IsPlain (understood store_schema sql))
+    (whole : is_whole sql (length params) (understood store_schema sql) ≡ true) (writes : IsWrite command) (quiet : (is_query command || (is_pragma command || false)) ≡ false) where
+  is_other : (k : Command) → command ≡ k → (IsWrite k → ⊥) → ⊥
+  is_other k same not = not (subst IsWrite same writes)
+
+  pub write_refused : (e : Error) → e ≢ SqliteFailure code.OutOfMemory → ExecutesInside 0 sql params old new (Err e) → IsBlamed old new ⊎ CantDo old params command
+  unfolding ExecutesIn IsNotRun EndsScope
+  write_refused e other (inr ((c, it, escapes), error, same)) =
+      let here : understood store_schema sql ≡ Ok c = sym (ap (λ s. understood s sql) has) ∙ it.is in
+      let k : command ≡ c.command = sym is ∙ ap command_of here in
+      absurd (elim escapes [
+        | inl (inl a) ↦ is_other _ (k ∙ a) (λ w. w)
+        | inl (inr a) ↦ is_other _ (k ∙ a) (λ w. w)
+        | inr (name, inl a, held) ↦ is_other _ (k ∙ a) (λ w. w)
+        | inr (name, inr a, held) ↦ is_other _ (k ∙ a) (λ w. w)
+      ])
+  write_refused e other (inl (inl (inl none), kept)) = absurd (is_statement old sql params has plain whole e none.0)
+  write_refused e other (inl (inl (inr fails), kept)) = inl (fails_blamed old new e other fails)
+  write_refused e other (inl (inr (c, it, alone), kept)) =
+      let here : understood store_schema sql ≡ Ok c = sym (ap (λ s. understood s sql) has) ∙ it.is in
+      let same : c.command ≡ command = ap command_of (sym here) ∙ is in
+      let bare = subst IsPlain here plain in
+      elim (rw (same, bare.0, bare.1, append-nil params, quiet) at alone) [
+        | inl (inl misplaced, kept) ↦ absurd (elim misplaced [
+          | inl a ↦ elim a.1 [ inl b ↦ is_other _ b.0 (λ w. w) | inr b ↦ elim b.0 [ inl k ↦ is_other _ k (λ w. w) | inr k ↦ is_other _ k (λ w. w) ] ]
+          | inr a ↦ elim a.2 [ inl k ↦ is_other _ k (λ w. w) | inr k ↦ is_other _ k (λ w. w) ]
+        ])
+        | inl (inr does, kept) ↦ inr (text_of sql c, Some e, does.1)
+        | inr fails ↦ fails_unless old new e _ _ (λ b. inl b) (λ big. inr (text_of sql c, None, big)) other fails
+      ]
+
+-- ---- DELETE
+
+apart : IsAscending (λ (a b : Table). a.tree ≡ b.tree → ⊥) store_schema.tables
+apart = ((λ e. omega (arith, e), (λ e. omega (arith, e), (λ e. omega (arith, e), (λ e. omega (arith, e), (λ e. omega (arith, e), (λ e. omega (arith, e), (λ e. omega (arith, e), tt))))))), ((λ e. omega (arith, e), (λ e. omega (arith, e), (λ e. omega (arith, e), (λ e. omega (arith, e), (λ e. omega (arith, e), (λ e. omega (arith, e), tt)))))), ((λ e. omega (arith, e), (λ e. omega (arith, e), (λ e. omega (arith, e), (λ e. omega (arith, e), (λ e. omega (arith, e), tt))))), ((λ e. omega (arith, e), (λ e. omega (arith, e), (λ e. omega (arith, e), (λ e. omega (arith, e), tt)))), ((λ e. omega (arith, e), (λ e. omega (arith, e), (λ e. omega (arith, e), tt))), ((λ e. omega (arith, e), (λ e. omega (arith, e), tt)), ((λ e. omega (arith, e), tt), (tt, tt))))))))
+
+refers : (among : Among) (db : Trees) → Refers among store_schema db
+refers among db = (all_of _ (λ r. refl) (db 0), (all_of _ (λ r. refl) (db 1), (all_of _ (λ r. refl) (db 3), (all_of _ (λ r. refl) (db 5), (all_of _ (λ r. refl) (db 7), (all_of _ (λ r. refl) (db 9), (all_of _ (λ r. refl) (db 11), (all_of _ (λ r. refl) (db 13), tt))))))))
+
+module _ (db : Trees) (sound : IsSound store_schema db) (table : Table) (listed : Has store_schema.tables table) (unique : (new : Trees) → are_unique store_schema.indexes new table [] ≡ true) (ids : List ℤ) where
+  abbrev gone : Edit
+  gone = edit_of db table ids Given 0 []
+
+  here : (rows : List Row) → with_tree db table.tree rows table.tree ≡ rows
+  here rows = rw (eq-eqb table.tree table.tree refl) refl
+
+  turned : Turns store_schema db (with_tree db table.tree (edited db gone)) table (without_all (db table.tree) ids) (db table.tree) []
+  turned = record {
+    apart = apart;
+    listed = listed;
+    others = λ t known other. rw (ne_eqb t.tree table.tree other) refl;
+    from = λ r h. inr (subst (λ l. Has l r) (here _) h);
+    stays = λ r h. subst (λ l. Has l r) (sym (here _)) h;
+    added = λ r h. absurd h;
+    was = λ r h. without_all_has ids (db table.tree) r h;
+    split = λ r h. inr h;
+  }
+
+  or_true : (b : Bool) → (not b || true) ≡ true
+  or_true true = refl
+  or_true false = refl
+
+  never_refused : (why : Refusal) → ¬ IsRefused store_schema Enforced db gone why
+  never_refused (Violates Datatype) h = true≢false h
+  never_refused (Violates NotNull) h = true≢false h
+  never_refused (Violates Check) h = true≢false h
+  never_refused (Violates PrimaryKey) h = true≢false h
+  never_refused (Violates Unique) h = h (unique_kept store_schema db (with_tree db table.tree (edited db gone)) table _ _ [] turned (unique (with_tree db table.tree (edited db gone))) (sound.obeys.rules Unique))
+  never_refused (Violates ForeignKey) h = h
+  never_refused Mismatch h = true≢false h
+  never_refused NoRowid h = true≢false h
+  never_refused BadReference h = true≢false (sym (or_true (nat_lt 0 (length ids))) ∙ h)
+  never_refused TooDeep h = h
+
+  never_fails : (why : Option Refusal) → ¬ Writes store_schema Enforced db gone (Err why)
+  never_fails why (inl refused) = never_refused refused.0 refused.1
+  never_fails why (inr (inl big)) = big.1
+  never_fails why (inr (inr went)) = settled went.2.0 went.2.1
+    where
+      settled : (n : ℕ) → Leads store_schema Enforced n went.0 [] (Err why) → ⊥
+      settled zero h = absurd (let e = h.1 in cc)
+      settled (suc n) h = absurd (omega (arith, ap length h.2, length-append h.0 (h.1 ∷ [])))
+
+-- a DELETE of an open store's rows is refused only by what lies outside it
+module _ (old new : State) (sql : List ℕ) (params : Row) (at : ℕ) (table : Table) (terms : List Term) where
+  abbrev the_query : Query
+  the_query = table_query table.tree terms (0 ∷ []) []
+
+  queried : IsTyped the_query params → (trees : Trees) (stop : Option Error) → Queried old.step_limit (record { schema = store_schema; trees = trees }) (record { lets = []; body = the_query }) params (Err stop) → IsSome old.step_limit
+  queried typed trees None h = absurd h
+  queried typed trees (Some e) h = table_limited table.tree terms (0 ∷ []) [] no_limit no_offset params typed old.step_limit (record { schema = store_schema; trees = trees }) e refl h
+
+  delete_limited : IsStore old.now → slice_get store_schema.tables at ≡ Some table → Has store_schema.tables table → ((new : Trees) → are_unique store_schema.indexes new table [] ≡ true) → IsTyped the_query params
+      → CantDo old params (Delete at (record { lets = []; body = the_query })) → IsSome old.step_limit
+  delete_limited store found listed unique typed (text, stop, does) =
+      let db = old.now.trees in
+      let command = Delete at (record { lets = []; body = the_query }) in
+      let sound : IsSound store_schema db = subst (λ c. IsSound c db) store.schema store.sound in
+      let task : Task = record { limit = old.step_limit; keys = (mode_of old).keys; schema = store_schema; table = table; params = params } in
+      let begun = subst (λ c. Does old.step_limit (mode_of old) params (record old.now { schema = c }) text None command (Err stop)) store.schema does in
+      let on : OnRows task (mode_of old) None command db (Err stop) = subst (λ o. AtPlace (λ t. OnRows (record task { table = t }) (mode_of old) None command db) o (Err stop)) found begun in
+      elim on [
+        | inl writes ↦ elim writes.1 [
+          | inl asked ↦ queried typed db asked.0 asked.1
+          | inr asked ↦ absurd (elim asked.2 [
+            | inl wrote ↦ never_fails db sound table listed unique (ids_of asked.0) wrote.1.0 wrote.1.1
+            | inr wrote ↦ (let e = wrote.2 in cc)
+          ])
+        ]
+        | inr wrote ↦ absurd (elim wrote.2 [
+          | inl tested ↦ tested.1.0 (refers (due (mode_of old)) wrote.0.trees)
+          | inr tested ↦ elim tested.2 [
+            | inl shown ↦ (let e = shown.1 in cc)
+            | inr shown ↦ (let e = shown.2 in cc)
+          ]
+        ])
+      ]
+
+  pub delete_blamed : command_of (understood store_schema sql) ≡ Delete at (record { lets = []; body = the_query }) → IsPlain (understood store_schema sql) → is_whole sql (length params) (understood store_schema sql) ≡ true
+      → slice_get store_schema.tables at ≡ Some table → Has store_schema.tables table → ((new : Trees) → are_unique store_schema.indexes new table [] ≡ true) → IsTyped the_query params → RunOnlyBlamed old new sql params
+  delete_blamed is plain whole found listed unique typed store (e, other, ran) = by_open old.is_open refl
+    where
+      by_open : (o : Bool) → old.is_open ≡ o → IsBlamed old new
+      by_open false shut = inr (inl shut)
+      by_open true is_open =
+          let kept = store is_open in
+          elim (write_refused old new sql params kept.schema _ is plain whole tt refl e other ran) [ inl blamed ↦ blamed | inr cant ↦ inr (inr (delete_limited kept found listed unique typed cant)) ]
+
+-- ---- the deletions
+
+drop_name_whole : is_whole drop_name_text 1 (understood store_schema drop_name_text) ≡ true
+unfolding understood everything
+drop_name_whole = refl
+
+pub drop_name_blamed : (tab : ℤ) (old new : State) → RunOnlyBlamed old new drop_name_text (Int tab ∷ [])
+drop_name_blamed tab old new =
+    delete_blamed old new drop_name_text (Int tab ∷ []) 1 (tab_table 1) drop_name_terms drop_name_is drop_name_plain drop_name_whole refl (inr (inl refl)) (λ db. refl) (λ db has no. true≢false (rw has at no))
+
+drop_columns_whole : is_whole drop_columns_text 1 (understood store_schema drop_columns_text) ≡ true
+unfolding understood everything
+drop_columns_whole = refl
+
+pub drop_columns_blamed : (tab : ℤ) (old new : State) → RunOnlyBlamed old new drop_columns_text (Int tab ∷ [])
+drop_columns_blamed tab old new =
+    delete_blamed old new drop_columns_text (Int tab ∷ []) 2 (col_table 3) drop_columns_terms drop_columns_is drop_columns_plain drop_columns_whole refl (inr (inr (inl refl))) (λ db. refl) (λ db has no. true≢false (rw has at no))
+
+drop_contents_whole : is_whole drop_contents_text 1 (understood store_schema drop_contents_text) ≡ true
+unfolding understood everything
+drop_contents_whole = refl
+
+pub drop_contents_blamed : (tab : ℤ) (old new : State) → RunOnlyBlamed old new drop_contents_text (Int tab ∷ [])
+drop_contents_blamed tab old new =
+    delete_blamed old new drop_contents_text (Int tab ∷ []) 3 (cell_table 5) drop_contents_terms drop_contents_is drop_contents_plain drop_contents_whole refl (inr (inr (inr (inl refl)))) (λ db. refl) (λ db has no. true≢false (rw has at no))
+
+drop_cells_whole : is_whole drop_cells_text 2 (understood store_schema drop_cells_text) ≡ true
+unfolding understood everything
+drop_cells_whole = refl
+
+pub drop_cells_blamed : (tab : ℤ) (docid : ℤ) (old new : State) → RunOnlyBlamed old new drop_cells_text (Int tab ∷ Int docid ∷ [])
+drop_cells_blamed tab docid old new =
+    delete_blamed old new drop_cells_text (Int tab ∷ Int docid ∷ []) 3 (cell_table 5) drop_cells_terms drop_cells_is drop_cells_plain drop_cells_whole refl (inr (inr (inr (inl refl)))) (λ db. refl) (λ db has no. true≢false (rw has at no))
+
+drop_lists_whole : is_whole drop_lists_text 1 (understood store_schema drop_lists_text) ≡ true
+unfolding understood everything
+drop_lists_whole = refl
+
+pub drop_lists_blamed : (tab : ℤ) (old new : State) → RunOnlyBlamed old new drop_lists_text (Int tab ∷ [])
+drop_lists_blamed tab old new =
+    delete_blamed old new drop_lists_text (Int tab ∷ []) 4 (posting_table 7) drop_lists_terms drop_lists_is drop_lists_plain drop_lists_whole refl (inr (inr (inr (inr (inl refl))))) (λ db. refl) (λ db has no. true≢false (rw has at no))
+
+drop_list_whole : is_whole drop_list_text 3 (understood store_schema drop_list_text) ≡ true
+unfolding understood everything
+drop_list_whole = refl
+
+pub drop_list_blamed : (tab : ℤ) (term : List ℕ) (docid : ℤ) (old new : State) → RunOnlyBlamed old new drop_list_text (Int tab ∷ Text term ∷ Int docid ∷ [])
+drop_list_blamed tab term docid old new =
+    delete_blamed old new drop_list_text (Int tab ∷ Text term ∷ Int docid ∷ []) 4 (posting_table 7) drop_list_terms drop_list_is drop_list_plain drop_list_whole refl (inr (inr (inr (inr (inl refl))))) (λ db. refl) (λ db has no. true≢false (rw has at no))
+
+drop_sizes_whole : is_whole drop_sizes_text 1 (understood store_schema drop_sizes_text) ≡ true
+unfolding understood everything
+drop_sizes_whole = refl
+
+pub drop_sizes_blamed : (tab : ℤ) (old new : State) → RunOnlyBlamed old new drop_sizes_text (Int tab ∷ [])
+drop_sizes_blamed tab old new =
+    delete_blamed old new drop_sizes_text (Int tab ∷ []) 5 (sizes_table 9) drop_sizes_terms drop_sizes_is drop_sizes_plain drop_sizes_whole refl (inr (inr (inr (inr (inr (inl refl)))))) (λ db. refl) (λ db has no. true≢false (rw has at no))
+
+drop_size_whole : is_whole drop_size_text 3 (understood store_schema drop_size_text) ≡ true
+unfolding understood everything
+drop_size_whole = refl
+
+pub drop_size_blamed : (tab : ℤ) (docid : ℤ) (column : ℤ) (old new : State) → RunOnlyBlamed old new drop_size_text (Int tab ∷ Int docid ∷ Int column ∷ [])
+drop_size_blamed tab docid column old new =
+    delete_blamed old new drop_size_text (Int tab ∷ Int docid ∷ Int column ∷ []) 5 (sizes_table 9) drop_size_terms drop_size_is drop_size_plain drop_size_whole refl (inr (inr (inr (inr (inr (inl refl)))))) (λ db. refl) (λ db has no. true≢false (rw has at no))
+
+drop_skips_whole : is_whole drop_skips_text 1 (understood store_schema drop_skips_text) ≡ true
+unfolding understood everything
+drop_skips_whole = refl
+
+pub drop_skips_blamed : (tab : ℤ) (old new : State) → RunOnlyBlamed old new drop_skips_text (Int tab ∷ [])
+drop_skips_blamed tab old new =
+    delete_blamed old new drop_skips_text (Int tab ∷ []) 7 (skip_table 13) drop_skips_terms drop_skips_is drop_skips_plain drop_skips_whole refl (inr (inr (inr (inr (inr (inr (inr (inl refl)))))))) (λ db. refl) (λ db has no. true≢false (rw has at no))
+
+-- ---- changes that only take rows out
+
+takes_no_list : (change : RowChange) → PutsList change → TakesOut change → ⊥
+takes_no_list (row.PutEntries tab term docid spots) puts takes = true≢false (sym takes)
+takes_no_list _ puts takes = absurd puts
+
+pub no_group : (changes : List RowChange) → length changes ≡ 8 → All PutsList changes → All TakesOut changes → ⊥
+no_group [] eight puts takes = absurd (omega (arith, eight))
+no_group (c ∷ cs) eight puts takes = takes_no_list c (puts 0 c (omega arith)) (takes 0 c (omega arith))
