@@ -1,3 +1,4 @@
 -- Meaning
 pub mod Reading
 pub mod Opening
+pub mod Hosts

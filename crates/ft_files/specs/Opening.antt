@@ -1,5 +1,5 @@
 -- Meaning. The two databases of a command line (own choice).
-use Rattle.std.specs.Prelude.{◌≡◌, ◌⊎◌, ℕ, List, ◌++◌, Bool, false, length, nat_eq, nat_lt, if◌then◌else◌, codes, Result, IfOk, IfErr}
+use Rattle.std.specs.Prelude.{◌≡◌, ◌⊎◌, ℕ, List, ◌++◌, Bool, true, false, bit_and, length, nat_eq, nat_lt, if◌then◌else◌, codes, Result, IfOk, IfErr}
 use Rattle.std.specs.List.{starts_with}
 use Rattle.std.specs.Option.{option_map_or}
 use Rattle.std.specs.Path.{path_file_name}
@@ -15,7 +15,7 @@ use Rattle.ft_store.specs.declared.fault.StoreFault.{StoreFault}
 use Rattle.ft_store.specs.declared.fault.StoreFault.TheVariants as store
 use Rattle.ft_store.specs.Calls.{IsPlainFault}
 use Rattle.ft_store.specs.Kept.{StoreState, shows, value_in}
-use Rattle.ft_store.specs.Opened.{IsNewFrom, IsNotTakenFrom, IsOpenedFrom}
+use Rattle.ft_store.specs.Opened.{IsNotTakenFrom, IsOpenedFrom}
 use Rattle.ft_files.specs.declared.databases.OpenFault.{OpenFault}
 use Rattle.ft_files.specs.declared.databases.OpenFault.TheVariants as fault
 
@@ -36,6 +36,13 @@ has_long_name path = option_map_or (λ name. nat_lt 242 (length name)) (path_fil
 -- the file of the full-text store, beside that of the plain tables
 abbrev pub store_path : List ℕ → List ℕ
 store_path path = path ++ codes "-fts4"
+
+-- Who may do what with the file of a new store: its owner, its group and all others what they may
+-- do with the file of the plain tables, by the nine lowest bits of its mode; but for the group, with
+-- three of them, where that is another.
+abbrev pub mode_beside : ℕ → Bool → ℕ
+mode_beside mode true = bit_and mode 0x1ff
+mode_beside mode false = bit_and mode 0x1c7
 
 -- what a call opens, and why it opens nothing
 pub record Opens {X : Type 0} (result : Result X OpenFault) (Is : X → Type 0) (IsCause : OpenFault → Type 0) : Type 0 where
@@ -63,16 +70,6 @@ pub record IsStoreFrom {D : Type 0} {g : disk.Ghosts D} (image : Image) (store :
 -- store
 abbrev pub IsNoStoreFor : {D : Type 0} → disk.Ghosts D → Image → OpenFault → Type 0
 IsNoStoreFor g image f = (cause : StoreFault) × (f ≡ fault_of cause) × (IsPlainFault cause ⊎ IsNotTakenFrom g image cause)
-
-abbrev pub IsNoStoreFrom : {D : Type 0} {g : disk.Ghosts D} → Image → Result (StoreState (FileStore D g)) OpenFault → Type 0
-IsNoStoreFrom {D} {g} image result = IfErr result (IsNoStoreFor g image)
-
--- both databases, in files which held these images
-pub record OpensFiles {D E : Type 0} {g : disk.Ghosts D} {h : disk.Ghosts E} (tables texts : Image)
-    (result : Result (Held (FileStore D g) × StoreState (FileStore E h)) OpenFault) : Type 0 where
-  pub plain : IfOk result (λ both. IsNewFrom tables both.0)
-  pub store : IfOk result (λ both. IsStoreFrom texts both.1)
-  pub refused : IfErr result (λ f. (f ≡ fault.Database) ⊎ IsNoStoreFor h texts f)
 
 -- both databases, empty and in memory
 pub record OpensMemory {P S : Type 0} (g : Ghosts P) (h : Ghosts S) (result : Result (Held P × StoreState S) OpenFault) : Type 0 where

@@ -1,6 +1,9 @@
 //! Who may read the file of the full-text store: no more than may read the file of the plain
 //! tables.
 
+ghost use Rattle.std.specs.Prelude.{◌≡◌};
+ghost use Rattle.ft_files.specs.Opening as forms;
+
 use std::fs::{self, File, Metadata, OpenOptions, Permissions};
 use std::io::{self, ErrorKind};
 use std::os::unix::fs::{MetadataExt, OpenOptionsExt, PermissionsExt, fchown};
@@ -21,17 +24,23 @@ fn unless_denied(outcome: io::Result<()>) -> io::Result<()> {
     }
 }
 
-// Gives a new file the group, the owner and the mode of another. The group's bits are left out
-// where the group stays its own.
+// The mode of a new file beside one of this mode, whose group it has or not.
+fn mode_beside(of: u32, has_group: bool) -> u32
+    ensures { result ≡ forms.mode_beside of has_group }
+{
+    if has_group {
+        of & EVERYBODY
+    } else {
+        of & NOT_THE_GROUP
+    }
+}
+
+// Gives a new file the group, the owner and the mode of another, as far as this process may.
 fn copy_access(of: &Metadata, to: &File) -> io::Result<()> {
     unless_denied(fchown(to, None, Some(of.gid())))?;
     unless_denied(fchown(to, Some(of.uid()), None))?;
-    let bits = if to.metadata()?.gid() == of.gid() {
-        EVERYBODY
-    } else {
-        NOT_THE_GROUP
-    };
-    to.set_permissions(Permissions::from_mode(of.mode() & bits))
+    let has_group = to.metadata()?.gid() == of.gid();
+    to.set_permissions(Permissions::from_mode(mode_beside(of.mode(), has_group)))
 }
 
 /// Makes an empty file at `beside`, where none is, with the access that the file at `path` has, as

@@ -3,8 +3,16 @@
 
 mod access;
 mod databases;
+mod host;
+mod hosted;
 mod names;
+mod paths;
 mod source;
+mod system;
 
-pub use databases::{OpenFault, open_files, open_in_memory};
+pub use databases::{OpenFault, open_in_memory};
+pub use host::{Databases, Opened};
+pub use hosted::{Left, close_one, left_files, open_both_in};
+pub use paths::{BothNames, names_of};
 pub use source::SystemFiles;
+pub use system::SystemDatabases;

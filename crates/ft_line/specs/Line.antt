@@ -55,10 +55,10 @@ abbrev pub with_rules : App → List Rule → App
 with_rules app [] = app
 with_rules app (rule ∷ rules) = with_rules (with_rule app rule) rules
 
--- the command as `clap` sees it: it is given its words without the program's name; `clap` adds `-h`
--- and `--help`
+-- the command as `clap` sees it: it is given its words without the program's name, and has a
+-- version; `clap` adds `-h`, `--help`, `-V` and `--version`
 abbrev pub ft4sh : App
-ft4sh = on_top (λ top. record top { no_binary_name = true }) (with_rules (new_app (codes "ft4sh"))
+ft4sh = on_top (λ top. record top { no_binary_name = true; has_version = true }) (with_rules (new_app (codes "ft4sh"))
     (flag (codes "bail") ∷ flag (codes "echo") ∷ flag (codes "header") ∷ flag (codes "noheader")
     ∷ flag (codes "list") ∷ flag (codes "csv") ∷ flag (codes "column") ∷ flag (codes "quote")
     ∷ value_option (codes "separator") ∷ value_option (codes "nullvalue") ∷ file ∷ sql ∷ []))

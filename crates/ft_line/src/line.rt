@@ -151,12 +151,16 @@ const HELP_END: &str = "\
 Dot-commands: .bail .echo .exit .header .headers .import .mode .nullvalue .print .quit .separator .tables
 Manual: man ft4sh, or docs/MANUAL.md";
 
+// The program's version, and the kit that proves and builds it.
+const VERSION: &str = "1.0.0 (rattle-kit-13)";
+
 // The command, which is given its words without the program's name.
 fn command<'a>(alloc: Global) -> Result<Command<'a>, AllocError>
     ensures { IfOk result (λ command. app_of command ≡ forms.ft4sh) }
 {
     let bare = Command::new(alloc, "ft4sh")
         .about("SQL shell with full-text tables")
+        .version(VERSION)
         .after_help(HELP_END)
         .no_binary_name(true);
     let bail = with_flag(alloc, bare, "bail", "Stop after the first fault")?;

@@ -22,9 +22,8 @@ use Rattle.ft_index.specs.Crashes.{IsSettled}
 use Rattle.ft_index.proofs.Calls.{clean_before}
 use Rattle.ft_index.specs.Opened.{Opens}
 use Rattle.plain_shell.specs.Writing.{AppendsUpTo, Sends}
-use Rattle.ft_files.specs.declared.databases.OpenFault.{OpenFault}
 use Rattle.plain_shell.proofs.WriteLemmas.{up_to_part, up_to_whole}
-use Rattle.ft_main.specs.Inputs.{Closes, EndsAs, InTurn, Outputs, RunsAndKeeps, RunsInTurn, RunsOn, RunsOne, Stage, WritesOwn, due, exit_status}
+use Rattle.ft_main.specs.Inputs.{Closes, EndsAs, InTurn, Outputs, RunsAndKeeps, RunsInTurn, RunsOne, RunsOver, Stage, WritesOwn, due, exit_status}
 
 module _ {P S : Type 0} (g : Ghosts P) (h : Ghosts S) where
   -- what is answered of a run is what its turns told
@@ -187,11 +186,10 @@ clean_from_first : {P S : Type 0} (g : Ghosts P) (h : Ghosts S) (old new : Parts
 clean_from_first g h old new all ran clean = clean_before h old.full_text new.full_text all.calls (all_made g h old new all ran) clean
 
 -- the inputs are run over two databases, and then the program ends
-pub runs_over : {P S : Type 0} (g : Ghosts P) (h : Ghosts S) (AreClosed : Parts P S → Type 0) (settings : Settings) (databases : Result (Held P × StoreState S) OpenFault) (plain : Held P) (store : StoreState S) (made : FullText S) (inputs : List (Option (List ℕ))) (ended : Result Status RunFault) (old new : Outputs) (parts : Parts P S) (last : Stage P S) (status : ℕ) →
-    databases ≡ Ok (plain, store) → Opens h store made → IsSettled h made → parts ≡ record { settings = settings; plain = plain; full_text = made } → RunsAndKeeps g h inputs ended (record { parts = parts; on = old }) last → AreClosed last.parts → new.out ≡ last.on.out → Closes ended last.on.err new.err status → RunsOn g h AreClosed settings databases inputs old new status
-runs_over {P} {S} g h AreClosed settings databases plain store made inputs ended old new parts last status both opened settled is (cause, all, turns, ends, ran, kept) closed out closes =
-    let end = closes_as ended cause all last.on.err new.err status ends closes in
-    subst (λ d. RunsOn g h AreClosed settings d inputs old new status) (sym both) (inr (
+pub runs_over : {P S : Type 0} (g : Ghosts P) (h : Ghosts S) (AreClosed : Parts P S → Type 0) (settings : Settings) (plain : Held P) (store : StoreState S) (made : FullText S) (inputs : List (Option (List ℕ))) (ended : Result Status RunFault) (old new : Outputs) (parts : Parts P S) (last : Stage P S) (status : ℕ) →
+    Opens h store made → IsSettled h made → parts ≡ record { settings = settings; plain = plain; full_text = made } → RunsAndKeeps g h inputs ended (record { parts = parts; on = old }) last → AreClosed last.parts → new.out ≡ last.on.out → Closes ended last.on.err new.err status → (it : RunsOver g h settings plain store inputs old new status) × AreClosed it.last.parts
+runs_over {P} {S} g h AreClosed settings plain store made inputs ended old new parts last status opened settled is (cause, all, turns, ends, ran, kept) closed out closes =
+    let end = closes_as ended cause all last.on.err new.err status ends closes in (
       record {
         made = made;
         opened = opened;
@@ -210,4 +208,4 @@ runs_over {P} {S} g h AreClosed settings databases plain store made inputs ended
             (kept first (subst (λ (p : Parts P S). Holds h p.full_text first) (sym is) (opened.marks up first held)) (subst (λ (p : Parts P S). IsSettled h p.full_text) (sym is) settled) clean);
       },
       closed,
-    ))
+    )

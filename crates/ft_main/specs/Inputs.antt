@@ -139,9 +139,3 @@ module _ {P S : Type 0} (g : Ghosts P) (h : Ghosts S) where
     pub ran : AllRan g h (record { settings = settings; plain = plain; full_text = made }) all last.parts
     pub kept : (first : Contents) → StoreHolds (value_in h store) first → IsClean h last.parts.full_text
         → PromiseKept g h first (record { settings = settings; plain = plain; full_text = made }) all last.parts
-
-  -- And both are closed so; or a database isn't opened, or the store can't be read.
-  abbrev pub RunsOn : (Parts P S → Type 0) → Settings → Result (Held P × StoreState S) OpenFault → List (Option (List ℕ)) → Outputs → Outputs → ℕ → Type 0
-  RunsOn AreClosed settings (Ok (plain, store)) inputs old new status = NotOpened opening.Store old new status
-      ⊎ ((it : RunsOver settings plain store inputs old new status) × AreClosed it.last.parts)
-  RunsOn AreClosed settings (Err why) inputs old new status = NotOpened why old new status

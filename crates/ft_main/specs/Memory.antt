@@ -1,15 +1,17 @@
 -- Meaning. What the program does over two empty databases in memory, without a FILE, and so by its
 -- words (own choice).
-use Rattle.std.specs.Prelude.{ℕ, ◌≡◌, ◌⊎◌, List, [], map, Option, Some, None, String, string_bytes, Ok, Err}
+use Rattle.std.specs.Prelude.{ℕ, Bool, true, false, IsTrue, ◌≡◌, ◌⊎◌, List, [], map, Option, Some, None, String, string_bytes, Ok, Err}
 use Rattle.std.specs.declared.alloc.Global.{Global}
-use Rattle.std.specs.Borrow.{RattleType}
 use Rattle.sqlite_disk.specs.declared.Disk as disk
-use Rattle.sqlite_disk.specs.declared.start.Start as first
 use Rattle.sqlite_store.specs.declared.store.FileStore.{FileStore}
 use Rattle.sqlite.specs.Files.{file_state, over_files}
 use Rattle.sqlite.specs.Held.{Held}
 use Rattle.sqlite.specs.Steps.{IsEmpty}
 use Rattle.ram_disk.specs.contracts.disk.RamDisk.TheImpl.{ghosts}
+use Rattle.clap.specs.Values.{kind_of}
+use Rattle.clap.specs.declared.error.Error.{Error}
+use Rattle.clap.specs.declared.error.kind.ErrorKind.{ErrorKind}
+use Rattle.clap.specs.declared.error.kind.ErrorKind.TheVariants as kind
 use Rattle.shell_text.specs.Print.{Settings}
 use Rattle.ft_store.specs.Kept.{StoreState, value_in}
 use Rattle.ft_rows.specs.Store.{nothing_held}
@@ -21,7 +23,8 @@ use Rattle.ft_line.specs.LineGives.{ReadsLine}
 use Rattle.ft_files.specs.declared.databases.OpenFault.{OpenFault}
 use Rattle.ft_files.specs.declared.databases.OpenFault.TheVariants as opening
 use Rattle.ft_main.specs.Inputs.{NotOpened, Outputs, RunsOver, due}
-use Rattle.ft_main.specs.Closed.{AreClosed}
+use Rattle.ft_files.specs.Hosts.{Names, Stay}
+use Rattle.ft_main.specs.Closed.{AreClosed, Closed}
 use Rattle.ft_main.specs.InFiles.{RunsInFiles}
 
 -- The inputs are run from two empty databases, which are closed in the end.
@@ -33,7 +36,9 @@ pub record FromNothing {D : Type 0} (g : disk.Ghosts D) (settings : Settings) (i
   pub runs : RunsOver over_files over_files settings plain store inputs old new status
   -- nothing is supposed of the disk
   pub kept : PromiseKept over_files over_files [] (record { settings = settings; plain = plain; full_text = runs.made }) runs.all runs.last.parts
-  pub closed : AreClosed runs.last.parts
+  pub tables : Closed D
+  pub texts : Closed D
+  pub closed : AreClosed tables texts runs.last.parts
 
 -- a database in memory isn't opened only where there is no memory for it
 abbrev pub IsOfMemory : OpenFault → Type 0
@@ -45,27 +50,39 @@ RunsInMemory settings inputs old new status = ((why : OpenFault) × IsOfMemory w
     ⊎ FromNothing ghosts settings inputs old new status
 
 -- what a command line with this FILE does, or with none
-abbrev pub RunsIn : (A B : RattleType) → first.Ghosts A.Denot → first.Ghosts B.Denot → Option (String Global) → Settings → List (Option (List ℕ)) → Outputs
+abbrev pub RunsIn : {D : Type 0} → disk.Ghosts D → Bool → Names → Names → Option (String Global) → Settings → List (Option (List ℕ)) → Outputs
     → Outputs → ℕ → Type 0
-RunsIn A B tables texts None settings inputs old new status = RunsInMemory settings inputs old new status
-RunsIn A B tables texts (Some path) settings inputs old new status = RunsInFiles A B tables texts settings inputs old new status
+RunsIn g tells held left None settings inputs old new status = (IsTrue tells → Stay held left) × RunsInMemory settings inputs old new status
+RunsIn g tells held left (Some path) settings inputs old new status = RunsInFiles g tells (string_bytes path) held left settings inputs old new status
 
 -- what a command line does
-abbrev pub RunsLine : (A B : RattleType) → first.Ghosts A.Denot → first.Ghosts B.Denot → Line → Option (List ℕ) → Outputs → Outputs → ℕ → Type 0
-RunsLine A B tables texts line standard old new status = RunsIn A B tables texts line.file line.settings
+abbrev pub RunsLine : {D : Type 0} → disk.Ghosts D → Bool → Names → Names → Line → Option (List ℕ) → Outputs → Outputs → ℕ → Type 0
+RunsLine g tells held left line standard old new status = RunsIn g tells held left line.file line.settings
     (due (map string_bytes line.inputs.items) standard) old new status
 
--- Nothing is run of words that mean no line. The status is 2, but for the help, and nothing goes to
--- the output but what `clap` says.
+-- a text of `clap` that the words ask for
+abbrev pub is_asked_for : ErrorKind → Bool
+is_asked_for kind.DisplayHelp = true
+is_asked_for kind.DisplayVersion = true
+is_asked_for _ = false
+
+-- the help and the version go to the output alone, with status 0, and any other text of `clap` to
+-- the errors alone, with status 2
+abbrev pub RefusesWords : Error → Outputs → Outputs → ℕ → Type 0
+RefusesWords e old new status = ((is_asked_for (kind_of e) ≡ true) × (status ≡ 0) × (new.err ≡ old.err))
+    ⊎ ((is_asked_for (kind_of e) ≡ false) × (status ≡ 2) × (new.out ≡ old.out))
+
+-- Nothing is run of words that mean no line, and nothing but the help and the version goes to the
+-- output. The status is 2, but for these.
 abbrev pub RefusesLine : LineFault → Outputs → Outputs → ℕ → Type 0
-RefusesLine (lines.Words e) old new status = (status ≡ 0) ⊎ (status ≡ 2)
+RefusesLine (lines.Words e) old new status = RefusesWords e old new status
 RefusesLine lines.Conflict old new status = (status ≡ 2) × (new.out ≡ old.out)
 RefusesLine lines.BadSeparator old new status = (status ≡ 2) × (new.out ≡ old.out)
 RefusesLine lines.Memory old new status = (status ≡ 2) × (new.out ≡ old.out)
 
--- The words mean a line, and it is run, whatever the files held; or they mean none, or memory lacks
--- to read them.
-abbrev pub Starts : (A B : RattleType) → first.Ghosts A.Denot → first.Ghosts B.Denot → List (List ℕ) → Option (List ℕ) → Outputs → Outputs → ℕ → Type 0
-Starts A B tables texts words standard old new status =
-    ((why : LineFault) × ReadsLine words (Err why) × RefusesLine why old new status)
-    ⊎ ((line : Line) × ReadsLine words (Ok line) × RunsLine A B tables texts line standard old new status)
+-- The words mean a line, and it is run over what a host holds; or they mean none, or memory lacks to
+-- read them: then no name is touched.
+abbrev pub Starts : {D : Type 0} → disk.Ghosts D → Bool → Names → Names → List (List ℕ) → Option (List ℕ) → Outputs → Outputs → ℕ → Type 0
+Starts g tells held left words standard old new status =
+    ((why : LineFault) × ReadsLine words (Err why) × RefusesLine why old new status × (IsTrue tells → Stay held left))
+    ⊎ ((line : Line) × ReadsLine words (Ok line) × RunsLine g tells held left line standard old new status)

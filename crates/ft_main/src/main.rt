@@ -3,7 +3,6 @@
 
 mod start;
 
-use sqlite::Unknown;
 use start::start;
 use std::env;
 use std::io::{self, BufWriter, ErrorKind, Write};
@@ -24,8 +23,6 @@ fn run(rt: &HostRuntime) -> io::Result<u8> {
     Ok(start(
         rt,
         words.as_slice(),
-        Unknown,
-        Unknown,
         &mut rt.stdin(),
         &mut out,
         &mut rt.stderr(),

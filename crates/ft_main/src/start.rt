@@ -1,22 +1,29 @@
 //! The program: its words, its databases, its inputs and its status.
 
-ghost use Rattle.std.specs.Prelude.{◌≡◌, map, Some, string_bytes};
+ghost use Rattle.std.specs.Prelude.{◌≡◌, ◌&&◌, false, is_ok, map, Some, string_bytes};
 ghost use Rattle.sqlite.specs.Files.{over_files};
 ghost use Rattle.plain_shell.specs.Writing.{AppendsUpTo, SameWriters, Sends};
 ghost use Rattle.ft_files.specs.declared.databases.OpenFault.TheVariants as opening;
-ghost use Rattle.ft_main.specs.Closed.{AreClosed, IsLeft, IsStoreLeft};
-ghost use Rattle.ft_main.specs.Inputs.{outputs_of, stage_of, due, RunsInTurn, RunsAndKeeps, Closes, RunsOn, opening_line};
+ghost use Rattle.ft_files.specs.Hosts.{IsLeft, empty_image};
+ghost use Rattle.ft_main.specs.Closed.{IsStoreLeft, RunsOn, TellsClose};
+ghost use Rattle.ft_main.specs.InFiles.{RunsInFiles};
+ghost use Rattle.ft_main.specs.Inputs.{outputs_of, stage_of, due, RunsInTurn, RunsAndKeeps, Closes, opening_line};
 ghost use Rattle.ft_main.specs.Inputs as forms;
-ghost use Rattle.ft_main.specs.Memory.{RefusesLine, Starts};
+ghost use Rattle.ft_main.specs.Memory as memory;
+ghost use Rattle.ft_main.specs.Memory.{RefusesLine, RefusesWords, RunsInMemory, Starts};
 
-use ft_files::{OpenFault, SystemFiles, open_files, open_in_memory};
+use clap::error::ErrorKind;
+use ft_files::{
+    Databases, Left, OpenFault, SystemDatabases, SystemFiles, close_one, left_files, names_of,
+    open_both_in, open_in_memory,
+};
 use ft_index::FullText;
 use ft_line::{Line, LineFault, read_line};
 use ft_shell::{Outputs, RunFault, Session, Status};
 use ft_store::Store;
 use itoa::Buffer;
 use shell_text::{PrintFault, Settings, write_out};
-use sqlite::{Alter, Connection, FileStore, Files, Start};
+use sqlite::{Alter, Connection, File, FileStore};
 use sqlite_disk::Disk;
 use std::alloc::Global;
 use std::io::{Read, Write};
@@ -28,20 +35,34 @@ const FAULTY: u8 = 1;
 
 const NOT_UNDERSTOOD: u8 = 2;
 
-/// Runs the program on words without its own name, and gives its status: 0; 1 where a fault line
-/// was written, a database wasn't opened or the run ended early; 2 where the words aren't
-/// understood. `A` and `B` stand for what the files of the plain tables and of the full-text store
-/// held.
-pub fn start<A: Start, B: Start, R: Read, O: Write, E: Write>(
+/// Runs the program on words without its own name over the files of the system, and gives its
+/// status: 0; 1 where a fault line was written, a database wasn't opened or closed, or the run
+/// ended early; 2 where the words aren't understood.
+pub fn start<R: Read, O: Write, E: Write>(
     rt: &HostRuntime,
     words: &[&str],
-    tables: A,
-    texts: B,
     input: &mut R,
     out: &mut O,
     err: &mut E,
 ) -> u8
-    ensures { Starts A.row B.row A.Start B.Start
+    ensures { Starts ⟦<File as Disk>⟧ false (λ _. empty_image) (λ _. empty_image)
+        (map (λ word. word.now) words.now) (R.remaining input.old)
+        (record { out = O.contents out.old; err = E.contents err.old })
+        (record { out = O.contents out.new; err = E.contents err.new }) result }
+{
+    start_in(rt, words, &mut SystemDatabases { rt }, input, out, err)
+}
+
+/// The same over the databases of any host.
+pub fn start_in<D: Disk + Drop, H: Databases<D>, R: Read, O: Write, E: Write>(
+    rt: &HostRuntime,
+    words: &[&str],
+    host: &mut H,
+    input: &mut R,
+    out: &mut O,
+    err: &mut E,
+) -> u8
+    ensures { Starts D.Disk H.tells (H.holds host.old) (H.holds host.new)
         (map (λ word. word.now) words.now) (R.remaining input.old)
         (record { out = O.contents out.old; err = E.contents err.old })
         (record { out = O.contents out.new; err = E.contents err.new }) result }
@@ -57,19 +78,97 @@ pub fn start<A: Start, B: Start, R: Read, O: Write, E: Write>(
     };
     let inputs = inputs.as_slice();
     match file {
-        None => on_databases(rt, open_in_memory(rt), settings, inputs, input, outputs),
-        Some(path) => on_databases(
-            rt,
-            open_files(rt, path.as_str(), tables, texts),
-            settings,
-            inputs,
-            input,
-            outputs,
-        ),
+        None => in_memory(rt, settings, inputs, input, outputs),
+        Some(path) => in_host(rt, host, path.as_str(), settings, inputs, input, outputs),
     }
 }
 
-// Tells why the words say nothing; the help goes to the output.
+// Runs the inputs over two empty databases in memory.
+fn in_memory<R: Read, O: Write, E: Write>(
+    rt: &HostRuntime,
+    settings: Settings,
+    inputs: &[String],
+    input: &mut R,
+    outputs: &mut Outputs<'_, O, E>,
+) -> u8
+    ensures runs { RunsInMemory settings
+        (due (map string_bytes inputs.now) (R.remaining input.old))
+        (outputs_of O.contents E.contents outputs.old)
+        (outputs_of O.contents E.contents outputs.new) result }
+    ensures writers { SameWriters outputs.old outputs.new }
+{
+    match open_in_memory(rt) {
+        Ok((plain, store)) => {
+            let ended = on_databases(rt, plain, store, settings, inputs, input, outputs);
+            let_go(ended.1);
+            let_go(ended.2);
+            ended.0
+        }
+        Err(fault) => tell(outputs.err, fault),
+    }
+}
+
+// Runs the inputs over the two databases of a host, and gives their files back.
+fn in_host<D: Disk + Drop, H: Databases<D>, R: Read, O: Write, E: Write>(
+    rt: &HostRuntime,
+    host: &mut H,
+    path: &str,
+    settings: Settings,
+    inputs: &[String],
+    input: &mut R,
+    outputs: &mut Outputs<'_, O, E>,
+) -> u8
+    ensures runs { RunsInFiles D.Disk H.tells path.now (H.holds host.old) (H.holds host.new)
+        settings (due (map string_bytes inputs.now) (R.remaining input.old))
+        (outputs_of O.contents E.contents outputs.old)
+        (outputs_of O.contents E.contents outputs.new) result }
+    ensures writers { SameWriters outputs.old outputs.new }
+{
+    let names = match names_of(rt.alloc(), path) {
+        Ok(names) => names,
+        Err(fault) => return tell(outputs.err, fault),
+    };
+    let tables = names.tables.as_str();
+    let texts = names.texts.as_str();
+    match open_both_in(rt, host, tables, texts) {
+        Ok((plain, store)) => {
+            let ended = on_databases(rt, plain, store, settings, inputs, input, outputs);
+            let status = tell_close(both_closed(&ended.1, &ended.2), ended.0, outputs.err);
+            let tables_left = left_files(ended.1);
+            let texts_left = left_files(ended.2);
+            host.close(tables, tables_left);
+            host.close(texts, texts_left);
+            status
+        }
+        Err(fault) => tell(outputs.err, fault),
+    }
+}
+
+// Whether what `clap` answers is a text that was asked for: the help, or the version.
+fn is_asked_for(kind: ErrorKind) -> bool
+    ensures { result ≡ memory.is_asked_for kind }
+{
+    matches!(kind, ErrorKind::DisplayHelp | ErrorKind::DisplayVersion)
+}
+
+// Writes the text of `clap`: one that was asked for to the output, and any other to the errors.
+fn refuse_words<O: Write, E: Write>(text: &clap::Error, outputs: &mut Outputs<'_, O, E>) -> u8
+    ensures runs { RefusesWords text.now
+        (outputs_of O.contents E.contents outputs.old)
+        (outputs_of O.contents E.contents outputs.new) result }
+    ensures writers { SameWriters outputs.old outputs.new }
+{
+    if is_asked_for(text.kind()) {
+        let _ = write!(outputs.out, "{text}");
+        let _ = outputs.out.flush();
+        FINE
+    } else {
+        let _ = write!(outputs.err, "{text}");
+        NOT_UNDERSTOOD
+    }
+}
+
+// Tells why the words say nothing.
 fn refuse_line<O: Write, E: Write>(fault: &LineFault, outputs: &mut Outputs<'_, O, E>) -> u8
     ensures runs { RefusesLine fault.now
         (outputs_of O.contents E.contents outputs.old)
@@ -77,15 +176,7 @@ fn refuse_line<O: Write, E: Write>(fault: &LineFault, outputs: &mut Outputs<'_, 
     ensures writers { SameWriters outputs.old outputs.new }
 {
     match fault {
-        LineFault::Words(help) if !help.use_stderr() => {
-            let _ = write!(outputs.out, "{help}");
-            let _ = outputs.out.flush();
-            FINE
-        }
-        LineFault::Words(error) => {
-            let _ = write!(outputs.err, "{error}");
-            NOT_UNDERSTOOD
-        }
+        LineFault::Words(text) => refuse_words(text, outputs),
         fault => {
             let _ = writeln!(outputs.err, "{fault}");
             NOT_UNDERSTOOD
@@ -93,37 +184,36 @@ fn refuse_line<O: Write, E: Write>(fault: &LineFault, outputs: &mut Outputs<'_, 
     }
 }
 
-// Runs the inputs over both databases, if they are opened, and closes them: what was committed goes
-// from the log into each file.
+// Runs the inputs over both databases, if the store can be read, and closes them: what was
+// committed goes from the log into each file.
 fn on_databases<D: Disk + Drop, F: Disk + Drop, R: Read, O: Write, E: Write>(
     rt: &HostRuntime,
-    opened: Result<(Connection<FileStore<D>>, Store<FileStore<F>>), OpenFault>,
+    plain: Connection<FileStore<D>>,
+    store: Store<FileStore<F>>,
     settings: Settings,
     inputs: &[String],
     input: &mut R,
     outputs: &mut Outputs<'_, O, E>,
-) -> u8
-    ensures runs { RunsOn over_files over_files AreClosed settings opened
-        (due (map string_bytes inputs.now) (R.remaining input.old))
+) -> (u8, Left<D>, Left<F>)
+    ensures runs { RunsOn settings plain store
+        (due (map string_bytes inputs.now) (R.remaining input.old)) result.1 result.2
         (outputs_of O.contents E.contents outputs.old)
-        (outputs_of O.contents E.contents outputs.new) result }
+        (outputs_of O.contents E.contents outputs.new) result.0 }
     ensures writers { SameWriters outputs.old outputs.new }
 {
-    let (plain, store) = match opened {
-        Ok(both) => both,
-        Err(fault) => return tell(outputs.err, fault),
-    };
-    let Ok(full_text) = FullText::new(rt.alloc(), store) else {
-        return tell(outputs.err, OpenFault::Store);
+    let full_text = match FullText::new(rt.alloc(), store) {
+        Ok(full_text) => full_text,
+        Err(fault) => {
+            let status = tell(outputs.err, OpenFault::Store);
+            return (status, close_one(plain), close_store(fault.store));
+        }
     };
     full_text.is_settled();
     let mut session = session_over(rt.alloc(), plain, full_text, settings);
     let mut files = SystemFiles { rt };
     let ended = run_all(&mut session, inputs, input, &mut files, outputs);
     let (tables, texts) = close(session);
-    let_go(tables);
-    let_go(texts);
-    status_of(ended, outputs.err)
+    (status_of(ended, outputs.err), tables, texts)
 }
 
 // A session over a plain database in files. Here, too, one of the two stores is named at a time.
@@ -147,10 +237,6 @@ fn parts_over<D: Disk + Drop, S: Alter>(
     session.into_parts()
 }
 
-// What a close leaves: the two files of a database, or the store that they are in where it is
-// refused.
-type Left<D> = Result<Files<D>, FileStore<D>>;
-
 // Closes both databases. Where that is refused their logs keep what was committed, and the next
 // open finds it.
 fn close<D: Disk + Drop, F: Disk + Drop>(
@@ -163,22 +249,28 @@ fn close<D: Disk + Drop, F: Disk + Drop>(
     (close_one(plain), close_store(full_text.into_store()))
 }
 
-// What a close left is let go.
-fn let_go<D: Disk + Drop>(left: Left<D>) {
-    match left {
-        Ok(files) => drop(files),
-        Err(store) => drop(store.close()),
+// Whether neither close was refused.
+fn both_closed<D: Disk + Drop, F: Disk + Drop>(tables: &Left<D>, texts: &Left<F>) -> bool
+    ensures { result ≡ (is_ok tables.now && is_ok texts.now) }
+{
+    tables.is_ok() && texts.is_ok()
+}
+
+// Writes whether a close was refused, and gives the program's status.
+fn tell_close<E: Write>(is_closed: bool, status: u8, err: &mut E) -> u8
+    ensures { TellsClose is_closed (E.contents err.old) (E.contents err.new) status result }
+{
+    if is_closed {
+        status
+    } else {
+        write_line(err, "Error: unable to close database\n");
+        FAULTY
     }
 }
 
-// Closes a database.
-fn close_one<D: Disk + Drop>(conn: Connection<FileStore<D>>) -> Left<D>
-    ensures { IsLeft conn result }
-{
-    match conn.close_files() {
-        Ok(files) => Ok(files),
-        Err((_, store)) => Err(store),
-    }
+// What a close left is let go.
+fn let_go<D: Disk + Drop>(left: Left<D>) {
+    drop(left_files(left));
 }
 
 // Closes the full-text store.

@@ -1,13 +1,22 @@
--- the inputs, and then the end
-use Rattle.std.proofs.Common.{refl}
+-- the inputs, and then the end; or the store can't be read
+use Rattle.std.proofs.Common.{inl, inr, refl}
 use Rattle.sqlite.specs.Files.{over_files}
 use Rattle.ft_main.specs.Closed.{AreClosed}
 use Rattle.ft_main.proofs.InputLemmas.{runs_over}
 use Rattle.ft_main.proofs.start.on_databases.Goals as goal
 
+pub returns-in-Err-clause-runs : goal.returns-in-Err-clause-runs
+returns-in-Err-clause-runs g c = inl (record {
+  told = record { out = refl; err = c.tell-status.ensures.line; ends = c.tell-status.ensures.status };
+  tables_left = c.close_one.ensures;
+  after = c.in-Err.fault.store;
+  looked = c.in-Err.ensures.refused;
+  texts_left = c.close_store.ensures;
+})
+
 pub returns-clause-runs : goal.returns-clause-runs
 returns-clause-runs g c =
-    runs_over (over_files {D = g.row.D.Denot} {g = g.D.Disk}) (over_files {D = g.row.F.Denot} {g = g.F.Disk}) AreClosed c.args.settings c.args.opened c.in-Ok.both.0 c.in-Ok.both.1 c.in-Ok-new.full_text _ c.run_all-ended.result _ _ c.session_over-session.result
+    inr (runs_over (over_files {D = g.row.D.Denot} {g = g.D.Disk}) (over_files {D = g.row.F.Denot} {g = g.F.Disk}) (AreClosed c.close-tables.result.0 c.close-tables.result.1) c.args.settings c.args.plain c.args.store c.in-Ok.full_text _ c.run_all-ended.result _ _ c.session_over-session.result
     (record { parts = c.run_all-ended.new.session; on = record { out = g.O.Write.contents c.run_all-ended.new.outputs.out.now; err = g.E.Write.contents c.run_all-ended.new.outputs.err.now } })
-    c.status_of.result c.in-Ok.is c.in-Ok-new.ensures.opened c.is_settled.ensures c.session_over-session.ensures c.run_all-ended.ensures.runs
-    (record { tables = c.close-tables.result.0; tables_left = c.close-tables.ensures.tables; texts = c.close-tables.result.1; texts_left = c.close-tables.ensures.texts }) refl c.status_of.ensures
+    c.status_of.result c.in-Ok.ensures.opened c.is_settled.ensures c.session_over-session.ensures c.run_all-ended.ensures.runs
+    (record { tables_left = c.close-tables.ensures.tables; texts_left = c.close-tables.ensures.texts }) refl c.status_of.ensures)
