@@ -17,6 +17,10 @@ abbrev pub asks : List Token → Bool
 asks [] = false
 asks (t ∷ ts) = begins_query t || (may_return t && list_any (is_keyword (codes "RETURNING")) ts)
 
+-- whether MATCH stands in it, which full-text tables alone know
+abbrev pub seeks : List Token → Bool
+seeks ts = list_any (is_keyword (codes "MATCH")) ts
+
 -- the words after CREATE [TEMP|TEMPORARY] TABLE
 abbrev pub table_at : List Token → Option (List Token)
 table_at ts =

@@ -18,16 +18,24 @@ use std::alloc::{AllocError, Global};
 pub struct PlainStatement {
     /// Whether it is run as a query, whose rows are printed.
     pub asks: bool,
+    /// Whether MATCH is one of its words.
+    pub seeks: bool,
     /// The name of the table that it makes, if it is a CREATE TABLE.
     pub made: Option<String>,
 }
 
-// Whether RETURNING is one of the words.
-fn returns(words: &[Token<'_>]) -> bool
-    ensures { result ≡ list_any (λ word. tokens.is_keyword (codes "RETURNING") (seen word))
-        words.now }
+// Whether a keyword is one of the words.
+fn has(words: &[Token<'_>], keyword: &str) -> bool
+    ensures { result ≡ list_any (λ word. tokens.is_keyword keyword.now (seen word)) words.now }
 {
-    words.iter().any(|word| is_keyword(word, "RETURNING"))
+    words.iter().any(|word| is_keyword(word, keyword))
+}
+
+// Whether MATCH is one of the words.
+fn seeks(words: &[Token<'_>]) -> bool
+    ensures { result ≡ forms.seeks (plain words.now) }
+{
+    has(words, "MATCH")
 }
 
 // Whether a statement of these words is run as a query.
@@ -38,7 +46,7 @@ fn asks(words: &[Token<'_>]) -> bool
         return false;
     };
     is_one_of(first, &["SELECT", "VALUES", "WITH"])
-        || is_one_of(first, &["INSERT", "UPDATE", "DELETE", "REPLACE"]) && returns(rest)
+        || is_one_of(first, &["INSERT", "UPDATE", "DELETE", "REPLACE"]) && has(rest, "RETURNING")
 }
 
 // Passes TABLE, with TEMP or TEMPORARY before it or without.
@@ -73,11 +81,11 @@ pub fn read_plain(
 {
     let tokens = tokens_of(alloc, text, words)?;
     let left = tokens.as_slice();
-    let asks = asks(left);
+    let (asks, seeks) = (asks(left), seeks(left));
     let made = match made_name(Reader { alloc, left }) {
         Ok(name) => Some(name),
         Err(StatementFault::Syntax) => None,
         Err(StatementFault::Memory) => return Err(AllocError),
     };
-    Ok(PlainStatement { asks, made })
+    Ok(PlainStatement { asks, seeks, made })
 }

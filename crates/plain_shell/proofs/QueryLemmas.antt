@@ -1,7 +1,7 @@
 -- What `sqlite` says of a query that is prepared and then run, where the disk is clean as it ends.
 use Rattle.std.proofs.Common.{◌≡◌, ℕ, List, [], refl, subst, sym, arith, inl}
-use Rattle.std.specs.Prelude.{MatchBool, false}
-use Rattle.plain_shell.specs.Outcomes.{Answer, blames, lacks_memory}
+use Rattle.std.specs.Prelude.{Bool, MatchBool, false}
+use Rattle.plain_shell.specs.Outcomes.{Answer, Tells, blames, lacks_memory}
 use Rattle.sqlite_trees.specs.View.{doubt}
 use Rattle.sqlite.specs.Store.{Ghosts}
 use Rattle.sqlite.specs.Tree.{Trees}
@@ -12,7 +12,7 @@ use Rattle.sqlite.specs.Listing.{understood}
 use Rattle.sqlite.specs.Outline.{Outline}
 use Rattle.sqlite.specs.Steps.{Outlines}
 use Rattle.sqlite.specs.declared.error.Error.{Error}
-use Rattle.plain_shell.specs.PlainStatements.{is_memory_error, TellsRefusal, IfClean, Prepares, Answers, FailsToAnswer, unprepared, refused}
+use Rattle.plain_shell.specs.PlainStatements.{EndsSo, is_memory_error, match_hint, TellsRefusal, IfClean, Prepares, Answers, FailsToAnswer, unprepared, refused}
 
 pub clean_before : {old new : State} {Commits : Trees → Type 0} → Survives old new Commits → HasCleanDisk new → HasCleanDisk old
 clean_before {old} {new} survives clean = let c : doubt new.is_clean ≡ 0 = clean in let s = survives.clean in omega (arith, c, s)
@@ -51,5 +51,7 @@ asked_answered g text old mid new s rows first same shape second shown = record 
   shows = if_clean g mid new second (λ clean. subst (λ t. Shown t [] (state g mid) (state g new) rows) (same (clean_before second clean)).0 (shown clean));
 }
 
-pub words_told : (e : Error) (answer : Answer) (words : List ℕ) → is_memory_error e ≡ false → answer ≡ blames words → TellsRefusal e answer
-words_told e answer words other is = subst (λ b. MatchBool b (answer ≡ lacks_memory) ((words : List ℕ) × (answer ≡ blames words))) (sym other) (words, is)
+pub words_told : (seeks : Bool) (e : Error) (answer : Answer) (text : List ℕ) → is_memory_error e ≡ false → EndsSo (match_hint seeks) text → Tells (blames text) answer →
+    TellsRefusal seeks e answer
+words_told seeks e answer text other ends tells =
+    subst (λ b. MatchBool b (answer ≡ lacks_memory) ((text : List ℕ) × EndsSo (match_hint seeks) text × Tells (blames text) answer)) (sym other) (text, ends, tells)

@@ -1,7 +1,7 @@
 -- Meaning. What a query of plain SQL does in a session, and what is said of a refusal ("Command
 -- Line Shell For SQLite"; that a query is prepared for its names and then executed once, and how a
 -- refusal is worded, are own choices).
-use Rattle.std.specs.Prelude.{ℕ, ◌≡◌, List, [], Bool, true, false, MatchBool}
+use Rattle.std.specs.Prelude.{ℕ, ◌≡◌, ◌++◌, List, [], Bool, true, false, MatchBool, if◌then◌else◌, codes}
 use Rattle.sqlite.specs.Store.{Ghosts}
 use Rattle.sqlite_value.specs.Order.{Row}
 use Rattle.sqlite.specs.Held.{Held, state}
@@ -13,6 +13,8 @@ use Rattle.sqlite.specs.declared.error.Error.{Error}
 use Rattle.sqlite.specs.declared.error.Error.TheVariants.{SqliteFailure}
 use Rattle.sqlite.specs.declared.error.ErrorCode.TheVariants as code
 use Rattle.shell_text.specs.Print.{Settings}
+use Rattle.ft_statements.specs.Plain.{seeks}
+use Rattle.ft_statements.specs.Words.{tokens_of}
 use Rattle.plain_shell.specs.Answers.{row_print}
 use Rattle.plain_shell.specs.Outcomes.{Answer, blames, lacks_memory, Tells}
 
@@ -20,9 +22,18 @@ abbrev pub is_memory_error : Error → Bool
 is_memory_error (SqliteFailure code.OutOfMemory) = true
 is_memory_error _ = false
 
+-- what is said behind the words of `sqlite` where MATCH is among those of the statement
+abbrev pub match_hint : Bool → List ℕ
+match_hint seeks = if seeks then codes " (MATCH is for full-text tables, and this names none)" else []
+
+-- some words, and then these
+abbrev pub EndsSo : List ℕ → List ℕ → Type 0
+EndsSo end text = (words : List ℕ) × (text ≡ words ++ end)
+
 -- the fault line of a refusal: its words are those of `sqlite`, but for want of memory
-abbrev pub TellsRefusal : Error → Answer → Type 0
-TellsRefusal e answer = MatchBool (is_memory_error e) (answer ≡ lacks_memory) ((words : List ℕ) × (answer ≡ blames words))
+abbrev pub TellsRefusal : Bool → Error → Answer → Type 0
+TellsRefusal seeks e answer = MatchBool (is_memory_error e) (answer ≡ lacks_memory)
+    ((text : List ℕ) × EndsSo (match_hint seeks) text × Tells (blames text) answer)
 
 module _ {P : Type 0} (g : Ghosts P) where
   -- A step of the plain database. All that `sqlite` says has the premise that the disk is clean as
@@ -58,4 +69,4 @@ module _ {P : Type 0} (g : Ghosts P) where
   pub data QueryTurn (settings : Settings) (text : List ℕ) (old new : Held P) (answer : Answer) : Type 0 where
     answered : (names : List (List ℕ)) (rows : List Row) → Answers text old new names rows → Tells (row_print settings names rows) answer
         → QueryTurn settings text old new answer
-    refused : (e : Error) → FailsToAnswer text old new e → TellsRefusal e answer → QueryTurn settings text old new answer
+    refused : (e : Error) → FailsToAnswer text old new e → TellsRefusal (seeks (tokens_of text)) e answer → QueryTurn settings text old new answer

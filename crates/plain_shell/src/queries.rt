@@ -1,8 +1,10 @@
 //! What a query does in a session, and what is said of a refusal.
-ghost use Rattle.std.specs.Prelude.{◌≡◌, IfOk, IfErr};
+ghost use Rattle.std.specs.Prelude.{◌≡◌, IfOk, IfErr, string_bytes};
 ghost use Rattle.plain_shell.specs.OutputViews.{answer_as, complaint_as};
 ghost use Rattle.plain_shell.specs.PlainStatements as turns;
-ghost use Rattle.plain_shell.specs.PlainStatements.{TellsRefusal, Answers, FailsToAnswer, QueryTurn};
+ghost use Rattle.plain_shell.specs.PlainStatements.{EndsSo, TellsRefusal, Answers, FailsToAnswer, QueryTurn};
+ghost use Rattle.ft_statements.specs.Plain as forms;
+ghost use Rattle.ft_statements.specs.Words.{tokens_of};
 
 use crate::answers::row_print;
 use crate::output::{Answer, Complaint};
@@ -18,14 +20,35 @@ pub(crate) fn is_memory_error(error: Error) -> bool
     matches!(error, Error::SqliteFailure(ErrorCode::OutOfMemory))
 }
 
-/// What is said of what `sqlite` refused.
-pub fn refusal(alloc: Global, error: Error) -> Complaint
-    ensures { TellsRefusal error (complaint_as result) }
+/// What is said behind the words of `sqlite` where MATCH is one of those of the statement.
+fn match_hint(seeks: bool) -> &'static str
+    ensures { result.now ≡ turns.match_hint seeks }
+{
+    if seeks {
+        " (MATCH is for full-text tables, and this names none)"
+    } else {
+        ""
+    }
+}
+
+// The words of `sqlite` for what it refused, and what is said behind them.
+fn refusal_words(alloc: Global, error: Error, seeks: bool) -> Result<String, AllocError>
+    ensures { IfOk result (λ text. EndsSo (turns.match_hint seeks) (string_bytes text)) }
+{
+    let mut words = format!(in alloc; "{error}")?;
+    words.push_str(match_hint(seeks))?;
+    Ok(words)
+}
+
+/// What is said of what `sqlite` refused: its words, and what is said of MATCH where it stands in
+/// the statement.
+pub fn refusal(alloc: Global, error: Error, seeks: bool) -> Complaint
+    ensures { TellsRefusal seeks error (complaint_as result) }
 {
     if is_memory_error(error) {
         return Complaint::from(AllocError);
     }
-    match format!(in alloc; "{error}") {
+    match refusal_words(alloc, error, seeks) {
         Ok(words) => Complaint::from(FaultText::Made(words)),
         Err(failed) => Complaint::from(failed),
     }
@@ -42,13 +65,15 @@ fn asked<P: Alter>(plain: &mut Connection<P>, text: &str) -> Result<(Statement, 
     Ok((statement, rows))
 }
 
-/// Runs a query of plain SQL, and prints its answer.
+/// Runs a query of plain SQL, and prints its answer. `seeks` says whether MATCH stands in it.
 pub fn query_turn<P: Alter>(
     alloc: Global,
     settings: &Settings,
     plain: &mut Connection<P>,
     text: &str,
+    seeks: bool,
 ) -> Answer
+    requires { seeks ≡ forms.seeks (tokens_of text.now) }
     ensures { QueryTurn P.Store settings.now text.now plain.old plain.new (answer_as result) }
 {
     match asked(plain, text) {
@@ -58,6 +83,6 @@ pub fn query_turn<P: Alter>(
             statement.column_names(),
             rows.as_slice(),
         ),
-        Err(error) => Err(refusal(alloc, error)),
+        Err(error) => Err(refusal(alloc, error, seeks)),
     }
 }

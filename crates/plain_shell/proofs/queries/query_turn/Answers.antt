@@ -1,9 +1,9 @@
 -- it is answered, or refused
-use Rattle.std.proofs.Common.{rules}
+use Rattle.std.proofs.Common.{rules, subst}
 use Rattle.plain_shell.specs.Outcomes.{Tells}
 use Rattle.plain_shell.specs.Answers.{row_print}
-use Rattle.plain_shell.specs.OutputViews.{answer_as}
-use Rattle.plain_shell.specs.PlainStatements.{answered, refused}
+use Rattle.plain_shell.specs.OutputViews.{answer_as, complaint_as}
+use Rattle.plain_shell.specs.PlainStatements.{TellsRefusal, answered, refused}
 use Rattle.plain_shell.proofs.queries.query_turn.Goals as goal
 
 pub returns-in-Ok : goal.returns-in-Ok
@@ -12,4 +12,6 @@ returns-in-Ok g c =
     answered c.in-Ok.statement.columns c.in-Ok.rows.items c.in-Ok.ensures.answered tells
 
 pub returns-in-Err : goal.returns-in-Err
-returns-in-Err g c = refused c.in-Err.error c.in-Err.ensures.refused c.refusal.ensures
+returns-in-Err g c =
+    refused c.in-Err.error c.in-Err.ensures.refused
+    (subst (λ seeks. TellsRefusal seeks c.in-Err.error (complaint_as c.refusal.result)) c.requires c.refusal.ensures)
