@@ -5,8 +5,10 @@ text and what it does to the tables, so that nothing here reads SQL. Left out ar
 1,000,000 bytes, 1,000 tables), U+0000, which no input may have, and tables that are not there, of which the plain SQL tells.
 """
 import collections
+import functools
 import itertools
 import re
+import zlib
 
 LAST = 2**63 - 1
 DOCIDS = ("docid", "rowid")
@@ -145,6 +147,7 @@ def query_of(text, columns, default):
 Word = collections.namedtuple("Word", "text place size")
 
 
+@functools.lru_cache(maxsize=500)
 def words_of(text):
     """The words of a text, with places and sizes in bytes."""
     return [Word(small(it[0]), len(text[: it.start()].encode()), len(it[0].encode())) for it in RUN.finditer(text)]
@@ -346,6 +349,32 @@ class Insert(collections.namedtuple("Insert", "table columns rows")):
         for docid, row in [(one_docid(it), it) for it in rows]:
             documents = table.with_row(documents, docid, row)
         table.documents = documents
+
+
+class Import(collections.namedtuple("Import", "table rows")):
+    """Records of a file, whose fields are all texts. The file's name is made of its content."""
+
+    def content(self):
+        return "".join(",".join('"' + it.replace('"', '""') + '"' for it in row) + "\n" for row in self.rows)
+
+    def name(self):
+        return f"{zlib.crc32(self.content().encode())}.csv"
+
+    def sql(self):
+        return f".import --csv {self.name()} {self.table}"
+
+    def step(self, tables):
+        Insert(self.table, None, self.rows).step(tables)
+
+
+class Print(collections.namedtuple("Print", "text")):
+    """A dot-command of words with one space between."""
+
+    def sql(self):
+        return f".print {self.text}"
+
+    def step(self, tables):
+        return [[self.text]]
 
 
 class Update(collections.namedtuple("Update", "table sets where", defaults=(None,))):

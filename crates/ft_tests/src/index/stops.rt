@@ -270,9 +270,10 @@ fn begun<D: Stops>(alloc: Global) -> Result<Image, Fail> {
 
 const EMPTY: &str = "3 true []";
 
-// What is done in turn, and what is there after each. At last the store becomes one of version 2,
-// and is taken.
-const DEEDS: [(Deed, &str); 8] = [
+// What is done in turn, and what is there after each: among it a rebuild of a table whose index lacks
+// a row, and a table that is emptied and dropped beside another. At last the store becomes one of
+// version 2, and is taken.
+const DEEDS: [(Deed, &str); 12] = [
     (
         Deed::Execute("CREATE VIRTUAL TABLE d USING fts4(x);"),
         "3 true [] d:",
@@ -282,26 +283,36 @@ const DEEDS: [(Deed, &str); 8] = [
         "3 true [] d: 1|red apple 2|red pear",
     ),
     (
-        Deed::Execute("UPDATE d SET x='green' WHERE docid=1;"),
-        "3 true [] d: 1|green 2|red pear",
+        Deed::Execute("CREATE VIRTUAL TABLE e USING fts4(y);"),
+        "3 true [] d: 1|red apple 2|red pear e:",
     ),
     (
-        Deed::Execute("INSERT INTO d(d) VALUES('integrity-check');"),
-        "3 true [] d: 1|green 2|red pear",
+        Deed::Execute("UPDATE d SET x='green' WHERE docid=1;"),
+        "3 true [] d: 1|green 2|red pear e:",
+    ),
+    (
+        Deed::Sql("DELETE FROM posting WHERE docid = 1"),
+        "3 false [] d: 1|green 2|red pear e:",
+    ),
+    (
+        Deed::Execute("INSERT INTO d(d) VALUES('rebuild');"),
+        "3 true [] d: 1|green 2|red pear e:",
     ),
     (
         Deed::Note("plain"),
-        "3 true [\"plain\"] d: 1|green 2|red pear",
+        "3 true [\"plain\"] d: 1|green 2|red pear e:",
     ),
     (
         Deed::Execute("DELETE FROM d WHERE x MATCH 'red';"),
-        "3 true [\"plain\"] d: 1|green",
+        "3 true [\"plain\"] d: 1|green e:",
     ),
+    (Deed::Execute("DELETE FROM d;"), "3 true [\"plain\"] d: e:"),
+    (Deed::Execute("DROP TABLE d;"), "3 true [\"plain\"] e:"),
     (
         Deed::Sql("BEGIN; DROP TABLE skip; UPDATE meta SET version = 2; COMMIT"),
-        "2 true [\"plain\"] d: 1|green",
+        "2 true [\"plain\"] e:",
     ),
-    (Deed::Open, "3 true [\"plain\"] d: 1|green"),
+    (Deed::Open, "3 true [\"plain\"] e:"),
 ];
 
 fn are_whole<D: Stops>(alloc: Global, part: Part) -> Result<(), Fail> {
