@@ -59,7 +59,7 @@ install: build
 	mkdir -p "$(DESTDIR)$(PREFIX)/bin" "$(DESTDIR)$(PREFIX)/share/man/man1" "$(DESTDIR)$(PREFIX)/share/doc/ft4sh"
 	cp bin/ft4sh "$(DESTDIR)$(PREFIX)/bin/ft4sh"
 	cp docs/ft4sh.1 "$(DESTDIR)$(PREFIX)/share/man/man1/ft4sh.1"
-	cp docs/MANUAL.md examples/documents.sql "$(DESTDIR)$(PREFIX)/share/doc/ft4sh/"
+	cp docs/MANUAL.md docs/FORMATS.md CHANGELOG.md examples/* "$(DESTDIR)$(PREFIX)/share/doc/ft4sh/"
 
 clean:
 	rm -rf bin crates/*/out

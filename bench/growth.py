@@ -43,6 +43,11 @@ def joined(operator):
     return lambda size: ([CREATE, rows(20)], [match("a" + f'{operator}""' * size)])
 
 
+def nested(depth):
+    """A query of so many parentheses in one another, each with as many phrases without terms, over 20 documents."""
+    return [CREATE, rows(20)], [match(("a" + '""' * 140 + " (") * depth + "a" + ")" * depth)]
+
+
 def over(command):
     """A command over so many documents."""
     return lambda size: ([CREATE, rows(size)], [command])
@@ -60,6 +65,7 @@ COMMANDS = {
     "MATCH of NOT and pairs of quotes": (350, joined(" NOT ")),
     "MATCH of NEAR and pairs of quotes": (300, joined(" NEAR ")),
     "MATCH of pairs of quotes in 32 parentheses": (600, lambda size: ([CREATE, rows(20)], [match("a (" * 32 + 'a""' + '""' * size + ")" * 32)])),
+    "MATCH of 140 pairs of quotes in each parenthesis, by its depth": (8, nested),
     "NEAR in one document, by its words": (2000, of_words("a NEAR/3 b NEAR/3 a NEAR/2 b")),
     "a phrase in one document, by its words": (2000, of_words('"a b a"')),
     "MATCH of a word, docids": (200, over(match("a"))),

@@ -2,7 +2,9 @@
 
 For each query of measure.py, over a table of the corpus in a file: what the program takes for it, the engine's part, and the ratio. The engine's
 part is what the program takes to count the posting rows of the query's words, and to read the documents that it tells, in a copy of the full-text
-store opened as a plain file. For a single UPDATE, DELETE and INSERT what each takes, on the mean of WRITES of them. It needs valgrind.
+store opened as a plain file. The same for 64 words that OR joins, of which the first alone is frequent, flat and in 31 parentheses. For a single
+UPDATE, DELETE and INSERT what each takes, on the mean of WRITES of them. The status is 1 where the parentheses take over MOST times the flat
+words. It needs valgrind.
 """
 import concurrent.futures
 import os
@@ -13,10 +15,13 @@ import sys
 import tempfile
 
 import corpus
-from measure import QUERIES, reads
+from measure import QUERIES, of, reads
 
 TIMES = 20  # runs of one query
 WRITES = 50
+MOST = 1.2
+WORDS = [corpus.word(0), *(f"none{it}" for it in range(1, 64))]
+FLAT, NESTED = "64 words, flat", "64 words, nested"
 
 
 def instructions(program, room, path, lines):
@@ -30,6 +35,14 @@ def instructions(program, room, path, lines):
     if re.search(r"Error: ", ran.stderr):
         sys.exit(ran.stderr)
     return int(re.search(r"Collected : (\d+)", ran.stderr)[1])
+
+
+def joined():
+    """The same words joined by OR, flat and with each pair in a parenthesis of the pair before it."""
+    pairs = [" OR ".join(WORDS[it : it + 2]) for it in range(0, len(WORDS), 2)]
+    match = lambda text: f"SELECT docid FROM mail WHERE mail MATCH '{text}';"
+    texts = {FLAT: " OR ".join(pairs), NESTED: " OR (".join(pairs) + ")" * (len(pairs) - 1)}
+    return [(name, match(text), [of(it) for it in WORDS]) for name, text in texts.items()]
 
 
 def changes(rows):
@@ -48,11 +61,12 @@ def main(program, count=300):
         text = corpus.CREATE + "INSERT INTO mail VALUES" + ",".join(f"('{subject}','{body}')" for subject, body in rows) + ";\n"
         subprocess.run([program, path], input=text, text=True, check=True)
         shutil.copy(f"{path}-fts4", plain)
-        needed = {name: reads(program, plain, name, tests) for name, _, tests in QUERIES}
+        queries = QUERIES + joined()
+        needed = {name: reads(program, plain, name, tests) for name, _, tests in queries}
         counted = lambda path, lines: pool.submit(instructions, program, room, path, lines)
         nothing = {it: counted(it, []) for it in (path, plain)}
         told = {}
-        for name, query, _ in QUERIES:
+        for name, query, _ in queries:
             counts = needed[name]
             told[name] = counted(path, [query] * TIMES), counted(plain, counts * TIMES) if counts else None
         made = {name: counted(path, lines) for name, lines in changes(rows).items()}
@@ -63,7 +77,10 @@ def main(program, count=300):
             print(f"| {name} | {mine / 1000:.3g} | {rest / 1000:.3g} | {mine / rest:.2g} |" if rest else f"| {name} | {mine / 1000:.3g} |  |  |")
         for name, it in made.items():
             print(f"| {name} | {less(it, path, WRITES) / 1000:.3g} |  |  |")
+        times = less(told[NESTED][0], path, TIMES) / less(told[FLAT][0], path, TIMES)
+    print(f"nested words take {times:.3g} times the flat ones")
+    return 1 if times > MOST else 0
 
 
 if __name__ == "__main__":
-    main(os.path.abspath(sys.argv[1]), *map(int, sys.argv[2:]))
+    sys.exit(main(os.path.abspath(sys.argv[1]), *map(int, sys.argv[2:])))
