@@ -1,11 +1,11 @@
 -- Steps. Documents that are written anew, and what row changes of them do. All of it is our own
 -- choice.
-use Rattle.std.specs.Prelude.{◌≡◌, ◌≢◌, ℕ, List, [], ◌∷◌, map, length, Option, Some, None, option_map, ℤ, IsTrue, IsSome, IfSome, All}
+use Rattle.std.specs.Prelude.{◌≡◌, ◌≢◌, ℕ, ◌+◌, ◌-◌, ◌<◌, List, [], ◌∷◌, map, length, take, sum_by, Option, Some, None, option_map, ℤ, IsTrue, IsSome, IfSome, All}
 use Rattle.std.specs.List.{flat_map}
 use Rattle.std.specs.Ordering.{int_cmp}
 use Rattle.std.specs.FinMap.Entries.{put, find, is_sorted}
 use Rattle.ft_rows.specs.Packed.{CanPack}
-use Rattle.ft_values.specs.Cells.{Cell}
+use Rattle.ft_values.specs.Cells.{Cell, Null, Int, Text}
 use Rattle.ft_rows.specs.Store.{StoreValue, AreInOrder, cell_key_cmp, list_key_cmp, Change, AddTable, DropTable, PutCell, DropCells}
 use Rattle.ft_rows.specs.Store.{PutEntries, DropEntries, PutSize, DropSize, ClearIndex, Note, all_applied}
 use Rattle.ft_content.specs.Content.{Column, Documents, Content, IsContent, content_rows, is_document}
@@ -103,6 +103,25 @@ IsNew store (Note name) = Unit {0}
 abbrev pub AreNew : ℤ → List Column → List Rewrite → List Change → Type 0
 AreNew tab columns rewrites changes = (name : List ℕ) (content : Content) (store : StoreValue) → HasContent name content tab store
     → content.columns ≡ columns → AreOf content rewrites → All (IsNew store) changes
+
+-- the bytes of a cell's text
+abbrev pub cell_bytes : Cell → ℕ
+cell_bytes Null = 0
+cell_bytes (Int n) = 0
+cell_bytes (Text text) = length text
+
+-- the bytes of text of a document, if there is one
+abbrev pub text_bytes : Option (List Cell) → ℕ
+text_bytes None = 0
+text_bytes (Some cells) = sum_by cell_bytes cells
+
+-- the bytes of text that a rewrite takes away and puts
+abbrev pub rewrite_bytes : Rewrite → ℕ
+rewrite_bytes r = text_bytes r.before + text_bytes r.after
+
+-- A group is small: without its last document it has less than 524,288 bytes of text.
+abbrev pub IsSmall : List Rewrite → Type 0
+IsSmall group = sum_by rewrite_bytes (take (length group - 1) group) < 524288
 
 -- places that are put can be packed
 abbrev pub IsPackable : Change → Type 0

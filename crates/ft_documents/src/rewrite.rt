@@ -1,12 +1,13 @@
 //! Documents that are written anew, as row changes, and in groups.
-ghost use Rattle.std.specs.Prelude.{◌≡◌, ◌++◌, ◌≤◌, map, length, All, IsTrue, IfOk, OnOk};
+ghost use Rattle.std.specs.Prelude.{◌≡◌, ◌++◌, ◌≤◌, ◌-◌, ◌^◌, min, map, option_map, length, All, IsTrue, IfOk, OnOk};
 ghost use Rattle.std.specs.Ordering.{int_cmp};
 ghost use Rattle.std.specs.FinMap.Entries.{is_sorted};
 ghost use Rattle.ft_values.specs.Cells.{shown_value};
 ghost use Rattle.ft_rows.specs.Changes.{shown_change, CanApply};
-ghost use Rattle.ft_content.specs.Views.{column_of};
+ghost use Rattle.ft_content.specs.Views.{cells_of, column_of};
 ghost use Rattle.ft_documents.specs.Tables.{IsOfDocids};
-ghost use Rattle.ft_documents.specs.Rewrite.{shown_rewrite, docids_of, by_docid, AreRight, AreNew, FitIfAny};
+ghost use Rattle.ft_documents.specs.Rewrite.{shown_rewrite, docids_of, by_docid, AreRight, AreNew, FitIfAny, IsSmall};
+ghost use Rattle.ft_documents.specs.Rewrite as texts;
 ghost use Rattle.std.specs.Vec.{vec_items};
 ghost use Rattle.std.specs.List.{flat_map};
 ghost use Rattle.ft_documents.specs.RewriteRows as rows;
@@ -124,7 +125,9 @@ const GROUP_BYTES: usize = 524_288;
 /// fills it, so that the row changes of a group take few megabytes, however many documents there
 /// are.
 pub fn in_groups(alloc: Global, rewrites: Vec<Rewrite>) -> Result<Vec<Vec<Rewrite>>, AllocError>
-    ensures { IfOk result (λ groups. flat_map vec_items groups.items ≡ rewrites.items) }
+    ensures whole { IfOk result (λ groups. flat_map vec_items groups.items ≡ rewrites.items) }
+    ensures small { IfOk result (λ groups. All (λ group. IsSmall (map shown_rewrite group.items))
+        groups.items) }
 {
     let mut groups = Vec::new(alloc);
     let mut group = Vec::new(alloc);
@@ -144,7 +147,9 @@ pub fn in_groups(alloc: Global, rewrites: Vec<Rewrite>) -> Result<Vec<Vec<Rewrit
 }
 
 // How many bytes of text a document has, none where there is none.
-fn text_bytes(cells: &Option<Vec<Value>>) -> usize {
+fn text_bytes(cells: &Option<Vec<Value>>) -> usize
+    ensures { result ≡ min (texts.text_bytes (option_map cells_of cells.now)) (2 ^ 64 - 1) }
+{
     let mut bytes: usize = 0;
     for cell in cells.as_deref().unwrap_or(&[]) {
         if let Value::Text(text) = cell {

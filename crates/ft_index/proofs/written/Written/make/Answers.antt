@@ -25,7 +25,7 @@ returns-in_err-change_parts g c =
     let makes : MakesRows g.S.Store c.args.store.now c.change_parts.new.self (changes_in (first_parts c.args.first ++ parts)) c.from_residual-in_err-change_parts.result = search rules in
     record {
       changes = changes_in parts;
-      of_written = of_groups c.args.self groups (ap (flat_map vec_items) c.into_iter.ensures.rest ∙ c.in_ok-groups.ensures);
+      of_written = of_groups c.args.self groups (ap (flat_map vec_items) c.into_iter.ensures.rest ∙ c.in_ok-groups.ensures.whole);
       makes = subst (λ (cs : List Change). MakesRows g.S.Store c.args.store.now c.change_parts.new.self cs c.from_residual-in_err-change_parts.result) (parts_behind c.args.first parts) makes;
     }
 
@@ -37,6 +37,6 @@ returns g c =
     let makes : MakesRows g.S.Store c.args.store.now c.change_parts.new.self (changes_in (first_parts c.args.first ++ parts)) (Ok (tt {0})) = search rules in
     record {
       changes = changes_in parts;
-      of_written = of_groups c.args.self groups (ap (flat_map vec_items) c.into_iter.ensures.rest ∙ c.in_ok-groups.ensures);
+      of_written = of_groups c.args.self groups (ap (flat_map vec_items) c.into_iter.ensures.rest ∙ c.in_ok-groups.ensures.whole);
       makes = subst (λ (cs : List Change). MakesRows g.S.Store c.args.store.now c.change_parts.new.self cs (Ok (tt {0}))) (parts_behind c.args.first parts) makes;
     }
