@@ -11,6 +11,10 @@ use ft_store::{Store, StoreFault};
 use sqlite::{Connection, FileStore, Files};
 use sqlite_disk::Disk;
 
+// How many pages of the full-text store are kept in memory at least: each command reads and
+// changes rows all over its trees.
+const STORE_PAGES: usize = 300;
+
 /// What a close leaves: the two files of a database, its log copied into its file, or where that is
 /// refused as they are.
 pub type Left<D> = Result<Files<D>, Files<D>>;
@@ -35,17 +39,19 @@ pub fn close_one<D: Disk + Drop>(conn: Connection<FileStore<D>>) -> Left<D>
     }
 }
 
-// The plain tables under a name.
+// The tables under a name, with a cache of at least so many pages.
 fn open_plain_in<D: Disk + Drop, H: Databases<D>>(
     rt: &HostRuntime,
     host: &mut H,
     name: &str,
+    least_pages: usize,
 ) -> Result<Connection<FileStore<D>>, OpenFault>
     ensures { OpensPlainIn D.Disk H.tells name.now (H.holds host.old) (H.holds host.new) result }
 {
-    let Some(Opened { files, options }) = host.open(name) else {
+    let Some(Opened { files, mut options }) = host.open(name) else {
         return Err(OpenFault::Database);
     };
+    options.cache_pages = options.cache_pages.max(least_pages);
     match Connection::open_files(rt.alloc(), files, options) {
         Ok(mut conn) => {
             conn.set_clock(rt);
@@ -83,7 +89,7 @@ fn open_store_in<D: Disk + Drop, H: Databases<D>>(
     if !host.make_beside(path, name) {
         return Err(store_fault(StoreFault::Refused));
     }
-    match open_plain_in(rt, host, name) {
+    match open_plain_in(rt, host, name, STORE_PAGES) {
         Ok(conn) => match Store::adopt_opened(rt.alloc(), conn) {
             Ok(store) => Ok(store),
             Err(fault) => {
@@ -113,7 +119,7 @@ pub fn open_both_in<D: Disk + Drop, H: Databases<D>>(
     if !host.is_free(beside) {
         return Err(store_fault(StoreFault::Refused));
     }
-    let plain = open_plain_in(rt, host, path)?;
+    let plain = open_plain_in(rt, host, path, 0)?;
     match open_store_in(rt, host, path, beside) {
         Ok(store) => Ok((plain, store)),
         Err(fault) => {

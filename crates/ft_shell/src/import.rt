@@ -46,6 +46,7 @@ pub(crate) fn import_turn<P: Alter, S: Alter, F: Source>(
     };
     let bytes = source.fetch(alloc, what.file.as_str())?;
     let records = read_records(alloc, bytes.as_slice(), delimiter)?;
+    drop(bytes);
     let skip = skipped(what.skip, records.len());
     let left = left_records(alloc, records, skip)?;
     records_turn(alloc, plain, full_text, what, skip + 1, left)

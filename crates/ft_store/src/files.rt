@@ -23,9 +23,12 @@ const CANNOT_OPEN: Error = Error::SqliteFailure(ErrorCode::CannotOpen);
 const PAGE: u64 = 4096;
 
 // The least and the most pages that are kept in memory of what was read.
-const LEAST_CACHE: u64 = 2000;
+const LEAST_CACHE: u64 = 200;
 
 const MOST_CACHE: u64 = 20_000;
+
+// How many pages that a command changes stay in memory up to its end. Those past it go to the log.
+const SPILL_PAGES: usize = 4000;
 
 // How many pages are logged before they are written into the database: a change of a document logs
 // some 100 to 200, and each that is written back costs once more. So the log has some 16 MB at the
@@ -74,7 +77,7 @@ pub fn file_options(rt: &HostRuntime, path: &str) -> Result<Options, Error>
         .hash_one(&0u8);
     let mut options = Options::new(seed);
     options.cache_pages = cache_pages(rt, path);
-    options.spill_pages = MOST_CACHE as usize;
+    options.spill_pages = SPILL_PAGES;
     options.checkpoint_frames = CHECKPOINT_FRAMES;
     Ok(options)
 }
