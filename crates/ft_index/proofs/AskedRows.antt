@@ -1,10 +1,10 @@
--- How many rows searches read. The two messages are those of the SQLite document "SQLite FTS3 and
+-- How many rows a Select reads. The two messages are those of the SQLite document "SQLite FTS3 and
 -- FTS4 Extensions", "The Offsets Function"; the searches are own examples.
 use Rattle.std.specs.Prelude.{◌≡◌, ℕ, true, List, [], ◌∷◌, Option, Some, None, pos, codes, refl}
 use Rattle.ft_query.specs.Reads.{query_of}
 use Rattle.ft_values.specs.Cells.{Text}
 use Rattle.ft_content.specs.Content.{Content}
-use Rattle.ft_content.specs.Command.{Match, AllColumns, Named, OffsetsOf, Items, Counted, Listed}
+use Rattle.ft_content.specs.Command.{All, Docid, Match, AllColumns, Named, OffsetsOf, Items, Counted, Listed}
 use Rattle.ft_content.specs.Answer.{reading, chosen}
 use Rattle.ft_index.specs.RowsRead.{rows_asked}
 
@@ -47,3 +47,11 @@ pub each_term : search docid (codes "hello hello") None 0 ∷ search docid (code
     ≡ 4 ∷ 4 ∷ 0 ∷ 0 ∷ []
 unfolding rows_asked query_of reading chosen
 each_term = refl
+
+-- without MATCH: docids to count, the cells of both documents, docids alone, of one docid the cells,
+-- the second docid alone, the cells of the document that is named, of none, and of one for its docid
+pub without_match : rows_asked mail Counted All None 0 ∷ rows_asked mail all All None 0 ∷ rows_asked mail docid All None 0 ∷ rows_asked mail all All (Some 1) 0 ∷ rows_asked mail docid All (Some 1) 1
+    ∷ rows_asked mail all (Docid (pos 2)) None 0 ∷ rows_asked mail all (Docid (pos 3)) None 0 ∷ rows_asked mail docid (Docid (pos 1)) None 0 ∷ []
+    ≡ 2 ∷ 4 ∷ 2 ∷ 3 ∷ 1 ∷ 2 ∷ 0 ∷ 2 ∷ []
+unfolding rows_asked chosen
+without_match = refl

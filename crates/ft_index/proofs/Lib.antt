@@ -30,6 +30,7 @@ pub mod WholeReads
 pub mod UpdateWrites
 pub mod UpdateDue
 pub mod DocidReads
+pub mod RowCounts
 pub mod SelectRows
 pub mod SelectAnswers
 pub mod Crashing

@@ -21,7 +21,7 @@ use Rattle.ft_rows.specs.Store.{StoreValue, Change, all_applied}
 use Rattle.ft_values.specs.declared.fault.Fault.{Fault}
 use Rattle.ft_values.specs.declared.fault.Fault.TheVariants as faults
 use Rattle.ft_content.specs.declared.command.Reply.{Reply as RustReply}
-use Rattle.ft_content.specs.Command.{Command, Create, Drop, Insert, Update, Delete, Select, Rebuild, Check, Optimize, Filter, All, Docid, Match, Items, Reply, Done, Rows}
+use Rattle.ft_content.specs.Command.{Command, Create, Drop, Insert, Update, Delete, Select, Rebuild, Check, Optimize, Filter, Items, Reply, Done, Rows}
 use Rattle.ft_content.specs.Deserved.{TableState, Sound, Stale, Loose, Table, Contents, table_named}
 use Rattle.ft_content.specs.Views.{TableInfo, answer_of}
 use Rattle.ft_index.specs.DocumentsRead.{Looks}
@@ -44,9 +44,7 @@ module _ {S : Type 0} (one other new : FullText S) (same : one.store.rows_read �
   counts_found offset items f limit (Some t) it = counts_held offset items f limit t.1.held it
 
   counts_same : (first : Contents) (command : Command) (answer : Result Reply Fault) → CountsIfRows first one new command answer → CountsIfRows first other new command answer
-  counts_same first (Select table items (Match name text) limit offset) (Ok (Rows grid)) it = counts_found offset items (Match name text) limit (table_named first table) it
-  counts_same first (Select table items All limit offset) (Ok (Rows grid)) it = tt
-  counts_same first (Select table items (Docid docid) limit offset) (Ok (Rows grid)) it = tt
+  counts_same first (Select table items f limit offset) (Ok (Rows grid)) it = counts_found offset items f limit (table_named first table) it
   counts_same first (Create table module_name options columns if_new) (Ok (Rows grid)) it = tt
   counts_same first (Drop table if_there) (Ok (Rows grid)) it = tt
   counts_same first (Insert table columns rows) (Ok (Rows grid)) it = tt

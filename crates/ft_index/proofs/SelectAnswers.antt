@@ -85,16 +85,14 @@ fine_offsets table content items f fine = go (list_any (item_unknown table conte
 pub told_columns : (contents : Contents) (name : List ℕ) (known : TableInfo) (t : IsSoundTable contents name known) → t.content.columns ≡ known.columns
 told_columns contents name known t = sym (ap held_columns t.held) ∙ ap (λ (k : TableInfo). k.columns) t.told
 
--- the rows that a MATCH reads
+-- the rows that are read
 counted : {S : Type 0} (old new : StoreState S) (tables : List TableInfo) (name : List ℕ) (items : Items) (f : Filter) (limit : Option ℕ) (offset : ℕ) (first : Contents) (t : ℤ × Table) (content : Content) → table_named first name ≡ Some t → t.1.held ≡ Sound content →
-    (IsTrue (is_match f) → new.rows_read ≡ more_rows (rows_asked content items f limit offset) old) → CountsCommand first (with_tables old tables) (with_tables new tables) (Select name items f limit offset)
-counted old new tables name items All limit offset first t content found held counts = tt
-counted old new tables name items (Docid docid) limit offset first t content found held counts = tt
-counted {S} old new tables name items (Match column text) limit offset first t content found held counts =
+    new.rows_read ≡ more_rows (rows_asked content items f limit offset) old → CountsCommand first (with_tables old tables) (with_tables new tables) (Select name items f limit offset)
+counted {S} old new tables name items f limit offset first t content found held counts =
     let before : FullText S = with_tables old tables in
     let later : FullText S = with_tables new tables in
-    subst (λ (o : Option (ℤ × Table)). CountsFound offset before later items (Match column text) limit o) (sym found)
-    (subst (λ (h : TableState). CountsHeld offset before later items (Match column text) limit h) (sym held) (counts refl))
+    subst (λ (o : Option (ℤ × Table)). CountsFound offset before later items f limit o) (sym found)
+    (subst (λ (h : TableState). CountsHeld offset before later items f limit h) (sym held) counts)
 
 module _ {S : Type 0} (g : Ghosts S) (old new : StoreState S) (tables : List TableInfo) (name : List ℕ) (items : Items) (f : Filter) (limit : Option ℕ) (offset : ℕ) (looks : Looks g old new) where
   abbrev command : Command
@@ -176,7 +174,7 @@ module _ {S : Type 0} (g : Ghosts S) (old new : StoreState S) (tables : List Tab
       pub select_done : ((content : Content) → IsAsked g known.id known.columns items f query old new content → grid ≡ answer known.name content items f limit offset) → Does (Ok (Rows grid))
       select_done answers = does (Ok (Rows grid)) (λ up first holds. inr (stepped grid first (table_of first holds) (due first holds ∙ fine) (answers (table_of first holds).content (asked up first holds))))
 
-      pub select_counts : ((content : Content) → IsAsked g known.id known.columns items f query old new content → IsTrue (is_match f) → new.rows_read ≡ more_rows (rows_asked content items f limit offset) old) → CountsRows g (with_tables old tables) command (Ok (Rows grid)) (with_tables new tables)
+      pub select_counts : ((content : Content) → IsAsked g known.id known.columns items f query old new content → new.rows_read ≡ more_rows (rows_asked content items f limit offset) old) → CountsRows g (with_tables old tables) command (Ok (Rows grid)) (with_tables new tables)
       select_counts counts = λ up first holds.
           let t = table_of first holds in
           counted old new tables name items f limit offset first t.table t.content t.found t.held (counts t.content (asked up first holds))

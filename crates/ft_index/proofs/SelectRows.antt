@@ -13,7 +13,7 @@ use Rattle.ft_query.specs.Trees.{Tree}
 use Rattle.ft_query.specs.Occurs.{PlainHit, plain_hit, offsets_text}
 use Rattle.ft_values.specs.Cells.{Cell, Null, Int, Text}
 use Rattle.ft_content.specs.Content.{Column, Content, Documents, IsContent, is_docid, is_cell, is_document}
-use Rattle.ft_content.specs.Command.{Filter, All, Docid, Match, Item, AllColumns, Named, OffsetsOf, Items, Listed}
+use Rattle.ft_content.specs.Command.{Filter, All, Docid, Match, Item, AllColumns, Named, OffsetsOf, Listed}
 use Rattle.ft_content.specs.Answer.{cells_with, named_cell, item_cells, offsets_cell, item_rows, column_place, cut, query_in, chosen}
 use Rattle.ft_content.specs.Deserved.{is_match, is_offsets}
 use Rattle.ft_content.proofs.AnswerLemmas.{item_cells_are, cut_of_map}
@@ -21,7 +21,7 @@ use Rattle.ft_documents.specs.declared.documents.Document.{Document}
 use Rattle.ft_documents.specs.Gathered.{shown_document}
 use Rattle.ft_documents.specs.Chosen.{cells_at, document_at}
 use Rattle.ft_documents.specs.Matched.{hit_read, chosen_hits, as_wanted}
-use Rattle.ft_index.specs.RowsRead.{is_column, has_column_item, entries_asked, rows_asked}
+use Rattle.ft_index.specs.RowsRead.{is_column, entries_asked, rows_asked}
 use Rattle.ft_index.specs.Selected.{hit_cells}
 use Rattle.ft_documents.proofs.ChosenLemmas.{chosen_again, chosen_all}
 use Rattle.sqlite_keyed.proofs.ListLemmas.{map-map}
@@ -188,23 +188,17 @@ pub hits_answered : (limit most : Option ℕ) (offset : ℕ) (hits answered : Li
 hits_answered limit most offset hits answered all is found enough = ap (map plain_hit) is ∙ sym (cut_of_map plain_hit limit offset hits) ∙ ap (cut limit offset) found ∙ enough
 
 -- of the documents that are answered each is read where an item is a column
-pub asked_items : (content : Content) (items : List Item) (f : Filter) (limit : Option ℕ) (offset : ℕ) (n : ℕ) → n ≡ length (cut limit offset (chosen content f)) →
-    entries_asked content (query_in content f) + cond (list_any is_column items) (length content.columns) 0 * n ≡ rows_asked content (Listed items) f limit offset
+pub asked_items : (content : Content) (items : List Item) (name text : List ℕ) (limit : Option ℕ) (offset : ℕ) (n : ℕ) → n ≡ length (cut limit offset (chosen content (Match name text))) →
+    entries_asked content (query_in content (Match name text)) + cond (list_any is_column items) (length content.columns) 0 * n ≡ rows_asked content (Listed items) (Match name text) limit offset
 unfolding rows_asked
-asked_items content items f limit offset n many = go (list_any is_column items)
+asked_items content items name text limit offset n many = go (list_any is_column items)
   where
-    go : (b : Bool) → entries_asked content (query_in content f) + cond b (length content.columns) 0 * n ≡ entries_asked content (query_in content f) + cond b (length content.columns * length (cut limit offset (chosen content f))) 0
-    go true = ap (λ m. entries_asked content (query_in content f) + length content.columns * m) many
+    entries : ℕ
+    entries = entries_asked content (query_in content (Match name text))
+
+    go : (b : Bool) → entries + cond b (length content.columns) 0 * n ≡ entries + cond b (length content.columns * length (cut limit offset (chosen content (Match name text)))) 0
+    go true = ap (λ m. entries + length content.columns * m) many
     go false = grind arith
-
-none_more : (n : ℕ) → n ≡ n + 0
-none_more n = omega arith
-
-pub asked_without : (content : Content) (items : Items) (f : Filter) (limit : Option ℕ) (offset : ℕ) → has_column_item items ≡ false → entries_asked content (query_in content f) ≡ rows_asked content items f limit offset
-unfolding rows_asked
-asked_without content items f limit offset none =
-    let entries = entries_asked content (query_in content f) in
-    none_more entries ∙ sym (ap (λ b. entries + cond b (length content.columns * length (cut limit offset (chosen content f))) 0) none)
 
 -- ---- rows of documents
 

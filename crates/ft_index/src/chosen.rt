@@ -1,5 +1,5 @@
 //! The documents that a filter chooses, read from a store.
-ghost use Rattle.std.specs.Prelude.{◌≡◌, map, option_map, vec_len, Some, IfOk};
+ghost use Rattle.std.specs.Prelude.{◌≡◌, ◌*◌, false, length, map, option_map, vec_len, Some, IfOk, OnOk};
 ghost use Rattle.std.specs.Ordering.{int_cmp};
 ghost use Rattle.std.specs.FinMap.Entries.{find};
 ghost use Rattle.ft_query.specs.Trees.{tree_of};
@@ -7,6 +7,7 @@ ghost use Rattle.ft_store.specs.Kept.{more_rows};
 ghost use Rattle.ft_content.specs.Content.{Content};
 ghost use Rattle.ft_content.specs.Command.{Docid};
 ghost use Rattle.ft_content.specs.Answer.{chosen};
+ghost use Rattle.ft_content.specs.Deserved.{is_match};
 ghost use Rattle.ft_content.specs.Views.{cells_of, filter_of};
 ghost use Rattle.ft_index.specs.DocumentsRead.{HasRows, LooksFor, Asks};
 ghost use Rattle.ft_documents.specs.Gathered.{shown_document};
@@ -33,12 +34,17 @@ pub(crate) fn chosen_documents<S: Alter>(
     filter: &Filter,
     query: Option<&Query>,
 ) -> Result<Vec<Document>, Fault>
-    ensures { LooksFor S.Store store.old store.new result IsOutside
+    ensures looks { LooksFor S.Store store.old store.new result IsOutside
         (IfOk result (λ found. (content : Content)
         → HasRows S.Store tab store.old store.new content
         → IsIndexed S.Store tab store.old store.new content
         → ReadsAs content (filter_of filter.now) (option_map (λ q. tree_of q.now) query.entry)
         → map shown_document found.items ≡ chosen content (filter_of filter.now))) }
+    ensures counted { OnOk result ((content : Content)
+        → HasRows S.Store tab store.old store.new content
+        → is_match (filter_of filter.now) ≡ false
+        → store.new.rows_read ≡ more_rows (length content.columns
+        * length (chosen content (filter_of filter.now))) store.old) }
 {
     match filter {
         Filter::All => all_documents(alloc, store, tab),

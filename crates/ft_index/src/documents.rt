@@ -1,5 +1,5 @@
 //! The documents of a table, read from a store.
-ghost use Rattle.std.specs.Prelude.{◌≡◌, ◌⊎◌, map, option_map, vec_len, IsTrue, IfOk, IfErr, IfSome, OnOk};
+ghost use Rattle.std.specs.Prelude.{◌≡◌, ◌⊎◌, ◌*◌, length, is_some, map, option_map, vec_len, IsTrue, IfOk, IfErr, IfSome, OnOk};
 ghost use Rattle.std.specs.Option.{option_map_or};
 ghost use Rattle.std.specs.Ordering.{int_cmp};
 ghost use Rattle.std.specs.FinMap.Entries.{find};
@@ -12,6 +12,7 @@ ghost use Rattle.ft_content.specs.Content.{Content};
 ghost use Rattle.ft_content.specs.Answer.{cut};
 ghost use Rattle.ft_content.specs.Views as views;
 ghost use Rattle.ft_index.specs.DocumentsRead.{HasRows, Looks, Asks};
+ghost use Rattle.ft_index.specs.RowsRead.{are_short, docids_asked};
 ghost use Rattle.ft_documents.specs.Gathered.{shown_document, has_given};
 ghost use Rattle.ft_index.specs.Kept.{IsOutside};
 
@@ -49,10 +50,13 @@ pub(crate) fn all_documents<S: Alter>(
     store: &mut Store<S>,
     tab: i64,
 ) -> Result<Vec<Document>, Fault>
-    ensures { Asks S.Store store.old store.new result IsOutside
+    ensures looks { Asks S.Store store.old store.new result IsOutside
         (IfOk result (λ found. (content : Content)
         → HasRows S.Store tab store.old store.new content → map shown_document found.items
         ≡ content.documents)) }
+    ensures counted { OnOk result ((content : Content)
+        → HasRows S.Store tab store.old store.new content → store.new.rows_read
+        ≡ more_rows (length content.columns * length content.documents) store.old) }
 {
     Ok(gathered(alloc, store.cells(tab)?)?)
 }
@@ -67,10 +71,13 @@ pub(crate) fn docids<S: Alter>(
     limit: Option<u64>,
     offset: u64,
 ) -> Result<Vec<i64>, Fault>
-    ensures { Asks S.Store store.old store.new result IsOutside
+    ensures looks { Asks S.Store store.old store.new result IsOutside
         (IfOk result (λ found. (content : Content)
         → HasRows S.Store tab store.old store.new content
         → found.items ≡ cut limit offset (map (λ d. d.0) content.documents))) }
+    ensures counted { OnOk result ((content : Content)
+        → HasRows S.Store tab store.old store.new content → store.new.rows_read
+        ≡ more_rows (docids_asked content limit offset) store.old) }
 {
     if let Some((most, first)) = short(limit, offset) {
         return Ok(store.docids(tab, most, first)?);
@@ -81,7 +88,8 @@ pub(crate) fn docids<S: Alter>(
 
 // A limit and an offset as the store takes them, if they are small enough.
 fn short(limit: Option<u64>, offset: u64) -> Option<(Option<u32>, u32)>
-    ensures { IfSome result (λ r. (r.0 ≡ limit) × (r.1 ≡ offset)) }
+    ensures same { IfSome result (λ r. (r.0 ≡ limit) × (r.1 ≡ offset)) }
+    ensures short { is_some result ≡ are_short limit offset }
 {
     let first = u32::try_from(offset).ok()?;
     match limit {

@@ -113,8 +113,7 @@ fn selected_rows<S: Alter>(
     ensures counted { OnOk result ((content : Content)
         → IsAsked S.Store tab (map column_of columns.now) (items_of select.now.items)
         (filter_of select.now.filter) (option_map (λ q. tree_of q.now) query.entry) store.old
-        store.new content → IsTrue (deserved.is_match (filter_of select.now.filter))
-        → store.new.rows_read ≡ more_rows (rows_asked content (items_of select.now.items)
+        store.new content → store.new.rows_read ≡ more_rows (rows_asked content (items_of select.now.items)
         (filter_of select.now.filter) select.now.limit select.now.offset) store.old) }
 {
     let Items::List(items) = &select.items else {
@@ -157,9 +156,8 @@ fn chosen_count<S: Alter>(
     ensures counted { OnOk result ((content : Content)
         → IsOf S.Store tab store.old store.new content
         → ReadsAs content (filter_of filter.now) (option_map (λ q. tree_of q.now) query.entry)
-        → IsTrue (deserved.is_match (filter_of filter.now))
-        → store.new.rows_read ≡ more_rows (rows.entries_asked content
-        (query_in content (filter_of filter.now))) store.old) }
+        → store.new.rows_read ≡ more_rows (rows.count_asked content (filter_of filter.now))
+        store.old) }
 {
     match filter {
         Filter::Match { .. } => Ok(matched(alloc, store, tab, query, false, None)?.len() as i64),

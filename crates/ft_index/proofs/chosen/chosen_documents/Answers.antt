@@ -1,5 +1,5 @@
 -- by the kind of the filter
-use Rattle.std.proofs.Common.{rules, ◌≡◌, ◌∙◌, ◌∷◌, ◌++◌, [], ℤ, false, None, Ok, Result, Vec, Global, Option, map, option_map, string_bytes, Bor, refl, sym, ap, subst, to_z-of_z, to_z, of_z, w64, FitsSigned}
+use Rattle.std.proofs.Common.{rules, ℕ, ◌*◌, length, ◌≡◌, ◌∙◌, ◌∷◌, ◌++◌, [], ℤ, false, None, Ok, Result, Vec, Global, Option, map, option_map, string_bytes, Bor, refl, sym, ap, subst, to_z-of_z, to_z, of_z, w64, FitsSigned}
 use Rattle.std.specs.Prelude.{IfOk}
 use Rattle.std.specs.Ordering.{int_cmp}
 use Rattle.std.specs.FinMap.Entries.{find}
@@ -23,23 +23,26 @@ use Rattle.ft_index.specs.Walked.{IsIndexed}
 use Rattle.ft_documents.specs.Chosen.{ReadsAs, document_at}
 use Rattle.ft_documents.specs.Matched.{chosen_hits, as_wanted}
 use Rattle.ft_documents.proofs.ChosenLemmas.{chosen_all, chosen_one, of_hits}
+use Rattle.ft_store.specs.Kept.{more_rows}
 use Rattle.ft_index.proofs.LookLemmas.{rows_then, index_first}
+use Rattle.ft_index.proofs.ReadsLemmas.{on_ok_from}
+use Rattle.ft_index.proofs.RowCounts.{one_rows}
 use Rattle.ft_index.proofs.chosen.chosen_documents.Goals as goal
 use Rattle.ft_index.proofs.chosen.chosen_documents.Goals.{in-Some+in_ok-push-in-Docid, in_default}
 
-pub returns-in-All : goal.returns-in-All
-returns-in-All g c = record {
+pub returns-in-All-clause-looks : goal.returns-in-All-clause-looks
+returns-in-All-clause-looks g c = record {
   told =
       IfOk-weaker c.all_documents.result _ _ (λ found read content rows indexed reads.
       read content (subst (λ (k : ℤ). HasRows g.S.Store k c.args.store.now c.all_documents.new.store content) (sym (to_z-of_z c.ranges.tab)) rows)
-      ∙ sym (ap (λ (f : Filter). chosen content (filter_of f)) c.in-All.is ∙ chosen_all content)) c.all_documents.ensures.told;
+      ∙ sym (ap (λ (f : Filter). chosen content (filter_of f)) c.in-All.is ∙ chosen_all content)) c.all_documents.ensures.looks.told;
   only = search rules;
   live = search rules;
   cause = search rules;
 }
 
-pub returns-after-branch-2 : goal.returns-after-branch-2
-returns-after-branch-2 g c = record {
+pub returns-after-branch-2-clause-looks : goal.returns-after-branch-2-clause-looks
+returns-after-branch-2-clause-looks g c = record {
   told = λ content rows indexed reads.
       let docid : ℤ = c.in-Docid.docid in
       let read = c.in_ok-cells-in-Docid.field-0 in
@@ -63,8 +66,8 @@ returns-after-branch-2 g c = record {
   cause = search rules;
 }
 
-pub returns-in_ok-docids-in-Match : goal.returns-in_ok-docids-in-Match
-returns-in_ok-docids-in-Match g c = record {
+pub returns-in_ok-docids-in-Match-clause-looks : goal.returns-in_ok-docids-in-Match-clause-looks
+returns-in_ok-docids-in-Match-clause-looks g c = record {
   told =
       IfOk-weaker c.documents_under.result _ _ (λ found read content rows indexed reads.
       let first = c.args.store.now in
@@ -95,3 +98,19 @@ returns-in_ok-docids-in-Match g c = record {
   live = search rules;
   cause = search rules;
 }
+
+pub returns-in-All-clause-counted : goal.returns-in-All-clause-counted
+returns-in-All-clause-counted g c = on_ok_from c.all_documents.result _ _ (λ found counted content rows plainly.
+    counted content (subst (λ (k : ℤ). HasRows g.S.Store k c.args.store.now c.all_documents.new.store content) (sym (to_z-of_z c.ranges.tab)) rows)
+    ∙ ap (λ ds. more_rows (length content.columns * length ds) c.args.store.now) (sym (ap (λ (f : Filter). chosen content (filter_of f)) c.in-All.is ∙ chosen_all content))) c.all_documents.ensures.counted
+
+pub returns-after-branch-2-clause-counted : goal.returns-after-branch-2-clause-counted
+returns-after-branch-2-clause-counted g c content rows plainly =
+    let docid : ℤ = c.in-Docid.docid in
+    let read = c.in_ok-cells-in-Docid.field-0 in
+    let fits : FitsSigned w64 docid = search rules in
+    let here = subst (λ (k : ℤ). HasRows g.S.Store k c.args.store.now c.document.new.store content) (sym (to_z-of_z c.ranges.tab)) rows in
+    let found : option_map cells_of read ≡ find int_cmp docid content.documents = c.in_ok-cells-in-Docid.ensures.looks.told content here ∙ ap (λ (k : ℤ). find int_cmp k content.documents) (to_z-of_z fits) in
+    c.in_ok-cells-in-Docid.ensures.counted
+    ∙ ap (λ (n : ℕ). more_rows n c.args.store.now) (one_rows rows.name content docid read rows.is_content found)
+    ∙ ap (λ (f : Filter). more_rows (length content.columns * length (chosen content (filter_of f))) c.args.store.now) (sym c.in-Docid.is)

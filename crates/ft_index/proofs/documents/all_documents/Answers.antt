@@ -1,11 +1,12 @@
 -- the documents that the rows are of
-use Rattle.std.proofs.Common.{rules, ◌∙◌, to_z-of_z}
-use Rattle.ft_store.specs.Kept.{value_in}
+use Rattle.std.proofs.Common.{rules, ℕ, ap, ◌∙◌, to_z-of_z}
+use Rattle.ft_store.specs.Kept.{value_in, more_rows}
 use Rattle.ft_documents.proofs.ReadRows.{all_read}
+use Rattle.ft_index.proofs.RowCounts.{all_rows}
 use Rattle.ft_index.proofs.documents.all_documents.Goals as goal
 
-pub returns : goal.returns
-returns g c = record {
+pub returns-clause-looks : goal.returns-clause-looks
+returns-clause-looks g c = record {
   told = λ content rows.
       c.in_ok-gathered.ensures
       ∙ all_read c.args.tab (value_in g.S.Store c.args.store.now) rows.name content c.in_ok-cells.field-0.items rows.is_content rows.rows
@@ -14,3 +15,10 @@ returns g c = record {
   live = search rules;
   cause = search rules;
 }
+
+pub returns-clause-counted : goal.returns-clause-counted
+returns-clause-counted g c content rows =
+    let read = c.in_ok-cells.field-0 in
+    c.in_ok-cells.ensures.read.counted
+    ∙ ap (λ (n : ℕ). more_rows n c.args.store.now) (read.ok.0 ∙ all_rows c.args.tab (value_in g.S.Store c.args.store.now) rows.name content read.items rows.is_content rows.rows
+    ((simp (to_z-of_z, c.ranges.tab) at c.in_ok-cells.ensures.rows) rows.clean))

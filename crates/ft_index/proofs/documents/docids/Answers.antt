@@ -1,25 +1,45 @@
 -- the docids of the content, by the limits
-use Rattle.std.proofs.Common.{rules, ap, ◌∙◌, to_z-of_z, ◌≡◌}
-use Rattle.ft_store.specs.Kept.{value_in}
+use Rattle.std.proofs.Common.{rules, ℕ, ℤ, true, false, cond, List, map, length, ap, sym, ◌∙◌, to_z-of_z, ◌≡◌}
+use Rattle.std.proofs.lemmas.List.{length-map}
+use Rattle.ft_values.specs.Cells.{Cell}
+use Rattle.ft_store.specs.Kept.{value_in, more_rows}
 use Rattle.ft_store.specs.Docids.{docids_in}
 use Rattle.ft_content.specs.Answer.{cut}
+use Rattle.ft_content.proofs.AnswerLemmas.{cut_of_map}
+use Rattle.ft_index.specs.RowsRead.{are_short}
 use Rattle.ft_index.proofs.DocidReads.{docids_read, cut_is}
 use Rattle.ft_index.proofs.documents.docids.Goals as goal
 
-pub returns-in-Some : goal.returns-in-Some
-returns-in-Some g c = record {
+pub returns-in-Some-clause-looks : goal.returns-in-Some-clause-looks
+returns-in-Some-clause-looks g c = record {
   told = λ content rows.
       let store = value_in g.S.Store c.args.store.now in
       (simp (to_z-of_z, c.ranges.tab) at c.in_ok-docids.ensures.rows) rows.clean
-      ∙ cut_is c.in-Some.most c.args.limit c.in-Some.first c.args.offset (docids_in c.args.tab store.cells) c.in-Some.ensures.0 c.in-Some.ensures.1
+      ∙ cut_is c.in-Some.most c.args.limit c.in-Some.first c.args.offset (docids_in c.args.tab store.cells) c.in-Some.ensures.same.0 c.in-Some.ensures.same.1
       ∙ ap (cut c.args.limit c.args.offset) (docids_read c.args.tab store rows.name content rows.is_content rows.rows);
   only = search rules;
   live = search rules;
   cause = search rules;
 }
 
-pub returns : goal.returns
-returns g c = record {
+pub returns-in-Some-clause-counted : goal.returns-in-Some-clause-counted
+returns-in-Some-clause-counted g c content rows =
+    let store = value_in g.S.Store c.args.store.now in
+    let limit = c.args.limit in
+    let offset = c.args.offset in
+    let found = c.in_ok-docids.field-0 in
+    let short : are_short limit offset ≡ true = search rules in
+    let docid : ℤ × List Cell → ℤ = λ d. d.0 in
+    let read : found.items ≡ cut limit offset (map docid content.documents) =
+    (simp (to_z-of_z, c.ranges.tab) at c.in_ok-docids.ensures.rows) rows.clean
+    ∙ cut_is c.in-Some.most limit c.in-Some.first offset (docids_in c.args.tab store.cells) c.in-Some.ensures.same.0 c.in-Some.ensures.same.1
+    ∙ ap (cut limit offset) (docids_read c.args.tab store rows.name content rows.is_content rows.rows) in
+    let many : length found.items ≡ length (cut limit offset content.documents) = ap length (read ∙ cut_of_map docid limit offset content.documents) ∙ length-map (cut limit offset content.documents) docid in
+    c.in_ok-docids.ensures.read.counted
+    ∙ ap (λ (n : ℕ). more_rows n c.args.store.now) (found.ok.0 ∙ many ∙ sym (ap (λ b. cond b (length (cut limit offset content.documents)) (length content.documents)) short))
+
+pub returns-clause-looks : goal.returns-clause-looks
+returns-clause-looks g c = record {
   told = λ content rows.
       let store = value_in g.S.Store c.args.store.now in
       let same : c.in_ok-to_vec.field-0.items ≡ c.cut.result.now = search rules in
@@ -29,3 +49,15 @@ returns g c = record {
   live = search rules;
   cause = search rules;
 }
+
+pub returns-clause-counted : goal.returns-clause-counted
+returns-clause-counted g c content rows =
+    let store = value_in g.S.Store c.args.store.now in
+    let limit = c.args.limit in
+    let offset = c.args.offset in
+    let long : are_short limit offset ≡ false = search rules in
+    let docid : ℤ × List Cell → ℤ = λ d. d.0 in
+    let read : c.in_ok-all.all.items ≡ map docid content.documents = (simp (to_z-of_z, c.ranges.tab) at c.in_ok-all.ensures.rows) rows.clean ∙ docids_read c.args.tab store rows.name content rows.is_content rows.rows in
+    c.in_ok-all.ensures.read.counted
+    ∙ ap (λ (n : ℕ). more_rows n c.args.store.now) (c.in_ok-all.all.ok.0 ∙ ap length read ∙ length-map content.documents docid
+    ∙ sym (ap (λ b. cond b (length (cut limit offset content.documents)) (length content.documents)) long))

@@ -1,12 +1,15 @@
 -- a count, the hits of a MATCH, the documents by their docids, or those that are read
-use Rattle.std.proofs.Common.{rules, ◌≡◌, ◌+◌, ◌-◌, ◌*◌, ◌^◌, min, cond, ℕ, ℤ, List, [], false, Option, map, length, string_bytes, refl, sym, ap, subst, ◌∙◌, to_z, of_z, w64, to_z-of_z}
+use Rattle.std.proofs.Common.{rules, ◌≡◌, ◌+◌, ◌-◌, ◌*◌, ◌^◌, ◌||◌, not, min, cond, ℕ, ℤ, List, [], false, true, Option, map, length, string_bytes, refl, sym, ap, subst, ◌∙◌, to_z, of_z, w64, to_z-of_z}
+use Rattle.std.specs.Prelude.{is_some}
 use Rattle.std.specs.List.{list_any}
+use Rattle.std.proofs.lemmas.List.{length-map}
 use Rattle.std.proofs.lemmas.Result.{IfOk-weaker}
 use Rattle.sqlite.specs.Store.{Ghosts}
 use Rattle.ft_query.specs.declared.walk.Hit.{Hit}
-use Rattle.ft_query.specs.Occurs.{plain_hit}
+use Rattle.ft_query.specs.Occurs.{PlainHit, plain_hit}
 use Rattle.ft_query.specs.Trees.{Tree}
 use Rattle.ft_store.specs.Kept.{StoreState}
+use Rattle.ft_values.specs.Cells.{Cell}
 use Rattle.ft_content.specs.declared.command.Item.{Item}
 use Rattle.ft_content.specs.declared.command.Items.{Items}
 use Rattle.ft_content.specs.Content.{Column, Content}
@@ -19,12 +22,14 @@ use Rattle.ft_documents.specs.declared.documents.Document.{Document}
 use Rattle.ft_documents.specs.Chosen.{document_at}
 use Rattle.ft_documents.specs.Matched.{chosen_hits, as_wanted}
 use Rattle.ft_index.specs.DocumentsRead.{HasRows, Looks}
-use Rattle.ft_index.specs.RowsRead.{is_column, has_column_item, rows_asked}
+use Rattle.ft_index.specs.RowsRead.{is_column, rows_asked}
 use Rattle.ft_index.specs.Selected.{IsAsked, IsOf}
 use Rattle.ft_index.specs.Walked.{IsIndexed}
 use Rattle.ft_index.proofs.LookLemmas.{rows_first, rows_then, index_first}
 use Rattle.ft_index.proofs.ReadsLemmas.{on_ok_from}
-use Rattle.ft_index.proofs.SelectRows.{hit_rows, hits_answered, as_many, counted_both, asked_items, asked_without, bare_hit_rows, listed_rows_are, documents_again, document_rows_are, no_offsets}
+use Rattle.ft_index.proofs.SelectRows.{hit_rows, hits_answered, as_many, counted_both, asked_items, bare_hit_rows, listed_rows_are, documents_again, document_rows_are, no_offsets}
+use Rattle.ft_content.proofs.AnswerLemmas.{cut_of_map}
+use Rattle.ft_index.proofs.RowCounts.{asked_count, asked_all, asked_whole}
 use Rattle.ft_index.proofs.select.selected_rows.Goals as goal
 
 -- what is asked, as its items and its filter are written
@@ -34,11 +39,13 @@ asked_as g tab columns items others f other query old new content same is asked 
     subst (λ fs. IsAsked g tab columns others fs query old new content) is (subst (λ is. IsAsked g tab columns is f query old new content) same asked)
 
 pub returns-in_default-clause-counted : goal.returns-in_default-clause-counted
-returns-in_default-clause-counted g c content asked matching =
+returns-in_default-clause-counted g c content asked =
     let held = subst (λ (k : ℤ). IsOf g.S.Store k c.args.store.now c.chosen_count.new.store content) (sym (to_z-of_z c.ranges.tab)) asked.held in
-    c.in_ok-count.ensures.counted content held asked.reads matching
+    let select = c.args.select.now in
+    let f = filter_of select.filter in
+    c.in_ok-count.ensures.counted content held asked.reads
     ∙ ap (λ (n : ℕ). min (c.args.store.now.rows_read + n) (2 ^ 64 - 1))
-    (asked_without content (items_of c.args.select.now.items) (filter_of c.args.select.now.filter) c.args.select.now.limit c.args.select.now.offset (ap (λ (x : Items). has_column_item (items_of x)) c.in_default.is))
+    (asked_count content f select.limit select.offset ∙ ap (λ (x : Items). rows_asked content (items_of x) f select.limit select.offset) (sym c.in_default.is))
 
 pub returns-in_ok-hits-in-Match-clause-looks : goal.returns-in_ok-hits-in-Match-clause-looks
 returns-in_ok-hits-in-Match-clause-looks g c = record {
@@ -74,7 +81,7 @@ returns-in_ok-hits-in-Match-clause-looks g c = record {
 }
 
 pub returns-in_ok-hits-in-Match-clause-counted : goal.returns-in_ok-hits-in-Match-clause-counted
-returns-in_ok-hits-in-Match-clause-counted g c = on_ok_from c.hit_rows.result _ _ (λ whole counted content as_asked matching.
+returns-in_ok-hits-in-Match-clause-counted g c = on_ok_from c.hit_rows.result _ _ (λ whole counted content as_asked.
     let first = c.args.store.now in
     let middle = c.matched.new.store in
     let last = c.hit_rows.new.store in
@@ -101,7 +108,7 @@ returns-in_ok-hits-in-Match-clause-counted g c = on_ok_from c.hit_rows.result _ 
     let width : ℕ = cond (list_any is_column items) (length content.columns) 0 in
     counted_both first.rows_read middle.rows_read last.rows_read _ (width * length c.cut-answered.result.now) (c.in_ok-hits-in-Match.ensures.counted content (string_bytes c.in-Match.name) (string_bytes c.in-Match.query) asked.reads before)
     (counted content (rows_then g.S.Store first middle last one two tab content here))
-    ∙ ap (λ (n : ℕ). min (first.rows_read + n) (2 ^ 64 - 1)) (asked_items content items f select.limit select.offset (length c.cut-answered.result.now) many
+    ∙ ap (λ (n : ℕ). min (first.rows_read + n) (2 ^ 64 - 1)) (asked_items content items (string_bytes c.in-Match.name) (string_bytes c.in-Match.query) select.limit select.offset (length c.cut-answered.result.now) many
     ∙ (λ i. rows_asked content (sym items_are i) (sym f_is i) select.limit select.offset))) c.hit_rows.ensures.counted
 
 pub returns-in_ok-hits-in-All-clause-looks : goal.returns-in_ok-hits-in-All-clause-looks
@@ -110,7 +117,7 @@ returns-in_ok-hits-in-All-clause-looks g c = record {
       let first = c.args.store.now in
       let middle = c.docids.new.store in
       let last = c.hit_rows-in-All.new.store in
-      let one : Looks g.S.Store first middle = c.docids.ensures.only in
+      let one : Looks g.S.Store first middle = c.docids.ensures.looks.only in
       let two = c.hit_rows-in-All.ensures.looks.only in
       let tab : ℤ = to_z w64 (of_z w64 c.args.tab) in
       let select = c.args.select.now in
@@ -125,7 +132,7 @@ returns-in_ok-hits-in-All-clause-looks g c = record {
       read content (rows_then g.S.Store first middle last one two tab content here)
       ∙ bare_hit_rows columns content items c.as_slice-in-All-2.result.now docids hits
       ∙ listed_rows_are content columns items select.limit select.offset asked.columns (map (document_at content) docids)
-      (documents_again here.name content select.limit select.offset here.is_content docids (c.in_ok-docids-in-All.ensures.told content (rows_first g.S.Store first middle last one two tab content here)))
+      (documents_again here.name content select.limit select.offset here.is_content docids (c.in_ok-docids-in-All.ensures.looks.told content (rows_first g.S.Store first middle last one two tab content here)))
       ∙ (λ i. cut select.limit select.offset (answer_rows content (sym items_are i) (sym f_is i)))) c.hit_rows-in-All.ensures.looks.told;
   only = search rules;
   live = search rules;
@@ -145,7 +152,7 @@ returns-in_ok-document_rows-in-All-2-clause-looks g c = record {
       let items_are : items_of select.items ≡ Listed items = ap items_of c.in-List.is ∙ ap (λ (l : List Item). Listed (map item_of l)) (sym c.as_slice-items.ensures.value) in
       let asked = asked_as g.S.Store c.args.tab columns _ _ _ _ _ first last content items_are refl as_asked in
       let plainly : is_match f ≡ false = search rules in
-      let found = c.in_ok-documents-in-All-2.ensures.told content (subst (λ (k : ℤ). HasRows g.S.Store k first last content) t asked.held.rows) (subst (λ (k : ℤ). IsIndexed g.S.Store k first last content) t asked.held.index) asked.reads in
+      let found = c.in_ok-documents-in-All-2.ensures.looks.told content (subst (λ (k : ℤ). HasRows g.S.Store k first last content) t asked.held.rows) (subst (λ (k : ℤ). IsIndexed g.S.Store k first last content) t asked.held.index) asked.reads in
       c.in_ok-document_rows-in-All-2.ensures (no_offsets f items plainly asked.offsets)
       ∙ document_rows_are content f columns items select.limit select.offset plainly asked.columns c.in_ok-documents-in-All-2.documents.items c.cut-answered-in-All-2.result.now found
       (c.cut-answered-in-All-2.ensures ∙ ap (λ (ds : List Document). cut select.limit select.offset ds) c.as_slice-in-All-2-2.ensures.value)
@@ -154,3 +161,47 @@ returns-in_ok-document_rows-in-All-2-clause-looks g c = record {
   live = search rules;
   cause = search rules;
 }
+
+pub returns-in_ok-hits-in-All-clause-counted : goal.returns-in_ok-hits-in-All-clause-counted
+returns-in_ok-hits-in-All-clause-counted g c = on_ok_from c.hit_rows-in-All.result _ _ (λ whole counted content as_asked.
+    let first = c.args.store.now in
+    let middle = c.docids.new.store in
+    let last = c.hit_rows-in-All.new.store in
+    let one : Looks g.S.Store first middle = c.docids.ensures.looks.only in
+    let two = c.hit_rows-in-All.ensures.looks.only in
+    let tab : ℤ = to_z w64 (of_z w64 c.args.tab) in
+    let select = c.args.select.now in
+    let items = map item_of c.as_slice-items.result.now in
+    let items_are : items_of select.items ≡ Listed items = ap items_of c.in-List.is ∙ ap (λ (l : List Item). Listed (map item_of l)) (sym c.as_slice-items.ensures.value) in
+    let f_is : filter_of select.filter ≡ All = ap filter_of c.in-All.is in
+    let asked = asked_as g.S.Store c.args.tab (map column_of c.args.columns.now) _ _ _ _ _ first last content items_are f_is as_asked in
+    let here = subst (λ (k : ℤ). HasRows g.S.Store k first last content) (sym (to_z-of_z c.ranges.tab)) asked.held.rows in
+    let before = rows_first g.S.Store first middle last one two tab content here in
+    let docids = c.in_ok-docids-in-All.docids.items in
+    let hits : List Hit = c.as_slice-in-All-2.result.now in
+    let bare : ℤ → PlainHit = λ k. record { docid = k; offsets = [] } in
+    let docid : ℤ × List Cell → ℤ = λ d. d.0 in
+    let answered : List (ℤ × List Cell) = cut select.limit select.offset content.documents in
+    let are : map plain_hit hits ≡ map bare docids = ap (map plain_hit) c.as_slice-in-All-2.ensures.value ∙ c.in_ok-hits-in-All.ensures ∙ ap (map bare) c.as_slice-in-All.ensures.value in
+    let many : length hits ≡ length answered =
+    sym (length-map hits plain_hit) ∙ ap length are ∙ length-map docids bare ∙ ap length (c.in_ok-docids-in-All.ensures.looks.told content before ∙ cut_of_map docid select.limit select.offset content.documents) ∙ length-map answered docid in
+    let by_docid : (is_some select.limit || not (list_any is_column items)) ≡ true = search rules in
+    let width : ℕ = cond (list_any is_column items) (length content.columns) 0 in
+    counted_both first.rows_read middle.rows_read last.rows_read _ (width * length hits) (c.in_ok-docids-in-All.ensures.counted content before) (counted content (rows_then g.S.Store first middle last one two tab content here))
+    ∙ ap (λ (n : ℕ). min (first.rows_read + n) (2 ^ 64 - 1)) (asked_all content items select.limit select.offset (length hits) by_docid many
+    ∙ (λ i. rows_asked content (sym items_are i) (sym f_is i) select.limit select.offset))) c.hit_rows-in-All.ensures.counted
+
+pub returns-in_ok-document_rows-in-All-2-clause-counted : goal.returns-in_ok-document_rows-in-All-2-clause-counted
+returns-in_ok-document_rows-in-All-2-clause-counted g c content as_asked =
+    let first = c.args.store.now in
+    let last = c.chosen_documents.new.store in
+    let select = c.args.select.now in
+    let f = filter_of select.filter in
+    let items = map item_of c.as_slice-items.result.now in
+    let items_are : items_of select.items ≡ Listed items = ap items_of c.in-List.is ∙ ap (λ (l : List Item). Listed (map item_of l)) (sym c.as_slice-items.ensures.value) in
+    let asked = asked_as g.S.Store c.args.tab (map column_of c.args.columns.now) _ _ _ _ _ first last content items_are refl as_asked in
+    let plainly : is_match f ≡ false = search rules in
+    let whole : f ≡ All → (is_some select.limit || not (list_any is_column items)) ≡ false = search rules in
+    c.in_ok-documents-in-All-2.ensures.counted content (subst (λ (k : ℤ). HasRows g.S.Store k first last content) (sym (to_z-of_z c.ranges.tab)) asked.held.rows) plainly
+    ∙ ap (λ (n : ℕ). min (first.rows_read + n) (2 ^ 64 - 1)) (asked_whole content items f select.limit select.offset plainly whole
+    ∙ (λ i. rows_asked content (sym items_are i) f select.limit select.offset))

@@ -43,14 +43,14 @@ returns-in_ok-rewrites-in-Stale g c = record {
       let mid = c.state_under.new.store in
       let new = c.all_documents.new.store in
       let one = c.in_ok-state.ensures.looks.only in
-      let two = c.in_ok-documents-in-Stale.ensures.only in
+      let two = c.in_ok-documents-in-Stale.ensures.looks.only in
       let stands = c.in_ok-state.ensures.looks.told (t.table.0, t.table.1.name) t.table.1.held (looks_up g.S.Store mid new tables tables two up).clean named t.stands in
       let rewrites = map shown_rewrite c.in_ok-rewrites-in-Stale.rewrites.items in
       let id : to_z w64 (of_z w64 known.id) ≡ t.table.0 = to_z-of_z fits ∙ ap (λ (k : TableInfo). k.id) (sym t.told) in
       let all : (content : Content) → IsContent t.table.1.name content → table_rows t.table.0 v ≡ content_rows content → rewrites ≡ map new_rewrite content.documents =
       λ content is_content rows.
       let has : HasRows g.S.Store (to_z w64 (of_z w64 known.id)) old new content = record { clean = up.clean; is_open = up.is_open; name = t.table.1.name; is_content = is_content; rows = ap (λ k. table_rows k v) id ∙ rows } in
-      c.in_ok-rewrites-in-Stale.ensures ∙ ap (map new_rewrite) (c.in_ok-documents-in-Stale.ensures.told content (rows_then g.S.Store old mid new one two (to_z w64 (of_z w64 known.id)) content has)) in
+      c.in_ok-rewrites-in-Stale.ensures ∙ ap (map new_rewrite) (c.in_ok-documents-in-Stale.ensures.looks.told content (rows_then g.S.Store old mid new one two (to_z w64 (of_z w64 known.id)) content has)) in
       subst (λ (cs : List Change). PlansFrom contents (plain.Rebuild name) v (Ok cs)) (sym are.are)
       (plan_stale v tables contents name known c.is_in_order.ensures.order held t rewrites are.rest (sym c.in-Stale.is ∙ stands) all are.of_written.0 are.of_written.1);
   only = search rules;

@@ -82,7 +82,7 @@ returns-in_err-documents g c = record {
       let fault : Fault = c.in_err-documents.field-0.0 in
       let is : c.from_residual-in_err-documents.result ≡ Err fault = search rules in
       plans_failed g.S.Store (deletion_of deletion) name (due f) (made f) (gone f) (is_write f name) c.args.store.now c.chosen_documents.new.store (map shown_info c.args.tables.now) (shown_info info) c.is_in_order.ensures.order named fault _ is (λ content has.
-      inl c.in_err-documents.ensures.cause);
+      inl c.in_err-documents.ensures.looks.cause);
   only = search rules;
   live = search rules;
 }
@@ -123,7 +123,7 @@ returns g c = record {
       let index = index_of g.S.Store tab info.id (to_z-of_z fits) (string_bytes info.name) (map column_of info.columns.items) c.args.store.now c.chosen_documents.new.store content has in
       let shown : option_map (λ q. tree_of q.now) c.as_ref.result ≡ option_map tree_of c.in_ok-query.query = search rules in
       let here = subst (ReadsAs content f) (sym shown) (reads_bare content cols columns_are f (option_map tree_of c.in_ok-query.query) reads) in
-      let found = c.in_ok-documents.ensures.told content rows index here in (
+      let found = c.in_ok-documents.ensures.looks.told content rows index here in (
         subst (λ n. due f n content ≡ None) c.as_str-2.ensures.value (none_due f content cols columns_are c.as_str-2.result.now tested fine),
         subst (LeadsTo content (made f content) (gone f content)) (sym (c.in_ok-rewrites.ensures ∙ ap (map removal) found)) (leads f (string_bytes info.name) content has.has.is_content),
       )) of_written.0 of_written.1;

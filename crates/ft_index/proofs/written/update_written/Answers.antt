@@ -113,7 +113,7 @@ returns-in_err-query g c = record {
 pub returns-in_err-documents : goal.returns-in_err-documents
 returns-in_err-documents g c = record {
   told = fails g.S.Store c.args.modification.now c.as_slice-sets.result.now c.in_ok-table.table.now (map shown_info c.args.tables.now) c.args.store.now c.chosen_documents.new.store c.is_in_order.ensures.order c.as_slice-sets.ensures.value (sym c.repeats_set.ensures ∙ c.if-repeats_set.false) _ c.as_str.ensures.value c.in_ok-table.ensures c.in_err-documents.field-0.0 c.from_residual-in_err-documents.result (search rules) (λ content has.
-      inl c.in_err-documents.ensures.cause);
+      inl c.in_err-documents.ensures.looks.cause);
   only = search rules;
   live = search rules;
 }
@@ -130,7 +130,7 @@ pub returns-in_err-is_taken : goal.returns-in_err-is_taken
 returns-in_err-is_taken g c = record {
   told = fails g.S.Store c.args.modification.now c.as_slice-sets.result.now c.in_ok-table.table.now (map shown_info c.args.tables.now) c.args.store.now c.has_document.new.store c.is_in_order.ensures.order c.as_slice-sets.ensures.value (sym c.repeats_set.ensures ∙ c.if-repeats_set.false) _ c.as_str.ensures.value c.in_ok-table.ensures c.in_err-is_taken.field-0.0 c.from_residual-in_err-is_taken.result (search rules) (λ content has.
       inl c.in_err-is_taken.ensures.faults);
-  only = looks_then g.S.Store c.args.store.now c.chosen_documents.new.store c.has_document.new.store c.in_ok-documents.ensures.only c.has_document.ensures.looks c.in_ok-documents.ensures.live;
+  only = looks_then g.S.Store c.args.store.now c.chosen_documents.new.store c.has_document.new.store c.in_ok-documents.ensures.looks.only c.has_document.ensures.looks c.in_ok-documents.ensures.looks.live;
   live = search rules;
 }
 
@@ -154,12 +154,12 @@ returns-in-Some-moves_fault g c = record {
       let new = c.has_document.new.store in
       let rows = rows_of g.S.Store tab info.id same (string_bytes info.name) (map column_of info.columns.items) old new content has in
       let index = index_of g.S.Store tab info.id same (string_bytes info.name) (map column_of info.columns.items) old new content has in
-      let one = c.in_ok-documents.ensures.only in
+      let one = c.in_ok-documents.ensures.looks.only in
       let two = c.has_document.ensures.looks in
       let shown : option_map (λ q. tree_of q.now) c.as_ref.result ≡ option_map tree_of c.in_ok-query.query = search rules in
       let here = subst (ReadsAs content f) (sym shown) (reads_bare content cols columns_are f (option_map tree_of c.in_ok-query.query) reads) in
       let documents = c.in_ok-documents.documents.items in
-      let found = c.in_ok-documents.ensures.told content (rows_first g.S.Store old mid new one two tab content rows) (index_first g.S.Store old mid new one two tab content index) here in
+      let found = c.in_ok-documents.ensures.looks.told content (rows_first g.S.Store old mid new one two tab content rows) (index_first g.S.Store old mid new one two tab content index) here in
       let given : slice_get (docids_in sets) 0 ≡ c.set_docid-given.result = sym c.set_docid-given.ensures in
       let taken = c.in_ok-is_taken.ensures.found content (rows_then g.S.Store old mid new one two tab content rows) in
       let ok : c.collect.result ≡ Ok c.in_ok-docids.docids = search rules in
@@ -171,7 +171,7 @@ returns-in-Some-moves_fault g c = record {
       let moved = c.moves_fault.ensures content.documents (map shown_document documents) (docids_in sets) listed given known in
       inr (subst (λ n. due sets f n content ≡ Some c.in-Some-moves_fault.fault) c.as_str-2.ensures.value
       (moves_due sets f content cols columns_are table tested fine ∙ ap (λ ds. moves_fault content.documents ds (docids_in sets)) (sym found) ∙ sym moved ∙ c.in-Some-moves_fault.is)));
-  only = looks_then g.S.Store c.args.store.now c.chosen_documents.new.store c.has_document.new.store c.in_ok-documents.ensures.only c.has_document.ensures.looks c.in_ok-documents.ensures.live;
+  only = looks_then g.S.Store c.args.store.now c.chosen_documents.new.store c.has_document.new.store c.in_ok-documents.ensures.looks.only c.has_document.ensures.looks c.in_ok-documents.ensures.looks.live;
   live = search rules;
 }
 
@@ -179,7 +179,7 @@ pub returns-in_err-rewrites : goal.returns-in_err-rewrites
 returns-in_err-rewrites g c = record {
   told = fails g.S.Store c.args.modification.now c.as_slice-sets.result.now c.in_ok-table.table.now (map shown_info c.args.tables.now) c.args.store.now c.has_document.new.store c.is_in_order.ensures.order c.as_slice-sets.ensures.value (sym c.repeats_set.ensures ∙ c.if-repeats_set.false) _ c.as_str.ensures.value c.in_ok-table.ensures faults.Memory c.from_residual-in_err-rewrites.result (search rules) (λ content has.
       inl (inr refl));
-  only = looks_then g.S.Store c.args.store.now c.chosen_documents.new.store c.has_document.new.store c.in_ok-documents.ensures.only c.has_document.ensures.looks c.in_ok-documents.ensures.live;
+  only = looks_then g.S.Store c.args.store.now c.chosen_documents.new.store c.has_document.new.store c.in_ok-documents.ensures.looks.only c.has_document.ensures.looks c.in_ok-documents.ensures.looks.live;
   live = search rules;
 }
 
@@ -211,12 +211,12 @@ returns g c = record {
       let new = c.has_document.new.store in
       let rows = rows_of g.S.Store tab info.id same (string_bytes info.name) (map column_of info.columns.items) old new content has in
       let index = index_of g.S.Store tab info.id same (string_bytes info.name) (map column_of info.columns.items) old new content has in
-      let one = c.in_ok-documents.ensures.only in
+      let one = c.in_ok-documents.ensures.looks.only in
       let two = c.has_document.ensures.looks in
       let shown : option_map (λ q. tree_of q.now) c.as_ref.result ≡ option_map tree_of c.in_ok-query.query = search rules in
       let here = subst (ReadsAs content f) (sym shown) (reads_bare content cols columns_are f (option_map tree_of c.in_ok-query.query) reads) in
       let documents = c.in_ok-documents.documents.items in
-      let found = c.in_ok-documents.ensures.told content (rows_first g.S.Store old mid new one two tab content rows) (index_first g.S.Store old mid new one two tab content index) here in
+      let found = c.in_ok-documents.ensures.looks.told content (rows_first g.S.Store old mid new one two tab content rows) (index_first g.S.Store old mid new one two tab content index) here in
       let given : slice_get (docids_in sets) 0 ≡ c.set_docid-given.result = sym c.set_docid-given.ensures in
       let taken = c.in_ok-is_taken.ensures.found content (rows_then g.S.Store old mid new one two tab content rows) in
       let ok : c.collect.result ≡ Ok c.in_ok-docids.docids = search rules in
@@ -235,6 +235,6 @@ returns g c = record {
         none,
         leads sets f (string_bytes info.name) content (docids_in sets) (chosen content f) rewrites (λ i. chosen content f) has.has.is_content stays (update_keeps_content (string_bytes info.name) content sets f has.has.is_content none) moves,
       )) of_written.0 of_written.1);
-  only = looks_then g.S.Store c.args.store.now c.chosen_documents.new.store c.has_document.new.store c.in_ok-documents.ensures.only c.has_document.ensures.looks c.in_ok-documents.ensures.live;
+  only = looks_then g.S.Store c.args.store.now c.chosen_documents.new.store c.has_document.new.store c.in_ok-documents.ensures.looks.only c.has_document.ensures.looks c.in_ok-documents.ensures.looks.live;
   live = search rules;
 }

@@ -10,7 +10,7 @@ use Rattle.ft_index.specs.Crashes.{LeavesCommand}
 use Rattle.ft_index.specs.Changed.{with_tables}
 use Rattle.ft_index.specs.RowsRead.{CountsRows}
 use Rattle.ft_index.proofs.Pinging.{counts_nothing, counts_then, does_nothing, does_then, outside_of, ok_then}
-use Rattle.std.proofs.Common.{sym, ap, ◌∙◌}
+use Rattle.std.proofs.Common.{sym}
 use Rattle.sqlite.specs.Effect.{Database}
 use Rattle.ft_store.specs.Blame.{AreTableTexts}
 use Rattle.ft_store.specs.Kept.{shows}
