@@ -1,6 +1,7 @@
 -- Steps. Documents that are written anew, and what row changes of them do. All of it is our own
 -- choice.
-use Rattle.std.specs.Prelude.{◌≡◌, ◌≢◌, ℕ, ◌+◌, ◌-◌, ◌<◌, List, [], ◌∷◌, map, length, take, sum_by, Option, Some, None, option_map, ℤ, IsTrue, IsSome, IfSome, All}
+use Rattle.std.specs.Prelude.{◌≡◌, ◌≢◌, ℕ, ◌+◌, ◌-◌, ◌<◌, ℤ, List, [], ◌∷◌, map, length, take, sum_by, All}
+use Rattle.std.specs.Prelude.{Option, Some, None, option_map, IsTrue, IsSome, IfSome}
 use Rattle.std.specs.List.{flat_map}
 use Rattle.std.specs.Ordering.{int_cmp}
 use Rattle.std.specs.FinMap.Entries.{put, find, is_sorted}

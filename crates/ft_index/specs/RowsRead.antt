@@ -1,5 +1,6 @@
 -- Meaning. How many rows a Select reads (own choice).
-use Rattle.std.specs.Prelude.{◌≡◌, ℕ, ◌+◌, ◌*◌, ◌^◌, ◌&&◌, ◌||◌, nat_lt, is_some, Bool, true, false, if◌then◌else◌, not, length, List, Option, Some, None, Result, Ok, ℤ}
+use Rattle.std.specs.Prelude.{◌≡◌, ℕ, ◌+◌, ◌*◌, ◌^◌, nat_lt, ℤ, Bool, true, false, not, ◌&&◌, ◌||◌, if◌then◌else◌}
+use Rattle.std.specs.Prelude.{List, length, Option, Some, None, is_some, Result, Ok}
 use Rattle.std.specs.List.{list_any}
 use Rattle.ft_query.specs.Trees.{Tree}
 use Rattle.ft_query.specs.Work.{entry_count}
@@ -46,7 +47,8 @@ docids_asked content limit offset = if are_short limit offset then length (cut l
 -- to list documents: of all without a limit their cells, if an item is a column; else docids or
 -- entries, and then the cells of those that are answered
 abbrev pub list_asked : Content → List Item → Filter → Option ℕ → ℕ → ℕ
-list_asked content items All limit offset = if is_some limit || not (list_any is_column items) then (docids_asked content limit offset + cells_asked content items All limit offset)
+list_asked content items All limit offset =
+    if is_some limit || not (list_any is_column items) then (docids_asked content limit offset + cells_asked content items All limit offset)
     else (length content.columns * length content.documents)
 list_asked content items (Docid docid) limit offset = count_asked content (Docid docid)
 list_asked content items (Match name text) limit offset = count_asked content (Match name text) + cells_asked content items (Match name text) limit offset
