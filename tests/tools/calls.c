@@ -2,7 +2,8 @@
  * file (pwrite, write, ftruncate, fsync, fdatasync), else those on the descriptor STREAM (read of 0, write of 1 or 2). At the one whose number
  * is in AT, HOW says what comes: `kill` stops the program before the call, `half` within it, after half of the bytes, `lost` before it with
  * all gone that was not synced, as where the power fails, and `fail` has it fail. With UNSYNCED files are never synced. PIECE is the most bytes
- * that a read of the input gives. The number of all calls is written to the file named in COUNTED. */
+ * that a read of the input gives. The numbers of all calls and of those before the first read of the input are written to the file that
+ * COUNTED names. */
 #define _GNU_SOURCE
 #include <dlfcn.h>
 #include <errno.h>
@@ -13,8 +14,9 @@
 #include <stdio.h>
 #include <sys/stat.h>
 #include <unistd.h>
+#include "steady.h"
 
-static long at, count, piece;
+static long at, count, piece, before_input = -1;
 static int of_files, stream = -1, how, unsynced;
 
 /* What a write has taken from a file that was not synced since: the bytes that stood there, and the file's length. The last one is first. */
@@ -111,6 +113,7 @@ static int failed(void) {
 
 ssize_t read(int fd, void *to, size_t size) {
     ssize_t (*real)(int, void *, size_t) = next("read");
+    if (fd == 0 && before_input < 0) before_input = count;
     if (fails(fd, 1)) return failed();
     return real(fd, to, fd == 0 && piece && size > (size_t)piece ? (size_t)piece : size);
 }
@@ -197,6 +200,6 @@ __attribute__((destructor)) static void tell(void) {
     }
     file = path && all > told ? fopen(path, "w") : NULL;
     if (!file) return;
-    fprintf(file, "%ld\n", all);
+    fprintf(file, "%ld %ld\n", all, before_input);
     fclose(file);
 }

@@ -4,6 +4,7 @@
 #include <errno.h>
 #include <stdio.h>
 #include <stdlib.h>
+#include "steady.h"
 
 static void *(*next_malloc)(size_t);
 static void *(*next_realloc)(void *, size_t);
