@@ -3,6 +3,7 @@
 mod changes;
 mod commands;
 mod damage;
+mod deeds;
 mod mended;
 mod stops;
 

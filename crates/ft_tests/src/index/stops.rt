@@ -1,13 +1,12 @@
-//! Stops at each call of a file, of which each write is one. The two files that are left are taken
-//! again, with what was not synced and without it: each table is sound, and all is as before the
-//! command or as after it, and as after it where it was answered.
+//! Stops at calls of a file, of which each write is one. The two files that are left are taken again,
+//! with what was not synced and without it: each table is sound, and all is as before the command or
+//! as after it, and as after it where it was answered.
 
-use super::commands::are_done;
+use super::deeds::{Deed, EACH_KIND, EMPTY, LARGE, NEVER, Turn, done_over};
 use super::{are_sound, taken};
 use crate::empty::number;
 use crate::store::adopted;
-use ft_index::FullText;
-use ft_store::{CellRow, Store, Value};
+use ft_store::{CellRow, Value};
 use ram_disk::ram_options;
 use sqlite::{Alter, Connection, FileStore, Files, Options};
 use sqlite_disk::{Crash, Disk, Fuse, Memory};
@@ -55,9 +54,6 @@ enum Part {
     Data,
 }
 
-// More calls than a run makes.
-const NEVER: u64 = u64::MAX;
-
 fn files_of<D: Stops>(
     alloc: Global,
     image: &Image,
@@ -74,7 +70,8 @@ fn files_of<D: Stops>(
     })
 }
 
-// Each commit goes from the log into the database file at once, so that a command writes to both.
+// Each commit goes from the log into the database file before the next one, so that a command writes
+// to both.
 fn options() -> Options {
     let mut options = ram_options();
     options.checkpoint_frames = 1;
@@ -91,53 +88,6 @@ fn opened<D: Stops>(alloc: Global, files: Files<D>) -> Result<Connection<FileSto
     }
 }
 
-// What is done, and may be stopped.
-#[derive(Clone, Copy)]
-enum Deed {
-    Sql(&'static str),
-    Open,
-    Execute(&'static str),
-    Note(&'static str),
-}
-
-fn done_in<S: Alter>(alloc: Global, tables: &mut FullText<S>, deed: Deed) -> Result<bool, Fail> {
-    match deed {
-        Deed::Execute(text) => are_done(alloc, tables, text),
-        Deed::Note(name) => Ok(tables.note(name).is_ok()),
-        _ => Ok(true),
-    }
-}
-
-fn done_on<S: Alter + Drop>(
-    alloc: Global,
-    store: Store<S>,
-    deed: Deed,
-) -> Result<(bool, Connection<S>), Fail> {
-    match FullText::new(alloc, store) {
-        Ok(mut tables) => {
-            let done = done_in(alloc, &mut tables, deed)?;
-            Ok((done, tables.into_store().into_connection()))
-        }
-        Err(fault) => Ok((false, fault.store.into_connection())),
-    }
-}
-
-fn done_over<S: Alter + Drop>(
-    alloc: Global,
-    conn: Connection<S>,
-    deed: Deed,
-) -> Result<(bool, Connection<S>), Fail> {
-    if let Deed::Sql(texts) = deed {
-        let mut conn = conn;
-        let done = conn.execute_batch(texts).is_ok();
-        return Ok((done, conn));
-    }
-    match Store::adopt(alloc, conn) {
-        Ok(store) => done_on(alloc, store, deed),
-        Err(fault) => Ok((false, fault.connection)),
-    }
-}
-
 // Whether a deed is done on files, and what is left of them.
 fn ran<D: Stops>(alloc: Global, files: Files<D>, deed: Deed) -> Result<(bool, Files<D>), Fail> {
     match opened(alloc, files) {
@@ -149,11 +99,35 @@ fn ran<D: Stops>(alloc: Global, files: Files<D>, deed: Deed) -> Result<(bool, Fi
     }
 }
 
-fn write_cells(told: &mut String, cells: &[CellRow]) -> Result<(), AllocError> {
-    for cell in cells {
-        if let Value::Text(text) = &cell.value {
-            write!(told, " {}|{text}", cell.docid)?;
+// Whether a cell has the value of the one before it, and is of the next document.
+fn goes_on(before: Option<&CellRow>, cell: &CellRow) -> bool {
+    match before {
+        Some(it) => it.docid.checked_add(1) == Some(cell.docid) && it.value == cell.value,
+        None => false,
+    }
+}
+
+// A text without the spaces at its end. Where it has such, it is told how many bytes it has.
+fn write_cell(told: &mut String, cell: &CellRow) -> Result<(), AllocError> {
+    if let Value::Text(text) = &cell.value {
+        let words = text.as_str().trim_end();
+        write!(told, " {}|{words}", cell.docid)?;
+        if words.len() < text.len() {
+            write!(told, " of {}", text.len())?;
         }
+    }
+    Ok(())
+}
+
+// How many cells there are, and the first of those that have the same value from docid to docid.
+fn write_cells(told: &mut String, cells: &[CellRow]) -> Result<(), AllocError> {
+    write!(told, " {}:", cells.len())?;
+    let mut before = None;
+    for cell in cells {
+        if !goes_on(before, cell) {
+            write_cell(told, cell)?;
+        }
+        before = Some(cell);
     }
     Ok(())
 }
@@ -169,7 +143,7 @@ fn told<S: Alter + Drop>(alloc: Global, conn: Connection<S>) -> Result<String, F
     let mut told = format!(in alloc; "{version} {sound} {names:?}")?;
     let mut store = tables.into_store();
     for table in store.tables()? {
-        write!(told, " {}:", table.name)?;
+        write!(told, " {}", table.name)?;
         write_cells(&mut told, store.cells(table.id)?.as_slice())?;
     }
     Ok(told)
@@ -203,13 +177,16 @@ fn answers<D: Stops>(file: &mut D) -> bool {
     file.may_be_used() && file.len().is_ok()
 }
 
-// One stop after so many calls. Where none was met, what is left then.
-fn stopped<D: Stops>(
-    alloc: Global,
-    case: &Case<'_>,
-    part: Part,
-    calls: u64,
-) -> Result<Option<Image>, Fail> {
+// What a stop leaves: the files as they were, or others; or none is met, and what is there then.
+#[derive(Drop)]
+enum Left {
+    AsBefore,
+    Written,
+    AtEnd(Image),
+}
+
+// One stop after so many calls.
+fn stopped<D: Stops>(alloc: Global, case: &Case<'_>, part: Part, calls: u64) -> Result<Left, Fail> {
     let files = files_of::<D>(alloc, case.first, part, calls)?;
     let (done, mut left) = ran(alloc, files, case.deed)?;
     let is_over = answers(&mut left.log) && answers(&mut left.db);
@@ -221,13 +198,17 @@ fn stopped<D: Stops>(
     if lost != kept {
         look_at::<D>(alloc, case, done || is_over, &lost)?;
     }
-    Ok(is_over.then_some(kept))
+    match (is_over, kept == *case.first) {
+        (true, _) => Ok(Left::AtEnd(kept)),
+        (_, true) => Ok(Left::AsBefore),
+        _ => Ok(Left::Written),
+    }
 }
 
 // How many calls of a file the opening of a database makes, which writes nothing.
 fn calls_of_opening<D: Stops>(alloc: Global, first: &Image, part: Part) -> Result<u64, Fail> {
-    let (mut too_few, mut enough): (u64, u64) = (0, 1 << 10);
-    for _ in 0..10 {
+    let (mut too_few, mut enough): (u64, u64) = (0, 1 << 12);
+    for _ in 0..12 {
         let calls = too_few.midpoint(enough);
         let (done, left) = ran(
             alloc,
@@ -246,13 +227,24 @@ fn calls_of_opening<D: Stops>(alloc: Global, first: &Image, part: Part) -> Resul
     Ok(enough)
 }
 
-// A stop after each number of calls of a file that opens the database, up to that of all its
-// calls, and what is left then.
-fn each_stopped<D: Stops>(alloc: Global, case: &Case<'_>, part: Part) -> Result<Image, Fail> {
-    for calls in calls_of_opening::<D>(alloc, case.first, part)?..NEVER {
-        if let Some(left) = stopped::<D>(alloc, case, part, calls)? {
-            return Ok(left);
+// A stop after each so-many-th number of calls of a file that opens the database, up to that of all
+// its calls, and what is left then. After some of them something is written, unless none is wanted.
+fn each_stopped<D: Stops>(
+    alloc: Global,
+    case: &Case<'_>,
+    part: Part,
+    step: u64,
+) -> Result<Image, Fail> {
+    let mut calls = calls_of_opening::<D>(alloc, case.first, part)?;
+    let mut is_written = step == NEVER;
+    for _ in 0..NEVER {
+        match stopped::<D>(alloc, case, part, calls)? {
+            Left::AsBefore => {}
+            Left::Written => is_written = true,
+            Left::AtEnd(left) if is_written => return Ok(left),
+            Left::AtEnd(_) => return Err(Fail::new("no stop after a write")),
         }
+        calls = calls.saturating_add(step);
     }
     Err(Fail::new("no end"))
 }
@@ -268,75 +260,40 @@ fn begun<D: Stops>(alloc: Global) -> Result<Image, Fail> {
     Ok(image_of(alloc, &left)?)
 }
 
-const EMPTY: &str = "3 true []";
-
-// What is done in turn, and what is there after each: among it a rebuild of a table whose index lacks
-// a row, and a table that is emptied and dropped beside another. At last the store becomes one of
-// version 2, and is taken.
-const DEEDS: [(Deed, &str); 12] = [
-    (
-        Deed::Execute("CREATE VIRTUAL TABLE d USING fts4(x);"),
-        "3 true [] d:",
-    ),
-    (
-        Deed::Execute("INSERT INTO d VALUES('red apple'),('red pear');"),
-        "3 true [] d: 1|red apple 2|red pear",
-    ),
-    (
-        Deed::Execute("CREATE VIRTUAL TABLE e USING fts4(y);"),
-        "3 true [] d: 1|red apple 2|red pear e:",
-    ),
-    (
-        Deed::Execute("UPDATE d SET x='green' WHERE docid=1;"),
-        "3 true [] d: 1|green 2|red pear e:",
-    ),
-    (
-        Deed::Sql("DELETE FROM posting WHERE docid = 1"),
-        "3 false [] d: 1|green 2|red pear e:",
-    ),
-    (
-        Deed::Execute("INSERT INTO d(d) VALUES('rebuild');"),
-        "3 true [] d: 1|green 2|red pear e:",
-    ),
-    (
-        Deed::Note("plain"),
-        "3 true [\"plain\"] d: 1|green 2|red pear e:",
-    ),
-    (
-        Deed::Execute("DELETE FROM d WHERE x MATCH 'red';"),
-        "3 true [\"plain\"] d: 1|green e:",
-    ),
-    (Deed::Execute("DELETE FROM d;"), "3 true [\"plain\"] d: e:"),
-    (Deed::Execute("DROP TABLE d;"), "3 true [\"plain\"] e:"),
-    (
-        Deed::Sql("BEGIN; DROP TABLE skip; UPDATE meta SET version = 2; COMMIT"),
-        "2 true [\"plain\"] e:",
-    ),
-    (Deed::Open, "3 true [\"plain\"] e:"),
-];
-
-fn are_whole<D: Stops>(alloc: Global, part: Part) -> Result<(), Fail> {
+fn are_whole<D: Stops>(alloc: Global, part: Part, turns: &[Turn]) -> Result<(), Fail> {
     let mut first = begun::<D>(alloc)?;
     let mut before = EMPTY;
-    for (deed, after) in DEEDS {
+    for (deed, step, after) in turns {
         let case = Case {
             first: &first,
-            deed,
+            deed: *deed,
             before,
-            after,
+            after: *after,
         };
-        first = each_stopped::<D>(alloc, &case, part)?;
-        before = after;
+        first = each_stopped::<D>(alloc, &case, part, *step)?;
+        before = *after;
     }
     Ok(())
 }
 
 #[test]
 fn a_stop_of_the_log_leaves_all_or_nothing(rt: HostRuntime) -> Result<(), Fail> {
-    are_whole::<Fuse<Memory>>(rt.alloc(), Part::Log)
+    are_whole::<Fuse<Memory>>(rt.alloc(), Part::Log, &EACH_KIND)
 }
 
 #[test]
 fn a_stop_of_the_database_leaves_all_or_nothing(rt: HostRuntime) -> Result<(), Fail> {
-    are_whole::<Fuse<Memory>>(rt.alloc(), Part::Data)
+    are_whole::<Fuse<Memory>>(rt.alloc(), Part::Data, &EACH_KIND)
+}
+
+#[test]
+fn a_stop_of_the_log_in_a_large_command_leaves_all_or_nothing(rt: HostRuntime) -> Result<(), Fail> {
+    are_whole::<Fuse<Memory>>(rt.alloc(), Part::Log, &LARGE)
+}
+
+#[test]
+fn a_stop_of_the_database_in_a_large_command_leaves_all_or_nothing(
+    rt: HostRuntime,
+) -> Result<(), Fail> {
+    are_whole::<Fuse<Memory>>(rt.alloc(), Part::Data, &LARGE)
 }
