@@ -134,22 +134,22 @@ pub(crate) const LARGE: [Turn; 12] = [
     ),
     (
         Deed::Insert(&[(1, "red", GROUP), (150, "fig", 0)]),
-        3,
+        5,
         "3 true [] d 153: 151|blue 153|red of 524291 154|fig e 2: 1|red",
     ),
     (
         Deed::Sql("DELETE FROM posting WHERE tab = 1 AND docid = 154"),
-        5,
+        11,
         "3 false [] d 153: 151|blue 153|red of 524291 154|fig e 2: 1|red",
     ),
     (
         Deed::Execute("INSERT INTO d(d) VALUES('rebuild');"),
-        3,
+        5,
         "3 true [] d 153: 151|blue 153|red of 524291 154|fig e 2: 1|red",
     ),
     (
         Deed::Execute("DELETE FROM d;"),
-        5,
+        11,
         "3 true [] d 0: e 2: 1|red",
     ),
     (
