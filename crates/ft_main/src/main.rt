@@ -1,9 +1,7 @@
 //! The program `ft4sh`: an SQL shell with full-text tables.
 #![tactic(auto)]
 
-mod start;
-
-use start::start;
+use ft_program::start;
 use std::env;
 use std::io::{self, BufWriter, ErrorKind, Write};
 use std::process::ExitCode;
