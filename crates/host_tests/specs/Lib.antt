@@ -1,0 +1,2 @@
+-- Steps
+pub mod Names
