@@ -1,7 +1,7 @@
 //! The program `ft4sh`: an SQL shell with full-text tables.
 #![tactic(auto)]
 
-use ft_program::start;
+use ft_program::start::start;
 use std::env;
 use std::io::{self, BufWriter, ErrorKind, Write};
 use std::process::ExitCode;

@@ -2,7 +2,7 @@
 
 use crate::shelf::{ALL, Held, Shelf};
 use ft_files::Databases;
-use ft_program::start_in;
+use ft_program::start::start_in;
 use sqlite_disk::Disk;
 use std::process::Abort;
 use std::str;
