@@ -37,7 +37,7 @@ def short(printed):
     ratios = {name: cells[1::2] for name, *cells in rows}
     told = [(LINES[name], ratios[name]) for name in LINES]
     told.sort(key=lambda it: -max(float(cell.replace(",", "")) for cell in it[1]))
-    return "| times sqlite3's | drawn | pages |\n|---|---|---|\n" + "".join(f"| {name} | {' | '.join(cells)} |\n" for name, cells in told)
+    return "| times sqlite3's | random | pages |\n|---|---|---|\n" + "".join(f"| {name} | {' | '.join(cells)} |\n" for name, cells in told)
 
 
 def put(path, wanted, lines=()):
