@@ -113,7 +113,8 @@ fn selected_rows<S: Alter>(
     ensures counted { OnOk result ((content : Content)
         → IsAsked S.Store tab (map column_of columns.now) (items_of select.now.items)
         (filter_of select.now.filter) (option_map (λ q. tree_of q.now) query.entry) store.old
-        store.new content → store.new.rows_read ≡ more_rows (rows_asked content (items_of select.now.items)
+        store.new content → store.new.rows_read
+        ≡ more_rows (rows_asked content (items_of select.now.items)
         (filter_of select.now.filter) select.now.limit select.now.offset) store.old) }
 {
     let Items::List(items) = &select.items else {

@@ -137,7 +137,8 @@ impl<S: Alter> Store<S> {
         requires known { AreAsKnown Apart (state S.Store conn) }
         ensures taken { IfOk result (λ store. IsTaken S.Store conn store.held
             × LeavesMade S.Store conn store.held × (store.rows_read ≡ 0)) }
-        ensures refused { IfErr result (λ fault. IsNotTaken S.Store conn fault.connection fault.cause
+        ensures refused { IfErr result (λ fault.
+            IsNotTaken S.Store conn fault.connection fault.cause
             × LeavesMade S.Store conn fault.connection) }
     {
         let mut conn = conn;
