@@ -24,7 +24,7 @@ use Rattle.ft_query.specs.Cursors.{lists_left, places_at, passed, least_of, leas
 use Rattle.ft_query.specs.Visit.{listed_places, if_wanted}
 use Rattle.ft_query.specs.Walk.{Walk, StandsBefore, steps_to_come, Went, hit_at}
 use Rattle.ft_query.specs.Search.{walk_at, Considers}
-use Rattle.ft_query.specs.declared.walk.standing.Steps.{Steps}
+use Rattle.ft_query.specs.declared.standing.Steps.{Steps}
 use Rattle.ft_query.specs.Taken.{more_steps, Takes, TakesAtMost}
 use Rattle.ft_query.proofs.Nexts.{Next, Nothing, First, next_of, are_more, all_places, all_passed, all_counted, without_it, with_it}
 

@@ -40,10 +40,9 @@ found_docid old new None documents found = record { offsets = found.offsets; wen
 found_docid old new (Some hit) documents found = record { offsets = found.offsets; went = found.went; ended = λ never. absurd (there_is never) }
 
 -- a search begins where the walk stands, which is kept where the search ends
-pub kept_on : {wanted : Wanted} {q : Query} (old begun found kept : List Cursor) {taken from to : ℕ} {hit : Option Hit}
-    → FindsNext wanted (walk_at q begun from) (walk_at q found to) hit → from ≡ taken → map lists_left begun ≡ map lists_kept old
-    → map lists_kept kept ≡ map lists_left found → FindsNext wanted (stands_at q old taken) (stands_at q kept to) hit
-kept_on {wanted} {q} old begun found kept {taken} {from} {to} {hit} finds first begins keeps =
-    let one = subst (λ n. FindsNext wanted (walk_at q begun n) (walk_at q found to) hit) first finds in
-    let two = subst (λ ls. FindsNext wanted (record { query = q; lists = ls; steps = taken }) (walk_at q found to) hit) begins one in
-    subst (λ ls. FindsNext wanted (stands_at q old taken) (record { query = q; lists = ls; steps = to }) hit) (sym keeps) two
+pub kept_on : {wanted : Wanted} {q : Query} (old begun found kept : List Cursor) {from to : ℕ} {hit : Option Hit}
+    → FindsNext wanted (walk_at q begun from) (walk_at q found to) hit → map lists_left begun ≡ map lists_kept old
+    → map lists_kept kept ≡ map lists_left found → FindsNext wanted (stands_at q old from) (stands_at q kept to) hit
+kept_on {wanted} {q} old begun found kept {from} {to} {hit} finds begins keeps =
+    let one = subst (λ ls. FindsNext wanted (record { query = q; lists = ls; steps = from }) (walk_at q found to) hit) begins finds in
+    subst (λ ls. FindsNext wanted (stands_at q old from) (record { query = q; lists = ls; steps = to }) hit) (sym keeps) one

@@ -1,6 +1,6 @@
 -- Steps one after the other.
 use Rattle.std.proofs.Common.{◌≡◌, ℕ, ◌+◌, ◌-◌, ◌≤◌, arith}
-use Rattle.ft_query.specs.declared.walk.standing.Steps.{Steps}
+use Rattle.ft_query.specs.declared.standing.Steps.{Steps}
 use Rattle.ft_query.specs.Taken.{Takes, more_steps}
 
 pub takes_then : (m n : ℕ) (a b c : Steps) → Takes m a b → Takes n b c → Takes (m + n) a c

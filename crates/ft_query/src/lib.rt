@@ -9,6 +9,7 @@ mod lists;
 mod machine;
 mod parser;
 mod query;
+mod standing;
 mod text;
 mod walk;
 

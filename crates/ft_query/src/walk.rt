@@ -10,14 +10,16 @@ mod matches;
 mod places;
 mod search;
 mod spine;
-mod standing;
 mod starts;
 mod visit;
 
+pub(crate) use crate::standing::Steps;
+pub(crate) use cursor::Cursor;
 use itoa::Buffer;
 pub use matches::Matches;
-pub(crate) use standing::Steps;
+pub(crate) use search::search;
 use std::alloc::{AllocError, Global};
+pub(crate) use visit::Wanted;
 
 /// One term of a phrase's occurrence: its column, the term's number in the query, and its place and
 /// size in bytes.

@@ -18,7 +18,7 @@ pub(crate) struct Cursor {
 }
 
 impl Cursor {
-    pub(crate) fn new(lists: Vec<DocList>) -> Cursor
+    pub(super) fn new(lists: Vec<DocList>) -> Cursor
         ensures { StandsAt result (map plain_list lists.items) }
     {
         Cursor {
@@ -29,21 +29,21 @@ impl Cursor {
     }
 
     /// Begins a search where the walk stands.
-    pub(crate) fn begin(&mut self)
+    pub(super) fn begin(&mut self)
         ensures { StandsAt self.new (lists_kept self.old) }
     {
         self.at = self.kept;
     }
 
     /// The walk now stands where the search is.
-    pub(crate) fn keep(&mut self)
+    pub(super) fn keep(&mut self)
         ensures { StandsAt self.new (lists_left self.old) }
     {
         self.kept = self.at;
     }
 
     /// The next docid here, if there is one, which is looked at.
-    pub(crate) fn docid(&self, steps: &mut Steps) -> Option<i64>
+    pub(super) fn docid(&self, steps: &mut Steps) -> Option<i64>
         ensures docid { result ≡ next_docid (lists_left self.now) }
         ensures steps { LooksAt (lists_left self.now) result steps.old steps.new }
     {
@@ -52,7 +52,7 @@ impl Cursor {
     }
 
     /// This document is the next one here. It is a step to ask, also where there is no next one.
-    pub(crate) fn is_at(&self, docid: i64, steps: &mut Steps) -> bool
+    pub(super) fn is_at(&self, docid: i64, steps: &mut Steps) -> bool
         ensures next { result ≡ is_next docid (lists_left self.now) }
         ensures step { Takes 1 steps.old steps.new }
     {
@@ -66,7 +66,7 @@ impl Cursor {
     }
 
     /// The places in the next document, if there is one. No docid is looked at.
-    pub(crate) fn here(&self) -> Places<'_>
+    pub(super) fn here(&self) -> Places<'_>
         ensures { result.places.now ≡ next_places (lists_left self.now) }
     {
         match self.lists.get(self.at) {
@@ -76,7 +76,7 @@ impl Cursor {
     }
 
     /// Goes on past the next document, if there is one. No docid is looked at.
-    pub(crate) fn go_on(&mut self)
+    pub(super) fn go_on(&mut self)
         ensures { SearchesOn self.old self.new (after_next (lists_left self.old)) }
     {
         if let Some(_) = self.lists.get(self.at) {

@@ -10,9 +10,9 @@ ghost use Rattle.ft_query.specs.Search.{stands_at, FindsNext};
 
 use crate::lists::{ListFault, Lists};
 use crate::query::Query;
+use crate::standing::Standing;
 use crate::walk::Hit;
 use crate::walk::load::load;
-use crate::walk::standing::Standing;
 use crate::walk::visit::Wanted;
 use std::alloc::{AllocError, Global};
 use std::marker::Model;
@@ -39,7 +39,7 @@ impl<'q> Model for Matches<'q> {
 
     ghost coded = { Prim.hlevel (codes, q.the_row.coded) };
 
-    ghost view = { λ m. record { query = m.query.now; lists = map lists_kept m.standing.cursors.items; steps = m.standing.kept } };
+    ghost view = { λ m. record { query = m.query.now; lists = map lists_kept m.standing.cursors.items; steps = m.standing.taken } };
 
     ghost invariant = { λ m. vec_len m.standing.cursors ≡ length (terms_in (tree_of m.query.now)) };
 }

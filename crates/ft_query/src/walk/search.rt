@@ -1,9 +1,9 @@
 //! The search for the next document that a query accepts.
-ghost use Rattle.std.specs.Prelude.{◌≡◌, ◌≤◌, None, map, length, IfOk};
+ghost use Rattle.std.specs.Prelude.{◌≡◌, ◌≤◌, None, map, length, IfOk, OnErr};
 ghost use Rattle.ft_query.specs.Trees.{tree_of};
 ghost use Rattle.ft_query.specs.Work.{terms_in};
 ghost use Rattle.ft_query.specs.Cursors.{lists_left, lists_kept, passed, least_of, least_from};
-ghost use Rattle.ft_query.specs.Search.{walk_at, ConsidersNext, FindsNext};
+ghost use Rattle.ft_query.specs.Search.{walk_at, stands_at, ConsidersNext, FindsNext};
 ghost use Rattle.ft_query.specs.Sought.{SearchesOn, AllSearchOn};
 ghost use Rattle.ft_query.specs.Taken.{Takes, LooksAt, LooksAtAll};
 
@@ -96,9 +96,27 @@ fn consider(
     }
 }
 
+/// Begins a search where the walk stands.
+fn begin(cursors: &mut [Cursor])
+    ensures { AllSearchOn cursors.old cursors.new (map lists_kept cursors.old) }
+{
+    for cursor in cursors.iter_mut() {
+        cursor.begin();
+    }
+}
+
+/// The walk now stands where the search is.
+fn keep(cursors: &mut [Cursor])
+    ensures { map lists_kept cursors.new ≡ map lists_left cursors.old }
+{
+    for cursor in cursors.iter_mut() {
+        cursor.keep();
+    }
+}
+
 /// The next document that the query accepts, without offsets where they aren't wanted. The search
 /// then stands after it.
-pub(crate) fn search(
+fn search_on(
     alloc: Global,
     query: &Query,
     cursors: &mut [Cursor],
@@ -119,4 +137,27 @@ pub(crate) fn search(
             Considered::Passed => {}
         }
     }
+}
+
+#[tactic(auto, using(crate::proofs::Finding::kept_on))]
+/// The next hit, without offsets where they aren't wanted. The walk then stands after it, and after
+/// an error where it stood: nothing else sets it back.
+pub(crate) fn search(
+    alloc: Global,
+    query: &Query,
+    cursors: &mut [Cursor],
+    wanted: Wanted,
+    steps: &mut Steps,
+) -> Result<Option<Hit>, AllocError>
+    requires { length cursors.old ≡ length (terms_in (tree_of query.now)) }
+    ensures finds { IfOk result
+        (FindsNext wanted (stands_at query.now cursors.old steps.old.taken)
+        (stands_at query.now cursors.new steps.new.taken)) }
+    ensures rise { steps.old.taken ≤ steps.new.taken }
+    ensures err { OnErr result (map lists_kept cursors.new ≡ map lists_kept cursors.old) }
+{
+    begin(cursors);
+    let hit = search_on(alloc, query, cursors, wanted, steps)?;
+    keep(cursors);
+    Ok(hit)
 }

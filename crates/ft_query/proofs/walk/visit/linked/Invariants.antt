@@ -1,7 +1,7 @@
 use Rattle.std.proofs.Common.{◌≡◌, ◌+◌, List, [], ◌∷◌, ◌++◌, length, map}
 use Rattle.ft_query.specs.declared.query.Link.{Link}
 use Rattle.ft_query.specs.declared.query.Phrase.{Phrase}
-use Rattle.ft_query.specs.declared.walk.standing.Steps.{Steps}
+use Rattle.ft_query.specs.declared.standing.Steps.{Steps}
 use Rattle.ft_query.specs.declared.walk.places.Places.{Places}
 use Rattle.ft_query.specs.declared.walk.places.Starts.{Starts}
 use Rattle.ft_query.specs.Trees.{plain_phrase, plain_link, chain}

@@ -4,7 +4,7 @@ use Rattle.std.specs.Option.{option_copied}
 use Rattle.std.proofs.lemmas.List.{drop_more, drop_all, drop-drop, length-append, length-map, length-take-le, length-drop}
 use Rattle.ft_query.specs.declared.query.Link.{Link}
 use Rattle.ft_query.specs.declared.lists.place.Place.{Place}
-use Rattle.ft_query.specs.declared.walk.standing.Steps.{Steps}
+use Rattle.ft_query.specs.declared.standing.Steps.{Steps}
 use Rattle.ft_query.specs.declared.walk.places.Places.{Places}
 use Rattle.ft_query.specs.declared.walk.places.Starts.{Starts}
 use Rattle.ft_query.specs.declared.walk.visit.Found.{Found}

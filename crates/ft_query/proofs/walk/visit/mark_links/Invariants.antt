@@ -2,7 +2,7 @@ use Rattle.std.proofs.Common.{◌≡◌, ℕ, ◌+◌, List, ◌++◌, length, m
 use Rattle.std.specs.Prelude.{flat_map}
 use Rattle.ft_query.specs.declared.lists.place.Place.{Place}
 use Rattle.ft_query.specs.declared.query.Link.{Link}
-use Rattle.ft_query.specs.declared.walk.standing.Steps.{Steps}
+use Rattle.ft_query.specs.declared.standing.Steps.{Steps}
 use Rattle.ft_query.specs.declared.walk.places.Places.{Places}
 use Rattle.ft_query.specs.declared.walk.places.Starts.{Starts}
 use Rattle.ft_query.specs.declared.walk.visit.Found.{Found}

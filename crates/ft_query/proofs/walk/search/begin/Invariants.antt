@@ -1,7 +1,7 @@
 use Rattle.std.proofs.Common.{◌≡◌, map}
 use Rattle.ft_query.proofs.Sweeps.{swept}
-use Rattle.ft_query.proofs.Standing.{both_lists, as_kept}
-use Rattle.ft_query.proofs.walk.standing.begin.Given as goal
+use Rattle.ft_query.proofs.Stands.{both_lists, as_kept}
+use Rattle.ft_query.proofs.walk.search.begin.Given as goal
 
 -- the cursors so far begin anew
 abbrev pub invariant-loop-cursor : goal.invariant-loop-cursor

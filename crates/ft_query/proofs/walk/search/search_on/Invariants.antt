@@ -4,7 +4,7 @@ use Rattle.ft_query.specs.Documents.{Document}
 use Rattle.ft_query.specs.Cursors.{lists_left, lists_kept}
 use Rattle.ft_query.specs.Walk.{StandsBefore, Went}
 use Rattle.ft_query.specs.Search.{walk_at}
-use Rattle.ft_query.proofs.walk.search.search.Given as goal
+use Rattle.ft_query.proofs.walk.search.search_on.Given as goal
 
 -- no hit so far
 abbrev pub invariant-loop-hit : goal.invariant-loop-hit

@@ -3,7 +3,7 @@ use Rattle.ft_query.specs.declared.walk.search.Considered.{Considered}
 use Rattle.ft_query.specs.Cursors.{lists_left}
 use Rattle.ft_query.specs.Search.{walk_at, Considers}
 use Rattle.ft_query.proofs.Considering.{went_then}
-use Rattle.ft_query.proofs.walk.search.search.Goals as goal
+use Rattle.ft_query.proofs.walk.search.search_on.Goals as goal
 
 pub returns-in-NoDocument-clause-finds : goal.returns-in-NoDocument-clause-finds
 returns-in-NoDocument-clause-finds c = record {
