@@ -1,74 +1,69 @@
--- The lists of some terms, and then of more.
-use Rattle.std.proofs.Common.{◌≡◌, ◌++◌, ◌∷◌, [], Bool, true, false, subst, List, Vec, Result, Ok, Err, map, length, refl, ap, sym, ◌∙◌, append_assoc, arith}
-use Rattle.std.specs.Prelude.{◌||◌, OnOk}
-use Rattle.std.proofs.lemmas.List.{map-append, length-append}
-use Rattle.ft_query.specs.declared.lists.Lists.{Ghosts}
+-- The terms of a query, and the cursors of their lists.
+use Rattle.std.proofs.Common.{◌≡◌, ◌++◌, ◌∷◌, [], ◌<◌, ◌+◌, ℕ, zero, suc, List, map, take, length, subst, ap, ap₂, sym, ◌∙◌, append_assoc, arith}
+use Rattle.std.specs.Prelude.{slice_index_or}
+use Rattle.std.specs.Borrow.{Bor}
+use Rattle.std.proofs.lemmas.List.{map-append, map_more, length-append, take_all}
+use Rattle.std.proofs.lemmas.List.Sums.{sum_by-append}
+use Rattle.std.proofs.lemmas.Simd.{map-map}
+use Rattle.ft_query.specs.declared.query.QueryTerm.{QueryTerm}
 use Rattle.ft_query.specs.declared.walk.cursor.Cursor.{Cursor}
-use Rattle.ft_query.specs.Documents.{Document}
-use Rattle.ft_query.specs.Cursors.{lists_kept, listed_for}
 use Rattle.ft_query.specs.declared.walk.joint.Joint.{Joint}
-use Rattle.ft_query.specs.Trees.{PlainTerm, Tree, tree_of}
+use Rattle.ft_query.specs.Documents.{Document, place_count}
+use Rattle.ft_query.specs.Trees.{PlainTerm, Tree, plain_term, tree_of}
 use Rattle.ft_query.specs.Work.{terms_in}
 use Rattle.ft_query.specs.Spines.{joined, whole}
-use Rattle.ft_query.specs.Lists.{Reaches}
-use Rattle.ft_query.specs.Loaded.{Loads, Asks}
+use Rattle.ft_query.specs.Cursors.{lists_kept, places_left, listed_for}
+use Rattle.ft_query.specs.Loaded.{plain_terms, AreCursorsOf}
 use Rattle.ft_query.proofs.Spines.{joined_terms, whole_last}
-use Rattle.ft_query.proofs.Reaching.{answers_then, reaches_on}
 
-pub loads_then : {L Z : Type 0} (g : Ghosts L) (p q : List PlainTerm) (a b c : L) (x y z : Vec Cursor Z)
-    → (g.is_clean c → g.is_clean b × (g.documents c ≡ g.documents b)) → Loads g p a b x y → Loads g q b c y z → Loads g (p ++ q) a c x z
-loads_then g p q a b c x y z clean one two =
-    let sum = length-append p q in
-    let first = one.number in
-    let more = two.number in
-    record {
-      lists = λ is_clean.
-          let before = clean is_clean in
-          two.lists is_clean
-          ∙ ap (λ ls. ls ++ map (listed_for (g.documents c)) q)
-          (one.lists before.0 ∙ ap (λ (ds : List Document). map lists_kept x.items ++ map (listed_for ds) p) (sym before.1))
-          ∙ append_assoc (map lists_kept x.items) (map (listed_for (g.documents c)) p) (map (listed_for (g.documents c)) q)
-          ∙ ap (λ ls. map lists_kept x.items ++ ls) (sym (map-append (listed_for (g.documents c)) p q));
-      number = omega arith;
-      asked = answers_then g.becomes (length p) (length q) (length (p ++ q)) a b c one.asked two.asked sum;
-      given = λ start counted. two.given start (one.given start counted);
-    }
-
-pub loads_more : {L Z X F : Type 0} (g : Ghosts L) (result : Result X F) (p q : List PlainTerm) (a b c : L) (x y z : Vec Cursor Z)
-    → (g.is_clean c → g.is_clean b × (g.documents c ≡ g.documents b)) → Loads g p a b x y → OnOk result (Loads g q b c y z)
-    → OnOk result (Loads g (p ++ q) a c x z)
-loads_more g (Ok r) p q a b c x y z clean one two = loads_then g p q a b c x y z clean one two
-loads_more g (Err e) p q a b c x y z clean one two = tt
-
--- A part of the query with its joints is the query, and the lists of its terms are loaded.
-pub record LoadsFront {L Z : Type 0} (g : Ghosts L) (query : Tree) (joints : List Joint) (old new : L) (before after : Vec Cursor Z) : Type 0 where
+-- A part of the query with its joints is the query, and its terms are added.
+pub record AddsFront (query : Tree) (joints : List Joint) (old new : List PlainTerm) : Type 0 where
   pub part : Tree
   pub all : whole joints part ≡ query
-  pub loads : Loads g (terms_in part) old new before after
-  pub clean : g.is_clean new → g.is_clean old × (g.documents new ≡ g.documents old)
-  pub failed : g.has_failed new ≡ g.has_failed old
-  pub becomes : Reaches g.becomes old true new
-
-pub front_with : {L Z : Type 0} {g : Ghosts L} {query : Tree} {js ks : List Joint} {a b : L} {x y : Vec Cursor Z} → js ≡ ks
-    → LoadsFront g query js a b x y → LoadsFront g query ks a b x y
-front_with {L} {Z} {g} {query} {js} {ks} {a} {b} {x} {y} is at = subst (λ joints. LoadsFront g query joints a b x y) is at
-
-or_false : (a : Bool) → (a || false) ≡ a
-or_false true = refl
-or_false false = refl
+  pub added : new ≡ old ++ terms_in part
 
 -- those of a right side more
-pub loads_on : {L Z X : Type 0} {g : Ghosts L} {query : Tree} {js : List Joint} {a b c : L} {x y z : Vec Cursor Z} (j : Joint) (u : X)
-    → LoadsFront g query (js ++ j ∷ []) a b x y
-    → Loads g (terms_in (tree_of j.right.now)) b c y z → Asks g b c (Ok u) → LoadsFront g query js a c x z
-loads_on {L} {Z} {X} {g} {query} {js} {a} {b} {c} {x} {y} {z} j u at more asks =
+pub front_on : {query : Tree} {js ks : List Joint} {a b c : List PlainTerm} (j : Joint) → ks ≡ js ++ j ∷ [] → AddsFront query ks a b
+    → c ≡ b ++ terms_in (tree_of j.right.now) → AddsFront query js a c
+front_on {query} {js} {ks} {a} {b} {c} j is at more =
     let q = tree_of j.right.now in
     record {
       part = joined at.part j.by q;
-      all = sym (whole_last js j at.part) ∙ at.all;
-      loads = subst (λ terms. Loads g terms a c x z) (sym (joined_terms at.part j.by q)) (loads_then g (terms_in at.part)
-          (terms_in q) a b c x y z asks.clean at.loads more);
-      clean = λ is_clean. let before = asks.clean is_clean in let first = at.clean before.0 in (first.0, before.1 ∙ first.1);
-      failed = asks.failed ∙ or_false (g.has_failed b) ∙ at.failed;
-      becomes = reaches_on g.becomes a b c true at.becomes asks.becomes;
+      all = sym (whole_last js j at.part) ∙ subst (λ joints. whole joints at.part ≡ query) is at.all;
+      added =
+          more
+          ∙ ap (λ ts. ts ++ terms_in q) at.added
+          ∙ append_assoc a (terms_in at.part) (terms_in q)
+          ∙ ap (λ ts. a ++ ts) (sym (joined_terms at.part j.by q));
     }
+
+-- what stands at one place of two lists with the same images
+pub same_at : {A B X : Type 0} (f : A → X) (g : B → X) (xs : List A) (ys : List B) (i : ℕ) (d : A) (e : B) → map f xs ≡ map g (take (length xs) ys)
+    → i < length xs → f (slice_index_or xs i d) ≡ g (slice_index_or ys i e)
+same_at f g [] ys i d e same within = absurd (omega arith)
+same_at f g (x ∷ xs) [] i d e same within = let n = ap length same in absurd (omega arith)
+same_at {A} {B} {X} f g (x ∷ xs) (y ∷ ys) zero d e same within = ap (λ (zs : List X). elim zs as (λ _. X) [ [] ↦ f x | z ∷ _ ↦ z ]) same
+same_at {A} {B} {X} f g (x ∷ xs) (y ∷ ys) (suc i) d e same within =
+    same_at f g xs ys i d e (ap (λ (zs : List X). elim zs as (λ _. List X) [ [] ↦ map f xs | _ ∷ ws ↦ ws ]) same) (omega arith)
+
+-- the cursor of the next term
+pub cursors_on : (documents : List Document) (terms : List (Bor QueryTerm)) (cursors : List Cursor) (i : ℕ) (c : Cursor) (d : Bor QueryTerm)
+    → AreCursorsOf documents terms cursors → length cursors ≡ i → i < length terms
+    → lists_kept c ≡ listed_for documents (plain_term (slice_index_or terms i d).now) → AreCursorsOf documents terms (cursors ++ c ∷ [])
+cursors_on documents terms cursors i c d at many within one =
+    let list : Bor QueryTerm → _ = λ t. listed_for documents (plain_term t.now) in
+    map-append lists_kept cursors (c ∷ [])
+    ∙ ap₂ (λ ls l. ls ++ l ∷ []) (at ∙ ap (λ n. map list (take n terms)) many) one
+    ∙ sym (map_more list terms i d within)
+    ∙ ap (λ n. map list (take n terms)) (sym (length-append cursors (c ∷ []) ∙ ap (λ n. n + 1) many))
+
+pub places_on : (cursors : List Cursor) (c : Cursor) → places_left (cursors ++ c ∷ []) ≡ places_left cursors + place_count (lists_kept c)
+places_on cursors c = let sum = sum_by-append (λ (u : Cursor). place_count (lists_kept u)) cursors (c ∷ []) in omega (arith, sum)
+
+-- those of all terms
+pub cursors_all : (documents : List Document) (terms : List (Bor QueryTerm)) (cursors : List Cursor) → AreCursorsOf documents terms cursors
+    → length terms ≡ length cursors → map lists_kept cursors ≡ map (listed_for documents) (plain_terms terms)
+cursors_all documents terms cursors at many =
+    at
+    ∙ ap (map (λ (t : Bor QueryTerm). listed_for documents (plain_term t.now))) (take_all (length cursors) terms (omega (arith, many)))
+    ∙ sym (map-map (listed_for documents) (λ (t : Bor QueryTerm). plain_term t.now) terms)

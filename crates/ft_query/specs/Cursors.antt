@@ -9,11 +9,11 @@ use Rattle.ft_query.specs.Occurs.{is_listed}
 
 -- what the search still has to pass
 abbrev pub lists_left : Cursor → List PlaceList
-lists_left c = map plain_list (drop c.at c.lists.items)
+lists_left c = map plain_list (drop c.at c.lists.value.items)
 
 -- what the walk still has to pass
 abbrev pub lists_kept : Cursor → List PlaceList
-lists_kept c = map plain_list (drop c.kept c.lists.items)
+lists_kept c = map plain_list (drop c.kept c.lists.value.items)
 
 -- how many places are left in all
 abbrev pub places_left : List Cursor → ℕ

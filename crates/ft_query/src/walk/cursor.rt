@@ -1,5 +1,5 @@
 //! One term's list of documents, passed from front to back.
-ghost use Rattle.std.specs.Prelude.{◌≡◌, map};
+ghost use Rattle.std.specs.Prelude.{◌≡◌, map, IfOk};
 ghost use Rattle.ft_query.specs.Documents.{plain_list};
 ghost use Rattle.ft_query.specs.Cursors.{lists_left, lists_kept, next_docid, is_next, next_places, after_next};
 ghost use Rattle.ft_query.specs.Sought.{StandsAt, SearchesOn};
@@ -8,24 +8,38 @@ ghost use Rattle.ft_query.specs.Taken.{Takes, LooksAt};
 use crate::lists::DocList;
 use crate::walk::Steps;
 use crate::walk::places::Places;
+use std::alloc::{AllocError, Global};
+use std::rc::Rc;
 
 /// A term's list: where the walk stands in it, and how far the search for the next hit has come.
 #[derive(Drop)]
 pub(crate) struct Cursor {
-    lists: Vec<DocList>,
+    lists: Rc<Vec<DocList>>,
     kept: usize,
     at: usize,
 }
 
 impl Cursor {
-    pub(super) fn new(lists: Vec<DocList>) -> Cursor
-        ensures { StandsAt result (map plain_list lists.items) }
+    /// Before the first document of a list.
+    pub(super) fn new(alloc: Global, lists: Vec<DocList>) -> Result<Cursor, AllocError>
+        ensures { IfOk result (λ c. lists_kept c ≡ map plain_list lists.items) }
     {
-        Cursor {
-            lists,
+        Ok(Cursor {
+            lists: Rc::new(alloc, lists)?,
             kept: 0,
             at: 0,
-        }
+        })
+    }
+
+    /// Another one where this one stands, over the same list, which is held once.
+    pub(super) fn again(&self) -> Result<Cursor, AllocError>
+        ensures { IfOk result (λ c. lists_kept c ≡ lists_kept self.now) }
+    {
+        Ok(Cursor {
+            lists: self.lists.clone()?,
+            kept: self.kept,
+            at: self.kept,
+        })
     }
 
     /// Begins a search where the walk stands.

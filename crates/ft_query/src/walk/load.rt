@@ -1,111 +1,153 @@
-//! The lists of a query's terms.
-ghost use Rattle.std.specs.Prelude.{◌≡◌, true, ◌+◌, ◌-◌, ◌^◌, map, min, flat_map, IfOk, OnOk};
-ghost use Rattle.ft_query.specs.Documents.{place_count};
+//! The lists of a query's terms: each is asked for as often as its term is written, and held once.
+ghost use Rattle.std.specs.Prelude.{◌≡◌, ◌≤◌, true, ◌+◌, ◌-◌, ◌^◌, ◌++◌, List, IsTrue, length, map, min, flat_map, IfOk, IfSome, OnOk};
+ghost use Rattle.ft_query.specs.Documents.{Document, plain_list, place_count};
 ghost use Rattle.ft_query.specs.Trees.{plain_term, plain_link, tree_of};
 ghost use Rattle.ft_query.specs.Work.{terms_in};
 ghost use Rattle.ft_query.specs.Cursors.{lists_kept, listed_for};
-ghost use Rattle.ft_query.specs.Loaded.{Asks, Loads};
+ghost use Rattle.ft_query.specs.Loaded.{plain_terms, AreCursorsOf, Asks, Loads};
 ghost use Rattle.ft_query.specs.Spines.{leaf_tree};
 
-use crate::lists::{ListFault, Lists};
+use crate::lists::{DocList, ListFault, Lists};
 use crate::query::{Link, Query, QueryTerm};
 use crate::walk::cursor::Cursor;
 use crate::walk::spine::{Leaf, spine_of};
-use std::alloc::Global;
+use std::alloc::{AllocError, Global};
+
+// ---- the terms, in the text's order
+
+/// Adds some terms.
+fn add_terms<'q>(terms: &'q [QueryTerm], all: &mut Vec<&'q QueryTerm>) -> Result<(), AllocError>
+    ensures { OnOk result
+        (plain_terms all.new.items ≡ plain_terms all.old.items ++ map plain_term terms.now) }
+{
+    for term in terms {
+        all.push(term)?;
+    }
+    Ok(())
+}
+
+/// Adds the terms of some links.
+fn add_links<'q>(links: &'q [Link], all: &mut Vec<&'q QueryTerm>) -> Result<(), AllocError>
+    ensures { OnOk result (plain_terms all.new.items ≡ plain_terms all.old.items
+        ++ flat_map (λ link. link.to.terms) (map plain_link links.now)) }
+{
+    for link in links {
+        add_terms(link.to.terms.as_slice(), all)?;
+    }
+    Ok(())
+}
+
+/// Adds the terms of a first operand.
+fn add_leaf<'q>(leaf: Leaf<'q>, all: &mut Vec<&'q QueryTerm>) -> Result<(), AllocError>
+    ensures { OnOk result (plain_terms all.new.items
+        ≡ plain_terms all.old.items ++ terms_in (leaf_tree leaf.entry)) }
+{
+    match leaf {
+        Leaf::Phrase(phrase) => add_terms(phrase.terms.as_slice(), all),
+        Leaf::Near(chain) => {
+            add_terms(chain.first.terms.as_slice(), all)?;
+            add_links(chain.links.as_slice(), all)
+        }
+    }
+}
+
+/// Adds the terms of a query.
+pub(crate) fn add_query<'q>(
+    alloc: Global,
+    query: &'q Query,
+    all: &mut Vec<&'q QueryTerm>,
+) -> Result<(), AllocError>
+    ensures { OnOk result (plain_terms all.new.items
+        ≡ plain_terms all.old.items ++ terms_in (tree_of query.now)) }
+{
+    let (leaf, mut joints) = spine_of(alloc, query)?;
+    add_leaf(leaf, all)?;
+    while let Some(joint) = joints.pop() {
+        add_query(alloc, joint.right, all)?;
+    }
+    Ok(())
+}
+
+// ---- their lists
 
 #[tactic(auto, using(crate::proofs::Reaching::one_call))]
-/// The list of one term.
-fn load_term<L: Lists>(alloc: Global, term: &QueryTerm, lists: &mut L) -> Result<Cursor, ListFault>
-    ensures list { IfOk result (λ c. L.is_clean lists.new
-        → lists_kept c ≡ listed_for (L.documents lists.new) (plain_term term.now)) }
+/// The answer for a term.
+fn ask<L: Lists>(alloc: Global, term: &QueryTerm, lists: &mut L) -> Result<Vec<DocList>, ListFault>
+    ensures list { IfOk result (λ r. L.is_clean lists.new
+        → map plain_list r.items ≡ listed_for (L.documents lists.new) (plain_term term.now)) }
     ensures asks { Asks L.Lists lists.old lists.new result }
     ensures becomes { OnOk result (L.becomes lists.old true lists.new) }
-    ensures given { IfOk result (λ c. L.given_so_far lists.new
-        ≡ min (L.given_so_far lists.old + place_count (lists_kept c)) (2 ^ 64 - 1)) }
+    ensures given { IfOk result (λ r. L.given_so_far lists.new
+        ≡ min (L.given_so_far lists.old + place_count (map plain_list r.items)) (2 ^ 64 - 1)) }
 {
     let list = if term.prefix {
         lists.prefix(alloc, term.text.as_str())?
     } else {
         lists.word(alloc, term.text.as_str())?
     };
-    Ok(Cursor::new(list))
+    Ok(list)
 }
 
-#[tactic(auto, using(crate::proofs::Reaching::reaches_on))]
-/// The lists of some terms, after those that are there.
-fn load_terms<L: Lists>(
-    alloc: Global,
-    terms: &[QueryTerm],
-    lists: &mut L,
-    cursors: &mut Vec<Cursor>,
-) -> Result<(), ListFault>
-    ensures loads { OnOk result (Loads L.Lists (map plain_term terms.now) lists.old lists.new
-        cursors.old cursors.new) }
-    ensures asks { Asks L.Lists lists.old lists.new result }
+/// Whether both terms have one list.
+fn are_alike(one: &QueryTerm, other: &QueryTerm) -> bool
+    ensures { IsTrue result
+        → (documents : List Document) → listed_for documents (plain_term one.now)
+        ≡ listed_for documents (plain_term other.now) }
 {
-    for term in terms {
-        let cursor = load_term(alloc, term, lists)?;
-        cursors.push(cursor)?;
-    }
-    Ok(())
+    one.prefix == other.prefix && one.text == other.text
 }
 
-#[tactic(auto, using(crate::proofs::Reaching::reaches_on))]
-/// The lists of the terms of some links.
-fn load_links<L: Lists>(
-    alloc: Global,
-    links: &[Link],
-    lists: &mut L,
-    cursors: &mut Vec<Cursor>,
-) -> Result<(), ListFault>
-    ensures loads { OnOk result (Loads L.Lists
-        (flat_map (λ link. link.to.terms) (map plain_link links.now)) lists.old lists.new
-        cursors.old cursors.new) }
-    ensures asks { Asks L.Lists lists.old lists.new result }
+/// Of these cursors, which are those of the first of these terms, one whose list is this term's.
+fn held<'c>(terms: &[&QueryTerm], cursors: &'c [Cursor], term: &QueryTerm) -> Option<&'c Cursor>
+    requires { length cursors.now ≤ length terms.now }
+    ensures { IfSome result (λ c. (documents : List Document)
+        → AreCursorsOf documents terms.now cursors.now
+        → lists_kept c.now ≡ listed_for documents (plain_term term.now)) }
 {
-    for link in links {
-        load_terms(alloc, link.to.terms.as_slice(), lists, cursors)?;
-    }
-    Ok(())
-}
-
-#[tactic(auto, using(crate::proofs::Reaching::reaches_on))]
-/// The lists of the terms of a first operand.
-fn load_leaf<L: Lists>(
-    alloc: Global,
-    leaf: Leaf<'_>,
-    lists: &mut L,
-    cursors: &mut Vec<Cursor>,
-) -> Result<(), ListFault>
-    ensures loads { OnOk result (Loads L.Lists (terms_in (leaf_tree leaf.entry)) lists.old lists.new
-        cursors.old cursors.new) }
-    ensures asks { Asks L.Lists lists.old lists.new result }
-{
-    match leaf {
-        Leaf::Phrase(phrase) => load_terms(alloc, phrase.terms.as_slice(), lists, cursors),
-        Leaf::Near(chain) => {
-            load_terms(alloc, chain.first.terms.as_slice(), lists, cursors)?;
-            load_links(alloc, chain.links.as_slice(), lists, cursors)
+    for (i, cursor) in cursors.iter().enumerate() {
+        if are_alike(terms[i], term) {
+            return Some(cursor);
         }
     }
+    None
+}
+
+/// A cursor over a term's list: over one that is held, if there is one, or over this answer.
+fn cursor_of(
+    alloc: Global,
+    terms: &[&QueryTerm],
+    cursors: &[Cursor],
+    term: &QueryTerm,
+    answer: Vec<DocList>,
+) -> Result<Cursor, AllocError>
+    requires { length cursors.now ≤ length terms.now }
+    ensures { IfOk result (λ c. (documents : List Document)
+        → map plain_list answer.items ≡ listed_for documents (plain_term term.now)
+        → AreCursorsOf documents terms.now cursors.now
+        → lists_kept c ≡ listed_for documents (plain_term term.now)) }
+{
+    match held(terms, cursors, term) {
+        Some(cursor) => cursor.again(),
+        None => Cursor::new(alloc, answer),
+    }
 }
 
 #[tactic(auto, using(crate::proofs::Reaching::reaches_on))]
-/// The lists of the terms of a query.
+/// The lists of these terms.
 pub(crate) fn load<L: Lists>(
     alloc: Global,
-    query: &Query,
+    terms: &[&QueryTerm],
     lists: &mut L,
-    cursors: &mut Vec<Cursor>,
-) -> Result<(), ListFault>
-    ensures loads { OnOk result (Loads L.Lists (terms_in (tree_of query.now)) lists.old lists.new
-        cursors.old cursors.new) }
+) -> Result<Vec<Cursor>, ListFault>
+    ensures loads { IfOk result
+        (Loads L.Lists (plain_terms terms.now) lists.old lists.new) }
     ensures asks { Asks L.Lists lists.old lists.new result }
 {
-    let (leaf, mut joints) = spine_of(alloc, query)?;
-    load_leaf(alloc, leaf, lists, cursors)?;
-    while let Some(joint) = joints.pop() {
-        load(alloc, joint.right, lists, cursors)?;
+    let mut cursors = Vec::new(alloc);
+    for term in terms {
+        let answer = ask(alloc, term, lists)?;
+        let cursor = cursor_of(alloc, terms, cursors.as_slice(), term, answer)?;
+        cursors.push(cursor)?;
     }
-    Ok(())
+    Ok(cursors)
 }
