@@ -1,6 +1,6 @@
 -- Calls one after another.
-use Rattle.std.proofs.Common.{◌≡◌, ℕ, ◌+◌, Bool, true, false, arith, subst}
-use Rattle.ft_query.specs.Lists.{Reaches, Stays, Goes, Ends, Answers, NoCall, OneMore}
+use Rattle.std.proofs.Common.{Bool, true, false}
+use Rattle.ft_query.specs.Lists.{Reaches, Stays, Goes, Ends}
 
 pub no_call : {X : Type 0} (Becomes : X → Bool → X → Type 0) (x : X) (all : Bool) → Reaches Becomes x all x
 no_call Becomes x all = Stays x all
@@ -22,9 +22,3 @@ joined Becomes x y z one all h (Ends a b step) rest = absurd h
 pub reaches_on : {X : Type 0} (Becomes : X → Bool → X → Type 0) (x y z : X) (all : Bool) → Reaches Becomes x true y → Reaches Becomes y all z
     → Reaches Becomes x all z
 reaches_on Becomes x y z all calls rest = joined Becomes x y z true all tt calls rest
-
-pub answers_then : {X : Type 0} (Becomes : X → Bool → X → Type 0) (m n k : ℕ) (x y z : X) → Answers Becomes m x y → Answers Becomes n y z → k ≡ m + n
-    → Answers Becomes k x z
-answers_then Becomes m n k x y z calls (NoCall i w none) sum = subst (λ i. Answers Becomes i x w) (let e : m ≡ k = omega arith in e) calls
-answers_then Becomes m n k x y z calls (OneMore i j a b c more last one) sum =
-    OneMore (m + i) k x b c (answers_then Becomes m i (m + i) x a b calls more (omega arith)) last (omega arith)

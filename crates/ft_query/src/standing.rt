@@ -5,11 +5,13 @@ ghost use Rattle.std.specs.Prelude.{◌≡◌, ◌≤◌, length, map, vec_len, 
 ghost use Rattle.ft_query.specs.Trees.{tree_of};
 ghost use Rattle.ft_query.specs.Work.{terms_in};
 ghost use Rattle.ft_query.specs.Cursors.{lists_kept};
+ghost use Rattle.ft_query.specs.Loaded.{Asks, Loads};
 ghost use Rattle.ft_query.specs.Search.{stands_at, FindsNext};
 ghost use Rattle.ft_query.specs.Taken.{Takes};
 
+use crate::lists::{ListFault, Lists};
 use crate::query::Query;
-use crate::walk::{Cursor, Hit, Wanted, search};
+use crate::walk::{Cursor, Hit, Wanted, load, search};
 use std::alloc::{AllocError, Global};
 
 /// The steps so far: the docids and positions that were looked at, and the nodes of a query that
@@ -44,12 +46,20 @@ impl Steps {
 }
 
 impl Standing {
-    /// Before the first document of these lists, with no steps so far.
-    pub(crate) fn before(cursors: Vec<Cursor>) -> Standing
-        ensures cursors { result.cursors.items ≡ cursors.items }
-        ensures none { result.taken ≡ 0 }
+    /// Asks for the lists of a query's terms, and stands before their first document, with no steps
+    /// so far.
+    pub(crate) fn open<L: Lists>(
+        alloc: Global,
+        query: &Query,
+        lists: &mut L,
+    ) -> Result<Standing, ListFault>
+        ensures loads { IfOk result (λ s.
+            Loads L.Lists (terms_in (tree_of query.now)) lists.old lists.new s.cursors) }
+        ensures none { IfOk result (λ s. s.taken ≡ 0) }
+        ensures asks { Asks L.Lists lists.old lists.new result }
     {
-        Standing { cursors, taken: 0 }
+        let cursors = load(alloc, query, lists)?;
+        Ok(Standing { cursors, taken: 0 })
     }
 
     /// The steps up to where the walk stands.

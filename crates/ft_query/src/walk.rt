@@ -16,6 +16,7 @@ mod visit;
 pub(crate) use crate::standing::Steps;
 pub(crate) use cursor::Cursor;
 use itoa::Buffer;
+pub(crate) use load::load;
 pub use matches::Matches;
 pub(crate) use search::search;
 use std::alloc::{AllocError, Global};

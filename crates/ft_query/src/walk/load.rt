@@ -52,7 +52,7 @@ fn add_leaf<'q>(leaf: Leaf<'q>, all: &mut Vec<&'q QueryTerm>) -> Result<(), Allo
 }
 
 /// Adds the terms of a query.
-pub(crate) fn add_query<'q>(
+fn add_query<'q>(
     alloc: Global,
     query: &'q Query,
     all: &mut Vec<&'q QueryTerm>,
@@ -134,7 +134,7 @@ fn cursor_of(
 
 #[tactic(auto, using(crate::proofs::Reaching::reaches_on))]
 /// The lists of these terms.
-pub(crate) fn load<L: Lists>(
+fn load_terms<L: Lists>(
     alloc: Global,
     terms: &[&QueryTerm],
     lists: &mut L,
@@ -150,4 +150,19 @@ pub(crate) fn load<L: Lists>(
         cursors.push(cursor)?;
     }
     Ok(cursors)
+}
+
+/// The lists of a query's terms.
+pub(crate) fn load<L: Lists>(
+    alloc: Global,
+    query: &Query,
+    lists: &mut L,
+) -> Result<Vec<Cursor>, ListFault>
+    ensures loads { IfOk result
+        (Loads L.Lists (terms_in (tree_of query.now)) lists.old lists.new) }
+    ensures asks { Asks L.Lists lists.old lists.new result }
+{
+    let mut terms = Vec::new(alloc);
+    add_query(alloc, query, &mut terms)?;
+    load_terms(alloc, terms.as_slice(), lists)
 }

@@ -12,7 +12,6 @@ use crate::lists::{ListFault, Lists};
 use crate::query::Query;
 use crate::standing::Standing;
 use crate::walk::Hit;
-use crate::walk::load::{add_query, load};
 use crate::walk::visit::Wanted;
 use std::alloc::{AllocError, Global};
 use std::marker::Model;
@@ -66,13 +65,9 @@ impl<'q> Matches<'q> {
         ensures asks { OnOk result (Answers L.becomes (length (terms_in (tree_of query.now)))
             lists.old lists.new) }
     {
-        let mut terms = Vec::new(alloc);
-        add_query(alloc, query, &mut terms)?;
-        let cursors = load(alloc, terms.as_slice(), lists)?;
-        let standing = Standing::before(cursors);
         Ok(Matches {
             query,
-            standing,
+            standing: Standing::open(alloc, query, lists)?,
             alloc,
         })
     }

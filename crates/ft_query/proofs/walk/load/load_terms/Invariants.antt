@@ -2,7 +2,7 @@ use Rattle.std.proofs.Common.{◌≡◌, true, ◌+◌, ◌-◌, ◌^◌, ◌<�
 use Rattle.ft_query.specs.Lists.{Reaches, Answers}
 use Rattle.ft_query.specs.Loaded.{AreCursorsOf}
 use Rattle.ft_query.specs.Cursors.{places_left}
-use Rattle.ft_query.proofs.walk.load.load.Given as goal
+use Rattle.ft_query.proofs.walk.load.load_terms.Given as goal
 
 -- the lists of the terms so far
 abbrev pub invariant-loop-term : goal.invariant-loop-term

@@ -1,0 +1,90 @@
+-- each term is one more call, and has one more cursor
+use Rattle.std.proofs.Common.{◌≡◌, List, length, subst, sym, ap, ◌∙◌, rules, arith}
+use Rattle.std.proofs.lemmas.Grind.{common_steps}
+use Rattle.std.specs.Borrow.{Bor}
+use Rattle.ft_query.specs.declared.query.QueryTerm.{QueryTerm}
+use Rattle.ft_query.specs.declared.walk.cursor.Cursor.{Cursor}
+use Rattle.ft_query.specs.Documents.{Document, place_count}
+use Rattle.ft_query.specs.Trees.{plain_term}
+use Rattle.ft_query.specs.Cursors.{lists_kept, places_left, listed_for}
+use Rattle.ft_query.specs.Lists.{Answers, NoCall, OneMore}
+use Rattle.ft_query.specs.Loaded.{AreCursorsOf}
+use Rattle.ft_query.proofs.Loading.{cursors_on, cursors_all, places_on}
+use Rattle.ft_query.proofs.Reaching.{no_call, reaches_on}
+use Rattle.ft_query.proofs.walk.load.load_terms.Given.{Over}
+use Rattle.ft_query.proofs.walk.load.load_terms.Goals as goal
+use Rattle.ft_query.proofs.walk.load.load_terms.Goals.{In_ok-push}
+
+pub loop-term-init : goal.loop-term-init
+loop-term-init g c = record {
+  lists = search rules;
+  number = search rules;
+  asked = NoCall _ _ (search rules);
+  clean = search rules;
+  becomes = no_call _ _ _;
+  failed = search rules;
+  given = grind (arith, common_steps);
+}
+
+-- the new cursor stands before its term's list
+abbrev IsNext : (g : Over) → In_ok-push g → Type 0
+IsNext g c = lists_kept c.in_ok-cursor.cursor ≡ listed_for (g.L.Lists.documents c.ask.new.lists) (plain_term c.term-item.result.now)
+
+before : (g : Over) (c : In_ok-push g) → g.L.Lists.is_clean c.ask.new.lists
+    → AreCursorsOf (g.L.Lists.documents c.ask.new.lists) c.args.terms.now c.loop-term.cursors.items
+before g c clean =
+    let was = c.in_ok-answer.ensures.asks.clean clean in
+    subst (λ (ds : List Document). AreCursorsOf ds c.args.terms.now c.loop-term.cursors.items) (sym was.1) (c.loop-term.invariant.lists was.0)
+
+next : (g : Over) (c : In_ok-push g) → g.L.Lists.is_clean c.ask.new.lists → IsNext g c
+next g c clean =
+    let documents = g.L.Lists.documents c.ask.new.lists in
+    c.in_ok-cursor.ensures documents (c.in_ok-answer.ensures.list clean)
+    (subst (λ (cursors : List Cursor). AreCursorsOf documents c.args.terms.now cursors) (sym c.as_slice.ensures.value) (before g c clean))
+
+pub loop-term-preserved : goal.loop-term-preserved
+loop-term-preserved g c = record {
+  lists = λ clean.
+      let documents = g.L.Lists.documents c.ask.new.lists in
+      let many : length c.loop-term.cursors.items ≡ c.loop-term.term-index = omega (arith, c.loop-term.invariant.number, c.loop-term.cursors.ok.0) in
+      subst (λ (cursors : List Cursor). AreCursorsOf documents c.args.terms.now cursors) (sym c.in_ok-push.ensures.items)
+      (cursors_on documents c.args.terms.now c.loop-term.cursors.items c.loop-term.term-index c.in_ok-cursor.cursor c.term-item.result
+      (before g c clean) many c.loop-term-test.true
+      (next g c clean ∙ ap (λ (t : Bor QueryTerm). listed_for documents (plain_term t.now)) c.term-item.is));
+  number = grind (arith, common_steps);
+  asked = OneMore _ _ _ _ _ c.loop-term.invariant.asked c.in_ok-answer.ensures.becomes (grind (arith, common_steps));
+  clean = grind (arith, common_steps);
+  becomes = reaches_on _ _ _ _ _ c.loop-term.invariant.becomes c.in_ok-answer.ensures.asks.becomes;
+  failed = grind (arith, common_steps);
+  given = λ clean few.
+      let was = c.in_ok-answer.ensures.asks.clean clean in
+      let so_far = c.loop-term.invariant.given was.0 few in
+      let more = c.in_ok-answer.ensures.given in
+      let same = ap place_count (next g c clean ∙ sym (c.in_ok-answer.ensures.list clean)) in
+      let all = ap places_left c.in_ok-push.ensures.items ∙ places_on c.loop-term.cursors.items c.in_ok-cursor.cursor in
+      omega (arith, so_far, more, same, all);
+}
+
+pub returns-clause-loads : goal.returns-clause-loads
+returns-clause-loads g c = record {
+  lists = λ clean.
+      cursors_all (g.L.Lists.documents c.loop-term.lists) c.args.terms.now c.loop-term.cursors.items (c.loop-term.invariant.lists clean)
+      (omega (arith, c.loop-term.invariant.number, c.loop-term.cursors.ok.0, c.loop-term-test.false, c.loop-term.auto.term-index-end));
+  number = grind (arith, common_steps);
+  asked = subst (λ n. Answers g.L.Lists.becomes n c.args.lists.now c.loop-term.lists) (grind (arith, common_steps)) c.loop-term.invariant.asked;
+  given = c.loop-term.invariant.given;
+}
+
+pub returns-in_err-cursor-clause-asks : goal.returns-in_err-cursor-clause-asks
+returns-in_err-cursor-clause-asks g c = record {
+  clean = grind (arith, common_steps);
+  failed = grind (arith, common_steps);
+  becomes = reaches_on _ _ _ _ _ (reaches_on _ _ _ _ _ c.loop-term.invariant.becomes c.in_ok-answer.ensures.asks.becomes) (no_call _ _ _);
+}
+
+pub returns-in_err-push-clause-asks : goal.returns-in_err-push-clause-asks
+returns-in_err-push-clause-asks g c = record {
+  clean = grind (arith, common_steps);
+  failed = grind (arith, common_steps);
+  becomes = reaches_on _ _ _ _ _ (reaches_on _ _ _ _ _ c.loop-term.invariant.becomes c.in_ok-answer.ensures.asks.becomes) (no_call _ _ _);
+}
