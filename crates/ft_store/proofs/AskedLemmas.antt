@@ -8,6 +8,7 @@ use Rattle.sqlite.specs.declared.types.Value.TheVariants.{Null, Int, Text}
 use Rattle.std.proofs.lemmas.List.Elements.{All-from_recursion, All-take, All-drop, All-map, All-weaker}
 use Rattle.std.proofs.lemmas.List.Sorted.{All-permutation}
 use Rattle.sqlite.specs.Order.{Row, column}
+use Rattle.sqlite.specs.Schema.{Schema}
 use Rattle.sqlite.specs.Tree.{Trees}
 use Rattle.sqlite.specs.Term.{Term, holds}
 use Rattle.sqlite_sql.specs.Term.{eval}
@@ -24,7 +25,7 @@ use Rattle.sqlite.specs.declared.error.Error.TheVariants.{SqliteFailure}
 use Rattle.sqlite.specs.declared.error.ErrorCode.TheVariants as code
 use Rattle.ft_store.proofs.BlameLemmas.{fails_blamed}
 use Rattle.sqlite_resolve.specs.declared.compiled.Compiled.{Compiled}
-use Rattle.sqlite_resolve.specs.declared.error.CompileError.{CompileError}
+pub use Rattle.ft_store.specs.Made.{is_whole}
 use Rattle.sqlite_value.specs.declared.keys.Key.{Key}
 use Rattle.sqlite_keyed.proofs.ListLemmas.{all_map, all-filter, all_weaker, all_both, all_unmap}
 use Rattle.sqlite_keyed.proofs.SortLemmas.{IsPermutation-sort_by}
@@ -56,21 +57,16 @@ use Rattle.sqlite.specs.Values.{IsInt}
 use Rattle.sqlite_rules.specs.Edit.{id_in}
 use Rattle.ft_store.proofs.SelectLemmas.{arranged}
 
--- the text is all of one statement with so many parameters
-abbrev pub is_whole : List ℕ → ℕ → Result Compiled CompileError → Bool
-is_whole sql count (Ok c) = not (nat_lt c.tail (length sql)) && nat_eq count (length c.names)
-is_whole sql count (Err e) = false
-
 not_true : (b : Bool) → not b ≡ true → b ≡ false
 not_true true h = sym h
 not_true false h = refl
 
 -- the text is a statement of a store
-pub is_statement : (old : State) (sql : List ℕ) (params : Row) → old.now.schema ≡ store_schema → IsPlain (understood store_schema sql) → is_whole sql (length params) (understood store_schema sql) ≡ true
+pub is_statement : {schema : Schema} (old : State) (sql : List ℕ) (params : Row) → old.now.schema ≡ schema → IsPlain (understood schema sql) → is_whole sql (length params) (understood schema sql) ≡ true
     → (e : Error) → ¬ IsNoStatement old sql params e
 is_statement old sql params has plain whole e (inl none) = subst IsPlain (sym (ap (λ s. understood s sql) has) ∙ none.1) plain
 is_statement old sql params has plain whole e (inr (c, known, why)) =
-    let here : understood store_schema sql ≡ Ok c = sym (ap (λ s. understood s sql) has) ∙ known in
+    let here = sym (ap (λ s. understood s sql) has) ∙ known in
     let tells = subst (λ r. is_whole sql (length params) r ≡ true) here whole in
     elim why [
       | inl tail ↦ let long = ltb-false c.tail (length sql) (not_true _ (and_first _ _ tells)) in tail.0 (omega (arith, long))

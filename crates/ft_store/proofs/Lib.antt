@@ -17,6 +17,7 @@ pub mod InsideLemmas
 pub mod KeyedLemmas
 pub mod LastLemmas
 pub mod MakeLemmas
+pub mod MarkLemmas
 pub mod MigrateLemmas
 pub mod NamedLemmas
 pub mod OrderLemmas

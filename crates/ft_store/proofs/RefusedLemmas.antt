@@ -2,6 +2,7 @@
 use Rattle.std.proofs.Common.{◌≡◌, ◌≢◌, ◌∙◌, ◌∷◌, ◌||◌, ◌⊎◌, ℕ, zero, suc, ℤ, Bool, true, false, not, nat_lt, List, [], length, Option, Some, None, Ok, Err, inl, inr, refl, sym, ap, subst, arith, IsTrue, true≢false, append-nil, length-append, slice_get, ne_eqb, eq-eqb}
 use Rattle.std.specs.Prelude.{IsSome}
 use Rattle.sqlite.specs.Order.{Row}
+use Rattle.sqlite.specs.Schema.{Schema}
 use Rattle.sqlite.specs.Tree.{Trees}
 use Rattle.sqlite.specs.Table.{Table}
 use Rattle.sqlite.specs.Term.{Term}
@@ -49,7 +50,8 @@ use Rattle.sqlite.specs.Calls.{IsWrite}
 use Rattle.sqlite_tied.specs.Compute.{everything}
 use Rattle.sqlite.specs.declared.types.Value.TheVariants.{Int, Text}
 use Rattle.ft_store.proofs.BlameLemmas.{fails_blamed}
-use Rattle.ft_store.proofs.AskedLemmas.{is_whole, is_statement, IsTyped, table_limited}
+use Rattle.ft_store.specs.Made.{is_whole, statement_of}
+use Rattle.ft_store.proofs.AskedLemmas.{is_statement, IsTyped, table_limited}
 
 -- ---- any statement
 
@@ -72,16 +74,20 @@ RunOnlyBlamed old new sql params = (IsTrue old.is_open → IsStore old.now) → 
 abbrev pub CantDo : State → Row → Command → Type 0
 CantDo s params command = (text : List ℕ) × (stop : Option Error) × Does s.step_limit (mode_of s) params s.now text None command (Err stop)
 
+-- so it is with the text of the statement
+abbrev pub CantDoAs : State → Row → Command → List ℕ → Type 0
+CantDoAs s params command text = (stop : Option Error) × Does s.step_limit (mode_of s) params s.now text None command (Err stop)
+
 -- why a statement that writes is refused
-module _ (old new : State) (sql : List ℕ) (params : Row) (has : old.now.schema ≡ store_schema) (command : Command) (is : command_of (understood store_schema sql) ≡ command) (plain : IsPlain (understood store_schema sql))
-    (whole : is_whole sql (length params) (understood store_schema sql) ≡ true) (writes : IsWrite command) (quiet : (is_query command || (is_pragma command || false)) ≡ false) where
+module _ {schema : Schema} (old new : State) (sql : List ℕ) (params : Row) (has : old.now.schema ≡ schema) (command : Command) (is : command_of (understood schema sql) ≡ command) (plain : IsPlain (understood schema sql))
+    (whole : is_whole sql (length params) (understood schema sql) ≡ true) (writes : IsWrite command) (quiet : (is_query command || (is_pragma command || false)) ≡ false) where
   is_other : (k : Command) → command ≡ k → (IsWrite k → ⊥) → ⊥
   is_other k same not = not (subst IsWrite same writes)
 
-  pub write_refused : (e : Error) → e ≢ SqliteFailure code.OutOfMemory → ExecutesInside 0 sql params old new (Err e) → IsBlamed old new ⊎ CantDo old params command
+  pub write_refused_as : (e : Error) → e ≢ SqliteFailure code.OutOfMemory → ExecutesInside 0 sql params old new (Err e) → IsBlamed old new ⊎ CantDoAs old params command (statement_of sql (understood schema sql))
   unfolding ExecutesIn IsNotRun EndsScope
-  write_refused e other (inr ((c, it, escapes), error, same)) =
-      let here : understood store_schema sql ≡ Ok c = sym (ap (λ s. understood s sql) has) ∙ it.is in
+  write_refused_as e other (inr ((c, it, escapes), error, same)) =
+      let here : understood schema sql ≡ Ok c = sym (ap (λ s. understood s sql) has) ∙ it.is in
       let k : command ≡ c.command = sym is ∙ ap command_of here in
       absurd (elim escapes [
         | inl (inl a) ↦ is_other _ (k ∙ a) (λ w. w)
@@ -89,27 +95,33 @@ module _ (old new : State) (sql : List ℕ) (params : Row) (has : old.now.schema
         | inr (name, inl a, held) ↦ is_other _ (k ∙ a) (λ w. w)
         | inr (name, inr a, held) ↦ is_other _ (k ∙ a) (λ w. w)
       ])
-  write_refused e other (inl (inl (inl none), kept)) = absurd (is_statement old sql params has plain whole e none.0)
-  write_refused e other (inl (inl (inr fails), kept)) = inl (fails_blamed old new e other fails)
-  write_refused e other (inl (inr (c, it, alone), kept)) =
-      let here : understood store_schema sql ≡ Ok c = sym (ap (λ s. understood s sql) has) ∙ it.is in
+  write_refused_as e other (inl (inl (inl none), kept)) = absurd (is_statement old sql params has plain whole e none.0)
+  write_refused_as e other (inl (inl (inr fails), kept)) = inl (fails_blamed old new e other fails)
+  write_refused_as e other (inl (inr (c, it, alone), kept)) =
+      let here : understood schema sql ≡ Ok c = sym (ap (λ s. understood s sql) has) ∙ it.is in
       let same : c.command ≡ command = ap command_of (sym here) ∙ is in
       let bare = subst IsPlain here plain in
+      let text : text_of sql c ≡ statement_of sql (understood schema sql) = ap (statement_of sql) (sym here) in
+      let cant : (stop : Option Error) → Does old.step_limit (mode_of old) params old.now (text_of sql c) None command (Err stop) → IsBlamed old new ⊎ CantDoAs old params command (statement_of sql (understood schema sql)) =
+      λ stop does. inr (stop, subst (λ t. Does old.step_limit (mode_of old) params old.now t None command (Err stop)) text does) in
       elim (rw (same, bare.0, bare.1, append-nil params, quiet) at alone) [
         | inl (inl misplaced, kept) ↦ absurd (elim misplaced [
           | inl a ↦ elim a.1 [ inl b ↦ is_other _ b.0 (λ w. w) | inr b ↦ elim b.0 [ inl k ↦ is_other _ k (λ w. w) | inr k ↦ is_other _ k (λ w. w) ] ]
           | inr a ↦ elim a.2 [ inl k ↦ is_other _ k (λ w. w) | inr k ↦ is_other _ k (λ w. w) ]
         ])
-        | inl (inr does, kept) ↦ inr (text_of sql c, Some e, does.1)
-        | inr fails ↦ fails_unless old new e _ _ (λ b. inl b) (λ big. inr (text_of sql c, None, big)) other fails
+        | inl (inr does, kept) ↦ cant (Some e) does.1
+        | inr fails ↦ fails_unless old new e _ _ (λ b. inl b) (cant None) other fails
       ]
+
+  pub write_refused : (e : Error) → e ≢ SqliteFailure code.OutOfMemory → ExecutesInside 0 sql params old new (Err e) → IsBlamed old new ⊎ CantDo old params command
+  write_refused e other ran = elim (write_refused_as e other ran) [ inl blamed ↦ inl blamed | inr cant ↦ inr (_, cant.0, cant.1) ]
 
 -- ---- DELETE
 
-apart : IsAscending (λ (a b : Table). a.tree ≡ b.tree → ⊥) store_schema.tables
+pub apart : IsAscending (λ (a b : Table). a.tree ≡ b.tree → ⊥) store_schema.tables
 apart = ((λ e. omega (arith, e), (λ e. omega (arith, e), (λ e. omega (arith, e), (λ e. omega (arith, e), (λ e. omega (arith, e), (λ e. omega (arith, e), (λ e. omega (arith, e), tt))))))), ((λ e. omega (arith, e), (λ e. omega (arith, e), (λ e. omega (arith, e), (λ e. omega (arith, e), (λ e. omega (arith, e), (λ e. omega (arith, e), tt)))))), ((λ e. omega (arith, e), (λ e. omega (arith, e), (λ e. omega (arith, e), (λ e. omega (arith, e), (λ e. omega (arith, e), tt))))), ((λ e. omega (arith, e), (λ e. omega (arith, e), (λ e. omega (arith, e), (λ e. omega (arith, e), tt)))), ((λ e. omega (arith, e), (λ e. omega (arith, e), (λ e. omega (arith, e), tt))), ((λ e. omega (arith, e), (λ e. omega (arith, e), tt)), ((λ e. omega (arith, e), tt), (tt, tt))))))))
 
-refers : (among : Among) (db : Trees) → Refers among store_schema db
+pub refers : (among : Among) (db : Trees) → Refers among store_schema db
 refers among db = (all_of _ (λ r. refl) (db 0), (all_of _ (λ r. refl) (db 1), (all_of _ (λ r. refl) (db 3), (all_of _ (λ r. refl) (db 5), (all_of _ (λ r. refl) (db 7), (all_of _ (λ r. refl) (db 9), (all_of _ (λ r. refl) (db 11), (all_of _ (λ r. refl) (db 13), tt))))))))
 
 module _ (db : Trees) (sound : IsSound store_schema db) (table : Table) (listed : Has store_schema.tables table) (unique : (new : Trees) → are_unique store_schema.indexes new table [] ≡ true) (ids : List ℤ) where

@@ -52,13 +52,6 @@ RunsOrKeeps g old new result sql params =
     → IfOk result (λ added. MatchBool added ((count : ℕ) × ExecutesInside 0 sql params (state g old) (state g new) (Ok count))
     (IsUnchanged (state g old) (state g new)))
 
--- the statement makes the table of its text, in a database without rows
-abbrev pub CreatesOnOk : {S : Type 0} → Ghosts S → Held S → Held S → Result (Unit {0}) StoreFault → List ℕ → Type 0
-CreatesOnOk g old new result sql =
-    HasCleanDisk (state g new) → IsTrue (state g old).in_transaction
-    → OnOk result ((s : Schema) (table : Table) → Makes s sql table → (IsTrue (state g old).is_open → IsEmptyOf s (state g old).now)
-    → IsEmptyOf (created s table) (state g new).now × Shows (state g old) (state g new) (state g new).now (state g old).committed true)
-
 -- What a function that makes row changes does in a transaction: the same, where they can be made,
 -- and otherwise it may be refused as damaged.
 pub record ChangesInside {S X : Type 0} (g : Ghosts S) (old new : MutBor (Held S)) (result : Result X StoreFault) (CanBeMade Made : Type 0) : Type 0 where
