@@ -9,7 +9,7 @@ use Rattle.sqlite.specs.Term.{Term}
 use Rattle.sqlite_trees.specs.Tree.{IsAscending, with_tree}
 use Rattle.sqlite.specs.Command.{Command}
 use Rattle.sqlite.specs.Command.TheVariants.{Delete}
-use Rattle.sqlite.specs.Effect.{is_query}
+use Rattle.sqlite.specs.Effect.{IsDatabase, is_query}
 use Rattle.sqlite.specs.Listing.{understood}
 use Rattle.sqlite.specs.Rows.{Task, Queried}
 use Rattle.sqlite.specs.Does.{Does, OnRows, AtPlace, due}
@@ -177,14 +177,14 @@ module _ (old new : State) (sql : List ℕ) (params : Row) (at : ℕ) (table : T
   queried typed trees None h = absurd h
   queried typed trees (Some e) h = table_limited table.tree terms (0 ∷ []) [] no_limit no_offset params typed old.step_limit (record { schema = store_schema; trees = trees }) e refl h
 
-  delete_limited : IsStore old.now → slice_get store_schema.tables at ≡ Some table → Has store_schema.tables table → ((new : Trees) → are_unique store_schema.indexes new table [] ≡ true) → IsTyped the_query params
+  delete_limited : old.now.schema ≡ store_schema → IsDatabase old.now → slice_get store_schema.tables at ≡ Some table → Has store_schema.tables table → ((new : Trees) → are_unique store_schema.indexes new table [] ≡ true) → IsTyped the_query params
       → CantDo old params (Delete at (record { lets = []; body = the_query })) → IsSome old.step_limit
-  delete_limited store found listed unique typed (text, stop, does) =
+  delete_limited has kept found listed unique typed (text, stop, does) =
       let db = old.now.trees in
       let command = Delete at (record { lets = []; body = the_query }) in
-      let sound : IsSound store_schema db = subst (λ c. IsSound c db) store.schema store.sound in
+      let sound : IsSound store_schema db = subst (λ c. IsSound c db) has kept in
       let task : Task = record { limit = old.step_limit; keys = (mode_of old).keys; schema = store_schema; table = table; params = params } in
-      let begun = subst (λ c. Does old.step_limit (mode_of old) params (record old.now { schema = c }) text None command (Err stop)) store.schema does in
+      let begun = subst (λ c. Does old.step_limit (mode_of old) params (record old.now { schema = c }) text None command (Err stop)) has does in
       let on : OnRows task (mode_of old) None command db (Err stop) = subst (λ o. AtPlace (λ t. OnRows (record task { table = t }) (mode_of old) None command db) o (Err stop)) found begun in
       elim on [
         | inl writes ↦ elim writes.1 [
@@ -203,15 +203,23 @@ module _ (old new : State) (sql : List ℕ) (params : Row) (at : ℕ) (table : T
         ])
       ]
 
-  pub delete_blamed : command_of (understood store_schema sql) ≡ Delete at (record { lets = []; body = the_query }) → IsPlain (understood store_schema sql) → is_whole sql (length params) (understood store_schema sql) ≡ true
-      → slice_get store_schema.tables at ≡ Some table → Has store_schema.tables table → ((new : Trees) → are_unique store_schema.indexes new table [] ≡ true) → IsTyped the_query params → RunOnlyBlamed old new sql params
-  delete_blamed is plain whole found listed unique typed store (e, other, ran) = by_open old.is_open refl
+  -- the tables of a store, whatever `meta` has
+  pub delete_blamed_in : command_of (understood store_schema sql) ≡ Delete at (record { lets = []; body = the_query }) → IsPlain (understood store_schema sql) → is_whole sql (length params) (understood store_schema sql) ≡ true
+      → slice_get store_schema.tables at ≡ Some table → Has store_schema.tables table → ((new : Trees) → are_unique store_schema.indexes new table [] ≡ true) → IsTyped the_query params
+      → (IsTrue old.is_open → (old.now.schema ≡ store_schema) × IsDatabase old.now) → (e : Error) → e ≢ SqliteFailure code.OutOfMemory → ExecutesInside 0 sql params old new (Err e) → IsBlamed old new
+  delete_blamed_in is plain whole found listed unique typed store e other ran = by_open old.is_open refl
     where
       by_open : (o : Bool) → old.is_open ≡ o → IsBlamed old new
       by_open false shut = inr (inl shut)
       by_open true is_open =
           let kept = store is_open in
-          elim (write_refused old new sql params kept.schema _ is plain whole tt refl e other ran) [ inl blamed ↦ blamed | inr cant ↦ inr (inr (delete_limited kept found listed unique typed cant)) ]
+          elim (write_refused old new sql params kept.0 (Delete at (record { lets = []; body = the_query })) is plain whole tt refl e other ran)
+          [ inl blamed ↦ blamed | inr cant ↦ inr (inr (delete_limited kept.0 kept.1 found listed unique typed cant)) ]
+
+  pub delete_blamed : command_of (understood store_schema sql) ≡ Delete at (record { lets = []; body = the_query }) → IsPlain (understood store_schema sql) → is_whole sql (length params) (understood store_schema sql) ≡ true
+      → slice_get store_schema.tables at ≡ Some table → Has store_schema.tables table → ((new : Trees) → are_unique store_schema.indexes new table [] ≡ true) → IsTyped the_query params → RunOnlyBlamed old new sql params
+  delete_blamed is plain whole found listed unique typed store (e, other, ran) =
+      delete_blamed_in is plain whole found listed unique typed (λ is_open. let kept = store is_open in (kept.schema, kept.sound)) e other ran
 
 -- ---- the deletions
 
