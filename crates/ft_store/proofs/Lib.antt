@@ -9,6 +9,7 @@ pub mod ChainLemmas
 pub mod ChangeLemmas
 pub mod DocidLemmas
 pub mod EntryLemmas
+pub mod ExamineLemmas
 pub mod ExpectedLemmas
 pub mod FoundLemmas
 mod FoundNumbers

@@ -1,5 +1,5 @@
 -- Steps. How the tables of a store are made.
-use Rattle.std.specs.Prelude.{◌≡◌, Result, Ok, Err, ℕ, ◌+◌, ◌-◌, ◌*◌, ◌^◌, ◌<◌, ◌&&◌, Bool, true, false, not, nat_lt, nat_eq, List, [], length, take, codes, IsTrue, IsUtf8, OnOk}
+use Rattle.std.specs.Prelude.{◌≡◌, None, Result, Ok, Err, ℕ, ◌+◌, ◌-◌, ◌*◌, ◌^◌, ◌<◌, ◌&&◌, Bool, true, false, not, nat_lt, nat_eq, List, [], length, take, codes, IsTrue, IsUtf8, OnOk}
 use Rattle.std.specs.List.{AllByRecursion}
 use Rattle.sqlite.specs.declared.types.Value.TheVariants.{Text}
 use Rattle.sqlite.specs.Tree.{Trees}
@@ -21,7 +21,9 @@ use Rattle.sqlite.specs.State.{text_of, HasCleanDisk, Shows}
 use Rattle.sqlite.specs.Store.{Ghosts}
 use Rattle.sqlite.specs.Held.{Held, state}
 use Rattle.ft_store.specs.declared.fault.StoreFault.{StoreFault}
-use Rattle.sqlite.specs.Effect.{Database, IsDatabase}
+use Rattle.sqlite.specs.Effect.{Database, IsDatabase, IsShown}
+use Rattle.sqlite.specs.Order.{Row}
+use Rattle.sqlite.specs.Query.{Query}
 use Rattle.ft_store.specs.Tables.{store_schema}
 use Rattle.ft_store.specs.Calls.{AreNumbered}
 
@@ -37,6 +39,10 @@ statement_of sql (Err e) = []
 abbrev pub is_whole : List ℕ → ℕ → Result Compiled CompileError → Bool
 is_whole sql count (Ok c) = not (nat_lt c.tail (length sql)) && nat_eq count (length c.names)
 is_whole sql count (Err e) = false
+
+-- the values that are bound to the query are of types that it takes
+abbrev pub IsTypedIn : Schema → Query → Row → Type 0
+IsTypedIn schema q params = (db : Database) → db.schema ≡ schema → ¬ IsShown (λ (r : Row). r) db (record { lets = []; body = q }) params None
 
 -- the tables of the schema have no row
 abbrev pub AreEmpty : Schema → Trees → Type 0

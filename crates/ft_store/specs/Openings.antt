@@ -1,5 +1,12 @@
 -- Meaning. Why an opening is refused by the database (own choice).
-use Rattle.std.specs.Prelude.{◌≡◌, Result, Err, IsTrue}
+use Rattle.std.specs.Prelude.{◌≡◌, ◌⊎◌, ℤ, [], ◌∷◌, map, Result, Err, IsTrue}
+use Rattle.sqlite.specs.Order.{Row, column}
+use Rattle.sqlite.specs.Tree.{Trees}
+use Rattle.sqlite.specs.declared.types.Value.TheVariants.{Int}
+use Rattle.ft_store.specs.declared.same.Layout.{Layout}
+use Rattle.ft_store.specs.declared.same.Layout.TheVariants.{Older, Present}
+use Rattle.ft_store.specs.Older.{schema_of, version_of}
+use Rattle.ft_store.specs.Calls.{AreNumbered}
 use Rattle.sqlite.specs.Effect.{Database}
 use Rattle.sqlite.specs.State.{HasCleanDisk}
 use Rattle.sqlite.specs.Store.{Ghosts}
@@ -13,3 +20,16 @@ abbrev pub BlamesIn : {S X : Type 0} → Ghosts S → Held S → Held S → Resu
 BlamesIn g old new result Has =
     HasCleanDisk (state g new) → IsTrue (state g old).in_transaction → (IsTrue (state g old).is_open → Has (state g old).now) → result ≡ Err fault.Refused
     → IsBlamed (state g old) (state g new)
+
+-- `meta` has one row, with this version
+abbrev pub HasVersion : ℤ → Trees → Type 0
+HasVersion n db = map (λ (r : Row). column r 2) (db 0) ≡ Int n ∷ []
+
+-- the version that goes with the tables of the other version
+abbrev pub other_version : Layout → ℤ
+other_version Older = version_of Present
+other_version Present = version_of Older
+
+-- a database with the tables of a store is refused: for its version, or since two rows of a table have one rowid
+abbrev pub IsOddStore : Layout → Trees → Type 0
+IsOddStore layout db = HasVersion (other_version layout) db ⊎ ¬ AreNumbered (schema_of layout).tables db
