@@ -11,6 +11,7 @@ pub mod DocidLemmas
 pub mod EntryLemmas
 pub mod ExamineLemmas
 pub mod ExpectedLemmas
+pub mod ForeignLemmas
 pub mod FoundLemmas
 mod FoundNumbers
 pub mod GroupLemmas

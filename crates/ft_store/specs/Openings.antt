@@ -1,11 +1,14 @@
 -- Meaning. Why an opening is refused by the database (own choice).
-use Rattle.std.specs.Prelude.{◌≡◌, ◌⊎◌, ℤ, [], ◌∷◌, map, Result, Err, IsTrue}
+use Rattle.std.specs.Prelude.{◌≡◌, ◌≢◌, ◌⊎◌, ℤ, false, [], ◌∷◌, map, Result, Ok, Err, Vec, IsTrue}
+use Rattle.std.specs.declared.alloc.Global.{Global}
 use Rattle.sqlite.specs.Order.{Row, column}
 use Rattle.sqlite.specs.Tree.{Trees}
 use Rattle.sqlite.specs.declared.types.Value.TheVariants.{Int}
 use Rattle.ft_store.specs.declared.same.Layout.{Layout}
 use Rattle.ft_store.specs.declared.same.Layout.TheVariants.{Older, Present}
-use Rattle.ft_store.specs.Older.{schema_of, version_of}
+use Rattle.ft_store.specs.Tables.{no_schema}
+use Rattle.ft_store.specs.Older.{schema_of, version_of, HasStoreTables}
+use Rattle.ft_store.specs.Adopted.{TellsAs, rows_cause, has_our_name}
 use Rattle.ft_store.specs.Calls.{AreNumbered}
 use Rattle.sqlite.specs.Effect.{Database}
 use Rattle.sqlite.specs.State.{HasCleanDisk}
@@ -33,3 +36,18 @@ other_version Present = version_of Older
 -- a database with the tables of a store is refused: for its version, or since two rows of a table have one rowid
 abbrev pub IsOddStore : Layout → Trees → Type 0
 IsOddStore layout db = HasVersion (other_version layout) db ⊎ ¬ AreNumbered (schema_of layout).tables db
+
+-- one with other tables: none of them has a name of ours, or `meta` has a version that stores have
+abbrev pub IsForeign : {S : Type 0} → Ghosts S → Held S → Type 0
+IsForeign g old = (has_our_name old.schema ≡ false) ⊎ ((found : Vec Row Global) × TellsAs g old (Ok found) × (rows_cause found.items ≡ fault.Refused))
+
+-- Why a database is refused for what it is, before the call: it has other tables than a store, or
+-- those of a store, but no store's version or rowids.
+abbrev pub IsRefusable : {S : Type 0} → Ghosts S → Held S → Type 0
+IsRefusable g old =
+    ((old.schema ≢ no_schema) × (HasStoreTables old.schema → ⊥) × IsForeign g old)
+    ⊎ ((layout : Layout) × (old.schema ≡ schema_of layout) × IsOddStore layout (state g old).now.trees)
+
+-- a database is refused for what it is, or for what lies outside it
+abbrev pub RefusesOpening : {S X : Type 0} → Ghosts S → Held S → Held S → Result X StoreFault → Type 0
+RefusesOpening g old new result = HasCleanDisk (state g new) → result ≡ Err fault.Refused → IsBlamed (state g old) (state g new) ⊎ IsRefusable g old

@@ -1,5 +1,5 @@
 //! A store of version 2 becomes one of version 3.
-ghost use Rattle.std.specs.Prelude.{◌≡◌};
+ghost use Rattle.std.specs.Prelude.{◌≡◌, ◌⊎◌, Err};
 ghost use Rattle.sqlite.specs.State.{HasCleanDisk};
 ghost use Rattle.sqlite.specs.Held.{state};
 ghost use Rattle.ft_store.specs.declared.same.Layout.TheVariants.{Older};
@@ -8,8 +8,8 @@ ghost use Rattle.ft_store.specs.Older.{older_value, IsOlder, IsRenewed, IsStoreB
 ghost use Rattle.ft_store.specs.Made.{IsTabled, IsUnmarked};
 ghost use Rattle.ft_store.specs.Inside.{MakesInside};
 ghost use Rattle.ft_store.specs.Adopted.{IsAdoptFault};
-ghost use Rattle.ft_store.specs.Blame.{Blames};
-ghost use Rattle.ft_store.specs.Openings.{BlamesIn};
+ghost use Rattle.ft_store.specs.Blame.{IsBlamed, Blames};
+ghost use Rattle.ft_store.specs.Openings.{BlamesIn, IsOddStore};
 ghost use Rattle.ft_store.specs.Calls.{IsPlainFault, IsStored};
 ghost use Rattle.ft_store.specs.Settled.{AreAsKnown, IsSettled, IsLaidOut, IsJudged, MakesWhole};
 
@@ -74,6 +74,9 @@ pub(crate) fn take_older<S: Alter>(
         × IsStored db (older_value (state S.Store conn.old).now.trees)) IsAdoptFault }
     ensures judged { HasCleanDisk (state S.Store conn.new)
         → IsJudged (state S.Store conn.old).now.trees result }
+    ensures refused { HasCleanDisk (state S.Store conn.new) → result ≡ Err StoreFault.Refused
+        → IsBlamed (state S.Store conn.old) (state S.Store conn.new)
+        ⊎ IsOddStore Older (state S.Store conn.old).now.trees }
 {
     examine(conn, alloc, Layout::Older, rowids)?;
     migrate(conn)

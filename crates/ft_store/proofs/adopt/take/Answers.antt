@@ -1,6 +1,7 @@
 use Rattle.std.proofs.Common.{◌≡◌, rules, inl, inr}
 use Rattle.ft_store.specs.Tables.{store_schema}
 use Rattle.ft_store.specs.Older.{older_schema}
+use Rattle.ft_store.specs.declared.same.Layout.TheVariants.{Older, Present}
 use Rattle.ft_store.proofs.AdoptLemmas.{not_taken, err_too}
 use Rattle.ft_store.proofs.adopt.take.Goals as goal
 
@@ -15,3 +16,13 @@ returns-in-Some-Older-clause-refused g c =
     let schema : c.args.conn.now.schema ≡ older_schema = search rules in
     let it = c.take_older.ensures in
     not_taken g.S.Store c.args.conn.now c.take_older.new.conn c.take_older.result (inr schema) it.made.none it.made.mode it.made.fault it.judged
+
+pub returns-in-Some-Present-clause-blames : goal.returns-in-Some-Present-clause-blames
+returns-in-Some-Present-clause-blames g c = λ clean is.
+    let schema : c.args.conn.now.schema ≡ store_schema = search rules in
+    elim (c.examine.ensures.refused clean is) [ inl blamed ↦ inl blamed | inr odd ↦ inr (inr (Present, schema, odd)) ]
+
+pub returns-in-Some-Older-clause-blames : goal.returns-in-Some-Older-clause-blames
+returns-in-Some-Older-clause-blames g c = λ clean is.
+    let schema : c.args.conn.now.schema ≡ older_schema = search rules in
+    elim (c.take_older.ensures.refused clean is) [ inl blamed ↦ inl blamed | inr odd ↦ inr (inr (Older, schema, odd)) ]
