@@ -48,9 +48,8 @@ use Rattle.sqlite.specs.State.{HasCleanDisk}
 use Rattle.ft_store.specs.declared.fault.StoreFault.{StoreFault}
 use Rattle.ft_store.specs.Calls.{IsPlainFault, StaysUncommitted}
 use Rattle.ft_store.specs.Inside.{MakesInside}
-use Rattle.ft_store.specs.Openings.{BlamesIn}
 use Rattle.ft_store.specs.Tables.{no_schema}
-use Rattle.ft_store.specs.Blame.{IsBlamed}
+use Rattle.ft_store.specs.Blame.{IsBlamed, BlamesIn}
 use Rattle.ft_store.proofs.BlameLemmas.{blamed_then}
 use Rattle.ft_store.proofs.CallLemmas.{keeps_same}
 use Rattle.ft_store.proofs.InsideLemmas.{stays_then}

@@ -8,7 +8,6 @@ pub mod Older
 pub mod Rows
 pub mod Tables
 pub mod Opened
-pub mod Openings
 -- Steps
 pub mod Expected
 pub mod Found

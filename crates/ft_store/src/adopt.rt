@@ -2,9 +2,8 @@
 ghost use Rattle.std.specs.Prelude.{◌≡◌, ◌⊎◌, false, IsTrue, IfErr, OnOk};
 ghost use Rattle.sqlite.specs.State.{HasCleanDisk};
 ghost use Rattle.sqlite.specs.Held.{state};
-ghost use Rattle.ft_store.specs.Adopted.{TellsAs, rows_cause, error_cause, told_cause, has_our_name, IsAdoptFault, IsTaken, IsNotTaken, LeavesMade};
+ghost use Rattle.ft_store.specs.Adopted.{TellsAs, rows_cause, error_cause, told_cause, has_our_name, IsAdoptFault, IsForeign, IsTaken, IsNotTaken, LeavesMade};
 ghost use Rattle.ft_store.specs.Blame.{IsBlamed};
-ghost use Rattle.ft_store.specs.Openings.{IsForeign, RefusesOpening};
 ghost use Rattle.ft_store.specs.Calls.{IsStoreIfOpen};
 ghost use Rattle.ft_store.specs.Settled.{AreAsKnown, LeavesAlone};
 
@@ -107,7 +106,6 @@ pub(crate) fn take<S: Alter>(
     ensures store { OnOk result (IsStoreIfOpen (state S.Store conn.new)) }
     ensures taken { OnOk result (IsTaken S.Store conn.old conn.new) }
     ensures refused { IfErr result (IsNotTaken S.Store conn.old conn.new) }
-    ensures blames { RefusesOpening S.Store conn.old conn.new result }
     ensures mode { (state S.Store conn.new).in_transaction ≡ false }
     ensures crash { LeavesMade S.Store conn.old conn.new }
 {

@@ -7,9 +7,8 @@ ghost use Rattle.sqlite.specs.declared.types.Value.TheVariants.{Int};
 ghost use Rattle.ft_store.specs.declared.same.Layout.{Layout};
 ghost use Rattle.ft_store.specs.Scan.{Scans, tree_at};
 ghost use Rattle.ft_store.specs.Older.{schema_of, tables_of, version_of, IsStoreBy};
-ghost use Rattle.ft_store.specs.Adopted.{IsAdoptFault, IsOtherVersion};
+ghost use Rattle.ft_store.specs.Adopted.{HasVersion, other_version, IsAdoptFault, IsOddStore, IsOtherVersion};
 ghost use Rattle.ft_store.specs.Blame.{IsBlamed, Blames};
-ghost use Rattle.ft_store.specs.Openings.{HasVersion, other_version, IsOddStore};
 ghost use Rattle.ft_store.specs.Calls.{HasOwnRowids, AreNumbered, Reads};
 ghost use Rattle.ft_store.specs.Settled.{AreAsKnown, IsSettled, IsLaidOut, IsJudged, Finds, ReadsFor};
 

@@ -8,8 +8,7 @@ ghost use Rattle.ft_store.specs.Calls.{IsPlainFault, IsStore, IsStored};
 ghost use Rattle.ft_store.specs.Settled.{IsSettled, IsBare, IsEmptyStore, Finds, MakesWhole};
 ghost use Rattle.ft_store.specs.Made.{first_tables, IsEmptyOf, IsUnmarked, MakesNext};
 ghost use Rattle.ft_store.specs.Inside.{MakesInside};
-ghost use Rattle.ft_store.specs.Blame.{Blames};
-ghost use Rattle.ft_store.specs.Openings.{BlamesIn};
+ghost use Rattle.ft_store.specs.Blame.{Blames, BlamesIn};
 
 use crate::fault::StoreFault;
 use crate::sql::{

@@ -7,9 +7,8 @@ ghost use Rattle.ft_store.specs.Rows.{value_of};
 ghost use Rattle.ft_store.specs.Older.{older_value, IsOlder, IsRenewed, IsStoreBy};
 ghost use Rattle.ft_store.specs.Made.{IsTabled, IsUnmarked};
 ghost use Rattle.ft_store.specs.Inside.{MakesInside};
-ghost use Rattle.ft_store.specs.Adopted.{IsAdoptFault};
-ghost use Rattle.ft_store.specs.Blame.{IsBlamed, Blames};
-ghost use Rattle.ft_store.specs.Openings.{BlamesIn, IsOddStore};
+ghost use Rattle.ft_store.specs.Adopted.{IsAdoptFault, IsOddStore};
+ghost use Rattle.ft_store.specs.Blame.{IsBlamed, Blames, BlamesIn};
 ghost use Rattle.ft_store.specs.Calls.{IsPlainFault, IsStored};
 ghost use Rattle.ft_store.specs.Settled.{AreAsKnown, IsSettled, IsLaidOut, IsJudged, MakesWhole};
 
