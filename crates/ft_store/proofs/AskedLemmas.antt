@@ -1,5 +1,5 @@
 -- A query of a store is refused only by what lies outside it.
-use Rattle.std.proofs.Common.{cond, ◌≡◌, ◌≢◌, ◌∙◌, ◌⊎◌, ◌++◌, ◌∷◌, ◌<◌, ℕ, ℤ, ◌&&◌, Bool, true, false, not, nat_eq, nat_lt, List, [], length, map, Option, Some, None, Result, Ok, Err, inl, inr, refl, sym, ap, subst, arith, IsTrue, true≢false, append-nil, All}
+use Rattle.std.proofs.Common.{cond, ◌≡◌, ◌≢◌, ◌∙◌, ◌⊎◌, ◌++◌, ◌∷◌, ◌<◌, ℕ, ℤ, Bool, true, false, not, List, [], length, map, Option, Some, None, Ok, inl, inr, refl, sym, ap, subst, arith, IsTrue, true≢false, append-nil, All}
 use Rattle.std.specs.Prelude.{IsSome, unwrap_or}
 use Rattle.std.specs.List.{AllByRecursion, list_all}
 use Rattle.std.proofs.lemmas.Bool.{eqb-true, ltb-false}
@@ -16,7 +16,7 @@ use Rattle.sqlite.specs.Query.{Query, Output, output, IsAnswer, as_count, limite
 use Rattle.sqlite_sql.proofs.QueryLemmas.{no_fold_overflows}
 use Rattle.sqlite.specs.Program.{overlay}
 use Rattle.sqlite.specs.Command.TheVariants.{Select}
-use Rattle.sqlite.specs.Effect.{Database, RefusesToRead, RefusesQuery, IsShown}
+use Rattle.sqlite.specs.Effect.{Database, RefusesToRead, RefusesQuery}
 use Rattle.sqlite.specs.Listing.{understood, reads_listing, IsSourceOf}
 use Rattle.sqlite.specs.State.{State, IsNoStatement, IsNotRun}
 use Rattle.sqlite.proofs.Callers.{IsPlain, command_of, begins_as}
@@ -24,7 +24,6 @@ use Rattle.sqlite.specs.declared.error.Error.{Error}
 use Rattle.sqlite.specs.declared.error.Error.TheVariants.{SqliteFailure}
 use Rattle.sqlite.specs.declared.error.ErrorCode.TheVariants as code
 use Rattle.ft_store.proofs.BlameLemmas.{fails_blamed}
-use Rattle.sqlite_resolve.specs.declared.compiled.Compiled.{Compiled}
 pub use Rattle.ft_store.specs.Made.{is_whole, IsTypedIn}
 use Rattle.sqlite_value.specs.declared.keys.Key.{Key}
 use Rattle.sqlite_keyed.proofs.ListLemmas.{all_map, all-filter, all_weaker, all_both, all_unmap}

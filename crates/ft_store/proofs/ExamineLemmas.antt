@@ -1,5 +1,5 @@
 -- Why a database with the tables of a store is not taken for one.
-use Rattle.std.proofs.Common.{◌≡◌, ◌≢◌, ◌∙◌, ◌⊎◌, ◌++◌, ◌∷◌, ◌<◌, ◌<ℤ◌, ℕ, ℤ, ◌&&◌, Bool, true, false, List, [], length, map, filter, Option, Some, None, inl, inr, refl, sym, ap, subst, arith, IsTrue, true≢false, IsPermutation, Ordering, Less, Equal, Greater, is_gt}
+use Rattle.std.proofs.Common.{◌≡◌, ◌∙◌, ◌⊎◌, ◌++◌, ◌∷◌, ◌<◌, ◌<ℤ◌, ℕ, ℤ, Bool, true, false, List, [], length, map, filter, Option, Some, None, inl, inr, refl, sym, ap, subst, arith, IsTrue, true≢false, IsPermutation, Ordering, Less, Equal, Greater, is_gt}
 use Rattle.std.specs.Prelude.{IfSome}
 use Rattle.std.specs.List.{AllByRecursion}
 use Rattle.std.specs.Ordering.{int_cmp}
@@ -8,7 +8,7 @@ use Rattle.std.proofs.lemmas.List.Sorted.{IsPermutation-map, IsPermutation-sym}
 use Rattle.sqlite.specs.Order.{Row, column}
 use Rattle.sqlite.specs.Tree.{Trees}
 use Rattle.sqlite.specs.Schema.{Schema}
-use Rattle.sqlite.specs.Query.{Output, IsAnswer}
+use Rattle.sqlite.specs.Query.{Output}
 use Rattle.sqlite.specs.Program.{overlay}
 use Rattle.sqlite.specs.Effect.{Database}
 use Rattle.sqlite.specs.State.{State, HasCleanDisk, Survives, Shown}
@@ -26,7 +26,7 @@ use Rattle.sqlite_schema.specs.Rules.{passes}
 use Rattle.sqlite_catalog.specs.Listing.{IsSound}
 use Rattle.sqlite_keyed.specs.Lists.{sort_by}
 use Rattle.sqlite_keyed.proofs.KeyedLemmas.{lt_from_Less}
-use Rattle.sqlite_keyed.proofs.ListLemmas.{all_both, all_weaker, filter_all, all_of, map-map}
+use Rattle.sqlite_keyed.proofs.ListLemmas.{all_both, filter_all, all_of, map-map}
 use Rattle.sqlite_typed.proofs.TestLemmas.{last_key}
 use Rattle.ft_rows.proofs.ListLemmas.{and_first, and_second}
 use Rattle.ft_store.specs.declared.same.Layout.{Layout}
@@ -105,7 +105,7 @@ all_rise : (rows : List Row) → IsAscending DifferIn rows → AllByRecursion Is
 all_rise [] apart ints low = tt
 all_rise (r ∷ rows) apart ints low = (
   all_both (λ s. DifferIn r s × IsInt s) (AtMost r) (λ s. id_in (rowid r) <ℤ id_in (rowid s)) (λ s h k. rises r s h.0 ints.0 h.1 k) rows
-  (all_both (DifferIn r) IsInt (λ s. DifferIn r s × IsInt s) (λ s h k. (h, k)) rows apart.0 ints.1) low.0,
+      (all_both (DifferIn r) IsInt (λ s. DifferIn r s × IsInt s) (λ s h k. (h, k)) rows apart.0 ints.1) low.0,
   all_rise rows apart.1 ints.1 low.1,
 )
 

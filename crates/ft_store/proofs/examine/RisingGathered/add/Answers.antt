@@ -1,4 +1,4 @@
-use Rattle.std.proofs.Common.{rules, ◌<ℤ◌, ◌≡◌, FitsSigned, w64, to_z-of_z, ap, IsTrue, true≢false, sym, ◌∙◌}
+use Rattle.std.proofs.Common.{rules, ◌<ℤ◌, ◌≡◌, FitsSigned, w64, to_z-of_z, ap, true≢false, sym, ◌∙◌}
 use Rattle.sqlite.specs.declared.types.Value.TheVariants.{Int}
 use Rattle.sqlite_rules.specs.Edit.{id_in}
 use Rattle.sqlite_trees.specs.Tree.{rowid}
