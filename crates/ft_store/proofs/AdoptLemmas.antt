@@ -8,7 +8,7 @@ use Rattle.sqlite.specs.Order.{Row}
 use Rattle.sqlite_schema.specs.declared.command.Returning.{Returning}
 use Rattle.sqlite.specs.Clock.{timed}
 use Rattle.sqlite.specs.State.{State, Shown, ShowsRows, IsUnchanged, IsRolledBack, KeepsCommit, FailsToQuery, IsTooLate}
-use Rattle.ft_store.specs.Calls.{Keeps}
+use Rattle.ft_store.specs.Calls.{IsPlainFault, Keeps}
 use Rattle.sqlite.specs.Schema.{Schema}
 use Rattle.sqlite.specs.State.{HasCleanDisk}
 use Rattle.sqlite.specs.Store.{Ghosts}
@@ -16,7 +16,9 @@ use Rattle.sqlite.specs.Held.{Held, state}
 use Rattle.ft_store.specs.declared.fault.StoreFault.{StoreFault}
 use Rattle.ft_store.specs.Tables.{no_schema}
 use Rattle.ft_store.specs.Older.{HasStoreTables}
-use Rattle.ft_store.specs.Adopted.{Gives, version_query, IsAdoptFault, IsNotTaken}
+use Rattle.ft_store.specs.declared.fault.StoreFault.TheVariants as fault
+use Rattle.ft_store.specs.Blame.{IsBlamed, Blames}
+use Rattle.ft_store.specs.Adopted.{Gives, version_query, IsAdoptFault, IsRefusable, IsNotTaken}
 use Rattle.ft_store.specs.Settled.{IsJudged}
 use Rattle.ft_store.proofs.CallLemmas.{refused_keeps}
 
@@ -67,9 +69,10 @@ err_too (Err e) k = k
 
 pub not_taken : {S : Type 0} (g : Ghosts S) (old new : Held S) (result : Result (Unit {0}) StoreFault) → HasStoreTables old.schema
     → (HasCleanDisk (state g new) → OnErr result (Keeps (state g old) (state g new))) → new.in_transaction ≡ false → IfErr result IsAdoptFault
-    → (HasCleanDisk (state g new) → IsJudged (state g old).now.trees result) → IfErr result (IsNotTaken g old new)
-not_taken g old new (Ok done) tables kept settled kind judged = tt
-not_taken g old new (Err e) tables kept settled kind judged = record {
+    → (HasCleanDisk (state g new) → IsJudged (state g old).now.trees result) → (HasCleanDisk (state g new) → result ≡ Err fault.Refused → IsBlamed (state g old) (state g new) ⊎ IsRefusable g old)
+    → IfErr result (IsNotTaken g old new)
+not_taken g old new (Ok done) tables kept settled kind judged blames = tt
+not_taken g old new (Err e) tables kept settled kind judged blames = record {
   kept = kept;
   settled = settled;
   kind = kind;
@@ -78,4 +81,20 @@ not_taken g old new (Err e) tables kept settled kind judged = record {
   version = λ clean n ours is. (judged clean).version n (ap Err is);
   other = λ some others unnamed. absurd (others tables);
   told = λ clean some others named. absurd (others tables);
+  blames = λ clean is. blames clean (ap Err is);
+}
+
+pub not_made : {S : Type 0} (g : Ghosts S) (old new : Held S) (result : Result (Unit {0}) StoreFault) → old.schema ≡ no_schema
+    → (HasCleanDisk (state g new) → OnErr result (Keeps (state g old) (state g new))) → new.in_transaction ≡ false → IfErr result IsPlainFault → Blames (state g old) (state g new) result → IfErr result (IsNotTaken g old new)
+not_made g old new (Ok done) bare kept settled plain blames = tt
+not_made g old new (Err e) bare kept settled plain blames = record {
+  kept = kept;
+  settled = settled;
+  kind = inl plain;
+  bare = λ none. plain;
+  unmarked = λ clean tables is. absurd (not_bare old.schema tables bare);
+  version = λ clean n tables is. absurd (not_bare old.schema tables bare);
+  other = λ some others unnamed. absurd (some bare);
+  told = λ clean some others named. absurd (some bare);
+  blames = λ clean is. inl (blames clean (ap Err is));
 }

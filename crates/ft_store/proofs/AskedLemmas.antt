@@ -1,5 +1,5 @@
 -- A query of a store is refused only by what lies outside it.
-use Rattle.std.proofs.Common.{cond, ◌≡◌, ◌≢◌, ◌∙◌, ◌⊎◌, ◌++◌, ◌∷◌, ◌<◌, ℕ, ℤ, ◌&&◌, Bool, true, false, not, nat_eq, nat_lt, List, [], length, map, Option, Some, None, Result, Ok, Err, inl, inr, refl, sym, ap, subst, arith, IsTrue, true≢false, append-nil, All}
+use Rattle.std.proofs.Common.{cond, ◌≡◌, ◌≢◌, ◌∙◌, ◌⊎◌, ◌++◌, ◌∷◌, ◌<◌, ℕ, ℤ, Bool, true, false, not, List, [], length, map, Option, Some, None, Ok, inl, inr, refl, sym, ap, subst, arith, IsTrue, true≢false, append-nil, All}
 use Rattle.std.specs.Prelude.{IsSome, unwrap_or}
 use Rattle.std.specs.List.{AllByRecursion, list_all}
 use Rattle.std.proofs.lemmas.Bool.{eqb-true, ltb-false}
@@ -8,6 +8,7 @@ use Rattle.sqlite.specs.declared.types.Value.TheVariants.{Null, Int, Text}
 use Rattle.std.proofs.lemmas.List.Elements.{All-from_recursion, All-take, All-drop, All-map, All-weaker}
 use Rattle.std.proofs.lemmas.List.Sorted.{All-permutation}
 use Rattle.sqlite.specs.Order.{Row, column}
+use Rattle.sqlite.specs.Schema.{Schema}
 use Rattle.sqlite.specs.Tree.{Trees}
 use Rattle.sqlite.specs.Term.{Term, holds}
 use Rattle.sqlite_sql.specs.Term.{eval}
@@ -15,7 +16,7 @@ use Rattle.sqlite.specs.Query.{Query, Output, output, IsAnswer, as_count, limite
 use Rattle.sqlite_sql.proofs.QueryLemmas.{no_fold_overflows}
 use Rattle.sqlite.specs.Program.{overlay}
 use Rattle.sqlite.specs.Command.TheVariants.{Select}
-use Rattle.sqlite.specs.Effect.{Database, RefusesToRead, RefusesQuery, IsShown}
+use Rattle.sqlite.specs.Effect.{Database, RefusesToRead, RefusesQuery}
 use Rattle.sqlite.specs.Listing.{understood, reads_listing, IsSourceOf}
 use Rattle.sqlite.specs.State.{State, IsNoStatement, IsNotRun}
 use Rattle.sqlite.proofs.Callers.{IsPlain, command_of, begins_as}
@@ -23,8 +24,7 @@ use Rattle.sqlite.specs.declared.error.Error.{Error}
 use Rattle.sqlite.specs.declared.error.Error.TheVariants.{SqliteFailure}
 use Rattle.sqlite.specs.declared.error.ErrorCode.TheVariants as code
 use Rattle.ft_store.proofs.BlameLemmas.{fails_blamed}
-use Rattle.sqlite_resolve.specs.declared.compiled.Compiled.{Compiled}
-use Rattle.sqlite_resolve.specs.declared.error.CompileError.{CompileError}
+pub use Rattle.ft_store.specs.Made.{is_whole, IsTypedIn}
 use Rattle.sqlite_value.specs.declared.keys.Key.{Key}
 use Rattle.sqlite_keyed.proofs.ListLemmas.{all_map, all-filter, all_weaker, all_both, all_unmap}
 use Rattle.sqlite_keyed.proofs.SortLemmas.{IsPermutation-sort_by}
@@ -56,21 +56,16 @@ use Rattle.sqlite.specs.Values.{IsInt}
 use Rattle.sqlite_rules.specs.Edit.{id_in}
 use Rattle.ft_store.proofs.SelectLemmas.{arranged}
 
--- the text is all of one statement with so many parameters
-abbrev pub is_whole : List ℕ → ℕ → Result Compiled CompileError → Bool
-is_whole sql count (Ok c) = not (nat_lt c.tail (length sql)) && nat_eq count (length c.names)
-is_whole sql count (Err e) = false
-
 not_true : (b : Bool) → not b ≡ true → b ≡ false
 not_true true h = sym h
 not_true false h = refl
 
 -- the text is a statement of a store
-pub is_statement : (old : State) (sql : List ℕ) (params : Row) → old.now.schema ≡ store_schema → IsPlain (understood store_schema sql) → is_whole sql (length params) (understood store_schema sql) ≡ true
+pub is_statement : {schema : Schema} (old : State) (sql : List ℕ) (params : Row) → old.now.schema ≡ schema → IsPlain (understood schema sql) → is_whole sql (length params) (understood schema sql) ≡ true
     → (e : Error) → ¬ IsNoStatement old sql params e
 is_statement old sql params has plain whole e (inl none) = subst IsPlain (sym (ap (λ s. understood s sql) has) ∙ none.1) plain
 is_statement old sql params has plain whole e (inr (c, known, why)) =
-    let here : understood store_schema sql ≡ Ok c = sym (ap (λ s. understood s sql) has) ∙ known in
+    let here = sym (ap (λ s. understood s sql) has) ∙ known in
     let tells = subst (λ r. is_whole sql (length params) r ≡ true) here whole in
     elim why [
       | inl tail ↦ let long = ltb-false c.tail (length sql) (not_true _ (and_first _ _ tells)) in tail.0 (omega (arith, long))
@@ -78,13 +73,13 @@ is_statement old sql params has plain whole e (inr (c, known, why)) =
       | inr (inr clock) ↦ clock.0 (subst IsPlain here plain).1
     ]
 
--- the values that are bound to the query are of types that it takes
+-- the same of a store
 abbrev pub IsTyped : Query → Row → Type 0
-IsTyped q params = (db : Database) → db.schema ≡ store_schema → ¬ IsShown (λ (r : Row). r) db (record { lets = []; body = q }) params None
+IsTyped q params = IsTypedIn store_schema q params
 
 -- such a query on one table is refused only by a limit on steps
-pub table_limited : (tree : ℕ) (terms : List Term) (show : List ℕ) (order : List (Term × Key)) (limit offset : Term) (params : Row) → IsTyped (record (query_by tree terms show order limit) { offset = offset }) params
-    → (most : Option ℕ) (db : Database) (e : Error) → db.schema ≡ store_schema → RefusesQuery most db (record { lets = []; body = record (query_by tree terms show order limit) { offset = offset } }) params e → IsSome most
+pub table_limited : {schema : Schema} (tree : ℕ) (terms : List Term) (show : List ℕ) (order : List (Term × Key)) (limit offset : Term) (params : Row) → IsTypedIn schema (record (query_by tree terms show order limit) { offset = offset }) params
+    → (most : Option ℕ) (db : Database) (e : Error) → db.schema ≡ schema → RefusesQuery most db (record { lets = []; body = record (query_by tree terms show order limit) { offset = offset } }) params e → IsSome most
 table_limited tree terms show order limit offset params typed most db e has (inl bad) = absurd (typed db has bad.1)
 table_limited tree terms show order limit offset params typed most db e has (inr (inl over)) =
     absurd (elim over.1 [ inl grouped ↦ grouped | inr folded ↦ no_fold_overflows (overlay db.trees []) (inner tree end) (params ∷ []) refl folded ])
@@ -119,9 +114,9 @@ module _ (db : Trees) (tree : ℕ) (P : Row → Type 0) (each : AllByRecursion P
       (All-weaker IsOut (λ o. IsShownBy o.1) (λ o h. (h.0, h.1, ap (λ (u : Output). u.1) h.2)) answer.ordered (outs _ (unpaged rows answer))))))
 
 -- where each row that is shown can be taken, each that is given is
-pub taken : (old : State) (sql : List ℕ) (params : Row) (names : List (List ℕ)) (tree : ℕ) (terms : List Term) (show : List ℕ) (order : List (Term × Key)) (limit offset : Term)
-    → old.now.schema ≡ store_schema → command_of (understood store_schema sql) ≡ Select (record { lets = []; body = record (query_by tree terms show order limit) { offset = offset } }) names → IsPlain (understood store_schema sql)
-    → reads_listing store_schema sql ≡ false → (P : Row → Type 0) → AllByRecursion P (overlay old.now.trees [] tree) → (Takes : Row → Type 0)
+pub taken : {schema : Schema} (old : State) (sql : List ℕ) (params : Row) (names : List (List ℕ)) (tree : ℕ) (terms : List Term) (show : List ℕ) (order : List (Term × Key)) (limit offset : Term)
+    → old.now.schema ≡ schema → command_of (understood schema sql) ≡ Select (record { lets = []; body = record (query_by tree terms show order limit) { offset = offset } }) names → IsPlain (understood schema sql)
+    → reads_listing schema sql ≡ false → (P : Row → Type 0) → AllByRecursion P (overlay old.now.trees [] tree) → (Takes : Row → Type 0)
     → ((r : Row) → P r → Takes (output (query_by tree terms show order limit) (params ∷ r ∷ [])).1) → ¬ GivesUntaken old sql params Takes
 taken old sql params names tree terms show order limit offset has is plain unlisted P each Takes takes (rows, row, begins, untaken) =
     let first = begins_as sql params old old old.now.schema refl _ (ap (λ s. command_of (understood s sql)) has ∙ is) (subst (λ s. IsPlain (understood s sql)) (sym has) plain) (ap (λ s. reads_listing s sql) has ∙ unlisted) (rows ++ row ∷ []) begins in
@@ -136,33 +131,41 @@ taken old sql params names tree terms show order limit offset has is plain unlis
 abbrev pub OnlyBlamed : State → State → List ℕ → Row → (Row → Type 0) → Type 0
 OnlyBlamed old new sql params Takes = (IsTrue old.is_open → IsStore old.now) → IsBlamed old new ⊎ (IsUnasked old sql params ⊎ GivesUntaken old sql params Takes) → IsBlamed old new
 
+-- why a query on one table is refused: by what lies outside the database, or since a row of the table can't be taken
+module _ {schema : Schema} (old new : State) (has : IsTrue old.is_open → old.now.schema ≡ schema) (sql : List ℕ) (params : Row) (names : List (List ℕ)) (tree : ℕ) (terms : List Term) (show : List ℕ) (order : List (Term × Key)) (limit offset : Term)
+    (is : command_of (understood schema sql) ≡ Select (record { lets = []; body = record (query_by tree terms show order limit) { offset = offset } }) names) (plain : IsPlain (understood schema sql)) (unlisted : reads_listing schema sql ≡ false)
+    (whole : is_whole sql (length params) (understood schema sql) ≡ true) (typed : IsTypedIn schema (record (query_by tree terms show order limit) { offset = offset }) params)
+    (P : Row → Type 0) (Takes : Row → Type 0) (takes : (r : Row) → P r → Takes (output (query_by tree terms show order limit) (params ∷ r ∷ [])).1) where
+  asked : old.now.schema ≡ schema → IsUnasked old sql params → IsSome old.step_limit
+  asked has (e, inl none) = absurd (is_statement old sql params has plain whole e none)
+  asked has (e, inr (c, it, db, source, refuses)) =
+      let here : understood schema sql ≡ Ok c = sym (ap (λ s. understood s sql) has) ∙ it.is in
+      let bare = subst IsPlain here plain in
+      let command = sym (ap command_of here) ∙ is in
+      let same : db ≡ old.now = subst (λ b. IsSourceOf b old.now db) (ap (λ s. reads_listing s sql) has ∙ unlisted) source in
+      table_limited tree terms show order limit offset params typed old.step_limit db e (ap (λ (d : Database). d.schema) same ∙ has) (subst (λ k. RefusesToRead old.step_limit k db params e) command (rw (bare.1, append-nil params) at refuses))
+
+  pub query_refused : IsBlamed old new ⊎ (IsUnasked old sql params ⊎ GivesUntaken old sql params Takes) → IsBlamed old new ⊎ (IsTrue old.is_open × ¬ AllByRecursion P (overlay old.now.trees [] tree))
+  query_refused why = by_open old.is_open refl
+    where
+      by_open : (o : Bool) → old.is_open ≡ o → IsBlamed old new ⊎ (IsTrue old.is_open × ¬ AllByRecursion P (overlay old.now.trees [] tree))
+      by_open false is_shut = inl (inr (inl is_shut))
+      by_open true is_open = elim why [
+        | inl blamed ↦ inl blamed
+        | inr (inl unasked) ↦ inl (inr (inr (asked (has is_open) unasked)))
+        | inr (inr untaken) ↦ inr (is_open, λ each. taken old sql params names tree terms show order limit offset (has is_open) is plain unlisted P each Takes takes untaken)
+      ]
+
 -- why a query on one table of an open store is refused: by what lies outside it
 module _ (old new : State) (store : IsTrue old.is_open → IsStore old.now) (sql : List ℕ) (params : Row) (names : List (List ℕ)) (tree : ℕ) (terms : List Term) (show : List ℕ) (order : List (Term × Key)) (limit offset : Term)
     (is : command_of (understood store_schema sql) ≡ Select (record { lets = []; body = record (query_by tree terms show order limit) { offset = offset } }) names) (plain : IsPlain (understood store_schema sql)) (unlisted : reads_listing store_schema sql ≡ false)
     (whole : is_whole sql (length params) (understood store_schema sql) ≡ true) (typed : IsTyped (record (query_by tree terms show order limit) { offset = offset }) params)
     (P : Row → Type 0) (each : IsStore old.now → AllByRecursion P (overlay old.now.trees [] tree)) (Takes : Row → Type 0)
     (takes : (r : Row) → P r → Takes (output (query_by tree terms show order limit) (params ∷ r ∷ [])).1) where
-  asked : old.now.schema ≡ store_schema → IsUnasked old sql params → IsSome old.step_limit
-  asked has (e, inl none) = absurd (is_statement old sql params has plain whole e none)
-  asked has (e, inr (c, it, db, source, refuses)) =
-      let here : understood store_schema sql ≡ Ok c = sym (ap (λ s. understood s sql) has) ∙ it.is in
-      let bare = subst IsPlain here plain in
-      let command = sym (ap command_of here) ∙ is in
-      let same : db ≡ old.now = subst (λ b. IsSourceOf b old.now db) (ap (λ s. reads_listing s sql) has ∙ unlisted) source in
-      table_limited tree terms show order limit offset params typed old.step_limit db e (ap (λ (d : Database). d.schema) same ∙ has) (subst (λ k. RefusesToRead old.step_limit k db params e) command (rw (bare.1, append-nil params) at refuses))
-
   pub query_only : IsBlamed old new ⊎ (IsUnasked old sql params ⊎ GivesUntaken old sql params Takes) → IsBlamed old new
-  query_only why = by_open old.is_open refl
-    where
-      by_open : (o : Bool) → old.is_open ≡ o → IsBlamed old new
-      by_open false is_shut = inr (inl is_shut)
-      by_open true is_open =
-          let kept = store is_open in
-          elim why [
-            | inl blamed ↦ blamed
-            | inr (inl unasked) ↦ inr (inr (asked kept.schema unasked))
-            | inr (inr untaken) ↦ absurd (taken old sql params names tree terms show order limit offset kept.schema is plain unlisted P (each kept) Takes takes untaken)
-          ]
+  query_only why =
+      elim (query_refused old new (λ is_open. (store is_open).schema) sql params names tree terms show order limit offset is plain unlisted whole typed P Takes takes why)
+      [ inl blamed ↦ blamed | inr untaken ↦ absurd (untaken.1 (each (store untaken.0))) ]
 
 -- ---- the queries
 

@@ -9,7 +9,9 @@ pub mod ChainLemmas
 pub mod ChangeLemmas
 pub mod DocidLemmas
 pub mod EntryLemmas
+pub mod ExamineLemmas
 pub mod ExpectedLemmas
+pub mod ForeignLemmas
 pub mod FoundLemmas
 mod FoundNumbers
 pub mod GroupLemmas
@@ -17,6 +19,7 @@ pub mod InsideLemmas
 pub mod KeyedLemmas
 pub mod LastLemmas
 pub mod MakeLemmas
+pub mod MarkLemmas
 pub mod MigrateLemmas
 pub mod NamedLemmas
 pub mod OrderLemmas

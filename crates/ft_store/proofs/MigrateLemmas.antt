@@ -1,5 +1,5 @@
 -- How a store of version 2 becomes one of version 3.
-use Rattle.std.proofs.Common.{◌≡◌, ℕ, List, [], ◌∷◌, map, filter, not, Ok, refl, sym, ap, ◌∙◌, subst}
+use Rattle.std.proofs.Common.{◌≡◌, ◌≢◌, inl, true, IsTrue, true≢false, Err, ℕ, List, [], ◌∷◌, map, filter, not, Ok, refl, sym, ap, ◌∙◌, subst}
 use Rattle.std.specs.List.{AllByRecursion, list_all}
 use Rattle.std.specs.Ordering.{int_cmp}
 use Rattle.sqlite.specs.Order.{Row}
@@ -19,23 +19,28 @@ use Rattle.ft_store.specs.Tables.{store_schema, meta_table, skip_table}
 use Rattle.ft_rows.specs.Store.{cell_key_cmp, list_key_cmp, column_key_cmp, name_cmp}
 use Rattle.ft_store.specs.Rows.{keyed, table_entry, column_entry, skip_entry, cell_entry, list_entry, size_entry, note_entry, value_of}
 use Rattle.ft_store.specs.Calls.{HasOwnRowids, AreNumbered}
-use Rattle.ft_store.specs.Made.{Makes, IsTabled, IsUnmarked}
+use Rattle.ft_store.specs.Made.{IsTabled, IsUnmarked, is_whole}
 use Rattle.ft_store.specs.Older.{older_schema, older_value, IsStoreBy, IsOlder}
 use Rattle.ft_store.proofs.TextLemmas.{table_query}
 use Rattle.ft_store.proofs.Texts.{make_skip_text, unmark_text}
 use Rattle.ft_store.proofs.ChangeLemmas.{deletes}
-use Rattle.ft_store.proofs.MakeLemmas.{creates}
+use Rattle.sqlite.specs.State.{ExecutesInside}
+use Rattle.sqlite.specs.declared.error.Error.{Error}
+use Rattle.sqlite.specs.declared.error.Error.TheVariants.{SqliteFailure}
+use Rattle.sqlite.specs.declared.error.ErrorCode.TheVariants as code
+use Rattle.ft_store.specs.Blame.{IsBlamed}
+use Rattle.ft_store.proofs.MakeLemmas.{creates, create_blamed, makes_skip, allows_skip}
+use Rattle.ft_store.proofs.RefusedLemmas.{delete_blamed_in}
 use Rattle.ft_store.proofs.StepLemmas.{shaped_after, same_rows, same_value}
 
 -- ---- the table that is added
 
-makes_skip : Makes older_schema make_skip_text (skip_table 0)
-unfolding understood everything Rattle.std.specs.Fmt.digits
-makes_skip = record { command = refl; plain = (refl, refl); whole = refl; defined = refl; uncounted = refl }
-
 with_skip : created older_schema (skip_table 0) ≡ store_schema
 unfolding Rattle.std.specs.Fmt.digits
 with_skip = refl
+
+pub add_blamed : (old new : State) → (IsTrue old.is_open → IsStoreBy Older old.now) → (e : Error) → e ≢ SqliteFailure code.OutOfMemory → ExecutesInside 0 make_skip_text [] old new (Err e) → IsBlamed old new
+add_blamed old new was = create_blamed old new older_schema make_skip_text (skip_table 0) makes_skip allows_skip (λ is_open. (was is_open).schema)
 
 pub adds : (old new : State) (count : ℕ) → IsStoreBy Older old.now → Executes make_skip_text [] old new (Ok count) → IsTabled new.now × (value_of new.now.trees ≡ older_value old.now.trees)
 adds old new count was h =
@@ -63,6 +68,14 @@ unmark_is = refl
 unmark_plain : IsPlain (understood store_schema unmark_text)
 unfolding understood everything
 unmark_plain = (refl, refl)
+
+unmark_whole : is_whole unmark_text 0 (understood store_schema unmark_text) ≡ true
+unfolding understood everything
+unmark_whole = refl
+
+pub unmark_blamed : (old new : State) → (IsTrue old.is_open → IsTabled old.now) → (e : Error) → e ≢ SqliteFailure code.OutOfMemory → ExecutesInside 0 unmark_text [] old new (Err e) → IsBlamed old new
+unmark_blamed old new was =
+    delete_blamed_in old new unmark_text [] 0 (meta_table 0) [] unmark_is unmark_plain unmark_whole refl (inl refl) (λ db. refl) (λ db has no. true≢false (rw has at no)) (λ is_open. let kept = was is_open in (kept.schema, kept.sound))
 
 none_of : (rows : List Row) → filter (λ r. not (list_all (holds ([] ∷ r ∷ [])) [])) rows ≡ []
 none_of [] = refl

@@ -2,13 +2,14 @@
 use Rattle.std.proofs.Common.{◌≡◌, ◌≢◌, ◌∙◌, ◌∷◌, ◌||◌, ◌⊎◌, ℕ, zero, suc, ℤ, Bool, true, false, not, nat_lt, List, [], length, Option, Some, None, Ok, Err, inl, inr, refl, sym, ap, subst, arith, IsTrue, true≢false, append-nil, length-append, slice_get, ne_eqb, eq-eqb}
 use Rattle.std.specs.Prelude.{IsSome}
 use Rattle.sqlite.specs.Order.{Row}
+use Rattle.sqlite.specs.Schema.{Schema}
 use Rattle.sqlite.specs.Tree.{Trees}
 use Rattle.sqlite.specs.Table.{Table}
 use Rattle.sqlite.specs.Term.{Term}
 use Rattle.sqlite_trees.specs.Tree.{IsAscending, with_tree}
 use Rattle.sqlite.specs.Command.{Command}
 use Rattle.sqlite.specs.Command.TheVariants.{Delete}
-use Rattle.sqlite.specs.Effect.{is_query}
+use Rattle.sqlite.specs.Effect.{IsDatabase, is_query}
 use Rattle.sqlite.specs.Listing.{understood}
 use Rattle.sqlite.specs.Rows.{Task, Queried}
 use Rattle.sqlite.specs.Does.{Does, OnRows, AtPlace, due}
@@ -49,7 +50,8 @@ use Rattle.sqlite.specs.Calls.{IsWrite}
 use Rattle.sqlite_tied.specs.Compute.{everything}
 use Rattle.sqlite.specs.declared.types.Value.TheVariants.{Int, Text}
 use Rattle.ft_store.proofs.BlameLemmas.{fails_blamed}
-use Rattle.ft_store.proofs.AskedLemmas.{is_whole, is_statement, IsTyped, table_limited}
+use Rattle.ft_store.specs.Made.{is_whole, statement_of}
+use Rattle.ft_store.proofs.AskedLemmas.{is_statement, IsTyped, table_limited}
 
 -- ---- any statement
 
@@ -72,16 +74,20 @@ RunOnlyBlamed old new sql params = (IsTrue old.is_open → IsStore old.now) → 
 abbrev pub CantDo : State → Row → Command → Type 0
 CantDo s params command = (text : List ℕ) × (stop : Option Error) × Does s.step_limit (mode_of s) params s.now text None command (Err stop)
 
+-- so it is with the text of the statement
+abbrev pub CantDoAs : State → Row → Command → List ℕ → Type 0
+CantDoAs s params command text = (stop : Option Error) × Does s.step_limit (mode_of s) params s.now text None command (Err stop)
+
 -- why a statement that writes is refused
-module _ (old new : State) (sql : List ℕ) (params : Row) (has : old.now.schema ≡ store_schema) (command : Command) (is : command_of (understood store_schema sql) ≡ command) (plain : IsPlain (understood store_schema sql))
-    (whole : is_whole sql (length params) (understood store_schema sql) ≡ true) (writes : IsWrite command) (quiet : (is_query command || (is_pragma command || false)) ≡ false) where
+module _ {schema : Schema} (old new : State) (sql : List ℕ) (params : Row) (has : old.now.schema ≡ schema) (command : Command) (is : command_of (understood schema sql) ≡ command) (plain : IsPlain (understood schema sql))
+    (whole : is_whole sql (length params) (understood schema sql) ≡ true) (writes : IsWrite command) (quiet : (is_query command || (is_pragma command || false)) ≡ false) where
   is_other : (k : Command) → command ≡ k → (IsWrite k → ⊥) → ⊥
   is_other k same not = not (subst IsWrite same writes)
 
-  pub write_refused : (e : Error) → e ≢ SqliteFailure code.OutOfMemory → ExecutesInside 0 sql params old new (Err e) → IsBlamed old new ⊎ CantDo old params command
+  pub write_refused_as : (e : Error) → e ≢ SqliteFailure code.OutOfMemory → ExecutesInside 0 sql params old new (Err e) → IsBlamed old new ⊎ CantDoAs old params command (statement_of sql (understood schema sql))
   unfolding ExecutesIn IsNotRun EndsScope
-  write_refused e other (inr ((c, it, escapes), error, same)) =
-      let here : understood store_schema sql ≡ Ok c = sym (ap (λ s. understood s sql) has) ∙ it.is in
+  write_refused_as e other (inr ((c, it, escapes), error, same)) =
+      let here : understood schema sql ≡ Ok c = sym (ap (λ s. understood s sql) has) ∙ it.is in
       let k : command ≡ c.command = sym is ∙ ap command_of here in
       absurd (elim escapes [
         | inl (inl a) ↦ is_other _ (k ∙ a) (λ w. w)
@@ -89,27 +95,33 @@ module _ (old new : State) (sql : List ℕ) (params : Row) (has : old.now.schema
         | inr (name, inl a, held) ↦ is_other _ (k ∙ a) (λ w. w)
         | inr (name, inr a, held) ↦ is_other _ (k ∙ a) (λ w. w)
       ])
-  write_refused e other (inl (inl (inl none), kept)) = absurd (is_statement old sql params has plain whole e none.0)
-  write_refused e other (inl (inl (inr fails), kept)) = inl (fails_blamed old new e other fails)
-  write_refused e other (inl (inr (c, it, alone), kept)) =
-      let here : understood store_schema sql ≡ Ok c = sym (ap (λ s. understood s sql) has) ∙ it.is in
+  write_refused_as e other (inl (inl (inl none), kept)) = absurd (is_statement old sql params has plain whole e none.0)
+  write_refused_as e other (inl (inl (inr fails), kept)) = inl (fails_blamed old new e other fails)
+  write_refused_as e other (inl (inr (c, it, alone), kept)) =
+      let here : understood schema sql ≡ Ok c = sym (ap (λ s. understood s sql) has) ∙ it.is in
       let same : c.command ≡ command = ap command_of (sym here) ∙ is in
       let bare = subst IsPlain here plain in
+      let text : text_of sql c ≡ statement_of sql (understood schema sql) = ap (statement_of sql) (sym here) in
+      let cant : (stop : Option Error) → Does old.step_limit (mode_of old) params old.now (text_of sql c) None command (Err stop) → IsBlamed old new ⊎ CantDoAs old params command (statement_of sql (understood schema sql)) =
+      λ stop does. inr (stop, subst (λ t. Does old.step_limit (mode_of old) params old.now t None command (Err stop)) text does) in
       elim (rw (same, bare.0, bare.1, append-nil params, quiet) at alone) [
         | inl (inl misplaced, kept) ↦ absurd (elim misplaced [
           | inl a ↦ elim a.1 [ inl b ↦ is_other _ b.0 (λ w. w) | inr b ↦ elim b.0 [ inl k ↦ is_other _ k (λ w. w) | inr k ↦ is_other _ k (λ w. w) ] ]
           | inr a ↦ elim a.2 [ inl k ↦ is_other _ k (λ w. w) | inr k ↦ is_other _ k (λ w. w) ]
         ])
-        | inl (inr does, kept) ↦ inr (text_of sql c, Some e, does.1)
-        | inr fails ↦ fails_unless old new e _ _ (λ b. inl b) (λ big. inr (text_of sql c, None, big)) other fails
+        | inl (inr does, kept) ↦ cant (Some e) does.1
+        | inr fails ↦ fails_unless old new e _ _ (λ b. inl b) (cant None) other fails
       ]
+
+  pub write_refused : (e : Error) → e ≢ SqliteFailure code.OutOfMemory → ExecutesInside 0 sql params old new (Err e) → IsBlamed old new ⊎ CantDo old params command
+  write_refused e other ran = elim (write_refused_as e other ran) [ inl blamed ↦ inl blamed | inr cant ↦ inr (_, cant.0, cant.1) ]
 
 -- ---- DELETE
 
-apart : IsAscending (λ (a b : Table). a.tree ≡ b.tree → ⊥) store_schema.tables
+pub apart : IsAscending (λ (a b : Table). a.tree ≡ b.tree → ⊥) store_schema.tables
 apart = ((λ e. omega (arith, e), (λ e. omega (arith, e), (λ e. omega (arith, e), (λ e. omega (arith, e), (λ e. omega (arith, e), (λ e. omega (arith, e), (λ e. omega (arith, e), tt))))))), ((λ e. omega (arith, e), (λ e. omega (arith, e), (λ e. omega (arith, e), (λ e. omega (arith, e), (λ e. omega (arith, e), (λ e. omega (arith, e), tt)))))), ((λ e. omega (arith, e), (λ e. omega (arith, e), (λ e. omega (arith, e), (λ e. omega (arith, e), (λ e. omega (arith, e), tt))))), ((λ e. omega (arith, e), (λ e. omega (arith, e), (λ e. omega (arith, e), (λ e. omega (arith, e), tt)))), ((λ e. omega (arith, e), (λ e. omega (arith, e), (λ e. omega (arith, e), tt))), ((λ e. omega (arith, e), (λ e. omega (arith, e), tt)), ((λ e. omega (arith, e), tt), (tt, tt))))))))
 
-refers : (among : Among) (db : Trees) → Refers among store_schema db
+pub refers : (among : Among) (db : Trees) → Refers among store_schema db
 refers among db = (all_of _ (λ r. refl) (db 0), (all_of _ (λ r. refl) (db 1), (all_of _ (λ r. refl) (db 3), (all_of _ (λ r. refl) (db 5), (all_of _ (λ r. refl) (db 7), (all_of _ (λ r. refl) (db 9), (all_of _ (λ r. refl) (db 11), (all_of _ (λ r. refl) (db 13), tt))))))))
 
 module _ (db : Trees) (sound : IsSound store_schema db) (table : Table) (listed : Has store_schema.tables table) (unique : (new : Trees) → are_unique store_schema.indexes new table [] ≡ true) (ids : List ℤ) where
@@ -165,14 +177,14 @@ module _ (old new : State) (sql : List ℕ) (params : Row) (at : ℕ) (table : T
   queried typed trees None h = absurd h
   queried typed trees (Some e) h = table_limited table.tree terms (0 ∷ []) [] no_limit no_offset params typed old.step_limit (record { schema = store_schema; trees = trees }) e refl h
 
-  delete_limited : IsStore old.now → slice_get store_schema.tables at ≡ Some table → Has store_schema.tables table → ((new : Trees) → are_unique store_schema.indexes new table [] ≡ true) → IsTyped the_query params
+  delete_limited : old.now.schema ≡ store_schema → IsDatabase old.now → slice_get store_schema.tables at ≡ Some table → Has store_schema.tables table → ((new : Trees) → are_unique store_schema.indexes new table [] ≡ true) → IsTyped the_query params
       → CantDo old params (Delete at (record { lets = []; body = the_query })) → IsSome old.step_limit
-  delete_limited store found listed unique typed (text, stop, does) =
+  delete_limited has kept found listed unique typed (text, stop, does) =
       let db = old.now.trees in
       let command = Delete at (record { lets = []; body = the_query }) in
-      let sound : IsSound store_schema db = subst (λ c. IsSound c db) store.schema store.sound in
+      let sound : IsSound store_schema db = subst (λ c. IsSound c db) has kept in
       let task : Task = record { limit = old.step_limit; keys = (mode_of old).keys; schema = store_schema; table = table; params = params } in
-      let begun = subst (λ c. Does old.step_limit (mode_of old) params (record old.now { schema = c }) text None command (Err stop)) store.schema does in
+      let begun = subst (λ c. Does old.step_limit (mode_of old) params (record old.now { schema = c }) text None command (Err stop)) has does in
       let on : OnRows task (mode_of old) None command db (Err stop) = subst (λ o. AtPlace (λ t. OnRows (record task { table = t }) (mode_of old) None command db) o (Err stop)) found begun in
       elim on [
         | inl writes ↦ elim writes.1 [
@@ -191,15 +203,23 @@ module _ (old new : State) (sql : List ℕ) (params : Row) (at : ℕ) (table : T
         ])
       ]
 
-  pub delete_blamed : command_of (understood store_schema sql) ≡ Delete at (record { lets = []; body = the_query }) → IsPlain (understood store_schema sql) → is_whole sql (length params) (understood store_schema sql) ≡ true
-      → slice_get store_schema.tables at ≡ Some table → Has store_schema.tables table → ((new : Trees) → are_unique store_schema.indexes new table [] ≡ true) → IsTyped the_query params → RunOnlyBlamed old new sql params
-  delete_blamed is plain whole found listed unique typed store (e, other, ran) = by_open old.is_open refl
+  -- the tables of a store, whatever `meta` has
+  pub delete_blamed_in : command_of (understood store_schema sql) ≡ Delete at (record { lets = []; body = the_query }) → IsPlain (understood store_schema sql) → is_whole sql (length params) (understood store_schema sql) ≡ true
+      → slice_get store_schema.tables at ≡ Some table → Has store_schema.tables table → ((new : Trees) → are_unique store_schema.indexes new table [] ≡ true) → IsTyped the_query params
+      → (IsTrue old.is_open → (old.now.schema ≡ store_schema) × IsDatabase old.now) → (e : Error) → e ≢ SqliteFailure code.OutOfMemory → ExecutesInside 0 sql params old new (Err e) → IsBlamed old new
+  delete_blamed_in is plain whole found listed unique typed store e other ran = by_open old.is_open refl
     where
       by_open : (o : Bool) → old.is_open ≡ o → IsBlamed old new
       by_open false shut = inr (inl shut)
       by_open true is_open =
           let kept = store is_open in
-          elim (write_refused old new sql params kept.schema _ is plain whole tt refl e other ran) [ inl blamed ↦ blamed | inr cant ↦ inr (inr (delete_limited kept found listed unique typed cant)) ]
+          elim (write_refused old new sql params kept.0 (Delete at (record { lets = []; body = the_query })) is plain whole tt refl e other ran)
+          [ inl blamed ↦ blamed | inr cant ↦ inr (inr (delete_limited kept.0 kept.1 found listed unique typed cant)) ]
+
+  pub delete_blamed : command_of (understood store_schema sql) ≡ Delete at (record { lets = []; body = the_query }) → IsPlain (understood store_schema sql) → is_whole sql (length params) (understood store_schema sql) ≡ true
+      → slice_get store_schema.tables at ≡ Some table → Has store_schema.tables table → ((new : Trees) → are_unique store_schema.indexes new table [] ≡ true) → IsTyped the_query params → RunOnlyBlamed old new sql params
+  delete_blamed is plain whole found listed unique typed store (e, other, ran) =
+      delete_blamed_in is plain whole found listed unique typed (λ is_open. let kept = store is_open in (kept.schema, kept.sound)) e other ran
 
 -- ---- the deletions
 

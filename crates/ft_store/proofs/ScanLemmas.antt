@@ -1,5 +1,5 @@
 -- What is seen of a database before it is taken as a store.
-use Rattle.std.proofs.Common.{◌≡◌, ◌≢◌, ℕ, ◌<◌, ◌≤◌, ℤ, true, false, cond, List, [], ◌∷◌, ◌++◌, map, length, refl, sym, ◌∙◌, subst, arith, IsTrue, IsPermutation, codes, None, Some, ◌≤ℤ◌, ◌<ℤ◌}
+use Rattle.std.proofs.Common.{◌≡◌, ◌≢◌, ℕ, zero, suc, ◌<◌, ◌≤◌, ℤ, true, false, cond, List, [], ◌∷◌, ◌++◌, map, length, refl, sym, ◌∙◌, subst, arith, IsTrue, true≢false, IsPermutation, codes, None, Some, ◌≤ℤ◌, ◌<ℤ◌}
 use Rattle.std.specs.Prelude.{Option, IfSome, nat_le, ◌-◌, ◌^◌, unwrap_or, slice_get}
 use Rattle.std.proofs.lemmas.Int.{ints}
 use Rattle.std.specs.List.{AllByRecursion}
@@ -35,42 +35,42 @@ use Rattle.ft_store.proofs.LastLemmas.{ascending-end}
 
 pub scans_meta : (layout : Layout) → Scans (schema_of layout) (codes "SELECT rowid FROM meta ORDER BY rowid") 0
 unfolding understood everything
-scans_meta Older = record { names = codes "one" ∷ []; is = refl; plain = (refl, refl); unlisted = refl }
-scans_meta Present = record { names = codes "one" ∷ []; is = refl; plain = (refl, refl); unlisted = refl }
+scans_meta Older = record { names = codes "one" ∷ []; is = refl; plain = (refl, refl); unlisted = refl; whole = refl; typed = λ db has no. true≢false (rw has at no) }
+scans_meta Present = record { names = codes "one" ∷ []; is = refl; plain = (refl, refl); unlisted = refl; whole = refl; typed = λ db has no. true≢false (rw has at no) }
 
 pub scans_tab : (layout : Layout) → Scans (schema_of layout) (codes "SELECT rowid FROM tab ORDER BY rowid") 1
 unfolding understood everything
-scans_tab Older = record { names = codes "id" ∷ []; is = refl; plain = (refl, refl); unlisted = refl }
-scans_tab Present = record { names = codes "id" ∷ []; is = refl; plain = (refl, refl); unlisted = refl }
+scans_tab Older = record { names = codes "id" ∷ []; is = refl; plain = (refl, refl); unlisted = refl; whole = refl; typed = λ db has no. true≢false (rw has at no) }
+scans_tab Present = record { names = codes "id" ∷ []; is = refl; plain = (refl, refl); unlisted = refl; whole = refl; typed = λ db has no. true≢false (rw has at no) }
 
 pub scans_col : (layout : Layout) → Scans (schema_of layout) (codes "SELECT rowid FROM col ORDER BY rowid") 3
 unfolding understood everything
-scans_col Older = record { names = codes "rowid" ∷ []; is = refl; plain = (refl, refl); unlisted = refl }
-scans_col Present = record { names = codes "rowid" ∷ []; is = refl; plain = (refl, refl); unlisted = refl }
+scans_col Older = record { names = codes "rowid" ∷ []; is = refl; plain = (refl, refl); unlisted = refl; whole = refl; typed = λ db has no. true≢false (rw has at no) }
+scans_col Present = record { names = codes "rowid" ∷ []; is = refl; plain = (refl, refl); unlisted = refl; whole = refl; typed = λ db has no. true≢false (rw has at no) }
 
 pub scans_cell : (layout : Layout) → Scans (schema_of layout) (codes "SELECT rowid FROM cell ORDER BY rowid") 5
 unfolding understood everything
-scans_cell Older = record { names = codes "rowid" ∷ []; is = refl; plain = (refl, refl); unlisted = refl }
-scans_cell Present = record { names = codes "rowid" ∷ []; is = refl; plain = (refl, refl); unlisted = refl }
+scans_cell Older = record { names = codes "rowid" ∷ []; is = refl; plain = (refl, refl); unlisted = refl; whole = refl; typed = λ db has no. true≢false (rw has at no) }
+scans_cell Present = record { names = codes "rowid" ∷ []; is = refl; plain = (refl, refl); unlisted = refl; whole = refl; typed = λ db has no. true≢false (rw has at no) }
 
 pub scans_posting : (layout : Layout) → Scans (schema_of layout) (codes "SELECT rowid FROM posting ORDER BY rowid") 7
 unfolding understood everything
-scans_posting Older = record { names = codes "rowid" ∷ []; is = refl; plain = (refl, refl); unlisted = refl }
-scans_posting Present = record { names = codes "rowid" ∷ []; is = refl; plain = (refl, refl); unlisted = refl }
+scans_posting Older = record { names = codes "rowid" ∷ []; is = refl; plain = (refl, refl); unlisted = refl; whole = refl; typed = λ db has no. true≢false (rw has at no) }
+scans_posting Present = record { names = codes "rowid" ∷ []; is = refl; plain = (refl, refl); unlisted = refl; whole = refl; typed = λ db has no. true≢false (rw has at no) }
 
 pub scans_sizes : (layout : Layout) → Scans (schema_of layout) (codes "SELECT rowid FROM sizes ORDER BY rowid") 9
 unfolding understood everything
-scans_sizes Older = record { names = codes "rowid" ∷ []; is = refl; plain = (refl, refl); unlisted = refl }
-scans_sizes Present = record { names = codes "rowid" ∷ []; is = refl; plain = (refl, refl); unlisted = refl }
+scans_sizes Older = record { names = codes "rowid" ∷ []; is = refl; plain = (refl, refl); unlisted = refl; whole = refl; typed = λ db has no. true≢false (rw has at no) }
+scans_sizes Present = record { names = codes "rowid" ∷ []; is = refl; plain = (refl, refl); unlisted = refl; whole = refl; typed = λ db has no. true≢false (rw has at no) }
 
 pub scans_noted : (layout : Layout) → Scans (schema_of layout) (codes "SELECT rowid FROM noted ORDER BY rowid") 11
 unfolding understood everything
-scans_noted Older = record { names = codes "rowid" ∷ []; is = refl; plain = (refl, refl); unlisted = refl }
-scans_noted Present = record { names = codes "rowid" ∷ []; is = refl; plain = (refl, refl); unlisted = refl }
+scans_noted Older = record { names = codes "rowid" ∷ []; is = refl; plain = (refl, refl); unlisted = refl; whole = refl; typed = λ db has no. true≢false (rw has at no) }
+scans_noted Present = record { names = codes "rowid" ∷ []; is = refl; plain = (refl, refl); unlisted = refl; whole = refl; typed = λ db has no. true≢false (rw has at no) }
 
 scans_skip : Scans store_schema (codes "SELECT rowid FROM skip ORDER BY rowid") 13
 unfolding understood everything
-scans_skip = record { names = codes "rowid" ∷ []; is = refl; plain = (refl, refl); unlisted = refl }
+scans_skip = record { names = codes "rowid" ∷ []; is = refl; plain = (refl, refl); unlisted = refl; whole = refl; typed = λ db has no. true≢false (rw has at no) }
 
 pub scans_last : (layout : Layout) (at : ℕ) → 7 ≤ at → at < tables_of layout → Scans (schema_of layout) (codes "SELECT rowid FROM skip ORDER BY rowid") (tree_at at)
 scans_last Older at low below = absurd (omega (arith, low, below))
@@ -79,15 +79,15 @@ scans_last Present at low below = let is : at ≡ 7 = omega (arith, low, below) 
 abbrev pub version_text : List ℕ
 version_text = codes "SELECT version FROM meta"
 
-abbrev version_query : Query
+abbrev pub version_query : Query
 version_query = query_by 0 [] (2 ∷ []) [] no_limit
 
-version_is : (layout : Layout) → command_of (understood (schema_of layout) version_text) ≡ Select (record { lets = []; body = version_query }) (codes "version" ∷ [])
+pub version_is : (layout : Layout) → command_of (understood (schema_of layout) version_text) ≡ Select (record { lets = []; body = version_query }) (codes "version" ∷ [])
 unfolding understood everything
 version_is Older = refl
 version_is Present = refl
 
-version_unlisted : (layout : Layout) → reads_listing (schema_of layout) version_text ≡ false
+pub version_unlisted : (layout : Layout) → reads_listing (schema_of layout) version_text ≡ false
 unfolding understood everything
 version_unlisted Older = refl
 version_unlisted Present = refl
@@ -124,12 +124,12 @@ module _ {X Y : Type 0} (f : X → Y) where
   up_to R [] h = tt
   up_to R (x ∷ xs) h = (all_to (R (f x)) xs h.0, up_to R xs h.1)
 
-  up_back : (R : Y → Y → Type 0) (xs : List X) → IsAscending R (map f xs) → IsAscending (λ a b. R (f a) (f b)) xs
+  pub up_back : (R : Y → Y → Type 0) (xs : List X) → IsAscending R (map f xs) → IsAscending (λ a b. R (f a) (f b)) xs
   up_back R [] h = tt
   up_back R (x ∷ xs) h = (all_back (R (f x)) xs h.0, up_back R xs h.1)
 
 -- rows in any order
-own_again : (xs ys : List Row) → IsPermutation (map rowid xs) (map rowid ys) → HasOwnRowids ys → HasOwnRowids xs
+pub own_again : (xs ys : List Row) → IsPermutation (map rowid xs) (map rowid ys) → HasOwnRowids ys → HasOwnRowids xs
 own_again xs ys same own =
     let m = moves (map rowid ys) (map rowid xs) (IsPermutation-sym _ _ same) in
     (up_back rowid (λ a b. a ≢ b) xs (m.differ (up_to rowid (λ a b. a ≢ b) ys own.0)), all_back rowid (λ v. IsTrue (is_int v)) xs (m.ints (all_to rowid (λ v. IsTrue (is_int v)) ys own.1)))
@@ -164,7 +164,7 @@ all_rise (Some m) rows h = (h.1, all_weaker (λ r. (n : ℤ) × (rowid r ≡ Int
 
 -- ---- what the queries answer
 
-every : (db : Trees) (tree : ℕ) (shown : List ℕ) (order : List ℕ) (rows : List Row) → IsAnswer (query_by tree [] shown (rising order) no_limit) db [] rows
+pub every : (db : Trees) (tree : ℕ) (shown : List ℕ) (order : List ℕ) (rows : List Row) → IsAnswer (query_by tree [] shown (rising order) no_limit) db [] rows
     → IsPermutation (map (λ r. (output (query_by tree [] shown (rising order) no_limit) ([] ∷ r ∷ [])).1) (db tree)) rows
 every db tree shown order rows answer =
     let q = query_by tree [] shown (rising order) no_limit in
@@ -199,3 +199,22 @@ each_numbered Older db h =
     (h 0 (omega arith), (h 1 (omega arith), (h 2 (omega arith), (h 3 (omega arith), (h 4 (omega arith), (h 5 (omega arith), (h 6 (omega arith), tt)))))))
 each_numbered Present db h =
     (h 0 (omega arith), (h 1 (omega arith), (h 2 (omega arith), (h 3 (omega arith), (h 4 (omega arith), (h 5 (omega arith), (h 6 (omega arith), (h 7 (omega arith), tt))))))))
+
+pub numbered_at : (layout : Layout) (db : Trees) (i : ℕ) → i < tables_of layout → AreNumbered (schema_of layout).tables db → HasOwnRowids (db (tree_at i))
+numbered_at Older db zero below h = h.0
+numbered_at Older db (suc zero) below h = h.1.0
+numbered_at Older db (suc (suc zero)) below h = h.1.1.0
+numbered_at Older db (suc (suc (suc zero))) below h = h.1.1.1.0
+numbered_at Older db (suc (suc (suc (suc zero)))) below h = h.1.1.1.1.0
+numbered_at Older db (suc (suc (suc (suc (suc zero))))) below h = h.1.1.1.1.1.0
+numbered_at Older db (suc (suc (suc (suc (suc (suc zero)))))) below h = h.1.1.1.1.1.1.0
+numbered_at Older db (suc (suc (suc (suc (suc (suc (suc i))))))) below h = absurd (omega (arith, below))
+numbered_at Present db zero below h = h.0
+numbered_at Present db (suc zero) below h = h.1.0
+numbered_at Present db (suc (suc zero)) below h = h.1.1.0
+numbered_at Present db (suc (suc (suc zero))) below h = h.1.1.1.0
+numbered_at Present db (suc (suc (suc (suc zero)))) below h = h.1.1.1.1.0
+numbered_at Present db (suc (suc (suc (suc (suc zero))))) below h = h.1.1.1.1.1.0
+numbered_at Present db (suc (suc (suc (suc (suc (suc zero)))))) below h = h.1.1.1.1.1.1.0
+numbered_at Present db (suc (suc (suc (suc (suc (suc (suc zero))))))) below h = h.1.1.1.1.1.1.1.0
+numbered_at Present db (suc (suc (suc (suc (suc (suc (suc (suc i)))))))) below h = absurd (omega (arith, below))

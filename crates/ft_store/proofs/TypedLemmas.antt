@@ -32,7 +32,7 @@ typed_at at (d ∷ columns) [] h i c found strict = refl
 typed_at at (d ∷ columns) (v ∷ values) h zero c found strict = let same : d ≡ c = cc in let first : suits d v ≡ true = and_first _ _ h in rw (same, strict) at first
 typed_at at (d ∷ columns) (v ∷ values) h (suc i) c found strict = typed_at (at + 1) columns values (and_second _ _ h) i c found strict
 
-is_integer : (v : Value) → is_of kind.Integer v ≡ true → is_null v ≡ false → v ≡ Int (id_in v)
+pub is_integer : (v : Value) → is_of kind.Integer v ≡ true → is_null v ≡ false → v ≡ Int (id_in v)
 is_integer Null h n = absurd (true≢false n)
 is_integer (Int m) h n = refl
 is_integer (Real x) h n = absurd (true≢false (sym h))

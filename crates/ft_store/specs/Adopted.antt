@@ -19,8 +19,11 @@ use Rattle.sqlite.specs.Held.{Held, state}
 use Rattle.std.specs.Prelude.{codes, ℕ}
 use Rattle.ft_store.specs.Tables.{no_schema, store_schema}
 use Rattle.ft_rows.specs.Store.{nothing_held}
-use Rattle.ft_store.specs.Calls.{IsPlainFault, IsStored, Keeps}
-use Rattle.ft_store.specs.Older.{older_schema, HasStoreTables, IsOlder, older_value}
+use Rattle.ft_store.specs.Calls.{AreNumbered, IsPlainFault, IsStored, Keeps}
+use Rattle.ft_store.specs.Blame.{IsBlamed}
+use Rattle.ft_store.specs.declared.same.Layout.{Layout}
+use Rattle.ft_store.specs.declared.same.Layout.TheVariants.{Older, Present}
+use Rattle.ft_store.specs.Older.{older_schema, schema_of, version_of, HasStoreTables, IsOlder, older_value}
 use Rattle.sqlite.specs.Tree.{Trees}
 use Rattle.sqlite.specs.Effect.{Database}
 
@@ -87,6 +90,30 @@ abbrev pub IsMadeOf : Database → Trees → Type 0
 IsMadeOf old db =
     ((old.schema ≡ no_schema) × IsStored db nothing_held) ⊎ ((old.schema ≡ older_schema) × IsOlder old.trees × IsStored db (older_value old.trees))
 
+-- `meta` has one row, with this version
+abbrev pub HasVersion : ℤ → Trees → Type 0
+HasVersion n db = map (λ (r : Row). column r 2) (db 0) ≡ Int n ∷ []
+
+-- the version that goes with the tables of the other version
+abbrev pub other_version : Layout → ℤ
+other_version Older = version_of Present
+other_version Present = version_of Older
+
+-- a database with the tables of a store is refused: for its version, or since two rows of a table have one rowid
+abbrev pub IsOddStore : Layout → Trees → Type 0
+IsOddStore layout db = HasVersion (other_version layout) db ⊎ ¬ AreNumbered (schema_of layout).tables db
+
+-- one with other tables: none of them has a name of ours, or `meta` has a version that stores have
+abbrev pub IsForeign : {S : Type 0} → Ghosts S → Held S → Type 0
+IsForeign g old = (has_our_name old.schema ≡ false) ⊎ ((found : Vec Row Global) × TellsAs g old (Ok found) × (rows_cause found.items ≡ fault.Refused))
+
+-- Why a database is refused for what it is, before the call: it has other tables than a store, or
+-- those of a store, but no store's version or rowids.
+abbrev pub IsRefusable : {S : Type 0} → Ghosts S → Held S → Type 0
+IsRefusable g old =
+    ((old.schema ≢ no_schema) × (HasStoreTables old.schema → ⊥) × IsForeign g old)
+    ⊎ ((layout : Layout) × (old.schema ≡ schema_of layout) × IsOddStore layout (state g old).now.trees)
+
 -- A database is taken as a store, and is open: one that has the tables of a store stays as it is,
 -- and of any other a store is made.
 pub record IsTaken {S : Type 0} (g : Ghosts S) (old new : Held S) : Type 0 where
@@ -108,6 +135,8 @@ pub record IsNotTaken {S : Type 0} (g : Ghosts S) (old new : Held S) (cause : St
   pub other : old.schema ≢ no_schema → (HasStoreTables old.schema → ⊥) → has_our_name old.schema ≡ false → cause ≡ fault.Refused
   pub told : HasCleanDisk (state g new) → old.schema ≢ no_schema → (HasStoreTables old.schema → ⊥) → IsTrue (has_our_name old.schema)
       → (found : Result (Vec Row Global) Error) × TellsAs g old found × (cause ≡ told_cause found)
+  -- it is refused for what it was, or for what lies outside it
+  pub blames : HasCleanDisk (state g new) → cause ≡ fault.Refused → IsBlamed (state g old) (state g new) ⊎ IsRefusable g old
 
 -- a crash leaves what it could leave before, or that store whole
 abbrev pub LeavesMade : {S : Type 0} → Ghosts S → Held S → Held S → Type 0

@@ -86,3 +86,9 @@ takes_out _ = false
 
 abbrev pub TakesOut : RowChange → Type 0
 TakesOut change = IsTrue (takes_out change)
+
+-- in a transaction of a database with this property a call is refused only by what lies outside it
+abbrev pub BlamesIn : {S X : Type 0} → Ghosts S → Held S → Held S → Result X StoreFault → (Database → Type 0) → Type 0
+BlamesIn g old new result Has =
+    HasCleanDisk (state g new) → IsTrue (state g old).in_transaction → (IsTrue (state g old).is_open → Has (state g old).now) → result ≡ Err fault.Refused
+    → IsBlamed (state g old) (state g new)

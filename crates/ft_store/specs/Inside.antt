@@ -1,15 +1,12 @@
 -- Steps. What the functions of a transaction do, each as one relation: what it made, and the frame
 -- of all of them.
-use Rattle.std.specs.Prelude.{ℕ, ℤ, Bool, true, not, MatchBool, Result, Ok, All, List, map, IsTrue, IfOk, OnOk}
+use Rattle.std.specs.Prelude.{ℕ, ℤ, Bool, not, MatchBool, Result, Ok, All, List, map, IsTrue, IfOk, OnOk}
 use Rattle.std.specs.Borrow.{MutBor}
 use Rattle.std.specs.Ordering.{int_cmp, int_eq}
 use Rattle.std.specs.FinMap.Entries.{where_key}
 use Rattle.sqlite.specs.Order.{Row}
-use Rattle.sqlite.specs.Schema.{Schema}
-use Rattle.sqlite.specs.Table.{Table}
-use Rattle.sqlite.specs.Change.{created}
 use Rattle.sqlite.specs.Effect.{Database}
-use Rattle.sqlite.specs.State.{HasCleanDisk, Shows, ExecutesInside, IsUnchanged}
+use Rattle.sqlite.specs.State.{HasCleanDisk, ExecutesInside, IsUnchanged}
 use Rattle.sqlite.specs.Store.{Ghosts}
 use Rattle.sqlite.specs.Held.{Held, state}
 use Rattle.ft_values.specs.declared.rows.RowChange.{RowChange}
@@ -18,7 +15,7 @@ use Rattle.ft_rows.specs.Changes.{shown_change, CanApply}
 use Rattle.ft_store.specs.declared.fault.StoreFault.{StoreFault}
 use Rattle.ft_store.specs.Calls.{StepsOnOk, StepsIfOpen, StaysInside, StaysUncommitted, IsChangeFault}
 use Rattle.ft_store.specs.Groups.{GoesOnOk}
-use Rattle.ft_store.specs.Made.{IsEmptyOf, Makes, MakesOnOk}
+use Rattle.ft_store.specs.Made.{MakesOnOk}
 
 -- What a function of a transaction does: what it made where it is answered Ok, and what it leaves
 -- whatever it is answered.
@@ -51,13 +48,6 @@ RunsOrKeeps g old new result sql params =
     HasCleanDisk (state g new) → IsTrue (state g old).in_transaction
     → IfOk result (λ added. MatchBool added ((count : ℕ) × ExecutesInside 0 sql params (state g old) (state g new) (Ok count))
     (IsUnchanged (state g old) (state g new)))
-
--- the statement makes the table of its text, in a database without rows
-abbrev pub CreatesOnOk : {S : Type 0} → Ghosts S → Held S → Held S → Result (Unit {0}) StoreFault → List ℕ → Type 0
-CreatesOnOk g old new result sql =
-    HasCleanDisk (state g new) → IsTrue (state g old).in_transaction
-    → OnOk result ((s : Schema) (table : Table) → Makes s sql table → (IsTrue (state g old).is_open → IsEmptyOf s (state g old).now)
-    → IsEmptyOf (created s table) (state g new).now × Shows (state g old) (state g new) (state g new).now (state g old).committed true)
 
 -- What a function that makes row changes does in a transaction: the same, where they can be made,
 -- and otherwise it may be refused as damaged.

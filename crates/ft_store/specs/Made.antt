@@ -1,6 +1,7 @@
 -- Steps. How the tables of a store are made.
-use Rattle.std.specs.Prelude.{◌≡◌, Result, Ok, Err, ℕ, true, false, List, [], IsTrue, OnOk}
+use Rattle.std.specs.Prelude.{◌≡◌, None, Result, Ok, Err, ℕ, ◌+◌, ◌-◌, ◌*◌, ◌^◌, ◌<◌, ◌&&◌, Bool, true, false, not, nat_lt, nat_eq, List, [], length, take, codes, IsTrue, IsUtf8, OnOk}
 use Rattle.std.specs.List.{AllByRecursion}
+use Rattle.sqlite.specs.declared.types.Value.TheVariants.{Text}
 use Rattle.sqlite.specs.Tree.{Trees}
 use Rattle.sqlite.specs.Schema.{Schema}
 use Rattle.sqlite.specs.Table.{Table}
@@ -8,7 +9,10 @@ use Rattle.sqlite.specs.Listing.{understood}
 use Rattle.sqlite.specs.Command.{Command}
 use Rattle.sqlite.specs.Command.TheVariants.{CreateTable, Nothing}
 use Rattle.sqlite.specs.Compile.{table_defined_by}
-use Rattle.sqlite.specs.Change.{created}
+use Rattle.sqlite.specs.Change.{created, next_tree}
+use Rattle.sqlite_catalog.specs.Change.{is_used, is_reserved, automatics}
+use Rattle.sqlite_catalog.specs.Listing.{is_formed, is_fit}
+use Rattle.sqlite_schema.specs.Rules.{table_reals, index_reals}
 use Rattle.sqlite.specs.Does.{lacks_sequence}
 use Rattle.sqlite.specs.Given.{IsPlain}
 use Rattle.sqlite_resolve.specs.declared.compiled.Compiled.{Compiled}
@@ -17,7 +21,9 @@ use Rattle.sqlite.specs.State.{text_of, HasCleanDisk, Shows}
 use Rattle.sqlite.specs.Store.{Ghosts}
 use Rattle.sqlite.specs.Held.{Held, state}
 use Rattle.ft_store.specs.declared.fault.StoreFault.{StoreFault}
-use Rattle.sqlite.specs.Effect.{Database, IsDatabase}
+use Rattle.sqlite.specs.Effect.{Database, IsDatabase, IsShown}
+use Rattle.sqlite.specs.Order.{Row}
+use Rattle.sqlite.specs.Query.{Query}
 use Rattle.ft_store.specs.Tables.{store_schema}
 use Rattle.ft_store.specs.Calls.{AreNumbered}
 
@@ -28,6 +34,15 @@ command_of (Err e) = Nothing
 abbrev pub statement_of : List ℕ → Result Compiled CompileError → List ℕ
 statement_of sql (Ok c) = text_of sql c
 statement_of sql (Err e) = []
+
+-- the text is all of one statement with so many parameters
+abbrev pub is_whole : List ℕ → ℕ → Result Compiled CompileError → Bool
+is_whole sql count (Ok c) = not (nat_lt c.tail (length sql)) && nat_eq count (length c.names)
+is_whole sql count (Err e) = false
+
+-- the values that are bound to the query are of types that it takes
+abbrev pub IsTypedIn : Schema → Query → Row → Type 0
+IsTypedIn schema q params = (db : Database) → db.schema ≡ schema → ¬ IsShown (λ (r : Row). r) db (record { lets = []; body = q }) params None
 
 -- the tables of the schema have no row
 abbrev pub AreEmpty : Schema → Trees → Type 0
@@ -45,6 +60,31 @@ pub record Makes (schema : Schema) (text : List ℕ) (table : Table) : Type 0 wh
   pub whole : statement_of text (understood schema text) ≡ text
   pub defined : table_defined_by text ≡ Ok table
   pub uncounted : lacks_sequence (created schema table) ≡ false
+
+-- no test of the engine refuses the table that the text makes
+pub record IsAllowed (schema : Schema) (text : List ℕ) (table : Table) : Type 0 where
+  pub whole : is_whole text 0 (understood schema text) ≡ true
+  pub utf8 : IsUtf8 text × IsUtf8 table.name
+  pub free : is_used schema table.name ≡ false
+  pub indexes : AllByRecursion (λ i. is_used schema i.name ≡ false) (automatics table 0 0 table.uniques)
+  pub unreserved : is_reserved table.name ≡ false
+  pub formed : is_formed table ≡ true
+  pub fits : is_fit (Text (codes "table")) (Text table.name) (Text table.name) (Text text) ≡ true
+  pub room : next_tree schema + length table.uniques < 65536
+  pub reals : table_reals table < 2 ^ 64
+  pub key_reals : AllByRecursion (λ key. index_reals (table_reals table) key < 2 ^ 64) table.uniques
+  pub short : 2 * length table.name + length text + 200 < 10 ^ 9
+
+-- so many of a store's tables, from the first on, with their indexes
+abbrev pub first_tables : ℕ → Schema
+first_tables n = record { tables = take n store_schema.tables; indexes = take (n - 1) store_schema.indexes; views = [] }
+
+-- in a database with so many of a store's tables the text makes the next one
+pub record MakesNext (made : ℕ) (text : List ℕ) : Type 0 where
+  pub table : Table
+  pub makes : Makes (first_tables made) text table
+  pub allowed : IsAllowed (first_tables made) text table
+  pub next : created (first_tables made) table ≡ first_tables (made + 1)
 
 -- the tables of a store, with their rules kept, whatever `meta` has
 pub record IsTabled (db : Database) : Type 0 where

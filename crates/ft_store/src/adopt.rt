@@ -1,8 +1,9 @@
 //! Whether a database is taken as a store.
-ghost use Rattle.std.specs.Prelude.{◌≡◌, false, IsTrue, IfErr, OnOk};
+ghost use Rattle.std.specs.Prelude.{◌≡◌, ◌⊎◌, false, IsTrue, IfErr, OnOk};
 ghost use Rattle.sqlite.specs.State.{HasCleanDisk};
 ghost use Rattle.sqlite.specs.Held.{state};
-ghost use Rattle.ft_store.specs.Adopted.{TellsAs, rows_cause, error_cause, told_cause, has_our_name, IsAdoptFault, IsTaken, IsNotTaken, LeavesMade};
+ghost use Rattle.ft_store.specs.Adopted.{TellsAs, rows_cause, error_cause, told_cause, has_our_name, IsAdoptFault, IsForeign, IsTaken, IsNotTaken, LeavesMade};
+ghost use Rattle.ft_store.specs.Blame.{IsBlamed};
 ghost use Rattle.ft_store.specs.Calls.{IsStoreIfOpen};
 ghost use Rattle.ft_store.specs.Settled.{AreAsKnown, LeavesAlone};
 
@@ -21,6 +22,9 @@ use std::alloc::Global;
 fn version_answer<S: Alter>(conn: &mut Connection<S>) -> Result<Vec<Row>, SqlError>
     requires settled { (state S.Store conn.old).in_transaction ≡ false }
     ensures told { HasCleanDisk (state S.Store conn.new) → TellsAs S.Store conn.old result }
+    ensures refused { HasCleanDisk (state S.Store conn.new) → IfErr result (λ e.
+        error_cause e ≡ StoreFault.Refused
+        → IsBlamed (state S.Store conn.old) (state S.Store conn.new)) }
     ensures alone { LeavesAlone (state S.Store conn.old) (state S.Store conn.new) }
 {
     // For the proof: outside a transaction an open database is as the last commit left it.
@@ -76,6 +80,9 @@ fn foreign<S: Alter>(conn: &mut Connection<S>) -> StoreFault
         → IsTrue (has_our_name (state S.Store conn.old).now.schema) → (found : _)
         × TellsAs S.Store conn.old found × (result ≡ told_cause found) }
     ensures cause { IsAdoptFault result }
+    ensures refused { HasCleanDisk (state S.Store conn.new) → result ≡ StoreFault.Refused
+        → IsBlamed (state S.Store conn.old) (state S.Store conn.new)
+        ⊎ IsForeign S.Store conn.old }
     ensures alone { LeavesAlone (state S.Store conn.old) (state S.Store conn.new) }
 {
     if !names_ours(conn.schema()) {

@@ -1,5 +1,5 @@
 //! Whether a database with the tables of a store is one.
-ghost use Rattle.std.specs.Prelude.{◌≡◌, ◌≢◌, false, ℤ, ◌<◌, [], ◌∷◌, map, length, MatchOption, IfSome, ◌<ℤ◌, Err, Some, None, IsTrue, IfErr, OnOk};
+ghost use Rattle.std.specs.Prelude.{◌≡◌, ◌≢◌, ◌↔◌, ◌⊎◌, false, ℤ, ◌<◌, [], ◌∷◌, map, length, MatchOption, IfSome, ◌<ℤ◌, Err, Some, None, IsTrue, IfErr, OnOk};
 ghost use Rattle.sqlite.specs.State.{HasCleanDisk};
 ghost use Rattle.sqlite.specs.Held.{state};
 ghost use Rattle.sqlite.specs.Order.{column};
@@ -7,7 +7,8 @@ ghost use Rattle.sqlite.specs.declared.types.Value.TheVariants.{Int};
 ghost use Rattle.ft_store.specs.declared.same.Layout.{Layout};
 ghost use Rattle.ft_store.specs.Scan.{Scans, tree_at};
 ghost use Rattle.ft_store.specs.Older.{schema_of, tables_of, version_of, IsStoreBy};
-ghost use Rattle.ft_store.specs.Adopted.{IsAdoptFault, IsOtherVersion};
+ghost use Rattle.ft_store.specs.Adopted.{HasVersion, other_version, IsAdoptFault, IsOddStore, IsOtherVersion};
+ghost use Rattle.ft_store.specs.Blame.{IsBlamed, Blames};
 ghost use Rattle.ft_store.specs.Calls.{HasOwnRowids, AreNumbered, Reads};
 ghost use Rattle.ft_store.specs.Settled.{AreAsKnown, IsSettled, IsLaidOut, IsJudged, Finds, ReadsFor};
 
@@ -60,10 +61,15 @@ struct Rising {
 }
 
 impl Gathered for Rising {
-    ghost use Rattle.std.specs.Prelude.{IsTrue};
-    ghost use Rattle.ft_store.specs.Scan.{RiseTo};
+    ghost use Rattle.std.specs.Prelude.{◌<◌, length, IsTrue};
+    ghost use Rattle.sqlite.specs.Order.{column};
+    ghost use Rattle.sqlite.specs.Values.{IsInt};
+    ghost use Rattle.ft_store.specs.Scan.{RiseTo, AreRising, IsOneOf};
 
-    ghost is_made_of = { λ made whole rows. IsTrue whole → RiseTo made.last rows };
+    ghost is_made_of = { λ made whole rows. (IsTrue whole → RiseTo made.last rows)
+        × (AreRising rows → IsTrue whole) × IsOneOf made.last rows };
+
+    ghost takes = { λ row. (0 < length row) × IsInt (column row 0) };
 
     fn add(&mut self, whole: bool, row: &Row) -> Result<bool, StoreFault> {
         let id: i64 = row.get(0)?;
@@ -81,8 +87,11 @@ fn is_numbered<S: Alter>(
 ) -> Result<bool, StoreFault>
     requires within { at < tables_of layout }
     requires rest { IsSettled (IsLaidOut layout) (state S.Store conn.old) }
-    ensures { ReadsFor S.Store conn.old conn.new result
-        (λ b. IsTrue b → HasOwnRowids ((state S.Store conn.old).now.trees (tree_at at))) }
+    ensures numbered { ReadsFor S.Store conn.old conn.new result
+        (λ b. IsTrue b ↔ HasOwnRowids ((state S.Store conn.old).now.trees (tree_at at))) }
+    ensures refused { HasCleanDisk (state S.Store conn.new) → result ≡ Err StoreFault.Refused
+        → IsBlamed (state S.Store conn.old) (state S.Store conn.new)
+        ⊎ ¬ HasOwnRowids ((state S.Store conn.old).now.trees (tree_at at)) }
 {
     let mut numbers = Rising { last: None };
     gather(conn, rowids_query(at), &[], &mut numbers)
@@ -95,10 +104,13 @@ fn version<S: Alter>(
     layout: Layout,
 ) -> Result<Option<i64>, StoreFault>
     requires { IsSettled (IsLaidOut layout) (state S.Store conn.old) }
-    ensures { ReadsFor S.Store conn.old conn.new result
+    ensures found { ReadsFor S.Store conn.old conn.new result
         (λ o. MatchOption o (length ((state S.Store conn.old).now.trees 0) ≢ 1)
-        (λ n. map (λ r. column r 2) ((state S.Store conn.old).now.trees 0) ≡ Int n ∷ [])) }
+        (λ n. HasVersion n (state S.Store conn.old).now.trees)) }
+    ensures refused { Blames (state S.Store conn.old) (state S.Store conn.new) result }
 {
+    // For the proof: an open database keeps the rules of its schema.
+    let _schema = conn.schema();
     let found: Vec<i64> = select(conn, alloc, "SELECT version FROM meta", &[])?;
     if found.len() != 1 {
         return Ok(None);
@@ -109,9 +121,11 @@ fn version<S: Alter>(
 /// Whether no two rows of any table have one rowid.
 fn are_numbered<S: Alter>(conn: &mut Connection<S>, layout: Layout) -> Result<bool, StoreFault>
     requires { IsSettled (IsLaidOut layout) (state S.Store conn.old) }
-    ensures { ReadsFor S.Store conn.old conn.new result
-        (λ b. IsTrue b
-        → AreNumbered (schema_of layout).tables (state S.Store conn.old).now.trees) }
+    ensures numbered { ReadsFor S.Store conn.old conn.new result
+        (λ b. IsTrue b ↔ AreNumbered (schema_of layout).tables (state S.Store conn.old).now.trees) }
+    ensures refused { HasCleanDisk (state S.Store conn.new) → result ≡ Err StoreFault.Refused
+        → IsBlamed (state S.Store conn.old) (state S.Store conn.new)
+        ⊎ ¬ AreNumbered (schema_of layout).tables (state S.Store conn.old).now.trees }
 {
     for at in 0..tables_in(layout) {
         if !is_numbered(conn, layout, at)? {
@@ -127,6 +141,7 @@ fn judge(found: Option<i64>, layout: Layout) -> Result<(), StoreFault>
     ensures unmarked { result ≡ Err StoreFault.NotAStore → found ≡ None }
     ensures version { (n : ℤ) → result ≡ Err (StoreFault.Version n)
         → (found ≡ Some n) × IsOtherVersion n }
+    ensures other { result ≡ Err StoreFault.Refused → found ≡ Some (other_version layout) }
     ensures cause { IfErr result IsAdoptFault }
 {
     match (found, layout) {
@@ -152,6 +167,9 @@ pub(crate) fn examine<S: Alter>(
     ensures judged { HasCleanDisk (state S.Store conn.new)
         → IsJudged (state S.Store conn.old).now.trees result }
     ensures read { Reads S.Store conn.old conn.new result IsAdoptFault }
+    ensures refused { HasCleanDisk (state S.Store conn.new) → result ≡ Err StoreFault.Refused
+        → IsBlamed (state S.Store conn.old) (state S.Store conn.new)
+        ⊎ IsOddStore layout (state S.Store conn.old).now.trees }
 {
     // For the proof: an open database keeps the rules of its schema.
     let _schema = conn.schema();

@@ -1,5 +1,5 @@
 //! A store of version 2 becomes one of version 3.
-ghost use Rattle.std.specs.Prelude.{◌≡◌};
+ghost use Rattle.std.specs.Prelude.{◌≡◌, ◌⊎◌, Err};
 ghost use Rattle.sqlite.specs.State.{HasCleanDisk};
 ghost use Rattle.sqlite.specs.Held.{state};
 ghost use Rattle.ft_store.specs.declared.same.Layout.TheVariants.{Older};
@@ -7,7 +7,8 @@ ghost use Rattle.ft_store.specs.Rows.{value_of};
 ghost use Rattle.ft_store.specs.Older.{older_value, IsOlder, IsRenewed, IsStoreBy};
 ghost use Rattle.ft_store.specs.Made.{IsTabled, IsUnmarked};
 ghost use Rattle.ft_store.specs.Inside.{MakesInside};
-ghost use Rattle.ft_store.specs.Adopted.{IsAdoptFault};
+ghost use Rattle.ft_store.specs.Adopted.{IsAdoptFault, IsOddStore};
+ghost use Rattle.ft_store.specs.Blame.{IsBlamed, Blames, BlamesIn};
 ghost use Rattle.ft_store.specs.Calls.{IsPlainFault, IsStored};
 ghost use Rattle.ft_store.specs.Settled.{AreAsKnown, IsSettled, IsLaidOut, IsJudged, MakesWhole};
 
@@ -22,16 +23,18 @@ use std::alloc::Global;
 
 /// Adds the table of the columns that aren't indexed, without a row.
 fn add_table<S: Alter>(tx: &mut Transaction<'_, S>) -> Result<(), StoreFault>
-    ensures { MakesInside S.Store tx.old.conn tx.new.conn result (IsStoreBy Older)
+    ensures done { MakesInside S.Store tx.old.conn tx.new.conn result (IsStoreBy Older)
         (λ old new. IsTabled new × (value_of new.trees ≡ older_value old.trees)) }
+    ensures refused { BlamesIn S.Store tx.old.conn.now tx.new.conn.now result (IsStoreBy Older) }
 {
     run(tx, MAKE_SKIP, &[])
 }
 
 /// Takes the version out.
 fn unmark<S: Alter>(tx: &mut Transaction<'_, S>) -> Result<(), StoreFault>
-    ensures { MakesInside S.Store tx.old.conn tx.new.conn result IsTabled
+    ensures done { MakesInside S.Store tx.old.conn tx.new.conn result IsTabled
         (λ old new. IsUnmarked new × (value_of new.trees ≡ value_of old.trees)) }
+    ensures refused { BlamesIn S.Store tx.old.conn.now tx.new.conn.now result IsTabled }
 {
     run(tx, "DELETE FROM meta", &[])
 }
@@ -39,9 +42,10 @@ fn unmark<S: Alter>(tx: &mut Transaction<'_, S>) -> Result<(), StoreFault>
 /// Makes a store of version 3 of one of version 2, all at once.
 fn migrate<S: Alter>(conn: &mut Connection<S>) -> Result<(), StoreFault>
     requires { IsSettled (IsStoreBy Older) (state S.Store conn.old) }
-    ensures { MakesWhole (state S.Store conn.old) (state S.Store conn.new) result
+    ensures made { MakesWhole (state S.Store conn.old) (state S.Store conn.new) result
         (IsRenewed (state S.Store conn.old).now)
         (λ db. IsStored db (older_value (state S.Store conn.old).now.trees)) IsPlainFault }
+    ensures refused { Blames (state S.Store conn.old) (state S.Store conn.new) result }
 {
     // For the proof: outside a transaction an open database is as the last commit left it.
     let _settled = conn.is_autocommit();
@@ -69,6 +73,9 @@ pub(crate) fn take_older<S: Alter>(
         × IsStored db (older_value (state S.Store conn.old).now.trees)) IsAdoptFault }
     ensures judged { HasCleanDisk (state S.Store conn.new)
         → IsJudged (state S.Store conn.old).now.trees result }
+    ensures refused { HasCleanDisk (state S.Store conn.new) → result ≡ Err StoreFault.Refused
+        → IsBlamed (state S.Store conn.old) (state S.Store conn.new)
+        ⊎ IsOddStore Older (state S.Store conn.old).now.trees }
 {
     examine(conn, alloc, Layout::Older, rowids)?;
     migrate(conn)

@@ -78,16 +78,21 @@ impl Store<FileStore<Ram>> {
     ghost use Rattle.sqlite.specs.Files.{over_files};
     ghost use Rattle.ft_store.specs.Kept.{shows, value_in};
 
-    /// An empty store in memory, which is clean at all times. An error is want of memory.
+    /// An empty store in memory, which is clean at all times. A disk in memory fails only where a
+    /// write finds none, so each error is want of memory.
     pub fn open_memory(alloc: Global) -> Result<Store<FileStore<Ram>>, StoreFault>
         ensures empty { IfOk result (λ store. value_in over_files store ≡ nothing_held) }
         ensures clean { IfOk result (λ store. HasCleanDisk (shows over_files store)) }
         ensures up { IfOk result (λ store. IsTrue (shows over_files store).is_open) }
         ensures unread { IfOk result (λ store. store.rows_read ≡ 0) }
-        ensures causes { IfErr result IsPlainFault }
+        ensures causes { OnErr result (result ≡ Err StoreFault.Memory) }
     {
-        let mut conn = open_ram(alloc)?;
-        make(&mut conn)?;
+        let Ok(mut conn) = open_ram(alloc) else {
+            return Err(StoreFault::Memory);
+        };
+        let Ok(()) = make(&mut conn) else {
+            return Err(StoreFault::Memory);
+        };
         Ok(Store {
             conn,
             alloc,

@@ -2,7 +2,13 @@ use Rattle.std.proofs.Common.{◌≡◌, refl, sym, ap, subst, ◌∙◌, arith,
 use Rattle.sqlite.specs.Held.{state}
 use Rattle.sqlite.specs.State.{HasCleanDisk}
 use Rattle.ft_store.specs.Calls.{Keeps}
-use Rattle.ft_store.specs.Adopted.{TellsAs, Gives}
+use Rattle.ft_store.specs.Adopted.{TellsAs, Gives, error_cause}
+use Rattle.std.proofs.lemmas.Result.{IfErr-weaker}
+use Rattle.std.specs.Prelude.{IfErr}
+use Rattle.ft_store.specs.declared.fault.StoreFault.TheVariants as fault
+use Rattle.ft_store.specs.Blame.{IsBlamed}
+use Rattle.ft_store.proofs.BlameLemmas.{blamed_on}
+use Rattle.ft_store.proofs.ForeignLemmas.{error_blamed}
 use Rattle.ft_store.proofs.AdoptLemmas.{gives_of, undone_keeps}
 use Rattle.ft_store.proofs.adopt.version_answer.Goals as goal
 
@@ -33,3 +39,15 @@ returns-clause-alone g c =
       mode = search rules;
       survives = search rules;
     }
+
+pub returns-clause-refused : goal.returns-clause-refused
+returns-clause-refused g c =
+    let same : c.rollback.new.self.0 ≡ c.conn-1.given.0 = search rules in
+    let begun = state g.S.Store c.transaction-tx.result.conn.now in
+    let mid = state g.S.Store c.query_all-found.new.self.conn.now in
+    subst (λ h. HasCleanDisk (state g.S.Store h) → IfErr c.query_all-found.result (λ e. error_cause e ≡ fault.Refused → IsBlamed (state g.S.Store c.args.conn.now) (state g.S.Store h))) same
+    (λ clean.
+    IfErr-weaker c.query_all-found.result _ _
+    (λ e fails is. subst (λ h. IsBlamed (state g.S.Store h) (state g.S.Store c.rollback.new.self.0)) c.transaction-tx.ensures.begun
+    (blamed_on begun mid (state g.S.Store c.rollback.new.self.0) _ (error_blamed begun mid e fails is) c.rollback.ensures.survives))
+    (c.query_all-found.ensures.err (omega (arith, c.rollback.ensures.survives.clean, clean))))
