@@ -24,6 +24,7 @@ pub mod PartLemmas
 pub mod PutLemmas
 pub mod RangeLemmas
 pub mod RefusedLemmas
+pub mod RiseLemmas
 pub mod RowidLemmas
 pub mod SameLemmas
 pub mod ScanLemmas
