@@ -13,6 +13,7 @@ pub mod ExpectedLemmas
 pub mod FoundLemmas
 mod FoundNumbers
 pub mod GroupLemmas
+pub mod InsertLemmas
 pub mod InsideLemmas
 pub mod KeyedLemmas
 pub mod LastLemmas

@@ -106,10 +106,10 @@ module _ (old new : State) (sql : List ℕ) (params : Row) (has : old.now.schema
 
 -- ---- DELETE
 
-apart : IsAscending (λ (a b : Table). a.tree ≡ b.tree → ⊥) store_schema.tables
+pub apart : IsAscending (λ (a b : Table). a.tree ≡ b.tree → ⊥) store_schema.tables
 apart = ((λ e. omega (arith, e), (λ e. omega (arith, e), (λ e. omega (arith, e), (λ e. omega (arith, e), (λ e. omega (arith, e), (λ e. omega (arith, e), (λ e. omega (arith, e), tt))))))), ((λ e. omega (arith, e), (λ e. omega (arith, e), (λ e. omega (arith, e), (λ e. omega (arith, e), (λ e. omega (arith, e), (λ e. omega (arith, e), tt)))))), ((λ e. omega (arith, e), (λ e. omega (arith, e), (λ e. omega (arith, e), (λ e. omega (arith, e), (λ e. omega (arith, e), tt))))), ((λ e. omega (arith, e), (λ e. omega (arith, e), (λ e. omega (arith, e), (λ e. omega (arith, e), tt)))), ((λ e. omega (arith, e), (λ e. omega (arith, e), (λ e. omega (arith, e), tt))), ((λ e. omega (arith, e), (λ e. omega (arith, e), tt)), ((λ e. omega (arith, e), tt), (tt, tt))))))))
 
-refers : (among : Among) (db : Trees) → Refers among store_schema db
+pub refers : (among : Among) (db : Trees) → Refers among store_schema db
 refers among db = (all_of _ (λ r. refl) (db 0), (all_of _ (λ r. refl) (db 1), (all_of _ (λ r. refl) (db 3), (all_of _ (λ r. refl) (db 5), (all_of _ (λ r. refl) (db 7), (all_of _ (λ r. refl) (db 9), (all_of _ (λ r. refl) (db 11), (all_of _ (λ r. refl) (db 13), tt))))))))
 
 module _ (db : Trees) (sound : IsSound store_schema db) (table : Table) (listed : Has store_schema.tables table) (unique : (new : Trees) → are_unique store_schema.indexes new table [] ≡ true) (ids : List ℤ) where
