@@ -66,23 +66,27 @@ use Rattle.ft_store.proofs.RiseLemmas.{IsUnnumbered, numbered_ints, stale_full, 
 
 -- ---- what an INSERT is refused for
 
+-- rows that are added, with the rowids that they get
+abbrev pub put_in : Table → Trees → List Row → Edit
+put_in table db sources = record { table = table; gone = []; news = numbered Chosen (db table.tree) sources }
+
+-- one of them is refused, or can't be stored
+abbrev pub CantAdd : Table → Trees → List Row → Type 0
+CantAdd table db sources =
+    ((why : Refusal) × IsRefused store_schema Enforced db (put_in table db sources) why) ⊎ ((row : Row) × Has (put_in table db sources).news row × IsOversized store_schema table row)
+
+-- the values of an INSERT as the columns of its table take them
+abbrev given_rows : Table → List Row → List Row
+given_rows table = map (λ s. cast_row table (drop 0 s))
+
+abbrev pub made_rows : Table → List Term → ℕ → Row → List Row
+made_rows table terms width params = given_rows table (value_rows (stamped table params) width (length terms / width) terms)
+
 module _ (tree : ℕ) (name : List ℕ) (columns : List Column) (key : Option ℕ) (primary : List ℕ) (uniques : List (List ℕ)) (orders : List Order) (checks : List Term) where
   abbrev the_table : Table
   the_table = a_table tree name columns key primary uniques orders checks
 
-  -- rows that are added, with the rowids that they get
-  abbrev pub put_in : Trees → List Row → Edit
-  put_in db sources = record { table = the_table; gone = []; news = numbered Chosen (db tree) sources }
-
-  -- one of them is refused, or can't be stored
-  abbrev pub CantAdd : Trees → List Row → Type 0
-  CantAdd db sources = ((why : Refusal) × IsRefused store_schema Enforced db (put_in db sources) why) ⊎ ((row : Row) × Has (put_in db sources).news row × IsOversized store_schema the_table row)
-
-  -- the values of an INSERT as its columns take them
-  abbrev pub given_rows : List Row → List Row
-  given_rows rows = map (λ s. cast_row the_table (drop 0 s)) rows
-
-  wrote_not : (db : Trees) (rows : List Row) (why : Option Refusal) → Writes store_schema Enforced db (put_in db (given_rows rows)) (Err why) → CantAdd db (given_rows rows)
+  wrote_not : (db : Trees) (rows : List Row) (why : Option Refusal) → Writes store_schema Enforced db (put_in the_table db (given_rows the_table rows)) (Err why) → CantAdd the_table db (given_rows the_table rows)
   wrote_not db rows why (inl refused) = inl (refused.0, refused.1)
   wrote_not db rows why (inr (inl big)) = inr (big.0, big.1, big.2)
   wrote_not db rows why (inr (inr went)) = absurd (settled went.2.0 went.2.1)
@@ -104,7 +108,7 @@ module _ (tree : ℕ) (name : List ℕ) (columns : List Column) (key : Option �
     sourced_not db None h = absurd h
     sourced_not db (Some e) h = sourced db e h
 
-    pub insert_why : CantDo old params (Insert at (Values terms width)) → IsSome old.step_limit ⊎ CantAdd old.now.trees (given_rows (value_rows (stamped the_table params) width (length terms / width) terms))
+    pub insert_why : CantDo old params (Insert at (Values terms width)) → IsSome old.step_limit ⊎ CantAdd the_table old.now.trees (made_rows the_table terms width params)
     insert_why (text, stop, does) =
         let db = old.now.trees in
         let command = Insert at (Values terms width) in
@@ -117,7 +121,7 @@ module _ (tree : ℕ) (name : List ℕ) (columns : List Column) (key : Option �
             | inr asked ↦ elim asked.2 [
               | inl counter ↦ absurd (let e = counter.1 in cc)
               | inr counter ↦ elim counter.2 [
-                | inl wrote ↦ inr (subst (λ rows. CantAdd db (given_rows rows)) asked.1.1 (wrote_not db asked.0 wrote.1.0 wrote.1.1))
+                | inl wrote ↦ inr (subst (λ rows. CantAdd the_table db (given_rows the_table rows)) asked.1.1 (wrote_not db asked.0 wrote.1.0 wrote.1.1))
                 | inr wrote ↦ absurd (elim wrote.2 [
                   | inl counted ↦ (let e = counted.1 in cc)
                   | inr counted ↦ (let e = counted.2 in cc)
@@ -138,10 +142,10 @@ module _ (tree : ℕ) (name : List ℕ) (columns : List Column) (key : Option �
   module _ (old new : State) (sql : List ℕ) (params : Row) (at : ℕ) (terms : List Term) (width : ℕ) (is : command_of (understood store_schema sql) ≡ Insert at (Values terms width)) (plain : IsPlain (understood store_schema sql))
       (whole : is_whole sql (length params) (understood store_schema sql) ≡ true) (found : slice_get store_schema.tables at ≡ Some the_table) (given : IsGiven terms width (stamped the_table params)) where
     pub insert_blamed : (IsTrue old.is_open → IsStore old.now) → (e : Error) → e ≢ SqliteFailure code.OutOfMemory → ExecutesInside 0 sql params old new (Err e)
-        → IsBlamed old new ⊎ (IsTrue old.is_open × CantAdd old.now.trees (given_rows (value_rows (stamped the_table params) width (length terms / width) terms)))
+        → IsBlamed old new ⊎ (IsTrue old.is_open × CantAdd the_table old.now.trees (made_rows the_table terms width params))
     insert_blamed store e other ran = by_open old.is_open refl
       where
-        by_open : (o : Bool) → old.is_open ≡ o → IsBlamed old new ⊎ (IsTrue old.is_open × CantAdd old.now.trees (given_rows (value_rows (stamped the_table params) width (length terms / width) terms)))
+        by_open : (o : Bool) → old.is_open ≡ o → IsBlamed old new ⊎ (IsTrue old.is_open × CantAdd the_table old.now.trees (made_rows the_table terms width params))
         by_open false shut = inl (inr (inl shut))
         by_open true is_open =
             let kept = store is_open in
@@ -184,7 +188,7 @@ module _ (tree : ℕ) (name : List ℕ) (columns : List Column) (key : Option �
 
     module _ (typed : list_all (passes Datatype store_schema db the_table) news ≡ true) (present : list_all (passes NotNull store_schema db the_table) news ≡ true) (checked : list_all (passes Check store_schema db the_table) news ≡ true) where
       -- the table is full, or a key comes twice
-      pub refused_why : (why : Refusal) → IsRefused store_schema Enforced db (put_in db sources) why → IsFull (length sources) (db tree) ⊎ ((are_fresh (db tree) news ≡ true) × (are_unique store_schema.indexes next the_table news ≡ false))
+      pub refused_why : (why : Refusal) → IsRefused store_schema Enforced db (put_in the_table db sources) why → IsFull (length sources) (db tree) ⊎ ((are_fresh (db tree) news ≡ true) × (are_unique store_schema.indexes next the_table news ≡ false))
       refused_why (Violates Datatype) h = absurd (both_ways _ h typed)
       refused_why (Violates NotNull) h = absurd (both_ways _ h present)
       refused_why (Violates Check) h = absurd (both_ways _ h checked)

@@ -1,3 +1,4 @@
+pub mod AddedLemmas
 pub mod AdoptLemmas
 pub mod AnswerLemmas
 pub mod ApartLemmas

@@ -1,3 +1,4 @@
+use Rattle.ft_store.proofs.AddedLemmas.{add_skip_grown}
 use Rattle.ft_store.proofs.InsertLemmas.{IsGiven}
 use Rattle.ft_store.proofs.RiseLemmas.{grown_filter}
 use Rattle.ft_store.proofs.InsideLemmas.{stays_then}
