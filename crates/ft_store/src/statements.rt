@@ -11,6 +11,7 @@ ghost use Rattle.ft_rows.specs.Packed.{spots_in};
 ghost use Rattle.ft_rows.specs.Store.{cell_key_cmp, list_key_cmp, column_key_cmp, name_cmp};
 ghost use Rattle.ft_values.specs.Cells.{shown_value};
 ghost use Rattle.ft_store.specs.Blame.{RefusesRun, BlamesOutside};
+ghost use Rattle.ft_store.specs.Puts.{IsFull, IsTooBig, GrowsOnOk, BlamesRows};
 ghost use Rattle.ft_store.specs.Rows.{cell_in, num_of, txt_of};
 ghost use Rattle.ft_store.specs.Inside.{DoneInside, StepsInside, RunsOnOk, RunsOrKeeps, without_name, without_columns, without_skips, without_contents, without_lists, without_sizes};
 ghost use Rattle.ft_store.specs.Groups.{Entry, entry_values, with_entries, GoesOnOk};
@@ -256,8 +257,11 @@ pub(crate) fn put_skip<S: Alter>(
     tab: i64,
     column: i64,
 ) -> Result<(), StoreFault>
-    ensures { StepsInside S.Store tx.old.conn tx.new.conn result
+    ensures done { StepsInside S.Store tx.old.conn tx.new.conn result
         (λ v. record v { skipped = put column_key_cmp (tab, column) tt v.skipped }) }
+    ensures grown { GrowsOnOk S.Store tx.old.conn.now tx.new.conn.now result 1 }
+    ensures refused { BlamesRows S.Store tx.old.conn.now tx.new.conn.now result
+        (λ db. IsFull 1 (db 13)) }
 {
     run(
         tx,
