@@ -103,13 +103,13 @@ module _ (tree : ℕ) (name : List ℕ) (columns : List Column) (key : Option �
 
     one_why : list_all (passes Datatype store_schema db the_table) (new_row ∷ []) ≡ true → list_all (passes NotNull store_schema db the_table) (new_row ∷ []) ≡ true → list_all (passes Check store_schema db the_table) (new_row ∷ []) ≡ true
         → are_unique store_schema.indexes (with_tree db tree (put_row new_row (db tree))) the_table (new_row ∷ []) ≡ true
-        → CantAdd the_table db (source ∷ []) → IsFull 1 (db tree) ⊎ IsOversized store_schema the_table new_row
-    one_why typed present checked unique (inl refused) = elim (refused_why tree name columns key primary uniques orders checks listed db sound own (source ∷ []) (bare, tt) typed present checked refused.0 refused.1) [
+        → (e : Error) → CantAdd e the_table db (source ∷ []) → IsFull 1 (db tree) ⊎ IsOversized store_schema the_table new_row
+    one_why typed present checked unique e (inl refused) = elim (refused_why tree name columns key primary uniques orders checks listed db sound own (source ∷ []) (bare, tt) typed present checked refused.0 refused.1) [
       | inl full ↦ inl full
       | inr twice ↦ absurd (both_ways _ twice.1 unique)
     ]
-    one_why typed present checked unique (inr (row, inl same, big)) = inr (subst (IsOversized store_schema the_table) same big)
-    one_why typed present checked unique (inr (row, inr none, big)) = absurd none
+    one_why typed present checked unique e (inr (row, inl same, big)) = inr (subst (IsOversized store_schema the_table) same big)
+    one_why typed present checked unique e (inr (row, inr none, big)) = absurd none
 
 -- what a statement that adds rows is refused for
 abbrev pub RunBlamed : State → State → List ℕ → Row → Type 0 → Type 0
@@ -157,11 +157,11 @@ skip_big rowid tab at big =
     omega (arith, all)
 
 skip_why : (tab at : ℤ) (db : Trees) → IsSound store_schema db → HasOwnRowids (db 13) → find column_key_cmp (tab, at) (value_of db).skipped ≡ None
-    → CantAdd (skip_table 13) db (skip_source tab at ∷ []) → IsFull 1 (db 13)
-skip_why tab at db sound own free cant =
+    → (e : Error) → CantAdd e (skip_table 13) db (skip_source tab at ∷ []) → IsFull 1 (db 13)
+skip_why tab at db sound own free e cant =
     let id = next_rowid (db 13) in
     let clash = no_clash column_key_cmp skip_entry plain_order (1 ∷ 2 ∷ []) IsSkipRow (Int id ∷ Int tab ∷ Int at ∷ []) id (db 13) refl (are_skips db sound) (skips_agree tab at id) (sym (find-keyed column_key_cmp column_key_total tied_column_keys (tab, at) (map skip_entry (db 13))) ∙ free) in
-    elim (one_why 13 _ _ _ _ _ _ _ (inr (inr (inr (inr (inr (inr (inr (inl refl)))))))) db sound own (skip_source tab at) refl refl refl refl (rw clash refl) cant) [
+    elim (one_why 13 _ _ _ _ _ _ _ (inr (inr (inr (inr (inr (inr (inr (inl refl)))))))) db sound own (skip_source tab at) refl refl refl refl (rw clash refl) e cant) [
       | inl full ↦ full
       | inr big ↦ absurd (skip_big id tab at big)
     ]
@@ -172,5 +172,5 @@ add_skip_why tab at old new free store (e, other, ran) =
       | inl blamed ↦ inl blamed
       | inr cant ↦
           let kept = store cant.0 in
-          inr (skip_why tab at old.now.trees (sound_of old kept) kept.numbered.1.1.1.1.1.1.1.0 (free cant.0) (subst (CantAdd (skip_table 13) old.now.trees) (skip_made tab at) cant.1))
+          inr (skip_why tab at old.now.trees (sound_of old kept) kept.numbered.1.1.1.1.1.1.1.0 (free cant.0) e (subst (CantAdd e (skip_table 13) old.now.trees) (skip_made tab at) cant.1))
     ]

@@ -1,6 +1,6 @@
 -- Why an INSERT into a table of a store is refused.
 use Rattle.std.proofs.Common.{◌≡◌, ◌≢◌, ◌∙◌, ◌∷◌, ◌++◌, ◌||◌, ◌&&◌, ◌⊎◌, ◌≤◌, ◌<◌, ◌+◌, ◌*◌, ◌/◌, ◌^◌, ℕ, zero, suc, ℤ, Bool, true, false, not, nat_lt, List, [], length, map, drop, Option, Some, None, Ok, Err, inl, inr, refl, sym, ap, subst, arith, IsTrue, true≢false, slice_get, length-append, eq-eqb, ne_eqb, is_eq, Ordering}
-use Rattle.std.specs.Prelude.{IsSome}
+use Rattle.std.specs.Prelude.{IsSome, option_map}
 use Rattle.std.specs.List.{AllByRecursion, list_all, list_any, sum_by}
 use Rattle.std.specs.Int.{bit_at}
 use Rattle.std.specs.Ordering.{eq_by_cmp}
@@ -27,7 +27,7 @@ use Rattle.sqlite_sql.specs.Catalog.{entry_of}
 use Rattle.sqlite.specs.Command.{Command}
 use Rattle.sqlite.specs.Command.TheVariants.{Insert}
 use Rattle.sqlite.specs.Source.TheVariants.{Values}
-use Rattle.sqlite.specs.Effect.{Database, RefusesSource, value_rows}
+use Rattle.sqlite.specs.Effect.{Database, RefusesSource, value_rows, edit_error}
 use Rattle.sqlite.specs.Rows.{Task, stamped}
 use Rattle.sqlite.specs.Does.{Does, OnRows, AtPlace, due}
 use Rattle.sqlite.specs.State.{State, mode_of, ExecutesInside}
@@ -49,7 +49,7 @@ use Rattle.sqlite_rules.specs.Edit.{Edit, edit_of, edited, are_fresh, numbered, 
 use Rattle.sqlite.specs.Rowids.TheVariants.{Chosen}
 use Rattle.sqlite_rules.specs.declared.error.Refusal.{Refusal}
 use Rattle.sqlite_rules.specs.declared.error.Refusal.TheVariants.{Violates, Mismatch, NoRowid, BadReference, TooDeep}
-use Rattle.sqlite_rules.specs.Action.{Writes, Leads}
+use Rattle.sqlite_rules.specs.Action.{Writes, Leads, End}
 use Rattle.sqlite_rules.proofs.RuleLemmas.{Turns, unique_kept}
 use Rattle.sqlite_rules.proofs.ListLemmas.{some_has, all_has}
 use Rattle.sqlite_rules.proofs.TableLemmas.{put_has, put_all_has, put_all_keeps, put_all_adds}
@@ -70,10 +70,10 @@ use Rattle.ft_store.proofs.RiseLemmas.{IsUnnumbered, numbered_ints, stale_full, 
 abbrev pub put_in : Table → Trees → List Row → Edit
 put_in table db sources = record { table = table; gone = []; news = numbered Chosen (db table.tree) sources }
 
--- one of them is refused, or can't be stored
-abbrev pub CantAdd : Table → Trees → List Row → Type 0
-CantAdd table db sources =
-    ((why : Refusal) × IsRefused store_schema Enforced db (put_in table db sources) why) ⊎ ((row : Row) × Has (put_in table db sources).news row × IsOversized store_schema table row)
+-- one of them is refused, which is told by this error, or can't be stored
+abbrev pub CantAdd : Error → Table → Trees → List Row → Type 0
+CantAdd e table db sources =
+    ((why : Refusal) × IsRefused store_schema Enforced db (put_in table db sources) why × (e ≡ edit_error why)) ⊎ ((row : Row) × Has (put_in table db sources).news row × IsOversized store_schema table row)
 
 -- the values of an INSERT as the columns of its table take them
 abbrev given_rows : Table → List Row → List Row
@@ -86,10 +86,14 @@ module _ (tree : ℕ) (name : List ℕ) (columns : List Column) (key : Option �
   abbrev the_table : Table
   the_table = a_table tree name columns key primary uniques orders checks
 
-  wrote_not : (db : Trees) (rows : List Row) (why : Option Refusal) → Writes store_schema Enforced db (put_in the_table db (given_rows the_table rows)) (Err why) → CantAdd the_table db (given_rows the_table rows)
-  wrote_not db rows why (inl refused) = inl (refused.0, refused.1)
-  wrote_not db rows why (inr (inl big)) = inr (big.0, big.1, big.2)
-  wrote_not db rows why (inr (inr went)) = absurd (settled went.2.0 went.2.1)
+  told_by : (e : Error) (stop : Option Error) (why : Option Refusal) (reason : Refusal) → (stop ≡ None) ⊎ (stop ≡ Some e) → stop ≡ option_map edit_error why → ◌≡◌ {A = End} (Err why) (Err (Some reason)) → e ≡ edit_error reason
+  told_by e stop why reason (inl none) is same = absurd cc
+  told_by e stop why reason (inr some) is same = cc
+
+  wrote_not : (e : Error) (db : Trees) (rows : List Row) (stop : Option Error) (why : Option Refusal) → (stop ≡ None) ⊎ (stop ≡ Some e) → stop ≡ option_map edit_error why → Writes store_schema Enforced db (put_in the_table db (given_rows the_table rows)) (Err why) → CantAdd e the_table db (given_rows the_table rows)
+  wrote_not e db rows stop why told is (inl refused) = inl (refused.0, refused.1, told_by e stop why refused.0 told is refused.2)
+  wrote_not e db rows stop why told is (inr (inl big)) = inr (big.0, big.1, big.2)
+  wrote_not e db rows stop why told is (inr (inr went)) = absurd (settled went.2.0 went.2.1)
     where
       settled : (n : ℕ) → Leads store_schema Enforced n went.0 [] (Err why) → ⊥
       settled zero h = absurd (let e = h.1 in cc)
@@ -108,8 +112,11 @@ module _ (tree : ℕ) (name : List ℕ) (columns : List Column) (key : Option �
     sourced_not db None h = absurd h
     sourced_not db (Some e) h = sourced db e h
 
-    pub insert_why : CantDo old params (Insert at (Values terms width)) → IsSome old.step_limit ⊎ CantAdd the_table old.now.trees (made_rows the_table terms width params)
-    insert_why (text, stop, does) =
+    same_stop : {A : Type 0} {a b : Option Error} → ◌≡◌ {A = Rattle.sqlite.specs.Rows.Outcome A} (Err a) (Err b) → a ≡ b
+    same_stop h = cc
+
+    pub insert_why : (e : Error) → CantDo e old params (Insert at (Values terms width)) → IsSome old.step_limit ⊎ CantAdd e the_table old.now.trees (made_rows the_table terms width params)
+    insert_why e (text, stop, told, does) =
         let db = old.now.trees in
         let command = Insert at (Values terms width) in
         let task : Task = record { limit = old.step_limit; keys = (mode_of old).keys; schema = store_schema; table = the_table; params = params } in
@@ -121,7 +128,7 @@ module _ (tree : ℕ) (name : List ℕ) (columns : List Column) (key : Option �
             | inr asked ↦ elim asked.2 [
               | inl counter ↦ absurd (let e = counter.1 in cc)
               | inr counter ↦ elim counter.2 [
-                | inl wrote ↦ inr (subst (λ rows. CantAdd the_table db (given_rows the_table rows)) asked.1.1 (wrote_not db asked.0 wrote.1.0 wrote.1.1))
+                | inl wrote ↦ (let same : stop ≡ wrote.0 = same_stop writes.2 ∙ same_stop wrote.2 in inr (subst (λ rows. CantAdd e the_table db (given_rows the_table rows)) asked.1.1 (wrote_not e db asked.0 stop wrote.1.0 told (same ∙ wrote.1.2) wrote.1.1)))
                 | inr wrote ↦ absurd (elim wrote.2 [
                   | inl counted ↦ (let e = counted.1 in cc)
                   | inr counted ↦ (let e = counted.2 in cc)
@@ -142,16 +149,16 @@ module _ (tree : ℕ) (name : List ℕ) (columns : List Column) (key : Option �
   module _ (old new : State) (sql : List ℕ) (params : Row) (at : ℕ) (terms : List Term) (width : ℕ) (is : command_of (understood store_schema sql) ≡ Insert at (Values terms width)) (plain : IsPlain (understood store_schema sql))
       (whole : is_whole sql (length params) (understood store_schema sql) ≡ true) (found : slice_get store_schema.tables at ≡ Some the_table) (given : IsGiven terms width (stamped the_table params)) where
     pub insert_blamed : (IsTrue old.is_open → IsStore old.now) → (e : Error) → e ≢ SqliteFailure code.OutOfMemory → ExecutesInside 0 sql params old new (Err e)
-        → IsBlamed old new ⊎ (IsTrue old.is_open × CantAdd the_table old.now.trees (made_rows the_table terms width params))
+        → IsBlamed old new ⊎ (IsTrue old.is_open × CantAdd e the_table old.now.trees (made_rows the_table terms width params))
     insert_blamed store e other ran = by_open old.is_open refl
       where
-        by_open : (o : Bool) → old.is_open ≡ o → IsBlamed old new ⊎ (IsTrue old.is_open × CantAdd the_table old.now.trees (made_rows the_table terms width params))
+        by_open : (o : Bool) → old.is_open ≡ o → IsBlamed old new ⊎ (IsTrue old.is_open × CantAdd e the_table old.now.trees (made_rows the_table terms width params))
         by_open false shut = inl (inr (inl shut))
         by_open true is_open =
             let kept = store is_open in
             elim (write_refused old new sql params kept.schema _ is plain whole tt refl e other ran) [
               | inl blamed ↦ inl blamed
-              | inr cant ↦ elim (insert_why old kept params at terms width found given cant) [ inl limit ↦ inl (inr (inr limit)) | inr add ↦ inr (is_open, add) ]
+              | inr cant ↦ elim (insert_why old kept params at terms width found given e cant) [ inl limit ↦ inl (inr (inr limit)) | inr add ↦ inr (is_open, add) ]
             ]
 
   -- ---- which rules the rows break

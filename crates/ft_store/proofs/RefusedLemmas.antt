@@ -68,9 +68,10 @@ fails_unless old new e TooBig Why blamed big other h = go h.0 h.1 h.2
 abbrev pub RunOnlyBlamed : State → State → List ℕ → Row → Type 0
 RunOnlyBlamed old new sql params = (IsTrue old.is_open → IsStore old.now) → (e : Error) × (e ≢ SqliteFailure code.OutOfMemory) × ExecutesInside 0 sql params old new (Err e) → IsBlamed old new
 
--- the command can't be done on the rows that are there
-abbrev pub CantDo : State → Row → Command → Type 0
-CantDo s params command = (text : List ℕ) × (stop : Option Error) × Does s.step_limit (mode_of s) params s.now text None command (Err stop)
+-- the command can't be done on the rows that are there, which is told by this error, or a row is
+-- too big
+abbrev pub CantDo : Error → State → Row → Command → Type 0
+CantDo e s params command = (text : List ℕ) × (stop : Option Error) × ((stop ≡ None) ⊎ (stop ≡ Some e)) × Does s.step_limit (mode_of s) params s.now text None command (Err stop)
 
 -- why a statement that writes is refused
 module _ (old new : State) (sql : List ℕ) (params : Row) (has : old.now.schema ≡ store_schema) (command : Command) (is : command_of (understood store_schema sql) ≡ command) (plain : IsPlain (understood store_schema sql))
@@ -78,7 +79,7 @@ module _ (old new : State) (sql : List ℕ) (params : Row) (has : old.now.schema
   is_other : (k : Command) → command ≡ k → (IsWrite k → ⊥) → ⊥
   is_other k same not = not (subst IsWrite same writes)
 
-  pub write_refused : (e : Error) → e ≢ SqliteFailure code.OutOfMemory → ExecutesInside 0 sql params old new (Err e) → IsBlamed old new ⊎ CantDo old params command
+  pub write_refused : (e : Error) → e ≢ SqliteFailure code.OutOfMemory → ExecutesInside 0 sql params old new (Err e) → IsBlamed old new ⊎ CantDo e old params command
   unfolding ExecutesIn IsNotRun EndsScope
   write_refused e other (inr ((c, it, escapes), error, same)) =
       let here : understood store_schema sql ≡ Ok c = sym (ap (λ s. understood s sql) has) ∙ it.is in
@@ -100,8 +101,8 @@ module _ (old new : State) (sql : List ℕ) (params : Row) (has : old.now.schema
           | inl a ↦ elim a.1 [ inl b ↦ is_other _ b.0 (λ w. w) | inr b ↦ elim b.0 [ inl k ↦ is_other _ k (λ w. w) | inr k ↦ is_other _ k (λ w. w) ] ]
           | inr a ↦ elim a.2 [ inl k ↦ is_other _ k (λ w. w) | inr k ↦ is_other _ k (λ w. w) ]
         ])
-        | inl (inr does, kept) ↦ inr (text_of sql c, Some e, does.1)
-        | inr fails ↦ fails_unless old new e _ _ (λ b. inl b) (λ big. inr (text_of sql c, None, big)) other fails
+        | inl (inr does, kept) ↦ inr (text_of sql c, Some e, inr refl, does.1)
+        | inr fails ↦ fails_unless old new e _ _ (λ b. inl b) (λ big. inr (text_of sql c, None, inl refl, big)) other fails
       ]
 
 -- ---- DELETE
@@ -165,9 +166,9 @@ module _ (old new : State) (sql : List ℕ) (params : Row) (at : ℕ) (table : T
   queried typed trees None h = absurd h
   queried typed trees (Some e) h = table_limited table.tree terms (0 ∷ []) [] no_limit no_offset params typed old.step_limit (record { schema = store_schema; trees = trees }) e refl h
 
-  delete_limited : IsStore old.now → slice_get store_schema.tables at ≡ Some table → Has store_schema.tables table → ((new : Trees) → are_unique store_schema.indexes new table [] ≡ true) → IsTyped the_query params
-      → CantDo old params (Delete at (record { lets = []; body = the_query })) → IsSome old.step_limit
-  delete_limited store found listed unique typed (text, stop, does) =
+  delete_limited : (e : Error) → IsStore old.now → slice_get store_schema.tables at ≡ Some table → Has store_schema.tables table → ((new : Trees) → are_unique store_schema.indexes new table [] ≡ true) → IsTyped the_query params
+      → CantDo e old params (Delete at (record { lets = []; body = the_query })) → IsSome old.step_limit
+  delete_limited e store found listed unique typed (text, stop, told, does) =
       let db = old.now.trees in
       let command = Delete at (record { lets = []; body = the_query }) in
       let sound : IsSound store_schema db = subst (λ c. IsSound c db) store.schema store.sound in
@@ -199,7 +200,7 @@ module _ (old new : State) (sql : List ℕ) (params : Row) (at : ℕ) (table : T
       by_open false shut = inr (inl shut)
       by_open true is_open =
           let kept = store is_open in
-          elim (write_refused old new sql params kept.schema _ is plain whole tt refl e other ran) [ inl blamed ↦ blamed | inr cant ↦ inr (inr (delete_limited kept found listed unique typed cant)) ]
+          elim (write_refused old new sql params kept.schema _ is plain whole tt refl e other ran) [ inl blamed ↦ blamed | inr cant ↦ inr (inr (delete_limited e kept found listed unique typed cant)) ]
 
 -- ---- the deletions
 
