@@ -13,6 +13,7 @@ pub mod EntryLemmas
 pub mod ExpectedLemmas
 pub mod FoundLemmas
 mod FoundNumbers
+pub mod GoneLemmas
 pub mod GroupLemmas
 pub mod InsertLemmas
 pub mod InsideLemmas

@@ -1,4 +1,5 @@
-use Rattle.ft_store.proofs.AddedLemmas.{drop_skip_blamed, drop_skip_grown, add_skip_grown, add_skip_why}
+use Rattle.ft_store.proofs.AddedLemmas.{add_skip_grown, add_skip_why}
+use Rattle.ft_store.proofs.GoneLemmas.{drop_skip_blamed, drop_skip_grown}
 use Rattle.ft_store.proofs.BlameLemmas.{blamed_then}
 use Rattle.ft_store.proofs.InsideLemmas.{stays_then}
 use Rattle.ft_store.proofs.KeyedLemmas.{find-without_key}
