@@ -1,10 +1,11 @@
 //! The statements that change rows, each with what it makes of the store's value.
-ghost use Rattle.std.specs.Prelude.{◌≡◌, List, [], length, not, ◌&&◌, if◌then◌else◌, unwrap_or, None};
+ghost use Rattle.std.specs.Prelude.{◌≡◌, ◌⊎◌, ◌+◌, List, [], length, not, ◌&&◌, if◌then◌else◌, unwrap_or, None};
 ghost use Rattle.std.specs.List.{flat_map};
 ghost use Rattle.std.specs.Ordering.{int_eq, eq_by_cmp};
 ghost use Rattle.std.specs.FinMap.Entries.{put, where_key, find};
 ghost use Rattle.sqlite.specs.Values.{bound};
 ghost use Rattle.sqlite_value.specs.Value.{owned};
+ghost use Rattle.sqlite_value.specs.Order.{bytes};
 ghost use Rattle.sqlite_value.specs.Keys.{without_case};
 ghost use Rattle.sqlite.specs.declared.types.Value.TheVariants.{Int};
 ghost use Rattle.ft_rows.specs.Packed.{spots_in};
@@ -92,6 +93,7 @@ fn text_of(value: &Value) -> ValueRef<'_>
 pub(crate) fn drop_name<S: Alter>(tx: &mut Transaction<'_, S>, tab: i64) -> Result<(), StoreFault>
     ensures done { StepsInside S.Store tx.old.conn tx.new.conn result
         (λ v. without_name tab v) }
+    ensures grown { GrowsOnOk S.Store tx.old.conn.now tx.new.conn.now result 0 }
     ensures refused { BlamesOutside S.Store tx.old.conn.now tx.new.conn.now result }
 {
     run(tx, "DELETE FROM tab WHERE id = ?1", &[tab.to_sql()])
@@ -104,6 +106,7 @@ pub(crate) fn drop_columns<S: Alter>(
 ) -> Result<(), StoreFault>
     ensures done { StepsInside S.Store tx.old.conn tx.new.conn result
         (λ v. without_columns tab v) }
+    ensures grown { GrowsOnOk S.Store tx.old.conn.now tx.new.conn.now result 0 }
     ensures refused { BlamesOutside S.Store tx.old.conn.now tx.new.conn.now result }
 {
     run(tx, "DELETE FROM col WHERE tab = ?1", &[tab.to_sql()])
@@ -113,6 +116,7 @@ pub(crate) fn drop_columns<S: Alter>(
 pub(crate) fn drop_skips<S: Alter>(tx: &mut Transaction<'_, S>, tab: i64) -> Result<(), StoreFault>
     ensures done { StepsInside S.Store tx.old.conn tx.new.conn result
         (λ v. without_skips tab v) }
+    ensures grown { GrowsOnOk S.Store tx.old.conn.now tx.new.conn.now result 0 }
     ensures refused { BlamesOutside S.Store tx.old.conn.now tx.new.conn.now result }
 {
     run(tx, "DELETE FROM skip WHERE tab = ?1", &[tab.to_sql()])
@@ -125,6 +129,7 @@ pub(crate) fn drop_contents<S: Alter>(
 ) -> Result<(), StoreFault>
     ensures done { StepsInside S.Store tx.old.conn tx.new.conn result
         (λ v. without_contents tab v) }
+    ensures grown { GrowsOnOk S.Store tx.old.conn.now tx.new.conn.now result 0 }
     ensures refused { BlamesOutside S.Store tx.old.conn.now tx.new.conn.now result }
 {
     run(tx, "DELETE FROM cell WHERE tab = ?1", &[tab.to_sql()])
@@ -134,6 +139,7 @@ pub(crate) fn drop_contents<S: Alter>(
 pub(crate) fn drop_lists<S: Alter>(tx: &mut Transaction<'_, S>, tab: i64) -> Result<(), StoreFault>
     ensures done { StepsInside S.Store tx.old.conn tx.new.conn result
         (λ v. without_lists tab v) }
+    ensures grown { GrowsOnOk S.Store tx.old.conn.now tx.new.conn.now result 0 }
     ensures refused { BlamesOutside S.Store tx.old.conn.now tx.new.conn.now result }
 {
     run(tx, "DELETE FROM posting WHERE tab = ?1", &[tab.to_sql()])
@@ -143,6 +149,7 @@ pub(crate) fn drop_lists<S: Alter>(tx: &mut Transaction<'_, S>, tab: i64) -> Res
 pub(crate) fn drop_sizes<S: Alter>(tx: &mut Transaction<'_, S>, tab: i64) -> Result<(), StoreFault>
     ensures done { StepsInside S.Store tx.old.conn tx.new.conn result
         (λ v. without_sizes tab v) }
+    ensures grown { GrowsOnOk S.Store tx.old.conn.now tx.new.conn.now result 0 }
     ensures refused { BlamesOutside S.Store tx.old.conn.now tx.new.conn.now result }
 {
     run(tx, "DELETE FROM sizes WHERE tab = ?1", &[tab.to_sql()])
@@ -159,6 +166,7 @@ pub(crate) fn drop_cells<S: Alter>(
           cells = where_key cell_key_cmp
               (λ k. not (int_eq tab k.0 && int_eq docid k.1)) v.cells;
         }) }
+    ensures grown { GrowsOnOk S.Store tx.old.conn.now tx.new.conn.now result 0 }
     ensures refused { BlamesOutside S.Store tx.old.conn.now tx.new.conn.now result }
 {
     run(
@@ -180,6 +188,7 @@ pub(crate) fn drop_list<S: Alter>(
           lists = where_key list_key_cmp
               (λ k. not (eq_by_cmp list_key_cmp (tab, term.now, docid) k)) v.lists;
         }) }
+    ensures grown { GrowsOnOk S.Store tx.old.conn.now tx.new.conn.now result 0 }
     ensures refused { BlamesOutside S.Store tx.old.conn.now tx.new.conn.now result }
 {
     run(
@@ -201,6 +210,7 @@ pub(crate) fn drop_size<S: Alter>(
           sizes = where_key cell_key_cmp
               (λ k. not (eq_by_cmp cell_key_cmp (tab, docid, column) k)) v.sizes;
         }) }
+    ensures grown { GrowsOnOk S.Store tx.old.conn.now tx.new.conn.now result 0 }
     ensures refused { BlamesOutside S.Store tx.old.conn.now tx.new.conn.now result }
 {
     run(
@@ -236,8 +246,11 @@ pub(crate) fn put_column<S: Alter>(
     column: i64,
     name: &str,
 ) -> Result<(), StoreFault>
-    ensures { StepsInside S.Store tx.old.conn tx.new.conn result
+    ensures done { StepsInside S.Store tx.old.conn tx.new.conn result
         (λ v. record v { columns = put column_key_cmp (tab, column) name.now v.columns }) }
+    ensures grown { GrowsOnOk S.Store tx.old.conn.now tx.new.conn.now result 1 }
+    ensures refused { BlamesRows S.Store tx.old.conn.now tx.new.conn.now result
+        (λ db. IsFull 1 (db 3) ⊎ IsTooBig 4 (length name.now)) }
 {
     run(
         tx,
@@ -283,11 +296,15 @@ pub(crate) fn put_cell<S: Alter>(
     column: i64,
     value: &Value,
 ) -> Result<(), StoreFault>
-    ensures { StepsInside S.Store tx.old.conn tx.new.conn result
+    ensures done { StepsInside S.Store tx.old.conn tx.new.conn result
         (λ v. record v {
           cells = put cell_key_cmp (tab, docid, column) (shown_value value.now)
               v.cells;
         }) }
+    ensures grown { GrowsOnOk S.Store tx.old.conn.now tx.new.conn.now result 1 }
+    ensures refused { BlamesRows S.Store tx.old.conn.now tx.new.conn.now result
+        (λ db. IsFull 1 (db 5)
+        ⊎ IsTooBig 6 (length (bytes (txt_of (shown_value value.now))))) }
 {
     run(
         tx,
@@ -313,8 +330,11 @@ pub(crate) fn put_cell<S: Alter>(
 
 /// Puts a noted name.
 pub(crate) fn put_note<S: Alter>(tx: &mut Transaction<'_, S>, name: &str) -> Result<(), StoreFault>
-    ensures { StepsInside S.Store tx.old.conn tx.new.conn result
+    ensures done { StepsInside S.Store tx.old.conn tx.new.conn result
         (λ v. record v { noted = put name_cmp (without_case name.now) name.now v.noted }) }
+    ensures grown { GrowsOnOk S.Store tx.old.conn.now tx.new.conn.now result 1 }
+    ensures refused { BlamesRows S.Store tx.old.conn.now tx.new.conn.now result
+        (λ db. IsFull 1 (db 11) ⊎ IsTooBig 2 (length name.now)) }
 {
     run(tx, "DELETE FROM noted WHERE name = ?1", &[name.to_sql()])?;
     run(tx, "INSERT INTO noted (name) VALUES (?1)", &[name.to_sql()])
@@ -328,8 +348,11 @@ pub(crate) fn put_size<S: Alter>(
     column: i64,
     n: i64,
 ) -> Result<(), StoreFault>
-    ensures { StepsInside S.Store tx.old.conn tx.new.conn result
+    ensures done { StepsInside S.Store tx.old.conn tx.new.conn result
         (λ v. record v { sizes = put cell_key_cmp (tab, docid, column) n v.sizes }) }
+    ensures grown { GrowsOnOk S.Store tx.old.conn.now tx.new.conn.now result 1 }
+    ensures refused { BlamesRows S.Store tx.old.conn.now tx.new.conn.now result
+        (λ db. IsFull 1 (db 9)) }
 {
     drop_size(tx, tab, docid, column)?;
     run(
@@ -347,11 +370,14 @@ pub(crate) fn put_list<'a, S: Alter>(
     docid: i64,
     list: &'a [u8],
 ) -> Result<(), StoreFault>
-    ensures { StepsInside S.Store tx.old.conn tx.new.conn result
+    ensures done { StepsInside S.Store tx.old.conn tx.new.conn result
         (λ v. record v {
           lists = put list_key_cmp (tab, term.now, docid)
               (unwrap_or (spots_in list.now) []) v.lists;
         }) }
+    ensures grown { GrowsOnOk S.Store tx.old.conn.now tx.new.conn.now result 1 }
+    ensures refused { BlamesRows S.Store tx.old.conn.now tx.new.conn.now result
+        (λ db. IsFull 1 (db 7) ⊎ IsTooBig 5 (length term.now + length list.now)) }
 {
     drop_list(tx, tab, term, docid)?;
     run(
