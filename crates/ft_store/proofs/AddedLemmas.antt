@@ -1,6 +1,7 @@
 -- What the statements that put rows leave room for, and why they are refused.
 use Rattle.std.proofs.Common.{◌≡◌, ◌≢◌, ◌∙◌, ◌∷◌, ◌⊎◌, ◌≤◌, ◌<◌, ◌+◌, ◌^◌, ◌/◌, ℕ, ℤ, Bool, true, false, not, nat_eq, List, [], length, map, drop, Option, Some, None, Ok, Err, inl, inr, refl, sym, ap, subst, arith, IsTrue, true≢false, slice_get}
-use Rattle.std.specs.List.{AllByRecursion, list_all}
+use Rattle.std.specs.Prelude.{Any, MatchBool, if◌then◌else◌}
+use Rattle.std.specs.List.{AllByRecursion, list_all, flat_map}
 use Rattle.std.specs.FinMap.Entries.{find}
 use Rattle.std.specs.Ordering.{eq_by_cmp}
 use Rattle.std.proofs.lemmas.Bool.{eqb-true, eqb-false, both_ways}
@@ -12,7 +13,7 @@ use Rattle.sqlite.specs.Term.{Term, holds}
 use Rattle.sqlite.specs.Program.{overlay}
 use Rattle.sqlite.specs.Command.TheVariants.{Insert, Delete}
 use Rattle.sqlite.specs.Source.TheVariants.{Values}
-use Rattle.sqlite.specs.Effect.{Database, RefusesSource}
+use Rattle.sqlite.specs.Effect.{Database, RefusesSource, edit_error}
 use Rattle.sqlite.specs.Rows.{stamped}
 use Rattle.sqlite_value.specs.Order.{bytes, value_cmp}
 use lib.Ieee
@@ -20,7 +21,7 @@ use Rattle.sqlite_sql.specs.Ops.{binary}
 use Rattle.ft_values.specs.Cells.{Cell}
 use Rattle.ft_values.specs.Cells as cells
 use Rattle.sqlite.specs.Listing.{understood}
-use Rattle.sqlite.specs.State.{State, Executes, ExecutesInside}
+use Rattle.sqlite.specs.State.{State, Executes, ExecutesInside, IsUnchanged}
 use Rattle.sqlite.specs.declared.error.Error.{Error}
 use Rattle.sqlite.specs.declared.error.Error.TheVariants.{SqliteFailure}
 use Rattle.sqlite.specs.declared.error.ErrorCode.TheVariants as code
@@ -30,13 +31,14 @@ use Rattle.sqlite_value.specs.Keys.{first_key, without_case}
 use Rattle.sqlite_tied.specs.Compute.{everything}
 use Rattle.sqlite_schema.specs.declared.schema.Column.{Column}
 use Rattle.sqlite_schema.specs.declared.schema.Index.{Index}
-use Rattle.sqlite_schema.specs.declared.schema.Constraint.TheVariants.{Datatype, NotNull, Check}
+use Rattle.sqlite_schema.specs.declared.schema.Constraint.{Constraint}
+use Rattle.sqlite_schema.specs.declared.schema.Constraint.TheVariants.{Datatype, NotNull, Check, Unique}
 use Rattle.sqlite_schema.specs.Rules.{agree, passes, table_reals, index_reals}
 use Rattle.sqlite_value.specs.declared.keys.Order.{Order}
 use Rattle.sqlite_rules.specs.Lists.{Has}
 use Rattle.sqlite_rules.specs.Keys.{are_unique}
 use Rattle.sqlite_rules.specs.Edit.{with_rowid, next_rowid, numbered, put_all, id_in, IsOversized}
-use Rattle.sqlite_rules.proofs.ListLemmas.{all_has}
+use Rattle.sqlite_rules.proofs.ListLemmas.{all_has, contains_had}
 use Rattle.sqlite_trees.specs.Tree.{with_tree, put_row}
 use Rattle.sqlite_trees.specs.View.{IsStorable, IsStorableRow}
 use Rattle.sqlite_sql.specs.Catalog.{entry_of}
@@ -48,18 +50,20 @@ use Rattle.ft_store.specs.Tables.{store_schema, a_table, col_table, cell_table, 
 use Rattle.ft_store.specs.Rows.{num_of, txt_of, column_entry, skip_entry, cell_entry, list_entry, size_entry, note_entry, value_of}
 use Rattle.ft_store.specs.Calls.{IsStore, HasOwnRowids}
 use Rattle.ft_store.specs.Blame.{IsBlamed}
-use Rattle.ft_store.specs.Puts.{IsFull, IsGrown, AreGrown, IsTooBig}
-use Rattle.ft_store.proofs.Texts.{add_column_text, add_skip_text, add_cell_text, add_list_text, add_size_text, add_note_text}
-use Rattle.ft_store.proofs.TextLemmas.{add_column_terms, add_column_is, add_column_plain, add_skip_terms, add_skip_is, add_skip_plain, add_cell_terms, add_cell_is, add_cell_plain, add_list_terms, add_list_is, add_list_plain, add_size_terms, add_size_is, add_size_plain, add_note_terms, add_note_is, add_note_plain}
+use Rattle.ft_store.specs.Puts.{IsFull, IsGrown, AreGrown, IsTooBig, IsBigEntry}
+use Rattle.ft_store.specs.Groups.{Entry, entry_values}
+use Rattle.ft_store.proofs.GroupLemmas.{all_eight}
+use Rattle.ft_store.proofs.Texts.{add_column_text, add_skip_text, add_cell_text, add_list_text, add_lists_text, add_size_text, add_note_text}
+use Rattle.ft_store.proofs.TextLemmas.{add_column_terms, add_column_is, add_column_plain, add_skip_terms, add_skip_is, add_skip_plain, add_cell_terms, add_cell_is, add_cell_plain, add_list_terms, add_list_is, add_list_plain, add_lists_terms, add_lists_is, add_lists_plain, add_size_terms, add_size_is, add_size_plain, add_note_terms, add_note_is, add_note_plain}
 use Rattle.ft_store.proofs.TypedLemmas.{IsColumnRow, IsSkipRow, IsCellRow, IsListRow, IsSizeRow, IsNoteRow, are_columns, are_skips, are_cells, are_lists, are_sizes, are_notes}
 use Rattle.ft_store.proofs.AnswerLemmas.{sound_of}
 use Rattle.ft_store.proofs.AskedLemmas.{is_whole}
 use Rattle.ft_store.proofs.KeyedLemmas.{find-keyed}
 use Rattle.ft_store.proofs.OrderLemmas.{tied_column_keys, column_key_total, tied_cell_keys, cell_key_total, tied_list_keys, list_key_total, tied_names, name_total}
 use Rattle.ft_store.proofs.ChangeLemmas.{Wrote, deletes, inserts_all, cast_null, cast_int}
-use Rattle.ft_store.proofs.WriteLemmas.{then_tie, turned, turned_text, turned_case, cast_num, cast_txt}
+use Rattle.ft_store.proofs.WriteLemmas.{then_tie, turned, turned_text, turned_case, cast_num, cast_txt, cast_lists, list_row}
 use Rattle.ft_store.proofs.GoneLemmas.{wrote_grown}
-use Rattle.ft_store.proofs.RiseLemmas.{IsUnnumbered, grown_filter, grown_same, numbered_grown}
+use Rattle.ft_store.proofs.RiseLemmas.{IsUnnumbered, numbered_grown, trees_same}
 use Rattle.ft_store.proofs.InsertLemmas.{CantAdd, made_rows, insert_blamed, refused_why, no_clash, IsNumber, too_big}
 
 -- what is too big in a row: the row, or its entry in the one index of its table
@@ -410,3 +414,79 @@ add_note_why name old new free store (e, other, ran) =
           let kept = store cant.0 in
           inr (note_why name old.now.trees (sound_of old kept) kept.numbered.1.1.1.1.1.1.0 (free cant.0) e (subst (CantAdd e (noted_table 11) old.now.trees) (note_made name) cant.1))
     ]
+
+-- ---- eight lists that are added by one statement
+
+list_typed : (es : List Entry) (db : Trees) (rows : List Row) → list_all (passes Datatype store_schema db (posting_table 7)) (numbered Chosen rows (map list_row es)) ≡ true
+list_typed [] db rows = refl
+list_typed (e ∷ es) db rows = list_typed es db _
+
+list_present : (es : List Entry) (db : Trees) (rows : List Row) → list_all (passes NotNull store_schema db (posting_table 7)) (numbered Chosen rows (map list_row es)) ≡ true
+list_present [] db rows = refl
+list_present (e ∷ es) db rows = list_present es db _
+
+list_checked : (es : List Entry) (db : Trees) (rows : List Row) → list_all (passes Check store_schema db (posting_table 7)) (numbered Chosen rows (map list_row es)) ≡ true
+list_checked [] db rows = refl
+list_checked (e ∷ es) db rows = list_checked es db _
+
+list_bare : (es : List Entry) → AllByRecursion IsUnnumbered (map list_row es)
+list_bare [] = tt
+list_bare (e ∷ es) = (refl, list_bare es)
+
+list_among : (es : List Entry) (rows : List Row) (row : Row) → Has (numbered Chosen rows (map list_row es)) row → (rowid : ℤ) × (e : Entry) × Has es e × (row ≡ Int rowid ∷ entry_values e)
+list_among [] rows row h = absurd h
+list_among (e ∷ es) rows row (inl same) = (next_rowid rows, e, inl refl, same)
+list_among (e ∷ es) rows row (inr later) = let found = list_among es _ row later in (found.0, found.1, inr found.2, found.3)
+
+add_lists_whole : is_whole add_lists_text 32 (understood store_schema add_lists_text) ≡ true
+unfolding understood everything
+add_lists_whole = refl
+
+any_had : {X : Type 0} (P : X → Type 0) (xs : List X) (x : X) → Has xs x → P x → Any P xs
+any_had P xs x has p = let at = contains_had xs x has in (at.0, x, at.1, at.2, p)
+
+module _ (a b c d e f g h : Entry) where
+  abbrev eight : List Entry
+  eight = a ∷ b ∷ c ∷ d ∷ e ∷ f ∷ g ∷ h ∷ []
+
+  eight_made : made_rows (posting_table 7) add_lists_terms 5 (flat_map entry_values eight) ≡ map list_row eight
+  eight_made = cast_lists eight
+
+  eight_grown : (old new : State) (count : ℕ) → IsStore old.now → Executes add_lists_text (flat_map entry_values eight) old new (Ok count) → AreGrown 8 old.now.trees new.now.trees
+  eight_grown old new count kept ran =
+      insert_grown 7 _ _ _ _ _ _ _ old new add_lists_text (flat_map entry_values eight) 4 add_lists_terms 5 (map list_row eight) count kept.schema add_lists_is add_lists_plain refl eight_made (list_bare eight) kept.numbered.1.1.1.1.0 ran
+
+  eight_why : (old new : State) → (IsTrue old.is_open → IsStore old.now) → (why : Error) → why ≢ SqliteFailure code.OutOfMemory → ((rule : Constraint) → why ≢ SqliteFailure (code.ConstraintViolation rule))
+      → ExecutesInside 0 add_lists_text (flat_map entry_values eight) old new (Err why) → IsBlamed old new ⊎ (IsFull 8 (old.now.trees 7) ⊎ Any IsBigEntry eight)
+  eight_why old new store why other unruled ran =
+      elim (insert_blamed 7 _ _ _ _ _ _ _ old new add_lists_text (flat_map entry_values eight) 4 add_lists_terms 5 add_lists_is add_lists_plain add_lists_whole refl (λ db x no. elim no [ inl bad ↦ true≢false bad.1 | inr limit ↦ true≢false (sym limit.1) ]) store why other ran) [
+        | inl blamed ↦ inl blamed
+        | inr cant ↦ inr (by_cause (store cant.0) (subst (CantAdd why (posting_table 7) old.now.trees) eight_made cant.1))
+      ]
+    where
+      by_cause : IsStore old.now → CantAdd why (posting_table 7) old.now.trees (map list_row eight) → IsFull 8 (old.now.trees 7) ⊎ Any IsBigEntry eight
+      by_cause kept (inl refused) =
+          elim (refused_why 7 _ _ _ _ _ _ _ (inr (inr (inr (inr (inl refl))))) old.now.trees (sound_of old kept) kept.numbered.1.1.1.1.0 (map list_row eight) (list_bare eight)
+          (list_typed eight old.now.trees (old.now.trees 7)) (list_present eight old.now.trees (old.now.trees 7)) (list_checked eight old.now.trees (old.now.trees 7)) refused.0 refused.1) [
+            | inl full ↦ inl full
+            | inr twice ↦ absurd (unruled Unique (refused.2 ∙ ap edit_error twice.0))
+          ]
+      by_cause kept (inr (row, listed, big)) =
+          let found = list_among eight (old.now.trees 7) row listed in
+          let it = found.1 in
+          inr (any_had IsBigEntry eight it found.2 (list_big found.0 it.0.0 it.0.1 it.0.2 it.1 (subst (IsOversized store_schema (posting_table 7)) found.3 big)))
+
+pub adds_grown : (old new : State) (es : List Entry) (values : Row) (added : Bool) → length es ≡ 8 → values ≡ flat_map entry_values es → (IsTrue old.is_open → IsStore old.now)
+    → MatchBool added ((count : ℕ) × ExecutesInside 0 add_lists_text values old new (Ok count)) (IsUnchanged old new) → AreGrown (if added then 8 else 0) old.now.trees new.now.trees
+adds_grown old new es values false len is kept same = trees_same 0 old.now.trees new.now.trees (ap (λ d. d.trees) same.0.now_is)
+adds_grown old new es values true len is kept ran =
+    let e = all_eight es len in
+    eight_grown e.0 e.1 e.2 e.3 e.4 e.5 e.6 e.7 old new ran.0 (kept ran.1.1.was_open) (subst (λ l. Executes add_lists_text l old new (Ok ran.0)) (is ∙ ap (flat_map entry_values) e.8) ran.1.0)
+
+pub adds_why : (old new : State) (es : List Entry) (values : Row) → length es ≡ 8 → values ≡ flat_map entry_values es → (IsTrue old.is_open → IsStore old.now)
+    → (why : Error) × (why ≢ SqliteFailure code.OutOfMemory) × ((rule : Constraint) → why ≢ SqliteFailure (code.ConstraintViolation rule)) × ExecutesInside 0 add_lists_text values old new (Err why)
+    → IsBlamed old new ⊎ (IsFull 8 (old.now.trees 7) ⊎ Any IsBigEntry es)
+adds_why old new es values len is kept why =
+    let e = all_eight es len in
+    subst (λ l. IsBlamed old new ⊎ (IsFull 8 (old.now.trees 7) ⊎ Any IsBigEntry l)) (sym e.8)
+    (eight_why e.0 e.1 e.2 e.3 e.4 e.5 e.6 e.7 old new kept why.0 why.1 why.2 (subst (λ l. ExecutesInside 0 add_lists_text l old new (Err why.0)) (is ∙ ap (flat_map entry_values) e.8) why.3))

@@ -195,18 +195,18 @@ module _ (tree : ℕ) (name : List ℕ) (columns : List Column) (key : Option �
 
     module _ (typed : list_all (passes Datatype store_schema db the_table) news ≡ true) (present : list_all (passes NotNull store_schema db the_table) news ≡ true) (checked : list_all (passes Check store_schema db the_table) news ≡ true) where
       -- the table is full, or a key comes twice
-      pub refused_why : (why : Refusal) → IsRefused store_schema Enforced db (put_in the_table db sources) why → IsFull (length sources) (db tree) ⊎ ((are_fresh (db tree) news ≡ true) × (are_unique store_schema.indexes next the_table news ≡ false))
+      pub refused_why : (why : Refusal) → IsRefused store_schema Enforced db (put_in the_table db sources) why → IsFull (length sources) (db tree) ⊎ ((why ≡ Violates Unique) × (are_unique store_schema.indexes next the_table news ≡ false))
       refused_why (Violates Datatype) h = absurd (both_ways _ h typed)
       refused_why (Violates NotNull) h = absurd (both_ways _ h present)
       refused_why (Violates Check) h = absurd (both_ways _ h checked)
       refused_why (Violates PrimaryKey) h = inl (stale_full sources (db tree) own.1 bare h)
       refused_why (Violates Unique) h = by_fresh (are_fresh (db tree) news) refl
         where
-          by_unique : are_fresh (db tree) news ≡ true → (b : Bool) → are_unique store_schema.indexes next the_table news ≡ b → IsFull (length sources) (db tree) ⊎ ((are_fresh (db tree) news ≡ true) × (are_unique store_schema.indexes next the_table news ≡ false))
+          by_unique : are_fresh (db tree) news ≡ true → (b : Bool) → are_unique store_schema.indexes next the_table news ≡ b → IsFull (length sources) (db tree) ⊎ ((Violates Unique ≡ Violates Unique) × (are_unique store_schema.indexes next the_table news ≡ false))
           by_unique fresh true is = absurd (h (unique_kept store_schema db next the_table _ _ news (turned fresh) is (sound.obeys.rules Unique)))
-          by_unique fresh false is = inr (fresh, is)
+          by_unique fresh false is = inr (refl, is)
 
-          by_fresh : (b : Bool) → are_fresh (db tree) news ≡ b → IsFull (length sources) (db tree) ⊎ ((are_fresh (db tree) news ≡ true) × (are_unique store_schema.indexes next the_table news ≡ false))
+          by_fresh : (b : Bool) → are_fresh (db tree) news ≡ b → IsFull (length sources) (db tree) ⊎ ((Violates Unique ≡ Violates Unique) × (are_unique store_schema.indexes next the_table news ≡ false))
           by_fresh true is = by_unique is (are_unique store_schema.indexes next the_table news) refl
           by_fresh false is = inl (stale_full sources (db tree) own.1 bare is)
       refused_why (Violates ForeignKey) h = absurd h

@@ -1,7 +1,7 @@
 -- Meaning. Why the database refuses rows that are put. The database gives a row the rowid after the
 -- last one of its table, a number of 64 bits, and takes no row of more than a billion bytes, with 18
 -- for each value.
-use Rattle.std.specs.Prelude.{◌≡◌, ◌≢◌, ◌⊎◌, ◌≤◌, ◌<◌, ◌+◌, ◌-◌, ◌*◌, ◌^◌, ◌≤ℤ◌, ◌++◌, ℕ, ℤ, pos, negsuc, List, [], ◌∷◌, length, fold, Any, Contains, Result, Err, IsTrue, OnOk}
+use Rattle.std.specs.Prelude.{Bool, if◌then◌else◌, IfOk, ◌≡◌, ◌≢◌, ◌⊎◌, ◌≤◌, ◌<◌, ◌+◌, ◌-◌, ◌*◌, ◌^◌, ◌≤ℤ◌, ◌++◌, ℕ, ℤ, pos, negsuc, List, [], ◌∷◌, length, fold, Any, Contains, Result, Err, IsTrue, OnOk}
 use Rattle.std.specs.List.{AllByRecursion, sum_by}
 use Rattle.sqlite.specs.Order.{Row}
 use Rattle.sqlite_value.specs.Order.{bytes}
@@ -9,7 +9,11 @@ use Rattle.sqlite_value.specs.Keys.{without_case}
 use Rattle.sqlite.specs.Tree.{Trees}
 use Rattle.sqlite_trees.specs.Tree.{IsTable, rowid}
 use Rattle.sqlite_rules.specs.Edit.{id_in}
-use Rattle.sqlite.specs.State.{State, HasCleanDisk}
+use Rattle.sqlite.specs.State.{State, HasCleanDisk, ExecutesInside}
+use Rattle.sqlite.specs.declared.error.Error.{Error}
+use Rattle.sqlite.specs.declared.error.Error.TheVariants.{SqliteFailure}
+use Rattle.sqlite.specs.declared.error.ErrorCode.TheVariants as code
+use Rattle.sqlite_schema.specs.declared.schema.Constraint.{Constraint}
 use Rattle.sqlite.specs.Store.{Ghosts}
 use Rattle.sqlite.specs.Held.{Held, state}
 use Rattle.ft_rows.specs.Packed.{packed_spots}
@@ -19,6 +23,7 @@ use Rattle.ft_store.specs.declared.fault.StoreFault.TheVariants as fault
 use Rattle.ft_store.specs.Rows.{txt_of, value_of}
 use Rattle.ft_store.specs.Calls.{IsStore}
 use Rattle.ft_store.specs.Blame.{IsBlamed}
+use Rattle.ft_store.specs.Groups.{Entry}
 
 -- a number, and 0 for one below it
 abbrev pub at_least_zero : ℤ → ℕ
@@ -98,6 +103,32 @@ abbrev pub GrowsOnOk : {S X : Type 0} → Ghosts S → Held S → Held S → Res
 GrowsOnOk g old new result count =
     HasCleanDisk (state g new) → IsTrue (state g old).in_transaction → (IsTrue (state g old).is_open → IsStore (state g old).now)
     → OnOk result (AreGrown count (state g old).now.trees (state g new).now.trees)
+
+-- the same of rows that are added or left out, and of a call in an open database
+abbrev pub GrowsIfAdded : {S : Type 0} → Ghosts S → Held S → Held S → Result Bool StoreFault → ℕ → Type 0
+GrowsIfAdded g old new result count =
+    HasCleanDisk (state g new) → IsTrue (state g old).in_transaction → (IsTrue (state g old).is_open → IsStore (state g old).now)
+    → IfOk result (λ added. AreGrown (if added then count else 0) (state g old).now.trees (state g new).now.trees)
+
+abbrev pub GrowsIfOpen : {S X : Type 0} → Ghosts S → Held S → Held S → Result X StoreFault → ℕ → Type 0
+GrowsIfOpen g old new result count =
+    HasCleanDisk (state g new) → IsTrue (state g old).in_transaction → IsTrue (state g old).is_open → IsStore (state g old).now
+    → OnOk result (AreGrown count (state g old).now.trees (state g new).now.trees)
+
+abbrev pub BlamesIfOpen : {S X : Type 0} → Ghosts S → Held S → Held S → Result X StoreFault → (Trees → Type 0) → Type 0
+BlamesIfOpen g old new result Why =
+    HasCleanDisk (state g new) → IsTrue (state g old).in_transaction → IsTrue (state g old).is_open → IsStore (state g old).now → result ≡ Err fault.Refused
+    → IsBlamed (state g old) (state g new) ⊎ Why (state g old).now.trees
+
+-- why a statement is refused that breaks no rule of its table: as the database says
+abbrev pub RefusesAdd : {S X : Type 0} → Ghosts S → Held S → Held S → Result X StoreFault → List ℕ → Row → Type 0
+RefusesAdd g old new result sql params =
+    HasCleanDisk (state g new) → IsTrue (state g old).in_transaction → result ≡ Err fault.Refused
+    → (e : Error) × (e ≢ SqliteFailure code.OutOfMemory) × ((rule : Constraint) → e ≢ SqliteFailure (code.ConstraintViolation rule)) × ExecutesInside 0 sql params (state g old) (state g new) (Err e)
+
+-- a list that is added is too big
+abbrev pub IsBigEntry : Entry → Type 0
+IsBigEntry e = IsTooBig 5 (length e.0.1 + length e.1)
 
 -- a call outside a transaction is refused by the database only so
 abbrev pub BlamesPuts : {X : Type 0} → State → State → Result X StoreFault → List Change → Type 0

@@ -1,5 +1,5 @@
 //! The statements that change rows, each with what it makes of the store's value.
-ghost use Rattle.std.specs.Prelude.{◌≡◌, ◌⊎◌, ◌+◌, List, [], length, not, ◌&&◌, if◌then◌else◌, unwrap_or, None};
+ghost use Rattle.std.specs.Prelude.{◌≡◌, ◌⊎◌, ◌+◌, Any, List, [], length, not, ◌&&◌, if◌then◌else◌, unwrap_or, None};
 ghost use Rattle.std.specs.List.{flat_map};
 ghost use Rattle.std.specs.Ordering.{int_eq, eq_by_cmp};
 ghost use Rattle.std.specs.FinMap.Entries.{put, where_key, find};
@@ -12,7 +12,7 @@ ghost use Rattle.ft_rows.specs.Packed.{spots_in};
 ghost use Rattle.ft_rows.specs.Store.{cell_key_cmp, list_key_cmp, column_key_cmp, name_cmp};
 ghost use Rattle.ft_values.specs.Cells.{shown_value};
 ghost use Rattle.ft_store.specs.Blame.{RefusesRun, BlamesOutside};
-ghost use Rattle.ft_store.specs.Puts.{IsFull, IsTooBig, GrowsOnOk, BlamesRows};
+ghost use Rattle.ft_store.specs.Puts.{IsFull, IsTooBig, IsBigEntry, GrowsOnOk, GrowsIfAdded, BlamesRows, RefusesAdd};
 ghost use Rattle.ft_store.specs.Rows.{cell_in, num_of, txt_of};
 ghost use Rattle.ft_store.specs.Inside.{DoneInside, StepsInside, RunsOnOk, RunsOrKeeps, without_name, without_columns, without_skips, without_contents, without_lists, without_sizes};
 ghost use Rattle.ft_store.specs.Groups.{Entry, entry_values, with_entries, GoesOnOk};
@@ -44,8 +44,10 @@ fn add<S: Alter>(
     sql: &str,
     params: &[ValueRef<'_>],
 ) -> Result<bool, StoreFault>
-    ensures { DoneInside S.Store tx.old.conn tx.new.conn result
+    ensures done { DoneInside S.Store tx.old.conn tx.new.conn result
         (RunsOrKeeps S.Store tx.old.conn.now tx.new.conn.now result sql.now (bound params.now)) }
+    ensures refused { RefusesAdd S.Store tx.old.conn.now tx.new.conn.now result sql.now
+        (bound params.now) }
 {
     match tx.execute(sql, params) {
         Ok(_) => Ok(true),
@@ -226,11 +228,18 @@ pub(crate) fn add_lists<S: Alter>(
     tx: &mut Transaction<'_, S>,
     values: &[ValueRef<'_>],
 ) -> Result<bool, StoreFault>
-    ensures { DoneInside S.Store tx.old.conn tx.new.conn result
+    ensures done { DoneInside S.Store tx.old.conn tx.new.conn result
         ((entries : List Entry) → length entries ≡ 8
         → bound values.now ≡ flat_map entry_values entries
         → GoesOnOk S.Store tx.old.conn.now tx.new.conn.now result
         (λ added v. if added then with_entries entries v else v)) }
+    ensures grown { (entries : List Entry) → length entries ≡ 8
+        → bound values.now ≡ flat_map entry_values entries
+        → GrowsIfAdded S.Store tx.old.conn.now tx.new.conn.now result 8 }
+    ensures refused { (entries : List Entry) → length entries ≡ 8
+        → bound values.now ≡ flat_map entry_values entries
+        → BlamesRows S.Store tx.old.conn.now tx.new.conn.now result
+        (λ db. IsFull 8 (db 7) ⊎ Any IsBigEntry entries) }
 {
     add(
         tx,
