@@ -67,7 +67,7 @@ use Rattle.ft_store.proofs.RiseLemmas.{IsUnnumbered, numbered_grown, trees_same}
 use Rattle.ft_store.proofs.InsertLemmas.{CantAdd, made_rows, insert_blamed, refused_why, no_clash, IsNumber, too_big}
 
 -- what is too big in a row: the row, or its entry in the one index of its table
-oversized_why : (table : Table) (cols : List ℕ) → AllByRecursion (λ (i : Index). i.table ≡ table.tree → i.columns ≡ cols) store_schema.indexes → table_reals table ≡ 0 → index_reals 0 cols ≡ 0
+pub oversized_why : (table : Table) (cols : List ℕ) → AllByRecursion (λ (i : Index). i.table ≡ table.tree → i.columns ≡ cols) store_schema.indexes → table_reals table ≡ 0 → index_reals 0 cols ≡ 0
     → (row : Row) → IsOversized store_schema table row → (¬ IsStorableRow 0 row) ⊎ (¬ IsStorable 0 (entry_of cols row))
 oversized_why table cols own plain bare row (inl big) = inl (subst (λ n. ¬ IsStorableRow n row) plain big)
 oversized_why table cols own plain bare row (inr (i, has, on, big)) =

@@ -82,6 +82,10 @@ given_rows table = map (λ s. cast_row table (drop 0 s))
 abbrev pub made_rows : Table → List Term → ℕ → Row → List Row
 made_rows table terms width params = given_rows table (value_rows (stamped table params) width (length terms / width) terms)
 
+pub never_bad : (adds : Bool) → ((not adds || true) && true) ≡ false → ⊥
+never_bad true h = true≢false h
+never_bad false h = true≢false h
+
 module _ (tree : ℕ) (name : List ℕ) (columns : List Column) (key : Option ℕ) (primary : List ℕ) (uniques : List (List ℕ)) (orders : List Order) (checks : List Term) where
   abbrev the_table : Table
   the_table = a_table tree name columns key primary uniques orders checks
@@ -161,19 +165,12 @@ module _ (tree : ℕ) (name : List ℕ) (columns : List Column) (key : Option �
               | inr cant ↦ elim (insert_why old kept params at terms width found given e cant) [ inl limit ↦ inl (inr (inr limit)) | inr add ↦ inr (is_open, add) ]
             ]
 
-  -- ---- which rules the rows break
-
-  module _ (listed : Has store_schema.tables the_table) (db : Trees) (sound : IsSound store_schema db) (own : HasOwnRowids (db tree)) (sources : List Row) (bare : AllByRecursion IsUnnumbered sources) where
-    abbrev pub news : List Row
-    news = numbered Chosen (db tree) sources
-
-    abbrev pub next : Trees
-    next = with_tree db tree (put_all (db tree) news)
-
+  -- the rows are put beside those that are there
+  module _ (listed : Has store_schema.tables the_table) (db : Trees) (news : List Row) where
     here : (es : List Row) → with_tree db tree es tree ≡ es
     here es = rw (eq-eqb tree tree refl) refl
 
-    turned : are_fresh (db tree) news ≡ true → Turns store_schema db next the_table (db tree) [] news
+    pub turned : are_fresh (db tree) news ≡ true → Turns store_schema db (with_tree db tree (put_all (db tree) news)) the_table (db tree) [] news
     turned fresh = record {
       apart = apart;
       listed = listed;
@@ -185,13 +182,18 @@ module _ (tree : ℕ) (name : List ℕ) (columns : List Column) (key : Option �
       split = λ r h. inl h;
     }
 
+  -- ---- which rules the rows break
+
+  module _ (listed : Has store_schema.tables the_table) (db : Trees) (sound : IsSound store_schema db) (own : HasOwnRowids (db tree)) (sources : List Row) (bare : AllByRecursion IsUnnumbered sources) where
+    abbrev pub news : List Row
+    news = numbered Chosen (db tree) sources
+
+    abbrev pub next : Trees
+    next = with_tree db tree (put_all (db tree) news)
+
     int_each : (es : List Row) → AllByRecursion IsInt es → have_rowids es ≡ true
     int_each [] all = refl
     int_each (e ∷ es) all = rw all.0 (int_each es all.1)
-
-    never_bad : (adds : Bool) → ((not adds || true) && true) ≡ false → ⊥
-    never_bad true h = true≢false h
-    never_bad false h = true≢false h
 
     module _ (typed : list_all (passes Datatype store_schema db the_table) news ≡ true) (present : list_all (passes NotNull store_schema db the_table) news ≡ true) (checked : list_all (passes Check store_schema db the_table) news ≡ true) where
       -- the table is full, or a key comes twice
@@ -203,7 +205,7 @@ module _ (tree : ℕ) (name : List ℕ) (columns : List Column) (key : Option �
       refused_why (Violates Unique) h = by_fresh (are_fresh (db tree) news) refl
         where
           by_unique : are_fresh (db tree) news ≡ true → (b : Bool) → are_unique store_schema.indexes next the_table news ≡ b → IsFull (length sources) (db tree) ⊎ ((Violates Unique ≡ Violates Unique) × (are_unique store_schema.indexes next the_table news ≡ false))
-          by_unique fresh true is = absurd (h (unique_kept store_schema db next the_table _ _ news (turned fresh) is (sound.obeys.rules Unique)))
+          by_unique fresh true is = absurd (h (unique_kept store_schema db next the_table _ _ news (turned listed db news fresh) is (sound.obeys.rules Unique)))
           by_unique fresh false is = inr (refl, is)
 
           by_fresh : (b : Bool) → are_fresh (db tree) news ≡ b → IsFull (length sources) (db tree) ⊎ ((Violates Unique ≡ Violates Unique) × (are_unique store_schema.indexes next the_table news ≡ false))
@@ -217,7 +219,7 @@ module _ (tree : ℕ) (name : List ℕ) (columns : List Column) (key : Option �
 
 -- ---- a key that is free
 
-same_not_differ : (v : Value) (n : ℤ) → v ≡ Int n → differ v v ≡ false
+pub same_not_differ : (v : Value) (n : ℤ) → v ≡ Int n → differ v v ≡ false
 same_not_differ v n is = ap (λ w. differ w w) is ∙ at_ints false Ne n n ∙ (let e : is_eq (Rattle.std.specs.Ordering.int_cmp n n) ≡ true = ap is_eq (Rattle.std.specs.Cmp.tied_itself Rattle.std.proofs.lemmas.Cmp.int_cmp_total n) in ap not e)
 
 module _ {K X : Type 0} (R : K → K → Ordering) (entry : Row → K × X) where

@@ -1,3 +1,4 @@
+pub mod AddNameLemmas
 pub mod AddedLemmas
 pub mod AdoptLemmas
 pub mod AnswerLemmas

@@ -1,8 +1,10 @@
 -- Meaning. Why the database refuses rows that are put. The database gives a row the rowid after the
 -- last one of its table, a number of 64 bits, and takes no row of more than a billion bytes, with 18
 -- for each value.
-use Rattle.std.specs.Prelude.{Bool, if◌then◌else◌, IfOk, ◌≡◌, ◌≢◌, ◌⊎◌, ◌≤◌, ◌<◌, ◌+◌, ◌-◌, ◌*◌, ◌^◌, ◌≤ℤ◌, ◌++◌, ℕ, ℤ, pos, negsuc, List, [], ◌∷◌, length, fold, Any, Contains, Result, Err, IsTrue, OnOk}
+use Rattle.std.specs.Prelude.{Bool, if◌then◌else◌, IfOk, ◌≡◌, ◌≢◌, ◌⊎◌, ◌≤◌, ◌<◌, ◌+◌, ◌-◌, ◌*◌, ◌^◌, ◌≤ℤ◌, ◌++◌, ℕ, ℤ, pos, negsuc, List, [], ◌∷◌, length, fold, Any, Some, Result, Err, IsTrue, OnOk}
 use Rattle.std.specs.List.{AllByRecursion, sum_by}
+use Rattle.std.specs.Ordering.{int_cmp}
+use Rattle.std.specs.FinMap.Entries.{find}
 use Rattle.sqlite.specs.Order.{Row}
 use Rattle.sqlite_value.specs.Order.{bytes}
 use Rattle.sqlite_value.specs.Keys.{without_case}
@@ -69,8 +71,12 @@ rows_of (Note name) = 1
 rows_of _ = 0
 
 -- another table has the name, but for the case of its letters
-abbrev pub IsOthers : ℤ → List ℕ → List (ℤ × List ℕ) → Type 0
-IsOthers tab name tables = (t : ℤ × List ℕ) × Contains tables t × (t.0 ≢ tab) × (without_case t.1 ≡ without_case name)
+pub record IsOthers (tab : ℤ) (name : List ℕ) (tables : List (ℤ × List ℕ)) : Type 0 where
+  pub other : ℤ
+  pub other_name : List ℕ
+  pub there : find int_cmp other tables ≡ Some other_name
+  pub apart : other ≢ tab
+  pub same : without_case other_name ≡ without_case name
 
 -- why a change is refused, where so many rows are put into these trees, which have such a value then
 abbrev pub CantPut : ℕ → Trees → StoreValue → Change → Type 0
