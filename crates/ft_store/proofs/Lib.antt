@@ -7,6 +7,7 @@ pub mod ApplyLemmas
 pub mod AskedLemmas
 pub mod BlameLemmas
 pub mod CallLemmas
+pub mod CantLemmas
 pub mod ChainLemmas
 pub mod ChangeLemmas
 pub mod DocidLemmas
