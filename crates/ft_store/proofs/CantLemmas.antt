@@ -1,10 +1,10 @@
 -- Why changes are refused, told by the rows that there were before all of them.
-use Rattle.std.proofs.Common.{◌≡◌, ◌∙◌, ◌∷◌, ◌++◌, ◌⊎◌, ◌≤◌, ◌<◌, ◌+◌, ℕ, ℤ, Bool, true, false, List, [], length, map, get_or, All, Result, Ok, inl, inr, refl, sym, ap, ap₂, subst, arith, IsTrue, append_assoc}
+use Rattle.std.proofs.Common.{◌≡◌, ◌∙◌, ◌∷◌, ◌++◌, ◌⊎◌, ◌≤◌, ◌<◌, ◌+◌, ℕ, ℤ, Bool, true, false, List, [], length, map, take, get_or, All, Result, Ok, inl, inr, refl, sym, ap, ap₂, subst, arith, IsTrue, append_assoc}
 use Rattle.std.specs.Prelude.{Any, String, string_bytes}
 use Rattle.std.specs.List.{AllByRecursion, sum_by}
 use Rattle.std.specs.Borrow.{MutBor}
 use Rattle.std.specs.declared.alloc.Global.{Global}
-use Rattle.std.proofs.lemmas.List.{length-map, get_or-map}
+use Rattle.std.proofs.lemmas.List.{length-map, get_or-map, length-take-le}
 use Rattle.std.proofs.lemmas.List.Sums.{sum_by-append, sum_by-cons}
 use Rattle.std.proofs.lemmas.Result.{on_ok_weaker}
 use Rattle.sqlite.specs.Tree.{Trees}
@@ -150,3 +150,11 @@ group_why db (c ∷ changes) all some (inr big) =
 pub big_name : (columns : List (String Global)) (i : ℕ) (name : String Global) → i < length columns → name ≡ get_or columns i name → IsTooBig 4 (length (string_bytes name)) → Any (λ c. IsTooBig 4 (length c)) (map string_bytes columns)
 big_name columns i name within is big =
     (i, string_bytes name, (let e = length-map columns string_bytes in omega (arith, e, within)), get_or-map string_bytes columns i name (string_bytes name) within ∙ ap string_bytes (sym is), big)
+
+-- ---- the front of a list, one element more
+
+pub take_one : {X : Type 0} (xs : List X) (i : ℕ) → i < length xs → length (take (i + 1) xs) ≡ length (take i xs) + 1
+take_one xs i within = let a = length-take-le i xs (omega (arith, within)) in let b = length-take-le (i + 1) xs (omega (arith, within)) in omega (arith, a, b)
+
+pub room_left : {X : Type 0} (xs : List X) (i : ℕ) → i < length xs → length (take i xs) + 1 ≤ length xs
+room_left xs i within = let a = length-take-le i xs (omega (arith, within)) in omega (arith, a, within)
