@@ -28,6 +28,9 @@ use Rattle.ft_store.proofs.BlameLemmas.{blamed_then}
 use Rattle.ft_store.proofs.GroupLemmas.{applied-append}
 use Rattle.ft_store.proofs.RiseLemmas.{full_since, full_more, trees_then}
 
+pub grown_count : (n m : ℕ) (a b : Trees) → n ≡ m → AreGrown n a b → AreGrown m a b
+grown_count n m a b same = subst (λ k. AreGrown k a b) same
+
 -- one step of a transaction after the other
 pub grows_then : {S : Type 0} (g : Ghosts S) (a b c : MutBor (Held S)) (two : Result (Unit {0}) StoreFault) (f h : StoreValue → StoreValue) (n m : ℕ) → StepsInside g a b (Ok tt) f → StepsInside g b c two h
     → GrowsOnOk {X = Unit {0}} g a.now b.now (Ok tt) n → GrowsOnOk g b.now c.now two m → GrowsOnOk g a.now c.now two (n + m)
