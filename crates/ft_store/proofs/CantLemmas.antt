@@ -1,11 +1,11 @@
 -- Why changes are refused, told by the rows that there were before all of them.
-use Rattle.std.proofs.Common.{◌≡◌, ◌∙◌, ◌∷◌, ◌++◌, ◌⊎◌, ◌≤◌, ◌<◌, ◌+◌, ℕ, ℤ, Bool, true, false, List, [], length, map, take, get_or, All, Result, Ok, inl, inr, refl, sym, ap, ap₂, subst, arith, IsTrue, append_assoc}
+use Rattle.std.proofs.Common.{◌≡◌, ◌∙◌, ◌∷◌, ◌++◌, ◌⊎◌, ◌≤◌, ◌<◌, ◌+◌, ℕ, ℤ, Bool, true, false, List, [], length, map, take, drop, get_or, All, Result, Ok, inl, inr, refl, sym, ap, ap₂, subst, arith, IsTrue, append_assoc}
 use Rattle.std.specs.Prelude.{Any, String, string_bytes}
-use Rattle.std.specs.List.{AllByRecursion, sum_by}
+use Rattle.std.specs.List.{AllByRecursion, sum_by, between}
 use Rattle.std.specs.Borrow.{MutBor}
 use Rattle.std.specs.declared.alloc.Global.{Global}
-use Rattle.std.proofs.lemmas.List.{length-map, get_or-map, length-take-le}
-use Rattle.std.proofs.lemmas.List.Sums.{sum_by-append, sum_by-cons}
+use Rattle.std.proofs.lemmas.List.{length-map, get_or-map, length-take-le, take_more, map-append, take-append-drop}
+use Rattle.std.proofs.lemmas.List.Sums.{sum_by-append, sum_by-cons, sum_by_push}
 use Rattle.std.proofs.lemmas.Result.{on_ok_weaker}
 use Rattle.sqlite.specs.Tree.{Trees}
 use Rattle.sqlite.specs.State.{State, HasCleanDisk, Survives}
@@ -25,7 +25,7 @@ use Rattle.ft_store.specs.Groups.{Entry, PutsList, entry_put}
 use Rattle.ft_store.specs.Blame.{IsBlamed}
 use Rattle.ft_store.specs.Puts.{IsFull, AreGrown, IsTooBig, IsBigEntry, rows_of, CantPut, CantPutAll, GrowsOnOk}
 use Rattle.ft_store.proofs.BlameLemmas.{blamed_then}
-use Rattle.ft_store.proofs.GroupLemmas.{applied-append}
+use Rattle.ft_store.proofs.GroupLemmas.{applied-append, front}
 use Rattle.ft_store.proofs.RiseLemmas.{full_since, full_more, trees_then}
 
 pub grown_count : (n m : ℕ) (a b : Trees) → n ≡ m → AreGrown n a b → AreGrown m a b
@@ -122,7 +122,7 @@ one_row : (c : RowChange) → PutsList c → rows_of (shown_change c) ≡ 1
 one_row (row.PutEntries tab term docid spots) puts = refl
 one_row _ puts = absurd puts
 
-count_rows : (changes : List RowChange) → AllByRecursion PutsList changes → sum_by rows_of (map shown_change changes) ≡ length changes
+pub count_rows : (changes : List RowChange) → AllByRecursion PutsList changes → sum_by rows_of (map shown_change changes) ≡ length changes
 count_rows [] all = refl
 count_rows (c ∷ changes) all = let e = sum_by-cons rows_of (shown_change c) (map shown_change changes) in let one = one_row c all.0 in let more = count_rows changes all.1 in omega (arith, e, one, more)
 
@@ -161,3 +161,30 @@ take_one xs i within = let a = length-take-le i xs (omega (arith, within)) in le
 
 pub room_left : {X : Type 0} (xs : List X) (i : ℕ) → i < length xs → length (take i xs) + 1 ≤ length xs
 room_left xs i within = let a = length-take-le i xs (omega (arith, within)) in omega (arith, a, within)
+
+-- ---- the loops over the changes
+
+one_more_shown : (changes : List RowChange) (i : ℕ) (change : RowChange) → i < length changes → change ≡ get_or changes i change → map shown_change (take (i + 1) changes) ≡ map shown_change (take i changes) ++ shown_change change ∷ []
+one_more_shown changes i change inside is =
+    ap (map shown_change) (take_more changes i change inside ∙ ap (λ c. take i changes ++ c ∷ []) (sym is)) ∙ map-append shown_change (take i changes) (change ∷ [])
+
+pub one_more_rows : (changes : List RowChange) (i : ℕ) (change : RowChange) → i < length changes → change ≡ get_or changes i change
+    → sum_by rows_of (map shown_change (take i changes)) + rows_of (shown_change change) ≡ sum_by rows_of (map shown_change (take (i + 1) changes))
+one_more_rows changes i change inside is = sym (ap (sum_by rows_of) (one_more_shown changes i change inside is) ∙ sum_by_push rows_of (map shown_change (take i changes)) (shown_change change))
+
+pub split_one : (changes : List RowChange) (i : ℕ) (change : RowChange) → i < length changes → change ≡ get_or changes i change
+    → map shown_change changes ≡ (map shown_change (take i changes) ++ shown_change change ∷ []) ++ map shown_change (drop (i + 1) changes)
+split_one changes i change inside is =
+    ap (map shown_change) (sym (take-append-drop (i + 1) changes)) ∙ map-append shown_change (take (i + 1) changes) (drop (i + 1) changes)
+    ∙ ap (λ l. l ++ map shown_change (drop (i + 1) changes)) (one_more_shown changes i change inside is)
+
+module _ (changes : List RowChange) (at end : ℕ) (le : at ≤ end) where
+  more_shown : map shown_change (take end changes) ≡ map shown_change (take at changes) ++ map shown_change (between at end changes)
+  more_shown = ap (map shown_change) (front changes at end le) ∙ map-append shown_change (take at changes) (between at end changes)
+
+  pub more_rows : sum_by rows_of (map shown_change (take at changes)) + sum_by rows_of (map shown_change (between at end changes)) ≡ sum_by rows_of (map shown_change (take end changes))
+  more_rows = sym (ap (sum_by rows_of) more_shown ∙ sum_by-append rows_of (map shown_change (take at changes)) (map shown_change (between at end changes)))
+
+  pub split_part : map shown_change changes ≡ (map shown_change (take at changes) ++ map shown_change (between at end changes)) ++ map shown_change (drop end changes)
+  split_part =
+      ap (map shown_change) (sym (take-append-drop end changes)) ∙ map-append shown_change (take end changes) (drop end changes) ∙ ap (λ l. l ++ map shown_change (drop end changes)) more_shown

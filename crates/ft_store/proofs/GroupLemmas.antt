@@ -134,7 +134,7 @@ applied-append [] ys v = refl
 applied-append (x ∷ xs) ys v = applied-append xs ys _
 
 module _ (changes : List RowChange) (at end : ℕ) (le : at ≤ end) where
-  front : take end changes ≡ take at changes ++ between at end changes
+  pub front : take end changes ≡ take at changes ++ between at end changes
   front = let e : end ≡ at + (end - at) = omega (arith, le) in ap (λ n. take n changes) e ∙ take-add at (end - at) changes
 
   pub group_can : All CanApply (take at changes) → All CanApply (between at end changes) → All CanApply (take end changes)
