@@ -24,7 +24,7 @@ use Rattle.ft_store.specs.Inside.{StepsInside}
 use Rattle.ft_store.specs.Groups.{Entry, PutsList, entry_put}
 use Rattle.ft_store.specs.Blame.{IsBlamed}
 use Rattle.ft_store.specs.Puts.{IsFull, AreGrown, IsTooBig, IsBigEntry, rows_of, CantPut, CantPutAll, GrowsOnOk}
-use Rattle.ft_store.proofs.BlameLemmas.{blamed_then}
+use Rattle.ft_store.proofs.BlameLemmas.{blamed_on, blamed_then}
 use Rattle.ft_store.proofs.GroupLemmas.{applied-append, front}
 use Rattle.ft_store.proofs.RiseLemmas.{full_since, full_more, trees_then}
 
@@ -188,3 +188,11 @@ module _ (changes : List RowChange) (at end : ℕ) (le : at ≤ end) where
   pub split_part : map shown_change changes ≡ (map shown_change (take at changes) ++ map shown_change (between at end changes)) ++ map shown_change (drop end changes)
   split_part =
       ap (map shown_change) (sym (take-append-drop end changes)) ∙ map-append shown_change (take end changes) (drop end changes) ∙ ap (λ l. l ++ map shown_change (drop end changes)) more_shown
+
+-- ---- a transaction that is given up
+
+pub blamed_at : (old now new : State) (C : _) (Why : Type 0) → HasCleanDisk new → Survives now new C → (HasCleanDisk now → IsBlamed old now ⊎ Why) → IsBlamed old new ⊎ Why
+blamed_at old now new C Why clean past why = elim (why (omega (arith, clean, past.clean))) [
+  | inl blamed ↦ inl (blamed_on old now new C blamed past)
+  | inr other ↦ inr other
+]
