@@ -1,7 +1,8 @@
 -- Why the row of a new table's name is refused.
-use Rattle.std.proofs.Common.{◌≡◌, ◌≢◌, ◌∙◌, ◌∷◌, ◌⊎◌, ◌<◌, ◌+◌, ◌^◌, ◌/◌, ℕ, ℤ, pos, negsuc, Bool, true, false, not, nat_lt, List, [], length, map, cond, Option, Some, None, Ok, Err, inl, inr, refl, sym, ap, subst, arith, IsTrue, true≢false, FitsSigned, w64, Ordering, is_eq}
+use Rattle.std.proofs.Common.{◌≡◌, ◌≢◌, ◌∙◌, ◌∷◌, ◌⊎◌, ◌<◌, ◌+◌, ◌^◌, ◌/◌, ℕ, ℤ, pos, negsuc, Bool, true, false, not, nat_lt, List, [], length, map, cond, Option, Some, None, Ok, Err, inl, inr, refl, sym, ap, subst, arith, IsTrue, true≢false, FitsSigned, w64, Ordering, Equal, ◌&&◌, is_eq}
 use Rattle.std.specs.List.{AllByRecursion, list_all}
 use Rattle.std.specs.Ordering.{eq_by_cmp, int_cmp, int_eq}
+use Rattle.std.specs.Cmp.{IsTotalOrder}
 use Rattle.std.specs.FinMap.Entries.{find, where_key, find-where_key}
 use Rattle.std.proofs.lemmas.Int.{ints}
 use Rattle.std.proofs.lemmas.Cmp.{int_cmp_total}
@@ -21,7 +22,7 @@ use Rattle.sqlite.specs.declared.error.Error.{Error}
 use Rattle.sqlite_tied.specs.Compute.{everything}
 use Rattle.sqlite_schema.specs.declared.schema.Constraint.TheVariants.{Datatype, NotNull, Check, PrimaryKey, Unique, ForeignKey}
 use Rattle.sqlite_schema.specs.declared.schema.Keys.TheVariants.{Enforced}
-use Rattle.sqlite_schema.specs.Rules.{agree, clashes}
+use Rattle.sqlite_schema.specs.Rules.{agree, clashes, differ}
 use Rattle.sqlite_rules.specs.Lists.{Has}
 use Rattle.sqlite_rules.specs.Keys.{are_unique}
 use Rattle.sqlite_rules.specs.Edit.{id_in, is_taken, are_fresh, IsRefused, IsOversized}
@@ -36,13 +37,13 @@ use Rattle.ft_store.specs.Tables.{store_schema, tab_table, case_order}
 use Rattle.ft_store.specs.Rows.{table_entry, value_of}
 use Rattle.ft_store.specs.Calls.{IsStore, HasOwnRowids}
 use Rattle.ft_store.specs.Blame.{IsBlamed}
-use Rattle.ft_store.specs.Puts.{AreGrown, IsTooBig, IsOthers}
+use Rattle.ft_store.specs.Puts.{IsGrown, AreGrown, IsTooBig, IsOthers}
 use Rattle.ft_store.proofs.Texts.{add_name_text}
 use Rattle.ft_store.proofs.TextLemmas.{add_name_terms, add_name_is, add_name_plain}
 use Rattle.ft_store.proofs.TypedLemmas.{IsNameRow, are_names, int_is}
 use Rattle.ft_store.proofs.AnswerLemmas.{sound_of}
 use Rattle.ft_store.proofs.AskedLemmas.{is_whole}
-use Rattle.ft_store.proofs.KeyedLemmas.{AreApart, find-keyed, some_first, none_from, equal_from, itself, apart_back}
+use Rattle.ft_store.proofs.KeyedLemmas.{AreApart, find-keyed, some_first, none_from, equal_from, itself, apart_back, respects}
 use Rattle.ft_store.proofs.OrderLemmas.{tied_ints, tied_names}
 use Rattle.ft_store.proofs.RowidLemmas.{IsInt}
 use Rattle.ft_store.proofs.ApartLemmas.{names_apart}
@@ -51,11 +52,11 @@ use Rattle.ft_store.proofs.WriteLemmas.{turned_case}
 use Rattle.ft_store.proofs.GoneLemmas.{wrote_grown}
 use Rattle.ft_store.proofs.RiseLemmas.{grown_same}
 use Rattle.ft_store.proofs.AddedLemmas.{RunBlamed, oversized_why}
-use Rattle.ft_store.proofs.InsertLemmas.{CantAdd, made_rows, insert_blamed, turned, never_bad, same_not_differ, too_big}
+use Rattle.ft_store.proofs.InsertLemmas.{CantAdd, put_in, made_rows, insert_blamed, turned, never_bad, same_not_differ, too_big}
 
 -- ---- entries under keys that are apart
 
-found_has : {K X : Type 0} (R : K → K → Ordering) (total : Rattle.std.specs.Cmp.IsTotalOrder R) (tie : (x y : K) → R x y ≡ Rattle.std.proofs.Common.Equal → x ≡ y) (es : List (K × X)) (e : K × X) → AreApart R es → Has es e → find R e.0 es ≡ Some e.1
+found_has : {K X : Type 0} (R : K → K → Ordering) (total : IsTotalOrder R) (tie : (x y : K) → R x y ≡ Equal → x ≡ y) (es : List (K × X)) (e : K × X) → AreApart R es → Has es e → find R e.0 es ≡ Some e.1
 found_has R total tie [] e apart h = absurd h
 found_has R total tie (f ∷ es) e apart (inl same) = subst (λ x. find R x.0 (f ∷ es) ≡ Some x.1) (sym same) (ap (λ b. cond b (Some f.1) (find R f.0 es)) (itself R total tie f.0))
 found_has R total tie (f ∷ es) e apart (inr later) = go (eq_by_cmp R e.0 f.0) refl (found_has R total tie es e apart.1 later)
@@ -102,7 +103,7 @@ add_name_grown tab name old new count kept h =
     let o = made.0.others in
     (go 3 (o.1.1.0 (λ e. omega (arith, e))), (go 5 (o.1.1.1.0 (λ e. omega (arith, e))), (go 7 (o.1.1.1.1.0 (λ e. omega (arith, e))), (go 9 (o.1.1.1.1.1.0 (λ e. omega (arith, e))), (go 11 (o.1.1.1.1.1.1.0 (λ e. omega (arith, e))), (go 13 (o.1.1.1.1.1.1.1.0 (λ e. omega (arith, e))), tt))))))
   where
-    go : (t : ℕ) → new.now.trees t ≡ old.now.trees t → Rattle.ft_store.specs.Puts.IsGrown 0 (old.now.trees t) (new.now.trees t)
+    go : (t : ℕ) → new.now.trees t ≡ old.now.trees t → IsGrown 0 (old.now.trees t) (new.now.trees t)
     go t same = grown_same 0 _ _ same
 
 name_big : (tab : ℤ) (name : List ℕ) → IsOversized store_schema (tab_table 1) (name_row tab name) → IsTooBig 3 (length name)
@@ -141,11 +142,11 @@ module _ (tab : ℤ) (name : List ℕ) (db : Trees) (sound : IsSound store_schem
           let other = some_has _ _ is in
           let parts = and_parts _ _ other.2 in
           elim (put_has (name_row tab name) (db 1) other.0 other.1) [
-            | inl same ↦ absurd (both_ways _ (subst (λ r. Rattle.sqlite_schema.specs.Rules.differ (rowid r) (Int tab) ≡ false) (sym same) (same_not_differ (Int tab) tab refl)) parts.1)
+            | inl same ↦ absurd (both_ways _ (subst (λ r. differ (rowid r) (Int tab) ≡ false) (sym same) (same_not_differ (Int tab) tab refl)) parts.1)
             | inr before ↦ others_name other.0 before (all_has IsNameRow (db 1) other.0 (are_names db sound own) before) parts.0
           ]
 
-  name_refused : FitsSigned w64 tab → (why : Refusal) → IsRefused store_schema Enforced db (Rattle.ft_store.proofs.InsertLemmas.put_in (tab_table 1) db (name_row tab name ∷ [])) why → IsOthers tab name (value_of db).tables
+  name_refused : FitsSigned w64 tab → (why : Refusal) → IsRefused store_schema Enforced db (put_in (tab_table 1) db (name_row tab name ∷ [])) why → IsOthers tab name (value_of db).tables
   name_refused fit (Violates Datatype) h = absurd (true≢false h)
   name_refused fit (Violates NotNull) h = absurd (true≢false h)
   name_refused fit (Violates Check) h = absurd (true≢false h)
@@ -159,7 +160,7 @@ module _ (tab : ℤ) (name : List ℕ) (db : Trees) (sound : IsSound store_schem
   name_refused fit Mismatch h = absurd (true≢false h)
   name_refused fit NoRowid h = absurd (true≢false (sym (fits tab fit) ∙ (let first = and_parts_false (fits_i64 tab) h in first)))
     where
-      and_parts_false : (b : Bool) → (Rattle.std.proofs.Common.◌&&◌ b true) ≡ false → b ≡ false
+      and_parts_false : (b : Bool) → (b && true) ≡ false → b ≡ false
       and_parts_false true bad = bad
       and_parts_false false bad = refl
   name_refused fit BadReference h = absurd (never_bad true h)
@@ -185,7 +186,7 @@ pub others_before : (tab : ℤ) (name : List ℕ) (tables : List (ℤ × List �
 others_before tab name tables it = record {
   other = it.other;
   other_name = it.other_name;
-  there = kept (not (int_eq tab it.other)) (sym (find-where_key int_cmp (λ k. not (int_eq tab k)) it.other (Rattle.ft_store.proofs.KeyedLemmas.respects int_cmp int_cmp_total tied_ints (λ k. not (int_eq tab k)) it.other) tables) ∙ it.there);
+  there = kept (not (int_eq tab it.other)) (sym (find-where_key int_cmp (λ k. not (int_eq tab k)) it.other (respects int_cmp int_cmp_total tied_ints (λ k. not (int_eq tab k)) it.other) tables) ∙ it.there);
   apart = it.apart;
   same = it.same;
 }

@@ -1,10 +1,11 @@
 -- Why changes are refused, told by the rows that there were before all of them.
-use Rattle.std.proofs.Common.{◌≡◌, ◌∙◌, ◌∷◌, ◌++◌, ◌⊎◌, ◌≤◌, ◌<◌, ◌+◌, ℕ, ℤ, Bool, true, false, List, [], length, map, take, drop, get_or, All, Result, Ok, inl, inr, refl, sym, ap, ap₂, subst, arith, IsTrue, append_assoc}
+use Rattle.std.proofs.Common.{◌≡◌, ◌∙◌, ◌∷◌, ◌++◌, ◌⊎◌, ◌≤◌, ◌<◌, ◌+◌, ℕ, ℤ, Bool, true, false, List, [], length, map, take, drop, get_or, All, Result, Ok, inl, inr, refl, sym, ap, ap₂, subst, arith, IsTrue, append_assoc, true≢false}
 use Rattle.std.specs.Prelude.{Any, String, string_bytes}
 use Rattle.std.specs.List.{AllByRecursion, sum_by, between}
 use Rattle.std.specs.Borrow.{MutBor}
 use Rattle.std.specs.declared.alloc.Global.{Global}
 use Rattle.std.proofs.lemmas.List.{length-map, get_or-map, length-take-le, take_more, map-append, take-append-drop}
+use Rattle.std.proofs.lemmas.List.Elements.{recursion_from_All}
 use Rattle.std.proofs.lemmas.List.Sums.{sum_by-append, sum_by-cons, sum_by_push}
 use Rattle.std.proofs.lemmas.Result.{on_ok_weaker}
 use Rattle.sqlite.specs.Tree.{Trees}
@@ -22,7 +23,7 @@ use Rattle.ft_store.specs.Rows.{value_of}
 use Rattle.ft_store.specs.Calls.{Goes}
 use Rattle.ft_store.specs.Inside.{StepsInside}
 use Rattle.ft_store.specs.Groups.{Entry, PutsList, entry_put}
-use Rattle.ft_store.specs.Blame.{IsBlamed}
+use Rattle.ft_store.specs.Blame.{IsBlamed, TakesOut}
 use Rattle.ft_store.specs.Puts.{IsFull, AreGrown, IsTooBig, IsBigEntry, rows_of, CantPut, CantPutAll, GrowsOnOk}
 use Rattle.ft_store.proofs.BlameLemmas.{blamed_on, blamed_then}
 use Rattle.ft_store.proofs.GroupLemmas.{applied-append, front}
@@ -196,3 +197,32 @@ blamed_at old now new C Why clean past why = elim (why (omega (arith, clean, pas
   | inl blamed ↦ inl (blamed_on old now new C blamed past)
   | inr other ↦ inr other
 ]
+
+-- ---- changes that only take rows out
+
+takes_none : (c : RowChange) → TakesOut c → (n : ℕ) (db : Trees) (v : StoreValue) → CantPut n db v (shown_change c) → ⊥
+takes_none (row.AddTable tab name columns skipped) takes n db v cant = true≢false (sym takes)
+takes_none (row.DropTable tab) takes n db v cant = cant
+takes_none (row.PutCell tab docid column value) takes n db v cant = true≢false (sym takes)
+takes_none (row.DropCells tab docid) takes n db v cant = cant
+takes_none (row.PutEntries tab term docid spots) takes n db v cant = true≢false (sym takes)
+takes_none (row.DropEntries tab term docid) takes n db v cant = cant
+takes_none (row.PutSize tab docid column x) takes n db v cant = true≢false (sym takes)
+takes_none (row.DropSize tab docid column) takes n db v cant = cant
+takes_none (row.ClearIndex tab) takes n db v cant = cant
+takes_none (row.Note name) takes n db v cant = true≢false (sym takes)
+
+abbrev NeverRefused : Change → Type 0
+NeverRefused c = (n : ℕ) (db : Trees) (v : StoreValue) → CantPut n db v c → ⊥
+
+all_never : (changes : List RowChange) → AllByRecursion TakesOut changes → AllByRecursion NeverRefused (map shown_change changes)
+all_never [] all = tt
+all_never (c ∷ changes) all = (takes_none c all.0, all_never changes all.1)
+
+never_at : (done : List Change) (c : Change) (left : List Change) → AllByRecursion NeverRefused (done ++ c ∷ left) → NeverRefused c
+never_at [] c left all = all.0
+never_at (d ∷ done) c left all = never_at done c left all.1
+
+pub nothing_put : (db : Trees) (changes : List RowChange) → All TakesOut changes → CantPutAll db (map shown_change changes) → ⊥
+nothing_put db changes takes it =
+    never_at it.done it.change it.left (subst (AllByRecursion NeverRefused) it.are (all_never changes (recursion_from_All TakesOut changes takes))) (sum_by rows_of (map shown_change changes)) db (all_applied it.done (value_of db)) it.why

@@ -3,7 +3,9 @@ use Rattle.std.proofs.Common.{◌≡◌, ◌≢◌, ◌∙◌, ◌∷◌, ◌++�
 use Rattle.std.specs.Prelude.{IsSome, option_map}
 use Rattle.std.specs.List.{AllByRecursion, list_all, list_any, sum_by}
 use Rattle.std.specs.Int.{bit_at}
-use Rattle.std.specs.Ordering.{eq_by_cmp}
+use Rattle.std.specs.Ordering.{int_cmp, eq_by_cmp}
+use Rattle.std.specs.Cmp.{tied_itself}
+use Rattle.std.proofs.lemmas.Cmp.{int_cmp_total}
 use Rattle.std.specs.FinMap.Entries.{find}
 use Rattle.std.specs.Float.{NotNan}
 use Rattle.std.proofs.lemmas.Bool.{ltb-false, ltb-true, and_parts, false_from_ne_true, both_ways, not-true}
@@ -28,7 +30,7 @@ use Rattle.sqlite.specs.Command.{Command}
 use Rattle.sqlite.specs.Command.TheVariants.{Insert}
 use Rattle.sqlite.specs.Source.TheVariants.{Values}
 use Rattle.sqlite.specs.Effect.{Database, RefusesSource, value_rows, edit_error}
-use Rattle.sqlite.specs.Rows.{Task, stamped}
+use Rattle.sqlite.specs.Rows.{Task, Outcome, Sourced, stamped}
 use Rattle.sqlite.specs.Does.{Does, OnRows, AtPlace, due}
 use Rattle.sqlite.specs.State.{State, mode_of, ExecutesInside}
 use Rattle.sqlite.specs.Listing.{understood}
@@ -112,11 +114,11 @@ module _ (tree : ℕ) (name : List ℕ) (columns : List Column) (key : Option �
     sourced db e (inl bad) = absurd (given db e (inl bad))
     sourced db e (inr limited) = limited.1
 
-    sourced_not : (db : Database) (stop : Option Error) → Rattle.sqlite.specs.Rows.Sourced old.step_limit db (stamped the_table params) (Values terms width) (Err stop) → IsSome old.step_limit
+    sourced_not : (db : Database) (stop : Option Error) → Sourced old.step_limit db (stamped the_table params) (Values terms width) (Err stop) → IsSome old.step_limit
     sourced_not db None h = absurd h
     sourced_not db (Some e) h = sourced db e h
 
-    same_stop : {A : Type 0} {a b : Option Error} → ◌≡◌ {A = Rattle.sqlite.specs.Rows.Outcome A} (Err a) (Err b) → a ≡ b
+    same_stop : {A : Type 0} {a b : Option Error} → ◌≡◌ {A = Outcome A} (Err a) (Err b) → a ≡ b
     same_stop h = cc
 
     pub insert_why : (e : Error) → CantDo e old params (Insert at (Values terms width)) → IsSome old.step_limit ⊎ CantAdd e the_table old.now.trees (made_rows the_table terms width params)
@@ -220,7 +222,7 @@ module _ (tree : ℕ) (name : List ℕ) (columns : List Column) (key : Option �
 -- ---- a key that is free
 
 pub same_not_differ : (v : Value) (n : ℤ) → v ≡ Int n → differ v v ≡ false
-same_not_differ v n is = ap (λ w. differ w w) is ∙ at_ints false Ne n n ∙ (let e : is_eq (Rattle.std.specs.Ordering.int_cmp n n) ≡ true = ap is_eq (Rattle.std.specs.Cmp.tied_itself Rattle.std.proofs.lemmas.Cmp.int_cmp_total n) in ap not e)
+same_not_differ v n is = ap (λ w. differ w w) is ∙ at_ints false Ne n n ∙ (let e : is_eq (int_cmp n n) ≡ true = ap is_eq (tied_itself int_cmp_total n) in ap not e)
 
 module _ {K X : Type 0} (R : K → K → Ordering) (entry : Row → K × X) where
   not_among : (key : K) (rows : List Row) → find R key (map entry rows) ≡ None → (r : Row) → Has rows r → eq_by_cmp R key (entry r).0 ≡ false

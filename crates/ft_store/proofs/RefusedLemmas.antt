@@ -275,13 +275,3 @@ drop_skips_whole = refl
 pub drop_skips_blamed : (tab : ℤ) (old new : State) → RunOnlyBlamed old new drop_skips_text (Int tab ∷ [])
 drop_skips_blamed tab old new =
     delete_blamed old new drop_skips_text (Int tab ∷ []) 7 (skip_table 13) drop_skips_terms drop_skips_is drop_skips_plain drop_skips_whole refl (inr (inr (inr (inr (inr (inr (inr (inl refl)))))))) (λ db. refl) (λ db has no. true≢false (rw has at no))
-
--- ---- changes that only take rows out
-
-takes_no_list : (change : RowChange) → PutsList change → TakesOut change → ⊥
-takes_no_list (row.PutEntries tab term docid spots) puts takes = true≢false (sym takes)
-takes_no_list _ puts takes = absurd puts
-
-pub no_group : (changes : List RowChange) → length changes ≡ 8 → All PutsList changes → All TakesOut changes → ⊥
-no_group [] eight puts takes = absurd (omega (arith, eight))
-no_group (c ∷ cs) eight puts takes = takes_no_list c (puts 0 c (omega arith)) (takes 0 c (omega arith))

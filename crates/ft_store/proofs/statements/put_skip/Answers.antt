@@ -1,4 +1,3 @@
-use Rattle.ft_store.proofs.CantLemmas.{part_why}
 use Rattle.ft_store.proofs.AddedLemmas.{add_skip_grown, add_skip_why}
 use Rattle.ft_store.proofs.GoneLemmas.{drop_skip_blamed, drop_skip_grown}
 use Rattle.ft_store.proofs.BlameLemmas.{blamed_then}
