@@ -1,5 +1,5 @@
 -- Calls that ask first whether the store is open.
-use Rattle.std.proofs.Common.{◌≡◌, ◌⊎◌, ℕ, true, List, [], Option, Some, None, Result, Ok, Err, ℤ, refl, sym, ap, subst, ◌∙◌, inl, inr, arith}
+use Rattle.std.proofs.Common.{◌≡◌, ◌⊎◌, ℕ, true, List, [], ◌∷◌, map, Option, Some, None, Result, Ok, Err, ℤ, refl, sym, ap, subst, ◌∙◌, inl, inr, arith}
 use Rattle.std.specs.Prelude.{IsTrue, OnOk, is_ok}
 use Rattle.sqlite_trees.specs.View.{doubt}
 use Rattle.sqlite.specs.State.{State, HasCleanDisk, Survives}
@@ -7,17 +7,18 @@ use Rattle.sqlite.specs.Store.{Ghosts}
 use Rattle.sqlite.specs.Tree.{Trees}
 use Rattle.sqlite.proofs.StateLemmas.{survives_then}
 use Rattle.std.proofs.Common.{All as AllOf}
-use Rattle.std.proofs.lemmas.List.Elements.{All-weaker}
+use Rattle.std.specs.List.{AllByRecursion}
+use Rattle.std.proofs.lemmas.List.Elements.{All-weaker, All-from_recursion}
 use Rattle.ft_values.specs.declared.rows.RowChange.{RowChange}
 use Rattle.ft_values.specs.declared.rows.RowChange.TheVariants as row
-use Rattle.ft_rows.specs.Changes.{CanApply}
+use Rattle.ft_rows.specs.Changes.{shown_change, CanApply}
 use Rattle.ft_store.specs.Blame.{TakesOut}
 use Rattle.ft_store.specs.Calls.{IsPlainFault, IsChangeFault, IsStored, fault_of_read}
 use Rattle.ft_store.specs.Kept.{StoreState, Pings, ReadsRows, shows, value_in}
 use Rattle.ft_store.proofs.ChainLemmas.{kept_then}
 use Rattle.ft_store.specs.declared.fault.StoreFault.{StoreFault}
 use Rattle.ft_store.specs.declared.fault.StoreFault.TheVariants as causes
-use Rattle.ft_rows.specs.Store.{StoreValue, Change, all_applied}
+use Rattle.ft_rows.specs.Store.{StoreValue, Change, Note, all_applied}
 use Rattle.ft_values.specs.declared.fault.Fault.{Fault}
 use Rattle.ft_values.specs.declared.fault.Fault.TheVariants as faults
 use Rattle.ft_content.specs.declared.command.Reply.{Reply as RustReply}
@@ -222,7 +223,22 @@ takes_one : (change : RowChange) → TakesOut change → CanApply change
 takes_one (row.PutEntries tab term docid spots) takes = absurd (let e = takes in cc)
 takes_one _ takes = tt
 
--- what only takes rows out is refused by no damage
-pub takes_plain : (changes : List RowChange) (fault : StoreFault) → AllOf TakesOut changes → IsChangeFault (AllOf CanApply changes) fault → IsPlainFault fault
-takes_plain changes fault takes (inl plain) = plain
-takes_plain changes fault takes (inr damaged) = absurd (damaged.1 (All-weaker TakesOut CanApply takes_one changes takes))
+-- what only takes rows out can be made, and what can be made is refused by no damage
+pub takes_can : (changes : List RowChange) → AllOf TakesOut changes → AllOf CanApply changes
+takes_can = All-weaker TakesOut CanApply takes_one
+
+pub plain_if : (changes : List RowChange) (fault : StoreFault) → AllOf CanApply changes → IsChangeFault (AllOf CanApply changes) fault → IsPlainFault fault
+plain_if changes fault can (inl plain) = plain
+plain_if changes fault can (inr damaged) = absurd (damaged.1 can)
+
+one_note : (name : List ℕ) (change : RowChange) → shown_change change ≡ Note name → CanApply change
+one_note name (row.PutEntries tab term docid spots) is = absurd cc
+one_note name _ is = tt
+
+pub note_can : (name : List ℕ) (changes : List RowChange) → map shown_change changes ≡ Note name ∷ [] → AllOf CanApply changes
+note_can name [] is = absurd cc
+note_can name (c ∷ changes) is = All-from_recursion CanApply (c ∷ changes) (one_note name c (let first : shown_change c ≡ Note name = cc in first), note_rest changes (let rest : map shown_change changes ≡ [] = cc in rest))
+  where
+    note_rest : (cs : List RowChange) → map shown_change cs ≡ [] → AllByRecursion CanApply cs
+    note_rest [] none = tt
+    note_rest (d ∷ cs) none = absurd cc

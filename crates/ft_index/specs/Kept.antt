@@ -7,6 +7,7 @@ use Rattle.sqlite.specs.State.{State, HasCleanDisk, Survives}
 use Rattle.sqlite.specs.Store.{Ghosts}
 use Rattle.ft_rows.specs.Store.{StoreValue, Change, with_note, all_applied}
 use Rattle.ft_store.specs.Blame.{IsBlamed}
+use Rattle.ft_store.specs.Puts.{CantPutAll}
 use Rattle.ft_store.specs.Kept.{StoreState, store_code, shows, value_in}
 use Rattle.ft_values.specs.declared.fault.Fault.{Fault}
 use Rattle.ft_values.specs.declared.fault.Fault.TheVariants as faults
@@ -102,6 +103,10 @@ pub record OnlyLooks {S : Type 0} (g : Ghosts S) (old new : FullText S) : Type 0
 -- a call is answered `Store` only for what lies outside the store
 abbrev pub BlamesStore : {X : Type 0} → State → State → Result X Fault → Type 0
 BlamesStore old new result = HasCleanDisk new → result ≡ Err faults.Store → IsBlamed old new
+
+-- a call that makes changes is answered `Store` only for that, or since one of them can't be put
+abbrev pub BlamesChanges : {X : Type 0} → State → State → Result X Fault → List Change → Type 0
+BlamesChanges old new result changes = HasCleanDisk new → result ≡ Err faults.Store → IsBlamed old new ⊎ CantPutAll old.now.trees changes
 
 -- the command takes a table out, or looks at one
 abbrev pub IsDropOrCheck : Command → Type 0

@@ -44,12 +44,12 @@ impl<S: Alter> Model for FullText<S> {
 }
 
 impl<S: Alter> FullText<S> {
-    ghost use Rattle.std.specs.Prelude.{◌≡◌, ◌⊎◌, ◌↔◌, [], map, string_bytes, is_ok, IsTrue, IfOk, IfErr};
+    ghost use Rattle.std.specs.Prelude.{◌≡◌, ◌⊎◌, ◌↔◌, [], ◌∷◌, map, string_bytes, is_ok, IsTrue, IfOk, IfErr};
     ghost use Rattle.ft_store.specs.Calls.{IsPlainFault};
     ghost use Rattle.ft_store.specs.Blame.{IsBlamed, AreTableTexts, AreNotedTexts};
     ghost use Rattle.ft_store.specs.Kept.{shows, value_in};
     ghost use Rattle.sqlite.specs.State.{HasCleanDisk};
-    ghost use Rattle.ft_rows.specs.Store.{nothing_held};
+    ghost use Rattle.ft_rows.specs.Store.{nothing_held, Note};
     ghost use Rattle.ft_values.specs.declared.fault.Fault.TheVariants as faults;
     ghost use Rattle.ft_content.specs.Deserved.{Contents};
     ghost use Rattle.ft_content.specs.Views.{shown_info, command_of, answer_of};
@@ -58,7 +58,7 @@ impl<S: Alter> FullText<S> {
     ghost use Rattle.ft_index.specs.RowsRead.{CountsRows};
     ghost use Rattle.ft_index.specs.DocumentsRead.{Looks};
     ghost use Rattle.ft_index.specs.Opened.{Opens, OpensWhatIsLeft};
-    ghost use Rattle.ft_index.specs.Kept.{IsUp, value_of, Holds, AreSound, OnlyLooks, BlamesStore, IsDropOrCheck, Executes, Plans, Notes};
+    ghost use Rattle.ft_index.specs.Kept.{IsUp, value_of, Holds, AreSound, OnlyLooks, BlamesStore, BlamesChanges, IsDropOrCheck, Executes, Plans, Notes};
     ghost use Rattle.ft_index.specs.Called.{KeptByCalls, NoneGetsUnsound, NamesStayApart, HoldsOneContents};
 
     /// Takes a store, and marks each table whose rows aren't documents with exactly the index rows
@@ -159,6 +159,8 @@ impl<S: Alter> FullText<S> {
         ensures noted { Notes S.Store self.old name.now (is_ok result) self.new }
         ensures leaves { LeavesNote S.Store self.old name.now (is_ok result) self.new }
         ensures fault { IfErr result (λ fault. (fault ≡ faults.Store) ⊎ (fault ≡ faults.Memory)) }
+        ensures refused { BlamesChanges (shows S.Store self.old.store)
+            (shows S.Store self.new.store) result (Note name.now ∷ []) }
     {
         let result = note_name(self.alloc, &mut self.store, name);
         self.store.is_settled();

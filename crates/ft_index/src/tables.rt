@@ -1,9 +1,9 @@
 //! Tables that are made and removed, and names that are noted.
 ghost use Rattle.std.specs.Prelude.{◌≡◌, ◌∷◌, [], if◌then◌else◌, map, is_ok, All, Err, IfOk};
-ghost use Rattle.ft_rows.specs.Changes.{shown_change};
+ghost use Rattle.ft_rows.specs.Changes.{shown_change, CanApply};
 ghost use Rattle.ft_content.specs.Views.{shown_info, creation_of};
 ghost use Rattle.ft_content.specs.Deserved.{Contents};
-ghost use Rattle.ft_index.specs.Kept.{BlamesStore, table_info};
+ghost use Rattle.ft_index.specs.Kept.{BlamesStore, BlamesChanges, table_info};
 ghost use Rattle.ft_index.specs.Planned.{PlansOver, Makes, table_change};
 ghost use Rattle.ft_index.specs.Changed.{with_tables, MakesRows, Does, LooksAsked, MakesAsked};
 ghost use Rattle.ft_documents.specs.Found.{with_info};
@@ -164,8 +164,9 @@ pub(crate) fn drop_table<S: Alter>(
 // Makes all changes or none.
 fn change_rows<S: Alter>(store: &mut Store<S>, changes: &[RowChange]) -> Result<(), Fault>
     ensures makes { MakesRows S.Store store.old store.new (map shown_change changes.now) result }
-    ensures refused { All TakesOut changes.now
-        → BlamesStore (shows S.Store store.old) (shows S.Store store.new) result }
+    ensures refused { All CanApply changes.now
+        → BlamesChanges (shows S.Store store.old) (shows S.Store store.new) result
+        (map shown_change changes.now) }
 {
     Ok(store.change(changes)?)
 }
@@ -176,7 +177,9 @@ pub(crate) fn note_name<S: Alter>(
     store: &mut Store<S>,
     name: &str,
 ) -> Result<(), Fault>
-    ensures { MakesAsked S.Store store.old store.new (Note name.now ∷ []) result }
+    ensures makes { MakesAsked S.Store store.old store.new (Note name.now ∷ []) result }
+    ensures refused { BlamesChanges (shows S.Store store.old) (shows S.Store store.new) result
+        (Note name.now ∷ []) }
 {
     let mut changes = Vec::new(alloc);
     changes.push(RowChange::Note(String::from_str(alloc, name)?))?;

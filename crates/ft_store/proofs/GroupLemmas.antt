@@ -26,9 +26,9 @@ first_of : {X : Type 0} (n : ℕ) (xs : List X) → length xs ≡ suc n → (x :
 first_of n [] len = absurd (omega (arith, len))
 first_of n (x ∷ xs) len = (x, xs, refl, omega (arith, len))
 
-does_add_lists : (old new : State) → IsStore old.now → Shows old new new.now old.committed true → (es : List Entry) → length es ≡ 8 → (values : Row) → values ≡ flat_map entry_values es
-    → (count : ℕ) → Executes add_lists_text values old new (Ok count) → Steps old new (with_entries es (value_of old.now.trees))
-does_add_lists old new kept shown es len values is count ran =
+pub all_eight : (es : List Entry) → length es ≡ 8
+    → (a : Entry) × (b : Entry) × (c : Entry) × (d : Entry) × (e : Entry) × (f : Entry) × (g : Entry) × (h : Entry) × (es ≡ a ∷ b ∷ c ∷ d ∷ e ∷ f ∷ g ∷ h ∷ [])
+all_eight es len =
     let a = first_of 7 es len in
     let b = first_of 6 a.1 a.3 in
     let c = first_of 5 b.1 b.3 in
@@ -36,11 +36,24 @@ does_add_lists old new kept shown es len values is count ran =
     let e = first_of 3 d.1 d.3 in
     let f = first_of 2 e.1 e.3 in
     let g = first_of 1 f.1 f.3 in
-    let h = first_of 0 g.1 g.3 in
-    let eight : es ≡ a.0 ∷ b.0 ∷ c.0 ∷ d.0 ∷ e.0 ∷ f.0 ∷ g.0 ∷ h.0 ∷ [] =
-    a.2 ∙ ap (λ l. a.0 ∷ l) (b.2 ∙ ap (λ l. b.0 ∷ l) (c.2 ∙ ap (λ l. c.0 ∷ l) (d.2 ∙ ap (λ l. d.0 ∷ l) (e.2 ∙ ap (λ l. e.0 ∷ l) (f.2 ∙ ap (λ l. f.0 ∷ l) (g.2 ∙ ap (λ l. g.0 ∷ l) (h.2 ∙ ap (λ l. h.0 ∷ l) (nil_from_length h.1 h.3)))))))) in
-    subst (λ l. Steps old new (with_entries l (value_of old.now.trees))) (sym eight)
-    (does_add_eight old new kept shown a.0 b.0 c.0 d.0 e.0 f.0 g.0 h.0 count (subst (λ l. Executes add_lists_text l old new (Ok count)) (is ∙ ap (flat_map entry_values) eight) ran))
+    let h = first_of 0 g.1 g.3 in (
+      a.0,
+      b.0,
+      c.0,
+      d.0,
+      e.0,
+      f.0,
+      g.0,
+      h.0,
+      a.2 ∙ ap (λ l. a.0 ∷ l) (b.2 ∙ ap (λ l. b.0 ∷ l) (c.2 ∙ ap (λ l. c.0 ∷ l) (d.2 ∙ ap (λ l. d.0 ∷ l) (e.2 ∙ ap (λ l. e.0 ∷ l) (f.2 ∙ ap (λ l. f.0 ∷ l) (g.2 ∙ ap (λ l. g.0 ∷ l) (h.2 ∙ ap (λ l. h.0 ∷ l) (nil_from_length h.1 h.3)))))))),
+    )
+
+does_add_lists : (old new : State) → IsStore old.now → Shows old new new.now old.committed true → (es : List Entry) → length es ≡ 8 → (values : Row) → values ≡ flat_map entry_values es
+    → (count : ℕ) → Executes add_lists_text values old new (Ok count) → Steps old new (with_entries es (value_of old.now.trees))
+does_add_lists old new kept shown es len values is count ran =
+    let e = all_eight es len in
+    subst (λ l. Steps old new (with_entries l (value_of old.now.trees))) (sym e.8)
+    (does_add_eight old new kept shown e.0 e.1 e.2 e.3 e.4 e.5 e.6 e.7 count (subst (λ l. Executes add_lists_text l old new (Ok count)) (is ∙ ap (flat_map entry_values) e.8) ran))
 
 -- ---- what steps make
 
@@ -121,7 +134,7 @@ applied-append [] ys v = refl
 applied-append (x ∷ xs) ys v = applied-append xs ys _
 
 module _ (changes : List RowChange) (at end : ℕ) (le : at ≤ end) where
-  front : take end changes ≡ take at changes ++ between at end changes
+  pub front : take end changes ≡ take at changes ++ between at end changes
   front = let e : end ≡ at + (end - at) = omega (arith, le) in ap (λ n. take n changes) e ∙ take-add at (end - at) changes
 
   pub group_can : All CanApply (take at changes) → All CanApply (between at end changes) → All CanApply (take end changes)

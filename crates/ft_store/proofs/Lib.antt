@@ -1,3 +1,5 @@
+pub mod AddNameLemmas
+pub mod AddedLemmas
 pub mod AdoptLemmas
 pub mod AnswerLemmas
 pub mod ApartLemmas
@@ -5,6 +7,7 @@ pub mod ApplyLemmas
 pub mod AskedLemmas
 pub mod BlameLemmas
 pub mod CallLemmas
+pub mod CantLemmas
 pub mod ChainLemmas
 pub mod ChangeLemmas
 pub mod DocidLemmas
@@ -14,7 +17,9 @@ pub mod ExpectedLemmas
 pub mod ForeignLemmas
 pub mod FoundLemmas
 mod FoundNumbers
+pub mod GoneLemmas
 pub mod GroupLemmas
+pub mod InsertLemmas
 pub mod InsideLemmas
 pub mod KeyedLemmas
 pub mod LastLemmas
@@ -27,6 +32,7 @@ pub mod PartLemmas
 pub mod PutLemmas
 pub mod RangeLemmas
 pub mod RefusedLemmas
+pub mod RiseLemmas
 pub mod RowidLemmas
 pub mod SameLemmas
 pub mod ScanLemmas

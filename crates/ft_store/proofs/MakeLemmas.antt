@@ -145,7 +145,7 @@ create_blamed old new s text table made allowed kept e other ran = by_open old.i
     by_open true is =
         elim (write_refused_as old new text [] (kept is) CreateTable made.command made.plain allowed.whole tt refl e other ran) [
           | inl blamed ↦ blamed
-          | inr cant ↦ absurd (stopped (kept is) cant.0 (subst (λ t. Does old.step_limit (mode_of old) [] old.now t None CreateTable (Err cant.0)) made.whole cant.1))
+          | inr cant ↦ absurd (stopped (kept is) cant.0 (subst (λ t. Does old.step_limit (mode_of old) [] old.now t None CreateTable (Err cant.0)) made.whole cant.2))
         ]
 
 -- ---- the tables, one after the other

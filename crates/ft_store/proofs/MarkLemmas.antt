@@ -160,5 +160,5 @@ mark_blamed old new kept e other ran = by_open old.is_open refl
     by_open true is =
         elim (write_refused_as old new mark_text [] (kept is).tabled.schema (Insert 0 (Values mark_terms 3)) mark_is mark_plain mark_whole tt refl e other ran) [
           | inl blamed ↦ blamed
-          | inr cant ↦ inr (inr (mark_limited old cant.0 (statement_of mark_text (understood store_schema mark_text)) (kept is) cant.1))
+          | inr cant ↦ inr (inr (mark_limited old cant.0 (statement_of mark_text (understood store_schema mark_text)) (kept is) cant.2))
         ]

@@ -70,13 +70,14 @@ fails_unless old new e TooBig Why blamed big other h = go h.0 h.1 h.2
 abbrev pub RunOnlyBlamed : State → State → List ℕ → Row → Type 0
 RunOnlyBlamed old new sql params = (IsTrue old.is_open → IsStore old.now) → (e : Error) × (e ≢ SqliteFailure code.OutOfMemory) × ExecutesInside 0 sql params old new (Err e) → IsBlamed old new
 
--- the command can't be done on the rows that are there
-abbrev pub CantDo : State → Row → Command → Type 0
-CantDo s params command = (text : List ℕ) × (stop : Option Error) × Does s.step_limit (mode_of s) params s.now text None command (Err stop)
+-- the command can't be done on the rows that are there, which is told by this error, or a row is
+-- too big
+abbrev pub CantDo : Error → State → Row → Command → Type 0
+CantDo e s params command = (text : List ℕ) × (stop : Option Error) × ((stop ≡ None) ⊎ (stop ≡ Some e)) × Does s.step_limit (mode_of s) params s.now text None command (Err stop)
 
 -- so it is with the text of the statement
-abbrev pub CantDoAs : State → Row → Command → List ℕ → Type 0
-CantDoAs s params command text = (stop : Option Error) × Does s.step_limit (mode_of s) params s.now text None command (Err stop)
+abbrev pub CantDoAs : Error → State → Row → Command → List ℕ → Type 0
+CantDoAs e s params command text = (stop : Option Error) × ((stop ≡ None) ⊎ (stop ≡ Some e)) × Does s.step_limit (mode_of s) params s.now text None command (Err stop)
 
 -- why a statement that writes is refused
 module _ {schema : Schema} (old new : State) (sql : List ℕ) (params : Row) (has : old.now.schema ≡ schema) (command : Command) (is : command_of (understood schema sql) ≡ command) (plain : IsPlain (understood schema sql))
@@ -84,7 +85,7 @@ module _ {schema : Schema} (old new : State) (sql : List ℕ) (params : Row) (ha
   is_other : (k : Command) → command ≡ k → (IsWrite k → ⊥) → ⊥
   is_other k same not = not (subst IsWrite same writes)
 
-  pub write_refused_as : (e : Error) → e ≢ SqliteFailure code.OutOfMemory → ExecutesInside 0 sql params old new (Err e) → IsBlamed old new ⊎ CantDoAs old params command (statement_of sql (understood schema sql))
+  pub write_refused_as : (e : Error) → e ≢ SqliteFailure code.OutOfMemory → ExecutesInside 0 sql params old new (Err e) → IsBlamed old new ⊎ CantDoAs e old params command (statement_of sql (understood schema sql))
   unfolding ExecutesIn IsNotRun EndsScope
   write_refused_as e other (inr ((c, it, escapes), error, same)) =
       let here : understood schema sql ≡ Ok c = sym (ap (λ s. understood s sql) has) ∙ it.is in
@@ -102,19 +103,19 @@ module _ {schema : Schema} (old new : State) (sql : List ℕ) (params : Row) (ha
       let same : c.command ≡ command = ap command_of (sym here) ∙ is in
       let bare = subst IsPlain here plain in
       let text : text_of sql c ≡ statement_of sql (understood schema sql) = ap (statement_of sql) (sym here) in
-      let cant : (stop : Option Error) → Does old.step_limit (mode_of old) params old.now (text_of sql c) None command (Err stop) → IsBlamed old new ⊎ CantDoAs old params command (statement_of sql (understood schema sql)) =
-      λ stop does. inr (stop, subst (λ t. Does old.step_limit (mode_of old) params old.now t None command (Err stop)) text does) in
+      let cant : (stop : Option Error) → ((stop ≡ None) ⊎ (stop ≡ Some e)) → Does old.step_limit (mode_of old) params old.now (text_of sql c) None command (Err stop) → IsBlamed old new ⊎ CantDoAs e old params command (statement_of sql (understood schema sql)) =
+      λ stop told does. inr (stop, told, subst (λ t. Does old.step_limit (mode_of old) params old.now t None command (Err stop)) text does) in
       elim (rw (same, bare.0, bare.1, append-nil params, quiet) at alone) [
         | inl (inl misplaced, kept) ↦ absurd (elim misplaced [
           | inl a ↦ elim a.1 [ inl b ↦ is_other _ b.0 (λ w. w) | inr b ↦ elim b.0 [ inl k ↦ is_other _ k (λ w. w) | inr k ↦ is_other _ k (λ w. w) ] ]
           | inr a ↦ elim a.2 [ inl k ↦ is_other _ k (λ w. w) | inr k ↦ is_other _ k (λ w. w) ]
         ])
-        | inl (inr does, kept) ↦ cant (Some e) does.1
-        | inr fails ↦ fails_unless old new e _ _ (λ b. inl b) (cant None) other fails
+        | inl (inr does, kept) ↦ cant (Some e) (inr refl) does.1
+        | inr fails ↦ fails_unless old new e _ _ (λ b. inl b) (cant None (inl refl)) other fails
       ]
 
-  pub write_refused : (e : Error) → e ≢ SqliteFailure code.OutOfMemory → ExecutesInside 0 sql params old new (Err e) → IsBlamed old new ⊎ CantDo old params command
-  write_refused e other ran = elim (write_refused_as e other ran) [ inl blamed ↦ inl blamed | inr cant ↦ inr (_, cant.0, cant.1) ]
+  pub write_refused : (e : Error) → e ≢ SqliteFailure code.OutOfMemory → ExecutesInside 0 sql params old new (Err e) → IsBlamed old new ⊎ CantDo e old params command
+  write_refused e other ran = elim (write_refused_as e other ran) [ inl blamed ↦ inl blamed | inr cant ↦ inr (_, cant.0, cant.1, cant.2) ]
 
 -- ---- DELETE
 
@@ -177,9 +178,9 @@ module _ (old new : State) (sql : List ℕ) (params : Row) (at : ℕ) (table : T
   queried typed trees None h = absurd h
   queried typed trees (Some e) h = table_limited table.tree terms (0 ∷ []) [] no_limit no_offset params typed old.step_limit (record { schema = store_schema; trees = trees }) e refl h
 
-  delete_limited : old.now.schema ≡ store_schema → IsDatabase old.now → slice_get store_schema.tables at ≡ Some table → Has store_schema.tables table → ((new : Trees) → are_unique store_schema.indexes new table [] ≡ true) → IsTyped the_query params
-      → CantDo old params (Delete at (record { lets = []; body = the_query })) → IsSome old.step_limit
-  delete_limited has kept found listed unique typed (text, stop, does) =
+  delete_limited : (e : Error) → old.now.schema ≡ store_schema → IsDatabase old.now → slice_get store_schema.tables at ≡ Some table → Has store_schema.tables table → ((new : Trees) → are_unique store_schema.indexes new table [] ≡ true) → IsTyped the_query params
+      → CantDo e old params (Delete at (record { lets = []; body = the_query })) → IsSome old.step_limit
+  delete_limited e has kept found listed unique typed (text, stop, told, does) =
       let db = old.now.trees in
       let command = Delete at (record { lets = []; body = the_query }) in
       let sound : IsSound store_schema db = subst (λ c. IsSound c db) has kept in
@@ -214,7 +215,7 @@ module _ (old new : State) (sql : List ℕ) (params : Row) (at : ℕ) (table : T
       by_open true is_open =
           let kept = store is_open in
           elim (write_refused old new sql params kept.0 (Delete at (record { lets = []; body = the_query })) is plain whole tt refl e other ran)
-          [ inl blamed ↦ blamed | inr cant ↦ inr (inr (delete_limited kept.0 kept.1 found listed unique typed cant)) ]
+          [ inl blamed ↦ blamed | inr cant ↦ inr (inr (delete_limited e kept.0 kept.1 found listed unique typed cant)) ]
 
   pub delete_blamed : command_of (understood store_schema sql) ≡ Delete at (record { lets = []; body = the_query }) → IsPlain (understood store_schema sql) → is_whole sql (length params) (understood store_schema sql) ≡ true
       → slice_get store_schema.tables at ≡ Some table → Has store_schema.tables table → ((new : Trees) → are_unique store_schema.indexes new table [] ≡ true) → IsTyped the_query params → RunOnlyBlamed old new sql params
@@ -294,13 +295,3 @@ drop_skips_whole = refl
 pub drop_skips_blamed : (tab : ℤ) (old new : State) → RunOnlyBlamed old new drop_skips_text (Int tab ∷ [])
 drop_skips_blamed tab old new =
     delete_blamed old new drop_skips_text (Int tab ∷ []) 7 (skip_table 13) drop_skips_terms drop_skips_is drop_skips_plain drop_skips_whole refl (inr (inr (inr (inr (inr (inr (inr (inl refl)))))))) (λ db. refl) (λ db has no. true≢false (rw has at no))
-
--- ---- changes that only take rows out
-
-takes_no_list : (change : RowChange) → PutsList change → TakesOut change → ⊥
-takes_no_list (row.PutEntries tab term docid spots) puts takes = true≢false (sym takes)
-takes_no_list _ puts takes = absurd puts
-
-pub no_group : (changes : List RowChange) → length changes ≡ 8 → All PutsList changes → All TakesOut changes → ⊥
-no_group [] eight puts takes = absurd (omega (arith, eight))
-no_group (c ∷ cs) eight puts takes = takes_no_list c (puts 0 c (omega arith)) (takes 0 c (omega arith))

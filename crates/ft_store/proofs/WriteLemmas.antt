@@ -56,7 +56,7 @@ truth_is : (b : Bool) → is_true (from_truth (Some b)) ≡ b
 truth_is true = refl
 truth_is false = refl
 
-turned_case : (v w : Value) (s t : List ℕ) → v ≡ Text s → w ≡ Text t → is_true (binary (Compare Eq NoCase) v w) ≡ is_eq (name_cmp (without_case t) (without_case s))
+pub turned_case : (v w : Value) (s t : List ℕ) → v ≡ Text s → w ≡ Text t → is_true (binary (Compare Eq NoCase) v w) ≡ is_eq (name_cmp (without_case t) (without_case s))
 unfolding binary
 turned_case v w s t p q =
     ap₂ (λ a b. is_true (binary (Compare Eq NoCase) a b)) p q
@@ -69,17 +69,17 @@ both_tie Less u = refl
 both_tie Equal u = refl
 both_tie Greater u = refl
 
-then_tie : {x y : Bool} (o u : Ordering) → x ≡ is_eq o → y ≡ is_eq u → (x && y) ≡ is_eq (ordering_then o u)
+pub then_tie : {x y : Bool} (o u : Ordering) → x ≡ is_eq o → y ≡ is_eq u → (x && y) ≡ is_eq (ordering_then o u)
 then_tie o u p q = ap₂ ◌&&◌ p q ∙ both_tie o u
 
 -- ---- what a column makes of the value that is written to it
 
-cast_num : (v : Cell) → cast kind.Integer (num_of v) ≡ num_of v
+pub cast_num : (v : Cell) → cast kind.Integer (num_of v) ≡ num_of v
 cast_num cells.Null = cast_null
 cast_num (cells.Int n) = cast_int n
 cast_num (cells.Text t) = cast_null
 
-cast_txt : (v : Cell) → cast kind.Text (txt_of v) ≡ txt_of v
+pub cast_txt : (v : Cell) → cast kind.Text (txt_of v) ≡ txt_of v
 cast_txt cells.Null = refl
 cast_txt (cells.Int n) = refl
 cast_txt (cells.Text t) = refl
@@ -96,10 +96,10 @@ bound_txt (cells.Int n) = refl
 bound_txt (cells.Text t) = refl
 
 -- a posting row as it is added, before it has a rowid
-abbrev list_row : Entry → Row
+abbrev pub list_row : Entry → Row
 list_row e = Null ∷ entry_values e
 
-cast_lists : (es : List Entry) → map (λ s. cast_row (posting_table 7) (drop 0 s)) (map list_row es) ≡ map list_row es
+pub cast_lists : (es : List Entry) → map (λ s. cast_row (posting_table 7) (drop 0 s)) (map list_row es) ≡ map list_row es
 cast_lists [] = refl
 cast_lists (e ∷ es) = rw (cast_null, cast_int e.0.0, cast_int e.0.2, cast_lists es) refl
 

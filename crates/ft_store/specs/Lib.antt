@@ -8,6 +8,7 @@ pub mod Older
 pub mod Rows
 pub mod Tables
 pub mod Opened
+pub mod Puts
 -- Steps
 pub mod Expected
 pub mod Found

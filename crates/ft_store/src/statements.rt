@@ -1,16 +1,18 @@
 //! The statements that change rows, each with what it makes of the store's value.
-ghost use Rattle.std.specs.Prelude.{◌≡◌, List, [], length, not, ◌&&◌, if◌then◌else◌, unwrap_or, None};
+ghost use Rattle.std.specs.Prelude.{◌≡◌, ◌⊎◌, ◌+◌, Any, List, [], length, not, ◌&&◌, if◌then◌else◌, unwrap_or, None};
 ghost use Rattle.std.specs.List.{flat_map};
 ghost use Rattle.std.specs.Ordering.{int_eq, eq_by_cmp};
 ghost use Rattle.std.specs.FinMap.Entries.{put, where_key, find};
 ghost use Rattle.sqlite.specs.Values.{bound};
 ghost use Rattle.sqlite_value.specs.Value.{owned};
+ghost use Rattle.sqlite_value.specs.Order.{bytes};
 ghost use Rattle.sqlite_value.specs.Keys.{without_case};
 ghost use Rattle.sqlite.specs.declared.types.Value.TheVariants.{Int};
 ghost use Rattle.ft_rows.specs.Packed.{spots_in};
 ghost use Rattle.ft_rows.specs.Store.{cell_key_cmp, list_key_cmp, column_key_cmp, name_cmp};
 ghost use Rattle.ft_values.specs.Cells.{shown_value};
 ghost use Rattle.ft_store.specs.Blame.{RefusesRun, BlamesOutside};
+ghost use Rattle.ft_store.specs.Puts.{IsFull, IsTooBig, IsBigEntry, GrowsOnOk, GrowsIfAdded, BlamesRows, RefusesAdd};
 ghost use Rattle.ft_store.specs.Rows.{cell_in, num_of, txt_of};
 ghost use Rattle.ft_store.specs.Inside.{DoneInside, StepsInside, RunsOnOk, RunsOrKeeps, without_name, without_columns, without_skips, without_contents, without_lists, without_sizes};
 ghost use Rattle.ft_store.specs.Groups.{Entry, entry_values, with_entries, GoesOnOk};
@@ -42,8 +44,10 @@ fn add<S: Alter>(
     sql: &str,
     params: &[ValueRef<'_>],
 ) -> Result<bool, StoreFault>
-    ensures { DoneInside S.Store tx.old.conn tx.new.conn result
+    ensures done { DoneInside S.Store tx.old.conn tx.new.conn result
         (RunsOrKeeps S.Store tx.old.conn.now tx.new.conn.now result sql.now (bound params.now)) }
+    ensures refused { RefusesAdd S.Store tx.old.conn.now tx.new.conn.now result sql.now
+        (bound params.now) }
 {
     match tx.execute(sql, params) {
         Ok(_) => Ok(true),
@@ -91,6 +95,7 @@ fn text_of(value: &Value) -> ValueRef<'_>
 pub(crate) fn drop_name<S: Alter>(tx: &mut Transaction<'_, S>, tab: i64) -> Result<(), StoreFault>
     ensures done { StepsInside S.Store tx.old.conn tx.new.conn result
         (λ v. without_name tab v) }
+    ensures grown { GrowsOnOk S.Store tx.old.conn.now tx.new.conn.now result 0 }
     ensures refused { BlamesOutside S.Store tx.old.conn.now tx.new.conn.now result }
 {
     run(tx, "DELETE FROM tab WHERE id = ?1", &[tab.to_sql()])
@@ -103,6 +108,7 @@ pub(crate) fn drop_columns<S: Alter>(
 ) -> Result<(), StoreFault>
     ensures done { StepsInside S.Store tx.old.conn tx.new.conn result
         (λ v. without_columns tab v) }
+    ensures grown { GrowsOnOk S.Store tx.old.conn.now tx.new.conn.now result 0 }
     ensures refused { BlamesOutside S.Store tx.old.conn.now tx.new.conn.now result }
 {
     run(tx, "DELETE FROM col WHERE tab = ?1", &[tab.to_sql()])
@@ -112,6 +118,7 @@ pub(crate) fn drop_columns<S: Alter>(
 pub(crate) fn drop_skips<S: Alter>(tx: &mut Transaction<'_, S>, tab: i64) -> Result<(), StoreFault>
     ensures done { StepsInside S.Store tx.old.conn tx.new.conn result
         (λ v. without_skips tab v) }
+    ensures grown { GrowsOnOk S.Store tx.old.conn.now tx.new.conn.now result 0 }
     ensures refused { BlamesOutside S.Store tx.old.conn.now tx.new.conn.now result }
 {
     run(tx, "DELETE FROM skip WHERE tab = ?1", &[tab.to_sql()])
@@ -124,6 +131,7 @@ pub(crate) fn drop_contents<S: Alter>(
 ) -> Result<(), StoreFault>
     ensures done { StepsInside S.Store tx.old.conn tx.new.conn result
         (λ v. without_contents tab v) }
+    ensures grown { GrowsOnOk S.Store tx.old.conn.now tx.new.conn.now result 0 }
     ensures refused { BlamesOutside S.Store tx.old.conn.now tx.new.conn.now result }
 {
     run(tx, "DELETE FROM cell WHERE tab = ?1", &[tab.to_sql()])
@@ -133,6 +141,7 @@ pub(crate) fn drop_contents<S: Alter>(
 pub(crate) fn drop_lists<S: Alter>(tx: &mut Transaction<'_, S>, tab: i64) -> Result<(), StoreFault>
     ensures done { StepsInside S.Store tx.old.conn tx.new.conn result
         (λ v. without_lists tab v) }
+    ensures grown { GrowsOnOk S.Store tx.old.conn.now tx.new.conn.now result 0 }
     ensures refused { BlamesOutside S.Store tx.old.conn.now tx.new.conn.now result }
 {
     run(tx, "DELETE FROM posting WHERE tab = ?1", &[tab.to_sql()])
@@ -142,6 +151,7 @@ pub(crate) fn drop_lists<S: Alter>(tx: &mut Transaction<'_, S>, tab: i64) -> Res
 pub(crate) fn drop_sizes<S: Alter>(tx: &mut Transaction<'_, S>, tab: i64) -> Result<(), StoreFault>
     ensures done { StepsInside S.Store tx.old.conn tx.new.conn result
         (λ v. without_sizes tab v) }
+    ensures grown { GrowsOnOk S.Store tx.old.conn.now tx.new.conn.now result 0 }
     ensures refused { BlamesOutside S.Store tx.old.conn.now tx.new.conn.now result }
 {
     run(tx, "DELETE FROM sizes WHERE tab = ?1", &[tab.to_sql()])
@@ -158,6 +168,7 @@ pub(crate) fn drop_cells<S: Alter>(
           cells = where_key cell_key_cmp
               (λ k. not (int_eq tab k.0 && int_eq docid k.1)) v.cells;
         }) }
+    ensures grown { GrowsOnOk S.Store tx.old.conn.now tx.new.conn.now result 0 }
     ensures refused { BlamesOutside S.Store tx.old.conn.now tx.new.conn.now result }
 {
     run(
@@ -179,6 +190,7 @@ pub(crate) fn drop_list<S: Alter>(
           lists = where_key list_key_cmp
               (λ k. not (eq_by_cmp list_key_cmp (tab, term.now, docid) k)) v.lists;
         }) }
+    ensures grown { GrowsOnOk S.Store tx.old.conn.now tx.new.conn.now result 0 }
     ensures refused { BlamesOutside S.Store tx.old.conn.now tx.new.conn.now result }
 {
     run(
@@ -200,6 +212,7 @@ pub(crate) fn drop_size<S: Alter>(
           sizes = where_key cell_key_cmp
               (λ k. not (eq_by_cmp cell_key_cmp (tab, docid, column) k)) v.sizes;
         }) }
+    ensures grown { GrowsOnOk S.Store tx.old.conn.now tx.new.conn.now result 0 }
     ensures refused { BlamesOutside S.Store tx.old.conn.now tx.new.conn.now result }
 {
     run(
@@ -215,11 +228,18 @@ pub(crate) fn add_lists<S: Alter>(
     tx: &mut Transaction<'_, S>,
     values: &[ValueRef<'_>],
 ) -> Result<bool, StoreFault>
-    ensures { DoneInside S.Store tx.old.conn tx.new.conn result
+    ensures done { DoneInside S.Store tx.old.conn tx.new.conn result
         ((entries : List Entry) → length entries ≡ 8
         → bound values.now ≡ flat_map entry_values entries
         → GoesOnOk S.Store tx.old.conn.now tx.new.conn.now result
         (λ added v. if added then with_entries entries v else v)) }
+    ensures grown { (entries : List Entry) → length entries ≡ 8
+        → bound values.now ≡ flat_map entry_values entries
+        → GrowsIfAdded S.Store tx.old.conn.now tx.new.conn.now result 8 }
+    ensures refused { (entries : List Entry) → length entries ≡ 8
+        → bound values.now ≡ flat_map entry_values entries
+        → BlamesRows S.Store tx.old.conn.now tx.new.conn.now result
+        (λ db. IsFull 8 (db 7) ⊎ Any IsBigEntry entries) }
 {
     add(
         tx,
@@ -235,8 +255,11 @@ pub(crate) fn put_column<S: Alter>(
     column: i64,
     name: &str,
 ) -> Result<(), StoreFault>
-    ensures { StepsInside S.Store tx.old.conn tx.new.conn result
+    ensures done { StepsInside S.Store tx.old.conn tx.new.conn result
         (λ v. record v { columns = put column_key_cmp (tab, column) name.now v.columns }) }
+    ensures grown { GrowsOnOk S.Store tx.old.conn.now tx.new.conn.now result 1 }
+    ensures refused { BlamesRows S.Store tx.old.conn.now tx.new.conn.now result
+        (λ db. IsFull 1 (db 3) ⊎ IsTooBig 4 (length name.now)) }
 {
     run(
         tx,
@@ -256,8 +279,11 @@ pub(crate) fn put_skip<S: Alter>(
     tab: i64,
     column: i64,
 ) -> Result<(), StoreFault>
-    ensures { StepsInside S.Store tx.old.conn tx.new.conn result
+    ensures done { StepsInside S.Store tx.old.conn tx.new.conn result
         (λ v. record v { skipped = put column_key_cmp (tab, column) tt v.skipped }) }
+    ensures grown { GrowsOnOk S.Store tx.old.conn.now tx.new.conn.now result 1 }
+    ensures refused { BlamesRows S.Store tx.old.conn.now tx.new.conn.now result
+        (λ db. IsFull 1 (db 13)) }
 {
     run(
         tx,
@@ -279,11 +305,15 @@ pub(crate) fn put_cell<S: Alter>(
     column: i64,
     value: &Value,
 ) -> Result<(), StoreFault>
-    ensures { StepsInside S.Store tx.old.conn tx.new.conn result
+    ensures done { StepsInside S.Store tx.old.conn tx.new.conn result
         (λ v. record v {
           cells = put cell_key_cmp (tab, docid, column) (shown_value value.now)
               v.cells;
         }) }
+    ensures grown { GrowsOnOk S.Store tx.old.conn.now tx.new.conn.now result 1 }
+    ensures refused { BlamesRows S.Store tx.old.conn.now tx.new.conn.now result
+        (λ db. IsFull 1 (db 5)
+        ⊎ IsTooBig 6 (length (bytes (txt_of (shown_value value.now))))) }
 {
     run(
         tx,
@@ -309,8 +339,11 @@ pub(crate) fn put_cell<S: Alter>(
 
 /// Puts a noted name.
 pub(crate) fn put_note<S: Alter>(tx: &mut Transaction<'_, S>, name: &str) -> Result<(), StoreFault>
-    ensures { StepsInside S.Store tx.old.conn tx.new.conn result
+    ensures done { StepsInside S.Store tx.old.conn tx.new.conn result
         (λ v. record v { noted = put name_cmp (without_case name.now) name.now v.noted }) }
+    ensures grown { GrowsOnOk S.Store tx.old.conn.now tx.new.conn.now result 1 }
+    ensures refused { BlamesRows S.Store tx.old.conn.now tx.new.conn.now result
+        (λ db. IsFull 1 (db 11) ⊎ IsTooBig 2 (length name.now)) }
 {
     run(tx, "DELETE FROM noted WHERE name = ?1", &[name.to_sql()])?;
     run(tx, "INSERT INTO noted (name) VALUES (?1)", &[name.to_sql()])
@@ -324,8 +357,11 @@ pub(crate) fn put_size<S: Alter>(
     column: i64,
     n: i64,
 ) -> Result<(), StoreFault>
-    ensures { StepsInside S.Store tx.old.conn tx.new.conn result
+    ensures done { StepsInside S.Store tx.old.conn tx.new.conn result
         (λ v. record v { sizes = put cell_key_cmp (tab, docid, column) n v.sizes }) }
+    ensures grown { GrowsOnOk S.Store tx.old.conn.now tx.new.conn.now result 1 }
+    ensures refused { BlamesRows S.Store tx.old.conn.now tx.new.conn.now result
+        (λ db. IsFull 1 (db 9)) }
 {
     drop_size(tx, tab, docid, column)?;
     run(
@@ -343,11 +379,14 @@ pub(crate) fn put_list<'a, S: Alter>(
     docid: i64,
     list: &'a [u8],
 ) -> Result<(), StoreFault>
-    ensures { StepsInside S.Store tx.old.conn tx.new.conn result
+    ensures done { StepsInside S.Store tx.old.conn tx.new.conn result
         (λ v. record v {
           lists = put list_key_cmp (tab, term.now, docid)
               (unwrap_or (spots_in list.now) []) v.lists;
         }) }
+    ensures grown { GrowsOnOk S.Store tx.old.conn.now tx.new.conn.now result 1 }
+    ensures refused { BlamesRows S.Store tx.old.conn.now tx.new.conn.now result
+        (λ db. IsFull 1 (db 7) ⊎ IsTooBig 5 (length term.now + length list.now)) }
 {
     drop_list(tx, tab, term, docid)?;
     run(

@@ -12,7 +12,8 @@ ghost use Rattle.ft_rows.specs.Store.{cell_key_cmp, list_key_cmp, name_cmp, noth
 ghost use Rattle.ft_rows.specs.Changes.{shown_change, CanApply};
 ghost use Rattle.ft_rows.specs.Shown.{shown_cell, shown_size, shown_note, shown_list, shown_entry, lists_of_term, lists_of_prefix, spot_count, tables_listed, shown_table, last_docid_of, entries_of, AreWhole, AreRead, SomeDamaged, AreNamedApart};
 ghost use Rattle.ft_rows.specs.Terms.{lists_by_terms};
-ghost use Rattle.ft_store.specs.Blame.{Blames, AreTableTexts, AreNotedTexts, TakesOut};
+ghost use Rattle.ft_store.specs.Blame.{Blames, AreTableTexts, AreNotedTexts};
+ghost use Rattle.ft_store.specs.Puts.{BlamesPuts};
 ghost use Rattle.ft_store.specs.Docids.{docids_in, cut_to};
 ghost use Rattle.ft_store.specs.Expected.{place_count};
 ghost use Rattle.ft_store.specs.Calls.{AreTold, IsPlainFault, IsReadFault, IsChangeFault, IsStored, Keeps, MakesAllOrNone};
@@ -485,8 +486,11 @@ impl<S: Alter> Store<S> {
         ensures made { MakesAllOrNone (shows S.Store self.old) (shows S.Store self.new) result
             (map shown_change changes.now) }
         ensures unread { self.new.rows_read ≡ self.old.rows_read }
-        ensures refused { All TakesOut changes.now
-            → Blames (shows S.Store self.old) (shows S.Store self.new) result }
+
+        // It is refused by the database only for what lies outside the store, or since one of the
+        // changes can't be put.
+        ensures refused { BlamesPuts (shows S.Store self.old) (shows S.Store self.new) result
+            (map shown_change changes.now) }
 
         // After Ok, and while the store is open, a crash leaves that store alone.
         ensures alone { HasCleanDisk (shows S.Store self.new)
@@ -511,6 +515,8 @@ impl<S: Alter> Store<S> {
         ensures made { MakesAllOrNone (shows S.Store self.old) (shows S.Store self.new) result
             (changes_in (P.Parts.to_come parts.old)) }
         ensures unread { self.new.rows_read ≡ self.old.rows_read }
+        ensures refused { BlamesPuts (shows S.Store self.old) (shows S.Store self.new) result
+            (changes_in (P.Parts.to_come parts.old)) }
         ensures alone { HasCleanDisk (shows S.Store self.new)
             → OnOk result (IsTrue (shows S.Store self.new).is_open → (db : Trees)
             → (shows S.Store self.new).may_leave db

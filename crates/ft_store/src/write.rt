@@ -1,12 +1,12 @@
 //! Row changes, all in one transaction.
-ghost use Rattle.std.specs.Prelude.{◌≡◌, Err, false, ◌<◌, ◌≤◌, [], ◌++◌, length, map, if◌then◌else◌, unwrap_or, string_bytes, All, IsTrue, IfOk, IfSome, OnOk};
+ghost use Rattle.std.specs.Prelude.{◌≡◌, ◌⊎◌, ◌+◌, Any, Err, false, ◌<◌, ◌≤◌, [], ◌++◌, length, map, if◌then◌else◌, unwrap_or, string_bytes, All, IsTrue, IfOk, IfSome, OnOk};
 ghost use Rattle.std.specs.Vec.{vec_items};
-ghost use Rattle.std.specs.List.{enumerate_from, flat_map};
+ghost use Rattle.std.specs.List.{enumerate_from, flat_map, sum_by};
 ghost use Rattle.std.specs.FinMap.Entries.{put};
 ghost use Rattle.sqlite.specs.Held.{state};
 ghost use Rattle.sqlite.specs.Values.{bound};
 ghost use Rattle.sqlite_value.specs.Keys.{without_case};
-ghost use Rattle.ft_rows.specs.Packed.{CanPack, spots_in};
+ghost use Rattle.ft_rows.specs.Packed.{CanPack, packed_spots, spots_in};
 ghost use Rattle.ft_rows.specs.Store.{cell_key_cmp, list_key_cmp, column_key_cmp, name_cmp, without_index, without_rows, with_columns, with_skipped, AddTable, applied, all_applied};
 ghost use Rattle.ft_values.specs.Cells.{shown_value};
 ghost use Rattle.ft_rows.specs.Changes.{shown_change, CanApply};
@@ -14,7 +14,9 @@ ghost use Rattle.ft_store.specs.Calls.{StepsOnOk, ChangesAllOrNone, IsAtRest};
 ghost use Rattle.ft_store.specs.Inside.{StepsInside, StepsInsideIfOpen, DoneInside, ChangesInside, AppliesInside, without_columns, without_skips, without_contents};
 ghost use Rattle.ft_store.specs.Groups.{entry_values, entry_put, PutsList, ArePacked, GoesOnOk};
 ghost use Rattle.sqlite.specs.State.{HasCleanDisk};
-ghost use Rattle.ft_store.specs.Blame.{Blames, TakesOut, BlamesOutside};
+ghost use Rattle.ft_store.specs.Blame.{BlamesOutside};
+ghost use Rattle.ft_store.specs.Puts.{IsFull, IsTooBig, rows_of, CantPut, CantPutAll, GrowsOnOk, GrowsIfOpen, GrowsIfAdded, BlamesRows, BlamesIfOpen, BlamesPuts};
+ghost use Rattle.ft_store.specs.Rows.{value_of};
 ghost use Rattle.ft_store.specs.Parts.{changes_in, CanMake};
 
 use crate::fault::StoreFault;
@@ -39,9 +41,13 @@ fn put_entries<S: Alter>(
     docid: i64,
     spots: &[Spot],
 ) -> Result<(), StoreFault>
-    ensures { ChangesInside S.Store tx.old.conn tx.new.conn result (CanPack spots.now)
+    ensures done { ChangesInside S.Store tx.old.conn tx.new.conn result (CanPack spots.now)
         (StepsOnOk S.Store tx.old.conn.now tx.new.conn.now result
         (λ v. record v { lists = put list_key_cmp (tab, term.now, docid) spots.now v.lists })) }
+    ensures grown { GrowsOnOk S.Store tx.old.conn.now tx.new.conn.now result 1 }
+    ensures refused { BlamesRows S.Store tx.old.conn.now tx.new.conn.now result
+        (λ db. IsFull 1 (db 7)
+        ⊎ IsTooBig 5 (length term.now + length (packed_spots spots.now))) }
 {
     if !can_pack(spots) {
         return Err(StoreFault::Damaged);
@@ -54,6 +60,7 @@ fn put_entries<S: Alter>(
 fn clear_index<S: Alter>(tx: &mut Transaction<'_, S>, tab: i64) -> Result<(), StoreFault>
     ensures done { StepsInside S.Store tx.old.conn tx.new.conn result
         (λ v. without_index tab v) }
+    ensures grown { GrowsOnOk S.Store tx.old.conn.now tx.new.conn.now result 0 }
     ensures refused { BlamesOutside S.Store tx.old.conn.now tx.new.conn.now result }
 {
     drop_lists(tx, tab)?;
@@ -64,6 +71,7 @@ fn clear_index<S: Alter>(tx: &mut Transaction<'_, S>, tab: i64) -> Result<(), St
 fn clear_documents<S: Alter>(tx: &mut Transaction<'_, S>, tab: i64) -> Result<(), StoreFault>
     ensures done { StepsInside S.Store tx.old.conn tx.new.conn result
         (λ v. without_contents tab (without_index tab v)) }
+    ensures grown { GrowsOnOk S.Store tx.old.conn.now tx.new.conn.now result 0 }
     ensures refused { BlamesOutside S.Store tx.old.conn.now tx.new.conn.now result }
 {
     clear_index(tx, tab)?;
@@ -74,6 +82,7 @@ fn clear_documents<S: Alter>(tx: &mut Transaction<'_, S>, tab: i64) -> Result<()
 fn clear_columns<S: Alter>(tx: &mut Transaction<'_, S>, tab: i64) -> Result<(), StoreFault>
     ensures done { StepsInside S.Store tx.old.conn tx.new.conn result
         (λ v. without_columns tab (without_skips tab v)) }
+    ensures grown { GrowsOnOk S.Store tx.old.conn.now tx.new.conn.now result 0 }
     ensures refused { BlamesOutside S.Store tx.old.conn.now tx.new.conn.now result }
 {
     drop_skips(tx, tab)?;
@@ -84,6 +93,7 @@ fn clear_columns<S: Alter>(tx: &mut Transaction<'_, S>, tab: i64) -> Result<(), 
 fn clear_rows<S: Alter>(tx: &mut Transaction<'_, S>, tab: i64) -> Result<(), StoreFault>
     ensures done { StepsInside S.Store tx.old.conn tx.new.conn result
         (λ v. without_rows tab v) }
+    ensures grown { GrowsOnOk S.Store tx.old.conn.now tx.new.conn.now result 0 }
     ensures refused { BlamesOutside S.Store tx.old.conn.now tx.new.conn.now result }
 {
     clear_documents(tx, tab)?;
@@ -97,11 +107,16 @@ fn put_columns<S: Alter>(
     tab: i64,
     columns: &[String],
 ) -> Result<(), StoreFault>
-    ensures { StepsInsideIfOpen S.Store tx.old.conn tx.new.conn result
+    ensures done { StepsInsideIfOpen S.Store tx.old.conn tx.new.conn result
         (λ v. record v {
           columns = with_columns tab
               (enumerate_from 0 (map string_bytes columns.now)) v.columns;
         }) }
+    ensures grown { GrowsIfOpen S.Store tx.old.conn.now tx.new.conn.now result
+        (length columns.now) }
+    ensures refused { BlamesIfOpen S.Store tx.old.conn.now tx.new.conn.now result
+        (λ db. IsFull (length columns.now) (db 3)
+        ⊎ Any (λ c. IsTooBig 4 (length c)) (map string_bytes columns.now)) }
 {
     for (at, name) in columns.iter().enumerate() {
         put_column(tx, tab, at as i64, name.as_str())?;
@@ -115,8 +130,12 @@ fn put_skips<S: Alter>(
     tab: i64,
     skipped: &[i64],
 ) -> Result<(), StoreFault>
-    ensures { StepsInsideIfOpen S.Store tx.old.conn tx.new.conn result
+    ensures done { StepsInsideIfOpen S.Store tx.old.conn tx.new.conn result
         (λ v. record v { skipped = with_skipped tab skipped.now v.skipped }) }
+    ensures grown { GrowsIfOpen S.Store tx.old.conn.now tx.new.conn.now result
+        (length skipped.now) }
+    ensures refused { BlamesIfOpen S.Store tx.old.conn.now tx.new.conn.now result
+        (λ db. IsFull (length skipped.now) (db 13)) }
 {
     for column in skipped {
         put_skip(tx, tab, *column)?;
@@ -132,8 +151,13 @@ fn add_table<S: Alter>(
     columns: &[String],
     skipped: &[i64],
 ) -> Result<(), StoreFault>
-    ensures { StepsInside S.Store tx.old.conn tx.new.conn result
+    ensures done { StepsInside S.Store tx.old.conn tx.new.conn result
         (λ v. applied (AddTable tab name.now (map string_bytes columns.now) skipped.now) v) }
+    ensures grown { GrowsOnOk S.Store tx.old.conn.now tx.new.conn.now result
+        (length columns.now + length skipped.now) }
+    ensures refused { BlamesRows S.Store tx.old.conn.now tx.new.conn.now result
+        (λ db. CantPut (length columns.now + length skipped.now) db (value_of db)
+        (AddTable tab name.now (map string_bytes columns.now) skipped.now)) }
 {
     clear_rows(tx, tab)?;
     run(
@@ -154,8 +178,11 @@ fn apply<S: Alter>(
     ensures done { ChangesInside S.Store tx.old.conn tx.new.conn result (CanApply change.now)
         (StepsOnOk S.Store tx.old.conn.now tx.new.conn.now result
         (λ v. applied (shown_change change.now) v)) }
-    ensures refused { TakesOut change.now
-        → BlamesOutside S.Store tx.old.conn.now tx.new.conn.now result }
+    ensures grown { GrowsOnOk S.Store tx.old.conn.now tx.new.conn.now result
+        (rows_of (shown_change change.now)) }
+    ensures refused { let it = shown_change change.now in
+        BlamesRows S.Store tx.old.conn.now tx.new.conn.now result
+        (λ db. CantPut (rows_of it) db (value_of db) it) }
 {
     match change {
         RowChange::AddTable(tab, name, columns, skipped) => add_table(
@@ -186,8 +213,10 @@ fn apply_each<S: Alter>(
     changes: &[RowChange],
 ) -> Result<(), StoreFault>
     ensures done { AppliesInside S.Store tx.old.conn tx.new.conn result changes.now }
-    ensures refused { All TakesOut changes.now
-        → BlamesOutside S.Store tx.old.conn.now tx.new.conn.now result }
+    ensures grown { GrowsOnOk S.Store tx.old.conn.now tx.new.conn.now result
+        (sum_by rows_of (map shown_change changes.now)) }
+    ensures refused { BlamesRows S.Store tx.old.conn.now tx.new.conn.now result
+        (λ db. CantPutAll db (map shown_change changes.now)) }
 {
     for change in changes {
         apply(tx, alloc, change)?;
@@ -283,8 +312,10 @@ fn add_group<S: Alter>(
     ensures goes { DoneInside S.Store tx.old.conn tx.new.conn result
         (GoesOnOk S.Store tx.old.conn.now tx.new.conn.now result
         (λ added v. if added then all_applied (map shown_change changes.now) v else v)) }
-    ensures refused { All TakesOut changes.now
-        → BlamesOutside S.Store tx.old.conn.now tx.new.conn.now result }
+    ensures grown { GrowsIfAdded S.Store tx.old.conn.now tx.new.conn.now result
+        (sum_by rows_of (map shown_change changes.now)) }
+    ensures refused { BlamesRows S.Store tx.old.conn.now tx.new.conn.now result
+        (λ db. CantPutAll db (map shown_change changes.now)) }
 {
     if changes.len() != GROUP {
         return Ok(false);
@@ -303,8 +334,10 @@ fn apply_group<S: Alter>(
     changes: &[RowChange],
 ) -> Result<(), StoreFault>
     ensures done { AppliesInside S.Store tx.old.conn tx.new.conn result changes.now }
-    ensures refused { All TakesOut changes.now
-        → BlamesOutside S.Store tx.old.conn.now tx.new.conn.now result }
+    ensures grown { GrowsOnOk S.Store tx.old.conn.now tx.new.conn.now result
+        (sum_by rows_of (map shown_change changes.now)) }
+    ensures refused { BlamesRows S.Store tx.old.conn.now tx.new.conn.now result
+        (λ db. CantPutAll db (map shown_change changes.now)) }
 {
     let added = add_group(tx, alloc, changes)?;
     if added {
@@ -320,8 +353,10 @@ fn apply_all<S: Alter>(
     changes: &[RowChange],
 ) -> Result<(), StoreFault>
     ensures done { AppliesInside S.Store tx.old.conn tx.new.conn result changes.now }
-    ensures refused { All TakesOut changes.now
-        → BlamesOutside S.Store tx.old.conn.now tx.new.conn.now result }
+    ensures grown { GrowsOnOk S.Store tx.old.conn.now tx.new.conn.now result
+        (sum_by rows_of (map shown_change changes.now)) }
+    ensures refused { BlamesRows S.Store tx.old.conn.now tx.new.conn.now result
+        (λ db. CantPutAll db (map shown_change changes.now)) }
 {
     let mut at = 0;
     while at < changes.len() {
@@ -341,8 +376,8 @@ pub(crate) fn change<S: Alter>(
     requires { IsAtRest (state S.Store conn.old) }
     ensures done { ChangesAllOrNone (state S.Store conn.old) (state S.Store conn.new) result
         (All CanApply changes.now) (map shown_change changes.now) }
-    ensures refused { All TakesOut changes.now
-        → Blames (state S.Store conn.old) (state S.Store conn.new) result }
+    ensures refused { BlamesPuts (state S.Store conn.old) (state S.Store conn.new) result
+        (map shown_change changes.now) }
 {
     // For the proof: outside a transaction an open database is as the last commit left it.
     let _settled = conn.is_autocommit();
@@ -359,8 +394,10 @@ pub(crate) fn change_parts<S: Alter, P: Parts>(
     parts: &mut P,
 ) -> Result<(), StoreFault>
     requires { IsAtRest (state S.Store conn.old) }
-    ensures { ChangesAllOrNone (state S.Store conn.old) (state S.Store conn.new) result
+    ensures done { ChangesAllOrNone (state S.Store conn.old) (state S.Store conn.new) result
         (All CanMake (changes_in (P.Parts.to_come parts.old)))
+        (changes_in (P.Parts.to_come parts.old)) }
+    ensures refused { BlamesPuts (state S.Store conn.old) (state S.Store conn.new) result
         (changes_in (P.Parts.to_come parts.old)) }
 {
     // For the proof: outside a transaction an open database is as the last commit left it.

@@ -25,6 +25,9 @@ use Rattle.ft_store.specs.Kept.{shows}
 use Rattle.ft_index.proofs.Crashing.{CommitsRows, crash_changed}
 use Rattle.std.proofs.Common.{All}
 use Rattle.ft_store.specs.Blame.{TakesOut}
+use Rattle.std.proofs.Common.{inl, inr}
+use Rattle.ft_store.proofs.CantLemmas.{nothing_put}
+use Rattle.ft_index.proofs.Pinging.{takes_can}
 use Rattle.ft_index.proofs.tables.drop_table.Goals as goal
 use Rattle.ft_index.proofs.tables.drop_table.Goals.{in-Some, in_default}
 
@@ -124,4 +127,10 @@ returns-clause-does g c = record {
 }
 
 pub returns-in_err-change_rows-clause-refused : goal.returns-in_err-change_rows-clause-refused
-returns-in_err-change_rows-clause-refused g c = λ clean is. c.change_rows.ensures.refused (subst (All TakesOut) (sym c.as_slice-2.ensures.value) c.in_ok-changes.ensures.drops) clean (search rules)
+returns-in_err-change_rows-clause-refused g c = λ clean is.
+    let changes = c.as_slice-2.result.now in
+    let takes = subst (All TakesOut) (sym c.as_slice-2.ensures.value) c.in_ok-changes.ensures.drops in
+    elim (c.change_rows.ensures.refused (takes_can changes takes) clean (search rules)) [
+      | inl blamed ↦ blamed
+      | inr cant ↦ absurd (nothing_put (shows g.S.Store c.args.store.now).now.trees changes takes cant)
+    ]

@@ -4,6 +4,7 @@ use Rattle.sqlite.specs.declared.types.Value.TheVariants.{Int}
 use Rattle.sqlite.specs.State.{ExecutesInside}
 use Rattle.sqlite.specs.Held.{state}
 use Rattle.ft_store.proofs.Texts.{drop_name_text}
+use Rattle.ft_store.proofs.GoneLemmas.{drop_name_grown}
 use Rattle.ft_store.proofs.RefusedLemmas.{drop_name_blamed}
 use Rattle.ft_store.proofs.WriteLemmas.{does_drop_name}
 use Rattle.ft_store.proofs.statements.drop_name.Goals as goal
@@ -22,3 +23,10 @@ pub returns-clause-refused : goal.returns-clause-refused
 returns-clause-refused g c = λ clean inside kept is.
     let why = (simp (to_z-of_z, c.ranges.tab) at (rw c.to_sql.ensures at c.run.ensures.refused)) clean inside is in
     drop_name_blamed c.args.tab (state g.S.Store c.args.tx.now.conn.now) (state g.S.Store c.run.new.tx.conn.now) kept why
+
+pub returns-clause-grown : goal.returns-clause-grown
+returns-clause-grown g c = λ clean inside kept.
+    let old = state g.S.Store c.args.tx.now.conn.now in
+    let new = state g.S.Store c.run.new.tx.conn.now in
+    on_ok_weaker c.run.result (λ (ran : (count : ℕ) × ExecutesInside 0 drop_name_text (Int c.args.tab ∷ []) old new (Ok count)). drop_name_grown c.args.tab old new ran.0 (kept ran.1.1.was_open) ran.1.0)
+    ((simp (to_z-of_z, c.ranges.tab) at (rw c.to_sql.ensures at c.run.ensures.done.steps)) clean inside)

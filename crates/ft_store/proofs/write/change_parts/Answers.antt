@@ -1,3 +1,19 @@
+use Rattle.std.proofs.Common.{[], ◌⊎◌, inl, inr, refl}
+use Rattle.sqlite.specs.State.{HasCleanDisk}
+use Rattle.ft_store.specs.declared.fault.StoreFault.TheVariants as fault
+use Rattle.ft_store.specs.Blame.{IsBlamed}
+use Rattle.ft_store.specs.Puts.{CantPutAll}
+use Rattle.ft_store.proofs.CantLemmas.{part_why, blamed_at}
+use Rattle.ft_store.proofs.RiseLemmas.{trees_same}
+use Rattle.std.proofs.Common.{List}
+use Rattle.std.specs.List.{sum_by}
+use Rattle.std.proofs.lemmas.List.Sums.{sum_by-append}
+use Rattle.ft_values.specs.declared.rows.RowChange.{RowChange}
+use Rattle.std.proofs.Common.{IsTrue}
+use Rattle.ft_store.specs.Calls.{IsStore}
+use Rattle.ft_store.specs.Puts.{AreGrown, rows_of}
+use Rattle.ft_store.proofs.CantLemmas.{grown_count}
+use Rattle.ft_store.proofs.RiseLemmas.{trees_then}
 use Rattle.std.proofs.Common.{◌≡◌, ◌∷◌, ◌++◌, map, All, Ok, Err, ap, sym, subst, rules, ◌∙◌, arith}
 use Rattle.std.specs.Prelude.{IfErr}
 use Rattle.sqlite.specs.Held.{state}
@@ -11,8 +27,8 @@ use Rattle.ft_store.specs.Parts.{changes_in, IsNext, CanMake}
 use Rattle.ft_store.proofs.PartLemmas.{one_part, part_fault, parts_can, part_goes}
 use Rattle.ft_store.proofs.write.change_parts.Goals as goal
 
-pub returns-in_err-apply_all : goal.returns-in_err-apply_all
-returns-in_err-apply_all g c =
+pub returns-in_err-apply_all-clause-done : goal.returns-in_err-apply_all-clause-done
+returns-in_err-apply_all-clause-done g c =
     let left = g.P.Parts.to_come c.loop-tx.parts in
     let rest = g.P.Parts.to_come c.next.new.self in
     let whole = changes_in (g.P.Parts.to_come c.args.parts.now) in
@@ -50,8 +66,41 @@ loop-tx-preserved g c =
         parts_can done part.items c.loop-tx.invariant.2.2 can,
         λ clean.
             let before = c.loop-tx.invariant.2.3 (omega (arith, c.apply_all.ensures.done.stays.survives.clean)) in
-            part_goes old was now (value_of old.now.trees) done (map shown_change part.items) before
-            (subst (λ l. Goes was now (all_applied (map shown_change l) (value_of was.now.trees))) c.as_slice.ensures.value
-            (c.in_ok-apply_all.ensures.done.steps clean before.inside (λ is_open. (before.going (before.was_open is_open)).1))),
+            let kept : IsTrue was.is_open → IsStore was.now = λ is_open. (before.0.going (before.0.was_open is_open)).1 in (
+              part_goes old was now (value_of old.now.trees) done (map shown_change part.items) before.0
+              (subst (λ l. Goes was now (all_applied (map shown_change l) (value_of was.now.trees))) c.as_slice.ensures.value (c.in_ok-apply_all.ensures.done.steps clean before.0.inside kept)),
+              grown_count _ _ old.now.trees now.now.trees (sym (sum_by-append rows_of done (map shown_change part.items)))
+              (trees_then (sum_by rows_of done) (sum_by rows_of (map shown_change part.items)) old.now.trees was.now.trees now.now.trees before.1
+              (subst (λ (l : List RowChange). AreGrown (sum_by rows_of (map shown_change l)) was.now.trees now.now.trees) c.as_slice.ensures.value (c.in_ok-apply_all.ensures.grown clean before.0.inside kept))),
+            ),
       ),
     )
+
+pub loop-tx-init : goal.loop-tx-init
+loop-tx-init g c =
+    let old = state g.S.Store c.args.conn.now in
+    let now = state g.S.Store c.transaction-tx.result.conn.now in (
+      refl,
+      search rules,
+      ([], refl, search rules, λ clean. (search rules, trees_same 0 old.now.trees now.now.trees (ap (λ h. (state g.S.Store h).now.trees) c.transaction-tx.ensures.begun))),
+    )
+
+pub returns-in_err-apply_all-clause-refused : goal.returns-in_err-apply_all-clause-refused
+returns-in_err-apply_all-clause-refused g c = λ clean is.
+    let old = state g.S.Store c.args.conn.now in
+    let was = state g.S.Store c.loop-tx.tx.conn.now in
+    let now = state g.S.Store c.apply_all.new.tx.conn.now in
+    let left = g.P.Parts.to_come c.loop-tx.parts in
+    let rest = g.P.Parts.to_come c.next.new.self in
+    let whole = changes_in (g.P.Parts.to_come c.args.parts.now) in
+    let done = c.loop-tx.invariant.2.0 in
+    let part = c.in-Some.changes in
+    let next : left ≡ map shown_change part.items ∷ rest = subst (λ r. IsNext left r rest) (c.in_ok-changes.was ∙ ap Ok c.in-Some.is) c.next.ensures in
+    let refused : c.apply_all.result ≡ Err fault.Refused = search rules in
+    let inside : HasCleanDisk now → IsBlamed old now ⊎ CantPutAll old.now.trees whole = λ clean_now.
+        let clean_was : HasCleanDisk was = omega (arith, clean_now, c.apply_all.ensures.done.stays.survives.clean) in
+        let before = c.loop-tx.invariant.2.3 clean_was in
+        let kept : IsTrue was.is_open → IsStore was.now = λ is_open. (before.0.going (before.0.was_open is_open)).1 in
+        let why = subst (λ (l : List RowChange). IsBlamed was now ⊎ CantPutAll was.now.trees (map shown_change l)) c.as_slice.ensures.value (c.apply_all.ensures.refused clean_now before.0.inside kept refused) in
+        part_why old was now _ _ done (map shown_change part.items) (changes_in rest) whole (one_part whole done left rest part.items c.loop-tx.invariant.2.1 next) clean_was c.loop-tx.invariant.1 c.apply_all.ensures.done.stays.survives before.0 before.1 why in
+    first_of (search (rules, inside, blamed_at), grind (arith, inside))

@@ -1,6 +1,7 @@
-use Rattle.std.proofs.Common.{rules, to_z-of_z}
+use Rattle.std.proofs.Common.{rules, to_z-of_z, Ok}
 use Rattle.ft_rows.specs.Store.{without_index}
 use Rattle.ft_store.specs.Inside.{without_contents, without_skips, without_columns, without_name}
+use Rattle.ft_store.proofs.CantLemmas.{grows_then}
 use Rattle.ft_store.proofs.InsideLemmas.{inside_then, blames_then}
 use Rattle.ft_store.proofs.write.clear_rows.Goals as goal
 
@@ -21,3 +22,12 @@ returns-clause-refused g c =
     (simp (to_z-of_z, c.ranges.tab) at c.in_ok-clear_columns.ensures.done) in
     blames_then g.S.Store _ _ _ _ (λ v. without_columns c.args.tab (without_skips c.args.tab (without_contents c.args.tab (without_index c.args.tab v)))) (without_name c.args.tab) first (simp (to_z-of_z, c.ranges.tab) at c.drop_name.ensures.done)
     c.drop_name.ensures.refused
+
+pub returns-clause-grown : goal.returns-clause-grown
+returns-clause-grown g c =
+    let documents = simp (to_z-of_z, c.ranges.tab) at c.in_ok-clear_documents.ensures.done in
+    let columns = simp (to_z-of_z, c.ranges.tab) at c.in_ok-clear_columns.ensures.done in
+    let first = inside_then g.S.Store _ _ _ _ (λ v. without_contents c.args.tab (without_index c.args.tab v)) (λ v. without_columns c.args.tab (without_skips c.args.tab v)) documents columns in
+    let grown = grows_then g.S.Store c.args.tx.now.conn c.clear_documents.new.tx.conn c.clear_columns.new.tx.conn (Ok tt) (λ v. without_contents c.args.tab (without_index c.args.tab v)) (λ v. without_columns c.args.tab (without_skips c.args.tab v)) 0 0 documents columns
+    c.in_ok-clear_documents.ensures.grown c.in_ok-clear_columns.ensures.grown in
+    grows_then g.S.Store c.args.tx.now.conn c.clear_columns.new.tx.conn c.drop_name.new.tx.conn c.drop_name.result (λ v. without_columns c.args.tab (without_skips c.args.tab (without_contents c.args.tab (without_index c.args.tab v)))) (without_name c.args.tab) 0 0 first (simp (to_z-of_z, c.ranges.tab) at c.drop_name.ensures.done) grown c.drop_name.ensures.grown

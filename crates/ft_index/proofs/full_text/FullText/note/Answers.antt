@@ -1,5 +1,5 @@
 -- a note changes no table
-use Rattle.std.proofs.Common.{map, refl, subst}
+use Rattle.std.proofs.Common.{map, refl, subst, sym}
 use Rattle.std.specs.Prelude.{is_ok}
 use Rattle.ft_content.specs.Views.{shown_info}
 use Rattle.ft_index.specs.Kept.{FullText, Notes}
@@ -13,13 +13,13 @@ use Rattle.ft_index.proofs.full_text.FullText.note.Goals as goal
 
 pub invariant_of-self : goal.invariant_of-self
 invariant_of-self g c =
-    note_upheld g.S.Store c.self.inside.store c.note_name-result.new.store (map shown_info c.self.inside.tables.items) c.args.name.now (is_ok c.note_name-result.result) c.note_name-result.ensures.changed c.self.invariant
+    note_upheld g.S.Store c.self.inside.store c.note_name-result.new.store (map shown_info c.self.inside.tables.items) c.args.name.now (is_ok c.note_name-result.result) c.note_name-result.ensures.makes.changed c.self.invariant
 
 pub returns : goal.returns
 returns g c =
     let tables = map shown_info c.self.inside.tables.items in
     let new = with_tables c.note_name-result.new.store tables in
-    let changed = c.note_name-result.ensures.changed in
+    let changed = c.note_name-result.ensures.makes.changed in
     record {
       noted = subst (λ (k : FullText g.row.S.Denot). Notes g.S.Store k c.args.name.now (is_ok c.note_name-result.result) new) c.self.view_is (record {
         was_up = λ up. changed.was_up tables tables up;
@@ -27,9 +27,10 @@ returns g c =
         tables = refl;
       });
       leaves = subst (λ (k : FullText g.row.S.Denot). LeavesNote g.S.Store k c.args.name.now (is_ok c.note_name-result.result) new) c.self.view_is (record {
-        live = λ clean done. ok_then c.note_name-result.result (c.note_name-result.ensures.live clean) done;
+        live = λ clean done. ok_then c.note_name-result.result (c.note_name-result.ensures.makes.live clean) done;
         settled = λ up. c.is_settled.ensures up.clean up.is_open;
-        survives = survives_as (shows g.S.Store c.self.inside.store) (shows g.S.Store c.note_name-result.new.store) _ _ (λ clean db commits. (record { clean = commits.0.clean; is_open = commits.0.is_open }, λ up. commits.1)) c.note_name-result.ensures.crash;
+        survives = survives_as (shows g.S.Store c.self.inside.store) (shows g.S.Store c.note_name-result.new.store) _ _ (λ clean db commits. (record { clean = commits.0.clean; is_open = commits.0.is_open }, λ up. commits.1)) c.note_name-result.ensures.makes.crash;
       });
-      fault = c.note_name-result.ensures.cause;
+      fault = c.note_name-result.ensures.makes.cause;
+      refused = λ clean told. rw (sym c.self.view_is) (c.note_name-result.ensures.refused clean told);
     }
