@@ -70,5 +70,5 @@ module _ {S : Type 0} (g : Ghosts S) where
         left = all_applied changes (value_in g old);
         stored = subst (λ (v : StoreValue). IsStored db (all_applied changes v)) (looks_same g old mid tables looks mid_up) (commits mid_up.is_open);
         held = subst (StoreHolds (all_applied changes (value_in g old))) (left_is first command planned.0) planned.1;
-        noted = planned.2;
+        noted = planned.2.noted;
       }) looks.survives survives
