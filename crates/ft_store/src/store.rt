@@ -252,6 +252,20 @@ impl<S: Alter> Store<S> {
         Ok(found)
     }
 
+    /// The table of a number with its columns, under a name that is given.
+    pub fn table(&mut self, id: i64, name: &str) -> Result<TabRow, StoreFault>
+        ensures rows { HasCleanDisk (shows S.Store self.new)
+            → IfOk result (λ found. shown_table found
+            ≡ table_listed (value_in S.Store self.old) (id, name.now)) }
+        ensures read { ReadsRows S.Store self.old self.new result (λ _. 1) IsPlainFault }
+        ensures refused { Blames (shows S.Store self.old) (shows S.Store self.new) result }
+    {
+        let name = String::from_str(self.alloc, name)?;
+        let found = tables::table(&mut self.conn, self.alloc, id, name)?;
+        self.rows_read = self.rows_read.saturating_add(1);
+        Ok(found)
+    }
+
     /// All cells of a table, by rising docid and then column.
     pub fn cells(&mut self, tab: i64) -> Result<Vec<CellRow>, StoreFault>
         ensures rows { HasCleanDisk (shows S.Store self.new)
