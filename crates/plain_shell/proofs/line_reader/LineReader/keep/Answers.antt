@@ -17,3 +17,6 @@ returns-clause-left c way =
     let after : List ℕ → LinesRead = λ line. record before { line = line } in
     subst (λ (a : LinesRead). members_left a (behind c.args.bytes.now way) ≡ members_left (after c.extend_from_slice.new.self.items) way) c.self.view_is
     (kept_left before c.args.bytes.now way c.min.result c.self.invariant.0 c.requires size ∙ ap (λ line. members_left (after line) way) (sym items))
+
+pub returns-clause-line : goal.returns-clause-line
+returns-clause-line c = (invariant_of-self-2 c).0
