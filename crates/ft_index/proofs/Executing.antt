@@ -1,5 +1,5 @@
 -- Commands as they are executed.
-use Rattle.std.proofs.Common.{◌≡◌, ◌⊎◌, inl, inr, true, false, List, [], ◌∷◌, map, Option, Some, None, Result, Ok, Err, string_bytes, refl, sym, ap, subst, ◌∙◌}
+use Rattle.std.proofs.Common.{◌≡◌, ◌⊎◌, inl, inr, true, false, List, [], ◌∷◌, map, Option, Some, None, Result, Ok, Err, refl, sym, ap, subst, ◌∙◌}
 use Rattle.std.specs.Prelude.{IsTrue}
 use Rattle.sqlite.specs.Store.{Ghosts}
 use Rattle.ft_rows.specs.Store.{StoreValue, AreInOrder, Change, all_applied}
@@ -9,8 +9,7 @@ use Rattle.ft_values.specs.declared.fault.Fault.TheVariants as faults
 use Rattle.ft_values.specs.declared.table.TableInfo.{TableInfo as RustTableInfo}
 use Rattle.ft_content.specs.Command.{Command, Reply, Done}
 use Rattle.ft_content.specs.declared.command.Creation.{Creation}
-use Rattle.ft_content.specs.Content.{names_of, skipped_from}
-use Rattle.ft_content.specs.Views.{TableInfo, column_of, shown_info, creation_of}
+use Rattle.ft_content.specs.Views.{TableInfo, shown_info, creation_of}
 use Rattle.ft_content.specs.Deserved.{Contents, deserved}
 use Rattle.ft_content.specs.Step.{after, reply_to, step, step_by}
 use Rattle.ft_documents.specs.Found.{with_info}
@@ -18,7 +17,7 @@ use Rattle.ft_index.specs.Planned.{Makes, table_change}
 use Rattle.ft_index.specs.Changed.{Changed, with_tables}
 use Rattle.ft_index.specs.Kept.{FullText, IsUp, KeepsOthers, PlansFrom, AreHeld, StoreHolds, Holds, Executes, Answers, is_outside, table_info, value_of}
 use Rattle.ft_index.proofs.NameLemmas.{apart_after}
-use Rattle.ft_index.proofs.OtherRows.{keeps_added, keeps_same}
+use Rattle.ft_index.proofs.OtherRows.{keeps_same, makes_table}
 use Rattle.ft_index.proofs.CreateLemmas.{made_is_held, create_answers, refused_answers, nothing_made}
 
 -- a command that leaves everything as it is
@@ -60,7 +59,7 @@ module _ {S : Type 0} (g : Ghosts S) (creation : Creation) where
       inr (create_answers first creation (makes first holds.told).0),
     );
     others = λ up first holds. subst (KeepsOthers (value_in g old)) (sym (changed.value (with_info (shown_info made) tables) up))
-        (keeps_added made.id (string_bytes made.name) (names_of (map column_of made.columns.items)) (skipped_from 0 (map column_of made.columns.items)) (value_in g old));
+        (makes_table made (value_in g old));
     unchanged = λ no up. absurd (let wrong = no in cc);
   }
 

@@ -17,7 +17,7 @@ use Rattle.ft_content.specs.Deserved.{Table, Contents}
 use Rattle.ft_index.specs.Changed.{with_tables}
 use Rattle.ft_index.specs.DocumentsRead.{Looks}
 use Rattle.ft_index.specs.Kept.{AreHeld, StoreHolds, HoldsTable, HoldsSome, table_info}
-use Rattle.ft_index.specs.Opened.{IsListed, IsFound, IsMarked, AreMarked, Opens}
+use Rattle.ft_index.specs.Opened.{IsListed, IsMarked, AreMarked, Opens}
 use Rattle.ft_index.proofs.HeldLemmas.{holds_one_contents}
 use Rattle.ft_documents.specs.Tables.{table_rows, table_index}
 

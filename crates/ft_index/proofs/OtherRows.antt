@@ -1,5 +1,5 @@
 -- What commands leave under ids that no table has.
-use Rattle.std.proofs.Common.{◌≡◌, ℕ, Bool, true, false, cond, not, List, [], ◌∷◌, map, Some, None, ℤ, refl, sym, ap, ◌∙◌}
+use Rattle.std.proofs.Common.{◌≡◌, ℕ, Bool, true, false, cond, not, List, [], ◌∷◌, map, Some, None, ℤ, string_bytes, refl, sym, ap, ◌∙◌}
 use Rattle.std.specs.Prelude.{is_some, unwrap_or}
 use Rattle.std.specs.declared.cmp.Ordering.{Ordering}
 use Rattle.std.specs.Ordering.{int_cmp, int_eq, is_eq}
@@ -8,12 +8,15 @@ use Rattle.std.specs.FinMap.Entries.{put, find, where_key, find-put, find-where_
 use Rattle.std.proofs.lemmas.Map.Lookups.{exact_signed}
 use Rattle.ft_values.specs.Cells.{Cell}
 use Rattle.ft_rows.specs.Store.{StoreValue, CellKey, ColumnKey, ListKey, cell_key_cmp, list_key_cmp, column_key_cmp, AddTable, DropTable, applied}
-use Rattle.ft_content.specs.Content.{same_name}
+use Rattle.ft_values.specs.declared.table.TableInfo.{TableInfo as RustTableInfo}
+use Rattle.ft_content.specs.Content.{names_of, same_name, skipped_from}
+use Rattle.ft_content.specs.Views.{column_of}
 use Rattle.ft_content.specs.Deserved.{Table, Contents, table_named}
 use Rattle.ft_content.specs.Index.{StoredSpot}
 use Rattle.ft_documents.specs.Tables.{table_rows, table_index}
 use Rattle.ft_documents.proofs.KeyedRows.{same_int}
 use Rattle.ft_index.specs.Kept.{KeepsOthers, names_table, no_index, no_rows}
+use Rattle.ft_index.specs.Planned.{table_change}
 use Rattle.ft_index.proofs.Lifting.{LeavesRest}
 use Rattle.ft_index.proofs.OneTable.{AreHeldIn, SparesAllBut}
 use Rattle.ft_index.proofs.TableChanges.{add_spares, drop_spares}
@@ -72,7 +75,7 @@ named_without id other tables apart =
     find-where_key int_cmp (λ k. not (int_eq id k)) other (λ x e. ap (λ k. not (int_eq id k)) (sym (exact_signed other x e))) tables ∙ ap (λ b. cond (not b) (find int_cmp other tables) None) apart
 
 -- a table that is made
-pub keeps_added : (id : ℤ) (name : List ℕ) (columns : List (List ℕ)) (skipped : List ℤ) (store : StoreValue) → KeepsOthers store (applied (AddTable id name columns skipped) store)
+keeps_added : (id : ℤ) (name : List ℕ) (columns : List (List ℕ)) (skipped : List ℤ) (store : StoreValue) → KeepsOthers store (applied (AddTable id name columns skipped) store)
 keeps_added id name columns skipped store =
     keeps_spared id store (applied (AddTable id name columns skipped) store) (add_spares id name columns skipped store) refl
     (ap is_some (put_found id) ∙ ap (λ b. is_some (cond b (Some name) (find int_cmp id others))) (ap is_eq (tied_itself int_cmp_total id)))
@@ -83,6 +86,9 @@ keeps_added id name columns skipped store =
 
     put_found : (q : ℤ) → find int_cmp q (put int_cmp id name others) ≡ cond (int_eq q id) (Some name) (find int_cmp q others)
     put_found q = find-put int_cmp int_cmp_total q id name others
+
+pub makes_table : (made : RustTableInfo) (store : StoreValue) → KeepsOthers store (applied (table_change made) store)
+makes_table made store = keeps_added made.id (string_bytes made.name) (names_of (map column_of made.columns.items)) (skipped_from 0 (map column_of made.columns.items)) store
 
 none_twice : {K V : Type 0} (R : K → K → Ordering) (p : K → Bool) (rows : List (K × V)) → where_key R p (where_key R (λ k. not (p k)) rows) ≡ []
 none_twice R p [] = refl

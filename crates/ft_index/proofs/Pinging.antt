@@ -25,7 +25,7 @@ use Rattle.ft_content.specs.Command.{Command, Create, Drop, Insert, Update, Dele
 use Rattle.ft_content.specs.Deserved.{TableState, Sound, Stale, Loose, Table, Contents, table_named}
 use Rattle.ft_content.specs.Views.{TableInfo, answer_of}
 use Rattle.ft_index.specs.DocumentsRead.{Looks}
-use Rattle.ft_index.specs.Kept.{FullText, IsUp, IsOutside, AreHeld, Executes, KeepsOthers, OnlyLooks, is_outside}
+use Rattle.ft_index.specs.Kept.{FullText, IsUp, IsOutside, AreHeld, Executes, KeepsOthers, OnlyLooks, is_outside, value_of}
 use Rattle.ft_index.specs.Crashes.{HoldsAfter, IsSettled, LeavesRead}
 use Rattle.ft_index.specs.Changed.{with_tables, Does, DoesAsked, LooksAsked, MakesAsked, MakesRows}
 use Rattle.ft_index.specs.RowsRead.{CountsFound, CountsHeld, CountsIfRows, CountsRows}

@@ -1,5 +1,5 @@
 -- Plans of commands that change no document.
-use Rattle.std.proofs.Common.{◌≡◌, ◌⊎◌, inl, inr, ℕ, List, [], ◌∷◌, Option, Some, None, Result, Ok, Err, map, string_bytes, refl, sym, ap, subst, ◌∙◌}
+use Rattle.std.proofs.Common.{◌≡◌, ◌⊎◌, inl, inr, ℕ, List, [], ◌∷◌, Option, Some, None, Result, Ok, Err, refl, sym, ap, subst, ◌∙◌}
 use Rattle.std.specs.Prelude.{IsTrue}
 use Rattle.ft_rows.specs.Store.{StoreValue, AreInOrder}
 use Rattle.ft_values.specs.declared.fault.Fault.{Fault}
@@ -7,8 +7,7 @@ use Rattle.ft_values.specs.declared.fault.Fault.TheVariants as faults
 use Rattle.ft_values.specs.declared.table.TableInfo.{TableInfo as RustTableInfo}
 use Rattle.ft_content.specs.declared.command.Creation.{Creation}
 use Rattle.ft_content.specs.Command.{Command, Select, Check, Optimize, Filter, Items, Reply}
-use Rattle.ft_content.specs.Content.{names_of, skipped_from}
-use Rattle.ft_content.specs.Views.{TableInfo, column_of, creation_of}
+use Rattle.ft_content.specs.Views.{TableInfo, creation_of}
 use Rattle.ft_content.specs.Deserved.{Contents, select_fault, deserved}
 use Rattle.ft_content.specs.Step.{after, step, step_by}
 use Rattle.ft_documents.specs.Found.{info_named, IsUnfit, IsSoundNamed}
@@ -18,7 +17,7 @@ use Rattle.ft_index.proofs.KnownLemmas.{sound_table, sound_is, unfit_is}
 use Rattle.ft_index.proofs.SelectAnswers.{fault_bare, told_columns}
 use Rattle.ft_documents.proofs.AddLemmas.{bare}
 use Rattle.ft_index.proofs.CreateLemmas.{made_is_held, nothing_made}
-use Rattle.ft_index.proofs.OtherRows.{keeps_added, keeps_same}
+use Rattle.ft_index.proofs.OtherRows.{keeps_same, makes_table}
 
 -- a command that leaves the contents, and names no row
 pub plans_nothing : (contents : Contents) (command : Command) (store : StoreValue) (tables : List TableInfo) → AreHeld store tables contents → after contents command ≡ contents → StaysNear contents command [] → deserved contents command ≡ None → PlansFrom contents command store (Ok [])
@@ -35,7 +34,7 @@ module _ (contents : Contents) (creation : Creation) (store : StoreValue) (table
   create_nothing held makes = plans_nothing contents (creation_of creation) store tables held (nothing_made contents creation makes.1) tt makes.0
 
   pub create_makes : (made : RustTableInfo) → AreInOrder store → AreHeld store tables contents → Makes contents creation (Ok (Some made)) → PlansFrom contents (creation_of creation) store (Ok (table_change made ∷ []))
-  create_makes made order held makes = (makes.0, (made_is_held contents creation made store tables makes order held).held, keeps_added made.id (string_bytes made.name) (names_of (map column_of made.columns.items)) (skipped_from 0 (map column_of made.columns.items)) store, tt)
+  create_makes made order held makes = (makes.0, (made_is_held contents creation made store tables makes order held).held, makes_table made store, tt)
 
 -- ---- Select
 
